@@ -1,0 +1,2 @@
+pub mod Disposition
+pub mod NameRight
