@@ -1,0 +1,13 @@
+pub mod Maps
+pub mod Tries
+pub mod Spaces
+pub mod Dying
+pub mod FirstHeld
+pub mod Few
+pub mod Concluding
+pub mod Closing
+pub mod Deriving
+pub mod HoldingLists
+mod Samples
+mod SampleRuns
+mod SampleFacts

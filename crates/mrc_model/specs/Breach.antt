@@ -1,0 +1,69 @@
+-- Who holds what in a world, which tasks a task counts as, and when a world breaks a policy. That holding a task's
+-- kernel port counts as being that task is Mach's rule, read so by this profile.
+use Rattle.std.specs.Prelude.{◌≡◌, ◌↔◌, ℕ, true, List, [], ◌∷◌, ◌++◌, map, Some}
+use Rattle.mrc_base.specs.declared.PortRight.{PortRight}
+use Rattle.mrc_base.specs.declared.PortRight.TheVariants.{Send}
+use Rattle.mrc_model.specs.declared.Entry.{Entry}
+use Rattle.mrc_model.specs.IsIn.{IsIn}
+use Rattle.mrc_model.specs.Map.{get}
+use Rattle.mrc_model.specs.World.{Space, Task, World, Held, space, task_class, class_of, entry_rights}
+
+-- t holds the right on the port: an entry of its space shows it
+abbrev pub Holds : World → ℕ → ℕ → PortRight → Type 0
+Holds w t p r = (n : ℕ) × (e : Entry) × (get (space w.store t) n ≡ Some e) × IsIn record { port = p; right = r } (entry_rights e)
+
+-- a task holds the right on the port
+pub record Holding : Type 0 where
+  pub task : ℕ
+  pub port : ℕ
+  pub right : PortRight
+
+-- what an entry of task t shows
+abbrev pub entry_holdings : ℕ → Entry → List Holding
+entry_holdings t e = map (λ (h : Held). record { task = t; port = h.port; right = h.right }) (entry_rights e)
+
+-- what the entries of task t show, in their order
+abbrev pub space_holdings : ℕ → List (ℕ × Entry) → List Holding
+space_holdings t [] = []
+space_holdings t (e ∷ es) = entry_holdings t e.1 ++ space_holdings t es
+
+-- what all spaces show, in their order
+abbrev pub spaces_holdings : List (ℕ × Space) → List Holding
+spaces_holdings [] = []
+spaces_holdings (x ∷ xs) = space_holdings x.0 x.1.list ++ spaces_holdings xs
+
+-- All that tasks hold, by ascending task and name: receive and send once for an entry that has them, whatever the number
+-- of references, and once for each send-once entry.
+abbrev pub holdings : World → List Holding
+holdings w = spaces_holdings w.store.spaces.list
+
+-- t holds a send right to the kernel port of u
+abbrev pub Reaches : World → ℕ → ℕ → Type 0
+Reaches w t u = (x : Task) × (get w.tasks u ≡ Some x) × (x.alive ≡ true) × Holds w t x.kernel Send
+
+-- t counts as u: the reflexive, transitive closure of Reaches
+pub data Counts (w : World) : ℕ → ℕ → Type 0 where
+  itself : {t : ℕ} → Counts w t t
+  also : {t u v : ℕ} → Counts w t u → Reaches w u v → Counts w t v
+
+-- a line of a policy: a task of the class `task` is not to get the right on a port of the class
+pub record Forbid : Type 0 where
+  pub task : ℕ
+  pub right : PortRight
+  pub class : ℕ
+
+-- a task, or one that it counts as, holds a right that a line forbids it
+pub record Breach (w : World) (policy : List Forbid) : Type 0 where
+  pub line : Forbid
+  pub forbidden : IsIn line policy
+  pub holder : ℕ
+  pub named : ℕ
+  pub of_class : task_class w named ≡ line.task
+  pub counts : Counts w named holder
+  pub port : ℕ
+  pub held : Holds w holder port line.right
+  pub class : class_of w.store port ≡ Some line.class
+
+-- the list has what is held, and nothing else
+abbrev pub HoldingsAreHeld : Type 0
+HoldingsAreHeld = (w : World) (t p : ℕ) (r : PortRight) → IsIn record { task = t; port = p; right = r } (holdings w) ↔ Holds w t p r

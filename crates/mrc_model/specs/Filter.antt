@@ -1,0 +1,84 @@
+-- Which messages a class of ports accepts. How a message meets a form is MIG's rule (Server Writer's Guide); that a
+-- port takes only messages of its label's forms is this profile's own choice.
+use Rattle.std.specs.Prelude.{ℕ, ◌+◌, Bool, true, ◌&&◌, ◌||◌, List, [], ◌∷◌, length, Option, Some, None, Result, Ok, Err, nat_le, ◌==◌, if◌then◌else◌, find}
+use Rattle.std.specs.List.{list_all}
+use Rattle.mrc_model.specs.declared.RequestKind.{RequestKind}
+use Rattle.mrc_model.specs.declared.RequestKind.TheVariants.{Routine, Simple}
+use Rattle.mrc_model.specs.declared.Denied.{Denied}
+use Rattle.mrc_model.specs.declared.Denied.TheVariants.{NoSuchId, WrongShape, WrongDisposition, ReplySlot}
+use Rattle.mrc_model.specs.Message.{Message, Arg, Data, Ports}
+use Rattle.mrc_model.specs.Wiring.{Wiring, Shape, Form, OfRequest, OfReply, form_id, forms}
+
+-- the type number of an argument
+abbrev pub arg_kind : Arg → ℕ
+arg_kind (Data kind size number bytes) = kind
+arg_kind (Ports kind names) = kind
+
+-- the bits of an item; a port right has 32
+abbrev pub arg_size : Arg → ℕ
+arg_size (Data kind size number bytes) = size
+arg_size (Ports kind names) = 32
+
+-- the number of items
+abbrev pub arg_number : Arg → ℕ
+arg_number (Data kind size number bytes) = number
+arg_number (Ports kind names) = length names
+
+-- the size is that of the form, and the number is the count, or at most the bound
+abbrev pub has_size : Shape → Arg → Bool
+has_size s a = s.size == arg_size a && (if s.is_bound then nat_le (arg_number a) s.count else arg_number a == s.count)
+
+-- the type number is a disposition's
+abbrev pub is_port_kind : ℕ → Bool
+is_port_kind k = nat_le 16 k && nat_le k 21
+
+-- the first argument, counted from i, at which message and form differ
+abbrev pub first_difference : ℕ → List Shape → List Arg → Option Denied
+first_difference i [] [] = None
+first_difference i [] (a ∷ more) = Some (WrongShape i)
+first_difference i (s ∷ ss) [] = Some (WrongShape i)
+first_difference i (s ∷ ss) (a ∷ more) =
+    if has_size s a
+    then (if s.kind == arg_kind a then first_difference (i + 1) ss more
+    else if is_port_kind s.kind && is_port_kind (arg_kind a) then Some (WrongDisposition i) else Some (WrongShape i))
+    else Some (WrongShape i)
+
+-- the return code of a reply is 0, as far as the first argument has one
+abbrev pub is_zero_data : List Arg → Bool
+is_zero_data [] = true
+is_zero_data (Data kind size number bytes ∷ more) = list_all (λ b. b == 0) bytes
+is_zero_data (Ports kind names ∷ more) = true
+
+-- the first shape alone
+abbrev pub first_alone : List Shape → List Shape
+first_alone [] = []
+first_alone (s ∷ ss) = s ∷ []
+
+-- what the form wants of these arguments: a reply whose code is not 0 has the code alone
+abbrev pub expected : Form → List Arg → List Shape
+expected (OfRequest f) args = f.shapes
+expected (OfReply f) args = if is_zero_data args then f.shapes else first_alone f.shapes
+
+-- a routine takes no reply port or a send-once right, a simpleroutine takes none
+abbrev pub fits_request : RequestKind → ℕ → Bool
+fits_request Routine x = x == 0 || (x == 18 || x == 21)
+fits_request Simple x = x == 0
+
+-- the form goes with this disposition of the reply port: a routine's request takes a send-once right or none
+abbrev pub fits_reply : Form → ℕ → Bool
+fits_reply (OfRequest f) x = fits_request f.kind x
+fits_reply (OfReply f) x = x == 0
+
+-- the form, unless an argument differs or the reply port does not fit
+abbrev pub judge_form : Form → Message → Option Denied → Result Form Denied
+judge_form f m (Some d) = Err d
+judge_form f m None = if fits_reply f m.local_disp then Ok f else Err ReplySlot
+
+-- the same for the form that has the message's id
+abbrev pub judge_found : Message → Option Form → Result Form Denied
+judge_found m None = Err NoSuchId
+judge_found m (Some f) = judge_form f m (first_difference 0 (expected f m.args) m.args)
+
+-- the form that the message meets, where the class accepts it but for what its slots admit
+unfoldable pub judge : Wiring → ℕ → Message → Result Form Denied
+judge W c m = judge_found m (find (λ (f : Form). form_id f == m.id) (forms W c))

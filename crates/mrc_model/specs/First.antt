@@ -1,0 +1,84 @@
+-- The first state of a wiring: its lines, one after the other. This profile's own choice.
+use Rattle.std.specs.Prelude.{ℕ, ◌+◌, Bool, true, List, [], ◌∷◌, Ok, Err, nat_lt, is_ok}
+use Rattle.mrc_model.specs.declared.Entry.TheVariants.{Send as SendEntry}
+use Rattle.mrc_model.specs.declared.Item.TheVariants.{Right as RightItem}
+use Rattle.mrc_model.specs.declared.FirstLine.{FirstLine}
+use Rattle.mrc_model.specs.declared.FirstLine.TheVariants.{Task as TaskLine, Port as PortLine, Hold as HoldLine}
+use Rattle.mrc_model.specs.declared.Code.TheVariants.{KernInvalidTask, KernInvalidName, KernNoSpace}
+use Rattle.mrc_model.specs.Rights.{is_receive}
+use Rattle.mrc_model.specs.Map.{empty, get, insert}
+use Rattle.mrc_model.specs.Wiring.{Wiring, kernel_class}
+use Rattle.mrc_model.specs.World.{World, space}
+use Rattle.mrc_model.specs.Reply.{Refused, Try, ◌>>=◌, ◌>>◌, check, refuse_if, or_refuse}
+use Rattle.mrc_model.specs.Space.{give_item, is_over_full}
+use Rattle.mrc_model.specs.Target.{with_store}
+use Rattle.mrc_model.specs.CallAllocate.{new_port, birth}
+
+-- the world after some lines, and how many of them were task lines and port lines
+pub record First : Type 0 where
+  pub world : World
+  pub tasks : ℕ
+  pub ports : ℕ
+
+-- no task and no port
+abbrev pub no_world : World
+no_world = record { tasks = empty; store = record { next = 0; spaces = empty; ports = empty } }
+
+-- the next task, of the class that has its number, with its kernel port and a send right to it under name 1
+abbrev pub add_task : Wiring → First → First
+add_task W f =
+    let s = f.world.store in
+    record {
+      tasks = f.tasks + 1;
+      ports = f.ports;
+      world = record {
+        tasks = insert f.world.tasks f.tasks (record { alive = true; kernel = s.next; class = f.tasks });
+        store = record {
+          next = s.next + 1;
+          spaces = insert s.spaces f.tasks (insert empty 1 (SendEntry s.next 1));
+          ports = insert s.ports s.next (new_port (kernel_class W f.tasks));
+        };
+      };
+    }
+
+-- A line is refused where it makes a task or port beyond the wiring's numbers, names a task or port that is not there,
+-- holds a receive right, or leaves a space with more than 4,096 entries.
+abbrev pub add_line : Wiring → First → FirstLine → Try First
+add_line W f TaskLine = do
+  check (nat_lt f.tasks W.tasks) (Refused KernInvalidTask)
+  Ok (add_task W f)
+add_line W f (PortLine t) = do
+  check (nat_lt t f.tasks) (Refused KernInvalidTask)
+  check (nat_lt f.ports W.ports) (Refused KernInvalidName)
+  let s = birth f.world.store t f.ports
+  refuse_if (is_over_full (space s t)) (Refused KernNoSpace)
+  Ok record { tasks = f.tasks; ports = f.ports + 1; world = with_store f.world s }
+add_line W f (HoldLine t p r) = do
+  refuse_if (is_receive r) (Refused KernInvalidName)
+  check (nat_lt t f.tasks) (Refused KernInvalidTask)
+  x ← or_refuse (get f.world.store.ports p) (Refused KernInvalidName)
+  let s = (give_item f.world.store t (RightItem p r)).0
+  refuse_if (is_over_full (space s t)) (Refused KernNoSpace)
+  Ok (record f { world = with_store f.world s })
+
+-- the lines, in order
+abbrev pub add_lines : Wiring → First → List FirstLine → Try First
+add_lines W f [] = Ok f
+add_lines W f (l ∷ ls) = add_line W f l >>= λ g. add_lines W g ls
+
+-- the first state, or the refusal of a line
+abbrev pub built : Wiring → Try First
+built W = add_lines W record { world = no_world; tasks = 0; ports = 0 } W.lines
+
+-- the world, and an empty one after a refusal
+abbrev pub world_of : Try First → World
+world_of (Ok f) = f.world
+world_of (Err e) = no_world
+
+-- no line is refused
+abbrev pub is_sound : Wiring → Bool
+is_sound W = is_ok (built W)
+
+-- the first state of the wiring
+unfoldable pub first : Wiring → World
+first W = world_of (built W)

@@ -1,0 +1,211 @@
+//! The definitions of the machine and of the rules: what a space, a port and a world are, what each call
+//! does, which facts a set must have, and what it means that it covers a world. The definitions stand in
+//! `specs/`; here are the enums that they speak of, and the laws about them.
+#![tactic(auto)]
+
+ghost use Rattle.mrc_model.specs.Breach.{HoldingsAreHeld};
+ghost use Rattle.mrc_model.specs.Conclusions.{ConclusionsAreByRules, IsClosedTells, RoundsAreLeast};
+ghost use Rattle.mrc_model.specs.FirstHoldings.{FirstHoldingsAreGiven, SoundIfFew};
+ghost use Rattle.mrc_model.specs.Headline.{DyingIsLeast};
+ghost use Rattle.mrc_model.specs.Rules.{DerivationsAreLeast};
+
+use mrc_base::{PortId, PortRight, TaskId};
+use thiserror::Error;
+
+/// What a name of a space stands for (Mach 3 Kernel Interfaces, "Port rights").
+#[derive(Clone, Copy, Debug, PartialEq, Eq)]
+pub enum Entry {
+    /// A receive right, the send references that stand under the same name, and the name of the set that
+    /// the right is in.
+    Receive {
+        port: PortId,
+        sends: u16,
+        in_set: Option<u32>,
+    },
+    /// Send references without the receive right; there is at least one.
+    Send {
+        port: PortId,
+        sends: u16,
+    },
+    /// A send-once right.
+    SendOnce {
+        port: PortId,
+    },
+    /// A port set.
+    PortSet,
+    /// What is left of rights on a port that has died: as many references as there were send references,
+    /// one for a send-once right.
+    DeadName {
+        refs: u16,
+    },
+}
+
+/// What a queued message carries in the place of a name.
+#[derive(Clone, Copy, Debug, PartialEq, Eq)]
+pub enum Item {
+    /// No right.
+    Null,
+    /// A right on a port that has died.
+    Dead,
+    /// A right on a port.
+    Right { port: PortId, right: PortRight },
+}
+
+/// The port-destroyed request of a port: where its receive right goes when it would be destroyed.
+#[derive(Clone, Copy, Debug, PartialEq, Eq)]
+pub enum Backup {
+    /// There is no request.
+    Absent,
+    /// The request named a port that has died.
+    Dead,
+    /// The request names this port.
+    Port(PortId),
+}
+
+/// Whether a request has a reply.
+#[derive(Clone, Copy, Debug, PartialEq, Eq)]
+pub enum RequestKind {
+    /// A request of a routine, which has a reply.
+    Routine,
+    /// A request of a simpleroutine, which has none.
+    Simple,
+}
+
+/// What a class of ports accepts. An interface stands by its number in the wiring.
+#[derive(Clone, Copy, Debug, PartialEq, Eq)]
+pub enum LabelItem {
+    /// The requests of an interface.
+    Request(usize),
+    /// The replies of an interface.
+    Reply(usize),
+    /// Naming a port of the class in a port-destroyed request.
+    Destroyed,
+}
+
+/// A line of a wiring that makes a part of the first state. Ports and kernel ports stand by their birth
+/// numbers.
+#[derive(Clone, Copy, Debug, PartialEq, Eq)]
+pub enum FirstLine {
+    /// The next task, with its kernel port.
+    Task,
+    /// The next wired port, whose receive right the task gets.
+    Port {
+        receiver: TaskId,
+    },
+    /// A send or send-once right for a task.
+    Hold {
+        task: TaskId,
+        port: PortId,
+        right: PortRight,
+    },
+}
+
+/// Why a call was refused, by Mach's names (Mach 3 Kernel Interfaces, `kern_return_t` and
+/// `mach_msg_return_t`). The last one is this profile's own.
+#[derive(Clone, Copy, Debug, PartialEq, Eq, Error)]
+pub enum Code {
+    #[error("KERN_INVALID_TASK")]
+    KernInvalidTask,
+    #[error("KERN_INVALID_ARGUMENT")]
+    KernInvalidArgument,
+    #[error("KERN_INVALID_NAME")]
+    KernInvalidName,
+    #[error("KERN_INVALID_RIGHT")]
+    KernInvalidRight,
+    #[error("KERN_INVALID_VALUE")]
+    KernInvalidValue,
+    #[error("KERN_INVALID_CAPABILITY")]
+    KernInvalidCapability,
+    #[error("KERN_NAME_EXISTS")]
+    KernNameExists,
+    #[error("KERN_RIGHT_EXISTS")]
+    KernRightExists,
+    #[error("KERN_UREFS_OVERFLOW")]
+    KernUrefsOverflow,
+    #[error("KERN_NOT_IN_SET")]
+    KernNotInSet,
+    #[error("KERN_NO_SPACE")]
+    KernNoSpace,
+    #[error("KERN_RESOURCE_SHORTAGE")]
+    KernResourceShortage,
+    #[error("MACH_SEND_INVALID_DEST")]
+    MachSendInvalidDest,
+    #[error("MACH_SEND_INVALID_REPLY")]
+    MachSendInvalidReply,
+    #[error("MACH_SEND_INVALID_RIGHT")]
+    MachSendInvalidRight,
+    #[error("MACH_SEND_TIMED_OUT")]
+    MachSendTimedOut,
+    #[error("MACH_RCV_INVALID_NAME")]
+    MachRcvInvalidName,
+    #[error("MACH_RCV_IN_SET")]
+    MachRcvInSet,
+    #[error("MACH_RCV_TIMED_OUT")]
+    MachRcvTimedOut,
+    #[error("PROFILE_NO_SPACE")]
+    ProfileNoSpace,
+}
+
+/// Why the filter turns a message or a request away. Arguments count from 0 in the body.
+#[derive(Clone, Copy, Debug, PartialEq, Eq, Error)]
+pub enum Denied {
+    /// No form of the label has the message's id.
+    #[error("NoSuchId")]
+    NoSuchId,
+    /// The argument is the first that differs from the form, in more than its disposition.
+    #[error("WrongShape {0}")]
+    WrongShape(u32),
+    /// The argument is the first that differs from the form, and differs in its disposition alone.
+    #[error("WrongDisposition {0}")]
+    WrongDisposition(u32),
+    /// The message has a reply port that its form does not take.
+    #[error("ReplySlot")]
+    ReplySlot,
+    /// The argument carries a port of a class that its type does not admit.
+    #[error("NotAdmitted {0}")]
+    NotAdmitted(u32),
+    /// The class of the port does not accept port-destroyed notices.
+    #[error("NotDestroyed")]
+    NotDestroyed,
+}
+
+/// The dying set is the least of those that have each port that dies: the definition computes it by
+/// rounds, and this law says in the subject's own words what it is.
+pub fn dying_least()
+    ensures least { DyingIsLeast }
+{}
+
+/// In the first state of a sound wiring a task holds exactly what a line gives it, and ports have the
+/// classes of their lines: a task line gives a send right to the task's kernel port, a port line the
+/// receive right to its receiver, a hold line what it says.
+pub fn first_holdings_given()
+    ensures given { FirstHoldingsAreGiven }
+{}
+
+/// Lines that name what is there, over few ports and few send-once rights, are sound: no space gets too full.
+pub fn sound_if_few()
+    ensures sound { SoundIfFew }
+{}
+
+/// The list of conclusions from some facts has the conclusions of the rules' instances and no others. So
+/// the test of a closed list tells whether it is closed, and what comes in rounds of conclusions, from
+/// nothing, is in every closed set.
+pub fn conclusions_by_rules()
+    ensures by_rules { ConclusionsAreByRules }
+    ensures closed { IsClosedTells }
+    ensures least { RoundsAreLeast }
+{}
+
+/// What is derived by instances of the rules, each from conclusions of earlier ones, is in every closed
+/// set.
+pub fn derivations_are_least()
+    ensures least { DerivationsAreLeast }
+{}
+
+/// The list of a world's holdings has what tasks hold, and nothing else.
+pub fn holdings_are_held()
+    ensures held { HoldingsAreHeld }
+{}
+
+#[cfg(test)]
+mod tests;
