@@ -1,0 +1,5 @@
+pub mod Derived
+pub mod Keys
+pub mod Total
+pub mod Bytes
+pub mod Members
