@@ -1,0 +1,6 @@
+pub mod Fields
+pub mod Six
+pub mod Series
+pub mod Ends
+pub mod Whole
+pub mod Sets

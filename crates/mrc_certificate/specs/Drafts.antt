@@ -1,0 +1,30 @@
+-- Drafts: what a certificate claims. The profile's own choice.
+use Rattle.std.specs.Prelude.{ℕ, ◌^◌, ◌<◌, Bool, false, ◌&&◌, List, length, IsTrue, nat_lt}
+use Rattle.std.specs.List.{list_all}
+use Rattle.mrc_base.specs.declared.Fact.{Fact}
+use Rattle.mrc_base.specs.declared.Fact.TheVariants.{Hold, Carry, Backup}
+use Rattle.mrc_classes.specs.Sets.{IsAscending}
+
+-- whether the fact is a hold of one of so many tasks and one of so many classes
+abbrev pub is_within : ℕ → ℕ → Fact → Bool
+is_within tasks classes (Hold task class right) = nat_lt task tasks && nat_lt class classes
+is_within tasks classes (Carry destination class right) = false
+is_within tasks classes (Backup class notify) = false
+
+-- each of the facts is one
+abbrev pub AreWithin : ℕ → ℕ → List Fact → Type 0
+AreWithin tasks classes facts = IsTrue (list_all (is_within tasks classes) facts)
+
+-- how many tasks, how many classes, and which facts
+pub record Content : Type 0 where
+  pub tasks : ℕ
+  pub classes : ℕ
+  pub facts : List Fact
+
+-- its numbers fit their fields, and its facts are a set within its counts
+pub record IsDraft (d : Content) : Type 0 where
+  pub tasks : d.tasks < 2 ^ 16
+  pub classes : d.classes < 2 ^ 16
+  pub ascending : IsAscending d.facts
+  pub within : AreWithin d.tasks d.classes d.facts
+  pub few : length d.facts < 2 ^ 32

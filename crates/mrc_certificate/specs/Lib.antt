@@ -1,0 +1,5 @@
+pub mod Drafts
+pub mod Spelling
+pub mod Reading
+pub mod Laws
+pub mod Worked

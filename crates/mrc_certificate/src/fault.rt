@@ -1,0 +1,50 @@
+//! Why bytes are no certificate.
+
+ghost use Rattle.std.specs.Prelude.{◌≡◌};
+ghost use Rattle.mrc_certificate.specs.declared.fault.DraftFault.TheVariants.{Memory};
+
+use std::alloc::{AllocError, AllocFailed};
+use thiserror::Error;
+
+/// Why a certificate could not be read: the first fault of its bytes. A place is that of a fact's
+/// first byte, counted from 0.
+#[derive(Clone, Copy, Debug, PartialEq, Eq, Error)]
+pub enum DraftFault {
+    /// The first four bytes are not `MRCC`, or there are fewer.
+    #[error("Magic")]
+    Magic,
+    /// The version is not 1.
+    #[error("Version")]
+    Version,
+    /// The bytes end within the header or within a fact that it counts.
+    #[error("Truncated")]
+    Truncated,
+    /// The fact at this place has a kind, a right, a task or a class out of its range.
+    #[error("BadFact {0}")]
+    BadFact(usize),
+    /// The fact at this place does not come after the one before it.
+    #[error("NotAscending {0}")]
+    NotAscending(usize),
+    /// Bytes stand behind the last fact.
+    #[error("Trailing")]
+    Trailing,
+    /// Memory ran out.
+    #[error("Memory")]
+    Memory,
+}
+
+impl From<AllocError> for DraftFault {
+    ghost from_gives = { λ _ e. e ≡ Memory };
+
+    fn from(_e: AllocError) -> DraftFault {
+        DraftFault::Memory
+    }
+}
+
+impl<T: Drop> From<AllocFailed<T>> for DraftFault {
+    ghost from_gives = { λ _ e. e ≡ Memory };
+
+    fn from(_e: AllocFailed<T>) -> DraftFault {
+        DraftFault::Memory
+    }
+}

@@ -1,0 +1,245 @@
+ghost use Rattle.std.specs.Prelude.{◌≡◌};
+ghost use Rattle.mrc_base.specs.declared.Fact.{Fact};
+
+use super::*;
+use mrc_base::{ClassId, PortRight};
+use mrc_classes::{Fact, Facts};
+use std::alloc::{AllocError, Global};
+use std::process::Abort;
+use std::test::Fail;
+
+/// The certificate of a task alone: it holds a send right to its own kernel port, and all three
+/// rights on the ports that it makes.
+const ALONE: [u8; 38] = [
+    0x4d, 0x52, 0x43, 0x43, 0x00, 0x01, 0x00, 0x01, 0x00, 0x02, 0x00, 0x00, 0x00, 0x04, // header
+    0x01, 0x00, 0x00, 0x00, 0x00, 0x00, 0x01, 0x00, 0x00, 0x00, 0x01, 0x00, // send, send
+    0x01, 0x00, 0x00, 0x00, 0x01, 0x01, 0x01, 0x00, 0x00, 0x00, 0x01, 0x02, // receive, send-once
+];
+
+/// The certificate of a wiring without tasks.
+const NOBODY: [u8; 14] = [
+    0x4d, 0x52, 0x43, 0x43, 0x00, 0x01, 0x00, 0x00, 0x00, 0x00, 0x00, 0x00, 0x00, 0x00,
+];
+
+/// Fourteen holds and four carries.
+const CARRIES: [u8; 122] = [
+    0x4d, 0x52, 0x43, 0x43, 0x00, 0x01, 0x00, 0x02, 0x00, 0x05, 0x00, 0x00, 0x00, 0x12, // header
+    0x01, 0x00, 0x00, 0x00, 0x00, 0x00, 0x01, 0x00, 0x00, 0x00, 0x01, 0x00, // holds
+    0x01, 0x00, 0x00, 0x00, 0x03, 0x00, 0x01, 0x00, 0x00, 0x00, 0x03, 0x01, //
+    0x01, 0x00, 0x00, 0x00, 0x03, 0x02, 0x01, 0x00, 0x00, 0x00, 0x04, 0x00, //
+    0x01, 0x00, 0x01, 0x00, 0x00, 0x00, 0x01, 0x00, 0x01, 0x00, 0x00, 0x01, //
+    0x01, 0x00, 0x01, 0x00, 0x00, 0x02, 0x01, 0x00, 0x01, 0x00, 0x02, 0x00, //
+    0x01, 0x00, 0x01, 0x00, 0x03, 0x02, 0x01, 0x00, 0x01, 0x00, 0x04, 0x00, //
+    0x01, 0x00, 0x01, 0x00, 0x04, 0x01, 0x01, 0x00, 0x01, 0x00, 0x04, 0x02, //
+    0x02, 0x00, 0x00, 0x00, 0x00, 0x02, 0x02, 0x00, 0x00, 0x00, 0x03, 0x02, // carries
+    0x02, 0x00, 0x00, 0x00, 0x04, 0x02, 0x02, 0x00, 0x03, 0x00, 0x04, 0x00, //
+];
+
+fn hold(class: u16, right: PortRight) -> Fact
+    ensures { result ≡ Fact.Hold 0 class right }
+{
+    Fact::Hold {
+        task: 0,
+        class: ClassId(class),
+        right,
+    }
+}
+
+/// What a task alone can come by.
+fn alone(alloc: Global) -> Result<Draft, AllocError> {
+    let mut facts = Facts::new(alloc);
+    let _ = facts.insert(hold(1, PortRight::SendOnce))?;
+    let _ = facts.insert(hold(0, PortRight::Send))?;
+    let _ = facts.insert(hold(1, PortRight::Receive))?;
+    let _ = facts.insert(hold(1, PortRight::Send))?;
+    Ok(Draft::new(1, 2, facts))
+}
+
+/// The bytes with the one at this place changed.
+fn changed(alloc: Global, bytes: &[u8], at: usize, byte: u8) -> Result<Vec<u8>, AllocError> {
+    let mut copy = Vec::from_slice(alloc, bytes)?;
+    if at < copy.len() {
+        copy[at] = byte;
+    }
+    Ok(copy)
+}
+
+/// The certificate of a task alone, with its facts in this order.
+fn in_order(alloc: Global, order: &[usize]) -> Result<Vec<u8>, AllocError> {
+    let mut bytes = Vec::from_slice(alloc, &ALONE[..14])?;
+    for place in order {
+        if let Some(fact) = ALONE[14..].chunks(6).nth(*place) {
+            bytes.extend_from_slice(fact)?;
+        }
+    }
+    Ok(bytes)
+}
+
+fn fault_of(rt: &(impl Abort + AllocGlobal), bytes: &[u8]) -> DraftFault {
+    match read_draft(rt.alloc(), bytes) {
+        Ok(_) => panic!(rt; "{bytes:?} is read"),
+        Err(fault) => fault,
+    }
+}
+
+#[test]
+fn a_task_alone_is_written(rt: HostRuntime) -> Result<(), Fail> {
+    let draft = alone(rt.alloc())?;
+    let bytes = write_draft(rt.alloc(), &draft)?;
+    assert_eq!(rt; bytes.as_slice(), ALONE.as_slice());
+    Ok(())
+}
+
+#[test]
+fn a_task_alone_is_read(rt: HostRuntime) -> Result<(), Fail> {
+    let draft = read_draft(rt.alloc(), &ALONE)?;
+    assert_eq!(rt; draft.tasks, 1);
+    assert_eq!(rt; draft.classes, 2);
+    let facts = [
+        hold(0, PortRight::Send),
+        hold(1, PortRight::Send),
+        hold(1, PortRight::Receive),
+        hold(1, PortRight::SendOnce),
+    ];
+    assert_eq!(rt; draft.facts.len(), 4);
+    let mut places = facts.iter();
+    for fact in draft.facts.iter() {
+        assert_eq!(rt; places.next().copied(), Some(*fact));
+    }
+    Ok(())
+}
+
+#[test]
+fn nobody_is_read_and_written(rt: HostRuntime) -> Result<(), Fail> {
+    let draft = read_draft(rt.alloc(), &NOBODY)?;
+    assert_eq!(rt; draft.tasks, 0);
+    assert_eq!(rt; draft.classes, 0);
+    assert!(rt; draft.facts.is_empty());
+    let bytes = write_draft(rt.alloc(), &draft)?;
+    assert_eq!(rt; bytes.as_slice(), NOBODY.as_slice());
+    Ok(())
+}
+
+#[test]
+fn facts_have_their_order(rt: HostRuntime) -> Result<(), Fail> {
+    let table = [
+        ([0, 2, 1, 3], DraftFault::NotAscending(26)),
+        ([0, 1, 1, 3], DraftFault::NotAscending(26)),
+        ([1, 0, 2, 3], DraftFault::NotAscending(20)),
+    ];
+    for (order, fault) in table {
+        let bytes = in_order(rt.alloc(), &order)?;
+        assert_eq!(rt; fault_of(&rt, &bytes), fault, "{order:?}");
+    }
+    Ok(())
+}
+
+#[test]
+fn nothing_stands_behind(rt: HostRuntime) -> Result<(), Fail> {
+    let mut bytes = Vec::from_slice(rt.alloc(), &ALONE)?;
+    bytes.push(0)?;
+    assert_eq!(rt; fault_of(&rt, &bytes), DraftFault::Trailing);
+    Ok(())
+}
+
+#[test]
+fn each_byte_is_read(rt: HostRuntime) -> Result<(), Fail> {
+    let table = [
+        (0, 0x4e, DraftFault::Magic),
+        (3, 0x00, DraftFault::Magic),
+        (4, 0x01, DraftFault::Version),
+        (5, 0x00, DraftFault::Version),
+        (5, 0x02, DraftFault::Version),
+        (7, 0x00, DraftFault::BadFact(14)),
+        (9, 0x01, DraftFault::BadFact(20)),
+        (10, 0x01, DraftFault::Truncated),
+        (13, 0x05, DraftFault::Truncated),
+        (13, 0x03, DraftFault::Trailing),
+        (14, 0x00, DraftFault::BadFact(14)),
+        (14, 0x02, DraftFault::BadFact(14)),
+        (14, 0x03, DraftFault::BadFact(14)),
+        (14, 0x04, DraftFault::BadFact(14)),
+        (16, 0x01, DraftFault::BadFact(14)),
+        (18, 0x02, DraftFault::BadFact(14)),
+        (19, 0x03, DraftFault::BadFact(14)),
+        (24, 0x00, DraftFault::NotAscending(20)),
+        (37, 0x03, DraftFault::BadFact(32)),
+        (37, 0x01, DraftFault::NotAscending(32)),
+    ];
+    for (at, byte, fault) in table {
+        let bytes = changed(rt.alloc(), &ALONE, at, byte)?;
+        assert_eq!(rt; fault_of(&rt, &bytes), fault, "{byte} at {at}");
+    }
+    Ok(())
+}
+
+#[test]
+fn prefixes_are_refused(rt: HostRuntime) {
+    for (n, _) in ALONE.iter().enumerate() {
+        let fault = if n < 4 {
+            DraftFault::Magic
+        } else {
+            DraftFault::Truncated
+        };
+        assert_eq!(rt; fault_of(&rt, &ALONE[..n]), fault, "{n} bytes");
+    }
+    for (n, _) in CARRIES.iter().enumerate() {
+        let fault = if n < 4 {
+            DraftFault::Magic
+        } else if n < 104 {
+            DraftFault::Truncated
+        } else {
+            DraftFault::BadFact(98)
+        };
+        assert_eq!(rt; fault_of(&rt, &CARRIES[..n]), fault, "{n} bytes");
+    }
+    assert_eq!(rt; fault_of(&rt, b"MRCD"), DraftFault::Magic);
+    assert_eq!(rt; fault_of(&rt, b"MRCC\xff"), DraftFault::Truncated);
+    assert_eq!(rt; fault_of(&rt, b"MRCC\x00\x02"), DraftFault::Version);
+}
+
+#[test]
+fn faults_are_printed(rt: HostRuntime) -> Result<(), Fail> {
+    let table = [
+        (DraftFault::Magic, "Magic"),
+        (DraftFault::Version, "Version"),
+        (DraftFault::Truncated, "Truncated"),
+        (DraftFault::BadFact(14), "BadFact 14"),
+        (DraftFault::NotAscending(26), "NotAscending 26"),
+        (DraftFault::Trailing, "Trailing"),
+        (DraftFault::Memory, "Memory"),
+    ];
+    for (fault, text) in table {
+        let printed = fault.to_string(rt.alloc())?;
+        assert_eq!(rt; printed.as_str(), text);
+    }
+    Ok(())
+}
+
+#[test]
+fn memory_that_runs_out_is_told(rt: HostRuntime) {
+    match read_draft(rt.alloc(), &ALONE) {
+        Ok(draft) => {
+            assert_eq!(rt; draft.facts.len(), 4);
+            if let Ok(bytes) = write_draft(rt.alloc(), &draft) {
+                assert_eq!(rt; bytes.as_slice(), ALONE.as_slice());
+            }
+        }
+        Err(fault) => assert_eq!(rt; fault, DraftFault::Memory),
+    }
+}
+
+#[test]
+fn many_facts(rt: HostRuntime) -> Result<(), Fail> {
+    let mut bytes = Vec::from_slice(rt.alloc(), b"MRCC\x00\x01\x00\x80\x00\x80\x00\x00\x40\x00")?;
+    for task in 0..128u8 {
+        for class in 0..128u8 {
+            bytes.extend_from_slice(&[1, 0, task, 0, class, 2])?;
+        }
+    }
+    let draft = read_draft(rt.alloc(), &bytes)?;
+    assert_eq!(rt; draft.facts.len(), 16384);
+    let written = write_draft(rt.alloc(), &draft)?;
+    assert_eq!(rt; written.as_slice(), bytes.as_slice());
+    Ok(())
+}
