@@ -1,0 +1,7 @@
+pub mod LineLemmas
+pub mod NameLemmas
+pub mod BodyLemmas
+pub mod HeadingLemmas
+pub mod HeadingLaws
+pub mod TextLaws
+mod Examples

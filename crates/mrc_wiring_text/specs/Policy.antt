@@ -1,0 +1,44 @@
+-- What the lines of a policy say: the rights that a task must never hold. The grammar is this profile's own choice.
+use Rattle.std.specs.Prelude.{ℕ, bytes_eq, codes, List, [], ◌∷◌, Option, Some, None, Result, if◌then◌else◌}
+use Rattle.mrc_base.specs.declared.PortRight.{PortRight}
+use Rattle.mrc_base.specs.declared.PortRight.TheVariants.{Send, Receive, SendOnce}
+use Rattle.mrc_wiring_text.specs.declared.faults.TextFault.{TextFault}
+use Rattle.mrc_wiring_text.specs.declared.reading.Line.{Line}
+use Rattle.mrc_wiring_text.specs.declared.policy.ClassName.{ClassName}
+use Rattle.mrc_wiring_text.specs.declared.policy.ClassName.TheVariants.{Port, Task, Births}
+use Rattle.mrc_wiring_text.specs.declared.policy.Forbid.{Forbid}
+use Rattle.mrc_wiring_text.specs.Names.{name_of}
+use Rattle.mrc_wiring_text.specs.Reading.{text_of}
+
+-- the right that a word names
+unfoldable pub right_of : List ℕ → Option PortRight
+right_of word =
+    if bytes_eq word (codes "send") then Some Send
+    else (if bytes_eq word (codes "receive") then Some Receive
+    else (if bytes_eq word (codes "once") then Some SendOnce else None))
+
+abbrev pub named : (List ℕ → ClassName) → Option (List ℕ) → Option ClassName
+named kind (Some name) = Some (kind name)
+named kind None = None
+
+-- the class that two words name: `port P`, `task U` or `births U`
+unfoldable pub class_of : List ℕ → List ℕ → Option ClassName
+class_of kind name =
+    if bytes_eq kind (codes "port") then named Port (name_of name)
+    else (if bytes_eq kind (codes "task") then named Task (name_of name)
+    else (if bytes_eq kind (codes "births") then named Births (name_of name) else None))
+
+-- `forbid T RIGHT CLASS`
+abbrev pub forbid_line : Option (List ℕ) → Option PortRight → Option ClassName → Option Forbid
+forbid_line (Some task) (Some right) (Some class) = Some (record { task = task; right = right; class = class })
+forbid_line _ _ _ = None
+
+-- what the words of a line say
+unfoldable pub policy_says : List (List ℕ) → Option Forbid
+policy_says (key ∷ task ∷ right ∷ kind ∷ name ∷ []) =
+    if bytes_eq key (codes "forbid") then forbid_line (name_of task) (right_of right) (class_of kind name) else None
+policy_says words = None
+
+-- what a policy says
+abbrev pub policy_of : List ℕ → Result (List (Line Forbid)) TextFault
+policy_of bytes = text_of (codes "policy") policy_says bytes

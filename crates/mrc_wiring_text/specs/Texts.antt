@@ -1,0 +1,51 @@
+-- What a text is, apart from how it is read: lines without words, a heading, and lines that each say
+-- something or have no words. This grammar is this profile's own choice.
+use Rattle.std.specs.Prelude.{◌≡◌, ◌≢◌, ℕ, ◌+◌, ◌≤◌, ◌⊎◌, IsTrue, List, [], ◌∷◌, ◌++◌, length, codes, Option, Some}
+use Rattle.std.specs.List.{AllByRecursion}
+use Rattle.std.specs.Str.{IsUtf8}
+use Rattle.mrc_wiring_text.specs.declared.reading.TheConstants.{LAST_LINE}
+use Rattle.mrc_wiring_text.specs.declared.reading.Line.{Line}
+use Rattle.mrc_wiring_text.specs.declared.wiring.WiringSays.{WiringSays}
+use Rattle.mrc_wiring_text.specs.declared.policy.Forbid.{Forbid}
+use Rattle.mrc_wiring_text.specs.Lexis.{lines, words, decimal}
+use Rattle.mrc_wiring_text.specs.Reading.{is_number}
+use Rattle.mrc_wiring_text.specs.Wiring.{wiring_says}
+use Rattle.mrc_wiring_text.specs.Policy.{policy_says}
+
+-- a line without words
+abbrev pub IsWordless : List ℕ → Type 0
+IsWordless line = words line ≡ []
+
+-- a line of two words: the kind of the text, and decimal digits that spell 1
+pub record IsHeading (kind line : List ℕ) : Type 0 where
+  pub number : List ℕ
+  pub said : words line ≡ kind ∷ number ∷ []
+  pub digits : IsTrue (is_number number)
+  pub one : decimal number ≡ 1
+
+-- lines, the first of which has number n, and what those with words say
+abbrev pub Say : {S : Type 0} → (List (List ℕ) → Option S) → ℕ → List (List ℕ) → List (Line S) → Type 0
+Say meaning n [] says = says ≡ []
+Say {S} meaning n (line ∷ rest) says =
+    (IsWordless line × Say meaning (n + 1) rest says)
+    ⊎ ((s : S) × (others : List (Line S)) × (words line ≢ []) × (meaning (words line) ≡ Some s) × (says ≡ record { number = n; says = s } ∷ others) × Say meaning (n + 1) rest others)
+
+-- bytes that are a text of a kind, and what it says
+pub record IsText {S : Type 0} (kind : List ℕ) (meaning : List (List ℕ) → Option S) (bytes : List ℕ) (says : List (Line S)) : Type 0 where
+  pub utf8 : IsUtf8 bytes
+  pub few : length (lines bytes) ≤ LAST_LINE
+  pub before : List (List ℕ)
+  pub head : List ℕ
+  pub after : List (List ℕ)
+  pub parts : lines bytes ≡ before ++ head ∷ after
+  pub wordless : AllByRecursion IsWordless before
+  pub heading : IsHeading kind head
+  pub body : Say meaning (length before + 2) after says
+
+-- bytes that are a wiring
+abbrev pub IsWiring : List ℕ → List (Line WiringSays) → Type 0
+IsWiring bytes says = IsText (codes "wiring") wiring_says bytes says
+
+-- bytes that are a policy
+abbrev pub IsPolicy : List ℕ → List (Line Forbid) → Type 0
+IsPolicy bytes says = IsText (codes "policy") policy_says bytes says
