@@ -1,0 +1,4 @@
+pub mod Births
+pub mod Resolved
+pub mod FirstHolds
+pub mod Sound

@@ -1,0 +1,5 @@
+pub mod Table
+pub mod FirstState
+pub mod Resolving
+pub mod Names
+pub mod Claims

@@ -1,0 +1,119 @@
+//! A wiring and what a policy forbids in it.
+
+ghost use Rattle.std.specs.Prelude.{◌≡◌, ◌+◌, ◌≤◌, ◌<◌, ℕ, List, length, Option, MatchResult};
+ghost use Rattle.mrc_wiring.specs.Table.{Table, IsTable};
+ghost use Rattle.mrc_wiring.specs.Claims.{Claimed, ClaimGives, ClaimTold, class_number, forbidden, forbidden_lines};
+
+use crate::faults::ClaimFault;
+use crate::wired::Wired;
+use mrc_base::{ClassId, PortRight};
+use mrc_wiring_text::{ClassName, Forbid, PolicyLine};
+use std::alloc::Global;
+use std::marker::Model;
+
+/// What a line of a policy forbids: that the task holds the right on a port of the class.
+#[derive(Clone, Copy, Debug, PartialEq, Eq)]
+pub struct ForbiddenLine {
+    /// The line's number in the policy's text, from 1.
+    pub line: u32,
+    /// The task's number.
+    pub task: u16,
+    /// The right.
+    pub right: PortRight,
+    /// The class of ports.
+    pub class: ClassId,
+}
+
+/// A wiring, and what a policy forbids in it: what a certificate has to show.
+#[derive(Debug, Drop)]
+pub struct Claim {
+    wired: Wired,
+    lines: Vec<ForbiddenLine>,
+}
+
+impl Model for Claim {
+    ghost use Rattle.mrc_wiring.specs.Claims.{Claimed};
+
+    ghost Value = { Claimed };
+
+    ghost view = { λ c. record { table = c.wired; lines = c.lines.items } };
+}
+
+/// The class of a name. There are no wired ports.
+fn class_number(wired: &Wired, class: &ClassName) -> Option<ClassId>
+    ensures { result ≡ class_number wired.now.names class.now }
+{
+    match class {
+        ClassName::Port(_) => None,
+        ClassName::Task(name) => {
+            let task = wired.task_named(name.as_str())?;
+            Some(ClassId(task.0 as u16))
+        }
+        ClassName::Births(name) => {
+            let task = wired.task_named(name.as_str())?;
+            Some(ClassId(wired.tasks() + task.0 as u16))
+        }
+    }
+}
+
+#[tactic(auto, unfolding(crate::specs::Claims::forbidden))]
+fn forbidden(wired: &Wired, line: u32, says: &Forbid) -> Result<ForbiddenLine, ClaimFault>
+    ensures { result ≡ forbidden wired.now.names line says.now }
+{
+    let task = wired
+        .task_named(says.task.as_str())
+        .ok_or(ClaimFault::UnknownName(line))?;
+    let class = class_number(wired, &says.class).ok_or(ClaimFault::UnknownName(line))?;
+    Ok(ForbiddenLine {
+        line,
+        task: task.0 as u16,
+        right: says.right,
+        class,
+    })
+}
+
+fn forbidden_lines(
+    alloc: Global,
+    wired: &Wired,
+    lines: &[PolicyLine],
+) -> Result<Vec<ForbiddenLine>, ClaimFault>
+    ensures { ClaimGives (λ forbidden. forbidden.items) result (forbidden_lines wired.now.names lines.now) }
+{
+    let mut forbidden_so_far = Vec::new(alloc);
+    for line in lines {
+        let next = forbidden(wired, line.number, &line.says)?;
+        forbidden_so_far.push(next)?;
+    }
+    Ok(forbidden_so_far)
+}
+
+impl Claim {
+    /// The claim that no task ever holds what the lines forbid. With a refusal the wiring comes back: the first line
+    /// that names a task or port that the wiring lacks.
+    pub fn new(
+        alloc: Global,
+        wired: Wired,
+        lines: &[PolicyLine],
+    ) -> Result<Claim, (Wired, ClaimFault)>
+        ensures { ClaimTold wired result (forbidden_lines wired.names lines.now) }
+    {
+        match forbidden_lines(alloc, &wired, lines) {
+            Ok(lines) => Ok(Claim { wired, lines }),
+            Err(fault) => Err((wired, fault)),
+        }
+    }
+
+    /// The wiring.
+    pub fn wired(&self) -> &Wired
+        ensures { result.now ≡ self.now.table }
+    {
+        &self.wired
+    }
+
+    /// What the policy forbids, in the order of its lines.
+    pub fn lines(&self) -> &[ForbiddenLine]
+        ensures { result.now ≡ self.now.lines }
+    {
+        self.lines.as_slice()
+    }
+}
