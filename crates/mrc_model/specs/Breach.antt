@@ -32,7 +32,7 @@ abbrev pub spaces_holdings : List (ℕ × Space) → List Holding
 spaces_holdings [] = []
 spaces_holdings (x ∷ xs) = space_holdings x.0 x.1.list ++ spaces_holdings xs
 
--- All that tasks hold, by ascending task and name: receive and send once for an entry that has them, whatever the number
+-- All that tasks hold, by ascending task and name: receive and send each one time for an entry that has them, whatever the number
 -- of references, and once for each send-once entry.
 abbrev pub holdings : World → List Holding
 holdings w = spaces_holdings w.store.spaces.list

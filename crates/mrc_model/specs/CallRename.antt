@@ -1,5 +1,5 @@
 -- Renaming.
--- From Mach 3 Kernel Interfaces, mach_port_rename.
+-- From Mach 3 Kernel Interfaces, mach_port_rename. The order of refusals is this profile's own choice.
 use Rattle.std.specs.Prelude.{ℕ, Bool, true, false, Option, Some, None, Ok, ◌==◌, if◌then◌else◌}
 use Rattle.mrc_model.specs.declared.Entry.{Entry}
 use Rattle.mrc_model.specs.declared.Entry.TheVariants.{Receive as ReceiveEntry, Send as SendEntry, SendOnce as OnceEntry, PortSet as SetEntry, DeadName as DeadEntry}

@@ -1,6 +1,6 @@
 -- Port-destroyed requests.
 -- From Mach 3 Kernel Interfaces, mach_port_request_notification with MACH_NOTIFY_PORT_DESTROYED, the one notification that
--- this profile has. That only ports of some classes can be named is this profile's own choice.
+-- can be requested here. The order of refusals, and that only ports of some classes can be named, are this profile's own choice.
 use Rattle.std.specs.Prelude.{ℕ, Bool, true, false, ◌&&◌, ◌||◌, Option, Some, None, Ok, ◌==◌, if◌then◌else◌}
 use Rattle.mrc_base.specs.declared.PortRight.TheVariants.{SendOnce}
 use Rattle.mrc_base.specs.declared.Disp.{Disp}

@@ -141,7 +141,7 @@ abbrev pub twos : Wiring → List Fact → List Fact → List Conclusion
 twos W [] gs = []
 twos W (f ∷ fs) gs = twos_of W f gs ++ twos W fs gs
 
--- the conclusions from these facts, all of them in range
+-- the conclusions from these facts, all of which are in range; a conclusion need not be
 abbrev pub conclusions_of : Wiring → List Fact → List Conclusion
 conclusions_of W fs = first_conclusions (first_facts W) ++ birth_facts W W.births ++ ones fs ++ twos W fs fs
 

@@ -54,8 +54,9 @@ pub record IsManned (W : Wiring) (w : World) : Type 0 where
   pub only : (p c : ℕ) → class_of w.store p ≡ Some c → is_kernel_class W c ≡ true → (t : ℕ) × (x : Task) × (get w.tasks t ≡ Some x) × (x.alive ≡ true) × (x.kernel ≡ p)
   pub gone : (t n : ℕ) → is_alive (get w.tasks t) ≡ false → get (space w.store t) n ≡ None
 
--- A world is well formed, with the wiring's classes: each receive right is in exactly one place, numbers are below the
--- next birth number, all that is named is live, no port has two names in a space, and no space has more than 4,096
+-- A world is well formed, with the wiring's classes: each receive right but those of kernel ports, which the kernel
+-- keeps, is in exactly one place, numbers are below the next birth number, all that is named is live, no port has two
+-- receive or send entries in a space, and no space has more than 4,096
 -- entries.
 pub record IsWellFormed (W : Wiring) (w : World) : Type 0 where
   pub receive_once : (p c : ℕ) → class_of w.store p ≡ Some c → places p w.store ≡ owed W c

@@ -1,6 +1,6 @@
 -- Which ports die when rights or a task's kernel port are destroyed, and what follows.
 -- From Mach 3 Kernel Interfaces, mach_port_destroy and mach_port_request_notification (MACH_NOTIFY_PORT_DESTROYED,
--- MACH_NOTIFY_SEND_ONCE). The order of the notices is this profile's own choice.
+-- MACH_NOTIFY_SEND_ONCE). The ids and the order of the notices are this profile's own choice.
 use Rattle.std.specs.Prelude.{ℕ, zero, suc, Bool, true, false, ◌&&◌, ◌||◌, List, [], ◌∷◌, ◌++◌, map, filter, Option, Some, None, ◌==◌, if◌then◌else◌}
 use Rattle.std.specs.List.{list_any}
 use Rattle.mrc_base.specs.declared.PortRight.TheVariants.{Receive}

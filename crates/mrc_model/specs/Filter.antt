@@ -59,17 +59,17 @@ abbrev pub expected : Form → List Arg → List Shape
 expected (OfRequest f) args = f.shapes
 expected (OfReply f) args = if is_zero_data args then f.shapes else first_alone f.shapes
 
--- a routine takes no reply port or a send-once right, a simpleroutine takes none
+-- a routine takes no disposition for the reply port or one that gives a send-once right, a simpleroutine takes none
 abbrev pub fits_request : RequestKind → ℕ → Bool
 fits_request Routine x = x == 0 || (x == 18 || x == 21)
 fits_request Simple x = x == 0
 
--- the form goes with this disposition of the reply port: a routine's request takes a send-once right or none
+-- the form goes with this disposition of the reply port: a routine's request takes one that gives a send-once right, or none
 abbrev pub fits_reply : Form → ℕ → Bool
 fits_reply (OfRequest f) x = fits_request f.kind x
 fits_reply (OfReply f) x = x == 0
 
--- the form, unless an argument differs or the reply port does not fit
+-- the form, unless an argument differs or the reply port's disposition does not fit
 abbrev pub judge_form : Form → Message → Option Denied → Result Form Denied
 judge_form f m (Some d) = Err d
 judge_form f m None = if fits_reply f m.local_disp then Ok f else Err ReplySlot

@@ -76,7 +76,7 @@ abbrev pub restart_if : Bool → Store → ℕ → Store
 restart_if true s p = restart s p
 restart_if false s p = s
 
--- The store without the right, and the right's port; or the first refusal where the name has no entry, the second
+-- The store after the taking, and the right's port; or the first refusal where the name has no entry, the second
 -- where the entry lacks the right. A receive right that is moved restarts its port's receipts.
 unfoldable pub take : Store → ℕ → ℕ → Disp → Reply → Reply → Try (Store × ℕ)
 take s t n x bad_name wrong_right = do
@@ -152,7 +152,7 @@ place x p Send = place_at x p Send (entry_of x p)
 place x p Receive = place_at x p Receive (entry_of x p)
 place x p SendOnce = place_new x p SendOnce
 
--- a task is given what a message carries, under this name: 0 for null, and the dead name for a right on a dead port
+-- a task is given what a message carries, under this name: 0 for null, and MACH_PORT_DEAD for a right on a dead port
 unfoldable pub give_item : Store → ℕ → Item → Store × ℕ
 give_item s t NullItem = (s, 0)
 give_item s t DeadItem = (s, 0xffffffff)

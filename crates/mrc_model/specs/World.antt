@@ -12,7 +12,7 @@ use Rattle.mrc_model.specs.declared.Backup.{Backup}
 use Rattle.mrc_model.specs.Map.{Map, empty, get, insert, total}
 
 -- What a task has under its names. An entry for a port is a receive entry, with the send references beside the right
--- and the set that it is in, or a send entry, which always has a reference.
+-- and the set that it is in, or a send entry, whose references the calls keep above 0.
 abbrev pub Space : Type 0
 Space = Map Entry
 

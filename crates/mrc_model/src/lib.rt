@@ -22,7 +22,7 @@ pub enum Entry {
         sends: u16,
         in_set: Option<u32>,
     },
-    /// Send references without the receive right; there is at least one.
+    /// Send references without the receive right. Each call that makes such an entry leaves at least one.
     Send {
         port: PortId,
         sends: u16,
@@ -33,7 +33,7 @@ pub enum Entry {
     },
     /// A port set.
     PortSet,
-    /// What is left of rights on a port that has died: as many references as there were send references,
+    /// A dead name: made as such, or what is left of rights on a port that has died, as many references as there were send references,
     /// one for a send-once right.
     DeadName {
         refs: u16,
@@ -45,7 +45,7 @@ pub enum Entry {
 pub enum Item {
     /// No right.
     Null,
-    /// A right on a port that has died.
+    /// MACH_PORT_DEAD: a right on a port that has died, or a dead name that was sent.
     Dead,
     /// A right on a port.
     Right { port: PortId, right: PortRight },
@@ -158,7 +158,7 @@ pub enum Denied {
     /// The argument is the first that differs from the form, and differs in its disposition alone.
     #[error("WrongDisposition {0}")]
     WrongDisposition(u32),
-    /// The message has a reply port that its form does not take.
+    /// The form does not take the disposition of the message's reply port.
     #[error("ReplySlot")]
     ReplySlot,
     /// The argument carries a port of a class that its type does not admit.
