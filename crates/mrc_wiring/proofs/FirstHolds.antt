@@ -1,5 +1,5 @@
 -- What the lines of a table give is what is held in the first state.
-use Rattle.std.proofs.Common.{◌≡◌, ℕ, zero, suc, ◌+◌, ◌<◌, ◌≤◌, List, [], ◌∷◌, length, map, Option, Some, None, refl, arith, zero-add, ap, subst, sym, ◌∙◌, IsTrue, ◌↔◌}
+use Rattle.std.proofs.Common.{◌≡◌, ℕ, zero, suc, ◌+◌, ◌<◌, List, [], ◌∷◌, map, Some, refl, arith, zero-add, ap, subst, sym, ◌∙◌}
 use Rattle.std.specs.Prelude.{slice_get}
 use Rattle.mrc_base.specs.declared.Fact.{Fact}
 use Rattle.mrc_base.specs.declared.Fact.TheVariants.{Hold}
@@ -8,7 +8,6 @@ use Rattle.mrc_base.specs.declared.PortRight.TheVariants.{Send}
 use Rattle.mrc_model.specs.declared.FirstLine.{FirstLine}
 use Rattle.mrc_model.specs.declared.FirstLine.TheVariants.{Task as TaskLine, Port as PortLine, Hold as HoldLine}
 use Rattle.mrc_model.specs.IsIn.{IsIn, here, later}
-use Rattle.mrc_model.specs.First.{first, is_sound}
 use Rattle.mrc_model.specs.Breach.{Holding}
 use Rattle.mrc_model.specs.FirstHoldings.{line_holdings, line_classes, HasGiven}
 use Rattle.mrc_wiring.specs.Table.{Table, wiring_of, task_lines, AreEarlier, line_holds, IsTable}

@@ -1,6 +1,6 @@
 -- What lines mean is a table: few names, as many task lines, and holds of earlier tasks.
-use Rattle.std.proofs.Common.{◌≡◌, ℕ, ◌+◌, ◌<◌, ◌≤◌, Bool, true, false, List, [], ◌∷◌, ◌++◌, length, Option, Some, None, Result, Ok, Err, refl, arith, nat_lt, nat_le, if◌then◌else◌, length-append, ap, subst, sym}
-use Rattle.std.specs.Prelude.{bytes_eq, is_some, position}
+use Rattle.std.proofs.Common.{◌≡◌, ℕ, ◌+◌, ◌<◌, Bool, true, false, List, [], ◌∷◌, ◌++◌, length, Option, Some, None, Result, Ok, Err, refl, arith, nat_lt, nat_le, if◌then◌else◌, length-append, subst}
+use Rattle.std.specs.Prelude.{bytes_eq, is_some}
 use Rattle.std.specs.List.{position_or_len}
 use Rattle.std.proofs.lemmas.Bool.{ltb-true, leb-false}
 use Rattle.mrc_base.specs.declared.PortRight.TheVariants.{Send}

@@ -1,8 +1,6 @@
 -- No line of a table is refused when the first state is made.
-use Rattle.std.proofs.Common.{◌≡◌, ℕ, ◌+◌, ◌≤◌, true, ltb, ◌&&◌, List, [], ◌∷◌, length, refl, ap, arith, IsTrue}
+use Rattle.std.proofs.Common.{◌≡◌, ℕ, ◌+◌, true, ltb, List, [], ◌∷◌, refl, ap, arith, IsTrue}
 use Rattle.std.proofs.lemmas.Bool.{lt-ltb, and_from}
-use Rattle.mrc_base.specs.declared.PortRight.{PortRight}
-use Rattle.mrc_base.specs.declared.PortRight.TheVariants.{Send}
 use Rattle.mrc_model.specs.declared.FirstLine.{FirstLine}
 use Rattle.mrc_model.specs.declared.FirstLine.TheVariants.{Task as TaskLine, Port as PortLine, Hold as HoldLine}
 use Rattle.mrc_model.specs.Wiring.{Wiring}

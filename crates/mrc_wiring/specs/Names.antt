@@ -1,5 +1,5 @@
 -- The names of tasks and classes. The printed form of a class is this profile's own choice.
-use Rattle.std.specs.Prelude.{ℕ, ◌+◌, ◌-◌, bytes_eq, nat_lt, codes, List, length, Option, Some, None, if◌then◌else◌, position, slice_get, drop}
+use Rattle.std.specs.Prelude.{ℕ, ◌+◌, ◌-◌, bytes_eq, nat_lt, codes, List, length, Option, None, if◌then◌else◌, position, slice_get, drop}
 use Rattle.std.specs.List.{starts_with}
 use Rattle.std.specs.Option.{option_map}
 use Rattle.std.specs.Prelude.{nat_eq}

@@ -1,7 +1,5 @@
-use Rattle.std.proofs.Common.{◌≡◌, ap, subst, sym, ◌∙◌, List, Result, Ok, Err}
+use Rattle.std.proofs.Common.{◌≡◌, ap, subst, sym, ◌∙◌, Result, Ok, Err}
 use Rattle.std.specs.Prelude.{IfOk}
-use Rattle.mrc_base.specs.declared.Fact.{Fact}
-use Rattle.mrc_model.specs.declared.FirstLine.{FirstLine}
 use Rattle.mrc_model.proofs.FirstHeld.{first_given}
 use Rattle.mrc_wiring.specs.Table.{Table, wiring_of, line_holds}
 use Rattle.mrc_wiring.specs.FirstState.{HasFirstHolds}
