@@ -4,4 +4,5 @@ pub mod BodyLemmas
 pub mod HeadingLemmas
 pub mod HeadingLaws
 pub mod TextLaws
+pub mod OtherLaws
 mod Examples

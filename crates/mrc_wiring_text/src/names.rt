@@ -82,7 +82,7 @@ impl Name {
         ensures { IfOk result (λ copy. copy ≡ self.now) }
     {
         Ok(Name {
-            text: String::from_str(alloc, self.text.as_str())?,
+            text: String::from_str(alloc, self.as_str())?,
         })
     }
 }

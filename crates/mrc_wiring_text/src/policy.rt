@@ -1,6 +1,7 @@
 //! Policies.
 
-ghost use Rattle.std.specs.Prelude.{◌≡◌, List, IfOk, Ok};
+ghost use Rattle.std.specs.Prelude.{◌≡◌, ◌≢◌, List, IfOk, Ok, Err};
+ghost use Rattle.std.specs.Str.{IsUtf8};
 ghost use Rattle.mrc_wiring_text.specs.declared.reading.Line.{Line};
 ghost use Rattle.mrc_wiring_text.specs.declared.policy.Forbid.{Forbid};
 ghost use Rattle.mrc_wiring_text.specs.Reading.{Gives};
@@ -96,7 +97,8 @@ impl Statement for Forbid {
 }
 
 fn policy_lines(alloc: Global, bytes: &[u8]) -> Result<Vec<PolicyLine>, TextFault>
-    ensures { Gives (λ lines. lines.items) result (policy_of bytes.now) }
+    ensures said { Gives (λ lines. lines.items) result (policy_of bytes.now) }
+    ensures no_text { ¬ (IsUtf8 bytes.now) → result ≡ Err TextFault.NotUtf8 }
 {
     text_of(alloc, "policy", bytes)
 }
@@ -107,6 +109,9 @@ pub fn read_policy(alloc: Global, bytes: &[u8]) -> Result<Vec<PolicyLine>, TextF
     ensures found { IfOk result (λ lines. IsPolicy bytes.now lines.items) }
     // What a text of this grammar says is read, unless memory runs out.
     ensures only { (says : List (Line Forbid)) → IsPolicy bytes.now says → Gives (λ lines. lines.items) result (Ok says) }
+    // `NotUtf8` is told of bytes that are no text, and of no others.
+    ensures no_text { ¬ (IsUtf8 bytes.now) → result ≡ Err TextFault.NotUtf8 }
+    ensures text { IsUtf8 bytes.now → result ≢ Err TextFault.NotUtf8 }
     // Which fault it is: the first.
     ensures exact { Gives (λ lines. lines.items) result (policy_of bytes.now) }
 {

@@ -1,6 +1,7 @@
 //! Texts of lines: what they have in common.
 
-ghost use Rattle.std.specs.Prelude.{◌≡◌, ◌+◌, ◌≤◌, ◌==◌, ℕ, Bool, List, length, map, Option, IfOk, OnOk, IsTrue};
+ghost use Rattle.std.specs.Prelude.{◌≡◌, ◌+◌, ◌≤◌, ◌==◌, ℕ, Bool, List, length, map, Option, Err, IfOk, OnOk, IsTrue};
+ghost use Rattle.std.specs.Str.{IsUtf8};
 ghost use Rattle.std.specs.List.{list_all};
 ghost use Rattle.std.specs.Char.{is_ascii_digit};
 ghost use Rattle.std.specs.Option.{option_map};
@@ -145,7 +146,8 @@ fn body<S: Statement>(alloc: Global, first: u32, text: &[u8]) -> Result<Vec<Line
 /// Bytes that are a text.
 #[tactic(auto, unfolding(crate::specs::Reading::utf8_text))]
 fn utf8_text(bytes: &[u8]) -> Result<&[u8], TextFault>
-    ensures { Gives (λ text. text.now) result (utf8_text bytes.now) }
+    ensures text { Gives (λ text. text.now) result (utf8_text bytes.now) }
+    ensures no_text { ¬ (IsUtf8 bytes.now) → result ≡ Err TextFault.NotUtf8 }
 {
     match str::from_utf8(bytes) {
         Ok(text) => Ok(text.as_bytes()),
@@ -160,7 +162,8 @@ pub(crate) fn text_of<S: Statement>(
     kind: &str,
     bytes: &[u8],
 ) -> Result<Vec<Line<S>>, TextFault>
-    ensures { Gives (λ said. said.items) result (text_of kind.now S.meaning bytes.now) }
+    ensures said { Gives (λ said. said.items) result (text_of kind.now S.meaning bytes.now) }
+    ensures no_text { ¬ (IsUtf8 bytes.now) → result ≡ Err TextFault.NotUtf8 }
 {
     let text = utf8_text(bytes)?;
     let (first, rest) = heading(alloc, kind, text)?;

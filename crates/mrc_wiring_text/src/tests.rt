@@ -88,7 +88,20 @@ fn wirings(rt: HostRuntime) -> Result<(), Fail> {
         ),
         ("Wiring 1", "BadLine 1"),
         ("wiring 1\nTASK a", "BadLine 2"),
-        // The version is a decimal number, by its value.
+    ] {
+        assert_eq!(rt;
+            wiring(rt.alloc(), text.as_bytes())?.as_str(),
+            want,
+            "of {text:?}"
+        );
+    }
+    Ok(())
+}
+
+#[test]
+fn versions(rt: HostRuntime) -> Result<(), Fail> {
+    for (text, want) in [
+        // A decimal number, by its value.
         ("wiring 01\ntask a", "2 task a;"),
         ("wiring 0", "Version"),
         ("wiring 00", "Version"),
@@ -104,6 +117,19 @@ fn wirings(rt: HostRuntime) -> Result<(), Fail> {
         ("wiring 3\ntask", "Version"),
         ("task a\nwiring 3", "BadLine 1"),
         ("wiring 1\nwiring 1", "BadLine 2"),
+    ] {
+        assert_eq!(rt;
+            wiring(rt.alloc(), text.as_bytes())?.as_str(),
+            want,
+            "of {text:?}"
+        );
+    }
+    Ok(())
+}
+
+#[test]
+fn words(rt: HostRuntime) -> Result<(), Fail> {
+    for (text, want) in [
         // A comment cuts a word, and nothing but blanks separates words.
         ("wiring 1\ntask a#b", "2 task a;"),
         ("wiring 1\ntask# a", "BadLine 2"),
@@ -112,6 +138,19 @@ fn wirings(rt: HostRuntime) -> Result<(), Fail> {
         ("wiring 1\ntask\u{a0}a", "BadLine 2"),
         ("wiring 1\ntask \u{e9}", "BadLine 2"),
         ("\u{feff}wiring 1", "BadLine 1"),
+    ] {
+        assert_eq!(rt;
+            wiring(rt.alloc(), text.as_bytes())?.as_str(),
+            want,
+            "of {text:?}"
+        );
+    }
+    Ok(())
+}
+
+#[test]
+fn any_names(rt: HostRuntime) -> Result<(), Fail> {
+    for (text, want) in [
         // Any name will do.
         (
             "wiring 1\ntask none\ntask _9\ntask task",
@@ -183,6 +222,18 @@ fn long_names(rt: HostRuntime) -> Result<(), Fail> {
     assert_eq!(rt; wiring(rt.alloc(), text.as_bytes())?.len(), 72);
     text.push('x')?;
     assert_eq!(rt; wiring(rt.alloc(), text.as_bytes())?.as_str(), "BadLine 2");
+    Ok(())
+}
+
+#[test]
+fn names(rt: HostRuntime) -> Result<(), Fail> {
+    let alloc = rt.alloc();
+    let name = Name::new(alloc, b"_a9")?.ok_or("a name")?;
+    assert_eq!(rt; name.as_str(), "_a9");
+    assert_eq!(rt; name.copy(alloc)?.as_str(), "_a9");
+    for word in ["", "9", "a.b", "a "] {
+        assert!(rt; Name::new(alloc, word.as_bytes())?.is_none(), "{word:?}");
+    }
     Ok(())
 }
 

@@ -6,11 +6,11 @@ use Rattle.std.proofs.lemmas.Str.{IsUtf8-from_is_utf8, is_utf8-from_IsUtf8}
 use Rattle.mrc_wiring_text.specs.Reading.{utf8_text}
 use Rattle.mrc_wiring_text.proofs.reading.utf8_text.Goals as goal
 
-pub returns-in-Ok : goal.returns-in-Ok
+pub returns-in-Ok-clause-text : goal.returns-in-Ok-clause-text
 unfolding utf8_text
-returns-in-Ok c =
+returns-in-Ok-clause-text c =
     rw (is_utf8-from_IsUtf8 c.args.bytes.now c.in-Ok.ensures.cases.1) (ap (λ text. Ok text) (sym (c.as_bytes.ensures.value ∙ c.in-Ok.ensures.cases.0)))
 
-pub returns-in-Err : goal.returns-in-Err
+pub returns-in-Err-clause-text : goal.returns-in-Err-clause-text
 unfolding utf8_text
-returns-in-Err c = rw (false_from_ne_true (is_utf8 c.args.bytes.now) (λ e. c.in-Err.ensures.cases.0 (IsUtf8-from_is_utf8 c.args.bytes.now e))) refl
+returns-in-Err-clause-text c = rw (false_from_ne_true (is_utf8 c.args.bytes.now) (λ e. c.in-Err.ensures.cases.0 (IsUtf8-from_is_utf8 c.args.bytes.now e))) refl

@@ -1,11 +1,15 @@
 -- What was read is a wiring that says so, and what a wiring says is read.
 use Rattle.std.proofs.Common.{codes}
 use Rattle.mrc_wiring_text.specs.Wiring.{wiring_says}
+use Rattle.mrc_wiring_text.proofs.OtherLaws.{not_told}
 use Rattle.mrc_wiring_text.proofs.TextLaws.{found_in, read_by}
 use Rattle.mrc_wiring_text.proofs.wiring.read_wiring.Goals as goal
 
 pub returns-clause-found : goal.returns-clause-found
-returns-clause-found c = found_in (codes "wiring") wiring_says c.args.bytes.now (λ lines. lines.items) c.wiring_lines.result c.wiring_lines.ensures
+returns-clause-found c = found_in (codes "wiring") wiring_says c.args.bytes.now (λ lines. lines.items) c.wiring_lines.result c.wiring_lines.ensures.said
 
 pub returns-clause-only : goal.returns-clause-only
-returns-clause-only c = λ says is. read_by (codes "wiring") wiring_says c.args.bytes.now (λ lines. lines.items) c.wiring_lines.result says c.wiring_lines.ensures is
+returns-clause-only c = λ says is. read_by (codes "wiring") wiring_says c.args.bytes.now (λ lines. lines.items) c.wiring_lines.result says c.wiring_lines.ensures.said is
+
+pub returns-clause-text : goal.returns-clause-text
+returns-clause-text c = not_told (codes "wiring") wiring_says c.args.bytes.now (λ lines. lines.items) c.wiring_lines.result c.wiring_lines.ensures.said
