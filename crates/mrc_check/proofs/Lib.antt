@@ -1,0 +1,6 @@
+pub mod Refuted
+pub mod Bridge
+pub mod FourTests
+pub mod Gathered
+pub mod Accepted
+pub mod TextLaws

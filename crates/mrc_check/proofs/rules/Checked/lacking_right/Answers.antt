@@ -1,0 +1,12 @@
+use Rattle.mrc_base.specs.declared.PortRight.TheVariants.{Send, Receive, SendOnce}
+use Rattle.mrc_check.specs.Conclusions.{Lacks}
+use Rattle.mrc_check.proofs.Refuted.{refuted}
+use Rattle.mrc_check.proofs.rules.Checked.lacking_right.Goals as goal
+
+-- none of the three is lacking
+pub returns-else-lacks-3-clause-none : goal.returns-else-lacks-3-clause-none
+returns-else-lacks-3-clause-none c = λ q. elim q as (λ v. Lacks c.args.self.now c.args.rule c.args.task c.args.class v → ⊥) [
+  | Send ↦ refuted _ _ c.lacks.ensures c.if-lacks.false
+  | Receive ↦ refuted _ _ c.lacks-else-lacks.ensures c.if-lacks-2.false
+  | SendOnce ↦ refuted _ _ c.lacks-else-lacks-2.ensures c.if-lacks-3.false
+]

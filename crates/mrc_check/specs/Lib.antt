@@ -1,0 +1,5 @@
+pub mod Conclusions
+pub mod Missing
+pub mod Gathered
+pub mod Verdict
+pub mod Texts

@@ -1,0 +1,15 @@
+//! Whether a certificate is accepted.
+#![tactic(auto)]
+
+mod confined;
+mod rules;
+mod texts;
+mod verdict;
+
+pub use confined::{Confined, Refused, check};
+pub use rules::HoldRule;
+pub use texts::{PolicyFault, TextsFault, WiringFault, check_texts};
+pub use verdict::Why;
+
+#[cfg(test)]
+mod tests;

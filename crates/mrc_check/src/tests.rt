@@ -1,0 +1,408 @@
+ghost use Rattle.std.specs.Prelude.{◌≡◌};
+ghost use Rattle.mrc_base.specs.declared.Fact.{Fact};
+
+use super::*;
+use mrc_base::{ClassId, Fact, PortRight, TaskId};
+use mrc_certificate::{DraftFault, read_draft};
+use mrc_wiring::{Claim, ClaimFault, ResolveFault, Wired};
+use mrc_wiring_text::{TextFault, read_policy, read_wiring};
+use std::alloc::{AllocError, Global};
+use std::fmt::Write;
+use std::process::Abort;
+use std::test::Fail;
+
+const ONE: &str = "wiring 1\ntask a\n";
+
+const TWO: &str = "wiring 1\ntask l\ntask f\nhold l send task f\n";
+
+const ANY: &str = "policy 1\n";
+
+const NO_SEND_TO_L: &str = "policy 1\nforbid f send task l\n";
+
+/// The certificate of a task alone: it holds a send right to its own kernel port, and all three
+/// rights on the ports of its births.
+const ALONE: [u8; 38] = [
+    0x4d, 0x52, 0x43, 0x43, 0x00, 0x01, 0x00, 0x01, 0x00, 0x02, 0x00, 0x00, 0x00, 0x04, // header
+    0x01, 0x00, 0x00, 0x00, 0x00, 0x00, 0x01, 0x00, 0x00, 0x00, 0x01, 0x00, // send, send
+    0x01, 0x00, 0x00, 0x00, 0x01, 0x01, 0x01, 0x00, 0x00, 0x00, 0x01, 0x02, // receive, once
+];
+
+/// The certificate of a wiring without tasks.
+const NOBODY: [u8; 14] = [
+    0x4d, 0x52, 0x43, 0x43, 0x00, 0x01, 0x00, 0x00, 0x00, 0x00, 0x00, 0x00, 0x00, 0x00,
+];
+
+/// What two tasks may come to hold where one has a send right to the other's kernel port: task, class
+/// and right, by numbers.
+const BOTH: [(u8, u8, u8); 16] = [
+    (0, 0, 0),
+    (0, 1, 0),
+    (0, 2, 0),
+    (0, 2, 1),
+    (0, 2, 2),
+    (0, 3, 0),
+    (0, 3, 1),
+    (0, 3, 2),
+    (1, 0, 0),
+    (1, 1, 0),
+    (1, 2, 0),
+    (1, 2, 1),
+    (1, 2, 2),
+    (1, 3, 0),
+    (1, 3, 1),
+    (1, 3, 2),
+];
+
+/// The first state of two tasks, and all three rights on the ports of each one's births.
+const APART: [(u8, u8, u8); 9] = [
+    (0, 0, 0),
+    (0, 1, 0),
+    (0, 2, 0),
+    (0, 2, 1),
+    (0, 2, 2),
+    (1, 1, 0),
+    (1, 3, 0),
+    (1, 3, 1),
+    (1, 3, 2),
+];
+
+fn hold(task: u16, class: u16, right: PortRight) -> Fact
+    ensures { result ≡ Fact.Hold task class right }
+{
+    Fact::Hold {
+        task,
+        class: ClassId(class),
+        right,
+    }
+}
+
+/// The bytes of a certificate: the numbers of tasks, classes and facts, and the facts, each of which is a hold.
+fn certificate(
+    alloc: Global,
+    tasks: u8,
+    classes: u8,
+    count: u16,
+    holds: &[(u8, u8, u8)],
+) -> Result<Vec<u8>, AllocError> {
+    let mut bytes = Vec::from_slice(alloc, b"MRCC\x00\x01\x00")?;
+    bytes.extend_from_slice(&[tasks, 0, classes, 0, 0])?;
+    bytes.extend_from_slice(&count.to_be_bytes())?;
+    for (task, class, right) in holds {
+        bytes.extend_from_slice(&[1, 0, *task, 0, *class, *right])?;
+    }
+    Ok(bytes)
+}
+
+/// The answer as one text: `accepted`, or the step that refuses and its fault.
+fn answer(
+    alloc: Global,
+    wiring: &[u8],
+    policy: &[u8],
+    certificate: &[u8],
+) -> Result<String, AllocError> {
+    match check_texts(alloc, wiring, policy, certificate) {
+        Ok(_) => String::from_str(alloc, "accepted"),
+        Err(TextsFault::Wiring(fault)) => format!(in alloc; "wiring {fault}"),
+        Err(TextsFault::Policy(fault)) => format!(in alloc; "policy {fault}"),
+        Err(TextsFault::Certificate(fault)) => format!(in alloc; "certificate {fault}"),
+        Err(TextsFault::Check(_)) => String::from_str(alloc, "refused"),
+    }
+}
+
+/// Why the certificate of three texts that have a meaning is refused.
+fn reason_of(
+    rt: &(impl Abort + AllocGlobal),
+    wiring: &str,
+    policy: &str,
+    certificate: &[u8],
+) -> Why {
+    match check_texts(
+        rt.alloc(),
+        wiring.as_bytes(),
+        policy.as_bytes(),
+        certificate,
+    ) {
+        Err(TextsFault::Check(refused)) => refused.why,
+        Err(_) => panic!(rt; "a text has no meaning"),
+        Ok(_) => panic!(rt; "accepted"),
+    }
+}
+
+/// The claim of two texts.
+fn claim_of(alloc: Global, wiring: &str, policy: &str) -> Result<Claim, Fail> {
+    let wired = Wired::resolve(alloc, &read_wiring(alloc, wiring.as_bytes())?)?;
+    let lines = read_policy(alloc, policy.as_bytes())?;
+    match Claim::new(alloc, wired, &lines) {
+        Ok(claim) => Ok(claim),
+        Err((_, fault)) => Err(fault.into()),
+    }
+}
+
+#[test]
+fn accepts(rt: HostRuntime) -> Result<(), Fail> {
+    let alloc = rt.alloc();
+    let both = certificate(alloc, 2, 4, 16, &BOTH)?;
+    for (wiring, bytes) in [
+        ("wiring 1\n", NOBODY.as_slice()),
+        (ONE, ALONE.as_slice()),
+        (TWO, both.as_slice()),
+    ] {
+        let told = answer(alloc, wiring.as_bytes(), ANY.as_bytes(), bytes)?;
+        assert_eq!(rt; told.as_str(), "accepted", "of {wiring:?}");
+    }
+    Ok(())
+}
+
+#[test]
+fn counts_differ(rt: HostRuntime) -> Result<(), Fail> {
+    let alone = [(0, 0, 0), (0, 1, 0), (0, 1, 1), (0, 1, 2)];
+    for (tasks, classes) in [(1, 3), (2, 2), (2, 4)] {
+        let bytes = certificate(rt.alloc(), tasks, classes, 4, &alone)?;
+        assert_eq!(rt; reason_of(&rt, ONE, ANY, &bytes), Why::Counts);
+    }
+    // Told before what is missing.
+    assert_eq!(rt; reason_of(&rt, ONE, ANY, &NOBODY), Why::Counts);
+    Ok(())
+}
+
+/// Why a certificate of a task alone that has these holds is refused.
+fn lack_of(
+    rt: &(impl Abort + AllocGlobal),
+    count: u16,
+    holds: &[(u8, u8, u8)],
+) -> Result<Why, AllocError> {
+    let bytes = certificate(rt.alloc(), 1, 2, count, holds)?;
+    Ok(reason_of(rt, ONE, ANY, &bytes))
+}
+
+#[test]
+fn first_holds_are_missing(rt: HostRuntime) -> Result<(), Fail> {
+    let send = Why::MissingFirst(hold(0, 0, PortRight::Send));
+    let receive = Why::MissingFirst(hold(0, 1, PortRight::Receive));
+    let why = lack_of(&rt, 3, &[(0, 1, 0), (0, 1, 1), (0, 1, 2)])?;
+    assert_eq!(rt; why, send);
+    // The receive right of a birth.
+    let why = lack_of(&rt, 3, &[(0, 0, 0), (0, 1, 0), (0, 1, 2)])?;
+    assert_eq!(rt; why, receive);
+    // The first state is told before the births.
+    assert_eq!(rt; lack_of(&rt, 0, &[])?, send);
+    assert_eq!(rt; lack_of(&rt, 1, &[(0, 0, 0)])?, receive);
+    Ok(())
+}
+
+#[test]
+fn weaker_rights_are_missing(rt: HostRuntime) -> Result<(), Fail> {
+    let why = lack_of(&rt, 3, &[(0, 0, 0), (0, 1, 1), (0, 1, 2)])?;
+    let send = hold(0, 1, PortRight::Send);
+    assert_eq!(rt; why, Why::NotClosed(HoldRule::Weaker, send));
+    let why = lack_of(&rt, 3, &[(0, 0, 0), (0, 1, 0), (0, 1, 1)])?;
+    let once = hold(0, 1, PortRight::SendOnce);
+    assert_eq!(rt; why, Why::NotClosed(HoldRule::Weaker, once));
+    Ok(())
+}
+
+#[test]
+fn kernel_ports_are_shared(rt: HostRuntime) -> Result<(), Fail> {
+    let apart = certificate(rt.alloc(), 2, 4, 9, &APART)?;
+    let want = Why::NotClosed(HoldRule::KernelPort, hold(0, 3, PortRight::Send));
+    for policy in [ANY, NO_SEND_TO_L] {
+        assert_eq!(rt; reason_of(&rt, TWO, policy, &apart), want);
+    }
+    Ok(())
+}
+
+#[test]
+fn the_first_broken_line_is_told(rt: HostRuntime) -> Result<(), Fail> {
+    let both = certificate(rt.alloc(), 2, 4, 16, &BOTH)?;
+    for (policy, line) in [
+        (NO_SEND_TO_L, 2),
+        (
+            "policy 1\nforbid f once task l\n\nforbid f send task l\nforbid l send task f\n",
+            4,
+        ),
+    ] {
+        assert_eq!(rt; reason_of(&rt, TWO, policy, &both), Why::Forbidden(line));
+    }
+    let kept = "policy 1\nforbid f receive task l\nforbid f once task l\n";
+    let told = answer(rt.alloc(), TWO.as_bytes(), kept.as_bytes(), &both)?;
+    assert_eq!(rt; told.as_str(), "accepted");
+    Ok(())
+}
+
+#[test]
+fn texts_without_meaning(rt: HostRuntime) -> Result<(), Fail> {
+    for (wiring, policy, want) in [
+        (
+            "wiring 1\nhold a send task a\n",
+            ANY,
+            "wiring UnknownName 2",
+        ),
+        ("wiring 1\ntask a\ntask a\n", ANY, "wiring TwiceNamed 3"),
+        ("wiring 3\n", ANY, "wiring Version"),
+        ("wiring 1\ntask\n", ANY, "wiring BadLine 2"),
+        (
+            "wiring 1\n",
+            "policy 1\nforbid a send task a\n",
+            "policy UnknownName 2",
+        ),
+        (ONE, "policy 2\n", "policy Version"),
+        (ONE, "policy 1\nforbid a\n", "policy BadLine 2"),
+        // The first step that refuses is told: the certificate here spells nothing.
+        ("wiring 3\n", "policy 2\n", "wiring Version"),
+        (
+            "wiring 1\nhold a send task a\n",
+            "policy 2\n",
+            "wiring UnknownName 2",
+        ),
+        (
+            ONE,
+            "policy 1\nforbid b send task a\n",
+            "policy UnknownName 2",
+        ),
+        (ONE, ANY, "certificate Magic"),
+    ] {
+        let told = answer(rt.alloc(), wiring.as_bytes(), policy.as_bytes(), b"MRCD")?;
+        assert_eq!(rt; told.as_str(), want, "of {wiring:?} and {policy:?}");
+    }
+    // Bytes that are no text.
+    let told = answer(rt.alloc(), b"\xff", ANY.as_bytes(), &ALONE)?;
+    assert_eq!(rt; told.as_str(), "wiring NotUtf8");
+    let told = answer(rt.alloc(), ONE.as_bytes(), b"policy 1 \xff", &ALONE)?;
+    assert_eq!(rt; told.as_str(), "policy NotUtf8");
+    Ok(())
+}
+
+#[test]
+fn certificates_without_meaning(rt: HostRuntime) -> Result<(), Fail> {
+    let alloc = rt.alloc();
+    let exchanged = [(0, 0, 0), (0, 1, 1), (0, 1, 0), (0, 1, 2)];
+    let exchanged = certificate(alloc, 1, 2, 4, &exchanged)?;
+    let outside = [(0, 2, 0), (0, 1, 0), (0, 1, 1), (0, 1, 2)];
+    let outside = certificate(alloc, 1, 2, 4, &outside)?;
+    let mut longer = Vec::from_slice(alloc, &ALONE)?;
+    longer.push(0)?;
+    for (bytes, want) in [
+        (&ALONE[..3], "certificate Magic"),
+        (&ALONE[..37], "certificate Truncated"),
+        (outside.as_slice(), "certificate BadFact 14"),
+        (exchanged.as_slice(), "certificate NotAscending 26"),
+        (longer.as_slice(), "certificate Trailing"),
+    ] {
+        let told = answer(alloc, ONE.as_bytes(), ANY.as_bytes(), bytes)?;
+        assert_eq!(rt; told.as_str(), want);
+    }
+    Ok(())
+}
+
+#[test]
+fn what_is_refused_comes_back(rt: HostRuntime) -> Result<(), Fail> {
+    let alloc = rt.alloc();
+    let claim = claim_of(alloc, TWO, NO_SEND_TO_L)?;
+    let bytes = certificate(alloc, 2, 4, 16, &BOTH)?;
+    let once = match check(alloc, claim, read_draft(alloc, &bytes)?) {
+        Ok(_) => panic!(rt; "accepted"),
+        Err(refused) => refused,
+    };
+    assert_eq!(rt; once.why, Why::Forbidden(2));
+    assert_eq!(rt; once.claim.lines().len(), 1);
+    assert_eq!(rt; once.claim.wired().tasks(), 2);
+    assert_eq!(rt; once.draft.facts.len(), 16);
+    match check(alloc, once.claim, once.draft) {
+        Ok(_) => panic!(rt; "accepted"),
+        Err(again) => assert_eq!(rt; again.why, Why::Forbidden(2)),
+    }
+    Ok(())
+}
+
+#[test]
+fn what_is_accepted_shows_its_wiring(rt: HostRuntime) -> Result<(), Fail> {
+    let alloc = rt.alloc();
+    let bytes = certificate(alloc, 2, 4, 16, &BOTH)?;
+    let confined = check(
+        alloc,
+        claim_of(alloc, TWO, ANY)?,
+        read_draft(alloc, &bytes)?,
+    )
+    .map_err(|_| "refused")?;
+    let wired = confined.wired();
+    assert_eq!(rt; wired.tasks(), 2);
+    assert_eq!(rt; wired.classes(), 4);
+    assert_eq!(rt; wired.task_name(TaskId(0)), Some("l"));
+    assert_eq!(rt; wired.task_name(TaskId(1)), Some("f"));
+    assert_eq!(rt; wired.task_named("l"), Some(TaskId(0)));
+    Ok(())
+}
+
+#[test]
+fn rules_have_numbers(rt: HostRuntime) {
+    for (rule, number) in [
+        (HoldRule::First, 1),
+        (HoldRule::Births, 2),
+        (HoldRule::Weaker, 3),
+        (HoldRule::KernelPort, 7),
+    ] {
+        assert_eq!(rt; rule.number(), number);
+    }
+}
+
+/// Whether memory ran out.
+fn is_memory(fault: &TextsFault) -> bool {
+    match fault {
+        TextsFault::Wiring(WiringFault::Text(fault)) => *fault == TextFault::Memory,
+        TextsFault::Wiring(WiringFault::Lines(fault)) => *fault == ResolveFault::Memory,
+        TextsFault::Policy(PolicyFault::Text(fault)) => *fault == TextFault::Memory,
+        TextsFault::Policy(PolicyFault::Lines(fault)) => *fault == ClaimFault::Memory,
+        TextsFault::Certificate(fault) => *fault == DraftFault::Memory,
+        TextsFault::Check(refused) => refused.why == Why::Memory,
+    }
+}
+
+// Only the call allocates: an allocation that is refused is told, whichever it is.
+#[test]
+fn memory_that_runs_out_is_told(rt: HostRuntime) {
+    let policy = "policy 1\nforbid a once task a\n";
+    let told = check_texts(rt.alloc(), ONE.as_bytes(), policy.as_bytes(), &ALONE);
+    match told {
+        Ok(confined) => assert_eq!(rt; confined.wired().tasks(), 1),
+        Err(fault) => assert!(rt; is_memory(&fault)),
+    }
+}
+
+/// A wiring of 64 tasks, each of which holds a send right to the next one's kernel port.
+fn chain(alloc: Global) -> Result<String, AllocError> {
+    let mut text = String::from_str(alloc, "wiring 1\n")?;
+    for task in 0..64u32 {
+        writeln!(text, "task t{task}")?;
+    }
+    for task in 0..63u32 {
+        writeln!(text, "hold t{task} send task t{}", task + 1)?;
+    }
+    Ok(text)
+}
+
+/// Each of 64 tasks may hold a send right to each kernel port, and all three rights on all births.
+fn whole_chain(alloc: Global) -> Result<Vec<u8>, AllocError> {
+    let mut bytes = certificate(alloc, 64, 128, 16384, &[])?;
+    for task in 0..64u8 {
+        for class in 0..64u8 {
+            bytes.extend_from_slice(&[1, 0, task, 0, class, 0])?;
+        }
+        for class in 64..128u8 {
+            for right in 0..3u8 {
+                bytes.extend_from_slice(&[1, 0, task, 0, class, right])?;
+            }
+        }
+    }
+    Ok(bytes)
+}
+
+#[test]
+fn a_chain_of_the_most_tasks(rt: HostRuntime) -> Result<(), Fail> {
+    let alloc = rt.alloc();
+    let wiring = chain(alloc)?;
+    let bytes = whole_chain(alloc)?;
+    assert_eq!(rt; bytes.len(), 98318);
+    let told = answer(alloc, wiring.as_bytes(), ANY.as_bytes(), &bytes)?;
+    assert_eq!(rt; told.as_str(), "accepted");
+    Ok(())
+}

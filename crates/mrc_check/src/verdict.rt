@@ -1,0 +1,122 @@
+//! Claims and certificates: accepted or refused.
+
+ghost use Rattle.std.specs.Prelude.{◌≡◌, ◌<◌, ◌↔◌, ℕ, List, [], IsTrue, IfOk, OnOk, IfErr, MatchResult};
+ghost use Rattle.mrc_classes.specs.Sets.{has};
+ghost use Rattle.mrc_certificate.specs.Spelling.{content};
+ghost use Rattle.mrc_check.specs.Gathered.{with_facts};
+ghost use Rattle.mrc_check.specs.Verdict.{HasCounts, IsAnswer, IsAccepted, IsWhy, first_broken, reason};
+
+use crate::rules::{Checked, HoldRule};
+use mrc_base::Fact;
+use mrc_certificate::Draft;
+use mrc_classes::Facts;
+use mrc_wiring::{Claim, ForbiddenLine};
+use std::alloc::{AllocError, Global};
+
+/// Why a certificate is refused: the first reason, in the order here.
+#[derive(Clone, Copy, Debug, PartialEq, Eq)]
+pub enum Why {
+    /// The certificate has another number of tasks or of classes than the wiring.
+    Counts,
+    /// The certificate lacks this hold of the first state (K1), or this receive right of births (K2).
+    MissingFirst(Fact),
+    /// The certificate lacks this conclusion of the rule.
+    NotClosed(HoldRule, Fact),
+    /// The certificate has what the policy's line of this number forbids.
+    Forbidden(u32),
+    /// Memory ran out.
+    Memory,
+}
+
+impl From<AllocError> for Why {
+    ghost use Rattle.mrc_check.specs.declared.verdict.Why.TheVariants.{Memory};
+
+    ghost from_gives = { λ _ e. e ≡ Memory };
+
+    fn from(_e: AllocError) -> Why {
+        Why::Memory
+    }
+}
+
+/// The facts of a list as a set.
+fn as_set(alloc: Global, facts: &[Fact]) -> Result<Facts, AllocError>
+    ensures { IfOk result (λ set. set ≡ with_facts [] facts.now) }
+{
+    let mut set = Facts::new(alloc);
+    for fact in facts {
+        set.insert(*fact)?;
+    }
+    Ok(set)
+}
+
+/// The number of the first line that forbids a hold of the set.
+fn first_broken(facts: &Facts, lines: &[ForbiddenLine]) -> Option<u32>
+    ensures { result ≡ first_broken facts.now lines.now }
+{
+    for line in lines {
+        let broken = facts.has(&Fact::Hold {
+            task: line.task,
+            class: line.class,
+            right: line.right,
+        });
+        if broken {
+            return Some(line.line);
+        }
+    }
+    None
+}
+
+/// The reason as it is told: what the first two rules conclude is there from the first.
+fn reason(rule: HoldRule, fact: Fact) -> Why
+    ensures { result ≡ reason rule fact }
+{
+    match rule {
+        HoldRule::First | HoldRule::Births => Why::MissingFirst(fact),
+        HoldRule::Weaker | HoldRule::KernelPort => Why::NotClosed(rule, fact),
+    }
+}
+
+/// Whether the draft has the wiring's numbers of tasks and classes.
+fn has_counts(claim: &Claim, draft: &Draft) -> bool
+    ensures { IsTrue result ↔ HasCounts claim.now (content draft.now) }
+{
+    let wired = claim.wired();
+    draft.tasks == wired.tasks() && draft.classes == wired.classes()
+}
+
+/// The first fact that the draft lacks, with its rule.
+fn first_lack(
+    alloc: Global,
+    claim: &Claim,
+    draft: &Draft,
+) -> Result<Option<(HoldRule, Fact)>, AllocError>
+    requires { HasCounts claim.now (content draft.now) }
+    ensures { IfOk result (IsAnswer claim.now (content draft.now)) }
+{
+    let holdings = claim.wired().first_holdings(alloc)?;
+    let first = as_set(alloc, holdings.as_slice())?;
+    let checked = Checked {
+        tasks: draft.tasks,
+        classes: draft.classes,
+        first: &first,
+        facts: &draft.facts,
+    };
+    Ok(checked.violation())
+}
+
+/// Whether the draft is accepted, and else the first reason why not.
+pub(crate) fn judge(alloc: Global, claim: &Claim, draft: &Draft) -> Result<(), Why>
+    ensures accepted { OnOk result (IsAccepted claim.now (content draft.now)) }
+    ensures refused { IfErr result (IsWhy claim.now (content draft.now)) }
+{
+    if !has_counts(claim, draft) {
+        return Err(Why::Counts);
+    }
+    match first_lack(alloc, claim, draft)? {
+        Some((rule, fact)) => Err(reason(rule, fact)),
+        None => match first_broken(&draft.facts, claim.lines()) {
+            Some(line) => Err(Why::Forbidden(line)),
+            None => Ok(()),
+        },
+    }
+}
