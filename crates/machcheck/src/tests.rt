@@ -1,0 +1,289 @@
+//! The program on worked cases: standard output, standard error and status.
+
+use crate::run::run;
+use std::alloc::Global;
+use std::io::Write;
+use std::test::Fail;
+use std::{fs, io};
+
+/// What a run wrote and ended with.
+#[derive(Drop)]
+struct Outcome {
+    out: Vec<u8>,
+    err: Vec<u8>,
+    status: u8,
+}
+
+/// A writer that takes some bytes, one a call, and then fails.
+#[derive(Drop)]
+struct Failing {
+    left: usize,
+}
+
+impl Write for Failing {
+    fn write(&mut self, buf: &[u8]) -> io::Result<usize> {
+        if buf.is_empty() {
+            return Ok(0);
+        }
+        if self.left == 0 {
+            return Err(io::Error::from(io::ErrorKind::BrokenPipe));
+        }
+        self.left -= 1;
+        Ok(1)
+    }
+
+    fn flush(&mut self) -> io::Result<()> {
+        Ok(())
+    }
+}
+
+const ALONE: [u8; 38] = [
+    0x4d, 0x52, 0x43, 0x43, 0, 1, 0, 1, 0, 2, 0, 0, 0, 4, 1, 0, 0, 0, 0, 0, 1, 0, 0, 0, 1, 0, 1, 0,
+    0, 0, 1, 1, 1, 0, 0, 0, 1, 2,
+];
+
+const NO_TASKS: [u8; 14] = [0x4d, 0x52, 0x43, 0x43, 0, 1, 0, 0, 0, 0, 0, 0, 0, 0];
+
+const LOADER: &str = "wiring 1\ntask l\ntask f\nhold l send task f\n";
+
+/// A folder for the files of one test.
+fn folder(rt: &HostRuntime, name: &str) -> Result<String, Fail> {
+    let temp = std::env::temp_dir(rt)?;
+    let id = std::process::id(rt.process());
+    let path = format!(in rt.alloc(); "{}/machcheck-{name}-{id}", temp.display())?;
+    fs::create_dir_all(rt, path.as_str())?;
+    Ok(path)
+}
+
+fn words(alloc: Global, folder: &str) -> Result<Vec<String>, Fail> {
+    let mut words = Vec::new(alloc);
+    for word in ["machcheck", "check", "--wiring"] {
+        words.push(String::from_str(alloc, word)?)?;
+    }
+    words.push(format!(in alloc; "{folder}/w")?)?;
+    words.push(String::from_str(alloc, "--policy")?)?;
+    words.push(format!(in alloc; "{folder}/p")?)?;
+    words.push(String::from_str(alloc, "--cert")?)?;
+    words.push(format!(in alloc; "{folder}/c")?)?;
+    Ok(words)
+}
+
+fn run_words(rt: &HostRuntime, words: &[String]) -> Outcome {
+    let alloc = rt.alloc();
+    let mut out = Vec::new(alloc);
+    let mut err = Vec::new(alloc);
+    let status = run(rt, alloc, words, &mut out, &mut err);
+    Outcome { out, err, status }
+}
+
+fn checked(
+    rt: &HostRuntime,
+    folder: &str,
+    wiring: &str,
+    policy: &str,
+    certificate: &[u8],
+) -> Result<Outcome, Fail> {
+    fs::write(rt, format!(in rt.alloc(); "{folder}/w")?.as_str(), wiring)?;
+    fs::write(rt, format!(in rt.alloc(); "{folder}/p")?.as_str(), policy)?;
+    fs::write(
+        rt,
+        format!(in rt.alloc(); "{folder}/c")?.as_str(),
+        certificate,
+    )?;
+    Ok(run_words(rt, words(rt.alloc(), folder)?.as_slice()))
+}
+
+/// A certificate of holds, each as task, class, right.
+fn certificate(
+    alloc: Global,
+    tasks: u8,
+    classes: u8,
+    holds: &[(u8, u8, u8)],
+) -> Result<Vec<u8>, Fail> {
+    let mut bytes = Vec::new(alloc);
+    bytes.extend_from_slice(b"MRCC")?;
+    bytes.extend_from_slice(&[0, 1, 0, tasks, 0, classes, 0, 0, 0])?;
+    bytes.push(u8::try_from(holds.len()).unwrap_or(0))?;
+    for (task, class, right) in holds {
+        bytes.extend_from_slice(&[1, 0, *task, 0, *class, *right])?;
+    }
+    Ok(bytes)
+}
+
+#[test]
+fn yes_and_no(rt: HostRuntime) -> Result<(), Fail> {
+    let alloc = rt.alloc();
+    let folder = folder(&rt, "yes_and_no")?;
+    let folder = folder.as_str();
+    let one = "wiring 1\ntask a\n";
+    let none = "policy 1\n";
+
+    let yes = checked(&rt, folder, one, none, &ALONE)?;
+    assert_eq!(rt; yes.out.as_slice(), b"YES\n".as_slice());
+    assert_eq!(rt; yes.err.as_slice(), b"".as_slice());
+    assert_eq!(rt; yes.status, 0);
+
+    let empty = checked(&rt, folder, "wiring 1\n", none, &NO_TASKS)?;
+    assert_eq!(rt; empty.out.as_slice(), b"YES\n".as_slice());
+    assert_eq!(rt; empty.status, 0);
+
+    let missing = certificate(alloc, 1, 2, &[(0, 1, 0), (0, 1, 1), (0, 1, 2)])?;
+    let missing = checked(&rt, folder, one, none, missing.as_slice())?;
+    assert_eq!(rt;
+        missing.out.as_slice(),
+        b"NO missing hold a task:a send\n".as_slice()
+    );
+    assert_eq!(rt; missing.err.as_slice(), b"".as_slice());
+    assert_eq!(rt; missing.status, 1);
+
+    let counts = certificate(alloc, 1, 3, &[(0, 0, 0), (0, 1, 0), (0, 1, 1), (0, 1, 2)])?;
+    let counts = checked(&rt, folder, one, none, counts.as_slice())?;
+    assert_eq!(rt; counts.out.as_slice(), b"NO counts\n".as_slice());
+    assert_eq!(rt; counts.status, 1);
+    Ok(())
+}
+
+#[test]
+fn a_kernel_port_opens_the_way_back(rt: HostRuntime) -> Result<(), Fail> {
+    let alloc = rt.alloc();
+    let folder = folder(&rt, "way_back")?;
+    let folder = folder.as_str();
+    let policy = "policy 1\nforbid f send task l\n";
+    let mut holds = Vec::new(alloc);
+    for task in [0, 1] {
+        holds.extend_from_slice(&[(task, 0, 0), (task, 1, 0)])?;
+        holds.extend_from_slice(&[(task, 2, 0), (task, 2, 1), (task, 2, 2)])?;
+        holds.extend_from_slice(&[(task, 3, 0), (task, 3, 1), (task, 3, 2)])?;
+    }
+    let least = certificate(alloc, 2, 4, holds.as_slice())?;
+    let forbidden = checked(&rt, folder, LOADER, policy, least.as_slice())?;
+    assert_eq!(rt;
+        forbidden.out.as_slice(),
+        b"NO forbidden line 2\n".as_slice()
+    );
+    assert_eq!(rt; forbidden.status, 1);
+
+    let nine = [
+        (0, 0, 0),
+        (0, 1, 0),
+        (0, 2, 0),
+        (0, 2, 1),
+        (0, 2, 2),
+        (1, 1, 0),
+        (1, 3, 0),
+        (1, 3, 1),
+        (1, 3, 2),
+    ];
+    let nine = certificate(alloc, 2, 4, &nine)?;
+    let open = checked(&rt, folder, LOADER, policy, nine.as_slice())?;
+    assert_eq!(rt;
+        open.out.as_slice(),
+        b"NO not closed K7 hold l births:f send\n".as_slice()
+    );
+    assert_eq!(rt; open.status, 1);
+    Ok(())
+}
+
+#[test]
+fn faults_of_files(rt: HostRuntime) -> Result<(), Fail> {
+    let alloc = rt.alloc();
+    let folder = folder(&rt, "faults")?;
+    let folder = folder.as_str();
+    let one = "wiring 1\ntask a\n";
+    let none = "policy 1\n";
+    let mut exchanged = ALONE;
+    exchanged[25] = 1;
+    exchanged[31] = 0;
+    let mut strange = ALONE;
+    strange[14] = 4;
+    let table: [(&str, &str, &[u8], &str, &str); 9] = [
+        (
+            "wiring 1\nhold a send task a\n",
+            none,
+            &ALONE,
+            "w",
+            "UnknownName 2",
+        ),
+        ("wiring 3\n", none, &ALONE, "w", "Version"),
+        ("wiring 1\ntask\n", none, &ALONE, "w", "BadLine 2"),
+        (
+            "wiring 1\n",
+            "policy 1\nforbid a send task a\n",
+            &NO_TASKS,
+            "p",
+            "UnknownName 2",
+        ),
+        (one, "policy 2\n", &ALONE, "p", "Version"),
+        (one, none, &exchanged, "c", "NotAscending 26"),
+        (one, none, &strange, "c", "BadFact 14"),
+        (one, none, &ALONE[..37], "c", "Truncated"),
+        (one, none, &ALONE[..3], "c", "Magic"),
+    ];
+    for (wiring, policy, certificate, file, fault) in table {
+        let told = checked(&rt, folder, wiring, policy, certificate)?;
+        let line = format!(in alloc; "machcheck: {folder}/{file}: {fault}\n")?;
+        assert_eq!(rt; told.err.as_slice(), line.as_bytes(), "{fault}");
+        assert_eq!(rt; told.out.as_slice(), b"".as_slice());
+        assert_eq!(rt; told.status, 2);
+    }
+    Ok(())
+}
+
+#[test]
+fn files_that_cannot_be_read(rt: HostRuntime) -> Result<(), Fail> {
+    let alloc = rt.alloc();
+    let folder = folder(&rt, "unread")?;
+    let folder = folder.as_str();
+    // A policy with a fault, and no certificate: reading comes before judging.
+    fs::write(&rt, format!(in alloc; "{folder}/w")?.as_str(), "wiring 1\n")?;
+    fs::write(&rt, format!(in alloc; "{folder}/p")?.as_str(), "policy 9\n")?;
+    let absent = run_words(&rt, words(alloc, folder)?.as_slice());
+    let line = format!(in alloc; "machcheck: {folder}/c: ReadFailed\n")?;
+    assert_eq!(rt; absent.err.as_slice(), line.as_bytes());
+    assert_eq!(rt; absent.status, 2);
+    // A folder is no file.
+    fs::create_dir_all(&rt, format!(in alloc; "{folder}/c")?.as_str())?;
+    let a_folder = run_words(&rt, words(alloc, folder)?.as_slice());
+    assert_eq!(rt; a_folder.err.as_slice(), line.as_bytes());
+    Ok(())
+}
+
+#[test]
+fn standard_output_that_fails(rt: HostRuntime) -> Result<(), Fail> {
+    let alloc = rt.alloc();
+    let folder = folder(&rt, "failing")?;
+    let folder = folder.as_str();
+    let _ = checked(&rt, folder, "wiring 1\ntask a\n", "policy 1\n", &ALONE)?;
+    let mut out = Failing { left: 2 };
+    let mut err = Vec::new(alloc);
+    let status = run(
+        &rt,
+        alloc,
+        words(alloc, folder)?.as_slice(),
+        &mut out,
+        &mut err,
+    );
+    assert_eq!(rt; err.as_slice(), b"machcheck: -: WriteFailed 2\n".as_slice());
+    assert_eq!(rt; status, 2);
+    Ok(())
+}
+
+#[test]
+fn the_command_line(rt: HostRuntime) -> Result<(), Fail> {
+    let alloc = rt.alloc();
+    let mut version = Vec::new(alloc);
+    version.push(String::from_str(alloc, "machcheck")?)?;
+    version.push(String::from_str(alloc, "--version")?)?;
+    let told = run_words(&rt, version.as_slice());
+    assert_eq!(rt; told.out.as_slice(), b"machcheck 0.1.0\n".as_slice());
+    assert_eq!(rt; told.status, 0);
+
+    let mut wrong = Vec::new(alloc);
+    wrong.push(String::from_str(alloc, "machcheck")?)?;
+    wrong.push(String::from_str(alloc, "check")?)?;
+    let told = run_words(&rt, wrong.as_slice());
+    assert!(rt; told.err.as_slice().starts_with(b"error: ".as_slice()));
+    assert_eq!(rt; told.out.as_slice(), b"".as_slice());
+    assert_eq!(rt; told.status, 2);
+    Ok(())
+}
