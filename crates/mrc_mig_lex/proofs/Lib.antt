@@ -1,0 +1,4 @@
+pub mod PieceLaws
+pub mod LexingLaws
+pub mod SpanLaws
+pub mod PartLaws

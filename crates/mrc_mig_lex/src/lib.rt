@@ -1,0 +1,14 @@
+//! The tokens of a MIG subsystem text: what a parser reads in place of characters.
+#![tactic(auto)]
+
+mod fault;
+mod lexer;
+mod piece;
+mod token;
+
+pub use fault::LexFault;
+pub use lexer::lex;
+pub use token::{Sign, Token, TokenKind};
+
+#[cfg(test)]
+mod tests;
