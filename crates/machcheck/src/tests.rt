@@ -196,7 +196,10 @@ fn faults_of_files(rt: HostRuntime) -> Result<(), Fail> {
     exchanged[31] = 0;
     let mut strange = ALONE;
     strange[14] = 4;
-    let table: [(&str, &str, &[u8], &str, &str); 9] = [
+    let mut longer = Vec::new(alloc);
+    longer.extend_from_slice(&ALONE)?;
+    longer.push(0)?;
+    let table: [(&str, &str, &[u8], &str, &str); 10] = [
         (
             "wiring 1\nhold a send task a\n",
             none,
@@ -217,6 +220,7 @@ fn faults_of_files(rt: HostRuntime) -> Result<(), Fail> {
         (one, none, &exchanged, "c", "NotAscending 26"),
         (one, none, &strange, "c", "BadFact 14"),
         (one, none, &ALONE[..37], "c", "Truncated"),
+        (one, none, longer.as_slice(), "c", "Trailing"),
         (one, none, &ALONE[..3], "c", "Magic"),
     ];
     for (wiring, policy, certificate, file, fault) in table {
