@@ -1,0 +1,6 @@
+pub mod Descriptor
+pub mod Lawful
+pub mod View
+pub mod Spelling
+pub mod Reading
+pub mod Examples

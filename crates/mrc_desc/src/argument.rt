@@ -1,0 +1,223 @@
+//! Arguments, and the descriptors that stand before their data.
+
+ghost use Rattle.std.specs.Prelude.{◌≡◌, ◌↔◌, ◌+◌, ◌≤◌, IfOk, IfSome, IfNone, IsTrue, IsFalse, length, if◌then◌else◌};
+ghost use Rattle.mrc_model.specs.Message.{arg_bytes, is_port_arg};
+ghost use Rattle.mrc_desc.specs.Descriptor.{is_lawful_desc, is_port_name, is_short, data_len, padding_len, first_word};
+ghost use Rattle.mrc_desc.specs.Lawful.{IsLawfulArg, IsLawfulData, IsLawfulPorts};
+ghost use Rattle.mrc_desc.specs.View.{argument_of, desc_of, disp_number};
+
+use crate::lists::{Bytes, Names};
+use mrc_base::Disp;
+use std::alloc::{AllocError, Global};
+
+/// What a descriptor says of the data behind it.
+#[derive(Clone, Copy, Debug, PartialEq, Eq)]
+pub struct Desc {
+    /// The type number of the items: below 16 data, from 16 to 21 a disposition.
+    pub name: u16,
+    /// The bits of an item.
+    pub size: u16,
+    /// How many items there are.
+    pub number: u32,
+}
+
+impl Desc {
+    /// Whether a descriptor may say so: its name is at most 21, its size a multiple of 8 and not 0,
+    /// and 32 where the name is a disposition.
+    pub(crate) fn is_lawful(self) -> bool
+        ensures { result ≡ is_lawful_desc self }
+    {
+        self.size > 0
+            && self.size % 8 == 0
+            && (self.name < 16 || self.name <= 21 && self.size == 32)
+    }
+
+    /// Whether the short form has room for the name, the size and the number.
+    pub(crate) fn is_short(self) -> bool
+        ensures { result ≡ is_short self }
+    {
+        self.name <= 255 && self.size <= 255 && self.number <= 4095
+    }
+
+    /// How many bytes the descriptor is written as.
+    pub(crate) fn written_size(self) -> usize
+        ensures { result ≡ (if is_short self then 4 else 12) }
+    {
+        if self.is_short() { 4 } else { 12 }
+    }
+
+    /// How many bytes the data have, without padding.
+    pub(crate) fn data_len(self) -> usize
+        ensures { result ≡ data_len self }
+    {
+        usize::try_from(self.number).unwrap() * usize::from(self.size) / 8
+    }
+}
+
+/// The bytes of padding behind data of this length, up to a multiple of four.
+pub(crate) fn padding_len(len: usize) -> usize
+    ensures { result ≡ padding_len len }
+{
+    (4 - len % 4) % 4
+}
+
+/// The first word of a descriptor, by its parts.
+#[derive(Clone, Copy, Debug, PartialEq, Eq)]
+pub(crate) struct FirstWord {
+    pub name: u16,
+    pub size: u16,
+    pub number: u32,
+    pub inline: bool,
+    pub longform: bool,
+    pub deallocate: bool,
+    pub unused: bool,
+}
+
+/// The parts of a descriptor's first word.
+pub(crate) fn first_word(word: u32) -> FirstWord
+    ensures { result ≡ first_word word }
+{
+    FirstWord {
+        name: (word & 0xff) as u16,
+        size: (word >> 8 & 0xff) as u16,
+        number: word >> 16 & 0xfff,
+        inline: word >> 28 & 1 == 1,
+        longform: word >> 29 & 1 == 1,
+        deallocate: word >> 30 & 1 == 1,
+        unused: word >> 31 & 1 == 1,
+    }
+}
+
+/// The number that a disposition has as a descriptor's name.
+pub(crate) fn number_of(disp: Disp) -> u16
+    ensures { result ≡ disp_number disp }
+{
+    match disp {
+        Disp::MoveReceive => 16,
+        Disp::MoveSend => 17,
+        Disp::MoveSendOnce => 18,
+        Disp::CopySend => 19,
+        Disp::MakeSend => 20,
+        Disp::MakeSendOnce => 21,
+    }
+}
+
+/// The disposition that a descriptor's name stands for.
+pub(crate) fn disp_of(name: u16) -> Option<Disp>
+    ensures disp { IfSome result (λ disp. disp_number disp ≡ name) }
+    ensures none { IfNone result (IsFalse (is_port_name name)) }
+{
+    match name {
+        16 => Some(Disp::MoveReceive),
+        17 => Some(Disp::MoveSend),
+        18 => Some(Disp::MoveSendOnce),
+        19 => Some(Disp::CopySend),
+        20 => Some(Disp::MakeSend),
+        21 => Some(Disp::MakeSendOnce),
+        _ => None,
+    }
+}
+
+fn is_lawful_data(desc: Desc, bytes: &[u8]) -> bool
+    ensures { IsTrue result ↔ IsLawfulData desc.name desc.size desc.number bytes.now }
+{
+    desc.name < 16 && desc.is_lawful() && bytes.len() == desc.data_len()
+}
+
+fn is_lawful_ports(disp: Disp, names: &[u32]) -> bool
+    ensures { IsTrue result ↔ IsLawfulPorts (disp_number disp) names.now }
+{
+    u32::try_from(names.len()).is_ok()
+}
+
+/// One argument of a message.
+#[derive(Debug, Drop)]
+pub enum Argument {
+    /// Items of data, as their bytes. The descriptor's name is below 16.
+    Data { desc: Desc, bytes: Bytes },
+    /// Port rights, by the names that the task has for them.
+    Ports { disp: Disp, names: Names },
+}
+
+impl Argument {
+    /// Whether the format has room for the argument.
+    pub fn is_lawful(&self) -> bool
+        ensures { IsTrue result ↔ IsLawfulArg (argument_of self.now) }
+    {
+        match self {
+            Argument::Data { desc, bytes } => is_lawful_data(*desc, bytes.as_slice()),
+            Argument::Ports { disp, names } => is_lawful_ports(*disp, names.as_slice()),
+        }
+    }
+
+    /// Whether the argument has port rights.
+    pub fn is_ports(&self) -> bool
+        ensures { result ≡ is_port_arg (argument_of self.now) }
+    {
+        matches!(self, Argument::Ports { .. })
+    }
+
+    /// What the descriptor before the argument says.
+    pub fn desc(&self) -> Desc
+        requires { IsLawfulArg (argument_of self.now) }
+        ensures { result ≡ desc_of (argument_of self.now) }
+    {
+        match self {
+            Argument::Data { desc, bytes: _ } => *desc,
+            Argument::Ports { disp, names } => Desc {
+                name: number_of(*disp),
+                size: 32,
+                number: names.as_slice().len() as u32,
+            },
+        }
+    }
+
+    /// How many bytes the argument is written as: its descriptor, its data and their padding.
+    pub(crate) fn written_size(&self) -> usize
+        requires { IsLawfulArg (argument_of self.now) }
+        ensures { result ≡ length (arg_bytes (argument_of self.now)) }
+    {
+        let desc = self.desc();
+        let len = desc.data_len();
+        desc.written_size() + len + padding_len(len)
+    }
+
+    /// The same argument once more.
+    pub fn copy(&self, alloc: Global) -> Result<Argument, AllocError>
+        ensures { IfOk result (λ copy. argument_of copy ≡ argument_of self.now) }
+    {
+        Ok(match self {
+            Argument::Data { desc, bytes } => Argument::Data {
+                desc: *desc,
+                bytes: bytes.copy(alloc)?,
+            },
+            Argument::Ports { disp, names } => Argument::Ports {
+                disp: *disp,
+                names: names.copy(alloc)?,
+            },
+        })
+    }
+
+    /// Whether the arguments are the same.
+    pub fn same(&self, other: &Argument) -> bool
+        ensures { IsTrue result ↔ (argument_of self.now ≡ argument_of other.now) }
+    {
+        match (self, other) {
+            (
+                Argument::Data { desc, bytes },
+                Argument::Data {
+                    desc: other_desc,
+                    bytes: other_bytes,
+                },
+            ) => *desc == *other_desc && bytes.same(other_bytes),
+            (
+                Argument::Ports { disp, names },
+                Argument::Ports {
+                    disp: other_disp,
+                    names: other_names,
+                },
+            ) => number_of(*disp) == number_of(*other_disp) && names.same(other_names),
+            _ => false,
+        }
+    }
+}
