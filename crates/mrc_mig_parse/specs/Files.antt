@@ -1,0 +1,233 @@
+-- A whole MIG file and what it means, after the Server Writer's Guide for MIG. The types that the include
+-- line declares are this profile's own choice.
+use Rattle.std.specs.Prelude.{ℕ, List, [], ◌∷◌, ◌++◌, length, map, Bool, true, false, not, Option, Some, None, is_some, nat_lt, if◌then◌else◌}
+use Rattle.std.specs.List.{list_any}
+use Rattle.std.specs.Str.{bytes_eq}
+use Rattle.mrc_mig_lex.specs.Tokens.{Lexeme}
+use Rattle.mrc_mig_lex.specs.declared.token.Sign.TheVariants as signs
+use Rattle.mrc_mig_symbols.specs.declared.directive.Directive.{Directive}
+use Rattle.mrc_mig_symbols.specs.declared.directive.Directive.TheVariants as directives
+use Rattle.mrc_mig_parse.specs.declared.subsystem.Kind.{Kind}
+use Rattle.mrc_mig_symbols.specs.declared.symbol.Symbol.{Symbol}
+use Rattle.mrc_mig_symbols.specs.declared.symbol.Symbol.TheVariants as symbols
+use Rattle.mrc_mig_parse.specs.declared.types.Use.TheVariants as uses
+use Rattle.mrc_mig_symbols.specs.declared.word.Word.{Word}
+use Rattle.mrc_mig_symbols.specs.declared.word.Word.TheVariants as words
+use Rattle.mrc_mig_parse.specs.declared.file.TheConstants.{TABLE}
+use Rattle.mrc_mig_symbols.specs.Tables.{entry_of}
+use Rattle.mrc_mig_symbols.specs.Symbols.{◌>>=◌, guard, many, no_tokens, symbol_of, first_of, tail_of, after_sign, name_at}
+use Rattle.mrc_mig_parse.specs.Types.{kind_at}
+use Rattle.mrc_mig_parse.specs.Arguments.{Item, options_at, arguments_at, items_of}
+
+-- what stands at an id
+pub data Row : Type 0 where
+  Routine : List Item → Row
+  SimpleRoutine : List Item → Row
+  Skip : Row
+
+-- what a file means: the subsystem's name, the id of its first row, and its rows
+pub record Meaning : Type 0 where
+  pub name : List ℕ
+  pub base : ℕ
+  pub rows : List Row
+
+-- what the statements so far have declared
+pub record State : Type 0 where
+  pub types : List (List ℕ × Kind)
+  pub has_table : Bool
+  pub routines : List (List ℕ)
+  pub rows : List Row
+
+-- one item of this number and size
+abbrev pub one : ℕ → ℕ → Kind
+one number size = record { number = number; size = size; count = 1; is_bound = false }
+
+-- the types that the include line declares
+abbrev pub table : List (List ℕ × Kind)
+table = map (λ entry. (entry.0.now, one entry.1 entry.2)) TABLE
+
+-- a type with this name is declared
+abbrev pub is_declared : List ℕ → List (List ℕ × Kind) → Bool
+is_declared name types = is_some (entry_of types name)
+
+-- with one more type, whose name no type has
+abbrev pub declared_with : List (List ℕ × Kind) → List ℕ → Kind → Option (List (List ℕ × Kind))
+declared_with types name kind = if is_declared name types then None else Some (types ++ (name, kind) ∷ [])
+
+-- with each of these types in turn
+unfoldable pub declared_with_all : List (List ℕ × Kind) → List (List ℕ × Kind) → Option (List (List ℕ × Kind))
+declared_with_all types [] = Some types
+declared_with_all types (entry ∷ others) = declared_with types entry.0 entry.1 >>= λ more. declared_with_all more others
+
+-- the include line, which declares the table once
+abbrev pub include_by : Bool → State → Option State
+include_by true s = Some s
+include_by false s = declared_with_all s.types table >>= λ types. Some (record s { types = types; has_table = true })
+
+abbrev pub directive_by : Directive → State → Option State
+directive_by directives.Marker s = Some s
+directive_by directives.Include s = include_by s.has_table s
+directive_by directives.Other s = None
+
+-- a line of the preprocessor
+abbrev pub line_by : Symbol → State → List Lexeme → Option (State × List Lexeme)
+line_by (symbols.Directive line) s tokens = directive_by line s >>= λ next. Some (next, tail_of tokens)
+line_by _ s tokens = None
+
+abbrev pub is_line : Symbol → Bool
+is_line (symbols.Directive line) = true
+is_line _ = false
+
+unfoldable pub begins_line : State × List Lexeme → Bool
+begins_line read = is_line (first_of read.1)
+
+unfoldable pub line_at : State × List Lexeme → Option (State × List Lexeme)
+line_at read = line_by (first_of read.1) read.0 read.1
+
+-- the words `kernelserver` and `kerneluser`
+abbrev pub is_side : Symbol → Bool
+is_side (symbols.Word words.Side) = true
+is_side _ = false
+
+-- what follows them
+unfoldable pub after_sides : List Lexeme → List Lexeme
+after_sides [] = []
+after_sides (token ∷ tokens) = if is_side (symbol_of token) then after_sides tokens else token ∷ tokens
+
+-- the subsystem's number
+abbrev pub number_by : Symbol → List Lexeme → Option (ℕ × List Lexeme)
+number_by (symbols.Number n) tokens = Some (n, tail_of tokens)
+number_by _ tokens = None
+
+unfoldable pub number_at : List Lexeme → Option (ℕ × List Lexeme)
+number_at tokens = number_by (first_of tokens) tokens
+
+-- `name number;`
+unfoldable pub named_number_at : List Lexeme → Option ((List ℕ × ℕ) × List Lexeme)
+named_number_at tokens = do
+  name ← name_at tokens
+  base ← number_at name.1
+  rest ← after_sign signs.Semicolon base.1
+  Some ((name.0, base.0), rest)
+
+abbrev pub heading_by : Symbol → List Lexeme → Option ((List ℕ × ℕ) × List Lexeme)
+heading_by (symbols.Word words.Subsystem) tokens = named_number_at (after_sides (tail_of tokens))
+heading_by _ tokens = None
+
+-- `subsystem` {`kernelserver` or `kerneluser`} `name number;`
+unfoldable pub heading_at : List Lexeme → Option ((List ℕ × ℕ) × List Lexeme)
+heading_at tokens = heading_by (first_of tokens) tokens
+
+-- `name = type {option};`, behind `type`. The name is known after it
+unfoldable pub declaration_at : State → List Lexeme → Option (State × List Lexeme)
+declaration_at s tokens = do
+  name ← name_at tokens
+  _ ← guard (not (is_declared name.0 s.types))
+  before ← after_sign signs.Equals name.1
+  kind ← kind_at s.types uses.Any before
+  after ← options_at kind.1
+  rest ← after_sign signs.Semicolon after
+  Some (record s { types = s.types ++ (name.0, kind.0) ∷ [] }, rest)
+
+-- a routine has this name
+abbrev pub is_routine : List ℕ → List (List ℕ) → Bool
+is_routine name routines = list_any (λ other. bytes_eq other name) routines
+
+-- `name (arguments);`, behind `routine` or `simpleroutine`
+unfoldable pub routine_at : Bool → State → List Lexeme → Option ((List ℕ × List Item) × List Lexeme)
+routine_at is_simple s tokens = do
+  name ← name_at tokens
+  _ ← guard (not (is_routine name.0 s.routines))
+  inside ← after_sign signs.OpenParenthesis name.1
+  arguments ← arguments_at s.types is_simple inside
+  closed ← after_sign signs.CloseParenthesis arguments.1
+  items ← items_of arguments.0
+  rest ← after_sign signs.Semicolon closed
+  Some ((name.0, items), rest)
+
+-- with one more row, for which there is room
+abbrev pub with_row : State → List (List ℕ) → Row → State
+with_row s names row = record s { routines = s.routines ++ names; rows = s.rows ++ row ∷ [] }
+
+-- a statement that takes an id
+abbrev pub row_by : Word → State → List Lexeme → Option (State × List Lexeme)
+row_by words.Routine s tokens = routine_at false s tokens >>= λ r. Some (with_row s (r.0.0 ∷ []) (Routine r.0.1), r.1)
+row_by words.SimpleRoutine s tokens = routine_at true s tokens >>= λ r. Some (with_row s (r.0.0 ∷ []) (SimpleRoutine r.0.1), r.1)
+row_by words.Skip s tokens = after_sign signs.Semicolon tokens >>= λ rest. Some (with_row s [] Skip, rest)
+row_by _ s tokens = None
+
+-- the same, of which there are 100 at most
+unfoldable pub row_at : Word → State → List Lexeme → Option (State × List Lexeme)
+row_at word s tokens = guard (nat_lt (length s.rows) 100) >>= λ _. row_by word s (tail_of tokens)
+
+-- a string or a header
+abbrev pub is_imported : Symbol → Bool
+is_imported symbols.Text = true
+is_imported symbols.Header = true
+is_imported _ = false
+
+abbrev pub is_text : Symbol → Bool
+is_text symbols.Text = true
+is_text _ = false
+
+-- behind `import`, `uimport` and `simport`
+unfoldable pub import_at : List Lexeme → Option (List Lexeme)
+import_at tokens = guard (is_imported (first_of tokens)) >>= λ _. after_sign signs.Semicolon (tail_of tokens)
+
+-- behind `rcsid`
+unfoldable pub rcsid_at : List Lexeme → Option (List Lexeme)
+rcsid_at tokens = guard (is_text (first_of tokens)) >>= λ _. after_sign signs.Semicolon (tail_of tokens)
+
+-- behind `serverprefix` and `userprefix`
+unfoldable pub prefix_at : List Lexeme → Option (List Lexeme)
+prefix_at tokens = name_at tokens >>= λ name. after_sign signs.Semicolon name.1
+
+-- a statement that declares nothing
+abbrev pub unchanged : State → Option (List Lexeme) → Option (State × List Lexeme)
+unchanged s read = read >>= λ rest. Some (s, rest)
+
+-- a statement that begins with this word
+abbrev pub worded_by : Word → State → List Lexeme → Option (State × List Lexeme)
+worded_by words.Type s tokens = declaration_at s (tail_of tokens)
+worded_by words.Routine s tokens = row_at words.Routine s tokens
+worded_by words.SimpleRoutine s tokens = row_at words.SimpleRoutine s tokens
+worded_by words.Skip s tokens = row_at words.Skip s tokens
+worded_by words.Import s tokens = unchanged s (import_at (tail_of tokens))
+worded_by words.Prefix s tokens = unchanged s (prefix_at (tail_of tokens))
+worded_by words.Rcsid s tokens = unchanged s (rcsid_at (tail_of tokens))
+worded_by _ s tokens = None
+
+abbrev pub statement_by : Symbol → State → List Lexeme → Option (State × List Lexeme)
+statement_by (symbols.Directive line) s tokens = directive_by line s >>= λ next. Some (next, tail_of tokens)
+statement_by (symbols.Word word) s tokens = worded_by word s tokens
+statement_by _ s tokens = None
+
+-- one statement
+unfoldable pub statement_at : State × List Lexeme → Option (State × List Lexeme)
+statement_at read = statement_by (first_of read.1) read.0 read.1
+
+unfoldable pub has_more : State × List Lexeme → Bool
+has_more read = not (no_tokens read.1)
+
+-- the statements, up to the end
+unfoldable pub statements_at : State → List Lexeme → Option State
+statements_at s tokens = do
+  read ← many has_more statement_at (length tokens) (s, tokens)
+  _ ← guard (no_tokens read.1)
+  Some read.0
+
+-- the lines in front of the subsystem
+unfoldable pub lines_at : State → List Lexeme → Option (State × List Lexeme)
+lines_at s tokens = many begins_line line_at (length tokens) (s, tokens)
+
+-- nothing is declared
+abbrev pub nothing_declared : State
+nothing_declared = record { types = []; has_table = false; routines = []; rows = [] }
+
+-- what the tokens of a file mean, where they mean anything
+unfoldable pub meaning_of : List Lexeme → Option Meaning
+meaning_of tokens = do
+  lines ← lines_at nothing_declared tokens
+  heading ← heading_at lines.1
+  s ← statements_at lines.0 heading.1
+  Some (record { name = heading.0.0; base = heading.0.1; rows = s.rows })

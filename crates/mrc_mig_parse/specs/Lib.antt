@@ -1,0 +1,6 @@
+pub mod Types
+pub mod Arguments
+pub mod Files
+pub mod Meanings
+pub mod Readers
+pub mod Examples

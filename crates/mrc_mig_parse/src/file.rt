@@ -1,0 +1,453 @@
+//! The statements of a file.
+ghost use Rattle.std.specs.Prelude.{◌≡◌, ◌++◌, [], ◌∷◌, None, map, length, OnOk};
+ghost use Rattle.mrc_mig_symbols.specs.Symbols.{Gives, many, left};
+ghost use Rattle.mrc_mig_symbols.specs.Tables.{plain, entry_of};
+ghost use Rattle.mrc_mig_parse.specs.Files.{State, one, table, is_declared, declared_with_all, include_by, directive_by, begins_line, line_at, lines_at, is_side, after_sides, number_at, named_number_at, heading_at, declaration_at, is_routine, routine_at, row_by, row_at, worded_by, has_more, import_at, rcsid_at, prefix_at, statement_at, statements_at, meaning_of};
+ghost use Rattle.mrc_mig_parse.specs.Meanings.{item_of, meaning};
+ghost use Rattle.mrc_mig_parse.specs.Readers.{state_of};
+
+use crate::arguments::{arguments, resolved};
+use crate::options::options;
+use crate::subsystem::{Argument, Entry, Kind, Subsystem};
+use crate::types::{Types, Use, kind, type_of};
+use indexmap::IndexMap;
+use mrc_mig_lex::{Sign, Token};
+use mrc_mig_symbols::{Directive, Feature, ParseFault, Rest, Symbol, Word, name, sign};
+use std::alloc::{AllocError, Global};
+
+/// The most ids of a subsystem.
+const MOST_IDS: usize = 100;
+
+/// The types that the include line declares: names, type numbers and bits.
+const TABLE: [(&str, u32, u32); 16] = [
+    ("char", 8, 8),
+    ("short", 1, 16),
+    ("int", 2, 32),
+    ("unsigned", 2, 32),
+    ("integer_t", 2, 32),
+    ("natural_t", 2, 32),
+    ("kern_return_t", 2, 32),
+    ("boolean_t", 0, 32),
+    ("mach_port_name_t", 15, 32),
+    ("mach_port_t", 19, 32),
+    ("mach_port_copy_send_t", 19, 32),
+    ("mach_port_move_receive_t", 16, 32),
+    ("mach_port_move_send_t", 17, 32),
+    ("mach_port_move_send_once_t", 18, 32),
+    ("mach_port_make_send_t", 20, 32),
+    ("mach_port_make_send_once_t", 21, 32),
+];
+
+/// What the statements so far have declared.
+#[derive(Drop)]
+struct File<'t> {
+    types: Types<'t>,
+    has_table: bool,
+    routines: Vec<&'t str>,
+    entries: Vec<Entry>,
+}
+
+fn is_declared(name: &str, types: &Types<'_>) -> bool
+    ensures { result ≡ is_declared name.now (plain types.now.entries) }
+{
+    type_of(types, name).is_some()
+}
+
+/// Declares a type whose name no type has.
+fn declare<'t>(types: &mut Types<'t>, name: &'t str, kind: Kind) -> Result<(), AllocError>
+    requires { entry_of (plain types.old.entries) name.now ≡ None }
+    ensures { OnOk result (plain types.new.entries ≡
+        plain types.old.entries ++ (name.now, kind) ∷ []) }
+{
+    types.insert(name, kind)?;
+    Ok(())
+}
+
+/// Declares each of these types, which the line at `at` stands for.
+#[tactic(auto, using(crate::proofs::FileLemmas::declares_at, crate::proofs::FileLemmas::declares_no_more))]
+fn declare_each<'t>(
+    types: &mut Types<'t>,
+    table: &[(&'t str, u32, u32)],
+    at: usize,
+) -> Result<(), ParseFault>
+    ensures { Gives (λ _. plain types.new.entries) result
+        (declared_with_all (plain types.old.entries) (map (λ entry. (entry.0.now, one entry.1 entry.2)) table.now)) }
+{
+    for (name, number, size) in table {
+        let kind = Kind {
+            number: *number,
+            size: *size,
+            count: 1,
+            is_bound: false,
+        };
+        if is_declared(name, types) {
+            return Err(ParseFault::TwiceNamed(at));
+        }
+        declare(types, name, kind)?;
+    }
+    Ok(())
+}
+
+/// Declares the types of the include line, which is at `at`.
+fn declare_table(types: &mut Types<'_>, at: usize) -> Result<(), ParseFault>
+    ensures { Gives (λ _. plain types.new.entries) result
+        (declared_with_all (plain types.old.entries) table) }
+{
+    declare_each(types, &TABLE, at)
+}
+
+/// Reads the include line, which is at `at`.
+fn include(file: &mut File<'_>, at: usize) -> Result<(), ParseFault>
+    ensures { Gives (λ _. state_of file.new) result
+        (include_by (state_of file.old).has_table (state_of file.old)) }
+{
+    if file.has_table {
+        return Ok(());
+    }
+    declare_table(&mut file.types, at)?;
+    file.has_table = true;
+    Ok(())
+}
+
+/// Reads a line of the preprocessor, which is at `at`.
+fn directive(file: &mut File<'_>, directive: Directive, at: usize) -> Result<(), ParseFault>
+    ensures { Gives (λ _. state_of file.new) result (directive_by directive (state_of file.old)) }
+{
+    match directive {
+        Directive::Marker => Ok(()),
+        Directive::Include => include(file, at),
+        Directive::Other => Err(ParseFault::LeftOut(at, Feature::Preprocessor)),
+    }
+}
+
+/// Whether a line of the preprocessor comes next.
+#[tactic(auto, unfolding(crate::specs::Files::begins_line))]
+fn begins_line(rest: Rest<'_>) -> bool
+    ensures { (s : State) → result ≡ begins_line (s, left rest.entry) }
+{
+    matches!(rest.first(), Symbol::Directive(_))
+}
+
+/// Reads a line of the preprocessor.
+#[tactic(auto, unfolding(crate::specs::Files::line_at))]
+fn line<'t>(file: &mut File<'t>, rest: Rest<'t>) -> Result<Rest<'t>, ParseFault>
+    ensures { Gives (λ x. (state_of file.new, left x)) result
+        (line_at (state_of file.old, left rest.entry)) }
+{
+    let Symbol::Directive(line) = rest.first() else {
+        return Err(rest.unexpected());
+    };
+    directive(file, line, rest.at())?;
+    Ok(rest.next())
+}
+
+/// Reads the lines of the preprocessor in front of the subsystem.
+#[tactic(auto, using(mrc_mig_symbols::proofs::LoopLemmas::many_ends, mrc_mig_symbols::proofs::LoopLemmas::many_goes_on, mrc_mig_symbols::proofs::LoopLemmas::many_done), unfolding(crate::specs::Files::lines_at))]
+fn lines<'t>(file: &mut File<'t>, rest: Rest<'t>) -> Result<Rest<'t>, ParseFault>
+    ensures { Gives (λ x. (state_of file.new, left x)) result
+        (lines_at (state_of file.old) (left rest.entry)) }
+{
+    let mut rest = rest;
+    let count = rest.tokens.len();
+    for _ in 0..count {
+        if !begins_line(rest) {
+            return Ok(rest);
+        }
+        rest = line(file, rest)?;
+    }
+    Ok(rest)
+}
+
+fn is_side(symbol: Symbol) -> bool
+    ensures { result ≡ is_side symbol }
+{
+    matches!(symbol, Symbol::Word(Word::Side))
+}
+
+/// What follows `kernelserver` and `kerneluser`.
+#[tactic(auto, using(crate::proofs::FileLemmas::sides_go_on, crate::proofs::FileLemmas::sides_end, crate::proofs::FileLemmas::side_is_shorter))]
+fn sides(rest: Rest<'_>) -> Rest<'_>
+    ensures { left result ≡ after_sides (left rest.entry) }
+{
+    let mut rest = rest;
+    while is_side(rest.first()) {
+        rest = rest.next();
+    }
+    rest
+}
+
+#[tactic(auto, unfolding(crate::specs::Files::number_at))]
+fn number(rest: Rest<'_>) -> Result<(u32, Rest<'_>), ParseFault>
+    ensures { Gives (λ x. (x.0, left x.1)) result (number_at (left rest.entry)) }
+{
+    match rest.first() {
+        Symbol::Number(number) => Ok((number, rest.next())),
+        _ => Err(rest.unexpected()),
+    }
+}
+
+/// Reads `name number;`.
+#[tactic(auto, unfolding(crate::specs::Files::named_number_at))]
+fn named_number(rest: Rest<'_>) -> Result<(&str, u32, Rest<'_>), ParseFault>
+    ensures { Gives (λ x. ((x.0.now, x.1), left x.2)) result (named_number_at (left rest.entry)) }
+{
+    let (name, rest) = name(rest)?;
+    let (base, rest) = number(rest)?;
+    Ok((name, base, sign(rest, Sign::Semicolon)?))
+}
+
+/// Reads `subsystem name number;`.
+#[tactic(auto, unfolding(crate::specs::Files::heading_at))]
+fn heading(rest: Rest<'_>) -> Result<(&str, u32, Rest<'_>), ParseFault>
+    ensures { Gives (λ x. ((x.0.now, x.1), left x.2)) result (heading_at (left rest.entry)) }
+{
+    match rest.first() {
+        Symbol::Word(Word::Subsystem) => named_number(sides(rest.next())),
+        _ => Err(rest.unexpected()),
+    }
+}
+
+/// Reads `name = type;`. The name is known after it.
+#[tactic(auto, unfolding(crate::specs::Files::declaration_at))]
+fn declaration<'t>(
+    alloc: Global,
+    file: &mut File<'t>,
+    rest: Rest<'t>,
+) -> Result<Rest<'t>, ParseFault>
+    ensures { Gives (λ x. (state_of file.new, left x)) result
+        (declaration_at (state_of file.old) (left rest.entry)) }
+{
+    let at = rest.at();
+    let (name, rest) = name(rest)?;
+    if is_declared(name, &file.types) {
+        return Err(ParseFault::TwiceNamed(at));
+    }
+    let rest = sign(rest, Sign::Equals)?;
+    let (kind, rest) = kind(alloc, &file.types, Use::Any, rest)?;
+    let rest = options(rest)?;
+    let rest = sign(rest, Sign::Semicolon)?;
+    declare(&mut file.types, name, kind)?;
+    Ok(rest)
+}
+
+fn is_routine(name: &str, routines: &[&str]) -> bool
+    ensures { result ≡ is_routine name.now (map (λ other. other.now) routines.now) }
+{
+    routines.iter().any(|other| *other == name)
+}
+
+/// Reads `name (arguments);`.
+#[tactic(auto, unfolding(crate::specs::Files::routine_at))]
+fn routine<'t>(
+    alloc: Global,
+    file: &File<'t>,
+    is_simple: bool,
+    rest: Rest<'t>,
+) -> Result<(&'t str, Vec<Argument>, Rest<'t>), ParseFault>
+    ensures { Gives (λ x. ((x.0.now, map item_of x.1.items), left x.2)) result
+        (routine_at is_simple (state_of file.now) (left rest.entry)) }
+{
+    let at = rest.at();
+    let (name, rest) = name(rest)?;
+    if is_routine(name, file.routines.as_slice()) {
+        return Err(ParseFault::TwiceNamed(at));
+    }
+    let rest = sign(rest, Sign::OpenParenthesis)?;
+    let (seen, rest) = arguments(alloc, &file.types, is_simple, rest)?;
+    let at = rest.at();
+    let rest = sign(rest, Sign::CloseParenthesis)?;
+    let Some(arguments) = resolved(alloc, seen.as_slice())? else {
+        return Err(ParseFault::NoRequestPort(at));
+    };
+    let rest = sign(rest, Sign::Semicolon)?;
+    Ok((name, arguments, rest))
+}
+
+/// Reads a statement that takes an id, behind its word.
+fn row<'t>(
+    alloc: Global,
+    file: &mut File<'t>,
+    word: Word,
+    rest: Rest<'t>,
+) -> Result<Rest<'t>, ParseFault>
+    ensures { Gives (λ x. (state_of file.new, left x)) result
+        (row_by word (state_of file.old) (left rest.entry)) }
+{
+    match word {
+        Word::Routine => {
+            let (name, arguments, rest) = routine(alloc, file, false, rest)?;
+            file.routines.push(name)?;
+            file.entries.push(Entry::Routine(arguments))?;
+            Ok(rest)
+        }
+        Word::SimpleRoutine => {
+            let (name, arguments, rest) = routine(alloc, file, true, rest)?;
+            file.routines.push(name)?;
+            file.entries.push(Entry::SimpleRoutine(arguments))?;
+            Ok(rest)
+        }
+        Word::Skip => {
+            let rest = sign(rest, Sign::Semicolon)?;
+            file.entries.push(Entry::Skip)?;
+            Ok(rest)
+        }
+        _ => Err(rest.unexpected()),
+    }
+}
+
+/// Reads a statement that takes an id, whose word is the first token.
+#[tactic(auto, unfolding(crate::specs::Files::row_at))]
+fn entry<'t>(
+    alloc: Global,
+    file: &mut File<'t>,
+    word: Word,
+    rest: Rest<'t>,
+) -> Result<Rest<'t>, ParseFault>
+    ensures { Gives (λ x. (state_of file.new, left x)) result
+        (row_at word (state_of file.old) (left rest.entry)) }
+{
+    if file.entries.len() >= MOST_IDS {
+        return Err(ParseFault::TooMany(rest.at()));
+    }
+    row(alloc, file, word, rest.next())
+}
+
+/// Reads a string or a file's name, and `;`.
+#[tactic(auto, unfolding(crate::specs::Files::import_at))]
+fn import(rest: Rest<'_>) -> Result<Rest<'_>, ParseFault>
+    ensures { Gives left result (import_at (left rest.entry)) }
+{
+    match rest.first() {
+        Symbol::Text | Symbol::Header => sign(rest.next(), Sign::Semicolon),
+        _ => Err(rest.unexpected()),
+    }
+}
+
+/// Reads a name and `;`.
+#[tactic(auto, unfolding(crate::specs::Files::prefix_at))]
+fn prefix(rest: Rest<'_>) -> Result<Rest<'_>, ParseFault>
+    ensures { Gives left result (prefix_at (left rest.entry)) }
+{
+    let (_, rest) = name(rest)?;
+    sign(rest, Sign::Semicolon)
+}
+
+/// Reads a string and `;`.
+#[tactic(auto, unfolding(crate::specs::Files::rcsid_at))]
+fn rcsid(rest: Rest<'_>) -> Result<Rest<'_>, ParseFault>
+    ensures { Gives left result (rcsid_at (left rest.entry)) }
+{
+    match rest.first() {
+        Symbol::Text => sign(rest.next(), Sign::Semicolon),
+        _ => Err(rest.unexpected()),
+    }
+}
+
+/// Reads a statement that begins with this word.
+fn worded<'t>(
+    alloc: Global,
+    file: &mut File<'t>,
+    word: Word,
+    rest: Rest<'t>,
+) -> Result<Rest<'t>, ParseFault>
+    ensures { Gives (λ x. (state_of file.new, left x)) result
+        (worded_by word (state_of file.old) (left rest.entry)) }
+{
+    match word {
+        Word::Type => declaration(alloc, file, rest.next()),
+        Word::Routine | Word::SimpleRoutine | Word::Skip => entry(alloc, file, word, rest),
+        Word::Import => import(rest.next()),
+        Word::Prefix => prefix(rest.next()),
+        Word::Rcsid => rcsid(rest.next()),
+        Word::OldForm => Err(ParseFault::LeftOut(rest.at(), Feature::OldForm)),
+        Word::Wait => Err(ParseFault::LeftOut(rest.at(), Feature::Option)),
+        _ => Err(rest.unexpected()),
+    }
+}
+
+/// Reads a statement.
+#[tactic(auto, unfolding(crate::specs::Files::statement_at))]
+fn statement<'t>(alloc: Global, file: &mut File<'t>, rest: Rest<'t>) -> Result<Rest<'t>, ParseFault>
+    ensures { Gives (λ x. (state_of file.new, left x)) result
+        (statement_at (state_of file.old, left rest.entry)) }
+{
+    match rest.first() {
+        Symbol::Directive(line) => {
+            directive(file, line, rest.at())?;
+            Ok(rest.next())
+        }
+        Symbol::Word(word) => worded(alloc, file, word, rest),
+        _ => Err(rest.unexpected()),
+    }
+}
+
+/// Whether another statement follows.
+#[tactic(auto, unfolding(crate::specs::Files::has_more))]
+fn has_more(rest: Rest<'_>) -> bool
+    ensures { (s : State) → result ≡ has_more (s, left rest.entry) }
+{
+    !rest.is_empty()
+}
+
+/// Reads the statements, as many as there are.
+#[tactic(auto, using(mrc_mig_symbols::proofs::LoopLemmas::many_ends, mrc_mig_symbols::proofs::LoopLemmas::many_goes_on, mrc_mig_symbols::proofs::LoopLemmas::many_done))]
+fn each_statement<'t>(
+    alloc: Global,
+    file: &mut File<'t>,
+    rest: Rest<'t>,
+) -> Result<Rest<'t>, ParseFault>
+    ensures { Gives (λ x. (state_of file.new, left x)) result
+        (many has_more statement_at (length (left rest.entry)) (state_of file.old, left rest.entry)) }
+{
+    let mut rest = rest;
+    let count = rest.tokens.len();
+    for _ in 0..count {
+        if !has_more(rest) {
+            return Ok(rest);
+        }
+        rest = statement(alloc, file, rest)?;
+    }
+    Ok(rest)
+}
+
+/// Reads the statements, up to the end.
+#[tactic(auto, unfolding(crate::specs::Files::statements_at))]
+fn statements<'t>(alloc: Global, file: &mut File<'t>, rest: Rest<'t>) -> Result<(), ParseFault>
+    ensures { Gives (λ _. state_of file.new) result
+        (statements_at (state_of file.old) (left rest.entry)) }
+{
+    let rest = each_statement(alloc, file, rest)?;
+    if rest.is_empty() {
+        Ok(())
+    } else {
+        Err(rest.unexpected())
+    }
+}
+
+/// The subsystem that the tokens of a MIG file mean.
+///
+/// A refusal tells the first fault in the order of the tokens, and of faults at one place the first in the
+/// order of [`ParseFault`]. Its place is an offset in bytes: mostly that of the first byte of the token that
+/// cannot stand there, and the end of the last token where one is missing.
+///
+/// Source: the Server Writer's Guide for MIG. What is left out, and all limits, are this profile's own choice.
+#[tactic(auto, unfolding(crate::specs::Files::meaning_of))]
+pub fn parse(alloc: Global, tokens: &[Token<'_>]) -> Result<Subsystem, ParseFault>
+    // Tokens are read exactly where they mean something, as that, unless memory runs out.
+    ensures exact { Gives meaning result (meaning_of tokens.now) }
+{
+    let mut file = File {
+        types: IndexMap::new(alloc),
+        has_table: false,
+        routines: Vec::new(alloc),
+        entries: Vec::new(alloc),
+    };
+    let rest = lines(&mut file, Rest::new(tokens))?;
+    let (name, base, rest) = heading(rest)?;
+    statements(alloc, &mut file, rest)?;
+    Ok(Subsystem {
+        name: String::from_str(alloc, name)?,
+        base,
+        entries: file.entries,
+    })
+}

@@ -1,0 +1,15 @@
+//! A MIG subsystem from its tokens.
+#![tactic(auto)]
+
+mod arguments;
+mod file;
+mod options;
+mod subsystem;
+mod types;
+
+pub use file::parse;
+pub use mrc_mig_symbols::{Direction, Feature, ParseFault};
+pub use subsystem::{Argument, Entry, Kind, Subsystem};
+
+#[cfg(test)]
+mod tests;

@@ -1,0 +1,30 @@
+-- Reading an expression and spelling one are the same.
+use Rattle.std.proofs.Common.{[], map, sym, ap, ◌∙◌}
+use Rattle.std.proofs.lemmas.Option.{same_Some}
+use Rattle.mrc_mig_symbols.specs.Symbols.{symbol_of}
+use Rattle.mrc_mig_symbols.specs.Expressions.{nothing_read, value_of, whole_value, expression_at}
+use Rattle.mrc_mig_symbols.specs.ExpressionGrammar.{ReadIsSpelled, SpelledIsRead, SpelledHasOneValue}
+use Rattle.mrc_mig_symbols.proofs.ExpressionRuns.{wanting, behind, parted, value_after_run, value_at_stop}
+use Rattle.mrc_mig_symbols.proofs.SpelledIsRead.{reads}
+use Rattle.mrc_mig_symbols.proofs.ReadIsSpelled.{spelled}
+
+pub read_is_spelled : ReadIsSpelled
+unfolding expression_at
+read_is_spelled tokens n rest e =
+    let p = parted tokens (wanting [] nothing_read) n rest e in
+    record { written = p.written; splits = p.splits; spells = spelled (map symbol_of p.written) p.last n p.ran p.whole; stops = p.stops }
+
+pub spelled_is_read : SpelledIsRead
+unfolding expression_at whole_value
+spelled_is_read tokens n rest b =
+    let (sum, valued, ran) = reads b.spells [] in
+    ap (λ t. expression_at t) b.splits
+    ∙ value_after_run b.written rest (wanting [] nothing_read) (behind [] sum) ran
+    ∙ value_at_stop (behind [] sum) n rest valued b.stops
+
+pub spelled_has_one_value : SpelledHasOneValue
+spelled_has_one_value symbols m n d e =
+    let (sum, valued, ran) = reads d [] in
+    let (other, worth, came) = reads e [] in
+    let same = same_Some (behind [] sum) (behind [] other) (sym ran ∙ came) in
+    same_Some m n (sym valued ∙ ap (λ u. value_of u.sum) same ∙ worth)

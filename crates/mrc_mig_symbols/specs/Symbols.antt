@@ -1,0 +1,121 @@
+-- What the grammar sees of tokens: this profile's own form of MIG's words and signs.
+use Rattle.std.specs.Prelude.{◌≡◌, ℕ, zero, suc, List, [], ◌∷◌, length, Bool, true, false, Option, Some, None, Result, Ok, Err, option_and_then, nat_le, ◌==◌, if◌then◌else◌}
+use Rattle.mrc_mig_lex.specs.Tokens.{Lexeme}
+use Rattle.mrc_mig_lex.specs.declared.token.TokenKind.{TokenKind}
+use Rattle.mrc_mig_lex.specs.declared.token.TokenKind.TheVariants as kinds
+use Rattle.mrc_mig_lex.specs.declared.token.Sign.{Sign}
+use Rattle.mrc_mig_lex.specs.declared.token.Sign.TheVariants as signs
+use Rattle.mrc_mig_symbols.specs.declared.fault.ParseFault.{ParseFault}
+use Rattle.mrc_mig_symbols.specs.declared.fault.ParseFault.TheVariants as faults
+use Rattle.mrc_mig_symbols.specs.declared.symbol.Symbol.{Symbol}
+use Rattle.mrc_mig_symbols.specs.declared.symbol.Symbol.TheVariants as symbols
+use Rattle.mrc_mig_symbols.specs.declared.symbol.Rest.{Rest}
+use Rattle.mrc_mig_symbols.specs.declared.word.Word.{Word}
+use Rattle.mrc_mig_symbols.specs.Words.{word_of}
+use Rattle.mrc_mig_symbols.specs.Directives.{directive_of}
+
+infixl 10 ◌>>=◌
+-- first one reading, then another of what it gave
+abbrev pub ◌>>=◌ : {A B : Type 0} → Option A → (A → Option B) → Option B
+read >>= next = option_and_then next read
+
+-- a reading goes on only where the test holds
+abbrev pub guard : Bool → Option (Unit {0})
+guard true = Some tt
+guard false = None
+
+-- one step after the other, as long as the test holds, and at most so many
+unfoldable pub many : {A : Type 0} → (A → Bool) → (A → Option A) → ℕ → A → Option A
+many goes step zero a = Some a
+many goes step (suc n) a = if goes a then (step a >>= λ b. many goes step n b) else Some a
+
+-- a returned fault is right: the tokens mean nothing, unless memory ran out
+abbrev pub Fails : {Y : Type 0} → ParseFault → Option Y → Type 0
+Fails faults.Memory read = Unit {0}
+Fails _ read = read ≡ None
+
+-- what a function returned, seen by view, is what the tokens mean, unless memory ran out
+abbrev pub Gives : {X Y : Type 0} → (X → Y) → Result X ParseFault → Option Y → Type 0
+Gives view (Ok x) read = read ≡ Some (view x)
+Gives view (Err e) read = Fails e read
+
+-- a fault that is not memory's
+abbrev pub IsRefusal : ParseFault → Type 0
+IsRefusal faults.Memory = ⊥
+IsRefusal _ = Unit {0}
+
+-- a reserved word, or a name
+abbrev pub name_symbol : Option Word → Symbol
+name_symbol None = symbols.Name
+name_symbol (Some word) = symbols.Word word
+
+-- what a token of this kind with these bytes is
+abbrev pub symbol_by : TokenKind → List ℕ → Symbol
+symbol_by kinds.Name bytes = name_symbol (word_of bytes)
+symbol_by (kinds.Number n) bytes = symbols.Number n
+symbol_by kinds.Text bytes = symbols.Text
+symbol_by kinds.Header bytes = symbols.Header
+symbol_by (kinds.Sign sign) bytes = symbols.Sign sign
+symbol_by kinds.Directive bytes = symbols.Directive (directive_of bytes)
+
+-- what a token is
+unfoldable pub symbol_of : Lexeme → Symbol
+symbol_of token = symbol_by token.kind token.bytes
+
+-- no token is left
+abbrev pub no_tokens : List Lexeme → Bool
+no_tokens [] = true
+no_tokens (token ∷ tokens) = false
+
+-- what the first token is
+unfoldable pub first_of : List Lexeme → Symbol
+first_of [] = symbols.End
+first_of (token ∷ tokens) = symbol_of token
+
+-- the bytes of the first token
+unfoldable pub text_of : List Lexeme → List ℕ
+text_of [] = []
+text_of (token ∷ tokens) = token.bytes
+
+-- what follows the first token
+unfoldable pub tail_of : List Lexeme → List Lexeme
+tail_of [] = []
+tail_of (token ∷ tokens) = tokens
+
+-- what is left to read
+abbrev pub left : Rest → List Lexeme
+left rest = rest.tokens.now
+
+-- the place of a sign among the signs
+abbrev pub sign_number : Sign → ℕ
+sign_number signs.Semicolon = 0
+sign_number signs.Colon = 1
+sign_number signs.Comma = 2
+sign_number signs.Equals = 3
+sign_number signs.OpenParenthesis = 4
+sign_number signs.CloseParenthesis = 5
+sign_number signs.OpenBracket = 6
+sign_number signs.CloseBracket = 7
+sign_number signs.Star = 8
+sign_number signs.Plus = 9
+sign_number signs.Minus = 10
+sign_number signs.Slash = 11
+sign_number signs.Caret = 12
+sign_number signs.Bar = 13
+
+-- this sign
+abbrev pub is_sign : Sign → Symbol → Bool
+is_sign wanted (symbols.Sign found) = sign_number found == sign_number wanted
+is_sign wanted _ = false
+
+-- after this sign
+unfoldable pub after_sign : Sign → List Lexeme → Option (List Lexeme)
+after_sign wanted tokens = if is_sign wanted (first_of tokens) then Some (tail_of tokens) else None
+
+-- a name of at most 64 bytes that is no reserved word, and what follows it
+abbrev pub name_by : Symbol → List Lexeme → Option (List ℕ × List Lexeme)
+name_by symbols.Name tokens = if nat_le (length (text_of tokens)) 64 then Some (text_of tokens, tail_of tokens) else None
+name_by _ tokens = None
+
+unfoldable pub name_at : List Lexeme → Option (List ℕ × List Lexeme)
+name_at tokens = name_by (first_of tokens) tokens

@@ -1,0 +1,90 @@
+//! Why tokens are no subsystem.
+ghost use Rattle.std.specs.Prelude.{◌≡◌};
+ghost use Rattle.mrc_mig_symbols.specs.declared.fault.ParseFault.TheVariants.{Memory};
+
+use std::alloc::{AllocError, AllocFailed};
+use std::fmt;
+use thiserror::Error;
+
+/// What MIG has and this reader leaves out by name.
+#[derive(Clone, Copy, Debug, PartialEq, Eq)]
+pub enum Feature {
+    /// Out-of-line data: `^`, `array[]`, `dealloc`.
+    OutOfLine,
+    /// Types that the sender picks at run time.
+    Polymorphic,
+    /// Types with one name for each side, as `A | B`.
+    Pair,
+    /// MACH_MSG_TYPE_REAL.
+    Real,
+    /// `procedure`, `simpleprocedure`, `function` and `operation`.
+    OldForm,
+    /// `waittime`, `msgoption`, `msgseqno`, `ureplyport`, `sreplyport` and the flags of arguments.
+    Option,
+    /// A `replyport` argument of a simpleroutine, of another type than a send-once right that is made or
+    /// moved, or after another one.
+    ReplyPort,
+    /// An array or a string of variable length inside an array or a struct.
+    Nested,
+    /// A line of the preprocessor, except for line markers and the one include.
+    Preprocessor,
+}
+
+impl fmt::Display for Feature {
+    fn fmt<W: fmt::Write>(&self, f: &mut fmt::Formatter<W>) -> fmt::Result {
+        f.write_str(match self {
+            Feature::OutOfLine => "OutOfLine",
+            Feature::Polymorphic => "Polymorphic",
+            Feature::Pair => "Pair",
+            Feature::Real => "Real",
+            Feature::OldForm => "OldForm",
+            Feature::Option => "Option",
+            Feature::ReplyPort => "ReplyPort",
+            Feature::Nested => "Nested",
+            Feature::Preprocessor => "Preprocessor",
+        })
+    }
+}
+
+/// Why tokens are no subsystem: the first fault, by its place in the text and then by the order here.
+/// Each place is an offset in bytes.
+#[derive(Clone, Copy, Debug, PartialEq, Eq, Error)]
+pub enum ParseFault {
+    /// A token that cannot stand there, or the end of the last token where one is missing.
+    #[error("Unexpected {0}")]
+    Unexpected(usize),
+    /// A form of MIG that is left out.
+    #[error("LeftOut {0} {1}")]
+    LeftOut(usize, Feature),
+    /// A type that was not declared before.
+    #[error("UnknownType {0}")]
+    UnknownType(usize),
+    /// A second type, routine or argument of one name.
+    #[error("TwiceNamed {0}")]
+    TwiceNamed(usize),
+    /// The `)` of a routine whose arguments have no request port, or two.
+    #[error("NoRequestPort {0}")]
+    NoRequestPort(usize),
+    /// A name above 64 bytes, a count outside 1 to 8,192, the 33rd argument or the 101st id.
+    #[error("TooMany {0}")]
+    TooMany(usize),
+    /// Memory ran out.
+    #[error("Memory")]
+    Memory,
+}
+
+impl From<AllocError> for ParseFault {
+    ghost from_gives = { λ _ e. e ≡ Memory };
+
+    fn from(_e: AllocError) -> ParseFault {
+        ParseFault::Memory
+    }
+}
+
+impl<T: Drop> From<AllocFailed<T>> for ParseFault {
+    ghost from_gives = { λ _ e. e ≡ Memory };
+
+    fn from(_e: AllocFailed<T>) -> ParseFault {
+        ParseFault::Memory
+    }
+}

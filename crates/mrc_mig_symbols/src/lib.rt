@@ -1,0 +1,19 @@
+//! What the grammar of MIG sees of tokens: words, signs, lines of the preprocessor, and whole-number expressions.
+#![tactic(auto)]
+
+mod directive;
+mod expressions;
+mod fault;
+mod laws;
+mod symbol;
+mod word;
+
+pub use directive::Directive;
+pub use expressions::expression;
+pub use fault::{Feature, ParseFault};
+pub use laws::expressions_by_grammar;
+pub use symbol::{Rest, Symbol, name, sign};
+pub use word::{Basic, Direction, Word, basic_of};
+
+#[cfg(test)]
+mod tests;
