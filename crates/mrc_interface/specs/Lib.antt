@@ -1,0 +1,5 @@
+pub mod Forms
+pub mod Tables
+pub mod View
+pub mod Laws
+pub mod Examples

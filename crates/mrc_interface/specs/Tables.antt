@@ -1,0 +1,59 @@
+-- The forms of a subsystem's messages by their ids, after the Server Writer's Guide for MIG. That ids end at 2,147,483,647
+-- is this profile's own choice.
+use Rattle.std.specs.Prelude.{ℕ, ◌+◌, ◌-◌, List, [], ◌∷◌, Option, Some, None, option_and_then, nat_le, slice_get, if◌then◌else◌}
+use Rattle.mrc_model.specs.declared.RequestKind.TheVariants as requests
+use Rattle.mrc_mig_parse.specs.Files.{Meaning, Row as Statement, Routine, SimpleRoutine, Skip}
+use Rattle.mrc_interface.specs.declared.form.FormKind.TheVariants.{Request, Reply}
+use Rattle.mrc_interface.specs.Forms.{Form, form_of}
+
+-- what stands at an id: a skip has neither form, a simpleroutine has no reply
+pub record Row : Type 0 where
+  pub request : Option Form
+  pub reply : Option Form
+
+-- The forms of a subsystem. Row i is that of the id base + i.
+pub record Table : Type 0 where
+  pub name : List ℕ
+  pub base : ℕ
+  pub rows : List Row
+
+-- the row of a statement that takes this id. A reply's id is 100 above that of its request
+abbrev pub row_of : ℕ → Statement → Row
+row_of id (Routine items) = record { request = Some (form_of id (Request requests.Routine) items); reply = Some (form_of (id + 100) Reply items) }
+row_of id (SimpleRoutine items) = record { request = Some (form_of id (Request requests.Simple) items); reply = None }
+row_of id Skip = record { request = None; reply = None }
+
+-- the greatest id of its messages; a skip takes its own
+abbrev pub last_id : ℕ → Statement → ℕ
+last_id id (Routine items) = id + 100
+last_id id (SimpleRoutine items) = id
+last_id id Skip = id
+
+infixl 10 ◌>>=◌
+abbrev pub ◌>>=◌ : {A B : Type 0} → Option A → (A → Option B) → Option B
+read >>= next = option_and_then next read
+
+-- the same, where there are such ids
+abbrev pub row_at : ℕ → Statement → Option Row
+row_at id statement = if nat_le (last_id id statement) 2147483647 then Some (row_of id statement) else None
+
+-- the rows of statements, of which the first takes this id
+abbrev pub rows_at : ℕ → List Statement → Option (List Row)
+rows_at id [] = Some []
+rows_at id (statement ∷ statements) = row_at id statement >>= λ row. rows_at (id + 1) statements >>= λ rows. Some (row ∷ rows)
+
+-- the table of a subsystem
+abbrev pub table_of : Meaning → Option Table
+table_of m = rows_at m.base m.rows >>= λ rows. Some (record { name = m.name; base = m.base; rows = rows })
+
+-- what stands a number of ids behind another
+abbrev pub row_behind : Table → ℕ → ℕ → Option Row
+row_behind table id first = if nat_le first id then slice_get table.rows (id - first) else None
+
+-- the form of the request that has this id
+abbrev pub request_form : Table → ℕ → Option Form
+request_form table id = row_behind table id table.base >>= λ row. row.request
+
+-- the form of the reply that has this id
+abbrev pub reply_form : Table → ℕ → Option Form
+reply_form table id = row_behind table id (table.base + 100) >>= λ row. row.reply

@@ -1,0 +1,171 @@
+//! What the body of a message looks like.
+
+ghost use Rattle.std.specs.Prelude.{◌≡◌, ◌++◌, ◌+◌, [], ◌∷◌, length, map, IfOk, OnOk, Option};
+ghost use Rattle.mrc_model.specs.Rights.{disp_of};
+ghost use Rattle.mrc_mig_parse.specs.Meanings.{item_of};
+ghost use Rattle.mrc_interface.specs.Forms.{in_front, is_in_body, slot_of_item, form_of};
+ghost use Rattle.mrc_interface.specs.View.{slot_of};
+
+use mrc_base::Disp;
+use mrc_mig_parse::{Argument, Direction, Kind};
+use mrc_model::RequestKind;
+use std::alloc::{AllocError, Global};
+use std::marker::Model;
+
+/// Which message of a routine a form is of.
+#[derive(Clone, Copy, Debug, PartialEq, Eq)]
+pub enum FormKind {
+    /// The request, which has a reply or none.
+    Request(RequestKind),
+    /// The reply.
+    Reply,
+}
+
+/// An argument that carries port rights. Where the argument is an array, each of its items is such a right.
+#[derive(Debug, PartialEq, Eq, Drop)]
+pub struct Slot {
+    /// Its number among the arguments of the body, from 0.
+    pub argument: usize,
+    /// How the sender hands the rights over.
+    pub disposition: Disp,
+    /// The name of its type: that which stands behind the argument's colon.
+    pub type_name: String,
+}
+
+/// What the body of a message looks like: its arguments, in order, and which of them carry port rights.
+#[derive(Debug, Drop)]
+pub struct Form {
+    id: u32,
+    kind: FormKind,
+    arguments: Vec<Kind>,
+    slots: Vec<Slot>,
+}
+
+impl Model for Form {
+    ghost use Rattle.std.specs.Prelude.{map};
+    ghost use Rattle.mrc_interface.specs.Forms as forms;
+    ghost use Rattle.mrc_interface.specs.View.{slot_of};
+
+    ghost Value = { forms.Form };
+
+    ghost view = { λ f. record { id = f.id; kind = f.kind; arguments = f.arguments.items; slots = map slot_of f.slots.items } };
+}
+
+/// The return code of a reply.
+const RETURN_CODE: Kind = Kind {
+    number: 2,
+    size: 32,
+    count: 1,
+    is_bound: false,
+};
+
+/// The disposition that a type number stands for.
+fn disp_of(number: u32) -> Option<Disp>
+    ensures { result ≡ disp_of number }
+{
+    match number {
+        16 => Some(Disp::MoveReceive),
+        17 => Some(Disp::MoveSend),
+        18 => Some(Disp::MoveSendOnce),
+        19 => Some(Disp::CopySend),
+        20 => Some(Disp::MakeSend),
+        21 => Some(Disp::MakeSendOnce),
+        _ => None,
+    }
+}
+
+impl FormKind {
+    /// Whether an argument that goes this way is in the body.
+    fn has(self, direction: Direction) -> bool
+        ensures { result ≡ is_in_body self direction }
+    {
+        match direction {
+            Direction::In => matches!(self, FormKind::Request(_)),
+            Direction::Out => matches!(self, FormKind::Reply),
+            Direction::InOut => true,
+            Direction::RequestPort | Direction::ReplyPort => false,
+        }
+    }
+}
+
+impl Form {
+    /// The number that the message has as its msgh_id.
+    pub fn id(&self) -> u32
+        ensures { result ≡ self.now.id }
+    {
+        self.id
+    }
+
+    /// Which message it is.
+    pub fn kind(&self) -> FormKind
+        ensures { result ≡ self.now.kind }
+    {
+        self.kind
+    }
+
+    /// The data of each argument of the body, in order. In a reply the return code is the first.
+    pub fn arguments(&self) -> &[Kind]
+        ensures { result.now ≡ self.now.arguments }
+    {
+        self.arguments.as_slice()
+    }
+
+    /// The arguments that carry port rights, in order.
+    pub fn slots(&self) -> &[Slot]
+        ensures { map slot_of result.now ≡ self.now.slots }
+    {
+        self.slots.as_slice()
+    }
+
+    /// A form with no arguments but those that stand in front.
+    fn empty(alloc: Global, id: u32, kind: FormKind) -> Result<Form, AllocError>
+        ensures { IfOk result (λ form. form ≡ form_of id kind []) }
+    {
+        let mut arguments = Vec::new(alloc);
+        if kind == FormKind::Reply {
+            arguments.push(RETURN_CODE)?;
+        }
+        Ok(Form {
+            id,
+            kind,
+            arguments,
+            slots: Vec::new(alloc),
+        })
+    }
+
+    /// Puts an argument behind the others.
+    fn push(&mut self, alloc: Global, argument: &Argument) -> Result<(), AllocError>
+        ensures { OnOk result (self.new ≡ record self.old {
+          arguments = self.old.arguments ++ argument.now.kind ∷ [];
+          slots = self.old.slots ++ slot_of_item (length self.old.arguments) (item_of argument.now);
+        }) }
+    {
+        if let Some(disposition) = disp_of(argument.kind.number) {
+            self.slots.push(Slot {
+                argument: self.arguments.len(),
+                disposition,
+                type_name: argument.type_name.clone()?,
+            })?;
+        }
+        self.arguments.push(argument.kind)?;
+        Ok(())
+    }
+
+    /// The form of a message of a routine with these arguments.
+    pub(crate) fn of(
+        alloc: Global,
+        id: u32,
+        kind: FormKind,
+        arguments: &[Argument],
+    ) -> Result<Form, AllocError>
+        ensures { IfOk result (λ form. form ≡ form_of id kind (map item_of arguments.now)) }
+    {
+        let mut form = Form::empty(alloc, id, kind)?;
+        for argument in arguments {
+            if kind.has(argument.direction) {
+                form.push(alloc, argument)?;
+            }
+        }
+        Ok(form)
+    }
+}

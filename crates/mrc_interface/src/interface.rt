@@ -1,0 +1,151 @@
+//! The forms of a subsystem's messages by their ids.
+
+ghost use Rattle.std.specs.Prelude.{◌≡◌, ◌+◌, List, length, map, Option};
+ghost use Rattle.std.specs.Option.{option_map};
+ghost use Rattle.mrc_mig_parse.specs.Files.{Routine};
+ghost use Rattle.mrc_mig_parse.specs.Meanings.{item_of, row_of as statement_of, meaning};
+ghost use Rattle.mrc_interface.specs.Tables.{row_at, rows_at, table_of, request_form, reply_form};
+ghost use Rattle.mrc_interface.specs.View.{Gives, Told};
+
+use crate::fault::InterfaceFault;
+use crate::form::{Form, FormKind};
+use mrc_mig_parse::{Argument, Entry, Subsystem};
+use mrc_model::RequestKind;
+use std::alloc::Global;
+use std::marker::Model;
+
+/// The greatest id.
+const LAST_ID: u32 = 2_147_483_647;
+
+/// How far the id of a reply is above that of its request.
+const REPLY: u32 = 100;
+
+/// What stands at an id.
+#[derive(Debug, Drop)]
+struct Row {
+    request: Option<Form>,
+    reply: Option<Form>,
+}
+
+impl Model for Row {
+    ghost use Rattle.mrc_interface.specs.Tables as tables;
+
+    ghost Value = { tables.Row };
+
+    ghost view = { λ r. record { request = r.request; reply = r.reply } };
+}
+
+/// The forms of a subsystem's messages by their ids.
+#[derive(Debug, Drop)]
+pub struct Interface {
+    name: String,
+    base: u32,
+    rows: Vec<Row>,
+}
+
+impl Model for Interface {
+    ghost use Rattle.std.specs.Prelude.{string_bytes};
+    ghost use Rattle.mrc_interface.specs.Tables.{Table};
+
+    ghost Value = { Table };
+
+    ghost view = { λ i. record { name = string_bytes i.name; base = i.base; rows = i.rows.items } };
+}
+
+/// The row of a routine that takes this id.
+fn routine_row(alloc: Global, id: u32, arguments: &[Argument]) -> Result<Row, InterfaceFault>
+    ensures { Gives (λ row. row) result (row_at id (Routine (map item_of arguments.now))) }
+{
+    if id > LAST_ID - REPLY {
+        return Err(InterfaceFault::IdRange);
+    }
+    let kind = FormKind::Request(RequestKind::Routine);
+    Ok(Row {
+        request: Some(Form::of(alloc, id, kind, arguments)?),
+        reply: Some(Form::of(alloc, id + REPLY, FormKind::Reply, arguments)?),
+    })
+}
+
+/// The row of what takes this id.
+fn row_at(alloc: Global, id: u32, entry: &Entry) -> Result<Row, InterfaceFault>
+    ensures { Gives (λ row. row) result (row_at id (statement_of entry.now)) }
+{
+    if id > LAST_ID {
+        return Err(InterfaceFault::IdRange);
+    }
+    match entry {
+        Entry::Routine(arguments) => routine_row(alloc, id, arguments.as_slice()),
+        Entry::SimpleRoutine(arguments) => {
+            let kind = FormKind::Request(RequestKind::Simple);
+            Ok(Row {
+                request: Some(Form::of(alloc, id, kind, arguments.as_slice())?),
+                reply: None,
+            })
+        }
+        Entry::Skip => Ok(Row {
+            request: None,
+            reply: None,
+        }),
+    }
+}
+
+/// The rows of what takes the ids from this one on.
+fn rows_from(alloc: Global, first: u32, entries: &[Entry]) -> Result<Vec<Row>, InterfaceFault>
+    ensures { Gives (λ rows. rows.items) result (rows_at first (map statement_of entries.now)) }
+{
+    let mut rows = Vec::new(alloc);
+    let mut id = first;
+    for entry in entries {
+        rows.push(row_at(alloc, id, entry)?)?;
+        id += 1;
+    }
+    Ok(rows)
+}
+
+impl Interface {
+    /// The forms of a subsystem. With a refusal the subsystem comes back.
+    pub fn of(alloc: Global, subsystem: Subsystem) -> Result<Interface, (Subsystem, InterfaceFault)>
+        ensures { Told subsystem result (table_of (meaning subsystem)) }
+    {
+        match rows_from(alloc, subsystem.base, subsystem.entries.as_slice()) {
+            Ok(rows) => Ok(Interface {
+                name: subsystem.name,
+                base: subsystem.base,
+                rows,
+            }),
+            Err(fault) => Err((subsystem, fault)),
+        }
+    }
+
+    /// The subsystem's name.
+    pub fn name(&self) -> &str
+        ensures { result.now ≡ self.now.name }
+    {
+        self.name.as_str()
+    }
+
+    /// The first id, and how many ids there are. Those of skips count, those of replies do not.
+    pub fn ids(&self) -> (u32, usize)
+        ensures first { result.0 ≡ self.now.base }
+        ensures count { result.1 ≡ length self.now.rows }
+    {
+        (self.base, self.rows.len())
+    }
+
+    /// The form of the request that has this id.
+    pub fn request_form(&self, id: u32) -> Option<&Form>
+        ensures { option_map (λ form. form.now) result ≡ request_form self.now id }
+    {
+        let row = self.rows.get(id.checked_sub(self.base)? as usize)?;
+        row.request.as_ref()
+    }
+
+    /// The form of the reply that has this id, which is 100 above that of its request.
+    pub fn reply_form(&self, id: u32) -> Option<&Form>
+        ensures { option_map (λ form. form.now) result ≡ reply_form self.now id }
+    {
+        let row_id = id.checked_sub(REPLY)?;
+        let row = self.rows.get(row_id.checked_sub(self.base)? as usize)?;
+        row.reply.as_ref()
+    }
+}
