@@ -1,5 +1,5 @@
--- What the forms of a subsystem have to be, in words apart from how they are found: after the Server Writer's Guide for
--- MIG.
+-- Which form is found by an id, and which arguments are slots, in words apart from how the table is searched. After the
+-- Server Writer's Guide for MIG.
 use Rattle.std.specs.Prelude.{◌≡◌, ℕ, ◌+◌, List, [], ◌∷◌, Some, slice_get, ◌↔◌}
 use Rattle.mrc_base.specs.declared.Disp.{Disp}
 use Rattle.mrc_model.specs.IsIn.{IsIn}

@@ -96,7 +96,8 @@ has_reply_port seen = list_any (λ p. is_reply_port p.direction) seen
 abbrev pub has_name : List ℕ → List Parameter → Bool
 has_name name seen = list_any (λ p. bytes_eq p.name name) seen
 
--- the word in front of an argument: one reply port in a routine, and none in a simpleroutine
+-- the word in front of an argument, which is the 32nd at most: one reply port at most in a routine, and none in a
+-- simpleroutine
 abbrev pub direction_by : Symbol → List Parameter → Bool → List Lexeme → Option (Option Direction × List Lexeme)
 direction_by (symbols.Word (words.Direction direction)) seen is_simple tokens =
     guard (not (is_reply_port (Some direction) && (is_simple || has_reply_port seen))) >>= λ _. guard (nat_lt (length seen) 32) >>= λ _. Some (Some direction, tail_of tokens)
@@ -120,7 +121,7 @@ known_type_at types wanted tokens = do
   _ ← guard (not (flag_follows found.1))
   Some ((text_of tokens, found.0), found.1)
 
--- a name, `=` and the type that it is
+-- a name, the sign behind it, the type that it is, and options
 unfoldable pub own_type_at : List (List ℕ × Kind) → Use → List Lexeme → Option ((List ℕ × Kind) × List Lexeme)
 own_type_at types wanted tokens = do
   name ← name_at tokens

@@ -1,6 +1,6 @@
 -- A whole MIG file and what it means, after the Server Writer's Guide for MIG. The types that the include
 -- line declares are this profile's own choice.
-use Rattle.std.specs.Prelude.{ℕ, List, [], ◌∷◌, ◌++◌, length, map, Bool, true, false, not, Option, Some, None, is_some, nat_lt, if◌then◌else◌}
+use Rattle.std.specs.Prelude.{ℕ, List, [], ◌∷◌, ◌++◌, length, codes, Bool, true, false, not, Option, Some, None, is_some, nat_lt, if◌then◌else◌}
 use Rattle.std.specs.List.{list_any}
 use Rattle.std.specs.Str.{bytes_eq}
 use Rattle.mrc_mig_lex.specs.Tokens.{Lexeme}
@@ -13,7 +13,6 @@ use Rattle.mrc_mig_symbols.specs.declared.symbol.Symbol.TheVariants as symbols
 use Rattle.mrc_mig_parse.specs.declared.types.Use.TheVariants as uses
 use Rattle.mrc_mig_symbols.specs.declared.word.Word.{Word}
 use Rattle.mrc_mig_symbols.specs.declared.word.Word.TheVariants as words
-use Rattle.mrc_mig_parse.specs.declared.file.TheConstants.{TABLE}
 use Rattle.mrc_mig_symbols.specs.Tables.{entry_of}
 use Rattle.mrc_mig_symbols.specs.Symbols.{◌>>=◌, guard, many, no_tokens, symbol_of, first_of, tail_of, after_sign, name_at}
 use Rattle.mrc_mig_parse.specs.Types.{kind_at}
@@ -44,7 +43,23 @@ one number size = record { number = number; size = size; count = 1; is_bound = f
 
 -- the types that the include line declares
 abbrev pub table : List (List ℕ × Kind)
-table = map (λ entry. (entry.0.now, one entry.1 entry.2)) TABLE
+table =
+    (codes "char", one 8 8) ∷
+    (codes "short", one 1 16) ∷
+    (codes "int", one 2 32) ∷
+    (codes "unsigned", one 2 32) ∷
+    (codes "integer_t", one 2 32) ∷
+    (codes "natural_t", one 2 32) ∷
+    (codes "kern_return_t", one 2 32) ∷
+    (codes "boolean_t", one 0 32) ∷
+    (codes "mach_port_name_t", one 15 32) ∷
+    (codes "mach_port_t", one 19 32) ∷
+    (codes "mach_port_copy_send_t", one 19 32) ∷
+    (codes "mach_port_move_receive_t", one 16 32) ∷
+    (codes "mach_port_move_send_t", one 17 32) ∷
+    (codes "mach_port_move_send_once_t", one 18 32) ∷
+    (codes "mach_port_make_send_t", one 20 32) ∷
+    (codes "mach_port_make_send_once_t", one 21 32) ∷ []
 
 -- a type with this name is declared
 abbrev pub is_declared : List ℕ → List (List ℕ × Kind) → Bool
@@ -145,7 +160,7 @@ routine_at is_simple s tokens = do
   rest ← after_sign signs.Semicolon closed
   Some ((name.0, items), rest)
 
--- with one more row, for which there is room
+-- with these names of routines and one more row
 abbrev pub with_row : State → List (List ℕ) → Row → State
 with_row s names row = record s { routines = s.routines ++ names; rows = s.rows ++ row ∷ [] }
 

@@ -30,7 +30,7 @@ fits_use uses.ReplyPort n = n == 18 || n == 21
 abbrev pub nothing_around : Around
 nothing_around = record { is_inside = false; count = 1; is_bound = false }
 
--- that many items of each one around: 1 to 8,192
+-- that many items of each one around, if they are 1 to 8,192 in all
 unfoldable pub times : Around → ℕ → Option ℕ
 times around n = if around.count * n == 0 then None else if nat_le (around.count * n) 8192 then Some (around.count * n) else None
 

@@ -29,7 +29,7 @@ pub struct Argument {
 /// What stands at an id.
 #[derive(Debug, PartialEq, Eq, Drop)]
 pub enum Entry {
-    /// A `routine`, which is answered by a reply, with its arguments as they are written.
+    /// A `routine`, which is answered by a reply, with its arguments in their order.
     Routine(Vec<Argument>),
     /// A `simpleroutine`, which has no reply.
     SimpleRoutine(Vec<Argument>),

@@ -7,15 +7,15 @@ use Rattle.mrc_mig_symbols.specs.declared.directive.Directive.TheVariants.{Inclu
 use Rattle.mrc_mig_symbols.specs.declared.directive.Place.{Place}
 use Rattle.mrc_mig_symbols.specs.declared.directive.Place.TheVariants.{Outside, Opening, Inside, Closing}
 
--- a blank or a tab
+-- a space or a tab
 abbrev pub is_blank : ℕ → Bool
 is_blank b = b == 32 || b == 9
 
--- a blank, a tab or a carriage return
+-- a space, a tab or a carriage return
 abbrev pub is_space : ℕ → Bool
 is_space b = b == 32 || b == 9 || b == 13
 
--- what follows the blanks
+-- what follows spaces and tabs
 unfoldable pub without_blanks : List ℕ → List ℕ
 without_blanks [] = []
 without_blanks (b ∷ line) = if is_blank b then without_blanks line else b ∷ line
@@ -34,14 +34,14 @@ unfoldable pub after_digits : List ℕ → Option (List ℕ)
 after_digits [] = None
 after_digits (b ∷ line) = if is_ascii_digit b then Some (without_digits line) else None
 
--- one byte further, where nothing but spaces and comments may stand
+-- one byte further, where only spaces, tabs, carriage returns and comments may stand
 abbrev pub next_place : Place → ℕ → Option Place
 next_place Outside b = if is_space b then Some Outside else if b == 47 then Some Opening else None
 next_place Opening b = if b == 42 then Some Inside else None
 next_place Inside b = if b == 42 then Some Closing else Some Inside
 next_place Closing b = if b == 47 then Some Outside else if b == 42 then Some Closing else Some Inside
 
--- only spaces and whole comments are left, from this place on
+-- from this place on, only spaces, tabs, carriage returns and whole comments are left
 unfoldable pub is_empty_from : Option Place → List ℕ → Bool
 is_empty_from None line = false
 is_empty_from (Some Outside) [] = true
@@ -50,12 +50,12 @@ is_empty_from (Some Inside) [] = false
 is_empty_from (Some Closing) [] = false
 is_empty_from (Some place) (b ∷ line) = is_empty_from (next_place place b) line
 
--- `<mach/std_types.defs>`, with nothing behind it
+-- an include, with this behind `<mach/std_types.defs>`: spaces, tabs, carriage returns and whole comments alone
 abbrev pub included : Option (List ℕ) → Directive
 included None = Other
 included (Some after) = if is_empty_from (Some Outside) after then Include else Other
 
--- a number or `line`, with nothing behind it or a space
+-- a marker, with this behind its number or `line`: nothing, or a space, tab or carriage return and then anything
 abbrev pub marked : Option (List ℕ) → Directive
 marked None = Other
 marked (Some []) = Marker
@@ -66,7 +66,7 @@ abbrev pub marker_of : List ℕ → Option (List ℕ) → Directive
 marker_of line None = marked (after_digits line)
 marker_of line (Some after) = marked (Some after)
 
--- what follows the `#` and blanks
+-- what a line is, by what follows the `#` and spaces
 abbrev pub line_of : List ℕ → Option (List ℕ) → Directive
 line_of line None = marker_of line (after_bytes (codes "line") line)
 line_of line (Some after) = included (after_bytes (codes "<mach/std_types.defs>") (without_blanks after))
