@@ -1,6 +1,6 @@
 -- What the values of this crate stand for, and what its calls tell.
 use Rattle.std.specs.Prelude.{◌≡◌, Option, Some, None, Result, Ok, Err, string_bytes}
-use Rattle.mrc_mig_parse.specs.declared.subsystem.Subsystem.{Subsystem}
+use Rattle.mrc_mig_parse.specs.Files.{Meaning}
 use Rattle.mrc_interface.specs.declared.fault.InterfaceFault.{InterfaceFault}
 use Rattle.mrc_interface.specs.declared.fault.InterfaceFault.TheVariants.{IdRange, Memory}
 use Rattle.mrc_interface.specs.declared.form.Slot.{Slot as SlotValue}
@@ -22,6 +22,6 @@ Gives view (Ok x) said = said ≡ Some (view x)
 Gives view (Err e) said = Fails e said
 
 -- the table is the one that is said; where there is none, or memory ran out, the subsystem comes back
-abbrev pub Told : Subsystem → Result Table (Subsystem × InterfaceFault) → Option Table → Type 0
+abbrev pub Told : Meaning → Result Table (Meaning × InterfaceFault) → Option Table → Type 0
 Told subsystem (Ok table) said = said ≡ Some table
 Told subsystem (Err e) said = Fails e.1 said × (e.0 ≡ subsystem)

@@ -1,9 +1,9 @@
 //! The forms of a subsystem's messages by their ids.
 
-ghost use Rattle.std.specs.Prelude.{◌≡◌, ◌+◌, List, length, map, Option};
+ghost use Rattle.std.specs.Prelude.{◌≡◌, ◌≤◌, length, map, None, IfOk, IfSome};
 ghost use Rattle.std.specs.Option.{option_map};
 ghost use Rattle.mrc_mig_parse.specs.Files.{Routine};
-ghost use Rattle.mrc_mig_parse.specs.Meanings.{item_of, row_of as statement_of, meaning};
+ghost use Rattle.mrc_mig_parse.specs.Meanings.{item_of, row_of as statement_of};
 ghost use Rattle.mrc_interface.specs.Tables.{row_at, rows_at, table_of, request_form, reply_form};
 ghost use Rattle.mrc_interface.specs.View.{Gives, Told};
 
@@ -44,12 +44,14 @@ pub struct Interface {
 }
 
 impl Model for Interface {
-    ghost use Rattle.std.specs.Prelude.{string_bytes};
+    ghost use Rattle.std.specs.Prelude.{◌≤◌, length, string_bytes};
     ghost use Rattle.mrc_interface.specs.Tables.{Table};
 
     ghost Value = { Table };
 
     ghost view = { λ i. record { name = string_bytes i.name; base = i.base; rows = i.rows.items } };
+
+    ghost invariant = { λ i. length i.rows.items ≤ 100 };
 }
 
 /// The row of a routine that takes this id.
@@ -91,7 +93,8 @@ fn row_at(alloc: Global, id: u32, entry: &Entry) -> Result<Row, InterfaceFault>
 
 /// The rows of what takes the ids from this one on.
 fn rows_from(alloc: Global, first: u32, entries: &[Entry]) -> Result<Vec<Row>, InterfaceFault>
-    ensures { Gives (λ rows. rows.items) result (rows_at first (map statement_of entries.now)) }
+    ensures rows { Gives (λ rows. rows.items) result (rows_at first (map statement_of entries.now)) }
+    ensures count { IfOk result (λ rows. length rows.items ≡ length entries.now) }
 {
     let mut rows = Vec::new(alloc);
     let mut id = first;
@@ -102,17 +105,24 @@ fn rows_from(alloc: Global, first: u32, entries: &[Entry]) -> Result<Vec<Row>, I
     Ok(rows)
 }
 
+/// The table of a subsystem.
+fn table(alloc: Global, subsystem: &Subsystem) -> Result<Interface, InterfaceFault>
+    ensures { Gives (λ table. table) result (table_of subsystem.now) }
+{
+    Ok(Interface {
+        rows: rows_from(alloc, subsystem.base(), subsystem.entries())?,
+        name: String::from_str(alloc, subsystem.name())?,
+        base: subsystem.base(),
+    })
+}
+
 impl Interface {
     /// The forms of a subsystem. With a refusal the subsystem comes back.
     pub fn of(alloc: Global, subsystem: Subsystem) -> Result<Interface, (Subsystem, InterfaceFault)>
-        ensures { Told subsystem result (table_of (meaning subsystem)) }
+        ensures { Told subsystem result (table_of subsystem) }
     {
-        match rows_from(alloc, subsystem.base, subsystem.entries.as_slice()) {
-            Ok(rows) => Ok(Interface {
-                name: subsystem.name,
-                base: subsystem.base,
-                rows,
-            }),
+        match table(alloc, &subsystem) {
+            Ok(interface) => Ok(interface),
             Err(fault) => Err((subsystem, fault)),
         }
     }
@@ -124,17 +134,19 @@ impl Interface {
         self.name.as_str()
     }
 
-    /// The first id, and how many ids there are. Those of skips count, those of replies do not.
+    /// The first id, and how many ids there are, 100 at most. Those of skips count, those of replies do not.
     pub fn ids(&self) -> (u32, usize)
         ensures first { result.0 ≡ self.now.base }
         ensures count { result.1 ≡ length self.now.rows }
+        ensures few { result.1 ≤ 100 }
     {
         (self.base, self.rows.len())
     }
 
-    /// The form of the request that has this id.
+    /// The form of the request that has this id. No id is that of a request and of a reply.
     pub fn request_form(&self, id: u32) -> Option<&Form>
-        ensures { option_map (λ form. form.now) result ≡ request_form self.now id }
+        ensures form { option_map (λ form. form.now) result ≡ request_form self.now id }
+        ensures once { IfSome result (λ _. reply_form self.now id ≡ None) }
     {
         let row = self.rows.get(id.checked_sub(self.base)? as usize)?;
         row.request.as_ref()

@@ -1,7 +1,7 @@
 use super::*;
 use mrc_base::Disp;
-use mrc_mig_lex::lex;
-use mrc_mig_parse::{Argument, Direction, Entry, Subsystem, parse};
+use mrc_mig_lex::{Token, lex};
+use mrc_mig_parse::{ParseFault, Subsystem, parse};
 use std::alloc::Global;
 use std::process::Abort;
 use std::test::*;
@@ -120,11 +120,8 @@ simpleroutine ping(server : mach_port_t; out port : mach_port_t; inout n : int);
     Ok(())
 }
 
-// The ports that the messages are sent to are in no body. Every disposition makes a slot, and a type of one's own
-// gives it its name; a port's name and a number make none.
-#[test]
-fn slots_of_each_disposition(rt: HostRuntime) -> Result<(), Fail> {
-    let text = "subsystem ports 0;
+/// Ports of every disposition.
+const PORTS: &str = "subsystem ports 0;
 #include <mach/std_types.defs>
 routine all(
     in first : mach_port_move_receive_t;
@@ -137,13 +134,20 @@ routine all(
     in fifth : pair_t = array[2] of mach_port_make_send_t;
     inout sixth : once_t = array[*:3] of MACH_MSG_TYPE_MAKE_SEND_ONCE);
 ";
-    let ports = interface(rt.alloc(), text)?;
-    let some_once = Kind {
-        number: 21,
-        size: 32,
-        count: 3,
-        is_bound: true,
-    };
+
+/// Up to three send-once rights that are made.
+const SOME_ONCE: Kind = Kind {
+    number: 21,
+    size: 32,
+    count: 3,
+    is_bound: true,
+};
+
+// The ports that the messages are sent to are in no body. Every disposition makes a slot, and a type of one's own
+// gives it its name; a port's name and a number make none.
+#[test]
+fn slots_of_each_disposition(rt: HostRuntime) -> Result<(), Fail> {
+    let ports = interface(rt.alloc(), PORTS)?;
     let request = ports.request_form(0);
     assert!(rt;
         has_arguments(
@@ -154,7 +158,7 @@ routine all(
                 exact(18, 32, 1),
                 exact(15, 32, 1),
                 exact(20, 32, 2),
-                some_once,
+                SOME_ONCE,
             ]
         )
     );
@@ -170,11 +174,18 @@ routine all(
             ]
         )
     );
+    Ok(())
+}
+
+// What comes back stands behind the return code.
+#[test]
+fn slots_of_the_reply(rt: HostRuntime) -> Result<(), Fail> {
+    let ports = interface(rt.alloc(), PORTS)?;
     let reply = ports.reply_form(100);
     assert!(rt;
         has_arguments(
             reply,
-            &[INTEGER_32, exact(17, 32, 1), exact(19, 32, 1), some_once]
+            &[INTEGER_32, exact(17, 32, 1), exact(19, 32, 1), SOME_ONCE]
         )
     );
     assert!(rt;
@@ -190,6 +201,11 @@ routine all(
     Ok(())
 }
 
+/// Whether two subsystems are the same.
+fn are_same(one: &Subsystem, other: &Subsystem) -> bool {
+    one.name() == other.name() && one.base() == other.base() && one.entries() == other.entries()
+}
+
 /// Whether a text of these statements, from this id on, has a table.
 fn is_within(rt: &impl Abort, alloc: Global, base: u32, statements: &str) -> Result<bool, Fail> {
     let text = format!(in alloc;
@@ -202,32 +218,58 @@ fn is_within(rt: &impl Abort, alloc: Global, base: u32, statements: &str) -> Res
         Ok(_) => Ok(true),
         Err((returned, fault)) => {
             assert_eq!(rt; fault, InterfaceFault::IdRange);
-            assert_eq!(rt; returned, again);
+            assert!(rt; are_same(&returned, &again));
             Ok(false)
         }
     }
 }
 
+const ROUTINE: &str = "routine r(p : mach_port_t);";
+
+const SIMPLE: &str = "simpleroutine r(p : mach_port_t);";
+
+const LATER: &str = "skip; simpleroutine r(p : mach_port_t);";
+
+/// First ids, statements from there on, and whether they have a table.
+const ENDS: [(u32, &str, bool); 19] = [
+    (2_147_483_547, ROUTINE, true),
+    (2_147_483_548, ROUTINE, false),
+    (2_147_483_647, ROUTINE, false),
+    (2_147_483_647, SIMPLE, true),
+    (2_147_483_647, "skip;", true),
+    (2_147_483_646, "skip; skip;", true),
+    (2_147_483_647, "skip; skip;", false),
+    (2_147_483_646, LATER, true),
+    (2_147_483_647, LATER, false),
+    (2_147_483_647, "", true),
+    (2_147_483_646, SIMPLE, true),
+    (2_147_483_547, "skip; routine r(p : mach_port_t);", false),
+    (2_147_483_546, "skip; routine r(p : mach_port_t);", true),
+    (2_147_483_547, "routine r(p : mach_port_t); skip;", true),
+    (
+        2_147_483_547,
+        "routine r(p : mach_port_t); routine s(p : mach_port_t);",
+        false,
+    ),
+    (2_147_483_645, "skip; skip; skip;", true),
+    (2_147_483_646, "skip; skip; skip;", false),
+    (
+        2_147_483_646,
+        "skip; skip; simpleroutine r(p : mach_port_t);",
+        false,
+    ),
+    (
+        2_147_483_646,
+        "simpleroutine r(p : mach_port_t); skip; import \"a\"; type t = int;",
+        true,
+    ),
+];
+
 // No id is above 2,147,483,647, and a skip takes one too.
 #[test]
 fn ids_have_an_end(rt: HostRuntime) -> Result<(), Fail> {
     let alloc = rt.alloc();
-    let routine = "routine r(p : mach_port_t);";
-    let simple = "simpleroutine r(p : mach_port_t);";
-    let later = "skip; simpleroutine r(p : mach_port_t);";
-    let rows = [
-        (2_147_483_547, routine, true),
-        (2_147_483_548, routine, false),
-        (2_147_483_647, routine, false),
-        (2_147_483_647, simple, true),
-        (2_147_483_647, "skip;", true),
-        (2_147_483_646, "skip; skip;", true),
-        (2_147_483_647, "skip; skip;", false),
-        (2_147_483_646, later, true),
-        (2_147_483_647, later, false),
-        (2_147_483_647, "", true),
-    ];
-    for (base, statements, is_good) in rows {
+    for (base, statements, is_good) in ENDS {
         assert_eq!(rt;
             is_within(&rt, alloc, base, statements)?,
             is_good,
@@ -237,30 +279,244 @@ fn ids_have_an_end(rt: HostRuntime) -> Result<(), Fail> {
     Ok(())
 }
 
-// What no text can say is refused or read all the same.
+// The greatest ids are found, and no id is found as one that is 2,147,483,648 or 4,294,967,296 away.
 #[test]
-fn subsystems_made_by_hand(rt: HostRuntime) -> Result<(), Fail> {
+fn greatest_ids(rt: HostRuntime) -> Result<(), Fail> {
+    let text = "subsystem s 2147483547;
+#include <mach/std_types.defs>
+routine r(p : mach_port_t);
+simpleroutine q(p : mach_port_t);
+";
+    let s = interface(rt.alloc(), text)?;
+    assert_eq!(rt; s.ids(), (2_147_483_547, 2));
+    assert!(rt; has_arguments(s.request_form(2_147_483_547), &[]));
+    assert!(rt; has_arguments(s.request_form(2_147_483_548), &[]));
+    assert!(rt; has_arguments(s.reply_form(2_147_483_647), &[INTEGER_32]));
+    for id in [
+        0,
+        1,
+        47,
+        2_147_483_546,
+        2_147_483_549,
+        2_147_483_647,
+        4_294_967_195,
+        4_294_967_295,
+    ] {
+        assert!(rt; s.request_form(id).is_none(), "{id}");
+    }
+    for id in [
+        0,
+        1,
+        147,
+        2_147_483_547,
+        2_147_483_548,
+        2_147_483_646,
+        2_147_483_648,
+        4_294_967_295,
+    ] {
+        assert!(rt; s.reply_form(id).is_none(), "{id}");
+    }
+    Ok(())
+}
+
+// From 0 on, an empty subsystem, and ids of requests that are also those of replies.
+#[test]
+fn lowest_ids(rt: HostRuntime) -> Result<(), Fail> {
+    let empty = interface(rt.alloc(), "subsystem nothing 0;")?;
+    assert_eq!(rt; empty.name(), "nothing");
+    assert_eq!(rt; empty.ids(), (0, 0));
+    assert!(rt; empty.request_form(0).is_none());
+    assert!(rt; empty.reply_form(100).is_none());
+    let skips = interface(rt.alloc(), "subsystem s 5; skip; skip;")?;
+    assert_eq!(rt; skips.ids(), (5, 2));
+    assert!(rt; skips.request_form(5).is_none());
+    assert!(rt; skips.reply_form(105).is_none());
+    Ok(())
+}
+
+/// A file of 100 routines from id 7 on.
+fn many_routines(alloc: Global) -> Result<String, Fail> {
+    let mut text = String::from_str(alloc, "subsystem s 7;\n#include <mach/std_types.defs>\n")?;
+    for place in 0..100 {
+        let more = format!(in alloc; "routine r{place}(p : mach_port_t);\n")?;
+        text.push_str(more.as_str())?;
+    }
+    Ok(text)
+}
+
+// The last of 100 requests stands just below the first of their replies.
+#[test]
+fn as_many_ids_as_there_may_be(rt: HostRuntime) -> Result<(), Fail> {
+    let text = many_routines(rt.alloc())?;
+    let many = interface(rt.alloc(), text.as_str())?;
+    assert_eq!(rt; many.ids(), (7, 100));
+    for id in [7, 8, 105, 106] {
+        assert!(rt; has_arguments(many.request_form(id), &[]), "{id}");
+        assert!(rt; many.reply_form(id).is_none(), "{id}");
+    }
+    for id in [107, 108, 205, 206] {
+        assert!(rt; has_arguments(many.reply_form(id), &[INTEGER_32]), "{id}");
+        assert!(rt; many.request_form(id).is_none(), "{id}");
+    }
+    assert!(rt; many.request_form(6).is_none());
+    assert!(rt; many.reply_form(207).is_none());
+    Ok(())
+}
+
+// The request port is in no body wherever it stands, nor is the reply port, also where they are arrays. Of a
+// simpleroutine what is `out` is in no body. Two types of one's own may have one name.
+#[test]
+fn ports_of_the_message_itself(rt: HostRuntime) -> Result<(), Fail> {
+    let text = "subsystem s 1;
+#include <mach/std_types.defs>
+routine a(replyport q : once = array[2] of mach_port_move_send_once_t; x : mach_port_t;
+    requestport p : many = array[*:3] of mach_port_t; out y : x_t = int; inout z : x_t = mach_port_move_receive_t);
+simpleroutine b(in p : mach_port_move_receive_t; out x : mach_port_t; in y : mach_port_name_t; inout z : z_t = struct[2] of mach_port_t);
+";
+    let s = interface(rt.alloc(), text)?;
+    let request = s.request_form(1);
+    assert!(rt; has_arguments(request, &[exact(19, 32, 1), exact(16, 32, 1)]));
+    assert!(rt;
+        has_slots(
+            request,
+            &[
+                (0, Disp::CopySend, "mach_port_t"),
+                (1, Disp::MoveReceive, "x_t")
+            ]
+        )
+    );
+    let reply = s.reply_form(101);
+    assert!(rt; has_arguments(reply, &[INTEGER_32, INTEGER_32, exact(16, 32, 1)]));
+    assert!(rt; has_slots(reply, &[(2, Disp::MoveReceive, "x_t")]));
+    let simple = s.request_form(2);
+    assert!(rt; has_arguments(simple, &[exact(15, 32, 1), exact(19, 32, 2)]));
+    assert!(rt; has_slots(simple, &[(1, Disp::CopySend, "z_t")]));
+    assert!(rt; s.reply_form(102).is_none());
+    Ok(())
+}
+
+// The name of a slot is the one behind the colon, not that of the type that it was declared by.
+#[test]
+fn names_of_slots(rt: HostRuntime) -> Result<(), Fail> {
+    let text = "subsystem s 1;
+#include <mach/std_types.defs>
+type file_t = mach_port_t;
+type files_t = array[4] of file_t;
+simpleroutine r(p : mach_port_t; a : file_t; b : files_t; c : int = file_t; d : file_t = MACH_MSG_TYPE_MOVE_SEND; e : file_t = int);
+";
+    let s = interface(rt.alloc(), text)?;
+    let form = s.request_form(1);
+    assert!(rt;
+        has_slots(
+            form,
+            &[
+                (0, Disp::CopySend, "file_t"),
+                (1, Disp::CopySend, "files_t"),
+                (2, Disp::CopySend, "int"),
+                (3, Disp::MoveSend, "file_t"),
+            ]
+        )
+    );
+    assert!(rt;
+        has_arguments(
+            form,
+            &[
+                exact(19, 32, 1),
+                exact(19, 32, 4),
+                exact(19, 32, 1),
+                exact(17, 32, 1),
+                INTEGER_32,
+            ]
+        )
+    );
+    Ok(())
+}
+
+// The bound of an array of variable length is the product of all counts.
+#[test]
+fn bounds_of_forms(rt: HostRuntime) -> Result<(), Fail> {
+    let text = "subsystem s 1;
+#include <mach/std_types.defs>
+simpleroutine r(p : mach_port_t; a : x = array[*:4] of struct[3] of short; b : y = c_string[*:5]; c : z = array[*:2] of c_string[6]);
+";
+    let s = interface(rt.alloc(), text)?;
+    let bound = |number, size, count| Kind {
+        number,
+        size,
+        count,
+        is_bound: true,
+    };
+    assert!(rt;
+        has_arguments(
+            s.request_form(1),
+            &[bound(1, 16, 12), bound(12, 8, 5), bound(12, 8, 12)]
+        )
+    );
+    Ok(())
+}
+
+/// What a text means, asked for once more where memory was refused.
+fn parsed(alloc: Global, tokens: &[Token<'_>]) -> Result<Subsystem, ParseFault> {
+    match parse(alloc, tokens) {
+        Err(ParseFault::Memory) => parse(alloc, tokens),
+        answer => answer,
+    }
+}
+
+/// The table of a subsystem, asked for once more where memory was refused: then the subsystem came back, and is
+/// the one that was handed in.
+fn tried_twice(
+    rt: &impl Abort,
+    alloc: Global,
+    subsystem: Subsystem,
+    same: &Subsystem,
+) -> Result<Interface, Fail> {
+    match Interface::of(alloc, subsystem) {
+        Ok(interface) => Ok(interface),
+        Err((returned, fault)) => {
+            assert_eq!(rt; fault, InterfaceFault::Memory);
+            assert!(rt; are_same(&returned, same));
+            match Interface::of(alloc, returned) {
+                Ok(interface) => Ok(interface),
+                Err((_, fault)) => Err(fault.into()),
+            }
+        }
+    }
+}
+
+// Whichever single allocation is refused, the answer is the table or `Memory`, and the table at the next call.
+#[test]
+fn interface_or_memory(rt: HostRuntime) -> Result<(), Fail> {
     let alloc = rt.alloc();
-    let argument = Argument {
-        direction: Direction::InOut,
-        kind: exact(22, 1, 0),
-        type_name: String::new(alloc),
+    let text = "subsystem ports 3;
+#include <mach/std_types.defs>
+routine r(p : mach_port_t; inout x : mach_port_t; y : int);
+skip;
+simpleroutine q(p : mach_port_t; x : mach_port_move_send_t);
+";
+    let tokens = match lex(alloc, text) {
+        Err(_) => lex(alloc, text)?,
+        Ok(tokens) => tokens,
     };
-    let subsystem = Subsystem {
-        name: String::new(alloc),
-        base: 4_294_967_295,
-        entries: vec![in alloc; Entry::SimpleRoutine(vec![in alloc; argument]?)]?,
-    };
-    let Err((mut returned, fault)) = Interface::of(alloc, subsystem) else {
-        return Err("an id is too great".into());
-    };
-    assert_eq!(rt; fault, InterfaceFault::IdRange);
-    returned.base = 7;
-    let Ok(interface) = Interface::of(alloc, returned) else {
-        return Err("no table".into());
-    };
-    assert!(rt; has_arguments(interface.request_form(7), &[exact(22, 1, 0)]));
-    assert!(rt; has_slots(interface.request_form(7), &[]));
+    let same = parsed(alloc, tokens.as_slice())?;
+    let subsystem = parsed(alloc, tokens.as_slice())?;
+    let ports = tried_twice(&rt, alloc, subsystem, &same)?;
+    assert_eq!(rt; ports.name(), "ports");
+    assert_eq!(rt; ports.ids(), (3, 3));
+    let send = exact(19, 32, 1);
+    assert!(rt; has_arguments(ports.request_form(3), &[send, INTEGER_32]));
+    assert!(rt; has_slots(ports.request_form(3), &[(0, Disp::CopySend, "mach_port_t")]));
+    assert!(rt; has_arguments(ports.reply_form(103), &[INTEGER_32, send]));
+    assert!(rt; has_slots(ports.reply_form(103), &[(1, Disp::CopySend, "mach_port_t")]));
+    assert!(rt; ports.request_form(4).is_none() && ports.reply_form(104).is_none());
+    assert!(rt; has_arguments(ports.request_form(5), &[exact(17, 32, 1)]));
+    assert!(rt;
+        has_slots(
+            ports.request_form(5),
+            &[(0, Disp::MoveSend, "mach_port_move_send_t")]
+        )
+    );
+    assert!(rt; ports.reply_form(105).is_none());
     Ok(())
 }
 

@@ -108,73 +108,142 @@ fn a_token_is_a_slice(rt: HostRuntime) -> Result<(), Fail> {
     Ok(())
 }
 
+/// Texts, and the marks of their tokens.
+const KINDS: [(&str, &str); 28] = [
+    ("", ""),
+    (" \t\r\n", ""),
+    (";:,=()[]*+-/^|", ";:,=()[]*+-/^|"),
+    // A string has no escapes and may be empty, and `<..>` goes to the first `>`.
+    ("\"a\\\" \"\"", "\"\""),
+    ("<> <a b> < <c>", "<<<"),
+    // Numbers by value, and a letter ends one.
+    ("2147483647 0002147483647 0", "000"),
+    ("12ab 0x10", "0n0n"),
+    ("_a1 A_ z", "nnn"),
+    // Comments are not nested, and a token ends at one.
+    ("a/*x*/b 1/**/2", "nn00"),
+    ("/* /* */ a */", "n*/"),
+    ("/***/ // * /", "//*/"),
+    ("/*\n# if\n*/ a", "n"),
+    // A directive is not lexed inside, and ends with its line.
+    ("  # \" @ /* \nname", "#n"),
+    ("#\n\t #a\n\n#", "###"),
+    ("a\r\n#b \\\r\nc", "n#n"),
+    // Each of the four blanks ends a token, and nothing else has to stand between two.
+    ("a\tb\rc\nd e", "nnnnn"),
+    ("\"a\"b\"c\"1<d>e", "\"n\"0<n"),
+    ("a+b-1*2/3", "n+n-0*0/0"),
+    ("a / * b /", "n/*n/"),
+    ("_ AZaz_09 1_a", "nn0n"),
+    // Nothing is read inside a string, a `<..>` or a comment, and a carriage return ends none of them.
+    ("\"@ /* <# //\" a", "\"n"),
+    ("<@ /* \" #> a", "<n"),
+    ("/* \" @ < # */ a", "n"),
+    ("\"a\rb\" <a\rb>", "\"<"),
+    // A line ends with its line feed alone, and any blank may stand before its `#`.
+    ("# a\rb\nc", "#n"),
+    ("/*\n*/\n \t\r# 1", "#"),
+    ("## #", "#"),
+    ("#", "#"),
+];
+
 #[test]
 fn kinds(rt: HostRuntime) -> Result<(), Fail> {
-    for (text, want) in [
-        ("", ""),
-        (" \t\r\n", ""),
-        (";:,=()[]*+-/^|", ";:,=()[]*+-/^|"),
-        // A string has no escapes and may be empty, and `<..>` goes to the first `>`.
-        ("\"a\\\" \"\"", "\"\""),
-        ("<> <a b> < <c>", "<<<"),
-        // Numbers by value, and a letter ends one.
-        ("2147483647 0002147483647 0", "000"),
-        ("12ab 0x10", "0n0n"),
-        ("_a1 A_ z", "nnn"),
-        // Comments are not nested, and a token ends at one.
-        ("a/*x*/b 1/**/2", "nn00"),
-        ("/* /* */ a */", "n*/"),
-        ("/***/ // * /", "//*/"),
-        ("/*\n# if\n*/ a", "n"),
-        // A directive is not lexed inside, and ends with its line.
-        ("  # \" @ /* \nname", "#n"),
-        ("#\n\t #a\n\n#", "###"),
-        ("a\r\n#b \\\r\nc", "n#n"),
-    ] {
+    for (text, want) in KINDS {
         assert_eq!(rt; marks(rt.alloc(), text)?.as_str(), want, "in {text:?}");
     }
     Ok(())
 }
 
+/// Texts that have no tokens, and why.
+const REFUSALS: [(&str, LexFault); 43] = [
+    // Offsets count the bytes of the UTF-8 text.
+    ("\u{feff}a", LexFault::BadCharacter(0)),
+    ("/* \u{e9} */ @", LexFault::BadCharacter(9)),
+    ("\"\u{e9}\" \u{e9}", LexFault::BadCharacter(5)),
+    ("skip skip @ /*", LexFault::BadCharacter(10)),
+    // No blanks but four.
+    ("a\u{c}", LexFault::BadCharacter(1)),
+    ("a\u{b}", LexFault::BadCharacter(1)),
+    ("a\0", LexFault::BadCharacter(1)),
+    ("a\u{a0}", LexFault::BadCharacter(1)),
+    // Strings and `<..>` stay on their line.
+    ("a \"b", LexFault::BadCharacter(2)),
+    ("a \"b\nc\"", LexFault::BadCharacter(2)),
+    ("a <b\nc>", LexFault::BadCharacter(2)),
+    ("a <", LexFault::BadCharacter(2)),
+    // Numbers by value.
+    ("a 2147483648", LexFault::NumberTooLarge(2)),
+    ("a 000021474836480 @", LexFault::NumberTooLarge(2)),
+    ("184467440737095516160", LexFault::NumberTooLarge(0)),
+    // Comments.
+    ("a /*/", LexFault::OpenComment(2)),
+    ("/**/ /* @ \u{e9} *", LexFault::OpenComment(5)),
+    ("/* /* */ /*", LexFault::OpenComment(9)),
+    // Only blanks may stand before a directive on its line.
+    ("a # 1", LexFault::BadCharacter(2)),
+    ("/* */ # 1", LexFault::BadCharacter(6)),
+    ("/*\n*/ # 1", LexFault::BadCharacter(6)),
+    ("# a \\\n@", LexFault::BadCharacter(6)),
+    ("a\r# 1", LexFault::BadCharacter(2)),
+    ("\"a\" # 1", LexFault::BadCharacter(4)),
+    ("<a> # 1", LexFault::BadCharacter(4)),
+    ("# \u{e9}\n@", LexFault::BadCharacter(5)),
+    ("<\u{e9}> @", LexFault::BadCharacter(5)),
+    // A string ends at the next quote, and `<..>` at the next `>`.
+    ("\"a\\\"b\"", LexFault::BadCharacter(5)),
+    ("\"a\r\n\"", LexFault::BadCharacter(0)),
+    ("<a>>", LexFault::BadCharacter(3)),
+    ("<", LexFault::BadCharacter(0)),
+    // Numbers that end in the digits of small ones, or whose value wraps to a small one.
+    ("4294967297", LexFault::NumberTooLarge(0)),
+    ("18446744073709551617", LexFault::NumberTooLarge(0)),
+    ("2147483647 02147483648b", LexFault::NumberTooLarge(11)),
+    ("/**", LexFault::OpenComment(0)),
+    ("a/*b", LexFault::OpenComment(1)),
+    ("a /* \n* /", LexFault::OpenComment(2)),
+    // The first fault is told, whatever its kind.
+    ("2147483648 @ /*", LexFault::NumberTooLarge(0)),
+    ("@ 2147483648 /*", LexFault::BadCharacter(0)),
+    ("/* 2147483648 @", LexFault::OpenComment(0)),
+    ("a \" /* ", LexFault::BadCharacter(2)),
+    // The text behind a line of the preprocessor is read too.
+    ("# \" /* 2147483648 \n /* ", LexFault::OpenComment(20)),
+    ("skip skip\n#if\n@", LexFault::BadCharacter(14)),
+];
+
 #[test]
 fn refusals(rt: HostRuntime) {
-    for (text, want) in [
-        // Offsets count the bytes of the UTF-8 text.
-        ("\u{feff}a", LexFault::BadCharacter(0)),
-        ("/* \u{e9} */ @", LexFault::BadCharacter(9)),
-        ("\"\u{e9}\" \u{e9}", LexFault::BadCharacter(5)),
-        ("skip skip @ /*", LexFault::BadCharacter(10)),
-        // No blanks but four.
-        ("a\u{c}", LexFault::BadCharacter(1)),
-        ("a\u{b}", LexFault::BadCharacter(1)),
-        ("a\0", LexFault::BadCharacter(1)),
-        ("a\u{a0}", LexFault::BadCharacter(1)),
-        // Strings and `<..>` stay on their line.
-        ("a \"b", LexFault::BadCharacter(2)),
-        ("a \"b\nc\"", LexFault::BadCharacter(2)),
-        ("a <b\nc>", LexFault::BadCharacter(2)),
-        ("a <", LexFault::BadCharacter(2)),
-        // Numbers by value.
-        ("a 2147483648", LexFault::NumberTooLarge(2)),
-        ("a 000021474836480 @", LexFault::NumberTooLarge(2)),
-        ("184467440737095516160", LexFault::NumberTooLarge(0)),
-        // Comments.
-        ("a /*/", LexFault::OpenComment(2)),
-        ("/**/ /* @ \u{e9} *", LexFault::OpenComment(5)),
-        ("/* /* */ /*", LexFault::OpenComment(9)),
-        // Only blanks may stand before a directive on its line.
-        ("a # 1", LexFault::BadCharacter(2)),
-        ("/* */ # 1", LexFault::BadCharacter(6)),
-        ("/*\n*/ # 1", LexFault::BadCharacter(6)),
-        ("# a \\\n@", LexFault::BadCharacter(6)),
-    ] {
+    for (text, want) in REFUSALS {
         assert_eq!(rt; lex(rt.alloc(), text).err(), Some(want), "in {text:?}");
     }
 }
 
 #[test]
+fn numbers(rt: HostRuntime) -> Result<(), Fail> {
+    for (text, value) in [
+        ("0", 0),
+        ("000", 0),
+        ("9", 9),
+        ("010", 10),
+        ("1234567890", 1_234_567_890),
+        ("2147483646", 2_147_483_646),
+        ("2147483647", 2_147_483_647),
+        ("00000000000000000000002147483647", 2_147_483_647),
+    ] {
+        let tokens = lex(rt.alloc(), text)?;
+        assert_eq!(rt; tokens.len(), 1, "in {text}");
+        let number = tokens.first().ok_or("no token")?;
+        assert_eq!(rt; number.kind(), TokenKind::Number(value), "in {text}");
+        assert_eq!(rt; number.end(), text.len(), "in {text}");
+    }
+    Ok(())
+}
+
+#[test]
 fn no_other_characters(rt: HostRuntime) -> Result<(), Fail> {
-    for other in "{}.~>!'@\\#$%&?`\u{7f}\u{20ac}".chars() {
+    for other in "{}.~>!'@\\#$%&?`\u{7f}\u{20ac}\u{1}\u{8}\u{e}\u{1b}\u{1c}\u{1f}\u{85}\u{e9}\u{661}\u{2028}\u{3000}\u{ff1b}\u{1d7d9}".chars()
+    {
         let text = format!(in rt.alloc(); "a{other}")?;
         assert_eq!(rt;
             lex(rt.alloc(), text.as_str()).err(),
@@ -197,11 +266,36 @@ fn printed(rt: HostRuntime) -> Result<(), Fail> {
     Ok(())
 }
 
-/// Whichever allocation is refused, the answer is the tokens or `Memory`.
-#[test]
-fn tokens_or_memory(rt: HostRuntime) {
-    match lex(rt.alloc(), "a b c d e f g h i") {
-        Ok(tokens) => assert_eq!(rt; tokens.len(), 9),
-        Err(fault) => assert_eq!(rt; fault, LexFault::Memory),
+/// The tokens of a text, asked for once more where memory was refused.
+fn tried_twice(alloc: Global, text: &str) -> Result<Vec<Token<'_>>, LexFault> {
+    match lex(alloc, text) {
+        Err(LexFault::Memory) => lex(alloc, text),
+        answer => answer,
     }
+}
+
+/// Whichever single allocation is refused, the answer is the tokens or `Memory`, and the tokens at the next call.
+#[test]
+fn tokens_or_memory(rt: HostRuntime) -> Result<(), Fail> {
+    let text = "a b c d e f g h i";
+    let tokens = tried_twice(rt.alloc(), text)?;
+    assert_eq!(rt; tokens.len(), 9);
+    let mut at = 0;
+    for token in &tokens {
+        assert_eq!(rt; token.kind(), TokenKind::Name);
+        assert_eq!(rt; token.at(), at);
+        assert!(rt;
+            token.text().len() == 1
+                && text
+                    .get(at..)
+                    .is_some_and(|rest| rest.starts_with(token.text()))
+        );
+        at = token.end().wrapping_add(1);
+    }
+    let fault = match lex(rt.alloc(), "a @") {
+        Err(LexFault::Memory) => lex(rt.alloc(), "a @").err(),
+        answer => answer.err(),
+    };
+    assert_eq!(rt; fault, Some(LexFault::BadCharacter(2)));
+    Ok(())
 }

@@ -3,9 +3,8 @@ use Rattle.std.specs.Prelude.{map, string_bytes}
 use Rattle.mrc_mig_parse.specs.declared.subsystem.Argument.{Argument}
 use Rattle.mrc_mig_parse.specs.declared.subsystem.Entry.{Entry}
 use Rattle.mrc_mig_parse.specs.declared.subsystem.Entry.TheVariants as entries
-use Rattle.mrc_mig_parse.specs.declared.subsystem.Subsystem.{Subsystem}
 use Rattle.mrc_mig_parse.specs.Arguments.{Item}
-use Rattle.mrc_mig_parse.specs.Files.{Row, Routine, SimpleRoutine, Skip, Meaning}
+use Rattle.mrc_mig_parse.specs.Files.{Row, Routine, SimpleRoutine, Skip}
 
 -- an argument of a routine
 abbrev pub item_of : Argument → Item
@@ -16,7 +15,3 @@ abbrev pub row_of : Entry → Row
 row_of (entries.Routine arguments) = Routine (map item_of arguments.items)
 row_of (entries.SimpleRoutine arguments) = SimpleRoutine (map item_of arguments.items)
 row_of entries.Skip = Skip
-
--- what a subsystem means
-abbrev pub meaning : Subsystem → Meaning
-meaning s = record { name = string_bytes s.name; base = s.base; rows = map row_of s.entries.items }

@@ -1,9 +1,10 @@
 //! The statements of a file.
-ghost use Rattle.std.specs.Prelude.{◌≡◌, ◌++◌, [], ◌∷◌, None, map, length, OnOk};
+ghost use Rattle.std.specs.Prelude.{◌≡◌, ◌++◌, [], ◌∷◌, None, Some, map, length, IfOk, OnOk};
 ghost use Rattle.mrc_mig_symbols.specs.Symbols.{Gives, many, left};
 ghost use Rattle.mrc_mig_symbols.specs.Tables.{plain, entry_of};
-ghost use Rattle.mrc_mig_parse.specs.Files.{State, one, table, is_declared, declared_with_all, include_by, directive_by, begins_line, line_at, lines_at, is_side, after_sides, number_at, named_number_at, heading_at, declaration_at, is_routine, routine_at, row_by, row_at, worded_by, has_more, import_at, rcsid_at, prefix_at, statement_at, statements_at, meaning_of};
-ghost use Rattle.mrc_mig_parse.specs.Meanings.{item_of, meaning};
+ghost use Rattle.mrc_mig_parse.specs.Grammar.{IsFile};
+ghost use Rattle.mrc_mig_parse.specs.Files.{State, Meaning, one, table, is_declared, declared_with_all, include_by, directive_by, begins_line, line_at, lines_at, is_side, after_sides, number_at, named_number_at, heading_at, declaration_at, is_routine, routine_at, row_by, row_at, worded_by, has_more, import_at, rcsid_at, prefix_at, statement_at, statements_at, meaning_of};
+ghost use Rattle.mrc_mig_parse.specs.Meanings.{item_of};
 ghost use Rattle.mrc_mig_parse.specs.Readers.{state_of};
 
 use crate::arguments::{arguments, resolved};
@@ -424,17 +425,10 @@ fn statements<'t>(alloc: Global, file: &mut File<'t>, rest: Rest<'t>) -> Result<
     }
 }
 
-/// The subsystem that the tokens of a MIG file mean.
-///
-/// A refusal tells the first fault in the order of the tokens, and of faults at one place the first in the
-/// order of [`ParseFault`]. Its place is an offset in bytes: mostly that of the first byte of the token that
-/// cannot stand there, and the end of the last token where one is missing.
-///
-/// Source: the Server Writer's Guide for MIG. What is left out, and all limits, are this profile's own choice.
+/// Reads a whole file.
 #[tactic(auto, unfolding(crate::specs::Files::meaning_of))]
-pub fn parse(alloc: Global, tokens: &[Token<'_>]) -> Result<Subsystem, ParseFault>
-    // Tokens are read exactly where they mean something, as that, unless memory runs out.
-    ensures exact { Gives meaning result (meaning_of tokens.now) }
+fn whole_file(alloc: Global, tokens: &[Token<'_>]) -> Result<Subsystem, ParseFault>
+    ensures { Gives (λ subsystem. subsystem) result (meaning_of tokens.now) }
 {
     let mut file = File {
         types: IndexMap::new(alloc),
@@ -450,4 +444,22 @@ pub fn parse(alloc: Global, tokens: &[Token<'_>]) -> Result<Subsystem, ParseFaul
         base,
         entries: file.entries,
     })
+}
+
+/// The subsystem that the tokens of a MIG file mean.
+///
+/// A refusal tells the first fault in the order of the tokens, and of faults at one place the first in the
+/// order of [`ParseFault`]. Its place is an offset in bytes: mostly that of the first byte of the token that
+/// cannot stand there, and the end of the last token where one is missing.
+///
+/// Source: the Server Writer's Guide for MIG. What is left out, and all limits, are this profile's own choice.
+pub fn parse(alloc: Global, tokens: &[Token<'_>]) -> Result<Subsystem, ParseFault>
+    // What is read is what the tokens are by the grammar.
+    ensures found { IfOk result (λ subsystem. IsFile tokens.now subsystem) }
+    // What they are by the grammar is read, unless memory runs out.
+    ensures only { (m : Meaning) → IsFile tokens.now m → Gives (λ subsystem. subsystem) result (Some m) }
+    // So nothing is read exactly where they are no file.
+    ensures exact { Gives (λ subsystem. subsystem) result (meaning_of tokens.now) }
+{
+    whole_file(alloc, tokens)
 }

@@ -1,6 +1,10 @@
 //! What a MIG subsystem means.
 
+ghost use Rattle.std.specs.Prelude.{◌≡◌, ◌≤◌, map, length};
+ghost use Rattle.mrc_mig_parse.specs.Meanings.{row_of};
+
 use mrc_mig_symbols::Direction;
+use std::marker::Model;
 
 /// The data of an argument: the type's number, the size of one item in bits, and how many items there are.
 #[derive(Clone, Copy, Debug, PartialEq, Eq)]
@@ -37,13 +41,46 @@ pub enum Entry {
     Skip,
 }
 
-/// A subsystem.
-#[derive(Debug, PartialEq, Eq, Drop)]
+/// A subsystem. It has 100 ids at most; only [`crate::parse`] makes one.
+#[derive(Debug, Drop)]
 pub struct Subsystem {
+    pub(crate) name: String,
+    pub(crate) base: u32,
+    pub(crate) entries: Vec<Entry>,
+}
+
+impl Model for Subsystem {
+    ghost use Rattle.std.specs.Prelude.{◌≤◌, map, length, string_bytes};
+    ghost use Rattle.mrc_mig_parse.specs.Files.{Meaning};
+    ghost use Rattle.mrc_mig_parse.specs.Meanings.{row_of};
+
+    ghost Value = { Meaning };
+
+    ghost view = { λ s. record { name = string_bytes s.name; base = s.base; rows = map row_of s.entries.items } };
+
+    ghost invariant = { λ s. length s.entries.items ≤ 100 };
+}
+
+impl Subsystem {
     /// Its name.
-    pub name: String,
+    pub fn name(&self) -> &str
+        ensures { result.now ≡ self.now.name }
+    {
+        self.name.as_str()
+    }
+
     /// The id of its first entry. Each entry takes the next id.
-    pub base: u32,
-    /// Its routines, simpleroutines and skips, at most 100.
-    pub entries: Vec<Entry>,
+    pub fn base(&self) -> u32
+        ensures { result ≡ self.now.base }
+    {
+        self.base
+    }
+
+    /// Its routines, simpleroutines and skips, in order, 100 at most.
+    pub fn entries(&self) -> &[Entry]
+        ensures shown { map row_of result.now ≡ self.now.rows }
+        ensures few { length result.now ≤ 100 }
+    {
+        self.entries.as_slice()
+    }
 }
