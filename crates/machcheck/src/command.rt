@@ -1,5 +1,9 @@
 //! The command line, read by `clap`.
 
+ghost use Rattle.std.specs.Prelude.{◌≡◌, codes, IfErr, IfSome};
+ghost use Rattle.clap.specs.Matches.{found_of, first_value};
+ghost use Rattle.machcheck.specs.Told.{IsNoCommand};
+
 use crate::tell::Told;
 use clap::{Arg, ArgAction, ArgMatches, Error};
 use std::alloc::{AllocError, AllocFailed, Global};
@@ -27,6 +31,11 @@ pub enum NoCommand {
 }
 
 impl From<AllocError> for NoCommand {
+    ghost use Rattle.std.specs.Prelude.{◌≡◌};
+    ghost use Rattle.machcheck.specs.declared.command.NoCommand.TheVariants.{Memory};
+
+    ghost from_gives = { λ _ e. e ≡ Memory };
+
     fn from(_e: AllocError) -> NoCommand {
         NoCommand::Memory
     }
@@ -63,7 +72,9 @@ fn whole_command<'a>(alloc: Global) -> Result<clap::Command<'a>, AllocError> {
 }
 
 /// The text of clap: help and version go to standard output, all else to standard error.
-fn clap_text(alloc: Global, error: Error) -> NoCommand {
+fn clap_text(alloc: Global, error: Error) -> NoCommand
+    ensures { IsNoCommand result }
+{
     match format!(in alloc; "{error}") {
         Ok(text) => NoCommand::Told(if error.use_stderr() {
             Told {
@@ -82,7 +93,11 @@ fn clap_text(alloc: Global, error: Error) -> NoCommand {
     }
 }
 
-fn check_files<'a>(matches: &ArgMatches<'a>) -> Option<CheckFiles<'a>> {
+fn check_files<'a>(matches: &ArgMatches<'a>) -> Option<CheckFiles<'a>>
+    ensures wiring { IfSome result (λ files. first_value (found_of matches.now) (codes "wiring") ≡ Some files.wiring.now) }
+    ensures policy { IfSome result (λ files. first_value (found_of matches.now) (codes "policy") ≡ Some files.policy.now) }
+    ensures certificate { IfSome result (λ files. first_value (found_of matches.now) (codes "cert") ≡ Some files.certificate.now) }
+{
     Some(CheckFiles {
         wiring: matches.get_str("wiring")?,
         policy: matches.get_str("policy")?,
@@ -91,7 +106,9 @@ fn check_files<'a>(matches: &ArgMatches<'a>) -> Option<CheckFiles<'a>> {
 }
 
 /// Reads the words of a command line, the program's own name first.
-pub fn read(alloc: Global, words: &[String]) -> Result<Command<'_>, NoCommand> {
+pub fn read(alloc: Global, words: &[String]) -> Result<Command<'_>, NoCommand>
+    ensures { IfErr result IsNoCommand }
+{
     let command = whole_command(alloc)?;
     let matches = match command.try_get_matches_from(words) {
         Ok(matches) => matches,

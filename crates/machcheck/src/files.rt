@@ -1,5 +1,8 @@
 //! Bytes in from files, and out to a writer.
 
+ghost use Rattle.std.specs.Prelude.{◌≤◌, take, vec_len, OnOk, IfOk, IfErr};
+ghost use Rattle.std.specs.Io.KnownBytes.{Appends};
+
 use std::alloc::Global;
 use std::fs;
 use std::io::{ErrorKind, Read, Write};
@@ -31,7 +34,9 @@ pub struct WriteFault {
 }
 
 /// All bytes of a file.
-pub fn read_file<R: Files>(rt: &R, alloc: Global, path: &str) -> Result<Vec<u8>, ReadFault> {
+pub fn read_file<R: Files>(rt: &R, alloc: Global, path: &str) -> Result<Vec<u8>, ReadFault>
+    ensures { IfOk result (λ bytes. vec_len bytes ≤ LIMIT) }
+{
     let file = fs::open(rt, path).map_err(|_| ReadFault::ReadFailed)?;
     let mut bytes = Vec::new(alloc);
     match file.take(LIMIT + 1).read_to_end(&mut bytes) {
@@ -43,7 +48,12 @@ pub fn read_file<R: Files>(rt: &R, alloc: Global, path: &str) -> Result<Vec<u8>,
 }
 
 /// Writes the whole text. A write that takes no byte is a failure.
-pub fn write_text<W: Write>(writer: &mut W, text: &[u8]) -> Result<(), WriteFault> {
+pub fn write_text<W: Write>(writer: &mut W, text: &[u8]) -> Result<(), WriteFault>
+    // All of the text was appended.
+    ensures whole { OnOk result (Appends (W.contents writer.old) (W.contents writer.new) text.now) }
+    // Else the bytes that the fault counts were.
+    ensures cut { IfErr result (λ fault. Appends (W.contents writer.old) (W.contents writer.new) (take fault.written text.now)) }
+{
     let mut written = 0;
     while written < text.len() {
         match writer.write(&text[written..]) {
