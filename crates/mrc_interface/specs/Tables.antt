@@ -46,7 +46,7 @@ rows_at id (statement ∷ statements) = row_at id statement >>= λ row. rows_at 
 abbrev pub table_of : Meaning → Option Table
 table_of m = rows_at m.base m.rows >>= λ rows. Some (record { name = m.name; base = m.base; rows = rows })
 
--- what stands a number of ids behind another
+-- the row of this id, where the first row has the second id
 abbrev pub row_behind : Table → ℕ → ℕ → Option Row
 row_behind table id first = if nat_le first id then slice_get table.rows (id - first) else None
 

@@ -34,9 +34,9 @@ fn scan(alloc: Global, text: &str) -> Result<Vec<Token<'_>>, LexFault>
 /// The tokens of a MIG subsystem text from left to right, or its first fault in byte order.
 ///
 /// Each token is the longest that stands at its place, between blanks (space, tab, carriage return, line feed) and
-/// comments. Names, numbers, strings, headers and signs are those of the grammar of the Server Writer's Guide for MIG;
-/// keywords are names here. A `#` with only blanks before it on its line makes the rest of the line one token, which is
-/// not read further.
+/// comments. They are those of the grammar of the Server Writer's Guide for MIG; which signs there are, and that strings
+/// have no escapes, is this profile's own choice. Keywords are names here. A `#` with only blanks before it on its line
+/// makes the rest of the line one token, which is not read further.
 ///
 /// An `Err` is `BadCharacter`, `OpenComment` or `NumberTooLarge` with the offset of the byte where it begins, or
 /// `Memory`. It takes time in proportion to the length of the text.
