@@ -3,6 +3,7 @@
 use crate::run::run;
 use std::alloc::Global;
 use std::io::Write;
+use std::process::Abort;
 use std::test::Fail;
 use std::{fs, io};
 
@@ -184,53 +185,72 @@ fn a_kernel_port_opens_the_way_back(rt: HostRuntime) -> Result<(), Fail> {
     Ok(())
 }
 
-#[test]
-fn faults_of_files(rt: HostRuntime) -> Result<(), Fail> {
-    let alloc = rt.alloc();
-    let folder = folder(&rt, "faults")?;
+/// The three texts of a check, the file of the fault, and the fault as it is printed.
+type Faulty<'a> = (&'a str, &'a str, &'a [u8], &'a str, &'a str);
+
+/// Each check tells its fault on standard error, and nothing else.
+fn tell_faults(
+    rt: &HostRuntime,
+    abort: &impl Abort,
+    name: &str,
+    table: &[Faulty<'_>],
+) -> Result<(), Fail> {
+    let folder = folder(rt, name)?;
     let folder = folder.as_str();
-    let one = "wiring 1\ntask a\n";
-    let none = "policy 1\n";
+    for (wiring, policy, certificate, file, fault) in table {
+        let told = checked(rt, folder, wiring, policy, certificate)?;
+        let line = format!(in rt.alloc(); "machcheck: {folder}/{file}: {fault}\n")?;
+        assert_eq!(abort; told.err.as_slice(), line.as_bytes(), "{fault}");
+        assert_eq!(abort; told.out.as_slice(), b"".as_slice());
+        assert_eq!(abort; told.status, 2);
+    }
+    Ok(())
+}
+
+const ONE: &str = "wiring 1\ntask a\n";
+
+const NOTHING: &str = "policy 1\n";
+
+#[test]
+fn faults_of_texts(rt: HostRuntime) -> Result<(), Fail> {
+    let unknown = "wiring 1\nhold a send task a\n";
+    let forbidden = "policy 1\nforbid a send task a\n";
+    tell_faults(
+        &rt,
+        &rt,
+        "texts",
+        &[
+            (unknown, NOTHING, &ALONE, "w", "UnknownName 2"),
+            ("wiring 3\n", NOTHING, &ALONE, "w", "Version"),
+            ("wiring 1\ntask\n", NOTHING, &ALONE, "w", "BadLine 2"),
+            ("wiring 1\n", forbidden, &NO_TASKS, "p", "UnknownName 2"),
+            (ONE, "policy 2\n", &ALONE, "p", "Version"),
+        ],
+    )
+}
+
+#[test]
+fn faults_of_certificates(rt: HostRuntime) -> Result<(), Fail> {
     let mut exchanged = ALONE;
     exchanged[25] = 1;
     exchanged[31] = 0;
     let mut strange = ALONE;
     strange[14] = 4;
-    let mut longer = Vec::new(alloc);
+    let mut longer = Vec::new(rt.alloc());
     longer.extend_from_slice(&ALONE)?;
     longer.push(0)?;
-    let table: [(&str, &str, &[u8], &str, &str); 10] = [
-        (
-            "wiring 1\nhold a send task a\n",
-            none,
-            &ALONE,
-            "w",
-            "UnknownName 2",
-        ),
-        ("wiring 3\n", none, &ALONE, "w", "Version"),
-        ("wiring 1\ntask\n", none, &ALONE, "w", "BadLine 2"),
-        (
-            "wiring 1\n",
-            "policy 1\nforbid a send task a\n",
-            &NO_TASKS,
-            "p",
-            "UnknownName 2",
-        ),
-        (one, "policy 2\n", &ALONE, "p", "Version"),
-        (one, none, &exchanged, "c", "NotAscending 26"),
-        (one, none, &strange, "c", "BadFact 14"),
-        (one, none, &ALONE[..37], "c", "Truncated"),
-        (one, none, longer.as_slice(), "c", "Trailing"),
-        (one, none, &ALONE[..3], "c", "Magic"),
-    ];
-    for (wiring, policy, certificate, file, fault) in table {
-        let told = checked(&rt, folder, wiring, policy, certificate)?;
-        let line = format!(in alloc; "machcheck: {folder}/{file}: {fault}\n")?;
-        assert_eq!(rt; told.err.as_slice(), line.as_bytes(), "{fault}");
-        assert_eq!(rt; told.out.as_slice(), b"".as_slice());
-        assert_eq!(rt; told.status, 2);
-    }
-    Ok(())
+    tell_faults(
+        &rt,
+        &rt,
+        "certificates",
+        &[
+            (ONE, NOTHING, &exchanged, "c", "NotAscending 26"),
+            (ONE, NOTHING, &strange, "c", "BadFact 14"),
+            (ONE, NOTHING, &ALONE[..37], "c", "Truncated"),
+            (ONE, NOTHING, longer.as_slice(), "c", "Trailing"),
+            (ONE, NOTHING, &ALONE[..3], "c", "Magic"),
+        ],
+    )
 }
 
 #[test]
