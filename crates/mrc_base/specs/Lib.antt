@@ -1,2 +1,4 @@
 pub mod Disposition
 pub mod NameRight
+pub mod Limits
+pub mod Reading

@@ -1,11 +1,17 @@
-//! The words that every other crate speaks in: rights, dispositions, the numbers of tasks, classes and
-//! ports, and facts.
+//! The words that every other crate speaks in: rights, dispositions, the numbers of tasks, classes
+//! and ports, and facts.
 #![tactic(auto)]
 
 ghost use Rattle.std.specs.Prelude.{◌≡◌};
-ghost use Rattle.mrc_base.specs.Disposition.{needed, given};
+ghost use Rattle.mrc_base.specs.Disposition.{needed, given, disp_number, disp_of_number};
+ghost use Rattle.mrc_base.specs.Disposition.{is_port_number};
+ghost use Rattle.mrc_base.specs.Disposition.{NumbersAreDispositions, PortNumbersAreDispositions};
 ghost use Rattle.mrc_base.specs.NameRight.{name_right};
 
+pub mod limits;
+mod memory;
+
+pub use memory::OrMemory;
 use std::marker::Model;
 
 /// What a name can stand for, with Mach's numbers (Mach 3 Kernel Interfaces, `mach_port_right_t`).
@@ -23,8 +29,8 @@ pub enum Right {
     DeadName = 4,
 }
 
-/// A right on a port: what a task can hold, a message can carry and a policy can forbid. The numbers
-/// are those of [`Right`].
+/// A right on a port: what a task can hold, a message can carry and a policy can forbid. The
+/// numbers are those of [`Right`].
 #[derive(Clone, Copy, Debug, PartialEq, Eq, PartialOrd, Ord)]
 pub enum PortRight {
     /// A send right.
@@ -111,7 +117,8 @@ pub enum Fact {
         class: ClassId,
         right: PortRight,
     },
-    /// A port of class `class` may have a port-destroyed request that names a port of class `notify`.
+    /// A port of class `class` may have a port-destroyed request that names a port of class
+    /// `notify`.
     Backup {
         class: ClassId,
         notify: ClassId,
@@ -140,6 +147,50 @@ pub fn give(disp: Disp) -> PortRight
     }
 }
 
+impl Disp {
+    /// The number that stands for the disposition in a header or a descriptor, 16 to 21.
+    pub fn number(self) -> u16
+        ensures { result ≡ disp_number self }
+    {
+        match self {
+            Disp::MoveReceive => 16,
+            Disp::MoveSend => 17,
+            Disp::MoveSendOnce => 18,
+            Disp::CopySend => 19,
+            Disp::MakeSend => 20,
+            Disp::MakeSendOnce => 21,
+        }
+    }
+
+    /// The disposition that a number stands for; none where it stands for none.
+    pub fn of_number(number: u16) -> Option<Disp>
+        ensures { result ≡ disp_of_number number }
+    {
+        match number {
+            16 => Some(Disp::MoveReceive),
+            17 => Some(Disp::MoveSend),
+            18 => Some(Disp::MoveSendOnce),
+            19 => Some(Disp::CopySend),
+            20 => Some(Disp::MakeSend),
+            21 => Some(Disp::MakeSendOnce),
+            _ => None,
+        }
+    }
+}
+
+/// Whether the number of a type is that of port rights, 16 to 21.
+pub fn is_port_number(number: u16) -> bool
+    ensures { result ≡ is_port_number number }
+{
+    16 <= number && number <= 21
+}
+
+/// Dispositions and their numbers are one to one, and those numbers are the ones of port rights.
+pub fn dispositions_by_number()
+    ensures numbers { NumbersAreDispositions }
+    ensures ports { PortNumbersAreDispositions }
+{}
+
 impl From<PortRight> for Right {
     ghost from_gives = { λ right r. r ≡ name_right right };
 
@@ -155,6 +206,8 @@ impl From<PortRight> for Right {
 #[cfg(test)]
 mod tests {
     use super::*;
+    use std::alloc::AllocError;
+    use std::test::Fail;
 
     // The table of dispositions: number, what each needs, what it gives.
     #[test]
@@ -227,5 +280,65 @@ mod tests {
         assert!(rt; hold(0, 9, PortRight::SendOnce) < hold(1, 0, PortRight::Send));
         assert!(rt; hold(9, 9, PortRight::SendOnce) < carry);
         assert!(rt; carry < backup);
+    }
+
+    // The numbers of `mach_msg_type_name_t`; those beside them stand for none.
+    #[test]
+    fn dispositions_by_their_numbers(rt: HostRuntime) {
+        let table = [
+            (15, None),
+            (16, Some(Disp::MoveReceive)),
+            (17, Some(Disp::MoveSend)),
+            (18, Some(Disp::MoveSendOnce)),
+            (19, Some(Disp::CopySend)),
+            (20, Some(Disp::MakeSend)),
+            (21, Some(Disp::MakeSendOnce)),
+            (22, None),
+            (0, None),
+            (65_535, None),
+        ];
+        for (number, disp) in table {
+            assert_eq!(rt; Disp::of_number(number), disp, "{number}");
+            assert_eq!(rt; is_port_number(number), disp.is_some(), "{number}");
+            if let Some(disp) = disp {
+                assert_eq!(rt; disp.number(), number);
+            }
+        }
+    }
+
+    #[test]
+    fn refusals_print_their_fault_or_memory(rt: HostRuntime) -> Result<(), Fail> {
+        let fault = OrMemory::Fault("Magic").to_string(rt.alloc())?;
+        assert_eq!(rt; fault.as_str(), "Magic");
+        let memory = OrMemory::<&str>::Memory.to_string(rt.alloc())?;
+        assert_eq!(rt; memory.as_str(), "Memory");
+        Ok(())
+    }
+
+    #[test]
+    fn refused_allocations_are_want_of_memory(rt: HostRuntime) {
+        assert_eq!(rt; OrMemory::<u8>::from(AllocError), OrMemory::Memory);
+        assert_ne!(rt; OrMemory::<u8>::from(AllocError), OrMemory::Fault(0));
+    }
+
+    #[test]
+    fn limits_have_their_values(rt: HostRuntime) {
+        assert_eq!(rt; limits::TASKS, 64);
+        assert_eq!(rt; limits::WIRED_PORTS, 256);
+        assert_eq!(rt; limits::INTERFACES, 16);
+        assert_eq!(rt; limits::IDS, 100);
+        assert_eq!(rt; limits::ARGUMENTS, 32);
+        assert_eq!(rt; limits::LINES, 65_535);
+        assert_eq!(rt; limits::NAME, 64);
+        assert_eq!(rt; limits::FILE, 67_108_864);
+        assert_eq!(rt; limits::NUMBER, 2_147_483_647);
+        assert_eq!(rt; limits::MESSAGE, 8192);
+        assert_eq!(rt; limits::ITEMS, 8192);
+        assert_eq!(rt; limits::NAMES, 4096);
+        assert_eq!(rt; limits::REFERENCES, 65_535);
+        assert_eq!(rt; limits::PORTS, 65_536);
+        assert_eq!(rt; limits::BIRTHS, 281_474_976_710_656);
+        assert_eq!(rt; limits::FIRST_QUEUE, 5);
+        assert_eq!(rt; limits::QUEUE, 16);
     }
 }

@@ -3,8 +3,8 @@
 //! `mrc_bench WORK TIMES` prints what was done, on standard output. WORK is one of
 //!
 //! - `header`: a message of 24 bytes
-//! - `bytes`, `names`, `arguments`: a message of 8,192 bytes, with one argument of bytes, one of port names, or 1,021
-//!   arguments
+//! - `bytes`, `names`, `arguments`: a message of 8,192 bytes, with one argument of bytes, one of
+//! port names, or 1,021   arguments
 //! - `subsystem`: a MIG file of 100 routines with 32 arguments each
 //! - `comments`: a MIG file that is a comment of 64 MiB but for its first line
 #![tactic(auto)]

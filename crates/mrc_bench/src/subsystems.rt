@@ -1,6 +1,7 @@
 //! Large MIG files.
 
 use anyhow::{Result, anyhow};
+use mrc_base::limits;
 use mrc_interface::Interface;
 use mrc_mig_lex::lex;
 use mrc_mig_parse::parse;
@@ -12,9 +13,9 @@ const HEAD: &str = "subsystem large 1000;\n#include <mach/std_types.defs>\n";
 /// A file of 100 routines with 32 arguments each.
 pub fn routines(alloc: Global) -> Result<String> {
     let mut text = String::from_str(alloc, HEAD)?;
-    for routine in 0..100u32 {
+    for routine in 0..limits::IDS {
         write!(text, "routine r{routine}(server : mach_port_t")?;
-        for argument in 1..32u32 {
+        for argument in 1..limits::ARGUMENTS {
             write!(text, "; inout a{argument} : mach_port_move_send_t")?;
         }
         text.push_str(");\n")?;
@@ -38,7 +39,7 @@ fn once(text: &str, alloc: Global) -> Result<()> {
     let subsystem = parse(alloc, tokens.as_slice())?;
     match Interface::of(alloc, subsystem) {
         Ok(_) => Ok(()),
-        Err((_, fault)) => Err(anyhow!("{fault}")),
+        Err((_, refusal)) => Err(anyhow!("{refusal}")),
     }
 }
 

@@ -1,43 +1,40 @@
 -- Drafts as sets of facts.
-use Rattle.std.proofs.Common.{ℕ, List, [], ◌∷◌, sym, ap, subst, ◌∙◌, inl, inr, refl}
+use Rattle.std.proofs.Common.{ℕ, List, [], ◌∷◌, sym, ap, subst, ◌∙◌, inl, inr}
 use Rattle.std.specs.Prelude.{IsTrue}
 use Rattle.std.specs.List.{list_all}
-use Rattle.std.proofs.lemmas.Bool.{and_parts, and_from, or_cases, or_left, or_right}
+use Rattle.std.proofs.lemmas.Bool.{and_parts, or_cases}
 use Rattle.mrc_base.specs.declared.Fact.{Fact}
 use Rattle.mrc_classes.specs.Order.{is_same}
 use Rattle.mrc_classes.specs.Sets.{has}
-use Rattle.mrc_classes.proofs.Total.{same_itself, equal_from_same}
+use Rattle.mrc_classes.proofs.Total.{equal_from_same}
 use Rattle.mrc_classes.proofs.Members.{one_list}
-use Rattle.mrc_certificate.specs.Drafts.{is_within, AreWithin}
+use Rattle.mrc_base.proofs.Steps.{ok_is}
+use Rattle.mrc_certificate.specs.Drafts.{is_within}
 use Rattle.mrc_certificate.specs.Spelling.{spelling}
 use Rattle.mrc_certificate.specs.Reading.{draft_from}
 use Rattle.mrc_certificate.specs.Laws.{OneDraft, OneSpelling, EachIsWithin}
-use Rattle.mrc_certificate.proofs.Fields.{ok_is}
 use Rattle.mrc_certificate.proofs.Whole.{draft_again}
 
 pub one_draft : OneDraft
 one_draft bytes d e spells_d spells_e =
-    ok_is d e (sym (ap draft_from spells_d.bytes_are ∙ draft_again d spells_d.draft) ∙ ap draft_from spells_e.bytes_are ∙ draft_again e spells_e.draft)
+    ok_is d e (sym (ap draft_from spells_d.bytes_are ∙ draft_again d spells_d.draft)
+    ∙ ap draft_from spells_e.bytes_are ∙ draft_again e spells_e.draft)
 
 pub one_spelling : OneSpelling
 one_spelling d e is_d is_e tasks classes same =
     let facts = one_list d.facts e.facts is_d.ascending is_e.ascending same in
     ap (λ (n : ℕ). spelling (record { tasks = n; classes = d.classes; facts = d.facts })) tasks
     ∙ ap (λ (n : ℕ). spelling (record { tasks = e.tasks; classes = n; facts = d.facts })) classes
-    ∙ ap (λ (fs : List Fact). spelling (record { tasks = e.tasks; classes = e.classes; facts = fs })) facts
+    ∙ ap (λ (fs : List Fact). spelling (record
+    { tasks = e.tasks; classes = e.classes; facts = fs })) facts
 
 pub each_is_within : EachIsWithin
 each_is_within tasks classes [] within f member = absurd cc
 each_is_within tasks classes (g ∷ facts) within f member =
-    let parts = and_parts (is_within tasks classes g) (list_all (is_within tasks classes) facts) within in
+    let parts = and_parts (is_within tasks classes g) (list_all (is_within tasks classes) facts)
+    within in
     elim (or_cases (is_same f g) (has facts f) member) [
-      | inl same ↦ subst (λ (x : Fact). IsTrue (is_within tasks classes x)) (sym (equal_from_same f g same)) parts.0
+      | inl same ↦ subst (λ (x : Fact). IsTrue (is_within tasks classes x))
+          (sym (equal_from_same f g same)) parts.0
       | inr rest ↦ each_is_within tasks classes facts parts.1 f rest
     ]
-
--- from each member to all facts
-pub within_from_members : (tasks classes : ℕ) (facts : List Fact) → ((f : Fact) → IsTrue (has facts f) → IsTrue (is_within tasks classes f)) → AreWithin tasks classes facts
-within_from_members tasks classes [] each = refl
-within_from_members tasks classes (g ∷ facts) each =
-    and_from (is_within tasks classes g) (list_all (is_within tasks classes) facts) (each g (or_left (is_same g g) (has facts g) (same_itself g)))
-    (within_from_members tasks classes facts (λ f member. each f (or_right (is_same f g) (has facts f) member)))

@@ -16,8 +16,12 @@ OneDraft = (bytes : List ℕ) (d e : Content) → Spells bytes d → Spells byte
 
 -- drafts with the same counts and the same set of facts have one spelling
 abbrev pub OneSpelling : Type 0
-OneSpelling = (d e : Content) → IsDraft d → IsDraft e → d.tasks ≡ e.tasks → d.classes ≡ e.classes → ((f : Fact) → has d.facts f ≡ has e.facts f) → spelling d ≡ spelling e
+OneSpelling =
+    (d e : Content) → IsDraft d → IsDraft e → d.tasks ≡ e.tasks → d.classes ≡ e.classes
+    → ((f : Fact) → has d.facts f ≡ has e.facts f) → spelling d ≡ spelling e
 
 -- each fact of a draft is within its counts
 abbrev pub EachIsWithin : Type 0
-EachIsWithin = (tasks classes : ℕ) (facts : List Fact) → AreWithin tasks classes facts → (f : Fact) → IsTrue (has facts f) → IsTrue (is_within tasks classes f)
+EachIsWithin =
+    (tasks classes : ℕ) (facts : List Fact) → AreWithin tasks classes facts → (f : Fact)
+    → IsTrue (has facts f) → IsTrue (is_within tasks classes f)

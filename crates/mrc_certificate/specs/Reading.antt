@@ -1,5 +1,8 @@
--- Reading a certificate from left to right, with the first fault that is met. The profile's own choice.
-use Rattle.std.specs.Prelude.{◌≡◌, ℕ, zero, suc, ◌+◌, Bool, true, List, [], ◌∷◌, length, take, drop, Option, Some, None, Result, Ok, Err, nat_eq, nat_lt, ◌==◌, if◌then◌else◌}
+-- Reading a certificate from left to right, with the first fault that is met. The profile's own
+-- choice.
+use Rattle.std.specs.Prelude.{ℕ, zero, suc, ◌+◌, Bool, true, List, [], ◌∷◌, length, take, drop}
+use Rattle.std.specs.Prelude.{Option, Some, None, Result, Ok, Err, nat_eq, nat_lt, ◌==◌}
+use Rattle.std.specs.Prelude.{if◌then◌else◌}
 use Rattle.std.specs.Option.{option_map}
 use Rattle.std.specs.List.{starts_with}
 use Rattle.std.specs.Int.{Width, w16, w32, byte_len, from_be_bytes}
@@ -7,31 +10,14 @@ use Rattle.mrc_base.specs.declared.Fact.{Fact}
 use Rattle.mrc_base.specs.declared.Fact.TheVariants.{Hold, Carry, Backup}
 use Rattle.mrc_base.specs.declared.PortRight.{PortRight}
 use Rattle.mrc_base.specs.declared.PortRight.TheVariants.{Send, Receive, SendOnce}
+use Rattle.mrc_base.specs.Reading.{◌>>=◌}
 use Rattle.mrc_classes.specs.Order.{is_before}
 use Rattle.mrc_certificate.specs.declared.fault.DraftFault.{DraftFault}
-use Rattle.mrc_certificate.specs.declared.fault.DraftFault.TheVariants.{Magic, Version, Truncated, BadFact, NotAscending, Trailing, Memory}
+use Rattle.mrc_certificate.specs.declared.fault.DraftFault.TheVariants.{Magic, Version, Truncated}
+use Rattle.mrc_certificate.specs.declared.fault.DraftFault.TheVariants.{BadFact, NotAscending}
+use Rattle.mrc_certificate.specs.declared.fault.DraftFault.TheVariants.{Trailing}
 use Rattle.mrc_certificate.specs.Drafts.{Content, is_within}
 use Rattle.mrc_certificate.specs.Spelling.{magic}
-
-infixl 10 ◌>>=◌
-abbrev pub ◌>>=◌ : {A B : Type 0} → Result A DraftFault → (A → Result B DraftFault) → Result B DraftFault
-(Ok x) >>= f = f x
-(Err e) >>= f = Err e
-
--- the fault is the one that reading met, unless memory ran out
-abbrev pub Fails : {Y : Type 0} → DraftFault → Result Y DraftFault → Type 0
-Fails Memory read = Unit {0}
-Fails Magic read = read ≡ Err Magic
-Fails Version read = read ≡ Err Version
-Fails Truncated read = read ≡ Err Truncated
-Fails (BadFact at) read = read ≡ Err (BadFact at)
-Fails (NotAscending at) read = read ≡ Err (NotAscending at)
-Fails Trailing read = read ≡ Err Trailing
-
--- what was returned, seen by view, is what reading gives, unless memory ran out
-abbrev pub Gives : {X Y : Type 0} → (X → Y) → Result X DraftFault → Result Y DraftFault → Type 0
-Gives view (Ok x) read = read ≡ Ok (view x)
-Gives view (Err e) read = Fails e read
 
 -- the bytes behind the magic
 unfoldable pub behind_magic : List ℕ → Result (List ℕ) DraftFault
@@ -39,7 +25,9 @@ behind_magic bytes = if starts_with nat_eq bytes magic then Ok (drop 4 bytes) el
 
 -- a number, high byte first, and the bytes behind it
 abbrev pub number_at : Width → List ℕ → Result (ℕ × List ℕ) DraftFault
-number_at w bytes = if nat_lt (length bytes) (byte_len w) then Err Truncated else Ok (from_be_bytes w (take (byte_len w) bytes), drop (byte_len w) bytes)
+number_at w bytes =
+    if nat_lt (length bytes) (byte_len w) then Err Truncated else Ok
+    (from_be_bytes w (take (byte_len w) bytes), drop (byte_len w) bytes)
 
 -- the bytes behind version 1
 unfoldable pub behind_version : List ℕ → Result (List ℕ) DraftFault
@@ -54,10 +42,13 @@ right_from (suc zero) = Some Receive
 right_from (suc (suc zero)) = Some SendOnce
 right_from (suc (suc (suc n))) = None
 
--- the fact of a kind, two numbers and a last byte: kind 1 is a hold, 2 a carry, 3 a backup, which ends in 0
+-- the fact of a kind, two numbers and a last byte: kind 1 is a hold, 2 a carry, 3 a backup, which
+-- ends in 0
 abbrev pub fact_from : ℕ → ℕ → ℕ → ℕ → Option Fact
-fact_from (suc zero) first second last = option_map (λ right. Hold first second right) (right_from last)
-fact_from (suc (suc zero)) first second last = option_map (λ right. Carry first second right) (right_from last)
+fact_from (suc zero) first second last =
+    option_map (λ right. Hold first second right) (right_from last)
+fact_from (suc (suc zero)) first second last =
+    option_map (λ right. Carry first second right) (right_from last)
 fact_from (suc (suc (suc zero))) first second zero = Some (Backup first second)
 fact_from kind first second last = None
 
@@ -69,7 +60,8 @@ checked tasks classes at (Some f) = if is_within tasks classes f then Ok f else 
 -- the fact whose six bytes begin the bytes, which stand at the place at
 unfoldable pub fact_at : ℕ → ℕ → ℕ → List ℕ → Result Fact DraftFault
 fact_at tasks classes at (kind ∷ a ∷ b ∷ c ∷ d ∷ last ∷ rest) =
-    checked tasks classes at (fact_from kind (from_be_bytes w16 (a ∷ b ∷ [])) (from_be_bytes w16 (c ∷ d ∷ [])) last)
+    checked tasks classes at (fact_from kind (from_be_bytes w16 (a ∷ b ∷ []))
+    (from_be_bytes w16 (c ∷ d ∷ [])) last)
 fact_at tasks classes at bytes = Err Truncated
 
 -- whether the fact comes after the one before it
@@ -77,12 +69,16 @@ abbrev pub comes_after : Option Fact → Fact → Bool
 comes_after None f = true
 comes_after (Some g) f = is_before g f
 
--- so many facts from the place at on, the first of them after the one before it, each after the one before
-unfoldable pub facts_at : ℕ → ℕ → ℕ → ℕ → Option Fact → List ℕ → Result (List Fact × List ℕ) DraftFault
+-- the next facts, as many as the third argument says, and the bytes behind them. The bytes begin at
+-- the place at of the certificate, and before is the fact that stands in front of them, if any: the
+-- first fact has to come after it, and each other after the one in front
+unfoldable pub facts_at : ℕ → ℕ → ℕ → ℕ → Option Fact → List ℕ
+    → Result (List Fact × List ℕ) DraftFault
 facts_at tasks classes zero at before bytes = Ok ([], bytes)
 facts_at tasks classes (suc n) at before bytes = do
   f ← fact_at tasks classes at bytes
-  others ← if comes_after before f then facts_at tasks classes n (at + 6) (Some f) (drop 6 bytes) else Err (NotAscending at)
+  others ← if comes_after before f then facts_at tasks classes n (at + 6) (Some f) (drop 6 bytes)
+      else Err (NotAscending at)
   Ok (f ∷ others.0, others.1)
 
 -- the draft that all of the bytes spell
@@ -94,4 +90,5 @@ draft_from bytes = do
   classes ← number_at w16 tasks.1
   count ← number_at w32 classes.1
   facts ← facts_at tasks.0 classes.0 count.0 14 None count.1
-  if length facts.1 == 0 then Ok (record { tasks = tasks.0; classes = classes.0; facts = facts.0 }) else Err Trailing
+  if length facts.1 == 0 then Ok (record { tasks = tasks.0; classes = classes.0; facts = facts.0 })
+      else Err Trailing

@@ -21,7 +21,9 @@ facts_bytes facts = flat_map fact_bytes facts
 
 -- the magic, version 1, the three numbers, all high byte first, and the facts
 abbrev pub spelling : Content → List ℕ
-spelling d = magic ++ to_be_bytes w16 1 ++ to_be_bytes w16 d.tasks ++ to_be_bytes w16 d.classes ++ to_be_bytes w32 (length d.facts) ++ facts_bytes d.facts
+spelling d =
+    magic ++ to_be_bytes w16 1 ++ to_be_bytes w16 d.tasks ++ to_be_bytes w16 d.classes ++
+    to_be_bytes w32 (length d.facts) ++ facts_bytes d.facts
 
 -- the bytes are those of the draft
 pub record Spells (bytes : List ℕ) (d : Content) : Type 0 where

@@ -1,14 +1,14 @@
 //! What a certificate claims.
 
-ghost use Rattle.std.specs.Prelude.{◌≡◌, ◌^◌, ◌<◌, length, IsTrue};
-ghost use Rattle.mrc_base.specs.declared.Fact.{Fact};
-ghost use Rattle.mrc_classes.specs.Sets.{has, IsAscending};
+ghost use Rattle.std.specs.Prelude.{◌≡◌, ◌^◌, ◌<◌, ◌↔◌, length, IsSome, IfSome};
+ghost use Rattle.std.specs.List.{list_all};
+ghost use Rattle.mrc_classes.specs.Sets.{IsAscending};
 ghost use Rattle.mrc_certificate.specs.Drafts.{is_within, AreWithin};
 
-use mrc_classes::Facts;
+use mrc_classes::{Fact, Facts};
 
-/// What a certificate claims of a wired system: how many tasks and classes it has, and what may come
-/// about in it. Its facts are holds of those tasks and classes, fewer than 2^32 of them.
+/// What a certificate claims of a wired system: how many tasks and classes it has, and what may
+/// come about in it. Its facts are holds of those tasks and classes, fewer than 2^32 of them.
 #[derive(Debug, Drop)]
 pub struct Draft {
     /// How many tasks there are.
@@ -22,20 +22,41 @@ pub struct Draft {
     pub ghost few: { length facts < 2 ^ 32 },
 }
 
+/// Whether the fact is a hold of one of so many tasks and one of so many classes.
+pub(crate) fn is_within(tasks: u16, classes: u16, fact: &Fact) -> bool
+    ensures { result ≡ is_within tasks classes fact.now }
+{
+    match *fact {
+        Fact::Hold { task, class, .. } => task < tasks && class.0 < classes,
+        Fact::Carry { .. } | Fact::Backup { .. } => false,
+    }
+}
+
+fn are_within(tasks: u16, classes: u16, facts: &Facts) -> bool
+    ensures { result ≡ list_all (is_within tasks classes) facts.now }
+{
+    facts.iter().all(|fact| is_within(tasks, classes, fact))
+}
+
 impl Draft {
-    /// The draft of these counts and facts.
-    pub fn new(tasks: u16, classes: u16, facts: Facts) -> Draft
-        requires ascending { IsAscending facts }
-        requires within { (f : Fact) → IsTrue (has facts f) → IsTrue (is_within tasks classes f) }
-        requires few { length facts < 2 ^ 32 }
-        ensures tasks { result.tasks ≡ tasks }
-        ensures classes { result.classes ≡ classes }
-        ensures facts { result.facts ≡ facts }
+    ghost use Rattle.mrc_certificate.specs.Spelling.{content};
+
+    /// The draft of these counts and facts. There is none where a fact is no hold of those tasks
+    /// and classes, or where there are 2^32 facts or more.
+    pub fn new(tasks: u16, classes: u16, facts: Facts) -> Option<Draft>
+        // The draft is made exactly where the facts are holds within the counts, and few enough.
+        ensures some { IsSome result ↔ (AreWithin tasks classes facts × (length facts < 2 ^ 32)) }
+        // What it says.
+        ensures exact { IfSome result (λ d.
+            content d ≡ record { tasks = tasks; classes = classes; facts = facts }) }
     {
-        Draft {
+        if !are_within(tasks, classes, &facts) || facts.len() > u32::MAX as usize {
+            return None;
+        }
+        Some(Draft {
             tasks,
             classes,
             facts,
-        }
+        })
     }
 }

@@ -1,9 +1,5 @@
 //! Why bytes are no certificate.
 
-ghost use Rattle.std.specs.Prelude.{◌≡◌};
-ghost use Rattle.mrc_certificate.specs.declared.fault.DraftFault.TheVariants.{Memory};
-
-use std::alloc::{AllocError, AllocFailed};
 use thiserror::Error;
 
 /// Why a certificate could not be read: the first fault of its bytes. A place is that of a fact's
@@ -28,23 +24,4 @@ pub enum DraftFault {
     /// Bytes stand behind the last fact.
     #[error("Trailing")]
     Trailing,
-    /// Memory ran out.
-    #[error("Memory")]
-    Memory,
-}
-
-impl From<AllocError> for DraftFault {
-    ghost from_gives = { λ _ e. e ≡ Memory };
-
-    fn from(_e: AllocError) -> DraftFault {
-        DraftFault::Memory
-    }
-}
-
-impl<T: Drop> From<AllocFailed<T>> for DraftFault {
-    ghost from_gives = { λ _ e. e ≡ Memory };
-
-    fn from(_e: AllocFailed<T>) -> DraftFault {
-        DraftFault::Memory
-    }
 }

@@ -1,13 +1,16 @@
 ghost use Rattle.std.specs.Prelude.{◌≡◌, ◌≤◌, length, IfOk, OnOk};
 ghost use Rattle.std.specs.Int.{w16, w32};
+ghost use Rattle.mrc_base.specs.Reading.{Gives};
 ghost use Rattle.mrc_classes.specs.Sets.{IsAscending};
 ghost use Rattle.mrc_certificate.specs.Drafts.{Content, is_within, AreWithin};
 ghost use Rattle.mrc_certificate.specs.Spelling.{content, Spells};
-ghost use Rattle.mrc_certificate.specs.Reading.{Gives, behind_magic, behind_version, number_at, right_from, fact_from, fact_at, comes_after, facts_at, draft_from};
+ghost use Rattle.mrc_certificate.specs.Reading.{behind_magic, behind_version, number_at};
+ghost use Rattle.mrc_certificate.specs.Reading.{right_from, fact_from, fact_at, comes_after};
+ghost use Rattle.mrc_certificate.specs.Reading.{facts_at, draft_from};
 
-use crate::draft::Draft;
+use crate::draft::{Draft, is_within};
 use crate::fault::DraftFault;
-use mrc_base::{ClassId, PortRight};
+use mrc_base::{ClassId, OrMemory, PortRight};
 use mrc_classes::{Fact, Facts};
 use std::alloc::Global;
 
@@ -15,30 +18,30 @@ use std::alloc::Global;
 const HEADER: usize = 14;
 
 #[tactic(auto, unfolding(crate::specs::Reading::behind_magic))]
-fn after_magic(bytes: &[u8]) -> Result<&[u8], DraftFault>
+fn behind_magic(bytes: &[u8]) -> Result<&[u8], OrMemory<DraftFault>>
     ensures { Gives (λ rest. rest.now) result (behind_magic bytes.now) }
 {
     if !bytes.starts_with(b"MRCC") {
-        return Err(DraftFault::Magic);
+        return Err(OrMemory::Fault(DraftFault::Magic));
     }
     Ok(&bytes[4..])
 }
 
-fn u16_at(bytes: &[u8]) -> Result<(u16, &[u8]), DraftFault>
+fn u16_at(bytes: &[u8]) -> Result<(u16, &[u8]), OrMemory<DraftFault>>
     ensures { Gives (λ x. (x.0, x.1.now)) result (number_at w16 bytes.now) }
 {
     if bytes.len() < 2 {
-        return Err(DraftFault::Truncated);
+        return Err(OrMemory::Fault(DraftFault::Truncated));
     }
     let (front, rest) = bytes.split_at(2);
     Ok((u16::from_be_bytes([front[0], front[1]]), rest))
 }
 
-fn u32_at(bytes: &[u8]) -> Result<(u32, &[u8]), DraftFault>
+fn u32_at(bytes: &[u8]) -> Result<(u32, &[u8]), OrMemory<DraftFault>>
     ensures { Gives (λ x. (x.0, x.1.now)) result (number_at w32 bytes.now) }
 {
     if bytes.len() < 4 {
-        return Err(DraftFault::Truncated);
+        return Err(OrMemory::Fault(DraftFault::Truncated));
     }
     let (front, rest) = bytes.split_at(4);
     let number = u32::from_be_bytes([front[0], front[1], front[2], front[3]]);
@@ -46,17 +49,17 @@ fn u32_at(bytes: &[u8]) -> Result<(u32, &[u8]), DraftFault>
 }
 
 #[tactic(auto, unfolding(crate::specs::Reading::behind_version))]
-fn after_version(bytes: &[u8]) -> Result<&[u8], DraftFault>
+fn behind_version(bytes: &[u8]) -> Result<&[u8], OrMemory<DraftFault>>
     ensures { Gives (λ rest. rest.now) result (behind_version bytes.now) }
 {
     let (version, rest) = u16_at(bytes)?;
     if version != 1 {
-        return Err(DraftFault::Version);
+        return Err(OrMemory::Fault(DraftFault::Version));
     }
     Ok(rest)
 }
 
-fn right_of(number: u8) -> Option<PortRight>
+fn right_from(number: u8) -> Option<PortRight>
     ensures { result ≡ right_from number }
 {
     match number {
@@ -67,19 +70,19 @@ fn right_of(number: u8) -> Option<PortRight>
     }
 }
 
-fn fact_of(kind: u8, first: u16, second: u16, last: u8) -> Option<Fact>
+fn fact_from(kind: u8, first: u16, second: u16, last: u8) -> Option<Fact>
     ensures { result ≡ fact_from kind first second last }
 {
     match kind {
         1 => Some(Fact::Hold {
             task: first,
             class: ClassId(second),
-            right: right_of(last)?,
+            right: right_from(last)?,
         }),
         2 => Some(Fact::Carry {
             destination: ClassId(first),
             class: ClassId(second),
-            right: right_of(last)?,
+            right: right_from(last)?,
         }),
         3 if last == 0 => Some(Fact::Backup {
             class: ClassId(first),
@@ -89,35 +92,26 @@ fn fact_of(kind: u8, first: u16, second: u16, last: u8) -> Option<Fact>
     }
 }
 
-fn fits_counts(tasks: u16, classes: u16, fact: &Fact) -> bool
-    ensures { result ≡ is_within tasks classes fact.now }
-{
-    match *fact {
-        Fact::Hold { task, class, .. } => task < tasks && class.0 < classes,
-        Fact::Carry { .. } | Fact::Backup { .. } => false,
-    }
-}
-
 #[tactic(auto, unfolding(crate::specs::Reading::fact_at))]
-fn fact_at(tasks: u16, classes: u16, at: usize, bytes: &[u8]) -> Result<Fact, DraftFault>
-    ensures exact { Gives (λ fact. fact) result (fact_at tasks classes at bytes.now) }
+fn fact_at(tasks: u16, classes: u16, at: usize, bytes: &[u8]) -> Result<Fact, OrMemory<DraftFault>>
+    ensures fault { Gives (λ fact. fact) result (fact_at tasks classes at bytes.now) }
     ensures long { OnOk result (6 ≤ length bytes.now) }
 {
     let [kind, a, b, c, d, last, ..] = bytes else {
-        return Err(DraftFault::Truncated);
+        return Err(OrMemory::Fault(DraftFault::Truncated));
     };
     let first = u16::from_be_bytes([*a, *b]);
     let second = u16::from_be_bytes([*c, *d]);
-    let Some(fact) = fact_of(*kind, first, second, *last) else {
-        return Err(DraftFault::BadFact(at));
+    let Some(fact) = fact_from(*kind, first, second, *last) else {
+        return Err(OrMemory::Fault(DraftFault::BadFact(at)));
     };
-    if !fits_counts(tasks, classes, &fact) {
-        return Err(DraftFault::BadFact(at));
+    if !is_within(tasks, classes, &fact) {
+        return Err(OrMemory::Fault(DraftFault::BadFact(at)));
     }
     Ok(fact)
 }
 
-fn is_next(before: Option<Fact>, fact: &Fact) -> bool
+fn comes_after(before: Option<Fact>, fact: &Fact) -> bool
     ensures { result ≡ comes_after before fact.now }
 {
     match before {
@@ -126,14 +120,15 @@ fn is_next(before: Option<Fact>, fact: &Fact) -> bool
     }
 }
 
-fn facts_from(
+fn facts_at(
     alloc: Global,
     tasks: u16,
     classes: u16,
     count: u32,
     bytes: &[u8],
-) -> Result<(Facts, &[u8]), DraftFault>
-    ensures exact { Gives (λ x. (x.0, x.1.now)) result (facts_at tasks classes count 14 None bytes.now) }
+) -> Result<(Facts, &[u8]), OrMemory<DraftFault>>
+    ensures fault { Gives (λ x. (x.0, x.1.now)) result
+        (facts_at tasks classes count 14 None bytes.now) }
     ensures ascending { IfOk result (λ x. IsAscending x.0) }
     ensures within { IfOk result (λ x. AreWithin tasks classes x.0) }
     ensures len { IfOk result (λ x. length x.0 ≡ count) }
@@ -144,8 +139,8 @@ fn facts_from(
     let mut at = HEADER;
     for _ in 0..count {
         let fact = fact_at(tasks, classes, at, rest)?;
-        if !is_next(before, &fact) {
-            return Err(DraftFault::NotAscending(at));
+        if !comes_after(before, &fact) {
+            return Err(OrMemory::Fault(DraftFault::NotAscending(at)));
         }
         let _ = facts.insert(fact)?;
         before = Some(fact);
@@ -156,17 +151,17 @@ fn facts_from(
 }
 
 #[tactic(auto, unfolding(crate::specs::Reading::draft_from))]
-fn read_whole(alloc: Global, bytes: &[u8]) -> Result<Draft, DraftFault>
+fn draft_from(alloc: Global, bytes: &[u8]) -> Result<Draft, OrMemory<DraftFault>>
     ensures { Gives content result (draft_from bytes.now) }
 {
-    let rest = after_magic(bytes)?;
-    let rest = after_version(rest)?;
+    let rest = behind_magic(bytes)?;
+    let rest = behind_version(rest)?;
     let (tasks, rest) = u16_at(rest)?;
     let (classes, rest) = u16_at(rest)?;
     let (count, rest) = u32_at(rest)?;
-    let (facts, rest) = facts_from(alloc, tasks, classes, count, rest)?;
+    let (facts, rest) = facts_at(alloc, tasks, classes, count, rest)?;
     if !rest.is_empty() {
-        return Err(DraftFault::Trailing);
+        return Err(OrMemory::Fault(DraftFault::Trailing));
     }
     Ok(Draft {
         tasks,
@@ -175,17 +170,17 @@ fn read_whole(alloc: Global, bytes: &[u8]) -> Result<Draft, DraftFault>
     })
 }
 
-/// The draft that the bytes spell, all of the bytes. Of several faults it answers the first from left
-/// to right: at each fact first that it is cut off, then that it is none within the counts, then that
-/// it does not come after the one before. Bytes that end within the header are truncated, if their
-/// first four and their version, as far as they are there, are right.
-pub fn read_draft(alloc: Global, bytes: &[u8]) -> Result<Draft, DraftFault>
+/// The draft that the bytes spell, all of the bytes. Of several faults it answers the first from
+/// left to right: at each fact first that it is cut off, then that it is none within the counts,
+/// then that it does not come after the one before. Bytes that end within the header are truncated,
+/// if their first four and their version, as far as they are there, are right.
+pub fn read_draft(alloc: Global, bytes: &[u8]) -> Result<Draft, OrMemory<DraftFault>>
     // What is read is spelled so.
     ensures found { IfOk result (λ draft. Spells bytes.now (content draft)) }
     // What is spelled so is read, unless memory runs out.
     ensures only { (d : Content) → Spells bytes.now d → Gives content result (Ok d) }
-    // Which fault it is.
-    ensures exact { Gives content result (draft_from bytes.now) }
+    // Which fault it is: the first.
+    ensures fault { Gives content result (draft_from bytes.now) }
 {
-    read_whole(alloc, bytes)
+    draft_from(alloc, bytes)
 }

@@ -2,7 +2,7 @@ ghost use Rattle.std.specs.Prelude.{◌≡◌};
 ghost use Rattle.mrc_base.specs.declared.Fact.{Fact};
 
 use super::*;
-use mrc_base::{ClassId, PortRight};
+use mrc_base::{ClassId, OrMemory, PortRight};
 use mrc_classes::{Fact, Facts};
 use std::alloc::{AllocError, Global};
 use std::process::Abort;
@@ -45,14 +45,14 @@ fn hold(class: u16, right: PortRight) -> Fact
     }
 }
 
-/// What a task alone can come by.
-fn alone(alloc: Global) -> Result<Draft, AllocError> {
+/// The facts of a task alone, put in out of order.
+fn alone_facts(alloc: Global) -> Result<Facts, AllocError> {
     let mut facts = Facts::new(alloc);
     let _ = facts.insert(hold(1, PortRight::SendOnce))?;
     let _ = facts.insert(hold(0, PortRight::Send))?;
     let _ = facts.insert(hold(1, PortRight::Receive))?;
     let _ = facts.insert(hold(1, PortRight::Send))?;
-    Ok(Draft::new(1, 2, facts))
+    Ok(facts)
 }
 
 /// The bytes with the one at this place changed.
@@ -75,7 +75,7 @@ fn in_order(alloc: Global, order: &[usize]) -> Result<Vec<u8>, AllocError> {
     Ok(bytes)
 }
 
-fn fault_of(rt: &(impl Abort + AllocGlobal), bytes: &[u8]) -> DraftFault {
+fn fault_of(rt: &(impl Abort + AllocGlobal), bytes: &[u8]) -> OrMemory<DraftFault> {
     match read_draft(rt.alloc(), bytes) {
         Ok(_) => panic!(rt; "{bytes:?} is read"),
         Err(fault) => fault,
@@ -84,9 +84,16 @@ fn fault_of(rt: &(impl Abort + AllocGlobal), bytes: &[u8]) -> DraftFault {
 
 #[test]
 fn a_task_alone_is_written(rt: HostRuntime) -> Result<(), Fail> {
-    let draft = alone(rt.alloc())?;
+    let draft = Draft::new(1, 2, alone_facts(rt.alloc())?).ok_or("no draft")?;
     let bytes = write_draft(rt.alloc(), &draft)?;
     assert_eq!(rt; bytes.as_slice(), ALONE.as_slice());
+    Ok(())
+}
+
+#[test]
+fn facts_beyond_the_counts_make_no_draft(rt: HostRuntime) -> Result<(), Fail> {
+    assert!(rt; Draft::new(1, 1, alone_facts(rt.alloc())?).is_none());
+    assert!(rt; Draft::new(0, 2, alone_facts(rt.alloc())?).is_none());
     Ok(())
 }
 
@@ -129,7 +136,7 @@ fn facts_have_their_order(rt: HostRuntime) -> Result<(), Fail> {
     ];
     for (order, fault) in table {
         let bytes = in_order(rt.alloc(), &order)?;
-        assert_eq!(rt; fault_of(&rt, &bytes), fault, "{order:?}");
+        assert_eq!(rt; fault_of(&rt, &bytes), OrMemory::Fault(fault), "{order:?}");
     }
     Ok(())
 }
@@ -138,7 +145,10 @@ fn facts_have_their_order(rt: HostRuntime) -> Result<(), Fail> {
 fn nothing_stands_behind(rt: HostRuntime) -> Result<(), Fail> {
     let mut bytes = Vec::from_slice(rt.alloc(), &ALONE)?;
     bytes.push(0)?;
-    assert_eq!(rt; fault_of(&rt, &bytes), DraftFault::Trailing);
+    assert_eq!(rt;
+        fault_of(&rt, &bytes),
+        OrMemory::Fault(DraftFault::Trailing)
+    );
     Ok(())
 }
 
@@ -168,7 +178,11 @@ fn each_byte_is_read(rt: HostRuntime) -> Result<(), Fail> {
     ];
     for (at, byte, fault) in table {
         let bytes = changed(rt.alloc(), &ALONE, at, byte)?;
-        assert_eq!(rt; fault_of(&rt, &bytes), fault, "{byte} at {at}");
+        assert_eq!(rt;
+            fault_of(&rt, &bytes),
+            OrMemory::Fault(fault),
+            "{byte} at {at}"
+        );
     }
     Ok(())
 }
@@ -181,7 +195,11 @@ fn prefixes_are_refused(rt: HostRuntime) {
         } else {
             DraftFault::Truncated
         };
-        assert_eq!(rt; fault_of(&rt, &ALONE[..n]), fault, "{n} bytes");
+        assert_eq!(rt;
+            fault_of(&rt, &ALONE[..n]),
+            OrMemory::Fault(fault),
+            "{n} bytes"
+        );
     }
     for (n, _) in CARRIES.iter().enumerate() {
         let fault = if n < 4 {
@@ -191,11 +209,21 @@ fn prefixes_are_refused(rt: HostRuntime) {
         } else {
             DraftFault::BadFact(98)
         };
-        assert_eq!(rt; fault_of(&rt, &CARRIES[..n]), fault, "{n} bytes");
+        assert_eq!(rt;
+            fault_of(&rt, &CARRIES[..n]),
+            OrMemory::Fault(fault),
+            "{n} bytes"
+        );
     }
-    assert_eq!(rt; fault_of(&rt, b"MRCD"), DraftFault::Magic);
-    assert_eq!(rt; fault_of(&rt, b"MRCC\xff"), DraftFault::Truncated);
-    assert_eq!(rt; fault_of(&rt, b"MRCC\x00\x02"), DraftFault::Version);
+    assert_eq!(rt; fault_of(&rt, b"MRCD"), OrMemory::Fault(DraftFault::Magic));
+    assert_eq!(rt;
+        fault_of(&rt, b"MRCC\xff"),
+        OrMemory::Fault(DraftFault::Truncated)
+    );
+    assert_eq!(rt;
+        fault_of(&rt, b"MRCC\x00\x02"),
+        OrMemory::Fault(DraftFault::Version)
+    );
 }
 
 #[test]
@@ -207,7 +235,6 @@ fn faults_are_printed(rt: HostRuntime) -> Result<(), Fail> {
         (DraftFault::BadFact(14), "BadFact 14"),
         (DraftFault::NotAscending(26), "NotAscending 26"),
         (DraftFault::Trailing, "Trailing"),
-        (DraftFault::Memory, "Memory"),
     ];
     for (fault, text) in table {
         let printed = fault.to_string(rt.alloc())?;
@@ -225,7 +252,7 @@ fn memory_that_runs_out_is_told(rt: HostRuntime) {
                 assert_eq!(rt; bytes.as_slice(), ALONE.as_slice());
             }
         }
-        Err(fault) => assert_eq!(rt; fault, DraftFault::Memory),
+        Err(fault) => assert_eq!(rt; fault, OrMemory::Memory),
     }
 }
 

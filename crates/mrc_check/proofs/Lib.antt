@@ -1,4 +1,3 @@
-pub mod Refuted
 pub mod Bridge
 pub mod FourTests
 pub mod Gathered

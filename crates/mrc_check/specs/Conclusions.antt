@@ -1,5 +1,5 @@
--- Which holds the rules conclude from a set of holds, where no message and no request carries a right.
--- The profile's own choice.
+-- Which holds the rules conclude from a set of holds, where no message and no request carries a
+-- right. The profile's own choice.
 use Rattle.std.specs.Prelude.{◌≡◌, ℕ, ◌+◌, ◌<◌, Bool, true, false, not, ◌||◌, List, IsTrue}
 use Rattle.mrc_base.specs.declared.Fact.{Fact}
 use Rattle.mrc_base.specs.declared.Fact.TheVariants.{Hold}
@@ -10,13 +10,15 @@ use Rattle.mrc_classes.specs.Sets.{has}
 use Rattle.mrc_check.specs.declared.rules.HoldRule.{HoldRule}
 use Rattle.mrc_check.specs.declared.rules.HoldRule.TheVariants.{First, Births, Weaker, KernelPort}
 
--- what the rules are read against: the numbers of tasks and of classes, the first holds, and the set
+-- what the tests of the rules look at: the numbers of tasks and of classes, what the tasks hold at
+-- first, and the set of facts that is to have each conclusion of the rules
 pub record Setting : Type 0 where
   pub tasks : ℕ
   pub classes : ℕ
   pub first : List Fact
   pub facts : List Fact
 
+-- whether it is a receive right
 abbrev pub is_receive : PortRight → Bool
 is_receive Send = false
 is_receive Receive = true
@@ -31,7 +33,8 @@ abbrev pub Concludes : Setting → HoldRule → ℕ → ℕ → PortRight → Ty
 Concludes s First t c r = IsTrue (has s.first (Hold t c r))
 Concludes s Births t c r = (c ≡ s.tasks + t) × (r ≡ Receive)
 Concludes s Weaker t c r = IsTrue (not (is_receive r)) × IsTrue (has s.facts (Hold t c Receive))
-Concludes s KernelPort t c r = (u : ℕ) × (u < s.tasks) × IsTrue (are_linked s.facts t u) × IsTrue (has s.facts (Hold u c r))
+Concludes s KernelPort t c r =
+    (u : ℕ) × (u < s.tasks) × IsTrue (are_linked s.facts t u) × IsTrue (has s.facts (Hold u c r))
 
 -- the rule concludes it, and the set lacks it
 pub record Lacks (s : Setting) (rule : HoldRule) (t c : ℕ) (r : PortRight) : Type 0 where
@@ -47,11 +50,13 @@ pub record IsFirstLack (s : Setting) (rule : HoldRule) (f : Fact) : Type 0 where
   pub task_there : task < s.tasks
   pub class_there : class < s.classes
   pub lacks : Lacks s rule task class right
-  pub least : (t c : ℕ) (r : PortRight) → t < s.tasks → c < s.classes → Lacks s rule t c r → is_before (Hold t c r) f ≡ false
+  pub least : (t c : ℕ) (r : PortRight) → t < s.tasks → c < s.classes → Lacks s rule t c r
+      → is_before (Hold t c r) f ≡ false
 
 -- the set has each hold over the tasks and classes that the rule concludes
 abbrev pub LacksNothing : Setting → HoldRule → Type 0
-LacksNothing s rule = (t c : ℕ) (r : PortRight) → t < s.tasks → c < s.classes → Lacks s rule t c r → ⊥
+LacksNothing s rule =
+    (t c : ℕ) (r : PortRight) → t < s.tasks → c < s.classes → Lacks s rule t c r → ⊥
 
 -- the rule's number
 abbrev pub rule_number : HoldRule → ℕ

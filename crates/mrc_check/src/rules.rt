@@ -1,10 +1,11 @@
 //! The rules that can conclude something where no message and no request carries a right.
 
-ghost use Rattle.std.specs.Prelude.{◌≡◌, ◌+◌, ◌*◌, ◌<◌, ◌≤◌, ◌↔◌, ◌^◌, IsTrue, ℕ, IfSome, IfNone};
+ghost use Rattle.std.specs.Prelude.{◌≡◌, ◌<◌, ◌↔◌, IsTrue, ℕ, IfSome, IfNone};
 ghost use Rattle.mrc_base.specs.declared.PortRight.{PortRight};
 ghost use Rattle.mrc_classes.specs.Order.{right_number};
 ghost use Rattle.mrc_check.specs.declared.rules.HoldRule.{HoldRule};
-ghost use Rattle.mrc_check.specs.Conclusions.{Concludes, are_linked, is_receive, Lacks, LacksNothing, IsFirstLack, rule_number};
+ghost use Rattle.mrc_check.specs.Conclusions.{Concludes, are_linked, is_receive, Lacks};
+ghost use Rattle.mrc_check.specs.Conclusions.{LacksNothing, IsFirstLack, rule_number};
 
 use mrc_base::{ClassId, Fact, PortRight};
 use mrc_classes::Facts;
@@ -37,10 +38,13 @@ impl HoldRule {
     }
 }
 
-/// What the rules are read against.
+/// What the tests of the rules look at: the numbers of tasks and of classes, what the tasks hold at
+/// first, and the set of facts that is to have each conclusion of the rules.
 #[derive(Drop)]
-pub struct Checked<'a> {
+pub struct Setting<'a> {
+    /// How many tasks there are.
     pub tasks: u16,
+    /// How many classes of ports there are.
     pub classes: u16,
     /// What the tasks hold at first.
     pub first: &'a Facts,
@@ -48,12 +52,17 @@ pub struct Checked<'a> {
     pub facts: &'a Facts,
 }
 
-impl<'a> Model for Checked<'a> {
+impl<'a> Model for Setting<'a> {
     ghost use Rattle.mrc_check.specs.Conclusions.{Setting};
 
     ghost Value = { Setting };
 
-    ghost view = { λ s. record { tasks = s.tasks; classes = s.classes; first = s.first.now; facts = s.facts.now } };
+    ghost view = { λ s. record {
+      tasks = s.tasks;
+      classes = s.classes;
+      first = s.first.now;
+      facts = s.facts.now;
+    } };
 }
 
 fn hold(task: u16, class: u16, right: PortRight) -> Fact
@@ -81,7 +90,7 @@ fn are_linked(facts: &Facts, one: u16, other: u16) -> bool
     facts.has(&hold(one, other, PortRight::Send)) || facts.has(&hold(other, one, PortRight::Send))
 }
 
-impl<'a> Checked<'a> {
+impl<'a> Setting<'a> {
     ghost use Rattle.mrc_check.specs.declared.rules.HoldRule.TheVariants.{KernelPort};
 
     fn is_shared(&self, task: u16, class: u16, right: PortRight) -> bool
@@ -114,10 +123,12 @@ impl<'a> Checked<'a> {
         !self.facts.has(&hold(task, class, right)) && self.concludes(rule, task, class, right)
     }
 
-    /// The first of the three rights that the rule concludes at a task and a class, and that the set lacks.
+    /// The first of the three rights that the rule concludes at a task and a class, and that the
+    /// set lacks.
     fn lacking_right(&self, rule: HoldRule, task: u16, class: u16) -> Option<PortRight>
         ensures found { IfSome result (λ r. Lacks self.now rule task class r) }
-        ensures least { IfSome result (λ r. (q : PortRight) → right_number q < right_number r → Lacks self.now rule task class q → ⊥) }
+        ensures least { IfSome result (λ r. (q : PortRight) → right_number q < right_number r →
+            Lacks self.now rule task class q → ⊥) }
         ensures none { IfNone result ((q : PortRight) → Lacks self.now rule task class q → ⊥) }
     {
         if self.lacks(rule, task, class, PortRight::Send) {
@@ -131,12 +142,17 @@ impl<'a> Checked<'a> {
         }
     }
 
-    /// The first class at which the rule concludes a right for the task that the set lacks, and that right.
+    /// The first class at which the rule concludes a right for the task that the set lacks, and
+    /// that right.
     fn lacking_class(&self, rule: HoldRule, task: u16) -> Option<(u16, PortRight)>
-        ensures found { IfSome result (λ f. (f.0 < self.now.classes) × Lacks self.now rule task f.0 f.1) }
-        ensures least { IfSome result (λ f. (c : ℕ) (q : PortRight) → c < f.0 → Lacks self.now rule task c q → ⊥) }
-        ensures least_right { IfSome result (λ f. (q : PortRight) → right_number q < right_number f.1 → Lacks self.now rule task f.0 q → ⊥) }
-        ensures none { IfNone result ((c : ℕ) (q : PortRight) → c < self.now.classes → Lacks self.now rule task c q → ⊥) }
+        ensures found { IfSome result (λ f.
+            (f.0 < self.now.classes) × Lacks self.now rule task f.0 f.1) }
+        ensures least { IfSome result (λ f. (c : ℕ) (q : PortRight) → c < f.0 →
+            Lacks self.now rule task c q → ⊥) }
+        ensures least_right { IfSome result (λ f. (q : PortRight) →
+            right_number q < right_number f.1 → Lacks self.now rule task f.0 q → ⊥) }
+        ensures none { IfNone result ((c : ℕ) (q : PortRight) → c < self.now.classes →
+            Lacks self.now rule task c q → ⊥) }
     {
         for class in 0..self.classes {
             if let Some(right) = self.lacking_right(rule, task, class) {
@@ -162,7 +178,8 @@ impl<'a> Checked<'a> {
     /// The first lack: of least rule, and then the least fact.
     pub fn violation(&self) -> Option<(HoldRule, Fact)>
         ensures found { IfSome result (λ v. IsFirstLack self.now v.0 v.1) }
-        ensures earlier { IfSome result (λ v. (rule : HoldRule) → rule_number rule < rule_number v.0 → LacksNothing self.now rule) }
+        ensures earlier { IfSome result (λ v. (rule : HoldRule) →
+            rule_number rule < rule_number v.0 → LacksNothing self.now rule) }
         ensures none { IfNone result ((rule : HoldRule) → LacksNothing self.now rule) }
     {
         if let Some(fact) = self.first_lack(HoldRule::First) {

@@ -2,10 +2,10 @@ ghost use Rattle.std.specs.Prelude.{◌≡◌};
 ghost use Rattle.mrc_base.specs.declared.Fact.{Fact};
 
 use super::*;
-use mrc_base::{ClassId, Fact, PortRight, TaskId};
-use mrc_certificate::{DraftFault, read_draft};
-use mrc_wiring::{Claim, ClaimFault, ResolveFault, Wired};
-use mrc_wiring_text::{TextFault, read_policy, read_wiring};
+use mrc_base::{ClassId, Fact, OrMemory, PortRight, TaskId};
+use mrc_certificate::read_draft;
+use mrc_wiring::{Claim, Wired};
+use mrc_wiring_text::{read_policy, read_wiring};
 use std::alloc::{AllocError, Global};
 use std::fmt::Write;
 use std::process::Abort;
@@ -32,8 +32,8 @@ const NOBODY: [u8; 14] = [
     0x4d, 0x52, 0x43, 0x43, 0x00, 0x01, 0x00, 0x00, 0x00, 0x00, 0x00, 0x00, 0x00, 0x00,
 ];
 
-/// What two tasks may come to hold where one has a send right to the other's kernel port: task, class
-/// and right, by numbers.
+/// What two tasks may come to hold where one has a send right to the other's kernel port: task,
+/// class and right, by numbers.
 const BOTH: [(u8, u8, u8); 16] = [
     (0, 0, 0),
     (0, 1, 0),
@@ -76,7 +76,8 @@ fn hold(task: u16, class: u16, right: PortRight) -> Fact
     }
 }
 
-/// The bytes of a certificate: the numbers of tasks, classes and facts, and the facts, each of which is a hold.
+/// The bytes of a certificate: the numbers of tasks, classes and facts, and the facts, each of
+/// which is a hold.
 fn certificate(
     alloc: Global,
     tasks: u8,
@@ -102,10 +103,13 @@ fn answer(
 ) -> Result<String, AllocError> {
     match check_texts(alloc, wiring, policy, certificate) {
         Ok(_) => String::from_str(alloc, "accepted"),
-        Err(TextsFault::Wiring(fault)) => format!(in alloc; "wiring {fault}"),
-        Err(TextsFault::Policy(fault)) => format!(in alloc; "policy {fault}"),
-        Err(TextsFault::Certificate(fault)) => format!(in alloc; "certificate {fault}"),
-        Err(TextsFault::Check(_)) => String::from_str(alloc, "refused"),
+        Err(OrMemory::Fault(TextsFault::Wiring(fault))) => format!(in alloc; "wiring {fault}"),
+        Err(OrMemory::Fault(TextsFault::Policy(fault))) => format!(in alloc; "policy {fault}"),
+        Err(OrMemory::Fault(TextsFault::Certificate(fault))) => format!(in alloc;
+            "certificate {fault}"
+        ),
+        Err(OrMemory::Fault(TextsFault::Check(_))) => String::from_str(alloc, "refused"),
+        Err(OrMemory::Memory) => String::from_str(alloc, "Memory"),
     }
 }
 
@@ -122,7 +126,7 @@ fn reason_of(
         policy.as_bytes(),
         certificate,
     ) {
-        Err(TextsFault::Check(refused)) => refused.why,
+        Err(OrMemory::Fault(TextsFault::Check(refused))) => refused.why,
         Err(_) => panic!(rt; "a text has no meaning"),
         Ok(_) => panic!(rt; "accepted"),
     }
@@ -303,13 +307,13 @@ fn what_is_refused_comes_back(rt: HostRuntime) -> Result<(), Fail> {
         Ok(_) => panic!(rt; "accepted"),
         Err(refused) => refused,
     };
-    assert_eq!(rt; once.why, Why::Forbidden(2));
+    assert_eq!(rt; once.why, OrMemory::Fault(Why::Forbidden(2)));
     assert_eq!(rt; once.claim.lines().len(), 1);
     assert_eq!(rt; once.claim.wired().tasks(), 2);
     assert_eq!(rt; once.draft.facts.len(), 16);
     match check(alloc, once.claim, once.draft) {
         Ok(_) => panic!(rt; "accepted"),
-        Err(again) => assert_eq!(rt; again.why, Why::Forbidden(2)),
+        Err(again) => assert_eq!(rt; again.why, OrMemory::Fault(Why::Forbidden(2))),
     }
     Ok(())
 }
@@ -345,18 +349,6 @@ fn rules_have_numbers(rt: HostRuntime) {
     }
 }
 
-/// Whether memory ran out.
-fn is_memory(fault: &TextsFault) -> bool {
-    match fault {
-        TextsFault::Wiring(WiringFault::Text(fault)) => *fault == TextFault::Memory,
-        TextsFault::Wiring(WiringFault::Lines(fault)) => *fault == ResolveFault::Memory,
-        TextsFault::Policy(PolicyFault::Text(fault)) => *fault == TextFault::Memory,
-        TextsFault::Policy(PolicyFault::Lines(fault)) => *fault == ClaimFault::Memory,
-        TextsFault::Certificate(fault) => *fault == DraftFault::Memory,
-        TextsFault::Check(refused) => refused.why == Why::Memory,
-    }
-}
-
 // Only the call allocates: an allocation that is refused is told, whichever it is.
 #[test]
 fn memory_that_runs_out_is_told(rt: HostRuntime) {
@@ -364,7 +356,7 @@ fn memory_that_runs_out_is_told(rt: HostRuntime) {
     let told = check_texts(rt.alloc(), ONE.as_bytes(), policy.as_bytes(), &ALONE);
     match told {
         Ok(confined) => assert_eq!(rt; confined.wired().tasks(), 1),
-        Err(fault) => assert!(rt; is_memory(&fault)),
+        Err(refusal) => assert!(rt; matches!(refusal, OrMemory::Memory)),
     }
 }
 

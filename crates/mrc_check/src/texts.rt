@@ -1,10 +1,13 @@
 //! From the bytes of the files to the verdict.
 
 ghost use Rattle.std.specs.Prelude.{◌≡◌, IfOk, IfErr};
+ghost use Rattle.mrc_base.specs.Reading.{Gives};
 ghost use Rattle.mrc_check.specs.Verdict.{Case};
-ghost use Rattle.mrc_check.specs.Texts.{SayYes, answered_by, table_of, lines_of, case_of, wiring_place, IsWiringMemory, IsMemory, StepTells, ClaimTells, Tells};
+ghost use Rattle.mrc_check.specs.Texts.{SayYes, answered_by, table_of, claim_of, case_of, Tells};
 
 use crate::confined::{Confined, Refused, check};
+use crate::verdict::Why;
+use mrc_base::OrMemory;
 use mrc_certificate::{DraftFault, read_draft};
 use mrc_wiring::{Claim, ClaimFault, ResolveFault, Wired};
 use mrc_wiring_text::{TextFault, read_policy, read_wiring};
@@ -43,42 +46,58 @@ pub enum TextsFault {
     /// The certificate spells no draft.
     Certificate(DraftFault),
     /// All have a meaning, and the certificate is refused.
-    Check(Refused),
+    Check(Refused<Why>),
 }
 
-fn wired_of(alloc: Global, wiring: &[u8]) -> Result<Wired, WiringFault>
-    ensures { StepTells (λ table. table) IsWiringMemory wiring_place result (table_of wiring.now) }
+fn table_of(alloc: Global, wiring: &[u8]) -> Result<Wired, OrMemory<WiringFault>>
+    ensures { Gives (λ table. table) result (table_of wiring.now) }
 {
     match read_wiring(alloc, wiring) {
         Ok(lines) => match Wired::resolve(alloc, lines.as_slice()) {
             Ok(wired) => Ok(wired),
-            Err(fault) => Err(WiringFault::Lines(fault)),
+            Err(OrMemory::Fault(fault)) => Err(OrMemory::Fault(WiringFault::Lines(fault))),
+            Err(OrMemory::Memory) => Err(OrMemory::Memory),
         },
-        Err(fault) => Err(WiringFault::Text(fault)),
+        Err(OrMemory::Fault(fault)) => Err(OrMemory::Fault(WiringFault::Text(fault))),
+        Err(OrMemory::Memory) => Err(OrMemory::Memory),
     }
 }
 
-fn claim_of(alloc: Global, wired: Wired, policy: &[u8]) -> Result<Claim, PolicyFault>
-    ensures { ClaimTells wired result (lines_of wired policy.now) }
+fn claim_of(alloc: Global, wired: Wired, policy: &[u8]) -> Result<Claim, OrMemory<PolicyFault>>
+    ensures { Gives (λ claim. claim) result (claim_of wired policy.now) }
 {
     match read_policy(alloc, policy) {
         Ok(lines) => match Claim::new(alloc, wired, lines.as_slice()) {
             Ok(claim) => Ok(claim),
-            Err((_, fault)) => Err(PolicyFault::Lines(fault)),
+            Err((_, OrMemory::Fault(fault))) => Err(OrMemory::Fault(PolicyFault::Lines(fault))),
+            Err((_, OrMemory::Memory)) => Err(OrMemory::Memory),
         },
-        Err(fault) => Err(PolicyFault::Text(fault)),
+        Err(OrMemory::Fault(fault)) => Err(OrMemory::Fault(PolicyFault::Text(fault))),
+        Err(OrMemory::Memory) => Err(OrMemory::Memory),
     }
 }
 
-fn confined_of(alloc: Global, claim: Claim, certificate: &[u8]) -> Result<Confined, TextsFault>
+fn answered_by(
+    alloc: Global,
+    claim: Claim,
+    certificate: &[u8],
+) -> Result<Confined, OrMemory<TextsFault>>
     ensures { Tells result (answered_by claim certificate.now) }
 {
     match read_draft(alloc, certificate) {
         Ok(draft) => match check(alloc, claim, draft) {
             Ok(confined) => Ok(confined),
-            Err(refused) => Err(TextsFault::Check(refused)),
+            Err(Refused { claim, draft, why }) => match why {
+                OrMemory::Fault(why) => Err(OrMemory::Fault(TextsFault::Check(Refused {
+                    claim,
+                    draft,
+                    why,
+                }))),
+                OrMemory::Memory => Err(OrMemory::Memory),
+            },
         },
-        Err(fault) => Err(TextsFault::Certificate(fault)),
+        Err(OrMemory::Fault(fault)) => Err(OrMemory::Fault(TextsFault::Certificate(fault))),
+        Err(OrMemory::Memory) => Err(OrMemory::Memory),
     }
 }
 
@@ -88,33 +107,37 @@ fn checked(
     wiring: &[u8],
     policy: &[u8],
     certificate: &[u8],
-) -> Result<Confined, TextsFault>
+) -> Result<Confined, OrMemory<TextsFault>>
     ensures { Tells result (case_of wiring.now policy.now certificate.now) }
 {
-    match wired_of(alloc, wiring) {
+    match table_of(alloc, wiring) {
         Ok(wired) => match claim_of(alloc, wired, policy) {
-            Ok(claim) => confined_of(alloc, claim, certificate),
-            Err(fault) => Err(TextsFault::Policy(fault)),
+            Ok(claim) => answered_by(alloc, claim, certificate),
+            Err(OrMemory::Fault(fault)) => Err(OrMemory::Fault(TextsFault::Policy(fault))),
+            Err(OrMemory::Memory) => Err(OrMemory::Memory),
         },
-        Err(fault) => Err(TextsFault::Wiring(fault)),
+        Err(OrMemory::Fault(fault)) => Err(OrMemory::Fault(TextsFault::Wiring(fault))),
+        Err(OrMemory::Memory) => Err(OrMemory::Memory),
     }
 }
 
-/// Checks a certificate for a wiring and a policy, all from their bytes. Accepted exactly where the wiring and the policy
-/// have meanings, the certificate spells a draft with the wiring's counts whose facts are closed, and none of them is
-/// forbidden. Else the first step that refuses is told, in the order of the arguments.
+/// Checks a certificate for a wiring and a policy, all from their bytes. Accepted exactly where the
+/// wiring and the policy have meanings, the certificate spells a draft with the wiring's counts
+/// whose facts are closed, and none of them is forbidden. Else the first step that refuses is told,
+/// in the order of the arguments, or that memory ran out.
 pub fn check_texts(
     alloc: Global,
     wiring: &[u8],
     policy: &[u8],
     certificate: &[u8],
-) -> Result<Confined, TextsFault>
+) -> Result<Confined, OrMemory<TextsFault>>
     // A yes is right.
-    ensures yes { IfOk result (SayYes wiring.now policy.now certificate.now) }
+    ensures found { IfOk result (SayYes wiring.now policy.now certificate.now) }
     // Where the answer is yes it is given, unless memory runs out.
-    ensures only { (case : Case) → SayYes wiring.now policy.now certificate.now case → IfErr result IsMemory }
+    ensures only { (case : Case) → SayYes wiring.now policy.now certificate.now case →
+        IfErr result (λ refusal. refusal ≡ OrMemory.Memory) }
     // Which refusal it is: that of the first step.
-    ensures told { Tells result (case_of wiring.now policy.now certificate.now) }
+    ensures fault { Tells result (case_of wiring.now policy.now certificate.now) }
 {
     checked(alloc, wiring, policy, certificate)
 }

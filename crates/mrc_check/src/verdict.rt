@@ -1,13 +1,14 @@
 //! Claims and certificates: accepted or refused.
 
-ghost use Rattle.std.specs.Prelude.{◌≡◌, ◌<◌, ◌↔◌, ℕ, List, [], IsTrue, IfOk, OnOk, IfErr, MatchResult};
-ghost use Rattle.mrc_classes.specs.Sets.{has};
+ghost use Rattle.std.specs.Prelude.{◌≡◌, ◌↔◌, [], IsTrue, IfOk, OnOk, IfErr};
+ghost use Rattle.mrc_base.specs.Reading.{UnlessMemory};
 ghost use Rattle.mrc_certificate.specs.Spelling.{content};
 ghost use Rattle.mrc_check.specs.Gathered.{with_facts};
-ghost use Rattle.mrc_check.specs.Verdict.{HasCounts, IsAnswer, IsAccepted, IsWhy, first_broken, reason};
+ghost use Rattle.mrc_check.specs.Verdict.{HasCounts, IsAnswer, IsAccepted, IsWhy, first_broken};
+ghost use Rattle.mrc_check.specs.Verdict.{reason};
 
-use crate::rules::{Checked, HoldRule};
-use mrc_base::Fact;
+use crate::rules::{HoldRule, Setting};
+use mrc_base::{Fact, OrMemory};
 use mrc_certificate::Draft;
 use mrc_classes::Facts;
 use mrc_wiring::{Claim, ForbiddenLine};
@@ -18,24 +19,13 @@ use std::alloc::{AllocError, Global};
 pub enum Why {
     /// The certificate has another number of tasks or of classes than the wiring.
     Counts,
-    /// The certificate lacks this hold of the first state (K1), or this receive right of births (K2).
+    /// The certificate lacks this hold of the first state (K1), or this receive right of births
+    /// (K2).
     MissingFirst(Fact),
     /// The certificate lacks this conclusion of the rule.
     NotClosed(HoldRule, Fact),
     /// The certificate has what the policy's line of this number forbids.
     Forbidden(u32),
-    /// Memory ran out.
-    Memory,
-}
-
-impl From<AllocError> for Why {
-    ghost use Rattle.mrc_check.specs.declared.verdict.Why.TheVariants.{Memory};
-
-    ghost from_gives = { λ _ e. e ≡ Memory };
-
-    fn from(_e: AllocError) -> Why {
-        Why::Memory
-    }
 }
 
 /// The facts of a list as a set.
@@ -95,27 +85,27 @@ fn first_lack(
 {
     let holdings = claim.wired().first_holdings(alloc)?;
     let first = as_set(alloc, holdings.as_slice())?;
-    let checked = Checked {
+    let setting = Setting {
         tasks: draft.tasks,
         classes: draft.classes,
         first: &first,
         facts: &draft.facts,
     };
-    Ok(checked.violation())
+    Ok(setting.violation())
 }
 
 /// Whether the draft is accepted, and else the first reason why not.
-pub(crate) fn judge(alloc: Global, claim: &Claim, draft: &Draft) -> Result<(), Why>
-    ensures accepted { OnOk result (IsAccepted claim.now (content draft.now)) }
-    ensures refused { IfErr result (IsWhy claim.now (content draft.now)) }
+pub(crate) fn judge(alloc: Global, claim: &Claim, draft: &Draft) -> Result<(), OrMemory<Why>>
+    ensures found { OnOk result (IsAccepted claim.now (content draft.now)) }
+    ensures fault { IfErr result (UnlessMemory (IsWhy claim.now (content draft.now))) }
 {
     if !has_counts(claim, draft) {
-        return Err(Why::Counts);
+        return Err(OrMemory::Fault(Why::Counts));
     }
     match first_lack(alloc, claim, draft)? {
-        Some((rule, fact)) => Err(reason(rule, fact)),
+        Some((rule, fact)) => Err(OrMemory::Fault(reason(rule, fact))),
         None => match first_broken(&draft.facts, claim.lines()) {
-            Some(line) => Err(Why::Forbidden(line)),
+            Some(line) => Err(OrMemory::Fault(Why::Forbidden(line))),
             None => Ok(()),
         },
     }

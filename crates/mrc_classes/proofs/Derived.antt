@@ -28,11 +28,13 @@ then_equal Equal = refl
 then_equal Greater = refl
 
 derived_at : (f g : Fact) → (facts.cmp-value).it f g ≡ fact_cmp f g
-derived_at (Hold t c r) (Hold u d s) = ap (λ o. ordering_then (nat_cmp t u) (ordering_then (nat_cmp c d) o)) (right_at r s)
+derived_at (Hold t c r) (Hold u d s) =
+    ap (λ o. ordering_then (nat_cmp t u) (ordering_then (nat_cmp c d) o)) (right_at r s)
 derived_at (Hold t c r) (Carry u d s) = refl
 derived_at (Hold t c r) (Backup u d) = refl
 derived_at (Carry t c r) (Hold u d s) = refl
-derived_at (Carry t c r) (Carry u d s) = ap (λ o. ordering_then (nat_cmp t u) (ordering_then (nat_cmp c d) o)) (right_at r s)
+derived_at (Carry t c r) (Carry u d s) =
+    ap (λ o. ordering_then (nat_cmp t u) (ordering_then (nat_cmp c d) o)) (right_at r s)
 derived_at (Carry t c r) (Backup u d) = refl
 derived_at (Backup t c) (Hold u d s) = refl
 derived_at (Backup t c) (Carry u d s) = refl

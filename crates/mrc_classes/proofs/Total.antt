@@ -11,12 +11,14 @@ use Rattle.mrc_base.specs.declared.Fact.{Fact}
 use Rattle.mrc_base.specs.declared.Fact.TheVariants.{Hold, Carry, Backup}
 use Rattle.mrc_base.specs.declared.PortRight.{PortRight}
 use Rattle.mrc_base.specs.declared.PortRight.TheVariants.{Send, Receive, SendOnce}
-use Rattle.mrc_classes.specs.Order.{right_number, kind, first_number, second_number, last_byte, fact_cmp, is_before, is_same}
+use Rattle.mrc_classes.specs.Order.{right_number, kind, first_number, second_number, last_byte}
+use Rattle.mrc_classes.specs.Order.{fact_cmp, is_before, is_same}
 use Rattle.mrc_classes.specs.Laws.{SameAreEqual}
 
 pub fact_total : IsTotalOrder fact_cmp
 fact_total =
-    then_total (on_total kind nat_cmp_total) (then_total (on_total first_number nat_cmp_total) (then_total (on_total second_number nat_cmp_total) (on_total last_byte nat_cmp_total)))
+    then_total (on_total kind nat_cmp_total) (then_total (on_total first_number nat_cmp_total)
+    (then_total (on_total second_number nat_cmp_total) (on_total last_byte nat_cmp_total)))
 
 pub then_both : (o p : Ordering) → ordering_then o p ≡ Equal → (o ≡ Equal) × (p ≡ Equal)
 then_both Less p e = absurd cc
@@ -36,7 +38,8 @@ same_right SendOnce SendOnce e = refl
 
 pub exact : CmpEqualImpliesEq fact_cmp
 exact (Hold t c r) (Hold u d s) e =
-    let a = then_both (nat_cmp t u) (ordering_then (nat_cmp c d) (nat_cmp (right_number r) (right_number s))) e in
+    let a = then_both (nat_cmp t u) (ordering_then (nat_cmp c d)
+    (nat_cmp (right_number r) (right_number s))) e in
     let b = then_both (nat_cmp c d) (nat_cmp (right_number r) (right_number s)) a.1 in
     let x = exact_unsigned t u a.0 in
     let y = exact_unsigned c d b.0 in
@@ -46,7 +49,8 @@ exact (Hold t c r) (Carry u d s) e = absurd cc
 exact (Hold t c r) (Backup u d) e = absurd cc
 exact (Carry t c r) (Hold u d s) e = absurd cc
 exact (Carry t c r) (Carry u d s) e =
-    let a = then_both (nat_cmp t u) (ordering_then (nat_cmp c d) (nat_cmp (right_number r) (right_number s))) e in
+    let a = then_both (nat_cmp t u) (ordering_then (nat_cmp c d)
+    (nat_cmp (right_number r) (right_number s))) e in
     let b = then_both (nat_cmp c d) (nat_cmp (right_number r) (right_number s)) a.1 in
     let x = exact_unsigned t u a.0 in
     let y = exact_unsigned c d b.0 in
@@ -80,11 +84,13 @@ pub equal_from_same : (f g : Fact) → IsTrue (is_same f g) → f ≡ g
 equal_from_same f g h = exact f g (Equal-is (fact_cmp f g) h)
 
 pub same_are_equal : SameAreEqual
-same_are_equal f g = (equal_from_same f g, λ e. subst (λ (x : Fact). IsTrue (is_same f x)) e (same_itself f))
+same_are_equal f g =
+    (equal_from_same f g, λ e. subst (λ (x : Fact). IsTrue (is_same f x)) e (same_itself f))
 
 -- no fact comes before itself, or before one that comes before it
 pub not_before_itself : (f : Fact) → is_before f f ≡ false
 not_before_itself f = ap is_lt (tied_itself fact_total f)
 
 pub not_before : (f g : Fact) → IsTrue (is_before f g) → is_before g f ≡ false
-not_before f g h = ap is_lt (fact_total.antisymm g f ∙ ap (λ o. ordering_reverse o) (Less-is (fact_cmp f g) h))
+not_before f g h =
+    ap is_lt (fact_total.antisymm g f ∙ ap (λ o. ordering_reverse o) (Less-is (fact_cmp f g) h))

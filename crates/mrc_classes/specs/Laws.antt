@@ -23,7 +23,8 @@ NoneAfter facts f = (g : Fact) → IsTrue (has facts g) → is_before f g ≡ fa
 
 -- facts stand in the order of their bytes
 abbrev pub InByteOrder : Type 0
-InByteOrder = (f g : Fact) → FitsBytes f → FitsBytes g → fact_cmp f g ≡ slice_cmp nat_cmp (fact_bytes f) (fact_bytes g)
+InByteOrder = (f g : Fact) → FitsBytes f → FitsBytes g
+    → fact_cmp f g ≡ slice_cmp nat_cmp (fact_bytes f) (fact_bytes g)
 
 -- facts that are the same are equal
 abbrev pub SameAreEqual : Type 0
@@ -31,4 +32,5 @@ SameAreEqual = (f g : Fact) → IsTrue (is_same f g) ↔ (f ≡ g)
 
 -- a set of facts is one ascending list
 abbrev pub OneList : Type 0
-OneList = (fs gs : List Fact) → IsAscending fs → IsAscending gs → ((f : Fact) → has fs f ≡ has gs f) → fs ≡ gs
+OneList = (fs gs : List Fact) → IsAscending fs → IsAscending gs
+    → ((f : Fact) → has fs f ≡ has gs f) → fs ≡ gs

@@ -40,7 +40,9 @@ last_byte (Backup class notify) = 0
 
 -- its six bytes: the kind, two numbers of two bytes, the last byte
 abbrev pub fact_bytes : Fact → List ℕ
-fact_bytes f = kind f ∷ to_be_bytes w16 (first_number f) ++ to_be_bytes w16 (second_number f) ++ last_byte f ∷ []
+fact_bytes f =
+    kind f ∷ to_be_bytes w16 (first_number f) ++ to_be_bytes w16 (second_number f)
+    ++ last_byte f ∷ []
 
 -- its numbers have two bytes
 pub record FitsBytes (f : Fact) : Type 0 where
@@ -49,7 +51,11 @@ pub record FitsBytes (f : Fact) : Type 0 where
 
 -- the order of facts: by kind, first number, second number and last byte
 abbrev pub fact_cmp : Fact → Fact → Ordering
-fact_cmp f g = ordering_then (nat_cmp (kind f) (kind g)) (ordering_then (nat_cmp (first_number f) (first_number g)) (ordering_then (nat_cmp (second_number f) (second_number g)) (nat_cmp (last_byte f) (last_byte g))))
+fact_cmp f g =
+    ordering_then (nat_cmp (kind f) (kind g))
+    (ordering_then (nat_cmp (first_number f) (first_number g))
+    (ordering_then (nat_cmp (second_number f) (second_number g))
+    (nat_cmp (last_byte f) (last_byte g))))
 
 -- whether f comes before g
 abbrev pub is_before : Fact → Fact → Bool

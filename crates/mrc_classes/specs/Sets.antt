@@ -12,7 +12,8 @@ has facts f = list_any (is_same f) facts
 -- the facts with f at its place, unless it stands there
 abbrev pub with_fact : List Fact → Fact → List Fact
 with_fact [] f = f ∷ []
-with_fact (g ∷ facts) f = match_ordering (fact_cmp f g) (f ∷ g ∷ facts) (g ∷ facts) (g ∷ with_fact facts f)
+with_fact (g ∷ facts) f =
+    match_ordering (fact_cmp f g) (f ∷ g ∷ facts) (g ∷ facts) (g ∷ with_fact facts f)
 
 -- the first fact, which is the least
 abbrev pub first : List Fact → Option Fact

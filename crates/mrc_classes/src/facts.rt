@@ -1,4 +1,5 @@
-ghost use Rattle.std.specs.Prelude.{◌≡◌, ◌+◌, ◌↔◌, [], length, not, ◌||◌, if◌then◌else◌, IsTrue, IsNone, IfOk, OnOk, OnErr, IfSome, IfNone};
+ghost use Rattle.std.specs.Prelude.{◌≡◌, ◌+◌, ◌↔◌, [], length, not, ◌||◌, if◌then◌else◌, IsTrue};
+ghost use Rattle.std.specs.Prelude.{IsNone, IfOk, OnOk, OnErr, IfSome, IfNone};
 ghost use Rattle.std.specs.Map.Iter.{ShowsInOrder, deref};
 ghost use Rattle.mrc_base.specs.declared.Fact.{Fact};
 ghost use Rattle.mrc_classes.specs.Order.{is_same};
@@ -39,7 +40,7 @@ impl Facts {
 
     /// How many facts the set has.
     pub fn len(&self) -> usize
-        ensures value { result ≡ length self.now }
+        ensures exact { result ≡ length self.now }
         ensures ascending { IsAscending self.now }
     {
         self.facts.len()
@@ -66,8 +67,10 @@ impl Facts {
         ensures err { OnErr result (self.new ≡ self.old) }
 
         // So the set has this fact and those that it had, and no other.
-        ensures members { OnOk result ((g : Fact) → has self.new g ≡ (is_same g fact || has self.old g)) }
-        ensures len { IfOk result (λ added. length self.new ≡ length self.old + (if added then 1 else 0)) }
+        ensures members { OnOk result ((g : Fact) →
+            has self.new g ≡ (is_same g fact || has self.old g)) }
+        ensures len { IfOk result (λ added.
+            length self.new ≡ length self.old + (if added then 1 else 0)) }
         ensures ascending { IsAscending self.new }
     {
         Ok(self.facts.insert(fact)?)
@@ -75,7 +78,7 @@ impl Facts {
 
     /// The least fact.
     pub fn first(&self) -> Option<Fact>
-        ensures value { result ≡ first self.now }
+        ensures exact { result ≡ first self.now }
         ensures least { IfSome result (IsLeast self.now) }
         ensures none { IsNone result ↔ (self.now ≡ []) }
     {
@@ -84,8 +87,8 @@ impl Facts {
 
     /// The least fact that is greater than this one, which need not be in the set.
     pub fn after(&self, fact: Fact) -> Option<Fact>
-        ensures value { result ≡ after self.now fact }
-        ensures next { IfSome result (IsNext self.now fact) }
+        ensures exact { result ≡ after self.now fact }
+        ensures least { IfSome result (IsNext self.now fact) }
         ensures none { IfNone result (NoneAfter self.now fact) }
     {
         self.facts
@@ -96,7 +99,7 @@ impl Facts {
 
     /// The facts in order.
     pub fn iter(&self) -> Iter<'_, Fact>
-        ensures rest { result ≡ self.now }
+        ensures exact { result ≡ self.now }
         ensures runs { ShowsInOrder (deref {X = Fact}) }
         ensures ascending { IsAscending self.now }
     {

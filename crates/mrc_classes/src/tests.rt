@@ -70,8 +70,8 @@ fn kinds_and_high_bytes_come_first(rt: HostRuntime) -> Result<(), Fail> {
     Ok(())
 }
 
-/// Puts facts into a set until memory runs out or all are there, and looks that a failed call changed
-/// nothing.
+/// Puts facts into a set until memory runs out or all are there, and looks that a failed call
+/// changed nothing.
 fn fill(rt: &impl std::process::Abort, facts: &mut Facts, count: u16) -> Result<(), AllocError> {
     for task in 0..count {
         let before = facts.len();

@@ -4,3 +4,4 @@ pub mod Descriptors
 pub mod Bodies
 pub mod Whole
 pub mod Walks
+pub mod Others

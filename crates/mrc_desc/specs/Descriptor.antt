@@ -1,18 +1,18 @@
 -- What a descriptor may say, and how its first word is laid out.
--- From Mach 3 Kernel Interfaces, mach_msg_type_t. Which names and sizes are refused is this profile's own choice.
-use Rattle.std.specs.Prelude.{ℕ, ◌*◌, ◌/◌, ◌%◌, ◌-◌, ◌^◌, Bool, List, nat_lt, nat_le, ◌==◌, ◌&&◌, ◌||◌}
+-- From Mach 3 Kernel Interfaces, mach_msg_type_t. Which names and sizes are refused is this
+-- profile's own choice.
+use Rattle.std.specs.Prelude.{ℕ, ◌*◌, ◌/◌, ◌%◌, ◌-◌, ◌^◌, Bool, List, nat_lt, nat_le, ◌==◌, ◌&&◌}
+use Rattle.std.specs.Prelude.{◌||◌}
 use Rattle.std.specs.Int.{w16, w32, from_le_bytes}
 use Rattle.mrc_desc.specs.declared.argument.Desc.{Desc}
 use Rattle.mrc_desc.specs.declared.argument.FirstWord.{FirstWord}
 
--- a descriptor's name stands for a disposition: its data are names of port rights
-abbrev pub is_port_name : ℕ → Bool
-is_port_name name = nat_le 16 name && nat_le name 21
-
--- the names go up to that of the last disposition; a size is a multiple of eight bits and not 0, and that of a port name is 32 bits
+-- the names go up to that of the last disposition; a size is a multiple of eight bits and not 0,
+-- and that of a port name is 32 bits
 abbrev pub is_lawful_desc : Desc → Bool
 is_lawful_desc desc =
-    (nat_lt 0 desc.size && (desc.size % 8 == 0)) && (nat_lt desc.name 16 || (nat_le desc.name 21 && (desc.size == 32)))
+    (nat_lt 0 desc.size && (desc.size % 8 == 0))
+    && (nat_lt desc.name 16 || (nat_le desc.name 21 && (desc.size == 32)))
 
 -- the short form has room for it
 abbrev pub is_short : Desc → Bool
@@ -34,7 +34,8 @@ half_at bytes = from_le_bytes w16 bytes
 abbrev pub word_at : List ℕ → ℕ
 word_at bytes = from_le_bytes w32 bytes
 
--- the low bits first: the name and the size, eight bits each, twelve bits of the number, and four bits
+-- the low bits first: the name and the size, eight bits each, twelve bits of the number, and four
+-- bits
 abbrev pub first_word : ℕ → FirstWord
 first_word word = record {
   name = word % 256;

@@ -1,32 +1,23 @@
 -- Reading a message from left to right, with the first fault that is met.
 -- The order of the faults and the place that each names are this profile's own choice.
-use Rattle.std.specs.Prelude.{◌≡◌, ℕ, zero, suc, ◌+◌, ◌-◌, ◌/◌, ◌%◌, ◌^◌, Bool, not, ◌||◌, List, [], ◌∷◌, length, take, drop, Result, Ok, Err, nat_lt, ◌==◌, if◌then◌else◌}
+use Rattle.std.specs.Prelude.{ℕ, zero, suc, ◌+◌, ◌-◌, ◌/◌, ◌%◌, ◌^◌, Bool, not, ◌||◌, List, [], ◌∷◌}
+use Rattle.std.specs.Prelude.{length, take, drop, Result, Ok, Err, nat_lt, ◌==◌, if◌then◌else◌}
 use mathlib.Core.Bool.{beq}
+use Rattle.mrc_base.specs.Disposition.{is_port_number}
+use Rattle.mrc_base.specs.Limits.{limit_of_message}
+use Rattle.mrc_base.specs.Reading.{◌>>=◌}
 use Rattle.mrc_desc.specs.declared.fault.ReadFault.{ReadFault}
-use Rattle.mrc_desc.specs.declared.fault.ReadFault.TheVariants.{TooShort, TooLong, BadHeaderDisp, BadDesc, OutOfLine, Truncated, ComplexDiffers, Memory}
+use Rattle.mrc_desc.specs.declared.fault.ReadFault.TheVariants.{TooShort, TooLong, BadHeaderDisp}
+use Rattle.mrc_desc.specs.declared.fault.ReadFault.TheVariants.{BadDesc, OutOfLine, Truncated}
+use Rattle.mrc_desc.specs.declared.fault.ReadFault.TheVariants.{ComplexDiffers}
 use Rattle.mrc_desc.specs.declared.argument.Desc.{Desc}
 use Rattle.mrc_desc.specs.declared.argument.FirstWord.{FirstWord}
 use Rattle.mrc_desc.specs.declared.message.Header.{Header}
 use Rattle.mrc_model.specs.Message.{Arg, Data, Ports, Message, any_port_arg}
-use Rattle.mrc_desc.specs.Descriptor.{is_port_name, is_lawful_desc, data_len, padding_len, half_at, word_at, first_word}
+use Rattle.mrc_desc.specs.Descriptor.{is_lawful_desc, data_len, padding_len, half_at, word_at}
+use Rattle.mrc_desc.specs.Descriptor.{first_word}
 use Rattle.mrc_desc.specs.Lawful.{is_admitted}
 use Rattle.mrc_desc.specs.View.{with_args}
-
--- the next step, where the one before had no fault
-infixl 10 ◌>>=◌
-abbrev pub ◌>>=◌ : {A B : Type 0} → Result A ReadFault → (A → Result B ReadFault) → Result B ReadFault
-(Ok x) >>= f = f x
-(Err e) >>= f = Err e
-
--- a function's error is the fault that reading tells, unless memory ran out
-abbrev pub Fails : {Y : Type 0} → ReadFault → Result Y ReadFault → Type 0
-Fails Memory read = Unit {0}
-Fails fault read = read ≡ Err fault
-
--- what a function returned, seen by view, is what reading gives, unless memory ran out
-abbrev pub Gives : {X Y : Type 0} → (X → Y) → Result X ReadFault → Result Y ReadFault → Type 0
-Gives view (Ok x) read = read ≡ Ok (view x)
-Gives view (Err e) read = Fails e read
 
 -- a descriptor that is whole, by its first word and by what it says
 unfoldable pub judged : (at : ℕ) → FirstWord → Desc → Result Desc ReadFault
@@ -41,7 +32,11 @@ short_desc first = record { name = first.name; size = first.size; number = first
 
 -- what stands behind the first word
 abbrev pub long_desc : List ℕ → Desc
-long_desc bytes = record { name = half_at (drop 4 bytes); size = half_at (drop 6 bytes); number = word_at (drop 8 bytes) }
+long_desc bytes = record {
+  name = half_at (drop 4 bytes);
+  size = half_at (drop 6 bytes);
+  number = word_at (drop 8 bytes);
+}
 
 -- what the descriptor at the front says, and the bytes after it, where its first word is known
 unfoldable pub said_at : (at : ℕ) → FirstWord → List ℕ → Result (Desc × List ℕ) ReadFault
@@ -67,7 +62,9 @@ words (a ∷ b ∷ c ∷ d ∷ rest) = word_at (a ∷ b ∷ c ∷ d ∷ []) ∷ 
 
 -- what a descriptor and its data say
 abbrev pub arg_with : Desc → List ℕ → Arg
-arg_with desc bytes = if is_port_name desc.name then Ports desc.name (words bytes) else Data desc.name desc.size desc.number bytes
+arg_with desc bytes =
+    if is_port_number desc.name then Ports desc.name (words bytes)
+    else Data desc.name desc.size desc.number bytes
 
 -- the data of a descriptor at the front, and the bytes after its padding
 unfoldable pub data_at : (at : ℕ) → Desc → List ℕ → Result (Arg × List ℕ) ReadFault
@@ -82,8 +79,8 @@ arg_at at bytes = do
   desc ← desc_at at bytes
   data_at at desc.0 desc.1
 
--- All the arguments that end a message of this many bytes: an argument begins where so many bytes are left. Each has a
--- byte at least, so as many steps as there are bytes are enough.
+-- All the arguments that end a message of this many bytes: an argument begins where so many bytes
+-- are left. Each has a byte at least, so as many steps as there are bytes are enough.
 unfoldable pub args_at : (total steps : ℕ) → List ℕ → Result (List Arg) ReadFault
 args_at total steps [] = Ok []
 args_at total zero (b ∷ bytes) = Err (Truncated (total - length (b ∷ bytes)))
@@ -115,8 +112,10 @@ is_complex bytes = word_at bytes / 2 ^ 31 == 1
 unfoldable pub message_at : List ℕ → Result Message ReadFault
 message_at bytes =
     if nat_lt (length bytes) 24 then Err TooShort
-    else if nat_lt 8192 (length bytes) then Err TooLong
+    else if nat_lt limit_of_message (length bytes) then Err TooLong
     else let header = header_at bytes in
-    if not (is_admitted header.remote_disp header.local_disp header.local_port) then Err BadHeaderDisp
+    if not (is_admitted header.remote_disp header.local_disp header.local_port)
+    then Err BadHeaderDisp
     else (args_of bytes >>= λ args.
-    if beq (is_complex bytes) (any_port_arg args) then Ok (with_args header args) else Err ComplexDiffers)
+    if beq (is_complex bytes) (any_port_arg args) then Ok (with_args header args)
+    else Err ComplexDiffers)

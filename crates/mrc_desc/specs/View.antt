@@ -1,21 +1,11 @@
 -- The message that the values of the program stand for.
-use Rattle.std.specs.Prelude.{◌≡◌, ℕ, List, map, length}
-use Rattle.mrc_base.specs.declared.Disp.{Disp}
-use Rattle.mrc_base.specs.declared.Disp.TheVariants.{MoveReceive, MoveSend, MoveSendOnce, CopySend, MakeSend, MakeSendOnce}
+use Rattle.std.specs.Prelude.{◌≡◌, List, map, length}
+use Rattle.mrc_base.specs.Disposition.{disp_number}
 use Rattle.mrc_desc.specs.declared.argument.Argument.{Argument}
 use Rattle.mrc_desc.specs.declared.argument.Argument.TheVariants as arguments
 use Rattle.mrc_desc.specs.declared.argument.Desc.{Desc}
 use Rattle.mrc_desc.specs.declared.message.Header.{Header}
 use Rattle.mrc_model.specs.Message.{Arg, Data, Ports, Message}
-
--- the number that a disposition has as a descriptor's name
-abbrev pub disp_number : Disp → ℕ
-disp_number MoveReceive = 16
-disp_number MoveSend = 17
-disp_number MoveSendOnce = 18
-disp_number CopySend = 19
-disp_number MakeSend = 20
-disp_number MakeSendOnce = 21
 
 -- an argument as the definitions of messages see it
 abbrev pub argument_of : Argument → Arg
@@ -24,8 +14,8 @@ argument_of (arguments.Ports disp names) = Ports (disp_number disp) names
 
 -- what the descriptor before an argument says
 abbrev pub desc_of : Arg → Desc
-desc_of (Data kind size number bytes) = record { name = kind; size = size; number = number }
-desc_of (Ports kind names) = record { name = kind; size = 32; number = length names }
+desc_of (Data name size number bytes) = record { name = name; size = size; number = number }
+desc_of (Ports name names) = record { name = name; size = 32; number = length names }
 
 -- all of them
 abbrev pub arguments_of : List Argument → List Arg

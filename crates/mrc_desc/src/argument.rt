@@ -1,23 +1,28 @@
 //! Arguments, and the descriptors that stand before their data.
 
-ghost use Rattle.std.specs.Prelude.{◌≡◌, ◌↔◌, ◌+◌, ◌≤◌, IfOk, IfSome, IfNone, IsTrue, IsFalse, length, if◌then◌else◌};
+ghost use Rattle.std.specs.Prelude.{◌≡◌, ◌↔◌, IfOk, IsTrue, length, if◌then◌else◌};
+ghost use Rattle.mrc_base.specs.Disposition.{disp_number};
 ghost use Rattle.mrc_model.specs.Message.{arg_bytes, is_port_arg};
-ghost use Rattle.mrc_desc.specs.Descriptor.{is_lawful_desc, is_port_name, is_short, data_len, padding_len, first_word};
+ghost use Rattle.mrc_desc.specs.Descriptor.{is_lawful_desc, is_short, data_len, padding_len};
+ghost use Rattle.mrc_desc.specs.Descriptor.{first_word};
 ghost use Rattle.mrc_desc.specs.Lawful.{IsLawfulArg, IsLawfulData, IsLawfulPorts};
-ghost use Rattle.mrc_desc.specs.View.{argument_of, desc_of, disp_number};
+ghost use Rattle.mrc_desc.specs.View.{argument_of, desc_of};
 
 use crate::lists::{Bytes, Names};
 use mrc_base::Disp;
 use std::alloc::{AllocError, Global};
 
+/// The bits of a port's name.
+const NAME_SIZE: u16 = 32;
+
 /// What a descriptor says of the data behind it.
 #[derive(Clone, Copy, Debug, PartialEq, Eq)]
 pub struct Desc {
-    /// The type number of the items: below 16 data, from 16 to 21 a disposition.
+    /// The type number of the items, msgt_name: below 16 data, from 16 to 21 a disposition.
     pub name: u16,
-    /// The bits of an item.
+    /// The bits of an item, msgt_size.
     pub size: u16,
-    /// How many items there are.
+    /// How many items there are, msgt_number.
     pub number: u32,
 }
 
@@ -88,36 +93,6 @@ pub(crate) fn first_word(word: u32) -> FirstWord
     }
 }
 
-/// The number that a disposition has as a descriptor's name.
-pub(crate) fn number_of(disp: Disp) -> u16
-    ensures { result ≡ disp_number disp }
-{
-    match disp {
-        Disp::MoveReceive => 16,
-        Disp::MoveSend => 17,
-        Disp::MoveSendOnce => 18,
-        Disp::CopySend => 19,
-        Disp::MakeSend => 20,
-        Disp::MakeSendOnce => 21,
-    }
-}
-
-/// The disposition that a descriptor's name stands for.
-pub(crate) fn disp_of(name: u16) -> Option<Disp>
-    ensures disp { IfSome result (λ disp. disp_number disp ≡ name) }
-    ensures none { IfNone result (IsFalse (is_port_name name)) }
-{
-    match name {
-        16 => Some(Disp::MoveReceive),
-        17 => Some(Disp::MoveSend),
-        18 => Some(Disp::MoveSendOnce),
-        19 => Some(Disp::CopySend),
-        20 => Some(Disp::MakeSend),
-        21 => Some(Disp::MakeSendOnce),
-        _ => None,
-    }
-}
-
 fn is_lawful_data(desc: Desc, bytes: &[u8]) -> bool
     ensures { IsTrue result ↔ IsLawfulData desc.name desc.size desc.number bytes.now }
 {
@@ -157,18 +132,45 @@ impl Argument {
         matches!(self, Argument::Ports { .. })
     }
 
+    /// The type number of the items: that of the data, or that of the disposition.
+    pub fn name(&self) -> u16
+        ensures { result ≡ (desc_of (argument_of self.now)).name }
+    {
+        match self {
+            Argument::Data { desc, bytes: _ } => desc.name,
+            Argument::Ports { disp, names: _ } => disp.number(),
+        }
+    }
+
+    /// The bits of an item.
+    pub fn size(&self) -> u16
+        ensures { result ≡ (desc_of (argument_of self.now)).size }
+    {
+        match self {
+            Argument::Data { desc, bytes: _ } => desc.size,
+            Argument::Ports { .. } => NAME_SIZE,
+        }
+    }
+
+    /// How many items there are: as many as the descriptor of the data says, or as there are names.
+    pub fn number(&self) -> usize
+        ensures { result ≡ (desc_of (argument_of self.now)).number }
+    {
+        match self {
+            Argument::Data { desc, bytes: _ } => usize::try_from(desc.number).unwrap(),
+            Argument::Ports { disp: _, names } => names.as_slice().len(),
+        }
+    }
+
     /// What the descriptor before the argument says.
-    pub fn desc(&self) -> Desc
+    pub(crate) fn desc(&self) -> Desc
         requires { IsLawfulArg (argument_of self.now) }
         ensures { result ≡ desc_of (argument_of self.now) }
     {
-        match self {
-            Argument::Data { desc, bytes: _ } => *desc,
-            Argument::Ports { disp, names } => Desc {
-                name: number_of(*disp),
-                size: 32,
-                number: names.as_slice().len() as u32,
-            },
+        Desc {
+            name: self.name(),
+            size: self.size(),
+            number: self.number() as u32,
         }
     }
 
@@ -216,7 +218,7 @@ impl Argument {
                     disp: other_disp,
                     names: other_names,
                 },
-            ) => number_of(*disp) == number_of(*other_disp) && names.same(other_names),
+            ) => disp == other_disp && names.same(other_names),
             _ => false,
         }
     }

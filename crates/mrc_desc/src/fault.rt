@@ -1,9 +1,9 @@
 //! Why bytes could not be read as a message.
 
 ghost use Rattle.std.specs.Prelude.{◌≡◌};
-ghost use Rattle.mrc_desc.specs.declared.fault.ReadFault.TheVariants.{Memory};
+ghost use Rattle.mrc_base.specs.declared.memory.OrMemory.TheVariants.{Fault};
 
-use std::alloc::{AllocError, AllocFailed};
+use mrc_base::OrMemory;
 use thiserror::Error;
 
 /// The first fault of bytes that are no message. A fault of a descriptor names the descriptor's
@@ -16,12 +16,12 @@ pub enum ReadFault {
     /// There are more than 8,192 bytes.
     #[error("TooLong")]
     TooLong,
-    /// The remote disposition is not 17 to 21, or the local one is neither 0 nor 17 to 21, or it is 0
-    /// and the local port is not.
+    /// The remote disposition is not 17 to 21, or the local one is neither 0 nor 17 to 21, or it is
+    /// 0 and the local port is not.
     #[error("BadHeaderDisp")]
     BadHeaderDisp,
-    /// The deallocate or the unused bit is set, the size is 0 or no multiple of 8, the name is above
-    /// 21, or it is a disposition and the size is not 32.
+    /// The deallocate or the unused bit is set, the size is 0 or no multiple of 8, the name is
+    /// above 21, or it is a disposition and the size is not 32.
     #[error("BadDesc {0}")]
     BadDesc(usize),
     /// The inline bit is not set.
@@ -33,23 +33,12 @@ pub enum ReadFault {
     /// The complex bit is set where no descriptor's name is a disposition, or not set where one is.
     #[error("ComplexDiffers")]
     ComplexDiffers,
-    /// Memory ran out.
-    #[error("Memory")]
-    Memory,
 }
 
-impl From<AllocError> for ReadFault {
-    ghost from_gives = { λ _ e. e ≡ Memory };
+impl From<ReadFault> for OrMemory<ReadFault> {
+    ghost from_gives = { λ fault refusal. refusal ≡ Fault fault };
 
-    fn from(_error: AllocError) -> ReadFault {
-        ReadFault::Memory
-    }
-}
-
-impl<T: Drop> From<AllocFailed<T>> for ReadFault {
-    ghost from_gives = { λ _ e. e ≡ Memory };
-
-    fn from(_error: AllocFailed<T>) -> ReadFault {
-        ReadFault::Memory
+    fn from(fault: ReadFault) -> OrMemory<ReadFault> {
+        OrMemory::Fault(fault)
     }
 }

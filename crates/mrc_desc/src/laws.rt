@@ -1,23 +1,30 @@
-//! What holds of reading and writing together.
+//! What holds of reading and writing together, and of messages that are built from others.
 
-ghost use Rattle.std.specs.Prelude.{◌≡◌, List, ℕ, IsTrue, Ok};
-ghost use Rattle.mrc_model.specs.Message.{Message, written};
-ghost use Rattle.mrc_desc.specs.Lawful.{IsLawful, is_admitted};
-ghost use Rattle.mrc_desc.specs.Reading.{message_at};
-ghost use Rattle.mrc_desc.specs.Spelling.{Spells};
+ghost use Rattle.mrc_desc.specs.Laws.{WrittenIsRead, WrittenIsSpelled, SpelledIsOne};
+ghost use Rattle.mrc_desc.specs.Laws.{ReadIsSpelled, OthersAreLawful, OthersAreAsLarge};
 
 /// What is written of a lawful message is read as that message, where its `seqno` is 0 and reading
 /// admits its header: the bytes spell it.
 pub fn written_is_read()
-    ensures read { (m : Message) → IsLawful m → m.seqno ≡ 0
-        → IsTrue (is_admitted m.remote_disp m.local_disp m.local)
-        → message_at (written m) ≡ Ok m }
-    ensures spelled { (m : Message) → IsLawful m → m.seqno ≡ 0
-        → IsTrue (is_admitted m.remote_disp m.local_disp m.local)
-        → Spells (written m) m }
+    ensures read { WrittenIsRead }
+    ensures spelled { WrittenIsSpelled }
 {}
 
 /// Bytes spell one message at most.
 pub fn spells_one_message()
-    ensures { (bytes : List ℕ) → (m n : Message) → Spells bytes m → Spells bytes n → m ≡ n }
+    ensures { SpelledIsOne }
+{}
+
+/// Bytes spell exactly the message that they are read as: what is read is spelled so, and what is
+/// spelled so is read.
+pub fn reading_is_by_spelling()
+    ensures { ReadIsSpelled }
+{}
+
+/// A message with another header, and with other port rights in the place of as many, is lawful
+/// where the first one is, and as large. So a message that was queued can be received under other
+/// names.
+pub fn other_ports_fit()
+    ensures lawful { OthersAreLawful }
+    ensures size { OthersAreAsLarge }
 {}

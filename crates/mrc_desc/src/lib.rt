@@ -11,7 +11,7 @@ mod writing;
 
 pub use argument::{Argument, Desc};
 pub use fault::ReadFault;
-pub use laws::{spells_one_message, written_is_read};
+pub use laws::{other_ports_fit, reading_is_by_spelling, spells_one_message, written_is_read};
 pub use lists::{Bytes, Names};
 pub use message::{Arguments, Header, Message, Unlawful};
 pub use reading::read_message;

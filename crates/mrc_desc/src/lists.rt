@@ -35,6 +35,14 @@ impl Bytes {
         &self.bytes
     }
 
+    /// The bytes by themselves.
+    pub fn into_vec(self) -> Vec<u8>
+        ensures { result.items ≡ self }
+    {
+        let Bytes { bytes } = self;
+        bytes
+    }
+
     /// The same bytes once more.
     pub fn copy(&self, alloc: Global) -> Result<Bytes, AllocError>
         ensures { IfOk result (λ copy. copy ≡ self.now) }
@@ -78,6 +86,14 @@ impl Names {
         ensures { result.now ≡ self.now }
     {
         &self.names
+    }
+
+    /// The names by themselves.
+    pub fn into_vec(self) -> Vec<u32>
+        ensures { result.items ≡ self }
+    {
+        let Names { names } = self;
+        names
     }
 
     /// The same names once more.

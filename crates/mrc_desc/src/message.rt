@@ -6,29 +6,34 @@ ghost use Rattle.mrc_desc.specs.Lawful.{AreLawful, IsLawful, IsLawfulArg};
 ghost use Rattle.mrc_desc.specs.View.{HasHeader, argument_of, arguments_of, message_of};
 
 use crate::argument::Argument;
+use mrc_base::limits;
 use std::alloc::{AllocError, Global};
 use std::marker::Model;
 
 /// The bytes of a header.
 pub(crate) const HEADER_SIZE: usize = 24;
-/// The bytes of the largest message.
-pub(crate) const MAX_SIZE: usize = 8192;
 
 /// The header of a message, without its size. The dispositions are any bytes: those that a sent
-/// message may have are tested where it is read.
+/// message may have are tested where it is read. A received message has the two ports exchanged:
+/// the remote one is what a reply to it is sent to.
 #[derive(Clone, Copy, Debug, PartialEq, Eq)]
 pub struct Header {
-    /// How the right to `remote_port` is carried.
+    /// Sent: how the right to `remote_port` is carried. Received: 18 where there is a reply port,
+    /// a dead one included, else 0.
     pub remote_disp: u8,
-    /// How the right to `local_port` is carried; 0 for none.
+    /// Sent: how the right to `local_port` is carried; 0 for none. Received: 17 or 18, by whether
+    /// the message was sent through a send or a send-once right.
     pub local_disp: u8,
-    /// The destination.
+    /// Sent: the sender's name for the destination. Received: the receiver's name for the reply
+    /// port; 0 for none.
     pub remote_port: u32,
-    /// The reply port.
+    /// Sent: the sender's name for the reply port; 0 for none. Received: the receiver's name for
+    /// the port that the message was sent to.
     pub local_port: u32,
-    /// The number of receipts before this one.
+    /// Sent: ignored, and read as 0. Received: how many messages were received from the port before
+    /// this one, modulo 2^32.
     pub seqno: u32,
-    /// What the message asks for.
+    /// What the message asks for, msgh_id. Received as it was sent.
     pub id: u32,
 }
 
@@ -63,6 +68,14 @@ impl Arguments {
         self.items.as_slice()
     }
 
+    /// The arguments by themselves.
+    pub fn into_vec(self) -> Vec<Argument>
+        ensures { result.items ≡ self }
+    {
+        let Arguments { items } = self;
+        items
+    }
+
     /// The same arguments once more.
     pub fn copy(&self, alloc: Global) -> Result<Arguments, AllocError>
         ensures { IfOk result (λ copy. arguments_of copy ≡ arguments_of self.now) }
@@ -92,7 +105,7 @@ pub(crate) fn any_ports(args: &[Argument]) -> bool
 fn are_lawful(args: &[Argument]) -> bool
     ensures { IsTrue result ↔ AreLawful (arguments_of args.now) }
 {
-    let mut room = MAX_SIZE - HEADER_SIZE;
+    let mut room = limits::MESSAGE - HEADER_SIZE;
     for argument in args {
         if !argument.is_lawful() {
             return false;
@@ -138,7 +151,7 @@ impl Message {
     pub fn new(header: Header, args: Arguments) -> Result<Message, Unlawful>
         ensures lawful { IsOk result ↔ IsLawful (message_of header args) }
         ensures made { IfOk result (λ m. m ≡ message_of header args) }
-        ensures back { IfErr result (λ u. (u.header ≡ header) × (u.args ≡ args)) }
+        ensures returned { IfErr result (λ u. (u.header ≡ header) × (u.args ≡ args)) }
     {
         if are_lawful(args.as_slice()) {
             Ok(Message { header, args })
@@ -157,7 +170,7 @@ impl Message {
 
     /// The arguments, in order.
     pub fn args(&self) -> &[Argument]
-        ensures args { arguments_of result.now ≡ self.now.args }
+        ensures exact { arguments_of result.now ≡ self.now.args }
         ensures each { All (λ argument. IsLawfulArg (argument_of argument)) result.now }
         ensures lawful { IsLawful self.now }
     {

@@ -1,5 +1,5 @@
 use super::*;
-use mrc_base::Disp;
+use mrc_base::{Disp, OrMemory};
 use std::alloc::{AllocError, Global};
 use std::test::Fail;
 
@@ -30,9 +30,17 @@ fn hex(alloc: Global, text: &str) -> Result<Vec<u8>, AllocError> {
 }
 
 /// The bytes that reading and writing make of bytes, or the fault.
-fn again(alloc: Global, bytes: &[u8]) -> Result<Vec<u8>, ReadFault> {
+fn again(alloc: Global, bytes: &[u8]) -> Result<Vec<u8>, OrMemory<ReadFault>> {
     let message = read_message(alloc, bytes)?;
     Ok(write_message(alloc, &message)?)
+}
+
+/// The fault of bytes that are no message.
+fn fault_of(alloc: Global, bytes: &[u8]) -> Option<ReadFault> {
+    match read_message(alloc, bytes) {
+        Err(OrMemory::Fault(fault)) => Some(fault),
+        _ => None,
+    }
 }
 
 /// Whether reading and writing make these bytes of those that the text spells.
@@ -53,68 +61,189 @@ fn tells(alloc: Global, text: &str, want: &str) -> Result<bool, AllocError> {
 }
 
 /// What is read, and what it is written as. The first eight are the same receive or send right.
-const READ: &str = "\
-13000080 20000000 03000000 00000000 00000000 d0070000 10200110 04000000 : 13000080 20000000 03000000 00000000 00000000 d0070000 10200110 04000000
-13000080 21000000 03000000 00000000 00000000 d0070000 10200110 04000000 : 13000080 20000000 03000000 00000000 00000000 d0070000 10200110 04000000
-1300ffff 20000000 03000000 00000000 09000000 d0070000 10200110 04000000 : 13000080 20000000 03000000 00000000 00000000 d0070000 10200110 04000000
-13000080 28000000 03000000 00000000 00000000 d0070000 1607ff3f 10002000 01000000 04000000 : 13000080 20000000 03000000 00000000 00000000 d0070000 10200110 04000000
-13000080 20000000 03000000 00000000 00000000 d0070000 13200110 04000000 : 13000080 20000000 03000000 00000000 00000000 d0070000 13200110 04000000
-13000080 28000000 03000000 00000000 00000000 d0070000 00000030 13002000 01000000 04000000 : 13000080 20000000 03000000 00000000 00000000 d0070000 13200110 04000000
-13150080 20000000 03000000 05000000 00000000 d0070000 10200110 04000000 : 13150080 20000000 03000000 05000000 00000000 d0070000 10200110 04000000
-13000080 1c000000 03000000 00000000 00000000 d0070000 11200010 : 13000080 1c000000 03000000 00000000 00000000 d0070000 11200010
-13000000 20000000 03000000 00000000 00000000 d0070000 09080310 aabbcc01 : 13000000 20000000 03000000 00000000 00000000 d0070000 09080310 aabbcc00
-13000000 24000000 03000000 00000000 00000000 d0070000 01100010 02200110 07000000 : 13000000 24000000 03000000 00000000 00000000 d0070000 01100010 02200110 07000000
-13000000 24000000 03000000 00000000 00000000 d0070000 00000030 0900f8ff 00000000 : 13000000 24000000 03000000 00000000 00000000 d0070000 00000030 0900f8ff 00000000
-14000000 18000000 02000000 00000000 00000000 f4010000 : 14000000 18000000 02000000 00000000 00000000 f4010000";
+const READ: [(&str, &str); 12] = [
+    (
+        "13000080 20000000 03000000 00000000 00000000 d0070000 10200110 04000000",
+        "13000080 20000000 03000000 00000000 00000000 d0070000 10200110 04000000",
+    ),
+    (
+        "13000080 21000000 03000000 00000000 00000000 d0070000 10200110 04000000",
+        "13000080 20000000 03000000 00000000 00000000 d0070000 10200110 04000000",
+    ),
+    (
+        "1300ffff 20000000 03000000 00000000 09000000 d0070000 10200110 04000000",
+        "13000080 20000000 03000000 00000000 00000000 d0070000 10200110 04000000",
+    ),
+    (
+        "13000080 28000000 03000000 00000000 00000000 d0070000 1607ff3f 10002000 01000000 04000000",
+        "13000080 20000000 03000000 00000000 00000000 d0070000 10200110 04000000",
+    ),
+    (
+        "13000080 20000000 03000000 00000000 00000000 d0070000 13200110 04000000",
+        "13000080 20000000 03000000 00000000 00000000 d0070000 13200110 04000000",
+    ),
+    (
+        "13000080 28000000 03000000 00000000 00000000 d0070000 00000030 13002000 01000000 04000000",
+        "13000080 20000000 03000000 00000000 00000000 d0070000 13200110 04000000",
+    ),
+    (
+        "13150080 20000000 03000000 05000000 00000000 d0070000 10200110 04000000",
+        "13150080 20000000 03000000 05000000 00000000 d0070000 10200110 04000000",
+    ),
+    (
+        "13000080 1c000000 03000000 00000000 00000000 d0070000 11200010",
+        "13000080 1c000000 03000000 00000000 00000000 d0070000 11200010",
+    ),
+    (
+        "13000000 20000000 03000000 00000000 00000000 d0070000 09080310 aabbcc01",
+        "13000000 20000000 03000000 00000000 00000000 d0070000 09080310 aabbcc00",
+    ),
+    (
+        "13000000 24000000 03000000 00000000 00000000 d0070000 01100010 02200110 07000000",
+        "13000000 24000000 03000000 00000000 00000000 d0070000 01100010 02200110 07000000",
+    ),
+    (
+        "13000000 24000000 03000000 00000000 00000000 d0070000 00000030 0900f8ff 00000000",
+        "13000000 24000000 03000000 00000000 00000000 d0070000 00000030 0900f8ff 00000000",
+    ),
+    (
+        "14000000 18000000 02000000 00000000 00000000 f4010000",
+        "14000000 18000000 02000000 00000000 00000000 f4010000",
+    ),
+];
 
 /// What is refused, and the text of the fault.
-const REFUSED: &str = "\
-13000080 20000000 03000000 00000000 00000000 d00700 : TooShort
-10000080 20000000 03000000 00000000 00000000 d0070000 10200110 04000000 : BadHeaderDisp
-16000080 20000000 03000000 00000000 00000000 d0070000 10200110 04000000 : BadHeaderDisp
-13100080 20000000 03000000 00000000 00000000 d0070000 10200110 04000000 : BadHeaderDisp
-13160080 20000000 03000000 00000000 00000000 d0070000 10200110 04000000 : BadHeaderDisp
-13000080 20000000 03000000 05000000 00000000 d0070000 10200110 04000000 : BadHeaderDisp
-13000080 20000000 03000000 ffffffff 00000000 d0070000 10200110 04000000 : BadHeaderDisp
-10000080 20000000 03000000 00000000 00000000 d0070000 16200110 04000000 : BadHeaderDisp
-13000080 20000000 03000000 00000000 00000000 d0070000 13200100 04000000 : OutOfLine 24
-13000080 20000000 03000000 00000000 00000000 d0070000 13200150 04000000 : BadDesc 24
-13000080 20000000 03000000 00000000 00000000 d0070000 13200140 04000000 : BadDesc 24
-13000080 20000000 03000000 00000000 00000000 d0070000 13200190 04000000 : BadDesc 24
-13000080 20000000 03000000 00000000 00000000 d0070000 13100110 04000000 : BadDesc 24
-13000080 20000000 03000000 00000000 00000000 d0070000 16200110 04000000 : BadDesc 24
-13000080 20000000 03000000 00000000 00000000 d0070000 02000110 04000000 : BadDesc 24
-13000080 20000000 03000000 00000000 00000000 d0070000 02210110 04000000 : BadDesc 24
-13000080 20000000 03000000 00000000 00000000 d0070000 13200210 04000000 : Truncated 24
-13000080 24000000 03000000 00000000 00000000 d0070000 000000f0 16000000 00000000 : BadDesc 24
-13000080 23000000 03000000 00000000 00000000 d0070000 000000f0 16000000 000000 : Truncated 24
-13000000 24000000 03000000 00000000 00000000 d0070000 00000020 09000800 00000000 : OutOfLine 24
-13000080 24000000 03000000 00000000 00000000 d0070000 00000030 0900f8ff ffffffff : Truncated 24
-13000000 25000000 03000000 00000000 00000000 d0070000 01100010 02200110 07000000 00 : Truncated 36
-13000000 28000000 03000000 00000000 00000000 d0070000 01100010 02200110 07000000 00000010 : BadDesc 36
-13000000 1f000000 03000000 00000000 00000000 d0070000 09080310 aabbcc : Truncated 24
-13000080 1a000000 03000000 00000000 00000000 d0070000 1020 : Truncated 24
-13000080 18000000 03000000 00000000 00000000 d0070000 : ComplexDiffers
-13000000 20000000 03000000 00000000 00000000 d0070000 10200110 04000000 : ComplexDiffers
-13000000 1c000000 03000000 00000000 00000000 d0070000 11200010 : ComplexDiffers
-13000080 20000000 03000000 00000000 00000000 d0070000 02200110 04000000 : ComplexDiffers";
+const REFUSED: [(&str, &str); 29] = [
+    (
+        "13000080 20000000 03000000 00000000 00000000 d00700",
+        "TooShort",
+    ),
+    (
+        "10000080 20000000 03000000 00000000 00000000 d0070000 10200110 04000000",
+        "BadHeaderDisp",
+    ),
+    (
+        "16000080 20000000 03000000 00000000 00000000 d0070000 10200110 04000000",
+        "BadHeaderDisp",
+    ),
+    (
+        "13100080 20000000 03000000 00000000 00000000 d0070000 10200110 04000000",
+        "BadHeaderDisp",
+    ),
+    (
+        "13160080 20000000 03000000 00000000 00000000 d0070000 10200110 04000000",
+        "BadHeaderDisp",
+    ),
+    (
+        "13000080 20000000 03000000 05000000 00000000 d0070000 10200110 04000000",
+        "BadHeaderDisp",
+    ),
+    (
+        "13000080 20000000 03000000 ffffffff 00000000 d0070000 10200110 04000000",
+        "BadHeaderDisp",
+    ),
+    (
+        "10000080 20000000 03000000 00000000 00000000 d0070000 16200110 04000000",
+        "BadHeaderDisp",
+    ),
+    (
+        "13000080 20000000 03000000 00000000 00000000 d0070000 13200100 04000000",
+        "OutOfLine 24",
+    ),
+    (
+        "13000080 20000000 03000000 00000000 00000000 d0070000 13200150 04000000",
+        "BadDesc 24",
+    ),
+    (
+        "13000080 20000000 03000000 00000000 00000000 d0070000 13200140 04000000",
+        "BadDesc 24",
+    ),
+    (
+        "13000080 20000000 03000000 00000000 00000000 d0070000 13200190 04000000",
+        "BadDesc 24",
+    ),
+    (
+        "13000080 20000000 03000000 00000000 00000000 d0070000 13100110 04000000",
+        "BadDesc 24",
+    ),
+    (
+        "13000080 20000000 03000000 00000000 00000000 d0070000 16200110 04000000",
+        "BadDesc 24",
+    ),
+    (
+        "13000080 20000000 03000000 00000000 00000000 d0070000 02000110 04000000",
+        "BadDesc 24",
+    ),
+    (
+        "13000080 20000000 03000000 00000000 00000000 d0070000 02210110 04000000",
+        "BadDesc 24",
+    ),
+    (
+        "13000080 20000000 03000000 00000000 00000000 d0070000 13200210 04000000",
+        "Truncated 24",
+    ),
+    (
+        "13000080 24000000 03000000 00000000 00000000 d0070000 000000f0 16000000 00000000",
+        "BadDesc 24",
+    ),
+    (
+        "13000080 23000000 03000000 00000000 00000000 d0070000 000000f0 16000000 000000",
+        "Truncated 24",
+    ),
+    (
+        "13000000 24000000 03000000 00000000 00000000 d0070000 00000020 09000800 00000000",
+        "OutOfLine 24",
+    ),
+    (
+        "13000080 24000000 03000000 00000000 00000000 d0070000 00000030 0900f8ff ffffffff",
+        "Truncated 24",
+    ),
+    (
+        "13000000 25000000 03000000 00000000 00000000 d0070000 01100010 02200110 07000000 00",
+        "Truncated 36",
+    ),
+    (
+        "13000000 28000000 03000000 00000000 00000000 d0070000 01100010 02200110 07000000 00000010",
+        "BadDesc 36",
+    ),
+    (
+        "13000000 1f000000 03000000 00000000 00000000 d0070000 09080310 aabbcc",
+        "Truncated 24",
+    ),
+    (
+        "13000080 1a000000 03000000 00000000 00000000 d0070000 1020",
+        "Truncated 24",
+    ),
+    (
+        "13000080 18000000 03000000 00000000 00000000 d0070000",
+        "ComplexDiffers",
+    ),
+    (
+        "13000000 20000000 03000000 00000000 00000000 d0070000 10200110 04000000",
+        "ComplexDiffers",
+    ),
+    (
+        "13000000 1c000000 03000000 00000000 00000000 d0070000 11200010",
+        "ComplexDiffers",
+    ),
+    (
+        "13000080 20000000 03000000 00000000 00000000 d0070000 02200110 04000000",
+        "ComplexDiffers",
+    ),
+];
 
 #[test]
 fn what_is_read(rt: HostRuntime) -> Result<(), Fail> {
-    for row in READ.lines() {
-        if let Some((bytes, want)) = row.split_once(" : ") {
-            assert!(rt; becomes(rt.alloc(), bytes, want)?, "{row}");
-        }
+    for (bytes, want) in READ {
+        assert!(rt; becomes(rt.alloc(), bytes, want)?, "{bytes}");
     }
     Ok(())
 }
 
 #[test]
 fn what_is_refused(rt: HostRuntime) -> Result<(), Fail> {
-    for row in REFUSED.lines() {
-        if let Some((bytes, want)) = row.split_once(" : ") {
-            assert!(rt; tells(rt.alloc(), bytes, want)?, "{row}");
-        }
+    for (bytes, want) in REFUSED {
+        assert!(rt; tells(rt.alloc(), bytes, want)?, "{bytes}");
     }
     Ok(())
 }
@@ -134,7 +263,7 @@ fn fronts_of_a_message(rt: HostRuntime) -> Result<(), Fail> {
     let text = "13000080 20000000 03000000 00000000 00000000 d0070000 10200110 04000000";
     let mut front = Vec::new(alloc);
     for byte in &hex(alloc, text)? {
-        let fault = again(alloc, &front).err();
+        let fault = fault_of(alloc, &front);
         assert_eq!(rt; fault, Some(front_fault(front.len())));
         front.push(*byte)?;
     }
@@ -206,7 +335,7 @@ fn many_items(rt: HostRuntime) -> Result<(), Fail> {
     let mut larger = hex(alloc, most)?;
     let rest = zeros(alloc, 8157)?;
     larger.extend_from_slice(&rest)?;
-    assert_eq!(rt; again(alloc, &larger).err(), Some(ReadFault::TooLong));
+    assert_eq!(rt; fault_of(alloc, &larger), Some(ReadFault::TooLong));
     Ok(())
 }
 
@@ -233,7 +362,7 @@ fn any_header_is_written(rt: HostRuntime) -> Result<(), Fail> {
         return Err("the message is lawful".into());
     };
     assert_eq!(rt; bytes.as_slice(), hex(alloc, want)?.as_slice());
-    assert_eq!(rt; again(alloc, &bytes).err(), Some(ReadFault::BadHeaderDisp));
+    assert_eq!(rt; fault_of(alloc, &bytes), Some(ReadFault::BadHeaderDisp));
     Ok(())
 }
 
@@ -296,8 +425,8 @@ fn is_data(alloc: Global, argument: &Argument, desc: Desc, want: &str) -> Result
 #[test]
 fn parts_of_a_message(rt: HostRuntime) -> Result<(), Fail> {
     let alloc = rt.alloc();
-    let text =
-        "13000080 00000000 03000000 00000000 00000000 d0070000 01100210 aabbccdd 12200210 07000000 08000000";
+    let text = "13000080 00000000 03000000 00000000 00000000 d0070000
+        01100210 aabbccdd 12200210 07000000 08000000";
     let message = read_message(alloc, &hex(alloc, text)?)?;
     assert_eq!(rt; message.header(), HEADER);
     assert_eq!(rt; written_size(&message), 44);
@@ -306,24 +435,23 @@ fn parts_of_a_message(rt: HostRuntime) -> Result<(), Fail> {
         size: 16,
         number: 2,
     };
-    let names = Desc {
-        name: 18,
-        size: 32,
-        number: 2,
-    };
     let [first, second] = message.args() else {
         return Err("there are two arguments".into());
     };
     assert!(rt; is_data(alloc, first, words, "aabbccdd")?);
     assert!(rt; is_ports(alloc, second, Disp::MoveSendOnce, &[7, 8])?);
     assert!(rt; !first.same(second));
-    assert!(rt; first.desc() == words && !first.is_ports());
-    assert!(rt; second.desc() == names && second.is_ports());
+    assert!(rt; !first.is_ports() && second.is_ports());
+    assert_eq!(rt; (first.name(), first.size(), first.number()), (1, 16, 2));
+    assert_eq!(rt;
+        (second.name(), second.size(), second.number()),
+        (18, 32, 2)
+    );
     Ok(())
 }
 
 /// Whether the two texts spell the same message, which is also its copy.
-fn alike(alloc: Global, text: &str, other: &str) -> Result<bool, ReadFault> {
+fn alike(alloc: Global, text: &str, other: &str) -> Result<bool, OrMemory<ReadFault>> {
     let message = read_message(alloc, &hex(alloc, text)?)?;
     let other = read_message(alloc, &hex(alloc, other)?)?;
     let copied = message.same(&message.copy(alloc)?);
@@ -347,8 +475,9 @@ fn messages_that_differ(rt: HostRuntime) -> Result<(), Fail> {
     Ok(())
 }
 
-/// Whether the parts that are taken out make the message again, with another number of receipts too.
-fn parts_make_it(alloc: Global, bytes: &[u8]) -> Result<bool, ReadFault> {
+/// Whether the parts that are taken out make the message again, with another number of receipts
+/// too.
+fn parts_make_it(alloc: Global, bytes: &[u8]) -> Result<bool, OrMemory<ReadFault>> {
     let message = read_message(alloc, bytes)?;
     let copy = message.copy(alloc)?;
     let (header, args) = message.into_parts();
@@ -366,11 +495,114 @@ fn a_message_taken_apart(rt: HostRuntime) -> Result<(), Fail> {
     Ok(())
 }
 
+/// The same data, or other port rights in the place of as many: the names 7, 8 and so on, made to
+/// send rights.
+fn received(argument: Argument, alloc: Global) -> Result<Argument, AllocError> {
+    Ok(match argument {
+        Argument::Data { desc, bytes } => Argument::Data {
+            desc,
+            bytes: Bytes::from(bytes.into_vec()),
+        },
+        Argument::Ports { disp: _, names } => {
+            let mut others = Vec::new(alloc);
+            let mut other = 7;
+            for _ in names.into_vec() {
+                others.push(other)?;
+                other = 8;
+            }
+            Argument::Ports {
+                disp: Disp::MoveSend,
+                names: Names::from(others),
+            }
+        }
+    })
+}
+
+#[test]
+fn received_under_other_names(rt: HostRuntime) -> Result<(), Fail> {
+    let alloc = rt.alloc();
+    let sent = "13000080 2c000000 03000000 00000000 00000000 d0070000
+        01100210 aabbccdd 14200210 05000000 06000000";
+    let want = "00110080 2c000000 00000000 02000000 02010000 45000000
+        01100210 aabbccdd 11200210 07000000 08000000";
+    let (_, args) = read_message(alloc, &hex(alloc, sent)?)?.into_parts();
+    let mut others = Vec::new(alloc);
+    for argument in args.into_vec() {
+        others.push(received(argument, alloc)?)?;
+    }
+    let Ok(message) = Message::new(RECEIVED, Arguments::from(others)) else {
+        return Err("the message is lawful".into());
+    };
+    let bytes = write_message(alloc, &message)?;
+    assert_eq!(rt; bytes.as_slice(), hex(alloc, want)?.as_slice());
+    Ok(())
+}
+
+/// A message of so many arguments: by turns one word of data and one port right, each with its
+/// number.
+fn long_message(alloc: Global, count: u16) -> Result<Vec<u8>, AllocError> {
+    let size = 24 + 8 * u32::from(count);
+    let mut bytes = hex(alloc, "13000080")?;
+    bytes.extend_from_slice(&size.to_le_bytes())?;
+    let rest = hex(alloc, "03000000 00000000 00000000 d0070000")?;
+    bytes.extend_from_slice(&rest)?;
+    for number in 0..count {
+        let name = if number % 2 == 0 { 2 } else { 19 };
+        bytes.extend_from_slice(&[name, 32, 1, 16])?;
+        bytes.extend_from_slice(&u32::from(number).to_le_bytes())?;
+    }
+    Ok(bytes)
+}
+
+/// Whether the argument is the one of this number in a long message.
+fn is_numbered(argument: &Argument, number: u16) -> bool {
+    let word = u32::from(number);
+    match argument {
+        Argument::Data { desc, bytes } => {
+            number % 2 == 0 && desc.name == 2 && bytes.as_slice() == word.to_le_bytes().as_slice()
+        }
+        Argument::Ports { disp, names } => {
+            number % 2 == 1 && *disp == Disp::CopySend && names.as_slice() == [word].as_slice()
+        }
+    }
+}
+
+/// Whether so many arguments are read, copied, compared and written.
+fn is_read_whole(alloc: Global, count: u16) -> Result<bool, OrMemory<ReadFault>> {
+    let bytes = long_message(alloc, count)?;
+    let message = read_message(alloc, &bytes)?;
+    if message.args().len() != usize::from(count) {
+        return Ok(false);
+    }
+    for (argument, number) in message.args().iter().zip(0..count) {
+        if !is_numbered(argument, number) {
+            return Ok(false);
+        }
+    }
+    let copy = message.copy(alloc)?;
+    let written = write_message(alloc, &copy)?;
+    Ok(copy.same(&message) && written.as_slice() == bytes.as_slice())
+}
+
+/// No clause says that a message of many arguments is read at all: want of memory may always be
+/// told.
+#[test]
+fn many_arguments(rt: HostRuntime) -> Result<(), Fail> {
+    for count in [3, 40, 1_021] {
+        assert!(rt; is_read_whole(rt.alloc(), count)?, "{count}");
+    }
+    assert_eq!(rt;
+        fault_of(rt.alloc(), &long_message(rt.alloc(), 1_022)?),
+        Some(ReadFault::TooLong)
+    );
+    Ok(())
+}
+
 /// The bytes that reading, copying and writing make, where each of them is tried once more after
 /// an allocation was refused.
-fn tried_twice(alloc: Global, bytes: &[u8]) -> Result<Vec<u8>, ReadFault> {
+fn tried_twice(alloc: Global, bytes: &[u8]) -> Result<Vec<u8>, OrMemory<ReadFault>> {
     let message = match read_message(alloc, bytes) {
-        Err(ReadFault::Memory) => read_message(alloc, bytes)?,
+        Err(OrMemory::Memory) => read_message(alloc, bytes)?,
         answer => answer?,
     };
     let copy = match message.copy(alloc) {
@@ -383,8 +615,8 @@ fn tried_twice(alloc: Global, bytes: &[u8]) -> Result<Vec<u8>, ReadFault> {
     }
 }
 
-/// Where the one allocation that is refused is one of theirs, the calls answer that, and then the next
-/// call has its answer.
+/// Where the one allocation that is refused is one of theirs, the calls answer that, and then the
+/// next call has its answer.
 #[test]
 fn memory_refused(rt: HostRuntime) -> Result<(), Fail> {
     let alloc = rt.alloc();

@@ -1,8 +1,9 @@
 //! Writing a message.
 
 ghost use Rattle.std.specs.Prelude.{◌≡◌, ◌≤◌, ◌++◌, length, IfOk, OnOk, replicate, flat_map};
-ghost use Rattle.mrc_model.specs.Message.{word, half, descriptor, arg_bytes, written, written_size};
 ghost use Rattle.std.specs.List.{AllByRecursion};
+ghost use Rattle.mrc_base.specs.Limits.{limit_of_message};
+ghost use Rattle.mrc_model.specs.Message.{word, half, descriptor, arg_bytes, written, written_size};
 ghost use Rattle.mrc_desc.specs.Lawful.{AreLawful, IsLawfulArg};
 ghost use Rattle.mrc_desc.specs.View.{argument_of, arguments_of};
 
@@ -35,7 +36,8 @@ fn put_word(out: &mut Vec<u8>, number: u32) -> Result<(), AllocError>
 }
 
 fn put_desc(out: &mut Vec<u8>, desc: Desc) -> Result<(), AllocError>
-    ensures { OnOk result (out.new.items ≡ out.old.items ++ descriptor desc.name desc.size desc.number) }
+    ensures { OnOk result
+        (out.new.items ≡ out.old.items ++ descriptor desc.name desc.size desc.number) }
 {
     if desc.is_short() {
         let numbers = u32::from(desc.name) + (u32::from(desc.size) << 8) + (desc.number << 16);
@@ -81,7 +83,8 @@ fn put_argument(out: &mut Vec<u8>, argument: &Argument) -> Result<(), AllocError
 }
 
 /// The bytes that a message is written as: its size is that number of bytes, the complex bit stands
-/// exactly where an argument has port rights, and a descriptor is short where the short form has room.
+/// exactly where an argument has port rights, and a descriptor is short where the short form has
+/// room.
 pub fn write_message(alloc: Global, message: &Message) -> Result<Vec<u8>, AllocError>
     ensures { IfOk result (λ v. v.items ≡ written message.now) }
 {
@@ -103,7 +106,8 @@ pub fn write_message(alloc: Global, message: &Message) -> Result<Vec<u8>, AllocE
 
 fn put_arguments(out: &mut Vec<u8>, args: &[Argument]) -> Result<(), AllocError>
     requires { AllByRecursion IsLawfulArg (arguments_of args.now) }
-    ensures { OnOk result (out.new.items ≡ out.old.items ++ flat_map arg_bytes (arguments_of args.now)) }
+    ensures { OnOk result
+        (out.new.items ≡ out.old.items ++ flat_map arg_bytes (arguments_of args.now)) }
 {
     for argument in args {
         put_argument(out, argument)?;
@@ -113,9 +117,9 @@ fn put_arguments(out: &mut Vec<u8>, args: &[Argument]) -> Result<(), AllocError>
 
 /// How many bytes the message is written as, 24 to 8,192.
 pub fn written_size(message: &Message) -> u32
-    ensures size { result ≡ written_size message.now }
-    ensures length { result ≡ length (written message.now) }
-    ensures within { result ≤ 8192 }
+    ensures exact { result ≡ written_size message.now }
+    ensures len { result ≡ length (written message.now) }
+    ensures within { result ≤ limit_of_message }
 {
     (HEADER_SIZE + arguments_size(message.args())) as u32
 }

@@ -1,14 +1,15 @@
 -- Slots, and the arguments that they are.
-use Rattle.std.proofs.Common.{◌≡◌, ℕ, zero, suc, ◌+◌, inl, inr, List, [], ◌∷◌, ◌++◌, map, Option, Some, None, refl, sym, ap, ◌∙◌, subst, arith}
+use Rattle.std.proofs.Common.{◌≡◌, ℕ, zero, suc, ◌+◌, inl, inr, List, [], ◌∷◌, ◌++◌, map, Option}
+use Rattle.std.proofs.Common.{Some, None, refl, sym, ap, ◌∙◌, subst, arith}
 use Rattle.std.specs.Prelude.{slice_get}
 use Rattle.std.specs.Option.{option_map}
 use Rattle.std.proofs.lemmas.Option.{slice_get-map}
 use Rattle.mrc_base.specs.declared.Disp.{Disp}
 use Rattle.mrc_model.specs.IsIn.{IsIn, here, later}
-use Rattle.mrc_model.specs.Rights.{disp_of}
+use Rattle.mrc_base.specs.Disposition.{disp_of_number}
 use Rattle.mrc_model.proofs.Maps.{same_Some, not_None}
 use Rattle.mrc_model.proofs.FirstHeld.{in_cons}
-use Rattle.mrc_mig_parse.specs.declared.subsystem.Kind.{Kind}
+use Rattle.mrc_mig_parse.specs.declared.subsystem.Shape.{Shape}
 use Rattle.mrc_mig_parse.specs.Arguments.{Item}
 use Rattle.mrc_interface.specs.declared.form.FormKind.{FormKind}
 use Rattle.mrc_interface.specs.declared.form.FormKind.TheVariants.{Request, Reply}
@@ -21,73 +22,118 @@ HasSlotIn slots i d = (slot : Slot) × IsIn slot slots × (slot.argument ≡ i) 
 
 -- the item in this place is of this disposition
 abbrev IsPortAt : List Item → ℕ → Disp → Type 0
-IsPortAt items j d = (item : Item) × (slice_get items j ≡ Some item) × (disp_of item.kind.number ≡ Some d)
+IsPortAt items j d = (item : Item) × (slice_get items j ≡ Some item)
+    × (disp_of_number item.shape.name ≡ Some d)
 
 -- each slot is an item of its disposition
-pub slot_is_port : (n : ℕ) (items : List Item) (i : ℕ) (d : Disp) → HasSlotIn (slots_from n items) i d → (j : ℕ) × (n + j ≡ i) × IsPortAt items j d
+pub slot_is_port : (n : ℕ) (items : List Item) (i : ℕ) (d : Disp)
+    → HasSlotIn (slots_from n items) i d → (j : ℕ) × (n + j ≡ i) × IsPortAt items j d
 slot_is_port n [] i d h = elim h.1 [ ]
 slot_is_port n (item ∷ items) i d h =
-    let later_on : HasSlotIn (slots_from (n + 1) items) i d → (j : ℕ) × (n + j ≡ i) × IsPortAt (item ∷ items) j d =
-    λ more. let r = slot_is_port (n + 1) items i d more in (suc r.0, (let e = r.1 in omega arith), r.2) in
-    let go : (o : Option Disp) → disp_of item.kind.number ≡ o → HasSlotIn (slot_by n item.type_name o ++ slots_from (n + 1) items) i d → (j : ℕ) × (n + j ≡ i) × IsPortAt (item ∷ items) j d = elim [
+    let later_on : HasSlotIn (slots_from (n + 1) items) i d → (j : ℕ) × (n + j ≡ i)
+    × IsPortAt (item ∷ items) j d =
+    λ more. let r = slot_is_port (n + 1) items i d more in
+    (suc r.0, (let e = r.1 in omega arith), r.2) in
+    let go : (o : Option Disp) → disp_of_number item.shape.name ≡ o
+    → HasSlotIn (slot_by n item.type_name o ++ slots_from (n + 1) items) i d
+    → (j : ℕ) × (n + j ≡ i) × IsPortAt (item ∷ items) j d = elim [
       | None ↦ λ is more. later_on more
-      | Some x ↦ λ is more. elim (in_cons more.0 (record { argument = n; disposition = x; type_name = item.type_name }) (slots_from (n + 1) items) more.1) [
-        | inl same ↦ (0, (let e : n ≡ i = sym (ap (λ (s : Slot). s.argument) same) ∙ more.2 in omega arith), (item, refl, is ∙ ap Some (sym (ap (λ (s : Slot). s.disposition) same) ∙ more.3)))
-        | inr there ↦ later_on (more.0, there, more.2, more.3)
-      ]
+      | Some x ↦ λ is more. elim
+          (in_cons more.0 (record { argument = n; disposition = x; type_name = item.type_name })
+          (slots_from (n + 1) items) more.1) [
+            | inl same ↦ (
+              0,
+              (let e : n ≡ i = sym (ap (λ (s : Slot). s.argument) same)
+                  ∙ more.2 in omega arith),
+              (
+                item,
+                refl,
+                is
+                    ∙ ap Some (sym (ap (λ (s : Slot). s.disposition) same) ∙ more.3),
+              ),
+            )
+            | inr there ↦ later_on (more.0, there, more.2, more.3)
+          ]
     ] in
-    go (disp_of item.kind.number) refl h
+    go (disp_of_number item.shape.name) refl h
 
 -- each item of a disposition is a slot
-pub port_is_slot : (n : ℕ) (items : List Item) (j : ℕ) (d : Disp) → IsPortAt items j d → HasSlotIn (slots_from n items) (n + j) d
+pub port_is_slot : (n : ℕ) (items : List Item) (j : ℕ) (d : Disp) → IsPortAt items j d
+    → HasSlotIn (slots_from n items) (n + j) d
 port_is_slot n [] j d p = absurd (not_None p.0 (sym p.1))
 port_is_slot n (item ∷ items) zero d p =
-    let is : disp_of item.kind.number ≡ Some d = ap (λ (x : Item). disp_of x.kind.number) (same_Some _ _ p.1) ∙ p.2 in
+    let is : disp_of_number item.shape.name ≡ Some d =
+    ap (λ (x : Item). disp_of_number x.shape.name) (same_Some _ _ p.1) ∙ p.2 in
     let e : n ≡ n + 0 = omega arith in
-    subst (λ (o : Option Disp). HasSlotIn (slot_by n item.type_name o ++ slots_from (n + 1) items) (n + 0) d) (sym is)
+    subst (λ (o : Option Disp). HasSlotIn (slot_by n item.type_name o ++ slots_from (n + 1) items)
+    (n + 0) d) (sym is)
     (record { argument = n; disposition = d; type_name = item.type_name }, here, e, refl)
 port_is_slot n (item ∷ items) (suc j) d p =
     let r = port_is_slot (n + 1) items j d p in
     let e : n + 1 + j ≡ n + suc j = omega arith in
-    let go : (o : Option Disp) → HasSlotIn (slot_by n item.type_name o ++ slots_from (n + 1) items) (n + suc j) d = elim [
+    let go : (o : Option Disp)
+    → HasSlotIn (slot_by n item.type_name o ++ slots_from (n + 1) items) (n + suc j) d = elim [
       | None ↦ (r.0, r.1, r.2 ∙ e, r.3)
       | Some x ↦ (r.0, later r.1, r.2 ∙ e, r.3)
     ] in
-    go (disp_of item.kind.number)
+    go (disp_of_number item.shape.name)
 
 -- the argument in this place carries port rights in this way
-abbrev IsPortArgument : List Kind → ℕ → Disp → Type 0
-IsPortArgument arguments i d = (argument : Kind) × (slice_get arguments i ≡ Some argument) × (disp_of argument.number ≡ Some d)
+abbrev IsPortArgument : List Shape → ℕ → Disp → Type 0
+IsPortArgument arguments i d = (argument : Shape) × (slice_get arguments i ≡ Some argument)
+    × (disp_of_number argument.name ≡ Some d)
 
 -- the same of the items
-item_of_argument : (items : List Item) (j : ℕ) (d : Disp) → IsPortArgument (map (λ item. item.kind) items) j d → IsPortAt items j d
+item_of_argument : (items : List Item) (j : ℕ) (d : Disp)
+    → IsPortArgument (map (λ item. item.shape) items) j d → IsPortAt items j d
 item_of_argument items j d p =
-    let go : (o : Option Item) → slice_get items j ≡ o → option_map (λ (item : Item). item.kind) o ≡ Some p.0 → IsPortAt items j d = elim [
+    let go : (o : Option Item) → slice_get items j ≡ o
+    → option_map (λ (item : Item). item.shape) o ≡ Some p.0 → IsPortAt items j d = elim [
       | None ↦ λ at e. absurd (not_None p.0 (sym e))
-      | Some item ↦ λ at e. (item, at, ap (λ (k : Kind). disp_of k.number) (same_Some _ _ e) ∙ p.2)
+      | Some item ↦ λ at e. (
+        item,
+        at,
+        ap (λ (k : Shape). disp_of_number k.name) (same_Some _ _ e)
+            ∙ p.2,
+      )
     ] in
-    go (slice_get items j) refl (sym (slice_get-map (λ (item : Item). item.kind) items j) ∙ p.1)
+    go (slice_get items j) refl (sym (slice_get-map (λ (item : Item). item.shape) items j) ∙ p.1)
 
-argument_of_item : (items : List Item) (j : ℕ) (d : Disp) → IsPortAt items j d → IsPortArgument (map (λ item. item.kind) items) j d
-argument_of_item items j d p = (p.0.kind, slice_get-map (λ (item : Item). item.kind) items j ∙ ap (option_map (λ (item : Item). item.kind)) p.1, p.2)
+argument_of_item : (items : List Item) (j : ℕ) (d : Disp) → IsPortAt items j d
+    → IsPortArgument (map (λ item. item.shape) items) j d
+argument_of_item items j d p = (
+  p.0.shape,
+  slice_get-map (λ (item : Item). item.shape) items j
+      ∙ ap (option_map (λ (item : Item). item.shape)) p.1,
+  p.2,
+)
 
 -- a slot of a form is one of its arguments
-pub slot_is_argument : (id : ℕ) (kind : FormKind) (items : List Item) (i : ℕ) (d : Disp) → HasSlot (form_of id kind items) i d → IsPortArgument (form_of id kind items).arguments i d
+pub slot_is_argument : (id : ℕ) (kind : FormKind) (items : List Item) (i : ℕ) (d : Disp)
+    → HasSlot (form_of id kind items) i d → IsPortArgument (form_of id kind items).arguments i d
 slot_is_argument id (Request k) items i d h =
     let r = slot_is_port 0 (body (Request k) items) i d h in
     let e : r.0 ≡ i = let z = r.1 in omega arith in
-    subst (λ (j : ℕ). IsPortArgument (map (λ item. item.kind) (body (Request k) items)) j d) e (argument_of_item (body (Request k) items) r.0 d r.2)
+    subst (λ (j : ℕ). IsPortArgument (map (λ item. item.shape) (body (Request k) items)) j d) e
+    (argument_of_item (body (Request k) items) r.0 d r.2)
 slot_is_argument id Reply items i d h =
     let r = slot_is_port 1 (body Reply items) i d h in
     let e : suc r.0 ≡ i = let z = r.1 in omega arith in
-    subst (λ (j : ℕ). IsPortArgument (form_of id Reply items).arguments j d) e (argument_of_item (body Reply items) r.0 d r.2)
+    subst (λ (j : ℕ). IsPortArgument (form_of id Reply items).arguments j d) e
+    (argument_of_item (body Reply items) r.0 d r.2)
 
 -- an argument that carries port rights is a slot
-pub argument_is_slot : (id : ℕ) (kind : FormKind) (items : List Item) (i : ℕ) (d : Disp) → IsPortArgument (form_of id kind items).arguments i d → HasSlot (form_of id kind items) i d
+pub argument_is_slot : (id : ℕ) (kind : FormKind) (items : List Item) (i : ℕ) (d : Disp)
+    → IsPortArgument (form_of id kind items).arguments i d → HasSlot (form_of id kind items) i d
 argument_is_slot id (Request k) items i d p =
     let e : 0 + i ≡ i = omega arith in
-    subst (λ (j : ℕ). HasSlotIn (slots_from 0 (body (Request k) items)) j d) e (port_is_slot 0 (body (Request k) items) i d (item_of_argument (body (Request k) items) i d p))
-argument_is_slot id Reply items zero d p = absurd (not_None d (sym p.2 ∙ ap (λ (k : Kind). disp_of k.number) (sym (same_Some _ _ p.1))))
+    subst (λ (j : ℕ). HasSlotIn (slots_from 0 (body (Request k) items)) j d) e
+    (port_is_slot 0 (body (Request k) items) i d
+    (item_of_argument (body (Request k) items) i d p))
+argument_is_slot id Reply items zero d p =
+    absurd (not_None d (sym p.2
+    ∙ ap (λ (k : Shape). disp_of_number k.name) (sym (same_Some _ _ p.1))))
 argument_is_slot id Reply items (suc j) d p =
     let e : 1 + j ≡ suc j = omega arith in
-    subst (λ (k : ℕ). HasSlotIn (slots_from 1 (body Reply items)) k d) e (port_is_slot 1 (body Reply items) j d (item_of_argument (body Reply items) j d p))
+    subst (λ (k : ℕ). HasSlotIn (slots_from 1 (body Reply items)) k d) e
+    (port_is_slot 1 (body Reply items) j d (item_of_argument (body Reply items) j d p))

@@ -1,11 +1,11 @@
--- Which form is found by an id, and which arguments are slots, in words apart from how the table is searched. After the
--- Server Writer's Guide for MIG.
-use Rattle.std.specs.Prelude.{◌≡◌, ℕ, ◌+◌, List, [], ◌∷◌, Some, slice_get, ◌↔◌}
+-- Which form is found by an id, and which arguments are slots, in words apart from how the table is
+-- searched. After the Server Writer's Guide for MIG.
+use Rattle.std.specs.Prelude.{◌≡◌, ℕ, ◌+◌, List, [], ◌∷◌, Some, Ok, slice_get, ◌↔◌}
 use Rattle.mrc_base.specs.declared.Disp.{Disp}
 use Rattle.mrc_model.specs.IsIn.{IsIn}
-use Rattle.mrc_model.specs.Rights.{disp_of}
+use Rattle.mrc_base.specs.Disposition.{disp_of_number}
 use Rattle.mrc_model.specs.declared.RequestKind.TheVariants as requests
-use Rattle.mrc_mig_parse.specs.declared.subsystem.Kind.{Kind}
+use Rattle.mrc_mig_parse.specs.declared.subsystem.Shape.{Shape}
 use Rattle.mrc_mig_parse.specs.Arguments.{Item}
 use Rattle.mrc_mig_parse.specs.Files.{Meaning, Row as Statement, Routine, SimpleRoutine, Skip}
 use Rattle.mrc_interface.specs.declared.form.FormKind.{FormKind}
@@ -15,13 +15,17 @@ use Rattle.mrc_interface.specs.Tables.{Table, table_of, request_form, reply_form
 
 -- the forms of a statement that takes this id
 abbrev pub forms_at : ℕ → Statement → List Form
-forms_at id (Routine items) = form_of id (Request requests.Routine) items ∷ form_of (id + 100) Reply items ∷ []
+forms_at id (Routine items) =
+    form_of id (Request requests.Routine) items ∷ form_of (id + 100) Reply items ∷ []
 forms_at id (SimpleRoutine items) = form_of id (Request requests.Simple) items ∷ []
 forms_at id Skip = []
 
--- a statement of the subsystem has the form. That with i statements in front of it takes the id base + i
+-- a statement of the subsystem has the form. That with i statements in front of it takes the id
+-- base + i
 abbrev pub HasForm : Meaning → Form → Type 0
-HasForm m form = (i : ℕ) × (statement : Statement) × (slice_get m.rows i ≡ Some statement) × IsIn form (forms_at (m.base + i) statement)
+HasForm m form =
+    (i : ℕ) × (statement : Statement) × (slice_get m.rows i ≡ Some statement)
+    × IsIn form (forms_at (m.base + i) statement)
 
 -- the form is that of a request
 abbrev pub IsRequest : FormKind → Type 0
@@ -35,16 +39,21 @@ IsReply Reply = Unit {0}
 
 -- the request that is found by its id is the one that the subsystem has, and so is the reply
 abbrev pub FoundByIds : Type 0
-FoundByIds = (m : Meaning) (table : Table) → table_of m ≡ Some table → (id : ℕ) (form : Form) →
-    ((request_form table id ≡ Some form) ↔ (HasForm m form × IsRequest form.kind × (form.id ≡ id)))
+FoundByIds =
+    (m : Meaning) (table : Table) → table_of m ≡ Ok table → (id : ℕ) (form : Form)
+    → ((request_form table id ≡ Some form)
+    ↔ (HasForm m form × IsRequest form.kind × (form.id ≡ id)))
     × ((reply_form table id ≡ Some form) ↔ (HasForm m form × IsReply form.kind × (form.id ≡ id)))
 
 -- a slot of this disposition and this place is there
 abbrev pub HasSlot : Form → ℕ → Disp → Type 0
-HasSlot form i disposition = (slot : Slot) × IsIn slot form.slots × (slot.argument ≡ i) × (slot.disposition ≡ disposition)
+HasSlot form i disposition =
+    (slot : Slot) × IsIn slot form.slots × (slot.argument ≡ i) × (slot.disposition ≡ disposition)
 
 -- the slots are exactly the arguments whose type number is a disposition's
 abbrev pub SlotsArePorts : Type 0
-SlotsArePorts = (id : ℕ) (kind : FormKind) (items : List Item) (i : ℕ) (disposition : Disp) →
-    HasSlot (form_of id kind items) i disposition
-    ↔ ((argument : Kind) × (slice_get (form_of id kind items).arguments i ≡ Some argument) × (disp_of argument.number ≡ Some disposition))
+SlotsArePorts =
+    (id : ℕ) (kind : FormKind) (items : List Item) (i : ℕ) (disposition : Disp)
+    → HasSlot (form_of id kind items) i disposition
+    ↔ ((argument : Shape) × (slice_get (form_of id kind items).arguments i ≡ Some argument)
+    × (disp_of_number argument.name ≡ Some disposition))

@@ -1,8 +1,13 @@
--- The forms of a subsystem's messages by their ids, after the Server Writer's Guide for MIG. That ids end at 2,147,483,647
--- is this profile's own choice.
-use Rattle.std.specs.Prelude.{ℕ, ◌+◌, ◌-◌, List, [], ◌∷◌, Option, Some, None, option_and_then, nat_le, slice_get, if◌then◌else◌}
+-- The forms of a subsystem's messages by their ids, after the Server Writer's Guide for MIG. That
+-- ids end with the largest number of a file is this profile's own choice.
+use Rattle.std.specs.Prelude.{ℕ, ◌+◌, ◌-◌, List, [], ◌∷◌, Option, Some, None, Result, Ok, Err}
+use Rattle.std.specs.Prelude.{option_and_then, nat_le, slice_get, if◌then◌else◌}
+use Rattle.mrc_base.specs.Limits.{limit_of_number}
+use Rattle.mrc_base.specs.Reading.{◌>>=◌}
 use Rattle.mrc_model.specs.declared.RequestKind.TheVariants as requests
 use Rattle.mrc_mig_parse.specs.Files.{Meaning, Row as Statement, Routine, SimpleRoutine, Skip}
+use Rattle.mrc_interface.specs.declared.fault.InterfaceFault.{InterfaceFault}
+use Rattle.mrc_interface.specs.declared.fault.InterfaceFault.TheVariants.{IdRange}
 use Rattle.mrc_interface.specs.declared.form.FormKind.TheVariants.{Request, Reply}
 use Rattle.mrc_interface.specs.Forms.{Form, form_of}
 
@@ -19,8 +24,14 @@ pub record Table : Type 0 where
 
 -- the row of a statement that takes this id. A reply's id is 100 above that of its request
 abbrev pub row_of : ℕ → Statement → Row
-row_of id (Routine items) = record { request = Some (form_of id (Request requests.Routine) items); reply = Some (form_of (id + 100) Reply items) }
-row_of id (SimpleRoutine items) = record { request = Some (form_of id (Request requests.Simple) items); reply = None }
+row_of id (Routine items) = record {
+  request = Some (form_of id (Request requests.Routine) items);
+  reply = Some (form_of (id + 100) Reply items);
+}
+row_of id (SimpleRoutine items) = record {
+  request = Some (form_of id (Request requests.Simple) items);
+  reply = None;
+}
 row_of id Skip = record { request = None; reply = None }
 
 -- the greatest id of its messages; a skip takes its own
@@ -29,22 +40,21 @@ last_id id (Routine items) = id + 100
 last_id id (SimpleRoutine items) = id
 last_id id Skip = id
 
-infixl 10 ◌>>=◌
-abbrev pub ◌>>=◌ : {A B : Type 0} → Option A → (A → Option B) → Option B
-read >>= next = option_and_then next read
-
 -- the same, where there are such ids
-abbrev pub row_at : ℕ → Statement → Option Row
-row_at id statement = if nat_le (last_id id statement) 2147483647 then Some (row_of id statement) else None
+abbrev pub row_at : ℕ → Statement → Result Row InterfaceFault
+row_at id statement =
+    if nat_le (last_id id statement) limit_of_number then Ok (row_of id statement) else Err IdRange
 
 -- the rows of statements, of which the first takes this id
-abbrev pub rows_at : ℕ → List Statement → Option (List Row)
-rows_at id [] = Some []
-rows_at id (statement ∷ statements) = row_at id statement >>= λ row. rows_at (id + 1) statements >>= λ rows. Some (row ∷ rows)
+abbrev pub rows_at : ℕ → List Statement → Result (List Row) InterfaceFault
+rows_at id [] = Ok []
+rows_at id (statement ∷ statements) =
+    row_at id statement >>= λ row. rows_at (id + 1) statements >>= λ rows. Ok (row ∷ rows)
 
 -- the table of a subsystem
-abbrev pub table_of : Meaning → Option Table
-table_of m = rows_at m.base m.rows >>= λ rows. Some (record { name = m.name; base = m.base; rows = rows })
+abbrev pub table_of : Meaning → Result Table InterfaceFault
+table_of m =
+    rows_at m.base m.rows >>= λ rows. Ok (record { name = m.name; base = m.base; rows = rows })
 
 -- the row of this id, where the first row has the second id
 abbrev pub row_behind : Table → ℕ → ℕ → Option Row
@@ -52,8 +62,8 @@ row_behind table id first = if nat_le first id then slice_get table.rows (id - f
 
 -- the form of the request that has this id
 abbrev pub request_form : Table → ℕ → Option Form
-request_form table id = row_behind table id table.base >>= λ row. row.request
+request_form table id = option_and_then (λ row. row.request) (row_behind table id table.base)
 
 -- the form of the reply that has this id
 abbrev pub reply_form : Table → ℕ → Option Form
-reply_form table id = row_behind table id (table.base + 100) >>= λ row. row.reply
+reply_form table id = option_and_then (λ row. row.reply) (row_behind table id (table.base + 100))

@@ -1,34 +1,24 @@
 //! Why a subsystem has no table of forms.
 
 ghost use Rattle.std.specs.Prelude.{◌≡◌};
-ghost use Rattle.mrc_interface.specs.declared.fault.InterfaceFault.TheVariants.{Memory};
+ghost use Rattle.mrc_base.specs.declared.memory.OrMemory.TheVariants.{Fault};
 
-use std::alloc::{AllocError, AllocFailed};
+use mrc_base::OrMemory;
 use thiserror::Error;
 
 /// Why a subsystem has no table of forms.
 #[derive(Clone, Copy, Debug, PartialEq, Eq, Error)]
 pub enum InterfaceFault {
-    /// The id of a routine, a simpleroutine or a skip, or that of a reply, would be above 2,147,483,647.
+    /// The id of a routine, a simpleroutine or a skip, or that of a reply, would be above
+    /// 2,147,483,647.
     #[error("IdRange")]
     IdRange,
-    /// Memory ran out.
-    #[error("Memory")]
-    Memory,
 }
 
-impl From<AllocError> for InterfaceFault {
-    ghost from_gives = { λ _ e. e ≡ Memory };
+impl From<InterfaceFault> for OrMemory<InterfaceFault> {
+    ghost from_gives = { λ fault refusal. refusal ≡ Fault fault };
 
-    fn from(_e: AllocError) -> InterfaceFault {
-        InterfaceFault::Memory
-    }
-}
-
-impl<T: Drop> From<AllocFailed<T>> for InterfaceFault {
-    ghost from_gives = { λ _ e. e ≡ Memory };
-
-    fn from(_e: AllocFailed<T>) -> InterfaceFault {
-        InterfaceFault::Memory
+    fn from(fault: InterfaceFault) -> OrMemory<InterfaceFault> {
+        OrMemory::Fault(fault)
     }
 }

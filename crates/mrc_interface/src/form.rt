@@ -1,13 +1,12 @@
 //! What the body of a message looks like.
 
-ghost use Rattle.std.specs.Prelude.{◌≡◌, ◌++◌, ◌+◌, [], ◌∷◌, length, map, IfOk, OnOk, Option};
-ghost use Rattle.mrc_model.specs.Rights.{disp_of};
+ghost use Rattle.std.specs.Prelude.{◌≡◌, ◌++◌, [], ◌∷◌, length, map, IfOk, OnOk};
 ghost use Rattle.mrc_mig_parse.specs.Meanings.{item_of};
-ghost use Rattle.mrc_interface.specs.Forms.{in_front, is_in_body, slot_of_item, form_of};
+ghost use Rattle.mrc_interface.specs.Forms.{is_in_body, slot_of_item, form_of};
 ghost use Rattle.mrc_interface.specs.View.{slot_of};
 
 use mrc_base::Disp;
-use mrc_mig_parse::{Argument, Direction, Kind};
+use mrc_mig_parse::{Argument, Direction, Shape};
 use mrc_model::RequestKind;
 use std::alloc::{AllocError, Global};
 use std::marker::Model;
@@ -21,7 +20,8 @@ pub enum FormKind {
     Reply,
 }
 
-/// An argument that carries port rights. Where the argument is an array, each of its items is such a right.
+/// An argument that carries port rights. Where the argument is an array, each of its items is such
+/// a right.
 #[derive(Debug, PartialEq, Eq, Drop)]
 pub struct Slot {
     /// Its number among the arguments of the body, from 0.
@@ -32,12 +32,13 @@ pub struct Slot {
     pub type_name: String,
 }
 
-/// What the body of a message looks like: its arguments, in order, and which of them carry port rights.
+/// What the body of a message looks like: its arguments, in order, and which of them carry port
+/// rights.
 #[derive(Debug, Drop)]
 pub struct Form {
     id: u32,
     kind: FormKind,
-    arguments: Vec<Kind>,
+    arguments: Vec<Shape>,
     slots: Vec<Slot>,
 }
 
@@ -48,31 +49,21 @@ impl Model for Form {
 
     ghost Value = { forms.Form };
 
-    ghost view = { λ f. record { id = f.id; kind = f.kind; arguments = f.arguments.items; slots = map slot_of f.slots.items } };
+    ghost view = { λ f. record {
+      id = f.id;
+      kind = f.kind;
+      arguments = f.arguments.items;
+      slots = map slot_of f.slots.items;
+    } };
 }
 
 /// The return code of a reply.
-const RETURN_CODE: Kind = Kind {
-    number: 2,
+const RETURN_CODE: Shape = Shape {
+    name: 2,
     size: 32,
-    count: 1,
+    number: 1,
     is_bound: false,
 };
-
-/// The disposition that a type number stands for.
-fn disp_of(number: u32) -> Option<Disp>
-    ensures { result ≡ disp_of number }
-{
-    match number {
-        16 => Some(Disp::MoveReceive),
-        17 => Some(Disp::MoveSend),
-        18 => Some(Disp::MoveSendOnce),
-        19 => Some(Disp::CopySend),
-        20 => Some(Disp::MakeSend),
-        21 => Some(Disp::MakeSendOnce),
-        _ => None,
-    }
-}
 
 impl FormKind {
     /// Whether an argument that goes this way is in the body.
@@ -103,8 +94,9 @@ impl Form {
         self.kind
     }
 
-    /// The data of each argument of the body, in order. In a reply the return code is the first.
-    pub fn arguments(&self) -> &[Kind]
+    /// What the data of each argument of the body look like, in order. In a reply the return code
+    /// is the first.
+    pub fn arguments(&self) -> &[Shape]
         ensures { result.now ≡ self.now.arguments }
     {
         self.arguments.as_slice()
@@ -136,18 +128,18 @@ impl Form {
     /// Puts an argument behind the others.
     fn push(&mut self, alloc: Global, argument: &Argument) -> Result<(), AllocError>
         ensures { OnOk result (self.new ≡ record self.old {
-          arguments = self.old.arguments ++ argument.now.kind ∷ [];
+          arguments = self.old.arguments ++ argument.now.shape ∷ [];
           slots = self.old.slots ++ slot_of_item (length self.old.arguments) (item_of argument.now);
         }) }
     {
-        if let Some(disposition) = disp_of(argument.kind.number) {
+        if let Some(disposition) = Disp::of_number(argument.shape.name) {
             self.slots.push(Slot {
                 argument: self.arguments.len(),
                 disposition,
                 type_name: argument.type_name.clone()?,
             })?;
         }
-        self.arguments.push(argument.kind)?;
+        self.arguments.push(argument.shape)?;
         Ok(())
     }
 

@@ -2,20 +2,21 @@
 
 ghost use Rattle.std.specs.Prelude.{◌≡◌, ◌≤◌, length, map, None, IfOk, IfSome};
 ghost use Rattle.std.specs.Option.{option_map};
+ghost use Rattle.mrc_base.specs.Limits.{limit_of_ids};
+ghost use Rattle.mrc_base.specs.Reading.{Gives};
 ghost use Rattle.mrc_mig_parse.specs.Files.{Routine};
 ghost use Rattle.mrc_mig_parse.specs.Meanings.{item_of, row_of as statement_of};
-ghost use Rattle.mrc_interface.specs.Tables.{row_at, rows_at, table_of, request_form, reply_form};
-ghost use Rattle.mrc_interface.specs.View.{Gives, Told};
+ghost use Rattle.mrc_interface.specs.Tables.{row_at, rows_at, table_of};
+ghost use Rattle.mrc_interface.specs.Tables.{request_form, reply_form};
+ghost use Rattle.mrc_interface.specs.View.{GivesOrReturns};
 
 use crate::fault::InterfaceFault;
 use crate::form::{Form, FormKind};
+use mrc_base::{OrMemory, limits};
 use mrc_mig_parse::{Argument, Entry, Subsystem};
 use mrc_model::RequestKind;
 use std::alloc::Global;
 use std::marker::Model;
-
-/// The greatest id.
-const LAST_ID: u32 = 2_147_483_647;
 
 /// How far the id of a reply is above that of its request.
 const REPLY: u32 = 100;
@@ -45,21 +46,30 @@ pub struct Interface {
 
 impl Model for Interface {
     ghost use Rattle.std.specs.Prelude.{◌≤◌, length, string_bytes};
+    ghost use Rattle.mrc_base.specs.Limits.{limit_of_ids};
     ghost use Rattle.mrc_interface.specs.Tables.{Table};
 
     ghost Value = { Table };
 
-    ghost view = { λ i. record { name = string_bytes i.name; base = i.base; rows = i.rows.items } };
+    ghost view = { λ i. record {
+      name = string_bytes i.name;
+      base = i.base;
+      rows = i.rows.items;
+    } };
 
-    ghost invariant = { λ i. length i.rows.items ≤ 100 };
+    ghost invariant = { λ i. length i.rows.items ≤ limit_of_ids };
 }
 
 /// The row of a routine that takes this id.
-fn routine_row(alloc: Global, id: u32, arguments: &[Argument]) -> Result<Row, InterfaceFault>
+fn routine_row(
+    alloc: Global,
+    id: u32,
+    arguments: &[Argument],
+) -> Result<Row, OrMemory<InterfaceFault>>
     ensures { Gives (λ row. row) result (row_at id (Routine (map item_of arguments.now))) }
 {
-    if id > LAST_ID - REPLY {
-        return Err(InterfaceFault::IdRange);
+    if id > limits::NUMBER - REPLY {
+        return Err(OrMemory::Fault(InterfaceFault::IdRange));
     }
     let kind = FormKind::Request(RequestKind::Routine);
     Ok(Row {
@@ -69,11 +79,11 @@ fn routine_row(alloc: Global, id: u32, arguments: &[Argument]) -> Result<Row, In
 }
 
 /// The row of what takes this id.
-fn row_at(alloc: Global, id: u32, entry: &Entry) -> Result<Row, InterfaceFault>
+fn row_at(alloc: Global, id: u32, entry: &Entry) -> Result<Row, OrMemory<InterfaceFault>>
     ensures { Gives (λ row. row) result (row_at id (statement_of entry.now)) }
 {
-    if id > LAST_ID {
-        return Err(InterfaceFault::IdRange);
+    if id > limits::NUMBER {
+        return Err(OrMemory::Fault(InterfaceFault::IdRange));
     }
     match entry {
         Entry::Routine(arguments) => routine_row(alloc, id, arguments.as_slice()),
@@ -92,8 +102,13 @@ fn row_at(alloc: Global, id: u32, entry: &Entry) -> Result<Row, InterfaceFault>
 }
 
 /// The rows of what takes the ids from this one on.
-fn rows_from(alloc: Global, first: u32, entries: &[Entry]) -> Result<Vec<Row>, InterfaceFault>
-    ensures rows { Gives (λ rows. rows.items) result (rows_at first (map statement_of entries.now)) }
+fn rows_at(
+    alloc: Global,
+    first: u32,
+    entries: &[Entry],
+) -> Result<Vec<Row>, OrMemory<InterfaceFault>>
+    ensures fault { Gives (λ rows. rows.items) result
+        (rows_at first (map statement_of entries.now)) }
     ensures count { IfOk result (λ rows. length rows.items ≡ length entries.now) }
 {
     let mut rows = Vec::new(alloc);
@@ -106,24 +121,28 @@ fn rows_from(alloc: Global, first: u32, entries: &[Entry]) -> Result<Vec<Row>, I
 }
 
 /// The table of a subsystem.
-fn table(alloc: Global, subsystem: &Subsystem) -> Result<Interface, InterfaceFault>
+fn table_of(alloc: Global, subsystem: &Subsystem) -> Result<Interface, OrMemory<InterfaceFault>>
     ensures { Gives (λ table. table) result (table_of subsystem.now) }
 {
     Ok(Interface {
-        rows: rows_from(alloc, subsystem.base(), subsystem.entries())?,
+        rows: rows_at(alloc, subsystem.base(), subsystem.entries())?,
         name: String::from_str(alloc, subsystem.name())?,
         base: subsystem.base(),
     })
 }
 
 impl Interface {
-    /// The forms of a subsystem. With a refusal the subsystem comes back.
-    pub fn of(alloc: Global, subsystem: Subsystem) -> Result<Interface, (Subsystem, InterfaceFault)>
-        ensures { Told subsystem result (table_of subsystem) }
+    /// The forms of a subsystem: refused by IdRange exactly where an id would be too great. With a
+    /// refusal the subsystem comes back, also where memory ran out.
+    pub fn of(
+        alloc: Global,
+        subsystem: Subsystem,
+    ) -> Result<Interface, (Subsystem, OrMemory<InterfaceFault>)>
+        ensures { GivesOrReturns subsystem result (table_of subsystem) }
     {
-        match table(alloc, &subsystem) {
+        match table_of(alloc, &subsystem) {
             Ok(interface) => Ok(interface),
-            Err(fault) => Err((subsystem, fault)),
+            Err(refusal) => Err((subsystem, refusal)),
         }
     }
 
@@ -134,18 +153,19 @@ impl Interface {
         self.name.as_str()
     }
 
-    /// The first id, and how many ids there are, 100 at most. Those of skips count, those of replies do not.
+    /// The first id, and how many ids there are, 100 at most. Those of skips count, those of
+    /// replies do not.
     pub fn ids(&self) -> (u32, usize)
         ensures first { result.0 ≡ self.now.base }
         ensures count { result.1 ≡ length self.now.rows }
-        ensures few { result.1 ≤ 100 }
+        ensures within { result.1 ≤ limit_of_ids }
     {
         (self.base, self.rows.len())
     }
 
     /// The form of the request that has this id. No id is that of a request and of a reply.
     pub fn request_form(&self, id: u32) -> Option<&Form>
-        ensures form { option_map (λ form. form.now) result ≡ request_form self.now id }
+        ensures exact { option_map (λ form. form.now) result ≡ request_form self.now id }
         ensures once { IfSome result (λ _. reply_form self.now id ≡ None) }
     {
         let row = self.rows.get(id.checked_sub(self.base)? as usize)?;

@@ -2,8 +2,8 @@
 
 ghost use Rattle.mrc_interface.specs.Laws.{FoundByIds, SlotsArePorts};
 
-/// The request that is found by an id is that of the statement that takes the id, and a reply that of the statement
-/// that takes an id 100 below. Nothing else is found.
+/// The request that is found by an id is that of the statement that takes the id, and a reply that
+/// of the statement that takes an id 100 below. Nothing else is found.
 pub fn forms_are_found_by_ids()
     ensures found { FoundByIds }
 {}

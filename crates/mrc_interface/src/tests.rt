@@ -1,23 +1,23 @@
 use super::*;
-use mrc_base::Disp;
+use mrc_base::{Disp, OrMemory};
 use mrc_mig_lex::{Token, lex};
 use mrc_mig_parse::{ParseFault, Subsystem, parse};
 use std::alloc::Global;
 use std::process::Abort;
 use std::test::*;
 
-const INTEGER_32: Kind = Kind {
-    number: 2,
+const INTEGER_32: Shape = Shape {
+    name: 2,
     size: 32,
-    count: 1,
+    number: 1,
     is_bound: false,
 };
 
-const fn exact(number: u32, size: u32, count: u32) -> Kind {
-    Kind {
-        number,
+const fn exact(name: u16, size: u16, number: u32) -> Shape {
+    Shape {
+        name,
         size,
-        count,
+        number,
         is_bound: false,
     }
 }
@@ -33,7 +33,7 @@ fn interface(alloc: Global, text: &str) -> Result<Interface, Fail> {
 }
 
 /// The form has these arguments.
-fn has_arguments(form: Option<&Form>, wanted: &[Kind]) -> bool {
+fn has_arguments(form: Option<&Form>, wanted: &[Shape]) -> bool {
     match form {
         Some(form) => form.arguments() == wanted,
         None => false,
@@ -136,15 +136,15 @@ routine all(
 ";
 
 /// Up to three send-once rights that are made.
-const SOME_ONCE: Kind = Kind {
-    number: 21,
+const SOME_ONCE: Shape = Shape {
+    name: 21,
     size: 32,
-    count: 3,
+    number: 3,
     is_bound: true,
 };
 
-// The ports that the messages are sent to are in no body. Every disposition makes a slot, and a type of one's own
-// gives it its name; a port's name and a number make none.
+// The ports that the messages are sent to are in no body. Every disposition makes a slot, and a
+// type of one's own gives it its name; a port's name and a number make none.
 #[test]
 fn slots_of_each_disposition(rt: HostRuntime) -> Result<(), Fail> {
     let ports = interface(rt.alloc(), PORTS)?;
@@ -216,8 +216,8 @@ fn is_within(rt: &impl Abort, alloc: Global, base: u32, statements: &str) -> Res
     let again = parse(alloc, tokens.as_slice())?;
     match Interface::of(alloc, subsystem) {
         Ok(_) => Ok(true),
-        Err((returned, fault)) => {
-            assert_eq!(rt; fault, InterfaceFault::IdRange);
+        Err((returned, refusal)) => {
+            assert_eq!(rt; refusal, OrMemory::Fault(InterfaceFault::IdRange));
             assert!(rt; are_same(&returned, &again));
             Ok(false)
         }
@@ -279,7 +279,8 @@ fn ids_have_an_end(rt: HostRuntime) -> Result<(), Fail> {
     Ok(())
 }
 
-// The greatest ids are found, and no id is found as one that is 2,147,483,648 or 4,294,967,296 away.
+// The greatest ids are found, and no id is found as one that is 2,147,483,648 or 4,294,967,296
+// away.
 #[test]
 fn greatest_ids(rt: HostRuntime) -> Result<(), Fail> {
     let text = "subsystem s 2147483547;
@@ -363,15 +364,17 @@ fn as_many_ids_as_there_may_be(rt: HostRuntime) -> Result<(), Fail> {
     Ok(())
 }
 
-// The request port is in no body wherever it stands, nor is the reply port, also where they are arrays. Of a
-// simpleroutine what is `out` is in no body. Two types of one's own may have one name.
+// The request port is in no body wherever it stands, nor is the reply port, also where they are
+// arrays. Of a simpleroutine what is `out` is in no body. Two types of one's own may have one name.
 #[test]
 fn ports_of_the_message_itself(rt: HostRuntime) -> Result<(), Fail> {
     let text = "subsystem s 1;
 #include <mach/std_types.defs>
 routine a(replyport q : once = array[2] of mach_port_move_send_once_t; x : mach_port_t;
-    requestport p : many = array[*:3] of mach_port_t; out y : x_t = int; inout z : x_t = mach_port_move_receive_t);
-simpleroutine b(in p : mach_port_move_receive_t; out x : mach_port_t; in y : mach_port_name_t; inout z : z_t = struct[2] of mach_port_t);
+    requestport p : many = array[*:3] of mach_port_t; out y : x_t = int; inout z : x_t = \
+        mach_port_move_receive_t);
+simpleroutine b(in p : mach_port_move_receive_t; out x : mach_port_t; in y : mach_port_name_t; \
+        inout z : z_t = struct[2] of mach_port_t);
 ";
     let s = interface(rt.alloc(), text)?;
     let request = s.request_form(1);
@@ -402,7 +405,8 @@ fn names_of_slots(rt: HostRuntime) -> Result<(), Fail> {
 #include <mach/std_types.defs>
 type file_t = mach_port_t;
 type files_t = array[4] of file_t;
-simpleroutine r(p : mach_port_t; a : file_t; b : files_t; c : int = file_t; d : file_t = MACH_MSG_TYPE_MOVE_SEND; e : file_t = int);
+simpleroutine r(p : mach_port_t; a : file_t; b : files_t; c : int = file_t; d : file_t = \
+        MACH_MSG_TYPE_MOVE_SEND; e : file_t = int);
 ";
     let s = interface(rt.alloc(), text)?;
     let form = s.request_form(1);
@@ -437,13 +441,14 @@ simpleroutine r(p : mach_port_t; a : file_t; b : files_t; c : int = file_t; d : 
 fn bounds_of_forms(rt: HostRuntime) -> Result<(), Fail> {
     let text = "subsystem s 1;
 #include <mach/std_types.defs>
-simpleroutine r(p : mach_port_t; a : x = array[*:4] of struct[3] of short; b : y = c_string[*:5]; c : z = array[*:2] of c_string[6]);
+simpleroutine r(p : mach_port_t; a : x = array[*:4] of struct[3] of short; b : y = c_string[*:5]; \
+        c : z = array[*:2] of c_string[6]);
 ";
     let s = interface(rt.alloc(), text)?;
-    let bound = |number, size, count| Kind {
-        number,
+    let bound = |name, size, number| Shape {
+        name,
         size,
-        count,
+        number,
         is_bound: true,
     };
     assert!(rt;
@@ -456,15 +461,15 @@ simpleroutine r(p : mach_port_t; a : x = array[*:4] of struct[3] of short; b : y
 }
 
 /// What a text means, asked for once more where memory was refused.
-fn parsed(alloc: Global, tokens: &[Token<'_>]) -> Result<Subsystem, ParseFault> {
+fn parsed(alloc: Global, tokens: &[Token<'_>]) -> Result<Subsystem, OrMemory<ParseFault>> {
     match parse(alloc, tokens) {
-        Err(ParseFault::Memory) => parse(alloc, tokens),
+        Err(OrMemory::Memory) => parse(alloc, tokens),
         answer => answer,
     }
 }
 
-/// The table of a subsystem, asked for once more where memory was refused: then the subsystem came back, and is
-/// the one that was handed in.
+/// The table of a subsystem, asked for once more where memory was refused: then the subsystem came
+/// back, and is the one that was handed in.
 fn tried_twice(
     rt: &impl Abort,
     alloc: Global,
@@ -473,8 +478,8 @@ fn tried_twice(
 ) -> Result<Interface, Fail> {
     match Interface::of(alloc, subsystem) {
         Ok(interface) => Ok(interface),
-        Err((returned, fault)) => {
-            assert_eq!(rt; fault, InterfaceFault::Memory);
+        Err((returned, refusal)) => {
+            assert_eq!(rt; refusal, OrMemory::Memory);
             assert!(rt; are_same(&returned, same));
             match Interface::of(alloc, returned) {
                 Ok(interface) => Ok(interface),
@@ -484,7 +489,8 @@ fn tried_twice(
     }
 }
 
-// Whichever single allocation is refused, the answer is the table or `Memory`, and the table at the next call.
+// Whichever single allocation is refused, the answer is the table or `Memory`, and the table at the
+// next call.
 #[test]
 fn interface_or_memory(rt: HostRuntime) -> Result<(), Fail> {
     let alloc = rt.alloc();
@@ -526,10 +532,6 @@ fn prints_faults(rt: HostRuntime) -> Result<(), Fail> {
     assert_eq!(rt;
         format!(in alloc; "{}", InterfaceFault::IdRange)?.as_str(),
         "IdRange"
-    );
-    assert_eq!(rt;
-        format!(in alloc; "{}", InterfaceFault::Memory)?.as_str(),
-        "Memory"
     );
     Ok(())
 }

@@ -1,10 +1,15 @@
--- Which characters make up a MIG subsystem text, by its ASCII codes: letters, digits and signs as the grammar of
--- the Server Writer's Guide for MIG uses them; which blanks and signs there are is this profile's own choice.
+-- Which characters make up a MIG subsystem text, by its ASCII codes: letters, digits and signs as
+-- the grammar of the Server Writer's Guide for MIG uses them; which blanks and signs there are is
+-- this profile's own choice.
 use Rattle.std.specs.Prelude.{ℕ, Bool, ◌||◌, ◌==◌, Option, Some, None, if◌then◌else◌}
 use Rattle.std.specs.Char.{is_ascii_alphabetic, is_ascii_digit}
 use Rattle.mrc_mig_lex.specs.declared.token.Sign.{Sign}
-use Rattle.mrc_mig_lex.specs.declared.token.Sign.TheVariants.{Semicolon, Colon, Comma, Equals, OpenParenthesis, CloseParenthesis, OpenBracket, CloseBracket, Star, Plus, Minus, Slash, Caret, Bar}
+use Rattle.mrc_mig_lex.specs.declared.token.Sign.TheVariants.{Semicolon, Colon, Comma, Equals}
+use Rattle.mrc_mig_lex.specs.declared.token.Sign.TheVariants.{OpenParenthesis, CloseParenthesis}
+use Rattle.mrc_mig_lex.specs.declared.token.Sign.TheVariants.{OpenBracket, CloseBracket, Star, Plus}
+use Rattle.mrc_mig_lex.specs.declared.token.Sign.TheVariants.{Minus, Slash, Caret, Bar}
 
+-- the line feed, which ends a line
 abbrev pub line_feed : ℕ
 line_feed = 10
 

@@ -1,22 +1,22 @@
--- The tokens of a whole MIG subsystem text (Server Writer's Guide for MIG), or its first fault in byte order.
-use Rattle.std.specs.Prelude.{ℕ, zero, suc, ◌+◌, Bool, true, List, [], ◌∷◌, ◌++◌, Result, Ok, Err, take, option_map, option_to_list}
+-- The tokens of a whole MIG subsystem text (Server Writer's Guide for MIG), or its first fault in
+-- byte order.
+use Rattle.std.specs.Prelude.{ℕ, zero, suc, ◌+◌, Bool, true, List, [], ◌∷◌, ◌++◌, Result, Ok, take}
+use Rattle.std.specs.Prelude.{option_map, option_to_list}
+use Rattle.mrc_base.specs.Reading.{◌>>=◌}
 use Rattle.mrc_mig_lex.specs.declared.fault.LexFault.{LexFault}
 use Rattle.mrc_mig_lex.specs.declared.piece.Piece.{Piece}
 use Rattle.mrc_mig_lex.specs.Tokens.{Lexeme}
 use Rattle.mrc_mig_lex.specs.Pieces.{piece_at}
 
-infixl 10 ◌>>=◌
-abbrev pub ◌>>=◌ : {A B : Type 0} → Result A LexFault → (A → Result B LexFault) → Result B LexFault
-(Ok x) >>= f = f x
-(Err fault) >>= f = Err fault
-
 -- the token that a piece is, if it is one; it begins with this character, at this place
 abbrev pub lexeme_of : Piece → ℕ → ℕ → List ℕ → List Lexeme
 lexeme_of piece at first rest =
-    option_to_list (option_map (λ kind. record { kind = kind; at = at; bytes = first ∷ take piece.more rest }) piece.kind)
+    option_to_list
+    (option_map (λ kind. record { kind = kind; at = at; bytes = first ∷ take piece.more rest })
+    piece.kind)
 
--- The tokens of what is left of a text from this place on, of which so many bytes still belong to the piece before.
--- fresh: only blanks stand before it on its line.
+-- The tokens of what is left of a text from this place on, of which so many bytes still belong to
+-- the piece before. fresh: only blanks stand before it on its line.
 abbrev pub tokens_from : ℕ → Bool → ℕ → List ℕ → Result (List Lexeme) LexFault
 tokens_from left fresh at [] = Ok []
 tokens_from (suc left) fresh at (c ∷ rest) = tokens_from left fresh (at + 1) rest

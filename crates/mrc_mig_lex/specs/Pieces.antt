@@ -1,21 +1,30 @@
--- What stands at the front of a MIG subsystem text: the longest token there (Server Writer's Guide for MIG), a blank
--- or a comment. Where none does, which fault it is and where is this profile's own choice.
-use Rattle.std.specs.Prelude.{ℕ, suc, ◌+◌, Bool, false, ◌||◌, ◌&&◌, ◌==◌, nat_le, List, [], ◌∷◌, Option, Some, None, option_map, option_and_then, Result, Ok, Err, if◌then◌else◌, drop, slice_index, codes, nat_eq, position, take_while, fold, ◌*◌, ◌-◌}
+-- What stands at the front of a MIG subsystem text: the longest token there (Server Writer's Guide
+-- for MIG), a blank or a comment. Where none does, which fault it is and where is this profile's
+-- own choice.
+use Rattle.std.specs.Prelude.{ℕ, suc, ◌+◌, Bool, false, ◌||◌, ◌&&◌, ◌==◌, nat_le, List, [], ◌∷◌}
+use Rattle.std.specs.Prelude.{Option, Some, None, option_map, option_and_then, Result, Ok, Err}
+use Rattle.std.specs.Prelude.{if◌then◌else◌, drop, slice_index, codes, nat_eq, position, take_while}
+use Rattle.std.specs.Prelude.{fold, ◌*◌, ◌-◌}
 use Rattle.std.specs.List.{prefix_len, position_or_len, starts_with}
 use Rattle.std.specs.Option.{ok_or}
 use Rattle.std.specs.Char.{is_ascii_digit}
+use Rattle.mrc_base.specs.Limits.{limit_of_number}
 use Rattle.mrc_mig_lex.specs.declared.token.TokenKind.{TokenKind}
-use Rattle.mrc_mig_lex.specs.declared.token.TokenKind.TheVariants.{Name, Number, Text, Header, Sign, Directive}
+use Rattle.mrc_mig_lex.specs.declared.token.TokenKind.TheVariants.{Name, Number, Text, Header, Sign}
+use Rattle.mrc_mig_lex.specs.declared.token.TokenKind.TheVariants.{Directive}
 use Rattle.mrc_mig_lex.specs.declared.fault.LexFault.{LexFault}
-use Rattle.mrc_mig_lex.specs.declared.fault.LexFault.TheVariants.{BadCharacter, OpenComment, NumberTooLarge}
+use Rattle.mrc_mig_lex.specs.declared.fault.LexFault.TheVariants.{BadCharacter, OpenComment}
+use Rattle.mrc_mig_lex.specs.declared.fault.LexFault.TheVariants.{NumberTooLarge}
 use Rattle.mrc_mig_lex.specs.declared.piece.Piece.{Piece}
-use Rattle.mrc_mig_lex.specs.Characters.{line_feed, quote, less_than, greater_than, hash, slash, is_blank, begins_name, continues_name, sign_of}
+use Rattle.mrc_mig_lex.specs.Characters.{line_feed, quote, less_than, greater_than, hash, slash}
+use Rattle.mrc_mig_lex.specs.Characters.{is_blank, begins_name, continues_name, sign_of}
 
 -- a token with so many bytes after its first
 abbrev pub token : TokenKind → ℕ → Piece
 token kind more = record { kind = Some kind; more = more; fresh = false }
 
--- a blank or a comment with so many bytes after its first; fresh: only blanks stand on the line so far
+-- a blank or a comment with so many bytes after its first; fresh: only blanks stand on the line so
+-- far
 abbrev pub gap : ℕ → Bool → Piece
 gap more fresh = record { kind = None; more = more; fresh = fresh }
 
@@ -39,26 +48,30 @@ comment_len (c ∷ rest) =
 abbrev pub decimal : List ℕ → ℕ
 decimal digits = fold (λ value digit. 10 * value + (digit - 48)) 0 digits
 
--- the longest number of decimal digits, by its value, at most 2,147,483,647
+-- the longest number of decimal digits, by its value, which has a limit
 abbrev pub number_at : ℕ → ℕ → List ℕ → Result Piece LexFault
 number_at at first rest =
     let value = decimal (first ∷ take_while is_ascii_digit rest) in
-    if nat_le value 2147483647 then Ok (token (Number value) (prefix_len is_ascii_digit rest)) else Err (NumberTooLarge at)
+    if nat_le value limit_of_number then Ok (token (Number value) (prefix_len is_ascii_digit rest))
+    else Err (NumberTooLarge at)
 
 -- a string or `<..>`, up to its own close on the same line
 abbrev pub closed_at : ℕ → TokenKind → ℕ → List ℕ → Result Piece LexFault
-closed_at at kind close rest = ok_or (option_map (token kind) (closed_len close rest)) (BadCharacter at)
+closed_at at kind close rest =
+    ok_or (option_map (token kind) (closed_len close rest)) (BadCharacter at)
 
 -- a comment, of which the rest begins with the `*` of its `/*`
 abbrev pub comment_at : ℕ → List ℕ → Result Piece LexFault
-comment_at at rest = ok_or (option_map (λ more. gap (more + 1) false) (comment_len (drop 1 rest))) (OpenComment at)
+comment_at at rest =
+    ok_or (option_map (λ more. gap (more + 1) false) (comment_len (drop 1 rest))) (OpenComment at)
 
 -- a sign, which is one character
 abbrev pub sign_at : ℕ → ℕ → Result Piece LexFault
-sign_at at first = ok_or (option_map (λ sign. token (Sign sign) 0) (sign_of first)) (BadCharacter at)
+sign_at at first =
+    ok_or (option_map (λ sign. token (Sign sign) 0) (sign_of first)) (BadCharacter at)
 
--- What stands at the front of a text that begins with this character. at: its place in the whole text. fresh: only
--- blanks stand before it on its line.
+-- What stands at the front of a text that begins with this character. at: its place in the whole
+-- text. fresh: only blanks stand before it on its line.
 unfoldable pub piece_at : ℕ → Bool → ℕ → List ℕ → Result Piece LexFault
 piece_at at fresh first rest =
     if is_blank first then Ok (gap 0 (fresh || (first == line_feed)))

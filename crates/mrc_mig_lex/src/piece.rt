@@ -3,14 +3,17 @@
 ghost use Rattle.std.specs.Prelude.{◌≡◌, ◌<◌, ◌==◌, ◌||◌, ◌∷◌, length, position, min};
 ghost use Rattle.std.specs.Char.{is_ascii_digit};
 ghost use Rattle.std.specs.List.{prefix_len};
-ghost use Rattle.mrc_mig_lex.specs.Characters.{line_feed, is_blank, begins_name, continues_name, sign_of};
-ghost use Rattle.mrc_mig_lex.specs.Pieces.{token, gap, decimal, line_len, closed_len, comment_len, number_at, closed_at, comment_at, sign_at, piece_at};
+ghost use Rattle.mrc_mig_lex.specs.Characters.{line_feed, is_blank, begins_name, continues_name};
+ghost use Rattle.mrc_mig_lex.specs.Characters.{sign_of};
+ghost use Rattle.mrc_mig_lex.specs.Pieces.{token, gap, decimal, line_len, closed_len, comment_len};
+ghost use Rattle.mrc_mig_lex.specs.Pieces.{number_at, closed_at, comment_at, sign_at, piece_at};
 
 use crate::fault::LexFault;
 use crate::token::{Sign, TokenKind};
+use mrc_base::limits;
 
 /// One more than the largest number of a text.
-const TOO_LARGE: u64 = 1 << 31;
+const TOO_LARGE: u64 = limits::NUMBER as u64 + 1;
 
 /// A token, a blank or a comment at the front of a text.
 #[derive(Drop)]
@@ -190,8 +193,8 @@ fn sign_at(at: usize, first: u8) -> Result<Piece, LexFault>
     }
 }
 
-/// What stands at the front of a text that begins with the byte `first`, at the place `at` of the whole text.
-/// `fresh` says that only blanks stand before it on its line.
+/// What stands at the front of a text that begins with the byte `first`, at the place `at` of the
+/// whole text. `fresh` says that only blanks stand before it on its line.
 #[tactic(auto, unfolding(crate::specs::Pieces::piece_at))]
 pub(crate) fn piece_at(at: usize, fresh: bool, first: u8, rest: &[u8]) -> Result<Piece, LexFault>
     ensures { result ≡ piece_at at fresh first rest.now }

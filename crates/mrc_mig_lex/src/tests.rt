@@ -1,4 +1,5 @@
 use super::*;
+use mrc_base::OrMemory;
 use std::alloc::Global;
 use std::test::*;
 
@@ -58,7 +59,7 @@ fn mark(kind: TokenKind) -> char {
 }
 
 /// The marks of a text's tokens.
-fn marks(alloc: Global, text: &str) -> Result<String, LexFault> {
+fn marks(alloc: Global, text: &str) -> Result<String, OrMemory<LexFault>> {
     let mut marks = String::new(alloc);
     for token in &lex(alloc, text)? {
         marks.push(mark(token.kind()))?;
@@ -135,7 +136,8 @@ const KINDS: [(&str, &str); 28] = [
     ("a+b-1*2/3", "n+n-0*0/0"),
     ("a / * b /", "n/*n/"),
     ("_ AZaz_09 1_a", "nn0n"),
-    // Nothing is read inside a string, a `<..>` or a comment, and a carriage return ends none of them.
+    // Nothing is read inside a string, a `<..>` or a comment, and a carriage return ends none of
+    // them.
     ("\"@ /* <# //\" a", "\"n"),
     ("<@ /* \" #> a", "<n"),
     ("/* \" @ < # */ a", "n"),
@@ -215,7 +217,11 @@ const REFUSALS: [(&str, LexFault); 43] = [
 #[test]
 fn refusals(rt: HostRuntime) {
     for (text, want) in REFUSALS {
-        assert_eq!(rt; lex(rt.alloc(), text).err(), Some(want), "in {text:?}");
+        assert_eq!(rt;
+            lex(rt.alloc(), text).err(),
+            Some(OrMemory::Fault(want)),
+            "in {text:?}"
+        );
     }
 }
 
@@ -242,12 +248,13 @@ fn numbers(rt: HostRuntime) -> Result<(), Fail> {
 
 #[test]
 fn no_other_characters(rt: HostRuntime) -> Result<(), Fail> {
-    for other in "{}.~>!'@\\#$%&?`\u{7f}\u{20ac}\u{1}\u{8}\u{e}\u{1b}\u{1c}\u{1f}\u{85}\u{e9}\u{661}\u{2028}\u{3000}\u{ff1b}\u{1d7d9}".chars()
-    {
+    let ascii = "{}.~>!'@\\#$%&?`\u{7f}\u{1}\u{8}\u{e}\u{1b}\u{1c}\u{1f}";
+    let others = "\u{20ac}\u{85}\u{e9}\u{661}\u{2028}\u{3000}\u{ff1b}\u{1d7d9}";
+    for other in ascii.chars().chain(others.chars()) {
         let text = format!(in rt.alloc(); "a{other}")?;
         assert_eq!(rt;
             lex(rt.alloc(), text.as_str()).err(),
-            Some(LexFault::BadCharacter(1))
+            Some(OrMemory::Fault(LexFault::BadCharacter(1)))
         );
     }
     Ok(())
@@ -259,22 +266,24 @@ fn printed(rt: HostRuntime) -> Result<(), Fail> {
         (LexFault::BadCharacter(46), "BadCharacter 46"),
         (LexFault::OpenComment(0), "OpenComment 0"),
         (LexFault::NumberTooLarge(12), "NumberTooLarge 12"),
-        (LexFault::Memory, "Memory"),
     ] {
         assert_eq!(rt; format!(in rt.alloc(); "{fault}")?.as_str(), want);
     }
+    let memory: OrMemory<LexFault> = OrMemory::Memory;
+    assert_eq!(rt; format!(in rt.alloc(); "{memory}")?.as_str(), "Memory");
     Ok(())
 }
 
 /// The tokens of a text, asked for once more where memory was refused.
-fn tried_twice(alloc: Global, text: &str) -> Result<Vec<Token<'_>>, LexFault> {
+fn tried_twice(alloc: Global, text: &str) -> Result<Vec<Token<'_>>, OrMemory<LexFault>> {
     match lex(alloc, text) {
-        Err(LexFault::Memory) => lex(alloc, text),
+        Err(OrMemory::Memory) => lex(alloc, text),
         answer => answer,
     }
 }
 
-/// Whichever single allocation is refused, the answer is the tokens or `Memory`, and the tokens at the next call.
+/// Whichever single allocation is refused, the answer is the tokens or `Memory`, and the tokens at
+/// the next call.
 #[test]
 fn tokens_or_memory(rt: HostRuntime) -> Result<(), Fail> {
     let text = "a b c d e f g h i";
@@ -293,9 +302,9 @@ fn tokens_or_memory(rt: HostRuntime) -> Result<(), Fail> {
         at = token.end().wrapping_add(1);
     }
     let fault = match lex(rt.alloc(), "a @") {
-        Err(LexFault::Memory) => lex(rt.alloc(), "a @").err(),
+        Err(OrMemory::Memory) => lex(rt.alloc(), "a @").err(),
         answer => answer.err(),
     };
-    assert_eq!(rt; fault, Some(LexFault::BadCharacter(2)));
+    assert_eq!(rt; fault, Some(OrMemory::Fault(LexFault::BadCharacter(2))));
     Ok(())
 }

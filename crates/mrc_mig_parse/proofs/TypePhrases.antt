@@ -1,14 +1,15 @@
 -- Options and types are read exactly where they stand.
-use Rattle.std.proofs.Common.{◌≡◌, ℕ, Bool, true, false, List, ◌++◌, Some, refl, ap, ◌∙◌, sym, append_assoc}
+use Rattle.std.proofs.Common.{◌≡◌, ℕ, Bool, true, false, List, ◌++◌, Some, refl, ap, ◌∙◌, sym}
+use Rattle.std.proofs.Common.{append_assoc}
 use Rattle.mrc_mig_lex.specs.Tokens.{Lexeme}
 use Rattle.mrc_mig_lex.specs.declared.token.Sign.TheVariants.{Semicolon, CloseParenthesis, Bar}
 use Rattle.mrc_mig_symbols.specs.declared.symbol.Symbol.{Symbol}
 use Rattle.mrc_mig_symbols.specs.declared.symbol.Symbol.TheVariants.{Word, Sign}
 use Rattle.mrc_mig_symbols.specs.declared.word.Word.TheVariants as words
 use Rattle.mrc_mig_symbols.specs.Symbols.{first_of}
-use Rattle.mrc_mig_parse.specs.declared.subsystem.Kind.{Kind}
+use Rattle.mrc_mig_parse.specs.declared.subsystem.Shape.{Shape}
 use Rattle.mrc_mig_parse.specs.declared.types.Use.{Use}
-use Rattle.mrc_mig_parse.specs.Types.{is_bar, flag_follows, kind_at}
+use Rattle.mrc_mig_parse.specs.Types.{is_bar, flag_follows, shape_at}
 use Rattle.mrc_mig_parse.specs.Arguments.{begins_option, options_at}
 use Rattle.mrc_mig_parse.specs.Grammar.{IsOptions, IsType, type}
 use Rattle.mrc_mig_parse.proofs.PhraseLemmas.{in_two, goes_to}
@@ -26,29 +27,43 @@ ends_type (Sign CloseParenthesis) = true
 ends_type _ = false
 
 -- options that are read stand there
-pub options_is : (tokens rest : List Lexeme) → options_at tokens ≡ Some rest → (written : List Lexeme) × (tokens ≡ written ++ rest) × IsOptions written
+pub options_is : (tokens rest : List Lexeme) → options_at tokens ≡ Some rest
+    → (written : List Lexeme) × (tokens ≡ written ++ rest) × IsOptions written
 options_is tokens rest e = options_are tokens rest e
 
 -- options that stand in front of the rest are read
-pub options_read : (written rest : List Lexeme) → IsOptions written → begins_option rest ≡ false → flag_follows rest ≡ false → options_at (written ++ rest) ≡ Some rest
+pub options_read : (written rest : List Lexeme) → IsOptions written → begins_option rest ≡ false
+    → flag_follows rest ≡ false → options_at (written ++ rest) ≡ Some rest
 options_read written rest is ends no_flag = options_are_read written rest is ends no_flag
 
 -- a type that is read stands there
-pub type_is : (types : List (List ℕ × Kind)) (wanted : Use) (tokens : List Lexeme) (kind : Kind) (rest : List Lexeme) → kind_at types wanted tokens ≡ Some (kind, rest) → (written : List Lexeme) × (tokens ≡ written ++ rest) × IsType types wanted written kind
-unfolding kind_at
-type_is types wanted tokens kind rest e =
+pub type_is : (types : List (List ℕ × Shape)) (wanted : Use) (tokens : List Lexeme) (shape : Shape)
+    (rest : List Lexeme) → shape_at types wanted tokens ≡ Some (shape, rest)
+    → (written : List Lexeme) × (tokens ≡ written ++ rest) × IsType types wanted written shape
+unfolding shape_at
+type_is types wanted tokens shape rest e =
     let (around, layered, last) = in_two _ _ _ e in
     let layers = around_is tokens around.0 around.1 layered in
-    let inner = inner_type_is types wanted around.0 around.1 kind rest last in
-    (layers.0 ++ inner.0, layers.1 ∙ ap (λ t. layers.0 ++ t) inner.1 ∙ sym (append_assoc layers.0 inner.0 rest), type layers.2 inner.2)
+    let inner = inner_type_is types wanted around.0 around.1 shape rest last in (
+      layers.0 ++ inner.0,
+      layers.1 ∙ ap (λ t. layers.0 ++ t) inner.1
+          ∙ sym (append_assoc layers.0 inner.0 rest),
+      type layers.2 inner.2,
+    )
 
 no_bar_behind : (symbol : Symbol) → ends_type symbol ≡ true → is_bar symbol ≡ false
 no_bar_behind (Sign Bar) e = absurd cc
 no_bar_behind _ e = refl
 
 -- a type that stands in front of the rest is read
-pub type_read : (types : List (List ℕ × Kind)) (wanted : Use) (written : List Lexeme) (kind : Kind) (rest : List Lexeme) → IsType types wanted written kind → ends_type (first_of rest) ≡ true → kind_at types wanted (written ++ rest) ≡ Some (kind, rest)
-unfolding kind_at
-type_read types wanted _ kind rest (type {layers = layers} {inner = inner} {around = around} layered is) ends =
+pub type_read : (types : List (List ℕ × Shape)) (wanted : Use) (written : List Lexeme)
+    (shape : Shape) (rest : List Lexeme) → IsType types wanted written shape
+    → ends_type (first_of rest) ≡ true
+    → shape_at types wanted (written ++ rest) ≡ Some (shape, rest)
+unfolding shape_at
+type_read types wanted _ shape rest
+    (type {layers = layers} {inner = inner} {around = around} layered is) ends =
     rw (append_assoc layers inner rest)
-    (goes_to _ (around_read layers around (inner ++ rest) layered (begins_no_layer rest is)) ∙ inner_type_read types wanted around inner kind rest is (no_bar_behind (first_of rest) ends))
+    (goes_to _ (around_read layers around (inner ++ rest) layered (begins_no_layer rest is))
+    ∙ inner_type_read types wanted around inner shape rest is
+    (no_bar_behind (first_of rest) ends))

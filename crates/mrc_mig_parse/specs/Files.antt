@@ -1,21 +1,24 @@
--- A whole MIG file and what it means, after the Server Writer's Guide for MIG. The types that the include
--- line declares are this profile's own choice.
-use Rattle.std.specs.Prelude.{ℕ, List, [], ◌∷◌, ◌++◌, length, codes, Bool, true, false, not, Option, Some, None, is_some, nat_lt, if◌then◌else◌}
+-- A whole MIG file and what it means, after the Server Writer's Guide for MIG. The types that the
+-- include line declares are this profile's own choice.
+use Rattle.std.specs.Prelude.{ℕ, List, [], ◌∷◌, ◌++◌, length, codes, Bool, true, false, not, Option}
+use Rattle.std.specs.Prelude.{Some, None, is_some, nat_lt, if◌then◌else◌}
 use Rattle.std.specs.List.{list_any}
 use Rattle.std.specs.Str.{bytes_eq}
+use Rattle.mrc_base.specs.Limits.{limit_of_ids}
 use Rattle.mrc_mig_lex.specs.Tokens.{Lexeme}
 use Rattle.mrc_mig_lex.specs.declared.token.Sign.TheVariants as signs
 use Rattle.mrc_mig_symbols.specs.declared.directive.Directive.{Directive}
 use Rattle.mrc_mig_symbols.specs.declared.directive.Directive.TheVariants as directives
-use Rattle.mrc_mig_parse.specs.declared.subsystem.Kind.{Kind}
+use Rattle.mrc_mig_parse.specs.declared.subsystem.Shape.{Shape}
 use Rattle.mrc_mig_symbols.specs.declared.symbol.Symbol.{Symbol}
 use Rattle.mrc_mig_symbols.specs.declared.symbol.Symbol.TheVariants as symbols
 use Rattle.mrc_mig_parse.specs.declared.types.Use.TheVariants as uses
 use Rattle.mrc_mig_symbols.specs.declared.word.Word.{Word}
 use Rattle.mrc_mig_symbols.specs.declared.word.Word.TheVariants as words
 use Rattle.mrc_mig_symbols.specs.Tables.{entry_of}
-use Rattle.mrc_mig_symbols.specs.Symbols.{◌>>=◌, guard, many, no_tokens, symbol_of, first_of, tail_of, after_sign, name_at}
-use Rattle.mrc_mig_parse.specs.Types.{kind_at}
+use Rattle.mrc_mig_symbols.specs.Symbols.{◌>>=◌, guard, many, no_tokens, symbol_of, first_of}
+use Rattle.mrc_mig_symbols.specs.Symbols.{tail_of, after_sign, name_at}
+use Rattle.mrc_mig_parse.specs.Types.{shape_at}
 use Rattle.mrc_mig_parse.specs.Arguments.{Item, options_at, arguments_at, items_of}
 
 -- what stands at an id
@@ -32,17 +35,17 @@ pub record Meaning : Type 0 where
 
 -- what the statements so far have declared
 pub record State : Type 0 where
-  pub types : List (List ℕ × Kind)
+  pub types : List (List ℕ × Shape)
   pub has_table : Bool
   pub routines : List (List ℕ)
   pub rows : List Row
 
--- one item of this number and size
-abbrev pub one : ℕ → ℕ → Kind
-one number size = record { number = number; size = size; count = 1; is_bound = false }
+-- one item of this type number and size
+abbrev pub one : ℕ → ℕ → Shape
+one name size = record { name = name; size = size; number = 1; is_bound = false }
 
 -- the types that the include line declares
-abbrev pub table : List (List ℕ × Kind)
+abbrev pub table : List (List ℕ × Shape)
 table =
     (codes "char", one 8 8) ∷
     (codes "short", one 1 16) ∷
@@ -62,23 +65,28 @@ table =
     (codes "mach_port_make_send_once_t", one 21 32) ∷ []
 
 -- a type with this name is declared
-abbrev pub is_declared : List ℕ → List (List ℕ × Kind) → Bool
+abbrev pub is_declared : List ℕ → List (List ℕ × Shape) → Bool
 is_declared name types = is_some (entry_of types name)
 
 -- with one more type, whose name no type has
-abbrev pub declared_with : List (List ℕ × Kind) → List ℕ → Kind → Option (List (List ℕ × Kind))
-declared_with types name kind = if is_declared name types then None else Some (types ++ (name, kind) ∷ [])
+abbrev pub declared_with : List (List ℕ × Shape) → List ℕ → Shape → Option (List (List ℕ × Shape))
+declared_with types name shape =
+    if is_declared name types then None else Some (types ++ (name, shape) ∷ [])
 
 -- with each of these types in turn
-unfoldable pub declared_with_all : List (List ℕ × Kind) → List (List ℕ × Kind) → Option (List (List ℕ × Kind))
+unfoldable pub declared_with_all : List (List ℕ × Shape) → List (List ℕ × Shape)
+    → Option (List (List ℕ × Shape))
 declared_with_all types [] = Some types
-declared_with_all types (entry ∷ others) = declared_with types entry.0 entry.1 >>= λ more. declared_with_all more others
+declared_with_all types (entry ∷ others) =
+    declared_with types entry.0 entry.1 >>= λ more. declared_with_all more others
 
 -- the include line, which declares the table once
 abbrev pub include_by : Bool → State → Option State
 include_by true s = Some s
-include_by false s = declared_with_all s.types table >>= λ types. Some (record s { types = types; has_table = true })
+include_by false s =
+    declared_with_all s.types table >>= λ types. Some (record s { types = types; has_table = true })
 
+-- a line of the preprocessor: a marker, or the include line
 abbrev pub directive_by : Directive → State → Option State
 directive_by directives.Marker s = Some s
 directive_by directives.Include s = include_by s.has_table s
@@ -86,16 +94,20 @@ directive_by directives.Other s = None
 
 -- a line of the preprocessor
 abbrev pub line_by : Symbol → State → List Lexeme → Option (State × List Lexeme)
-line_by (symbols.Directive line) s tokens = directive_by line s >>= λ next. Some (next, tail_of tokens)
+line_by (symbols.Directive line) s tokens =
+    directive_by line s >>= λ next. Some (next, tail_of tokens)
 line_by _ s tokens = None
 
+-- a line of the preprocessor
 abbrev pub is_line : Symbol → Bool
 is_line (symbols.Directive line) = true
 is_line _ = false
 
+-- a line of the preprocessor comes next
 unfoldable pub begins_line : State × List Lexeme → Bool
 begins_line read = is_line (first_of read.1)
 
+-- one line of the preprocessor
 unfoldable pub line_at : State × List Lexeme → Option (State × List Lexeme)
 line_at read = line_by (first_of read.1) read.0 read.1
 
@@ -107,13 +119,15 @@ is_side _ = false
 -- what follows them
 unfoldable pub after_sides : List Lexeme → List Lexeme
 after_sides [] = []
-after_sides (token ∷ tokens) = if is_side (symbol_of token) then after_sides tokens else token ∷ tokens
+after_sides (token ∷ tokens) =
+    if is_side (symbol_of token) then after_sides tokens else token ∷ tokens
 
 -- the subsystem's number
 abbrev pub number_by : Symbol → List Lexeme → Option (ℕ × List Lexeme)
 number_by (symbols.Number n) tokens = Some (n, tail_of tokens)
 number_by _ tokens = None
 
+-- the number that comes next, and what follows it
 unfoldable pub number_at : List Lexeme → Option (ℕ × List Lexeme)
 number_at tokens = number_by (first_of tokens) tokens
 
@@ -125,6 +139,7 @@ named_number_at tokens = do
   rest ← after_sign signs.Semicolon base.1
   Some ((name.0, base.0), rest)
 
+-- what begins a subsystem, by the first symbol
 abbrev pub heading_by : Symbol → List Lexeme → Option ((List ℕ × ℕ) × List Lexeme)
 heading_by (symbols.Word words.Subsystem) tokens = named_number_at (after_sides (tail_of tokens))
 heading_by _ tokens = None
@@ -139,10 +154,10 @@ declaration_at s tokens = do
   name ← name_at tokens
   _ ← guard (not (is_declared name.0 s.types))
   before ← after_sign signs.Equals name.1
-  kind ← kind_at s.types uses.Any before
-  after ← options_at kind.1
+  shape ← shape_at s.types uses.Any before
+  after ← options_at shape.1
   rest ← after_sign signs.Semicolon after
-  Some (record s { types = s.types ++ (name.0, kind.0) ∷ [] }, rest)
+  Some (record s { types = s.types ++ (name.0, shape.0) ∷ [] }, rest)
 
 -- a routine has this name
 abbrev pub is_routine : List ℕ → List (List ℕ) → Bool
@@ -166,14 +181,18 @@ with_row s names row = record s { routines = s.routines ++ names; rows = s.rows 
 
 -- a statement that takes an id
 abbrev pub row_by : Word → State → List Lexeme → Option (State × List Lexeme)
-row_by words.Routine s tokens = routine_at false s tokens >>= λ r. Some (with_row s (r.0.0 ∷ []) (Routine r.0.1), r.1)
-row_by words.SimpleRoutine s tokens = routine_at true s tokens >>= λ r. Some (with_row s (r.0.0 ∷ []) (SimpleRoutine r.0.1), r.1)
-row_by words.Skip s tokens = after_sign signs.Semicolon tokens >>= λ rest. Some (with_row s [] Skip, rest)
+row_by words.Routine s tokens =
+    routine_at false s tokens >>= λ r. Some (with_row s (r.0.0 ∷ []) (Routine r.0.1), r.1)
+row_by words.SimpleRoutine s tokens =
+    routine_at true s tokens >>= λ r. Some (with_row s (r.0.0 ∷ []) (SimpleRoutine r.0.1), r.1)
+row_by words.Skip s tokens =
+    after_sign signs.Semicolon tokens >>= λ rest. Some (with_row s [] Skip, rest)
 row_by _ s tokens = None
 
--- the same, of which there are 100 at most
+-- the same, where there may be one id more
 unfoldable pub row_at : Word → State → List Lexeme → Option (State × List Lexeme)
-row_at word s tokens = guard (nat_lt (length s.rows) 100) >>= λ _. row_by word s (tail_of tokens)
+row_at word s tokens =
+    guard (nat_lt (length s.rows) limit_of_ids) >>= λ _. row_by word s (tail_of tokens)
 
 -- a string or a header
 abbrev pub is_imported : Symbol → Bool
@@ -181,17 +200,20 @@ is_imported symbols.Text = true
 is_imported symbols.Header = true
 is_imported _ = false
 
+-- a string
 abbrev pub is_text : Symbol → Bool
 is_text symbols.Text = true
 is_text _ = false
 
 -- behind `import`, `uimport` and `simport`
 unfoldable pub import_at : List Lexeme → Option (List Lexeme)
-import_at tokens = guard (is_imported (first_of tokens)) >>= λ _. after_sign signs.Semicolon (tail_of tokens)
+import_at tokens =
+    guard (is_imported (first_of tokens)) >>= λ _. after_sign signs.Semicolon (tail_of tokens)
 
 -- behind `rcsid`
 unfoldable pub rcsid_at : List Lexeme → Option (List Lexeme)
-rcsid_at tokens = guard (is_text (first_of tokens)) >>= λ _. after_sign signs.Semicolon (tail_of tokens)
+rcsid_at tokens =
+    guard (is_text (first_of tokens)) >>= λ _. after_sign signs.Semicolon (tail_of tokens)
 
 -- behind `serverprefix` and `userprefix`
 unfoldable pub prefix_at : List Lexeme → Option (List Lexeme)
@@ -212,8 +234,10 @@ worded_by words.Prefix s tokens = unchanged s (prefix_at (tail_of tokens))
 worded_by words.Rcsid s tokens = unchanged s (rcsid_at (tail_of tokens))
 worded_by _ s tokens = None
 
+-- one statement, by its first symbol
 abbrev pub statement_by : Symbol → State → List Lexeme → Option (State × List Lexeme)
-statement_by (symbols.Directive line) s tokens = directive_by line s >>= λ next. Some (next, tail_of tokens)
+statement_by (symbols.Directive line) s tokens =
+    directive_by line s >>= λ next. Some (next, tail_of tokens)
 statement_by (symbols.Word word) s tokens = worded_by word s tokens
 statement_by _ s tokens = None
 
@@ -221,6 +245,7 @@ statement_by _ s tokens = None
 unfoldable pub statement_at : State × List Lexeme → Option (State × List Lexeme)
 statement_at read = statement_by (first_of read.1) read.0 read.1
 
+-- another statement follows
 unfoldable pub has_more : State × List Lexeme → Bool
 has_more read = not (no_tokens read.1)
 

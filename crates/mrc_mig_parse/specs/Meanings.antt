@@ -8,7 +8,11 @@ use Rattle.mrc_mig_parse.specs.Files.{Row, Routine, SimpleRoutine, Skip}
 
 -- an argument of a routine
 abbrev pub item_of : Argument → Item
-item_of a = record { direction = a.direction; kind = a.kind; type_name = string_bytes a.type_name }
+item_of a = record {
+  direction = a.direction;
+  shape = a.shape;
+  type_name = string_bytes a.type_name;
+}
 
 -- what stands at an id
 abbrev pub row_of : Entry → Row

@@ -9,8 +9,19 @@ use Rattle.mrc_mig_parse.specs.Meanings.{row_of}
 
 -- an argument that was read
 abbrev pub parameter_of : Written → Parameter
-parameter_of w = record { name = w.name.now; direction = w.direction; kind = w.kind; type_name = w.type_name.now }
+parameter_of w = record {
+  name = w.name.now;
+  direction = w.direction;
+  shape = w.shape;
+  type_name = w.type_name.now;
+}
 
 -- what the statements so far have declared
 abbrev pub state_of : File → State
-state_of file = record { types = plain file.types.entries; has_table = file.has_table; routines = map (λ name. name.now) file.routines.items; rows = map row_of file.entries.items }
+state_of file = record {
+  types = plain file.types.entries;
+  has_table = file.has_table;
+  routines =
+      map (λ name. name.now) file.routines.items;
+  rows = map row_of file.entries.items;
+}

@@ -1,22 +1,26 @@
 //! The arguments of a routine.
-ghost use Rattle.std.specs.Prelude.{◌≡◌, ◌++◌, ◌&&◌, ◌||◌, List, not, map, count_by, length, OnOk, IfOk};
+ghost use Rattle.std.specs.Prelude.{◌≡◌, ◌++◌, ◌&&◌, ◌||◌, List, not, map, count_by, length, OnOk};
+ghost use Rattle.std.specs.Prelude.{IfOk};
 ghost use Rattle.std.specs.List.{list_all};
 ghost use Rattle.std.specs.Option.{option_map};
-ghost use Rattle.mrc_mig_symbols.specs.Symbols.{Gives, many, left};
+ghost use Rattle.mrc_mig_symbols.specs.Symbols.{Means, MeansOrMemory, many, left};
 ghost use Rattle.mrc_mig_symbols.specs.Tables.{plain};
-ghost use Rattle.mrc_mig_parse.specs.Arguments.{Parameter, is_reply_port, is_marked, is_in, use_of, is_of_port_type, has_reply_port, has_name, direction_at, argument_name_at, argument_type_at, own_type_at, known_type_at, argument_at, goes_on, next_argument, some_arguments_at, arguments_at, as_written, items_of, unmarked_items};
+ghost use Rattle.mrc_mig_parse.specs.Arguments.{Parameter, is_reply_port, is_marked, is_in, use_of};
+ghost use Rattle.mrc_mig_parse.specs.Arguments.{is_of_port_type, has_reply_port, has_name};
+ghost use Rattle.mrc_mig_parse.specs.Arguments.{direction_at, argument_name_at, argument_type_at};
+ghost use Rattle.mrc_mig_parse.specs.Arguments.{own_type_at, known_type_at, argument_at, goes_on};
+ghost use Rattle.mrc_mig_parse.specs.Arguments.{next_argument, some_arguments_at, arguments_at};
+ghost use Rattle.mrc_mig_parse.specs.Arguments.{as_written, items_of, unmarked_items};
 ghost use Rattle.mrc_mig_parse.specs.Meanings.{item_of};
 ghost use Rattle.mrc_mig_parse.specs.Readers.{parameter_of};
 
 use crate::options::options;
-use crate::subsystem::{Argument, Kind};
-use crate::types::{Types, Use, declared, is_port, kind, no_flag};
+use crate::subsystem::{Argument, Shape};
+use crate::types::{Types, Use, declared, no_flag, shape};
+use mrc_base::{OrMemory, is_port_number, limits};
 use mrc_mig_lex::Sign;
 use mrc_mig_symbols::{Direction, Feature, ParseFault, Rest, Symbol, Word, name, sign};
 use std::alloc::{AllocError, Global};
-
-/// The most arguments of a routine, its ports among them.
-const MOST_ARGUMENTS: usize = 32;
 
 /// An argument as it is written.
 #[derive(Clone, Copy, Debug, PartialEq, Eq)]
@@ -26,7 +30,7 @@ pub struct Written<'t> {
     /// The word in front of it, if there is one.
     pub direction: Option<Direction>,
     /// Its data.
-    pub kind: Kind,
+    pub shape: Shape,
     /// The name after the colon.
     pub type_name: &'t str,
 }
@@ -62,7 +66,7 @@ fn direction<'t>(
     is_simple: bool,
     rest: Rest<'t>,
 ) -> Result<(Option<Direction>, Rest<'t>), ParseFault>
-    ensures { Gives (λ x. (x.0, left x.1)) result
+    ensures { Means (λ x. (x.0, left x.1)) result
         (direction_at (map parameter_of seen.now) is_simple (left rest.entry)) }
 {
     let Symbol::Word(Word::Direction(direction)) = rest.first() else {
@@ -71,7 +75,7 @@ fn direction<'t>(
     if is_reply_port(Some(direction)) && (is_simple || has_reply_port(seen)) {
         return Err(ParseFault::LeftOut(rest.at(), Feature::ReplyPort));
     }
-    if seen.len() >= MOST_ARGUMENTS {
+    if seen.len() >= limits::ARGUMENTS {
         return Err(ParseFault::TooMany(rest.at()));
     }
     Ok((Some(direction), rest.next()))
@@ -84,7 +88,7 @@ fn argument_name<'t>(
     direction: Option<Direction>,
     rest: Rest<'t>,
 ) -> Result<(&'t str, Rest<'t>), ParseFault>
-    ensures { Gives (λ x. (x.0.now, left x.1)) result
+    ensures { Means (λ x. (x.0.now, left x.1)) result
         (argument_name_at (map parameter_of seen.now) (left rest.entry)) }
 {
     let at = rest.at();
@@ -98,7 +102,7 @@ fn argument_name<'t>(
     if has_name(name, seen) {
         return Err(ParseFault::TwiceNamed(at));
     }
-    if seen.len() >= MOST_ARGUMENTS {
+    if seen.len() >= limits::ARGUMENTS {
         return Err(ParseFault::TooMany(at));
     }
     Ok((name, rest))
@@ -111,13 +115,13 @@ fn own_type<'t>(
     types: &Types<'t>,
     wanted: Use,
     rest: Rest<'t>,
-) -> Result<(&'t str, Kind, Rest<'t>), ParseFault>
-    ensures { Gives (λ x. ((x.0.now, x.1), left x.2)) result
+) -> Result<(&'t str, Shape, Rest<'t>), OrMemory<ParseFault>>
+    ensures { MeansOrMemory (λ x. ((x.0.now, x.1), left x.2)) result
         (own_type_at (plain types.now.entries) wanted (left rest.entry)) }
 {
     let (type_name, rest) = name(rest)?;
-    let (kind, rest) = kind(alloc, types, wanted, rest.next())?;
-    Ok((type_name, kind, options(rest)?))
+    let (shape, rest) = shape(alloc, types, wanted, rest.next())?;
+    Ok((type_name, shape, options(rest)?))
 }
 
 /// Reads the name of a declared type.
@@ -126,14 +130,14 @@ fn known_type<'t>(
     types: &Types<'t>,
     wanted: Use,
     rest: Rest<'t>,
-) -> Result<(&'t str, Kind, Rest<'t>), ParseFault>
-    ensures { Gives (λ x. ((x.0.now, x.1), left x.2)) result
+) -> Result<(&'t str, Shape, Rest<'t>), ParseFault>
+    ensures { Means (λ x. ((x.0.now, x.1), left x.2)) result
         (known_type_at (plain types.now.entries) wanted (left rest.entry)) }
 {
     let type_name = rest.text();
-    let (kind, rest) = declared(types, wanted, rest)?;
+    let (shape, rest) = declared(types, wanted, rest)?;
     no_flag(rest)?;
-    Ok((type_name, kind, rest))
+    Ok((type_name, shape, rest))
 }
 
 /// Reads an argument's type, which is declared or follows a `=`.
@@ -143,17 +147,17 @@ fn argument_type<'t>(
     types: &Types<'t>,
     wanted: Use,
     rest: Rest<'t>,
-) -> Result<(&'t str, Kind, Rest<'t>), ParseFault>
-    ensures { Gives (λ x. ((x.0.now, x.1), left x.2)) result
+) -> Result<(&'t str, Shape, Rest<'t>), OrMemory<ParseFault>>
+    ensures { MeansOrMemory (λ x. ((x.0.now, x.1), left x.2)) result
         (argument_type_at (plain types.now.entries) wanted (left rest.entry)) }
 {
     match (rest.first(), rest.next().first()) {
         (Symbol::Name, Symbol::Sign(Sign::Equals)) => own_type(alloc, types, wanted, rest),
-        (Symbol::Name, _) => known_type(types, wanted, rest),
+        (Symbol::Name, _) => Ok(known_type(types, wanted, rest)?),
         (Symbol::Word(Word::Polymorphic), _) => {
-            Err(ParseFault::LeftOut(rest.at(), Feature::Polymorphic))
+            Err(OrMemory::Fault(ParseFault::LeftOut(rest.at(), Feature::Polymorphic)))
         }
-        _ => Err(rest.unexpected()),
+        _ => Err(OrMemory::Fault(rest.unexpected())),
     }
 }
 
@@ -174,18 +178,19 @@ fn argument<'t>(
     is_simple: bool,
     seen: &mut Vec<Written<'t>>,
     rest: Rest<'t>,
-) -> Result<Rest<'t>, ParseFault>
-    ensures { Gives (λ x. (map parameter_of seen.new.items, left x)) result
-        (argument_at (plain types.now.entries) is_simple (map parameter_of seen.old.items) (left rest.entry)) }
+) -> Result<Rest<'t>, OrMemory<ParseFault>>
+    ensures { MeansOrMemory (λ x. (map parameter_of seen.new.items, left x)) result
+        (argument_at (plain types.now.entries) is_simple (map parameter_of seen.old.items)
+        (left rest.entry)) }
 {
     let (direction, rest) = direction(seen.as_slice(), is_simple, rest)?;
     let (name, rest) = argument_name(seen.as_slice(), direction, rest)?;
     let rest = sign(rest, Sign::Colon)?;
-    let (type_name, kind, rest) = argument_type(alloc, types, use_of(direction), rest)?;
+    let (type_name, shape, rest) = argument_type(alloc, types, use_of(direction), rest)?;
     seen.push(Written {
         name,
         direction,
-        kind,
+        shape,
         type_name,
     })?;
     Ok(rest)
@@ -207,9 +212,10 @@ fn more_arguments<'t>(
     is_simple: bool,
     seen: &mut Vec<Written<'t>>,
     rest: Rest<'t>,
-) -> Result<Rest<'t>, ParseFault>
-    ensures { Gives (λ x. (map parameter_of seen.new.items, left x)) result
-        (many goes_on (next_argument (plain types.now.entries) is_simple) (length (left rest.entry)) (map parameter_of seen.old.items, left rest.entry)) }
+) -> Result<Rest<'t>, OrMemory<ParseFault>>
+    ensures { MeansOrMemory (λ x. (map parameter_of seen.new.items, left x)) result
+        (many goes_on (next_argument (plain types.now.entries) is_simple)
+        (length (left rest.entry)) (map parameter_of seen.old.items, left rest.entry)) }
 {
     let mut rest = rest;
     let count = rest.tokens.len();
@@ -229,8 +235,8 @@ fn some_arguments<'t>(
     types: &Types<'t>,
     is_simple: bool,
     rest: Rest<'t>,
-) -> Result<(Vec<Written<'t>>, Rest<'t>), ParseFault>
-    ensures { Gives (λ x. (map parameter_of x.0.items, left x.1)) result
+) -> Result<(Vec<Written<'t>>, Rest<'t>), OrMemory<ParseFault>>
+    ensures { MeansOrMemory (λ x. (map parameter_of x.0.items, left x.1)) result
         (some_arguments_at (plain types.now.entries) is_simple (left rest.entry)) }
 {
     let mut seen = Vec::new(alloc);
@@ -246,8 +252,8 @@ pub fn arguments<'t>(
     types: &Types<'t>,
     is_simple: bool,
     rest: Rest<'t>,
-) -> Result<(Vec<Written<'t>>, Rest<'t>), ParseFault>
-    ensures { Gives (λ x. (map parameter_of x.0.items, left x.1)) result
+) -> Result<(Vec<Written<'t>>, Rest<'t>), OrMemory<ParseFault>>
+    ensures { MeansOrMemory (λ x. (map parameter_of x.0.items, left x.1)) result
         (arguments_at (plain types.now.entries) is_simple (left rest.entry)) }
 {
     match rest.first() {
@@ -266,7 +272,7 @@ fn marked_are_ports(seen: &[Written<'_>]) -> bool
     ensures { result ≡
         list_all (λ p. not (is_marked p) || is_of_port_type p) (map parameter_of seen.now) }
 {
-    seen.iter().all(|written| !is_marked(written) || is_port(written.kind.number))
+    seen.iter().all(|written| !is_marked(written) || is_port_number(written.shape.name))
 }
 
 /// Whether a first argument that is not marked can be the request port.
@@ -277,7 +283,7 @@ fn may_be_request_port(written: &Written<'_>) -> bool
         None | Some(Direction::In) => true,
         Some(_) => false,
     };
-    is_in && is_port(written.kind.number)
+    is_in && is_port_number(written.shape.name)
 }
 
 fn with_direction(
@@ -286,11 +292,15 @@ fn with_direction(
     direction: Direction,
 ) -> Result<Argument, AllocError>
     ensures { IfOk result (λ a. item_of a ≡
-        record { direction = direction; kind = written.now.kind; type_name = written.now.type_name.now }) }
+        record {
+          direction = direction;
+          shape = written.now.shape;
+          type_name = written.now.type_name.now;
+        }) }
 {
     Ok(Argument {
         direction,
-        kind: written.kind,
+        shape: written.shape,
         type_name: String::from_str(alloc, written.type_name)?,
     })
 }

@@ -1,26 +1,30 @@
 //! The statements of a file.
 ghost use Rattle.std.specs.Prelude.{◌≡◌, ◌++◌, [], ◌∷◌, None, Some, map, length, IfOk, OnOk};
-ghost use Rattle.mrc_mig_symbols.specs.Symbols.{Gives, many, left};
+ghost use Rattle.mrc_mig_symbols.specs.Symbols.{Means, MeansOrMemory, many, left};
 ghost use Rattle.mrc_mig_symbols.specs.Tables.{plain, entry_of};
 ghost use Rattle.mrc_mig_parse.specs.Grammar.{IsFile};
-ghost use Rattle.mrc_mig_parse.specs.Files.{State, Meaning, one, table, is_declared, declared_with_all, include_by, directive_by, begins_line, line_at, lines_at, is_side, after_sides, number_at, named_number_at, heading_at, declaration_at, is_routine, routine_at, row_by, row_at, worded_by, has_more, import_at, rcsid_at, prefix_at, statement_at, statements_at, meaning_of};
+ghost use Rattle.mrc_mig_parse.specs.Files.{State, Meaning, one, table, is_declared};
+ghost use Rattle.mrc_mig_parse.specs.Files.{declared_with_all, include_by, directive_by};
+ghost use Rattle.mrc_mig_parse.specs.Files.{begins_line, line_at, lines_at, is_side, after_sides};
+ghost use Rattle.mrc_mig_parse.specs.Files.{number_at, named_number_at, heading_at, declaration_at};
+ghost use Rattle.mrc_mig_parse.specs.Files.{is_routine, routine_at, row_by, row_at, worded_by};
+ghost use Rattle.mrc_mig_parse.specs.Files.{has_more, import_at, rcsid_at, prefix_at, statement_at};
+ghost use Rattle.mrc_mig_parse.specs.Files.{statements_at, meaning_of};
 ghost use Rattle.mrc_mig_parse.specs.Meanings.{item_of};
 ghost use Rattle.mrc_mig_parse.specs.Readers.{state_of};
 
 use crate::arguments::{arguments, resolved};
 use crate::options::options;
-use crate::subsystem::{Argument, Entry, Kind, Subsystem};
-use crate::types::{Types, Use, kind, type_of};
+use crate::subsystem::{Argument, Entry, Shape, Subsystem};
+use crate::types::{Types, Use, shape, type_of};
 use indexmap::IndexMap;
+use mrc_base::{OrMemory, limits};
 use mrc_mig_lex::{Sign, Token};
 use mrc_mig_symbols::{Directive, Feature, ParseFault, Rest, Symbol, Word, name, sign};
 use std::alloc::{AllocError, Global};
 
-/// The most ids of a subsystem.
-const MOST_IDS: usize = 100;
-
 /// The types that the include line declares: names, type numbers and bits.
-const TABLE: [(&str, u32, u32); 16] = [
+const TABLE: [(&str, u16, u16); 16] = [
     ("char", 8, 8),
     ("short", 1, 16),
     ("int", 2, 32),
@@ -55,12 +59,12 @@ fn is_declared(name: &str, types: &Types<'_>) -> bool
 }
 
 /// Declares a type whose name no type has.
-fn declare<'t>(types: &mut Types<'t>, name: &'t str, kind: Kind) -> Result<(), AllocError>
+fn declare<'t>(types: &mut Types<'t>, name: &'t str, shape: Shape) -> Result<(), AllocError>
     requires { entry_of (plain types.old.entries) name.now ≡ None }
     ensures { OnOk result (plain types.new.entries ≡
-        plain types.old.entries ++ (name.now, kind) ∷ []) }
+        plain types.old.entries ++ (name.now, shape) ∷ []) }
 {
-    types.insert(name, kind)?;
+    types.insert(name, shape)?;
     Ok(())
 }
 
@@ -68,38 +72,39 @@ fn declare<'t>(types: &mut Types<'t>, name: &'t str, kind: Kind) -> Result<(), A
 #[tactic(auto, using(crate::proofs::FileLemmas::declares_at, crate::proofs::FileLemmas::declares_no_more))]
 fn declare_each<'t>(
     types: &mut Types<'t>,
-    table: &[(&'t str, u32, u32)],
+    table: &[(&'t str, u16, u16)],
     at: usize,
-) -> Result<(), ParseFault>
-    ensures { Gives (λ _. plain types.new.entries) result
-        (declared_with_all (plain types.old.entries) (map (λ entry. (entry.0.now, one entry.1 entry.2)) table.now)) }
+) -> Result<(), OrMemory<ParseFault>>
+    ensures { MeansOrMemory (λ _. plain types.new.entries) result
+        (declared_with_all (plain types.old.entries)
+        (map (λ entry. (entry.0.now, one entry.1 entry.2)) table.now)) }
 {
-    for (name, number, size) in table {
-        let kind = Kind {
-            number: *number,
+    for (name, type_number, size) in table {
+        let shape = Shape {
+            name: *type_number,
             size: *size,
-            count: 1,
+            number: 1,
             is_bound: false,
         };
         if is_declared(name, types) {
-            return Err(ParseFault::TwiceNamed(at));
+            return Err(OrMemory::Fault(ParseFault::TwiceNamed(at)));
         }
-        declare(types, name, kind)?;
+        declare(types, name, shape)?;
     }
     Ok(())
 }
 
 /// Declares the types of the include line, which is at `at`.
-fn declare_table(types: &mut Types<'_>, at: usize) -> Result<(), ParseFault>
-    ensures { Gives (λ _. plain types.new.entries) result
+fn declare_table(types: &mut Types<'_>, at: usize) -> Result<(), OrMemory<ParseFault>>
+    ensures { MeansOrMemory (λ _. plain types.new.entries) result
         (declared_with_all (plain types.old.entries) table) }
 {
     declare_each(types, &TABLE, at)
 }
 
 /// Reads the include line, which is at `at`.
-fn include(file: &mut File<'_>, at: usize) -> Result<(), ParseFault>
-    ensures { Gives (λ _. state_of file.new) result
+fn include(file: &mut File<'_>, at: usize) -> Result<(), OrMemory<ParseFault>>
+    ensures { MeansOrMemory (λ _. state_of file.new) result
         (include_by (state_of file.old).has_table (state_of file.old)) }
 {
     if file.has_table {
@@ -111,13 +116,18 @@ fn include(file: &mut File<'_>, at: usize) -> Result<(), ParseFault>
 }
 
 /// Reads a line of the preprocessor, which is at `at`.
-fn directive(file: &mut File<'_>, directive: Directive, at: usize) -> Result<(), ParseFault>
-    ensures { Gives (λ _. state_of file.new) result (directive_by directive (state_of file.old)) }
+fn directive(
+    file: &mut File<'_>,
+    directive: Directive,
+    at: usize,
+) -> Result<(), OrMemory<ParseFault>>
+    ensures { MeansOrMemory (λ _. state_of file.new) result
+        (directive_by directive (state_of file.old)) }
 {
     match directive {
         Directive::Marker => Ok(()),
         Directive::Include => include(file, at),
-        Directive::Other => Err(ParseFault::LeftOut(at, Feature::Preprocessor)),
+        Directive::Other => Err(OrMemory::Fault(ParseFault::LeftOut(at, Feature::Preprocessor))),
     }
 }
 
@@ -131,12 +141,12 @@ fn begins_line(rest: Rest<'_>) -> bool
 
 /// Reads a line of the preprocessor.
 #[tactic(auto, unfolding(crate::specs::Files::line_at))]
-fn line<'t>(file: &mut File<'t>, rest: Rest<'t>) -> Result<Rest<'t>, ParseFault>
-    ensures { Gives (λ x. (state_of file.new, left x)) result
+fn line<'t>(file: &mut File<'t>, rest: Rest<'t>) -> Result<Rest<'t>, OrMemory<ParseFault>>
+    ensures { MeansOrMemory (λ x. (state_of file.new, left x)) result
         (line_at (state_of file.old, left rest.entry)) }
 {
     let Symbol::Directive(line) = rest.first() else {
-        return Err(rest.unexpected());
+        return Err(OrMemory::Fault(rest.unexpected()));
     };
     directive(file, line, rest.at())?;
     Ok(rest.next())
@@ -144,8 +154,8 @@ fn line<'t>(file: &mut File<'t>, rest: Rest<'t>) -> Result<Rest<'t>, ParseFault>
 
 /// Reads the lines of the preprocessor in front of the subsystem.
 #[tactic(auto, using(mrc_mig_symbols::proofs::LoopLemmas::many_ends, mrc_mig_symbols::proofs::LoopLemmas::many_goes_on, mrc_mig_symbols::proofs::LoopLemmas::many_done), unfolding(crate::specs::Files::lines_at))]
-fn lines<'t>(file: &mut File<'t>, rest: Rest<'t>) -> Result<Rest<'t>, ParseFault>
-    ensures { Gives (λ x. (state_of file.new, left x)) result
+fn lines<'t>(file: &mut File<'t>, rest: Rest<'t>) -> Result<Rest<'t>, OrMemory<ParseFault>>
+    ensures { MeansOrMemory (λ x. (state_of file.new, left x)) result
         (lines_at (state_of file.old) (left rest.entry)) }
 {
     let mut rest = rest;
@@ -179,7 +189,7 @@ fn sides(rest: Rest<'_>) -> Rest<'_>
 
 #[tactic(auto, unfolding(crate::specs::Files::number_at))]
 fn number(rest: Rest<'_>) -> Result<(u32, Rest<'_>), ParseFault>
-    ensures { Gives (λ x. (x.0, left x.1)) result (number_at (left rest.entry)) }
+    ensures { Means (λ x. (x.0, left x.1)) result (number_at (left rest.entry)) }
 {
     match rest.first() {
         Symbol::Number(number) => Ok((number, rest.next())),
@@ -190,7 +200,7 @@ fn number(rest: Rest<'_>) -> Result<(u32, Rest<'_>), ParseFault>
 /// Reads `name number;`.
 #[tactic(auto, unfolding(crate::specs::Files::named_number_at))]
 fn named_number(rest: Rest<'_>) -> Result<(&str, u32, Rest<'_>), ParseFault>
-    ensures { Gives (λ x. ((x.0.now, x.1), left x.2)) result (named_number_at (left rest.entry)) }
+    ensures { Means (λ x. ((x.0.now, x.1), left x.2)) result (named_number_at (left rest.entry)) }
 {
     let (name, rest) = name(rest)?;
     let (base, rest) = number(rest)?;
@@ -200,7 +210,7 @@ fn named_number(rest: Rest<'_>) -> Result<(&str, u32, Rest<'_>), ParseFault>
 /// Reads `subsystem name number;`.
 #[tactic(auto, unfolding(crate::specs::Files::heading_at))]
 fn heading(rest: Rest<'_>) -> Result<(&str, u32, Rest<'_>), ParseFault>
-    ensures { Gives (λ x. ((x.0.now, x.1), left x.2)) result (heading_at (left rest.entry)) }
+    ensures { Means (λ x. ((x.0.now, x.1), left x.2)) result (heading_at (left rest.entry)) }
 {
     match rest.first() {
         Symbol::Word(Word::Subsystem) => named_number(sides(rest.next())),
@@ -214,20 +224,20 @@ fn declaration<'t>(
     alloc: Global,
     file: &mut File<'t>,
     rest: Rest<'t>,
-) -> Result<Rest<'t>, ParseFault>
-    ensures { Gives (λ x. (state_of file.new, left x)) result
+) -> Result<Rest<'t>, OrMemory<ParseFault>>
+    ensures { MeansOrMemory (λ x. (state_of file.new, left x)) result
         (declaration_at (state_of file.old) (left rest.entry)) }
 {
     let at = rest.at();
     let (name, rest) = name(rest)?;
     if is_declared(name, &file.types) {
-        return Err(ParseFault::TwiceNamed(at));
+        return Err(OrMemory::Fault(ParseFault::TwiceNamed(at)));
     }
     let rest = sign(rest, Sign::Equals)?;
-    let (kind, rest) = kind(alloc, &file.types, Use::Any, rest)?;
+    let (shape, rest) = shape(alloc, &file.types, Use::Any, rest)?;
     let rest = options(rest)?;
     let rest = sign(rest, Sign::Semicolon)?;
-    declare(&mut file.types, name, kind)?;
+    declare(&mut file.types, name, shape)?;
     Ok(rest)
 }
 
@@ -244,21 +254,21 @@ fn routine<'t>(
     file: &File<'t>,
     is_simple: bool,
     rest: Rest<'t>,
-) -> Result<(&'t str, Vec<Argument>, Rest<'t>), ParseFault>
-    ensures { Gives (λ x. ((x.0.now, map item_of x.1.items), left x.2)) result
+) -> Result<(&'t str, Vec<Argument>, Rest<'t>), OrMemory<ParseFault>>
+    ensures { MeansOrMemory (λ x. ((x.0.now, map item_of x.1.items), left x.2)) result
         (routine_at is_simple (state_of file.now) (left rest.entry)) }
 {
     let at = rest.at();
     let (name, rest) = name(rest)?;
     if is_routine(name, file.routines.as_slice()) {
-        return Err(ParseFault::TwiceNamed(at));
+        return Err(OrMemory::Fault(ParseFault::TwiceNamed(at)));
     }
     let rest = sign(rest, Sign::OpenParenthesis)?;
     let (seen, rest) = arguments(alloc, &file.types, is_simple, rest)?;
     let at = rest.at();
     let rest = sign(rest, Sign::CloseParenthesis)?;
     let Some(arguments) = resolved(alloc, seen.as_slice())? else {
-        return Err(ParseFault::NoRequestPort(at));
+        return Err(OrMemory::Fault(ParseFault::NoRequestPort(at)));
     };
     let rest = sign(rest, Sign::Semicolon)?;
     Ok((name, arguments, rest))
@@ -270,8 +280,8 @@ fn row<'t>(
     file: &mut File<'t>,
     word: Word,
     rest: Rest<'t>,
-) -> Result<Rest<'t>, ParseFault>
-    ensures { Gives (λ x. (state_of file.new, left x)) result
+) -> Result<Rest<'t>, OrMemory<ParseFault>>
+    ensures { MeansOrMemory (λ x. (state_of file.new, left x)) result
         (row_by word (state_of file.old) (left rest.entry)) }
 {
     match word {
@@ -292,7 +302,7 @@ fn row<'t>(
             file.entries.push(Entry::Skip)?;
             Ok(rest)
         }
-        _ => Err(rest.unexpected()),
+        _ => Err(OrMemory::Fault(rest.unexpected())),
     }
 }
 
@@ -303,12 +313,12 @@ fn entry<'t>(
     file: &mut File<'t>,
     word: Word,
     rest: Rest<'t>,
-) -> Result<Rest<'t>, ParseFault>
-    ensures { Gives (λ x. (state_of file.new, left x)) result
+) -> Result<Rest<'t>, OrMemory<ParseFault>>
+    ensures { MeansOrMemory (λ x. (state_of file.new, left x)) result
         (row_at word (state_of file.old) (left rest.entry)) }
 {
-    if file.entries.len() >= MOST_IDS {
-        return Err(ParseFault::TooMany(rest.at()));
+    if file.entries.len() >= limits::IDS {
+        return Err(OrMemory::Fault(ParseFault::TooMany(rest.at())));
     }
     row(alloc, file, word, rest.next())
 }
@@ -316,7 +326,7 @@ fn entry<'t>(
 /// Reads a string or a file's name, and `;`.
 #[tactic(auto, unfolding(crate::specs::Files::import_at))]
 fn import(rest: Rest<'_>) -> Result<Rest<'_>, ParseFault>
-    ensures { Gives left result (import_at (left rest.entry)) }
+    ensures { Means left result (import_at (left rest.entry)) }
 {
     match rest.first() {
         Symbol::Text | Symbol::Header => sign(rest.next(), Sign::Semicolon),
@@ -327,7 +337,7 @@ fn import(rest: Rest<'_>) -> Result<Rest<'_>, ParseFault>
 /// Reads a name and `;`.
 #[tactic(auto, unfolding(crate::specs::Files::prefix_at))]
 fn prefix(rest: Rest<'_>) -> Result<Rest<'_>, ParseFault>
-    ensures { Gives left result (prefix_at (left rest.entry)) }
+    ensures { Means left result (prefix_at (left rest.entry)) }
 {
     let (_, rest) = name(rest)?;
     sign(rest, Sign::Semicolon)
@@ -336,7 +346,7 @@ fn prefix(rest: Rest<'_>) -> Result<Rest<'_>, ParseFault>
 /// Reads a string and `;`.
 #[tactic(auto, unfolding(crate::specs::Files::rcsid_at))]
 fn rcsid(rest: Rest<'_>) -> Result<Rest<'_>, ParseFault>
-    ensures { Gives left result (rcsid_at (left rest.entry)) }
+    ensures { Means left result (rcsid_at (left rest.entry)) }
 {
     match rest.first() {
         Symbol::Text => sign(rest.next(), Sign::Semicolon),
@@ -350,26 +360,30 @@ fn worded<'t>(
     file: &mut File<'t>,
     word: Word,
     rest: Rest<'t>,
-) -> Result<Rest<'t>, ParseFault>
-    ensures { Gives (λ x. (state_of file.new, left x)) result
+) -> Result<Rest<'t>, OrMemory<ParseFault>>
+    ensures { MeansOrMemory (λ x. (state_of file.new, left x)) result
         (worded_by word (state_of file.old) (left rest.entry)) }
 {
     match word {
         Word::Type => declaration(alloc, file, rest.next()),
         Word::Routine | Word::SimpleRoutine | Word::Skip => entry(alloc, file, word, rest),
-        Word::Import => import(rest.next()),
-        Word::Prefix => prefix(rest.next()),
-        Word::Rcsid => rcsid(rest.next()),
-        Word::OldForm => Err(ParseFault::LeftOut(rest.at(), Feature::OldForm)),
-        Word::Wait => Err(ParseFault::LeftOut(rest.at(), Feature::Option)),
-        _ => Err(rest.unexpected()),
+        Word::Import => Ok(import(rest.next())?),
+        Word::Prefix => Ok(prefix(rest.next())?),
+        Word::Rcsid => Ok(rcsid(rest.next())?),
+        Word::OldForm => Err(OrMemory::Fault(ParseFault::LeftOut(rest.at(), Feature::OldForm))),
+        Word::Wait => Err(OrMemory::Fault(ParseFault::LeftOut(rest.at(), Feature::Option))),
+        _ => Err(OrMemory::Fault(rest.unexpected())),
     }
 }
 
 /// Reads a statement.
 #[tactic(auto, unfolding(crate::specs::Files::statement_at))]
-fn statement<'t>(alloc: Global, file: &mut File<'t>, rest: Rest<'t>) -> Result<Rest<'t>, ParseFault>
-    ensures { Gives (λ x. (state_of file.new, left x)) result
+fn statement<'t>(
+    alloc: Global,
+    file: &mut File<'t>,
+    rest: Rest<'t>,
+) -> Result<Rest<'t>, OrMemory<ParseFault>>
+    ensures { MeansOrMemory (λ x. (state_of file.new, left x)) result
         (statement_at (state_of file.old, left rest.entry)) }
 {
     match rest.first() {
@@ -378,7 +392,7 @@ fn statement<'t>(alloc: Global, file: &mut File<'t>, rest: Rest<'t>) -> Result<R
             Ok(rest.next())
         }
         Symbol::Word(word) => worded(alloc, file, word, rest),
-        _ => Err(rest.unexpected()),
+        _ => Err(OrMemory::Fault(rest.unexpected())),
     }
 }
 
@@ -396,9 +410,10 @@ fn each_statement<'t>(
     alloc: Global,
     file: &mut File<'t>,
     rest: Rest<'t>,
-) -> Result<Rest<'t>, ParseFault>
-    ensures { Gives (λ x. (state_of file.new, left x)) result
-        (many has_more statement_at (length (left rest.entry)) (state_of file.old, left rest.entry)) }
+) -> Result<Rest<'t>, OrMemory<ParseFault>>
+    ensures { MeansOrMemory (λ x. (state_of file.new, left x)) result
+        (many has_more statement_at (length (left rest.entry))
+        (state_of file.old, left rest.entry)) }
 {
     let mut rest = rest;
     let count = rest.tokens.len();
@@ -413,22 +428,26 @@ fn each_statement<'t>(
 
 /// Reads the statements, up to the end.
 #[tactic(auto, unfolding(crate::specs::Files::statements_at))]
-fn statements<'t>(alloc: Global, file: &mut File<'t>, rest: Rest<'t>) -> Result<(), ParseFault>
-    ensures { Gives (λ _. state_of file.new) result
+fn statements<'t>(
+    alloc: Global,
+    file: &mut File<'t>,
+    rest: Rest<'t>,
+) -> Result<(), OrMemory<ParseFault>>
+    ensures { MeansOrMemory (λ _. state_of file.new) result
         (statements_at (state_of file.old) (left rest.entry)) }
 {
     let rest = each_statement(alloc, file, rest)?;
     if rest.is_empty() {
         Ok(())
     } else {
-        Err(rest.unexpected())
+        Err(OrMemory::Fault(rest.unexpected()))
     }
 }
 
 /// Reads a whole file.
 #[tactic(auto, unfolding(crate::specs::Files::meaning_of))]
-fn whole_file(alloc: Global, tokens: &[Token<'_>]) -> Result<Subsystem, ParseFault>
-    ensures { Gives (λ subsystem. subsystem) result (meaning_of tokens.now) }
+fn whole_file(alloc: Global, tokens: &[Token<'_>]) -> Result<Subsystem, OrMemory<ParseFault>>
+    ensures { MeansOrMemory (λ subsystem. subsystem) result (meaning_of tokens.now) }
 {
     let mut file = File {
         types: IndexMap::new(alloc),
@@ -448,18 +467,21 @@ fn whole_file(alloc: Global, tokens: &[Token<'_>]) -> Result<Subsystem, ParseFau
 
 /// The subsystem that the tokens of a MIG file mean.
 ///
-/// A refusal tells the first fault in the order of the tokens, and of faults at one place the first in the
-/// order of [`ParseFault`]. Its place is an offset in bytes: mostly that of the first byte of the token that
-/// cannot stand there, and the end of the last token where one is missing.
+/// A fault is the first in the order of the tokens, and of faults at one place the first in the
+/// order of [`ParseFault`]. Its place is an offset in bytes: mostly that of the first byte of the
+/// token that cannot stand there, and the end of the last token where one is missing.
 ///
-/// Source: the Server Writer's Guide for MIG. What is left out, and all limits, are this profile's own choice.
-pub fn parse(alloc: Global, tokens: &[Token<'_>]) -> Result<Subsystem, ParseFault>
+/// Source: the Server Writer's Guide for MIG. What is left out, and all limits, are this profile's
+/// own choice.
+pub fn parse(alloc: Global, tokens: &[Token<'_>]) -> Result<Subsystem, OrMemory<ParseFault>>
     // What is read is what the tokens are by the grammar.
     ensures found { IfOk result (λ subsystem. IsFile tokens.now subsystem) }
     // What they are by the grammar is read, unless memory runs out.
-    ensures only { (m : Meaning) → IsFile tokens.now m → Gives (λ subsystem. subsystem) result (Some m) }
-    // So nothing is read exactly where they are no file.
-    ensures exact { Gives (λ subsystem. subsystem) result (meaning_of tokens.now) }
+    ensures only { (m : Meaning) → IsFile tokens.now m →
+        MeansOrMemory (λ subsystem. subsystem) result
+        (Some m) }
+    // So it is refused exactly where they are no file, unless memory runs out.
+    ensures refused { MeansOrMemory (λ subsystem. subsystem) result (meaning_of tokens.now) }
 {
     whole_file(alloc, tokens)
 }

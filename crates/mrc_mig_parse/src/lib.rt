@@ -11,7 +11,7 @@ mod types;
 pub use file::parse;
 pub use laws::files_by_grammar;
 pub use mrc_mig_symbols::{Direction, Feature, ParseFault};
-pub use subsystem::{Argument, Entry, Kind, Subsystem};
+pub use subsystem::{Argument, Entry, Shape, Subsystem};
 
 #[cfg(test)]
 mod tests;

@@ -1,6 +1,7 @@
 //! What may follow a type.
-ghost use Rattle.mrc_mig_symbols.specs.Symbols.{Gives, many, left};
-ghost use Rattle.mrc_mig_parse.specs.Arguments.{c_type_at, call_at, translation_at, destructor_at, begins_option, option_at, options_at};
+ghost use Rattle.mrc_mig_symbols.specs.Symbols.{Means, many, left};
+ghost use Rattle.mrc_mig_parse.specs.Arguments.{c_type_at, call_at, translation_at, destructor_at};
+ghost use Rattle.mrc_mig_parse.specs.Arguments.{begins_option, option_at, options_at};
 ghost use Rattle.std.specs.Prelude.{◌≡◌, length};
 
 use crate::types::no_flag;
@@ -10,7 +11,7 @@ use mrc_mig_symbols::{ParseFault, Rest, Symbol, Word, name, sign};
 /// Reads `: name`.
 #[tactic(auto, unfolding(crate::specs::Arguments::c_type_at))]
 fn c_type(rest: Rest<'_>) -> Result<Rest<'_>, ParseFault>
-    ensures { Gives left result (c_type_at (left rest.entry)) }
+    ensures { Means left result (c_type_at (left rest.entry)) }
 {
     let rest = sign(rest, Sign::Colon)?;
     let (_, rest) = name(rest)?;
@@ -20,7 +21,7 @@ fn c_type(rest: Rest<'_>) -> Result<Rest<'_>, ParseFault>
 /// Reads `name ( name )`.
 #[tactic(auto, unfolding(crate::specs::Arguments::call_at))]
 fn call(rest: Rest<'_>) -> Result<Rest<'_>, ParseFault>
-    ensures { Gives left result (call_at (left rest.entry)) }
+    ensures { Means left result (call_at (left rest.entry)) }
 {
     let (_, rest) = name(rest)?;
     let rest = sign(rest, Sign::OpenParenthesis)?;
@@ -31,7 +32,7 @@ fn call(rest: Rest<'_>) -> Result<Rest<'_>, ParseFault>
 /// Reads `: name name ( name )`.
 #[tactic(auto, unfolding(crate::specs::Arguments::translation_at))]
 fn translation(rest: Rest<'_>) -> Result<Rest<'_>, ParseFault>
-    ensures { Gives left result (translation_at (left rest.entry)) }
+    ensures { Means left result (translation_at (left rest.entry)) }
 {
     let rest = sign(rest, Sign::Colon)?;
     let (_, rest) = name(rest)?;
@@ -41,7 +42,7 @@ fn translation(rest: Rest<'_>) -> Result<Rest<'_>, ParseFault>
 /// Reads `: name ( name )`.
 #[tactic(auto, unfolding(crate::specs::Arguments::destructor_at))]
 fn destructor(rest: Rest<'_>) -> Result<Rest<'_>, ParseFault>
-    ensures { Gives left result (destructor_at (left rest.entry)) }
+    ensures { Means left result (destructor_at (left rest.entry)) }
 {
     let rest = sign(rest, Sign::Colon)?;
     call(rest)
@@ -61,7 +62,7 @@ fn begins_option(rest: Rest<'_>) -> bool
 /// Reads an option.
 #[tactic(auto, unfolding(crate::specs::Arguments::option_at))]
 fn option(rest: Rest<'_>) -> Result<Rest<'_>, ParseFault>
-    ensures { Gives left result (option_at (left rest.entry)) }
+    ensures { Means left result (option_at (left rest.entry)) }
 {
     match rest.first() {
         Symbol::Word(Word::CType) => c_type(rest.next()),
@@ -74,7 +75,7 @@ fn option(rest: Rest<'_>) -> Result<Rest<'_>, ParseFault>
 /// Reads the options that come next.
 #[tactic(auto, using(mrc_mig_symbols::proofs::LoopLemmas::many_ends, mrc_mig_symbols::proofs::LoopLemmas::many_goes_on, mrc_mig_symbols::proofs::LoopLemmas::many_done))]
 fn each_option(rest: Rest<'_>) -> Result<Rest<'_>, ParseFault>
-    ensures { Gives left result
+    ensures { Means left result
         (many begins_option option_at (length (left rest.entry)) (left rest.entry)) }
 {
     let mut rest = rest;
@@ -91,7 +92,7 @@ fn each_option(rest: Rest<'_>) -> Result<Rest<'_>, ParseFault>
 /// Reads the options behind a type. They may repeat, and mean nothing for messages.
 #[tactic(auto, unfolding(crate::specs::Arguments::options_at))]
 pub fn options(rest: Rest<'_>) -> Result<Rest<'_>, ParseFault>
-    ensures { Gives left result (options_at (left rest.entry)) }
+    ensures { Means left result (options_at (left rest.entry)) }
 {
     let rest = each_option(rest)?;
     no_flag(rest)?;

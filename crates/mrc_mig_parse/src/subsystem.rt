@@ -1,21 +1,23 @@
 //! What a MIG subsystem means.
 
 ghost use Rattle.std.specs.Prelude.{◌≡◌, ◌≤◌, map, length};
+ghost use Rattle.mrc_base.specs.Limits.{limit_of_ids};
 ghost use Rattle.mrc_mig_parse.specs.Meanings.{row_of};
 
 use mrc_mig_symbols::Direction;
 use std::marker::Model;
 
-/// The data of an argument: the type's number, the size of one item in bits, and how many items there are.
+/// What an argument's data look like, as its descriptor says it: the words are those of
+/// mach_msg_type_t.
 #[derive(Clone, Copy, Debug, PartialEq, Eq)]
-pub struct Kind {
-    /// The number of the MACH_MSG_TYPE_ name.
-    pub number: u32,
+pub struct Shape {
+    /// The type number of the items: that of the MACH_MSG_TYPE_ name, 0 to 21.
+    pub name: u16,
     /// The bits of one item.
-    pub size: u32,
-    /// How many items, 1 to 8,192.
-    pub count: u32,
-    /// The count is the most that there may be, and not the exact number.
+    pub size: u16,
+    /// How many items there are, 1 to 8,192.
+    pub number: u32,
+    /// The number is the most that there may be, and not the exact one.
     pub is_bound: bool,
 }
 
@@ -25,7 +27,7 @@ pub struct Argument {
     /// Which way it goes. An argument with no word is `In`, or the request port.
     pub direction: Direction,
     /// Its data.
-    pub kind: Kind,
+    pub shape: Shape,
     /// The name after the colon.
     pub type_name: String,
 }
@@ -51,14 +53,19 @@ pub struct Subsystem {
 
 impl Model for Subsystem {
     ghost use Rattle.std.specs.Prelude.{◌≤◌, map, length, string_bytes};
+    ghost use Rattle.mrc_base.specs.Limits.{limit_of_ids};
     ghost use Rattle.mrc_mig_parse.specs.Files.{Meaning};
     ghost use Rattle.mrc_mig_parse.specs.Meanings.{row_of};
 
     ghost Value = { Meaning };
 
-    ghost view = { λ s. record { name = string_bytes s.name; base = s.base; rows = map row_of s.entries.items } };
+    ghost view = { λ s. record {
+      name = string_bytes s.name;
+      base = s.base;
+      rows = map row_of s.entries.items;
+    } };
 
-    ghost invariant = { λ s. length s.entries.items ≤ 100 };
+    ghost invariant = { λ s. length s.entries.items ≤ limit_of_ids };
 }
 
 impl Subsystem {
@@ -79,7 +86,7 @@ impl Subsystem {
     /// Its routines, simpleroutines and skips, in order, 100 at most.
     pub fn entries(&self) -> &[Entry]
         ensures shown { map row_of result.now ≡ self.now.rows }
-        ensures few { length result.now ≤ 100 }
+        ensures few { length result.now ≤ limit_of_ids }
     {
         self.entries.as_slice()
     }

@@ -1,4 +1,5 @@
 use super::*;
+use mrc_base::{OrMemory, is_port_number};
 use mrc_mig_lex::{Sign, Token, TokenKind, lex};
 use std::alloc::Global;
 use std::process::Abort;
@@ -8,11 +9,19 @@ use std::test::*;
 const HEAD: &str = "subsystem s 1;\n#include <mach/std_types.defs>\n";
 
 /// What a text means.
-fn read(alloc: Global, text: &str) -> Result<Subsystem, ParseFault> {
+fn read(alloc: Global, text: &str) -> Result<Subsystem, OrMemory<ParseFault>> {
     let Ok(tokens) = lex(alloc, text) else {
-        return Err(ParseFault::Memory);
+        return Err(OrMemory::Memory);
     };
     parse(alloc, tokens.as_slice())
+}
+
+/// The fault of a text that means nothing.
+fn fault_of(alloc: Global, text: &str) -> Option<ParseFault> {
+    match read(alloc, text) {
+        Err(OrMemory::Fault(fault)) => Some(fault),
+        _ => None,
+    }
 }
 
 /// The fault at another place.
@@ -24,7 +33,6 @@ fn moved(fault: ParseFault, at: usize) -> ParseFault {
         ParseFault::TwiceNamed(_) => ParseFault::TwiceNamed(at),
         ParseFault::NoRequestPort(_) => ParseFault::NoRequestPort(at),
         ParseFault::TooMany(_) => ParseFault::TooMany(at),
-        ParseFault::Memory => ParseFault::Memory,
     }
 }
 
@@ -40,7 +48,7 @@ fn refuses(
     let text = format!(in alloc; "{head}{before}{after}")?;
     let at = head.len().wrapping_add(before.len());
     assert_eq!(rt;
-        read(alloc, text.as_str()).err(),
+        fault_of(alloc, text.as_str()),
         Some(moved(fault, at)),
         "{marked}"
     );
@@ -60,32 +68,32 @@ fn refuse_each(
     Ok(())
 }
 
-/// The kind of the type `t` behind the head.
-fn kind_of(alloc: Global, types: &str) -> Result<Kind, Fail> {
+/// The shape of the type `t` behind the head.
+fn shape_of(alloc: Global, types: &str) -> Result<Shape, Fail> {
     let text = format!(in alloc; "{HEAD}{types} routine r(p : mach_port_t; x : t);")?;
     let subsystem = read(alloc, text.as_str())?;
     let Some(Entry::Routine(arguments)) = subsystem.entries().first() else {
         return Err("no routine".into());
     };
     let argument = arguments.get(1).ok_or("no argument")?;
-    Ok(argument.kind)
+    Ok(argument.shape)
 }
 
-const fn made(number: u32, size: u32, count: u32, is_bound: bool) -> Kind {
-    Kind {
-        number,
+const fn made(name: u16, size: u16, number: u32, is_bound: bool) -> Shape {
+    Shape {
+        name,
         size,
-        count,
+        number,
         is_bound,
     }
 }
 
-const fn exact(number: u32, size: u32, count: u32) -> Kind {
-    made(number, size, count, false)
+const fn exact(name: u16, size: u16, number: u32) -> Shape {
+    made(name, size, number, false)
 }
 
-const fn bound(number: u32, size: u32, count: u32) -> Kind {
-    made(number, size, count, true)
+const fn bound(name: u16, size: u16, number: u32) -> Shape {
+    made(name, size, number, true)
 }
 
 const UNEXPECTED: ParseFault = ParseFault::Unexpected(0);
@@ -98,7 +106,7 @@ const NO_REQUEST_PORT: ParseFault = ParseFault::NoRequestPort(0);
 
 const TOO_MANY: ParseFault = ParseFault::TooMany(0);
 
-const TYPES: [(&str, u32, u32, u32, bool); 64] = [
+const TYPES: [(&str, u16, u16, u32, bool); 64] = [
     ("type t = array[2*(3+1)] of int;", 2, 32, 8, false),
     ("type t = array[7/2] of char;", 8, 8, 3, false),
     ("type t = struct[2] of array[3] of short;", 1, 16, 6, false),
@@ -156,7 +164,8 @@ const TYPES: [(&str, u32, u32, u32, bool); 64] = [
     ),
     ("type u = array[*:2] of int; type t = u;", 2, 32, 2, true),
     (
-        "type t = int ctype : a cusertype : b cservertype : c intran : d e(f) outtran : g h(i) destructor : j(k) ctype : a;",
+        "type t = int ctype : a cusertype : b cservertype : c intran : d e(f) outtran : g h(i) \
+        destructor : j(k) ctype : a;",
         2,
         32,
         1,
@@ -261,7 +270,8 @@ const TYPES: [(&str, u32, u32, u32, bool); 64] = [
         false,
     ),
     (
-        "type t = (MACH_MSG_TYPE_CHAR, 8) CTYPE : a CUserType : b cServerType : c InTran : d e(f) OutTran : g h(i) Destructor : j(k);",
+        "type t = (MACH_MSG_TYPE_CHAR, 8) CTYPE : a CUserType : b cServerType : c InTran : d e(f) \
+        OutTran : g h(i) Destructor : j(k);",
         8,
         8,
         1,
@@ -293,14 +303,14 @@ const TYPES: [(&str, u32, u32, u32, bool); 64] = [
 
 #[test]
 fn reads_types(rt: HostRuntime) -> Result<(), Fail> {
-    for (types, number, size, count, is_bound) in &TYPES {
-        let kind = made(*number, *size, *count, *is_bound);
-        assert_eq!(rt; kind_of(rt.alloc(), types)?, kind, "{types}");
+    for (types, name, size, number, is_bound) in &TYPES {
+        let shape = made(*name, *size, *number, *is_bound);
+        assert_eq!(rt; shape_of(rt.alloc(), types)?, shape, "{types}");
     }
     Ok(())
 }
 
-const TABLE: [(&str, u32, u32, u32, bool); 16] = [
+const TABLE: [(&str, u16, u16, u32, bool); 16] = [
     ("char", 8, 8, 1, false),
     ("short", 1, 16, 1, false),
     ("int", 2, 32, 1, false),
@@ -321,10 +331,10 @@ const TABLE: [(&str, u32, u32, u32, bool); 16] = [
 
 #[test]
 fn reads_the_table(rt: HostRuntime) -> Result<(), Fail> {
-    for (name, number, size, count, is_bound) in &TABLE {
-        let text = format!(in rt.alloc(); "type t = {name};")?;
-        let kind = made(*number, *size, *count, *is_bound);
-        assert_eq!(rt; kind_of(rt.alloc(), text.as_str())?, kind, "{name}");
+    for (spelling, name, size, number, is_bound) in &TABLE {
+        let text = format!(in rt.alloc(); "type t = {spelling};")?;
+        let shape = made(*name, *size, *number, *is_bound);
+        assert_eq!(rt; shape_of(rt.alloc(), text.as_str())?, shape, "{spelling}");
     }
     Ok(())
 }
@@ -363,7 +373,7 @@ fn names_of_the_table(rt: HostRuntime) -> Result<(), Fail> {
 #[test]
 fn ports_of_the_table(rt: HostRuntime) -> Result<(), Fail> {
     for (name, number, _, _, _) in &TABLE {
-        let is_port = 16 <= *number && *number <= 21;
+        let is_port = is_port_number(*number);
         for before in ["", "in ", "requestport "] {
             if is_port {
                 let text = format!(in rt.alloc(); "{HEAD}simpleroutine r({before}p : {name});")?;
@@ -390,14 +400,14 @@ fn ports_of_the_table(rt: HostRuntime) -> Result<(), Fail> {
     Ok(())
 }
 
-/// Whether an entry has these arguments: which way each goes, its kind and its type's name.
-fn has_arguments(entry: Option<&Entry>, wanted: &[(Direction, Kind, &str)]) -> bool {
+/// Whether an entry has these arguments: which way each goes, its shape and its type's name.
+fn has_arguments(entry: Option<&Entry>, wanted: &[(Direction, Shape, &str)]) -> bool {
     match entry {
         Some(Entry::Routine(arguments) | Entry::SimpleRoutine(arguments)) => {
             arguments.len() == wanted.len()
                 && arguments.iter().zip(wanted).all(|(argument, row)| {
                     argument.direction == row.0
-                        && argument.kind == row.1
+                        && argument.shape == row.1
                         && argument.type_name.as_str() == row.2
                 })
         }
@@ -479,7 +489,8 @@ fn reads_ports_and_types_of_arguments(rt: HostRuntime) -> Result<(), Fail> {
 routine a(x : int; requestport p : mach_port_t; inout y : own = array[*:3] of char ctype : c;
     replyport r : mach_port_make_send_once_t; z : mach_port_t);
 simpleroutine b(in x : int = MACH_MSG_TYPE_MAKE_SEND; out y : mach_port_name_t);
-routine c(p : ports = array[2] of mach_port_t; replyport r : once = array[2] of mach_port_move_send_once_t);
+routine c(p : ports = array[2] of mach_port_t; replyport r : once = array[2] of \
+        mach_port_move_send_once_t);
 ";
     let subsystem = read(rt.alloc(), text)?;
     assert_eq!(rt; subsystem.base(), 0);
@@ -508,7 +519,7 @@ routine c(p : ports = array[2] of mach_port_t; replyport r : once = array[2] of 
     Ok(())
 }
 
-const PRINTED: [(ParseFault, &str); 15] = [
+const PRINTED: [(ParseFault, &str); 14] = [
     (ParseFault::Unexpected(7), "Unexpected 7"),
     (
         ParseFault::LeftOut(68, Feature::Nested),
@@ -541,7 +552,6 @@ const PRINTED: [(ParseFault, &str); 15] = [
     (ParseFault::TwiceNamed(2), "TwiceNamed 2"),
     (ParseFault::NoRequestPort(3), "NoRequestPort 3"),
     (ParseFault::TooMany(404), "TooMany 404"),
-    (ParseFault::Memory, "Memory"),
 ];
 
 #[test]
@@ -922,11 +932,11 @@ fn unexpected_from_the_start(rt: HostRuntime) -> Result<(), Fail> {
         refuses(&rt, rt.alloc(), "", marked, UNEXPECTED)?;
     }
     assert_eq!(rt;
-        read(rt.alloc(), " /* x */ ").err(),
+        fault_of(rt.alloc(), " /* x */ "),
         Some(ParseFault::Unexpected(0))
     );
     assert_eq!(rt;
-        read(rt.alloc(), "# 1 x  \n").err(),
+        fault_of(rt.alloc(), "# 1 x  \n"),
         Some(ParseFault::Unexpected(7))
     );
     Ok(())
@@ -1167,7 +1177,8 @@ const LEFT_OUT: [(Feature, &str); 136] = [
     ),
     (
         Feature::Pair,
-        "routine r(p : mach_port_t; replyport q : u = MACH_MSG_TYPE_MAKE_SEND_ONCE @| MACH_MSG_TYPE_PORT_SEND_ONCE);",
+        "routine r(p : mach_port_t; replyport q : u = MACH_MSG_TYPE_MAKE_SEND_ONCE @| \
+        MACH_MSG_TYPE_PORT_SEND_ONCE);",
     ),
     (Feature::Real, "type t = (@MACH_MSG_TYPE_REAL, 64);"),
     (
@@ -1208,7 +1219,8 @@ const LEFT_OUT: [(Feature, &str); 136] = [
     ),
     (
         Feature::ReplyPort,
-        "routine r(p : mach_port_t; replyport q : u = MACH_MSG_TYPE_MOVE_SEND_ONCE; x : int; @replyport z : u);",
+        "routine r(p : mach_port_t; replyport q : u = MACH_MSG_TYPE_MOVE_SEND_ONCE; x : int; \
+        @replyport z : u);",
     ),
     (
         Feature::ReplyPort,
@@ -1276,7 +1288,8 @@ const LEFT_OUT: [(Feature, &str); 136] = [
     ),
     (
         Feature::Nested,
-        "type u = array[*:2] of mach_port_make_send_once_t; routine r(p : mach_port_t; replyport q : v = array[2] of @u);",
+        "type u = array[*:2] of mach_port_make_send_once_t; routine r(p : mach_port_t; replyport \
+        q : v = array[2] of @u);",
     ),
     (Feature::Preprocessor, "@#include <mach/std_types.defs>x\n"),
     (
@@ -1421,7 +1434,8 @@ const NO_REQUEST_PORTS: [&str; 20] = [
     "routine r(requestport x : int; p : mach_port_t@);",
     "routine r(requestport x : int; requestport y : mach_port_t@);",
     "routine r(requestport x : mach_port_t; p : mach_port_t; requestport y : int@);",
-    "routine r(requestport x : mach_port_t; requestport y : mach_port_t; requestport z : mach_port_t@);",
+    "routine r(requestport x : mach_port_t; requestport y : mach_port_t; requestport z : \
+        mach_port_t@);",
     "simpleroutine r(x : boolean_t@);",
 ];
 
@@ -1581,7 +1595,9 @@ fn other_words_are_names(rt: HostRuntime) -> Result<(), Fail> {
         "TYPES",
     ] {
         let text = format!(in rt.alloc();
-            "subsystem {word} 1; type {word} = MACH_MSG_TYPE_COPY_SEND ctype : {word} intran : {word} {word}({word}); serverprefix {word}; routine {word}({word} : {word}; in x : {word} = {word});"
+            "subsystem {word} 1; type {word} = MACH_MSG_TYPE_COPY_SEND ctype : {word} intran : \
+            {word} {word}({word}); serverprefix {word}; routine {word}({word} : {word}; in x : \
+            {word} = {word});"
         )?;
         let subsystem = read(rt.alloc(), text.as_str())?;
         assert_eq!(rt; subsystem.name(), word);
@@ -1662,7 +1678,8 @@ fn options_without_a_type(rt: HostRuntime) -> Result<(), Fail> {
     Ok(())
 }
 
-// The size of a port is 32, in whatever way it is handed over. That of anything else is what is given.
+// The size of a port is 32, in whatever way it is handed over. That of anything else is what is
+// given.
 #[test]
 fn sizes_of_ports(rt: HostRuntime) -> Result<(), Fail> {
     for (name, number) in [
@@ -1675,7 +1692,7 @@ fn sizes_of_ports(rt: HostRuntime) -> Result<(), Fail> {
     ] {
         let fits = format!(in rt.alloc(); "type t = (MACH_MSG_TYPE_{name}, 32);")?;
         assert_eq!(rt;
-            kind_of(rt.alloc(), fits.as_str())?,
+            shape_of(rt.alloc(), fits.as_str())?,
             exact(number, 32, 1),
             "{name}"
         );
@@ -1702,7 +1719,7 @@ fn sizes_of_other_types(rt: HostRuntime) -> Result<(), Fail> {
     ] {
         let types = format!(in rt.alloc(); "type t = (MACH_MSG_TYPE_{name}, 24);")?;
         assert_eq!(rt;
-            kind_of(rt.alloc(), types.as_str())?,
+            shape_of(rt.alloc(), types.as_str())?,
             exact(number, 24, 1),
             "{name}"
         );
@@ -1853,7 +1870,8 @@ fn too_many_ids_of_each_kind(rt: HostRuntime) -> Result<(), Fail> {
     let mut text = String::from_str(rt.alloc(), HEAD)?;
     for place in 0..33 {
         let more = format!(in rt.alloc();
-            "routine r{place}(p : mach_port_t); simpleroutine s{place}(p : mach_port_t); skip; import <x>;\n"
+            "routine r{place}(p : mach_port_t); simpleroutine s{place}(p : mach_port_t); skip; \
+            import <x>;\n"
         )?;
         text.push_str(more.as_str())?;
     }
@@ -1880,7 +1898,9 @@ fn reads_names(rt: HostRuntime) -> Result<(), Fail> {
     assert_eq!(rt; subsystem.name(), longest);
     assert_eq!(rt; subsystem.base(), 0);
     let text = format!(in rt.alloc();
-        "{HEAD}type {longest} = mach_port_t ctype : {longest} intran : {longest} {longest}({longest}) destructor : {longest}({longest}); userprefix {longest}; routine {longest}({longest} : {longest}; x : {longest} = int);"
+        "{HEAD}type {longest} = mach_port_t ctype : {longest} intran : {longest} \
+        {longest}({longest}) destructor : {longest}({longest}); userprefix {longest}; routine \
+        {longest}({longest} : {longest}; x : {longest} = int);"
     )?;
     let subsystem = read(rt.alloc(), text.as_str())?;
     let wanted = [
@@ -1939,17 +1959,26 @@ fn many_parentheses(rt: HostRuntime) -> Result<(), Fail> {
 const WHOLE_FILES: [&str; 13] = [
     "# 1 \"x\"\n#line 3 \"y\"\nsubsystem s 1;\n#include <mach/std_types.defs>\n# 9\ntype t = int;",
     "#\tinclude<mach/std_types.defs>\t/* a * b **/ /**/\r\nsubsystem s 1; type t = int;",
-    "#include <mach/std_types.defs>\n#line\n#line \n# 99999999999999999999\r\nSUBSYSTEM KernelServer kerneluser s 1; type t = int;\n#include <mach/std_types.defs>\n",
-    "subsystem s 1; import \"a\"; uimport <b>; simport \"\"; userprefix x; serverprefix error; rcsid \"c\";",
+    "#include <mach/std_types.defs>\n#line\n#line \n# 99999999999999999999\r\nSUBSYSTEM \
+        KernelServer kerneluser s 1; type t = int;\n#include <mach/std_types.defs>\n",
+    "subsystem s 1; import \"a\"; uimport <b>; simport \"\"; userprefix x; serverprefix error; \
+        rcsid \"c\";",
     "subsystem s 1;",
     "subsystem kerneluser kernelserver kernelserver kerneluser kerneluser s 007;",
     "subsystem s 2147483647;skip;SKIP;Skip ;",
-    "#line 1\r\n#include <mach/std_types.defs>\r\nsubsystem s 1;\r\ntype t\r\n=\r\nint\r\n;\r\n# 3\r\n",
-    "subsystem s 1;\n#include <mach/std_types.defs>\ntype t = int;\n#include <mach/std_types.defs>\ntype u = t;\n#include<mach/std_types.defs>",
-    "subsystem s 1; IMPORT \"a\"; UImport \"b\"; SIMPORT <c>; ServerPrefix a; USERPREFIX b; RcsId \"\"; import <>; uimport <a b>; import \"@ /* #\";",
-    "subsystem s 1; import \"nnnnnnnnnnnnnnnnnnnnnnnnnnnnnnnnnnnnnnnnnnnnnnnnnnnnnnnnnnnnnnnnn\"; import <nnnnnnnnnnnnnnnnnnnnnnnnnnnnnnnnnnnnnnnnnnnnnnnnnnnnnnnnnnnnnnnnn>; rcsid \"nnnnnnnnnnnnnnnnnnnnnnnnnnnnnnnnnnnnnnnnnnnnnnnnnnnnnnnnnnnnnnnnn\";",
+    "#line 1\r\n#include <mach/std_types.defs>\r\nsubsystem s 1;\r\ntype t\r\n=\r\nint\r\n;\r\n# \
+        3\r\n",
+    "subsystem s 1;\n#include <mach/std_types.defs>\ntype t = int;\n#include \
+        <mach/std_types.defs>\ntype u = t;\n#include<mach/std_types.defs>",
+    "subsystem s 1; IMPORT \"a\"; UImport \"b\"; SIMPORT <c>; ServerPrefix a; USERPREFIX b; RcsId \
+        \"\"; import <>; uimport <a b>; import \"@ /* #\";",
+    "subsystem s 1; import \"nnnnnnnnnnnnnnnnnnnnnnnnnnnnnnnnnnnnnnnnnnnnnnnnnnnnnnnnnnnnnnnnn\"; \
+        import <nnnnnnnnnnnnnnnnnnnnnnnnnnnnnnnnnnnnnnnnnnnnnnnnnnnnnnnnnnnnnnnnn>; rcsid \
+        \"nnnnnnnnnnnnnnnnnnnnnnnnnnnnnnnnnnnnnnnnnnnnnnnnnnnnnnnnnnnnnnnnn\";",
     "/* a */subsystem/**/s/* b\n*/1/**/;/* ; */",
-    "subsystem s 1;\n#include <mach/std_types.defs>\nROUTINE r(IN p : mach_port_t; Out x : int; InOut y : int; ReplyPort q : mach_port_move_send_once_t); SIMPLEROUTINE q(RequestPort p : mach_port_t);",
+    "subsystem s 1;\n#include <mach/std_types.defs>\nROUTINE r(IN p : mach_port_t; Out x : int; \
+        InOut y : int; ReplyPort q : mach_port_move_send_once_t); SIMPLEROUTINE q(RequestPort p : \
+        mach_port_t);",
 ];
 
 #[test]
@@ -1960,8 +1989,9 @@ fn reads_lines(rt: HostRuntime) -> Result<(), Fail> {
     Ok(())
 }
 
-// Names of different kinds may be equal, and so may those of arguments of two routines. An argument's own type
-// declares nothing: its name may be that of a type, and of another argument's own type.
+// Names of different kinds may be equal, and so may those of arguments of two routines. An
+// argument's own type declares nothing: its name may be that of a type, and of another argument's
+// own type.
 #[test]
 fn reads_equal_names(rt: HostRuntime) -> Result<(), Fail> {
     let text = "subsystem s 1;
@@ -1994,7 +2024,8 @@ simpleroutine r(s : s; r : own = short; x : own = array[*:2] of s);
 fn reads_request_ports(rt: HostRuntime) -> Result<(), Fail> {
     let text = "subsystem s 1;
 #include <mach/std_types.defs>
-routine a(replyport q : mach_port_move_send_once_t; x : mach_port_t; requestport p : u = array[*:2] of (MACH_MSG_TYPE_MOVE_RECEIVE, 32));
+routine a(replyport q : mach_port_move_send_once_t; x : mach_port_t; requestport p : u = \
+        array[*:2] of (MACH_MSG_TYPE_MOVE_RECEIVE, 32));
 simpleroutine b(in p : mach_port_move_receive_t; in x : mach_port_t);
 ";
     let subsystem = read(rt.alloc(), text)?;
@@ -2020,16 +2051,19 @@ simpleroutine b(in p : mach_port_move_receive_t; in x : mach_port_t);
     Ok(())
 }
 
-/// A file with each form of statement, argument, type and option. No argument's own type has a name that is new.
+/// A file with each form of statement, argument, type and option. No argument's own type has a name
+/// that is new.
 const EACH_FORM: &str = "# 1 \"file\"
 subsystem kernelserver kerneluser s 1;
 #include <mach/std_types.defs>
-type a = MACH_MSG_TYPE_CHAR ctype : b cusertype : c cservertype : d intran : e f(g) outtran : h i(j) destructor : k(l);
+type a = MACH_MSG_TYPE_CHAR ctype : b cusertype : c cservertype : d intran : e f(g) outtran : h \
+        i(j) destructor : k(l);
 type b = (MACH_MSG_TYPE_STRING, 8 * (2 + 2));
 type c = array[2 * 3 - 1] of array[4 / 2] of struct[2] of b;
 type d = array[*:3] of c_string[4];
 type e = c_string[*:5] ctype : x;
-routine r(in p : mach_port_t; x : a; in y : b; out z : int; inout w : int = c ctype : v destructor : u(t);
+routine r(in p : mach_port_t; x : a; in y : b; out z : int; inout w : int = c ctype : v \
+        destructor : u(t);
     replyport q : mach_port_make_send_once_t);
 simpleroutine t(x : int; requestport p : int = (MACH_MSG_TYPE_COPY_SEND, 32));
 skip;
@@ -2053,7 +2087,7 @@ fn cut_off_files(rt: HostRuntime) -> Result<(), Fail> {
         let ends = token.kind() == TokenKind::Sign(Sign::Semicolon) && depth == 0;
         has_head = has_head || ends;
         let is_whole = has_head && (ends || token.kind() == TokenKind::Directive);
-        let fault = read(rt.alloc(), front).err();
+        let fault = fault_of(rt.alloc(), front);
         let wanted = if is_whole {
             None
         } else {
@@ -2065,14 +2099,15 @@ fn cut_off_files(rt: HostRuntime) -> Result<(), Fail> {
 }
 
 /// What tokens mean, asked for once more where memory was refused.
-fn tried_twice(alloc: Global, tokens: &[Token<'_>]) -> Result<Subsystem, ParseFault> {
+fn tried_twice(alloc: Global, tokens: &[Token<'_>]) -> Result<Subsystem, OrMemory<ParseFault>> {
     match parse(alloc, tokens) {
-        Err(ParseFault::Memory) => parse(alloc, tokens),
+        Err(OrMemory::Memory) => parse(alloc, tokens),
         answer => answer,
     }
 }
 
-// Whichever single allocation is refused, the answer is the subsystem or `Memory`, and the subsystem at the next call.
+// Whichever single allocation is refused, the answer is the subsystem or `Memory`, and the
+// subsystem at the next call.
 #[test]
 fn subsystem_or_memory(rt: HostRuntime) -> Result<(), Fail> {
     let text = "#include <mach/std_types.defs>

@@ -1,36 +1,29 @@
 //! The types of arguments.
 
 ghost use Rattle.std.specs.Prelude.{◌≡◌, not};
-ghost use Rattle.mrc_mig_symbols.specs.Symbols.{Gives, guard, left, first_of, tail_of};
+ghost use Rattle.mrc_mig_symbols.specs.Symbols.{Means, MeansOrMemory, guard, left, first_of};
+ghost use Rattle.mrc_mig_symbols.specs.Symbols.{tail_of};
 ghost use Rattle.mrc_mig_symbols.specs.Tables.{plain, entry_of};
-ghost use Rattle.mrc_mig_parse.specs.Types.{is_port, fits_use, times, dimension_at, variable_dimension_at, after_of, is_empty_brackets, array_at, structure_at, begins_layer, layer_at, layers_at, items, is_bar, flag_follows, number_of, size_at, sized_at, plain_by, declared_at, nested, named_at, string_at, kind_at};
+ghost use Rattle.mrc_mig_parse.specs.Types.{fits_use, times, dimension_at, variable_dimension_at};
+ghost use Rattle.mrc_mig_parse.specs.Types.{after_of, is_empty_brackets, array_at, structure_at};
+ghost use Rattle.mrc_mig_parse.specs.Types.{begins_layer, layer_at, layers_at, items, is_bar};
+ghost use Rattle.mrc_mig_parse.specs.Types.{flag_follows, basic_item, size_at, sized_at, plain_by};
+ghost use Rattle.mrc_mig_parse.specs.Types.{declared_at, nested, named_at, string_at, shape_at};
 
-use crate::subsystem::Kind;
+use crate::subsystem::Shape;
 use indexmap::IndexMap;
+use mrc_base::{Disp, OrMemory, is_port_number, limits};
 use mrc_mig_lex::Sign;
 use mrc_mig_symbols::{Basic, Feature, ParseFault, Rest, Symbol, Word, basic_of, expression, sign};
 use std::alloc::Global;
 
 /// The declared types.
-pub type Types<'t> = IndexMap<&'t str, Kind>;
+pub type Types<'t> = IndexMap<&'t str, Shape>;
 
-/// The most items of an argument.
-const MOST_ITEMS: u32 = 8192;
 /// The most bits of an item.
-const MOST_BITS: u32 = 65528;
+const MOST_BITS: u32 = 65_528;
 /// The type number of a string of characters.
-const STRING: u32 = 12;
-/// The type number of MOVE_SEND_ONCE.
-const MOVE_SEND_ONCE: u32 = 18;
-/// The type number of MAKE_SEND_ONCE.
-const MAKE_SEND_ONCE: u32 = 21;
-
-/// Whether this is the number of a port right.
-pub fn is_port(number: u32) -> bool
-    ensures { result ≡ is_port number }
-{
-    16 <= number && number <= 21
-}
+const STRING: u16 = 12;
 
 /// What a type is for.
 #[derive(Clone, Copy, Debug, PartialEq, Eq)]
@@ -42,13 +35,13 @@ pub enum Use {
 }
 
 /// Refuses a type number that does not fit the use, at the token that gives the number.
-fn check_use(wanted: Use, number: u32, at: usize) -> Result<(), ParseFault>
-    ensures { Gives (λ _. tt) result (guard (fits_use wanted number)) }
+fn check_use(wanted: Use, name: u16, at: usize) -> Result<(), ParseFault>
+    ensures { Means (λ _. tt) result (guard (fits_use wanted name)) }
 {
     match wanted {
         Use::Any => Ok(()),
         Use::ReplyPort => {
-            if number == MOVE_SEND_ONCE || number == MAKE_SEND_ONCE {
+            if name == Disp::MoveSendOnce.number() || name == Disp::MakeSendOnce.number() {
                 Ok(())
             } else {
                 Err(ParseFault::LeftOut(at, Feature::ReplyPort))
@@ -62,44 +55,46 @@ fn check_use(wanted: Use, number: u32, at: usize) -> Result<(), ParseFault>
 struct Around {
     /// There is one at least.
     is_inside: bool,
-    /// The product of their counts.
-    count: u32,
+    /// The product of their numbers of items.
+    number: u32,
     /// The outermost one is an array of variable length.
     is_bound: bool,
 }
 
 impl Around {
-    /// With `count` items for each one, where the count begins at `at`.
+    /// With so many items for each one, where that number begins at `at`.
     #[tactic(auto, unfolding(crate::specs::Types::times))]
-    fn times(self, count: u32, at: usize) -> Result<u32, ParseFault>
-        ensures { Gives (λ n. n) result (times self count) }
+    fn times(self, number: u32, at: usize) -> Result<u32, ParseFault>
+        ensures { Means (λ n. n) result (times self number) }
     {
-        let product = self.count as u64 * count as u64;
-        if product == 0 || product > MOST_ITEMS as u64 {
+        let product = self.number as u64 * number as u64;
+        if product == 0 || product > limits::ITEMS as u64 {
             return Err(ParseFault::TooMany(at));
         }
         Ok(product as u32)
     }
 }
 
-/// Reads `[n]` or, with a bound, `[*:n]`, of a word at `at`. Answers the count with those around it.
+/// Reads `[n]` or, with a bound, `[*:n]`, of a word at `at`. Answers the number with those around
+/// it.
 #[tactic(auto, unfolding(crate::specs::Types::dimension_at))]
 fn dimension(
     alloc: Global,
     around: Around,
     is_bound: bool,
     rest: Rest<'_>,
-) -> Result<(Around, Rest<'_>), ParseFault>
-    ensures { Gives (λ x. (x.0, left x.1)) result (dimension_at around is_bound (left rest.entry)) }
+) -> Result<(Around, Rest<'_>), OrMemory<ParseFault>>
+    ensures { MeansOrMemory (λ x. (x.0, left x.1)) result
+        (dimension_at around is_bound (left rest.entry)) }
 {
     let at = rest.at();
-    let (count, rest) = expression(alloc, rest)?;
-    let count = around.times(count, at)?;
+    let (number, rest) = expression(alloc, rest)?;
+    let number = around.times(number, at)?;
     let rest = sign(rest, Sign::CloseBracket)?;
     Ok((
         Around {
             is_inside: true,
-            count,
+            number,
             is_bound: around.is_bound || is_bound,
         },
         rest,
@@ -113,14 +108,15 @@ fn variable_dimension(
     around: Around,
     at: usize,
     rest: Rest<'_>,
-) -> Result<(Around, Rest<'_>), ParseFault>
-    ensures { Gives (λ x. (x.0, left x.1)) result (variable_dimension_at around (left rest.entry)) }
+) -> Result<(Around, Rest<'_>), OrMemory<ParseFault>>
+    ensures { MeansOrMemory (λ x. (x.0, left x.1)) result
+        (variable_dimension_at around (left rest.entry)) }
 {
     let rest = sign(rest, Sign::OpenBracket)?;
     match rest.first() {
         Symbol::Sign(Sign::Star) => {
             if around.is_inside {
-                return Err(ParseFault::LeftOut(at, Feature::Nested));
+                return Err(OrMemory::Fault(ParseFault::LeftOut(at, Feature::Nested)));
             }
             let rest = sign(rest.next(), Sign::Colon)?;
             dimension(alloc, around, true, rest)
@@ -131,7 +127,7 @@ fn variable_dimension(
 
 #[tactic(auto, unfolding(crate::specs::Types::after_of))]
 fn of(rest: Rest<'_>) -> Result<Rest<'_>, ParseFault>
-    ensures { Gives left result (after_of (left rest.entry)) }
+    ensures { Means left result (after_of (left rest.entry)) }
 {
     match rest.first() {
         Symbol::Word(Word::Of) => Ok(rest.next()),
@@ -157,11 +153,11 @@ fn array(
     around: Around,
     at: usize,
     rest: Rest<'_>,
-) -> Result<(Around, Rest<'_>), ParseFault>
-    ensures { Gives (λ x. (x.0, left x.1)) result (array_at around (left rest.entry)) }
+) -> Result<(Around, Rest<'_>), OrMemory<ParseFault>>
+    ensures { MeansOrMemory (λ x. (x.0, left x.1)) result (array_at around (left rest.entry)) }
 {
     if is_empty_brackets(rest) {
-        return Err(ParseFault::LeftOut(at, Feature::OutOfLine));
+        return Err(OrMemory::Fault(ParseFault::LeftOut(at, Feature::OutOfLine)));
     }
     let (around, rest) = variable_dimension(alloc, around, at, rest)?;
     Ok((around, of(rest)?))
@@ -173,8 +169,8 @@ fn structure(
     alloc: Global,
     around: Around,
     rest: Rest<'_>,
-) -> Result<(Around, Rest<'_>), ParseFault>
-    ensures { Gives (λ x. (x.0, left x.1)) result (structure_at around (left rest.entry)) }
+) -> Result<(Around, Rest<'_>), OrMemory<ParseFault>>
+    ensures { MeansOrMemory (λ x. (x.0, left x.1)) result (structure_at around (left rest.entry)) }
 {
     let rest = sign(rest, Sign::OpenBracket)?;
     let (around, rest) = dimension(alloc, around, false, rest)?;
@@ -194,24 +190,28 @@ fn begins_layer(rest: Rest<'_>) -> bool
 
 /// Reads an array or a struct.
 #[tactic(auto, unfolding(crate::specs::Types::layer_at))]
-fn layer(alloc: Global, around: Around, rest: Rest<'_>) -> Result<(Around, Rest<'_>), ParseFault>
-    ensures { Gives (λ x. (x.0, left x.1)) result (layer_at (around, left rest.entry)) }
+fn layer(
+    alloc: Global,
+    around: Around,
+    rest: Rest<'_>,
+) -> Result<(Around, Rest<'_>), OrMemory<ParseFault>>
+    ensures { MeansOrMemory (λ x. (x.0, left x.1)) result (layer_at (around, left rest.entry)) }
 {
     match rest.first() {
         Symbol::Word(Word::Array) => array(alloc, around, rest.at(), rest.next()),
         Symbol::Word(Word::Struct) => structure(alloc, around, rest.next()),
-        _ => Err(rest.unexpected()),
+        _ => Err(OrMemory::Fault(rest.unexpected())),
     }
 }
 
 /// Reads the arrays and structs in front of a type.
 #[tactic(auto, using(mrc_mig_symbols::proofs::LoopLemmas::many_ends, mrc_mig_symbols::proofs::LoopLemmas::many_goes_on, mrc_mig_symbols::proofs::LoopLemmas::many_done), unfolding(crate::specs::Types::layers_at))]
-fn arrays(alloc: Global, rest: Rest<'_>) -> Result<(Around, Rest<'_>), ParseFault>
-    ensures { Gives (λ x. (x.0, left x.1)) result (layers_at (left rest.entry)) }
+fn arrays(alloc: Global, rest: Rest<'_>) -> Result<(Around, Rest<'_>), OrMemory<ParseFault>>
+    ensures { MeansOrMemory (λ x. (x.0, left x.1)) result (layers_at (left rest.entry)) }
 {
     let mut around = Around {
         is_inside: false,
-        count: 1,
+        number: 1,
         is_bound: false,
     };
     let mut rest = rest;
@@ -227,14 +227,14 @@ fn arrays(alloc: Global, rest: Rest<'_>) -> Result<(Around, Rest<'_>), ParseFaul
     Ok((around, rest))
 }
 
-/// The kind of items of a basic type.
-fn items(around: Around, number: u32, size: u32) -> Kind
-    ensures { result ≡ items around number size }
+/// The shape of items of a basic type.
+fn items(around: Around, name: u16, size: u16) -> Shape
+    ensures { result ≡ items around name size }
 {
-    Kind {
-        number,
+    Shape {
+        name,
         size,
-        count: around.count,
+        number: around.number,
         is_bound: around.is_bound,
     }
 }
@@ -242,7 +242,7 @@ fn items(around: Around, number: u32, size: u32) -> Kind
 /// Refuses a flag of an argument, with a comma before it or none.
 #[tactic(auto, unfolding(crate::specs::Types::flag_follows))]
 pub fn no_flag(rest: Rest<'_>) -> Result<(), ParseFault>
-    ensures { Gives (λ _. tt) result (guard (not (flag_follows (left rest.entry)))) }
+    ensures { Means (λ _. tt) result (guard (not (flag_follows (left rest.entry)))) }
 {
     let (flag, at) = match rest.first() {
         Symbol::Sign(Sign::Comma) => (rest.next().first(), rest.next().at()),
@@ -256,7 +256,7 @@ pub fn no_flag(rest: Rest<'_>) -> Result<(), ParseFault>
 }
 
 fn no_pair(rest: Rest<'_>) -> Result<(), ParseFault>
-    ensures { Gives (λ _. tt) result (guard (not (is_bar (first_of (left rest.entry))))) }
+    ensures { Means (λ _. tt) result (guard (not (is_bar (first_of (left rest.entry))))) }
 {
     match rest.first() {
         Symbol::Sign(Sign::Bar) => Err(ParseFault::LeftOut(rest.at(), Feature::Pair)),
@@ -264,24 +264,29 @@ fn no_pair(rest: Rest<'_>) -> Result<(), ParseFault>
     }
 }
 
-/// The number of a basic type at `at`, and its size where it has one, else 0.
-fn number_of(basic: Basic, wanted: Use, at: usize) -> Result<(u32, u32), ParseFault>
-    ensures { Gives (λ x. x) result (number_of basic wanted) }
+/// The type number of a basic type at `at`, and its size where it has one, else 0.
+fn basic_item(basic: Basic, wanted: Use, at: usize) -> Result<(u16, u16), ParseFault>
+    ensures { Means (λ x. x) result (basic_item basic wanted) }
 {
-    let (number, size) = match basic {
-        Basic::Plain(number, size) => (number, size),
-        Basic::Unsized(number) => (number, 0),
+    let (name, size) = match basic {
+        Basic::Plain(name, size) => (name, size),
+        Basic::Unsized(name) => (name, 0),
         Basic::Polymorphic => return Err(ParseFault::LeftOut(at, Feature::Polymorphic)),
         Basic::Real => return Err(ParseFault::LeftOut(at, Feature::Real)),
     };
-    check_use(wanted, number, at)?;
-    Ok((number, size))
+    check_use(wanted, name, at)?;
+    Ok((name, size))
 }
 
 /// Reads `name, size)` after the parenthesis.
 #[tactic(auto, unfolding(crate::specs::Types::sized_at, crate::specs::Types::basic_at))]
-fn sized(alloc: Global, wanted: Use, rest: Rest<'_>) -> Result<(u32, u32, Rest<'_>), ParseFault>
-    ensures { Gives (λ x. ((x.0, x.1), left x.2)) result (sized_at wanted (left rest.entry)) }
+fn sized(
+    alloc: Global,
+    wanted: Use,
+    rest: Rest<'_>,
+) -> Result<(u16, u16, Rest<'_>), OrMemory<ParseFault>>
+    ensures { MeansOrMemory (λ x. ((x.0, x.1), left x.2)) result
+        (sized_at wanted (left rest.entry)) }
 {
     let basic = match rest.first() {
         Symbol::Name => basic_of(rest.text()),
@@ -289,27 +294,31 @@ fn sized(alloc: Global, wanted: Use, rest: Rest<'_>) -> Result<(u32, u32, Rest<'
         _ => None,
     };
     let Some(basic) = basic else {
-        return Err(rest.unexpected());
+        return Err(OrMemory::Fault(rest.unexpected()));
     };
-    let (number, _) = number_of(basic, wanted, rest.at())?;
+    let (name, _) = basic_item(basic, wanted, rest.at())?;
     let rest = rest.next();
     no_pair(rest)?;
     no_flag(rest)?;
     let rest = sign(rest, Sign::Comma)?;
-    let (size, rest) = size_of(alloc, number, rest)?;
+    let (size, rest) = size_of(alloc, name, rest)?;
     no_flag(rest)?;
-    Ok((number, size, sign(rest, Sign::CloseParenthesis)?))
+    Ok((name, size, sign(rest, Sign::CloseParenthesis)?))
 }
 
 #[tactic(auto, unfolding(crate::specs::Types::size_at))]
-fn size_of(alloc: Global, number: u32, rest: Rest<'_>) -> Result<(u32, Rest<'_>), ParseFault>
-    ensures { Gives (λ x. (x.0, left x.1)) result (size_at number (left rest.entry)) }
+fn size_of(
+    alloc: Global,
+    name: u16,
+    rest: Rest<'_>,
+) -> Result<(u16, Rest<'_>), OrMemory<ParseFault>>
+    ensures { MeansOrMemory (λ x. (x.0, left x.1)) result (size_at name (left rest.entry)) }
 {
     let (size, after) = expression(alloc, rest)?;
-    if size == 0 || size > MOST_BITS || size % 8 != 0 || is_port(number) && size != 32 {
-        return Err(rest.unexpected());
+    if size == 0 || size > MOST_BITS || size % 8 != 0 || is_port_number(name) && size != 32 {
+        return Err(OrMemory::Fault(rest.unexpected()));
     }
-    Ok((size, after))
+    Ok((size as u16, after))
 }
 
 /// Reads the name of a basic type with no size of its own.
@@ -318,19 +327,19 @@ fn plain<'t>(
     around: Around,
     wanted: Use,
     rest: Rest<'t>,
-) -> Result<(Kind, Rest<'t>), ParseFault>
-    ensures { Gives (λ x. (x.0, left x.1)) result (plain_by basic around wanted (left rest.entry)) }
+) -> Result<(Shape, Rest<'t>), ParseFault>
+    ensures { Means (λ x. (x.0, left x.1)) result (plain_by basic around wanted (left rest.entry)) }
 {
     let Basic::Unsized(_) = basic else {
-        let (number, size) = number_of(basic, wanted, rest.at())?;
+        let (name, size) = basic_item(basic, wanted, rest.at())?;
         no_pair(rest.next())?;
-        return Ok((items(around, number, size), rest.next()));
+        return Ok((items(around, name, size), rest.next()));
     };
     Err(rest.unexpected())
 }
 
 /// The type of this name, where there is one.
-pub fn type_of(types: &Types<'_>, name: &str) -> Option<Kind>
+pub fn type_of(types: &Types<'_>, name: &str) -> Option<Shape>
     ensures { result ≡ entry_of (plain types.now.entries) name.now }
 {
     types.get(name).copied()
@@ -342,29 +351,29 @@ pub fn declared<'t>(
     types: &Types<'t>,
     wanted: Use,
     rest: Rest<'t>,
-) -> Result<(Kind, Rest<'t>), ParseFault>
-    ensures { Gives (λ x. (x.0, left x.1)) result
+) -> Result<(Shape, Rest<'t>), ParseFault>
+    ensures { Means (λ x. (x.0, left x.1)) result
         (declared_at (plain types.now.entries) wanted (left rest.entry)) }
 {
-    let Some(kind) = type_of(types, rest.text()) else {
+    let Some(shape) = type_of(types, rest.text()) else {
         return Err(ParseFault::UnknownType(rest.at()));
     };
-    check_use(wanted, kind.number, rest.at())?;
-    Ok((kind, rest.next()))
+    check_use(wanted, shape.name, rest.at())?;
+    Ok((shape, rest.next()))
 }
 
-/// The kind of a declared type at `at`, with what is around it.
+/// The shape of a declared type at `at`, with what is around it.
 #[tactic(auto, unfolding(crate::specs::Types::nested))]
-fn nested(around: Around, kind: Kind, at: usize) -> Result<Kind, ParseFault>
-    ensures { Gives (λ x. x) result (nested around kind) }
+fn nested(around: Around, shape: Shape, at: usize) -> Result<Shape, ParseFault>
+    ensures { Means (λ x. x) result (nested around shape) }
 {
-    if around.is_inside && kind.is_bound {
+    if around.is_inside && shape.is_bound {
         return Err(ParseFault::LeftOut(at, Feature::Nested));
     }
-    Ok(Kind {
-        count: around.times(kind.count, at)?,
-        is_bound: around.is_bound || kind.is_bound,
-        ..kind
+    Ok(Shape {
+        number: around.times(shape.number, at)?,
+        is_bound: around.is_bound || shape.is_bound,
+        ..shape
     })
 }
 
@@ -375,15 +384,15 @@ fn named<'t>(
     around: Around,
     wanted: Use,
     rest: Rest<'t>,
-) -> Result<(Kind, Rest<'t>), ParseFault>
-    ensures { Gives (λ x. (x.0, left x.1)) result
+) -> Result<(Shape, Rest<'t>), ParseFault>
+    ensures { Means (λ x. (x.0, left x.1)) result
         (named_at (plain types.now.entries) around wanted (left rest.entry)) }
 {
     match basic_of(rest.text()) {
         Some(basic) => plain(basic, around, wanted, rest),
         None => {
-            let (kind, after) = declared(types, wanted, rest)?;
-            Ok((nested(around, kind, rest.at())?, after))
+            let (shape, after) = declared(types, wanted, rest)?;
+            Ok((nested(around, shape, rest.at())?, after))
         }
     }
 }
@@ -396,8 +405,9 @@ fn string<'t>(
     wanted: Use,
     at: usize,
     rest: Rest<'t>,
-) -> Result<(Kind, Rest<'t>), ParseFault>
-    ensures { Gives (λ x. (x.0, left x.1)) result (string_at around wanted (left rest.entry)) }
+) -> Result<(Shape, Rest<'t>), OrMemory<ParseFault>>
+    ensures { MeansOrMemory (λ x. (x.0, left x.1)) result
+        (string_at around wanted (left rest.entry)) }
 {
     check_use(wanted, STRING, at)?;
     let (around, rest) = variable_dimension(alloc, around, at, rest)?;
@@ -405,27 +415,33 @@ fn string<'t>(
 }
 
 /// Reads a type.
-#[tactic(auto, unfolding(crate::specs::Types::kind_at))]
-pub fn kind<'t>(
+#[tactic(auto, unfolding(crate::specs::Types::shape_at))]
+pub fn shape<'t>(
     alloc: Global,
     types: &Types<'t>,
     wanted: Use,
     rest: Rest<'t>,
-) -> Result<(Kind, Rest<'t>), ParseFault>
-    ensures { Gives (λ x. (x.0, left x.1)) result
-        (kind_at (plain types.now.entries) wanted (left rest.entry)) }
+) -> Result<(Shape, Rest<'t>), OrMemory<ParseFault>>
+    ensures { MeansOrMemory (λ x. (x.0, left x.1)) result
+        (shape_at (plain types.now.entries) wanted (left rest.entry)) }
 {
     let (around, rest) = arrays(alloc, rest)?;
     let at = rest.at();
     match rest.first() {
-        Symbol::Name => named(types, around, wanted, rest),
+        Symbol::Name => Ok(named(types, around, wanted, rest)?),
         Symbol::Word(Word::CString) => string(alloc, around, wanted, at, rest.next()),
         Symbol::Sign(Sign::OpenParenthesis) => {
-            let (number, size, rest) = sized(alloc, wanted, rest.next())?;
-            Ok((items(around, number, size), rest))
+            let (name, size, rest) = sized(alloc, wanted, rest.next())?;
+            Ok((items(around, name, size), rest))
         }
-        Symbol::Word(Word::Polymorphic) => Err(ParseFault::LeftOut(at, Feature::Polymorphic)),
-        Symbol::Sign(Sign::Caret) => Err(ParseFault::LeftOut(at, Feature::OutOfLine)),
-        _ => Err(rest.unexpected()),
+        Symbol::Word(Word::Polymorphic) => Err(OrMemory::Fault(ParseFault::LeftOut(
+            at,
+            Feature::Polymorphic,
+        ))),
+        Symbol::Sign(Sign::Caret) => Err(OrMemory::Fault(ParseFault::LeftOut(
+            at,
+            Feature::OutOfLine,
+        ))),
+        _ => Err(OrMemory::Fault(rest.unexpected())),
     }
 }

@@ -3,8 +3,10 @@ use Rattle.std.proofs.Common.{[], map, sym, ap, ◌∙◌}
 use Rattle.std.proofs.lemmas.Option.{same_Some}
 use Rattle.mrc_mig_symbols.specs.Symbols.{symbol_of}
 use Rattle.mrc_mig_symbols.specs.Expressions.{nothing_read, value_of, whole_value, expression_at}
-use Rattle.mrc_mig_symbols.specs.ExpressionGrammar.{ReadIsSpelled, SpelledIsRead, SpelledHasOneValue}
-use Rattle.mrc_mig_symbols.proofs.ExpressionRuns.{wanting, behind, parted, value_after_run, value_at_stop}
+use Rattle.mrc_mig_symbols.specs.ExpressionGrammar.{ReadIsSpelled, SpelledIsRead}
+use Rattle.mrc_mig_symbols.specs.ExpressionGrammar.{SpelledHasOneValue}
+use Rattle.mrc_mig_symbols.proofs.ExpressionRuns.{wanting, behind, parted, value_after_run}
+use Rattle.mrc_mig_symbols.proofs.ExpressionRuns.{value_at_stop}
 use Rattle.mrc_mig_symbols.proofs.SpelledIsRead.{reads}
 use Rattle.mrc_mig_symbols.proofs.ReadIsSpelled.{spelled}
 
@@ -12,7 +14,13 @@ pub read_is_spelled : ReadIsSpelled
 unfolding expression_at
 read_is_spelled tokens n rest e =
     let p = parted tokens (wanting [] nothing_read) n rest e in
-    record { written = p.written; splits = p.splits; spells = spelled (map symbol_of p.written) p.last n p.ran p.whole; stops = p.stops }
+    record {
+      written = p.written;
+      splits = p.splits;
+      spells = spelled (map symbol_of p.written)
+          p.last n p.ran p.whole;
+      stops = p.stops;
+    }
 
 pub spelled_is_read : SpelledIsRead
 unfolding expression_at whole_value

@@ -1,20 +1,25 @@
 -- Steps that follow each other, as a loop makes them.
-use Rattle.std.proofs.Common.{◌≡◌, ℕ, zero, suc, ◌+◌, ◌-◌, ◌<◌, ◌≤◌, Bool, true, false, Option, Some, refl, arith}
+use Rattle.std.proofs.Common.{◌≡◌, ℕ, zero, suc, ◌+◌, ◌-◌, ◌<◌, ◌≤◌, Bool, true, false, Option}
+use Rattle.std.proofs.Common.{Some, refl, arith}
 use Rattle.mrc_mig_symbols.specs.Symbols.{◌>>=◌, many}
 
 -- no step is made where the test fails
-pub many_ends : {A : Type 0} (goes : A → Bool) (step : A → Option A) (n : ℕ) (a : A) → goes a ≡ false → many goes step n a ≡ Some a
+pub many_ends : {A : Type 0} (goes : A → Bool) (step : A → Option A) (n : ℕ) (a : A)
+    → goes a ≡ false → many goes step n a ≡ Some a
 unfolding many
 many_ends goes step zero a e = refl
 many_ends goes step (suc n) a e = rw e refl
 
 -- one step, and those that are left
-pub many_goes_on : {A : Type 0} (goes : A → Bool) (step : A → Option A) (count i : ℕ) (a : A) → i < count → goes a ≡ true
+pub many_goes_on : {A : Type 0} (goes : A → Bool) (step : A → Option A) (count i : ℕ) (a : A)
+    → i < count → goes a ≡ true
     → many goes step (count - i) a ≡ (step a >>= λ b. many goes step (count - (i + 1)) b)
 unfolding many
-many_goes_on goes step count i a lt e = let k : count - i ≡ suc (count - (i + 1)) = omega arith in rw (k, e) refl
+many_goes_on goes step count i a lt e = let k : count - i ≡ suc (count - (i + 1)) = omega arith in
+    rw (k, e) refl
 
 -- no step is left
-pub many_done : {A : Type 0} (goes : A → Bool) (step : A → Option A) (count i : ℕ) (a : A) → count ≤ i → many goes step (count - i) a ≡ Some a
+pub many_done : {A : Type 0} (goes : A → Bool) (step : A → Option A) (count i : ℕ) (a : A)
+    → count ≤ i → many goes step (count - i) a ≡ Some a
 unfolding many
 many_done goes step count i a le = let k : count - i ≡ 0 = omega arith in rw k refl

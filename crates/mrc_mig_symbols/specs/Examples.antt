@@ -2,34 +2,48 @@
 use Rattle.std.specs.Prelude.{◌≡◌, ℕ, [], ◌∷◌, Some, None, refl}
 use Rattle.mrc_mig_lex.specs.Tokens.{Lexeme}
 use Rattle.mrc_mig_lex.specs.declared.token.Sign.{Sign}
-use Rattle.mrc_mig_lex.specs.declared.token.Sign.TheVariants.{OpenParenthesis, CloseParenthesis, CloseBracket, Star, Plus, Minus, Slash}
+use Rattle.mrc_mig_lex.specs.declared.token.Sign.TheVariants.{OpenParenthesis, CloseParenthesis}
+use Rattle.mrc_mig_lex.specs.declared.token.Sign.TheVariants.{CloseBracket, Star, Plus, Minus}
+use Rattle.mrc_mig_lex.specs.declared.token.Sign.TheVariants.{Slash}
 use Rattle.mrc_mig_lex.specs.declared.token.TokenKind.TheVariants as kinds
 use Rattle.mrc_mig_symbols.specs.Symbols.{symbol_of}
-use Rattle.mrc_mig_symbols.specs.Expressions.{with_operand, value_of, next_product, step, ends, whole_value, value_before, value_from, expression_at}
+use Rattle.mrc_mig_symbols.specs.Expressions.{with_operand, value_of, next_product, step, ends}
+use Rattle.mrc_mig_symbols.specs.Expressions.{whole_value, value_before, value_from, expression_at}
 
--- tokens, wherever they stand
+-- a number, wherever it stands
 abbrev number : ℕ → Lexeme
 number n = record { kind = kinds.Number n; at = 0; bytes = [] }
 
+-- a sign, wherever it stands
 abbrev sign : Sign → Lexeme
 sign s = record { kind = kinds.Sign s; at = 0; bytes = [] }
 
 -- `2*(3+1)]` is 8, before the bracket
-pub product_of_a_sum : expression_at (number 2 ∷ sign Star ∷ sign OpenParenthesis ∷ number 3 ∷ sign Plus ∷ number 1 ∷ sign CloseParenthesis ∷ sign CloseBracket ∷ []) ≡ Some (8, sign CloseBracket ∷ [])
-unfolding with_operand value_of next_product step ends whole_value value_before value_from expression_at symbol_of
+pub product_of_a_sum : expression_at
+    (number 2 ∷ sign Star ∷ sign OpenParenthesis ∷ number 3 ∷ sign Plus ∷ number 1 ∷ sign
+    CloseParenthesis ∷ sign CloseBracket ∷ []) ≡ Some (8, sign CloseBracket ∷ [])
+unfolding with_operand value_of next_product step ends whole_value value_before value_from
+    expression_at symbol_of
 product_of_a_sum = refl
 
 -- `7/2]` is 3
-pub quotient : expression_at (number 7 ∷ sign Slash ∷ number 2 ∷ sign CloseBracket ∷ []) ≡ Some (3, sign CloseBracket ∷ [])
-unfolding with_operand value_of next_product step ends whole_value value_before value_from expression_at symbol_of
+pub quotient : expression_at (number 7 ∷ sign Slash ∷ number 2 ∷ sign CloseBracket ∷ [])
+    ≡ Some (3, sign CloseBracket ∷ [])
+unfolding with_operand value_of next_product step ends whole_value value_before value_from
+    expression_at symbol_of
 quotient = refl
 
 -- `1+2*3]` is 7
-pub product_first : expression_at (number 1 ∷ sign Plus ∷ number 2 ∷ sign Star ∷ number 3 ∷ sign CloseBracket ∷ []) ≡ Some (7, sign CloseBracket ∷ [])
-unfolding with_operand value_of next_product step ends whole_value value_before value_from expression_at symbol_of
+pub product_first : expression_at
+    (number 1 ∷ sign Plus ∷ number 2 ∷ sign Star ∷ number 3 ∷ sign CloseBracket ∷ [])
+    ≡ Some (7, sign CloseBracket ∷ [])
+unfolding with_operand value_of next_product step ends whole_value value_before value_from
+    expression_at symbol_of
 product_first = refl
 
 -- `1-2+5]` has a part below 0
-pub part_below_zero : expression_at (number 1 ∷ sign Minus ∷ number 2 ∷ sign Plus ∷ number 5 ∷ sign CloseBracket ∷ []) ≡ None
-unfolding with_operand value_of next_product step ends whole_value value_before value_from expression_at symbol_of
+pub part_below_zero : expression_at
+    (number 1 ∷ sign Minus ∷ number 2 ∷ sign Plus ∷ number 5 ∷ sign CloseBracket ∷ []) ≡ None
+unfolding with_operand value_of next_product step ends whole_value value_before value_from
+    expression_at symbol_of
 part_below_zero = refl

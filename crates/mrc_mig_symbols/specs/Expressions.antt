@@ -1,6 +1,8 @@
 -- Whole-number expressions of a MIG file, from left to right. The bounds of their parts are this
 -- profile's own choice.
-use Rattle.std.specs.Prelude.{ℕ, ◌+◌, ◌-◌, ◌*◌, ◌/◌, List, [], ◌∷◌, Bool, true, false, Option, Some, None, nat_le, nat_lt, ◌==◌, if◌then◌else◌}
+use Rattle.std.specs.Prelude.{ℕ, ◌+◌, ◌-◌, ◌*◌, ◌/◌, List, [], ◌∷◌, Bool, true, false, Option, Some}
+use Rattle.std.specs.Prelude.{None, nat_le, nat_lt, ◌==◌, if◌then◌else◌}
+use Rattle.mrc_base.specs.Limits.{limit_of_number}
 use Rattle.mrc_mig_lex.specs.Tokens.{Lexeme}
 use Rattle.mrc_mig_lex.specs.declared.token.Sign.TheVariants as signs
 use Rattle.mrc_mig_symbols.specs.declared.symbol.Symbol.{Symbol}
@@ -9,9 +11,10 @@ use Rattle.mrc_mig_symbols.specs.Symbols.{◌>>=◌, symbol_of}
 
 -- a part's value, if it is one
 abbrev pub part : ℕ → Option ℕ
-part n = if nat_le n 2147483647 then Some n else None
+part n = if nat_le n limit_of_number then Some n else None
 
--- a sum that is being read: the parts that are finished and what becomes of the product that is read now
+-- a sum that is being read: the parts that are finished and what becomes of the product that is
+-- read now
 pub record Partial : Type 0 where
   pub total : ℕ
   pub subtracts : Bool
@@ -32,8 +35,10 @@ abbrev pub next_summand : Bool → ℕ → ℕ → Option ℕ
 next_summand false total n = part (total + n)
 next_summand true total n = if nat_lt total n then None else Some (total - n)
 
+-- the sum with one more factor or divisor of its last product
 unfoldable pub with_operand : ℕ → Partial → Option Partial
-with_operand n sum = next_factor sum.divides sum.product n >>= λ product. Some (record sum { product = product })
+with_operand n sum =
+    next_factor sum.divides sum.product n >>= λ product. Some (record sum { product = product })
 
 -- the value of a sum
 unfoldable pub value_of : Partial → Option ℕ
@@ -41,10 +46,16 @@ value_of sum = next_summand sum.subtracts sum.total sum.product
 
 -- before the next product, which is added or taken away
 unfoldable pub next_product : Bool → Partial → Option Partial
-next_product subtracts sum = value_of sum >>= λ total. Some (record { total = total; subtracts = subtracts; product = 1; divides = false })
+next_product subtracts sum = value_of sum
+    >>= λ total. Some (record {
+      total = total;
+      subtracts = subtracts;
+      product = 1;
+      divides = false;
+    })
 
--- an expression that is being read: the sums around the innermost open parenthesis, that parenthesis's
--- sum, and whether an operand comes next
+-- an expression that is being read: the sums around the innermost open parenthesis, that
+-- parenthesis's sum, and whether an operand comes next
 pub record Unfinished : Type 0 where
   pub outer : List Partial
   pub sum : Partial
@@ -61,23 +72,32 @@ operand_wanted outer sum = Some (record { outer = outer; sum = sum; wants_operan
 -- an operand, or the parenthesis that opens one
 abbrev pub operand_step : Symbol → List Partial → Partial → Option Unfinished
 operand_step (symbols.Number n) outer sum = with_operand n sum >>= λ sum. operand_read outer sum
-operand_step (symbols.Sign signs.OpenParenthesis) outer sum = operand_wanted (sum ∷ outer) nothing_read
+operand_step (symbols.Sign signs.OpenParenthesis) outer sum =
+    operand_wanted (sum ∷ outer) nothing_read
 operand_step _ outer sum = None
 
 -- the parenthesis that closes a sum, which is an operand of the sum around it
 abbrev pub closed : List Partial → Partial → Option Unfinished
 closed [] sum = None
-closed (around ∷ outer) sum = value_of sum >>= λ n. with_operand n around >>= λ sum. operand_read outer sum
+closed (around ∷ outer) sum =
+    value_of sum >>= λ n. with_operand n around >>= λ sum. operand_read outer sum
 
 -- an operator, or the parenthesis that closes a sum
 abbrev pub operator_step : Symbol → List Partial → Partial → Option Unfinished
-operator_step (symbols.Sign signs.Star) outer sum = operand_wanted outer (record sum { divides = false })
-operator_step (symbols.Sign signs.Slash) outer sum = operand_wanted outer (record sum { divides = true })
-operator_step (symbols.Sign signs.Plus) outer sum = next_product false sum >>= λ sum. operand_wanted outer sum
-operator_step (symbols.Sign signs.Minus) outer sum = next_product true sum >>= λ sum. operand_wanted outer sum
+operator_step (symbols.Sign signs.Star) outer sum = operand_wanted outer (record sum {
+  divides = false;
+})
+operator_step (symbols.Sign signs.Slash) outer sum = operand_wanted outer (record sum {
+  divides = true;
+})
+operator_step (symbols.Sign signs.Plus) outer sum =
+    next_product false sum >>= λ sum. operand_wanted outer sum
+operator_step (symbols.Sign signs.Minus) outer sum =
+    next_product true sum >>= λ sum. operand_wanted outer sum
 operator_step (symbols.Sign signs.CloseParenthesis) outer sum = closed outer sum
 operator_step _ outer sum = None
 
+-- one symbol further, by whether an operand comes next
 abbrev pub step_by : Bool → Symbol → List Partial → Partial → Option Unfinished
 step_by true symbol outer sum = operand_step symbol outer sum
 step_by false symbol outer sum = operator_step symbol outer sum
@@ -101,6 +121,7 @@ ends_by false outer (symbols.Sign signs.Minus) = false
 ends_by false outer (symbols.Sign signs.CloseParenthesis) = is_empty outer
 ends_by false outer _ = true
 
+-- this symbol belongs to the expression no more
 unfoldable pub ends : Unfinished → Symbol → Bool
 ends u symbol = ends_by u.wants_operand u.outer symbol
 
@@ -110,6 +131,7 @@ value_by true outer sum = None
 value_by false [] sum = value_of sum
 value_by false (around ∷ outer) sum = None
 
+-- the value of the whole expression, where it may end
 unfoldable pub whole_value : Unfinished → Option ℕ
 whole_value u = value_by u.wants_operand u.outer u.sum
 
@@ -127,4 +149,5 @@ value_from u (token ∷ tokens) =
 
 -- the value of the expression at the front, and what follows it
 unfoldable pub expression_at : List Lexeme → Option (ℕ × List Lexeme)
-expression_at tokens = value_from (record { outer = []; sum = nothing_read; wants_operand = true }) tokens
+expression_at tokens =
+    value_from (record { outer = []; sum = nothing_read; wants_operand = true }) tokens

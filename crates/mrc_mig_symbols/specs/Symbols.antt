@@ -1,12 +1,15 @@
 -- What the grammar sees of tokens: this profile's own form of MIG's words and signs.
-use Rattle.std.specs.Prelude.{◌≡◌, ℕ, zero, suc, List, [], ◌∷◌, length, Bool, true, false, Option, Some, None, Result, Ok, Err, option_and_then, nat_le, ◌==◌, if◌then◌else◌}
+use Rattle.std.specs.Prelude.{◌≡◌, ℕ, zero, suc, List, [], ◌∷◌, length, Bool, true, false, Option}
+use Rattle.std.specs.Prelude.{Some, None, Result, Ok, Err, option_and_then, nat_le, ◌==◌}
+use Rattle.std.specs.Prelude.{if◌then◌else◌}
+use Rattle.mrc_base.specs.declared.memory.OrMemory.{OrMemory}
+use Rattle.mrc_base.specs.declared.memory.OrMemory.TheVariants.{Fault, Memory}
+use Rattle.mrc_base.specs.Limits.{limit_of_name}
 use Rattle.mrc_mig_lex.specs.Tokens.{Lexeme}
 use Rattle.mrc_mig_lex.specs.declared.token.TokenKind.{TokenKind}
 use Rattle.mrc_mig_lex.specs.declared.token.TokenKind.TheVariants as kinds
 use Rattle.mrc_mig_lex.specs.declared.token.Sign.{Sign}
 use Rattle.mrc_mig_lex.specs.declared.token.Sign.TheVariants as signs
-use Rattle.mrc_mig_symbols.specs.declared.fault.ParseFault.{ParseFault}
-use Rattle.mrc_mig_symbols.specs.declared.fault.ParseFault.TheVariants as faults
 use Rattle.mrc_mig_symbols.specs.declared.symbol.Symbol.{Symbol}
 use Rattle.mrc_mig_symbols.specs.declared.symbol.Symbol.TheVariants as symbols
 use Rattle.mrc_mig_symbols.specs.declared.symbol.Rest.{Rest}
@@ -14,8 +17,8 @@ use Rattle.mrc_mig_symbols.specs.declared.word.Word.{Word}
 use Rattle.mrc_mig_symbols.specs.Words.{word_of}
 use Rattle.mrc_mig_symbols.specs.Directives.{directive_of}
 
-infixl 10 ◌>>=◌
 -- first one reading, then another of what it gave
+infixl 10 ◌>>=◌
 abbrev pub ◌>>=◌ : {A B : Type 0} → Option A → (A → Option B) → Option B
 read >>= next = option_and_then next read
 
@@ -29,20 +32,20 @@ unfoldable pub many : {A : Type 0} → (A → Bool) → (A → Option A) → ℕ
 many goes step zero a = Some a
 many goes step (suc n) a = if goes a then (step a >>= λ b. many goes step n b) else Some a
 
--- a returned fault is right: the tokens mean nothing, unless memory ran out
-abbrev pub Fails : {Y : Type 0} → ParseFault → Option Y → Type 0
-Fails faults.Memory read = Unit {0}
-Fails _ read = read ≡ None
+-- what a function returned, seen by view, is what the tokens mean; with a fault they mean nothing
+abbrev pub Means : {X Y F : Type 0} → (X → Y) → Result X F → Option Y → Type 0
+Means view (Ok x) read = read ≡ Some (view x)
+Means view (Err fault) read = read ≡ None
+
+-- the tokens mean nothing, unless memory ran out
+abbrev pub MeansNone : {Y F : Type 0} → OrMemory F → Option Y → Type 0
+MeansNone (Fault fault) read = read ≡ None
+MeansNone Memory read = Unit {0}
 
 -- what a function returned, seen by view, is what the tokens mean, unless memory ran out
-abbrev pub Gives : {X Y : Type 0} → (X → Y) → Result X ParseFault → Option Y → Type 0
-Gives view (Ok x) read = read ≡ Some (view x)
-Gives view (Err e) read = Fails e read
-
--- a fault that is not memory's
-abbrev pub IsRefusal : ParseFault → Type 0
-IsRefusal faults.Memory = ⊥
-IsRefusal _ = Unit {0}
+abbrev pub MeansOrMemory : {X Y F : Type 0} → (X → Y) → Result X (OrMemory F) → Option Y → Type 0
+MeansOrMemory view (Ok x) read = read ≡ Some (view x)
+MeansOrMemory view (Err refusal) read = MeansNone refusal read
 
 -- a reserved word, or a name
 abbrev pub name_symbol : Option Word → Symbol
@@ -86,6 +89,15 @@ tail_of (token ∷ tokens) = tokens
 abbrev pub left : Rest → List Lexeme
 left rest = rest.tokens.now
 
+-- where the first of these tokens begins, or this place where there is none
+abbrev pub place_in : List Lexeme → ℕ → ℕ
+place_in [] end = end
+place_in (token ∷ tokens) end = token.at
+
+-- where the first token that is left begins, or the end of the last one
+abbrev pub place_of : Rest → ℕ
+place_of rest = place_in (left rest) rest.end
+
 -- the place of a sign among the signs
 abbrev pub sign_number : Sign → ℕ
 sign_number signs.Semicolon = 0
@@ -112,10 +124,13 @@ is_sign wanted _ = false
 unfoldable pub after_sign : Sign → List Lexeme → Option (List Lexeme)
 after_sign wanted tokens = if is_sign wanted (first_of tokens) then Some (tail_of tokens) else None
 
--- a name of at most 64 bytes that is no reserved word, and what follows it
+-- the first token, if it is a name of few enough bytes, and what follows it
 abbrev pub name_by : Symbol → List Lexeme → Option (List ℕ × List Lexeme)
-name_by symbols.Name tokens = if nat_le (length (text_of tokens)) 64 then Some (text_of tokens, tail_of tokens) else None
+name_by symbols.Name tokens =
+    if nat_le (length (text_of tokens)) limit_of_name then Some (text_of tokens, tail_of tokens)
+    else None
 name_by _ tokens = None
 
+-- a name of few enough bytes that is no reserved word, and what follows it
 unfoldable pub name_at : List Lexeme → Option (List ℕ × List Lexeme)
 name_at tokens = name_by (first_of tokens) tokens

@@ -1,7 +1,9 @@
 //! Lines of the preprocessor.
 ghost use Rattle.std.specs.Prelude.{◌≡◌, Some};
 ghost use Rattle.std.specs.Option.{option_copied};
-ghost use Rattle.mrc_mig_symbols.specs.Directives.{without_blanks, without_digits, after_bytes, after_digits, next_place, is_empty_from, included, marked, directive_of};
+ghost use Rattle.mrc_mig_symbols.specs.Directives.{without_blanks, without_digits, after_bytes};
+ghost use Rattle.mrc_mig_symbols.specs.Directives.{after_digits, next_place, is_empty_from};
+ghost use Rattle.mrc_mig_symbols.specs.Directives.{included, marked, directive_of};
 ghost use Rattle.mrc_mig_symbols.specs.declared.directive.Place.TheVariants.{Outside};
 
 /// What a line that begins with `#` is.

@@ -1,16 +1,20 @@
 //! Whole-number expressions, without recursion.
 ghost use Rattle.std.specs.Prelude.{◌≡◌};
-ghost use Rattle.mrc_mig_symbols.specs.Symbols.{Gives, left};
-ghost use Rattle.mrc_mig_symbols.specs.Expressions.{nothing_read, with_operand, value_of, next_product, operand_step, closed, operator_step, step, ends, value_before, expression_at};
+ghost use Rattle.mrc_mig_symbols.specs.Symbols.{Means, MeansOrMemory, left};
+ghost use Rattle.mrc_mig_symbols.specs.Expressions.{nothing_read, with_operand, value_of};
+ghost use Rattle.mrc_mig_symbols.specs.Expressions.{next_product, operand_step, closed};
+ghost use Rattle.mrc_mig_symbols.specs.Expressions.{operator_step, step, ends, value_before};
+ghost use Rattle.mrc_mig_symbols.specs.Expressions.{expression_at};
 ghost use Rattle.mrc_mig_symbols.specs.Readers.{partial_of, unfinished_of};
 
 use crate::fault::ParseFault;
 use crate::symbol::{Rest, Symbol};
+use mrc_base::{OrMemory, limits};
 use mrc_mig_lex::Sign;
 use std::alloc::Global;
 
 /// The greatest value of a part.
-const MOST: u64 = 2_147_483_647;
+const MOST: u64 = limits::NUMBER as u64;
 
 /// A sum that is being read: the parts that are finished, and the product that is read now.
 #[derive(Clone, Copy, Debug, PartialEq, Eq)]
@@ -46,7 +50,7 @@ impl Sum {
     /// With one more factor or divisor, which begins at `at`.
     #[tactic(auto, unfolding(crate::specs::Expressions::with_operand))]
     fn with_operand(self, operand: u32, at: usize) -> Result<Sum, ParseFault>
-        ensures { Gives partial_of result (with_operand operand (partial_of self)) }
+        ensures { Means partial_of result (with_operand operand (partial_of self)) }
     {
         if self.divides {
             if operand == 0 {
@@ -66,7 +70,7 @@ impl Sum {
     /// The value of the whole sum.
     #[tactic(auto, unfolding(crate::specs::Expressions::value_of))]
     fn value(self) -> Result<u32, ParseFault>
-        ensures { Gives (λ n. n) result (value_of (partial_of self)) }
+        ensures { Means (λ n. n) result (value_of (partial_of self)) }
     {
         if self.subtracts {
             if self.total < self.product {
@@ -84,7 +88,7 @@ impl Sum {
     /// Before the next product, which begins at `at`.
     #[tactic(auto, unfolding(crate::specs::Expressions::next_product))]
     fn next_product(self, subtracts: bool, at: usize) -> Result<Sum, ParseFault>
-        ensures { Gives partial_of result (next_product subtracts (partial_of self)) }
+        ensures { Means partial_of result (next_product subtracts (partial_of self)) }
     {
         let total = self.value()?;
         Ok(Sum {
@@ -109,8 +113,13 @@ struct Reader {
 
 impl Reader {
     /// Reads the symbol at `at`, where an operand is wanted. The next one is at `next`.
-    fn read_operand(&mut self, symbol: Symbol, at: usize, next: usize) -> Result<(), ParseFault>
-        ensures { Gives (λ _. unfinished_of self.new) result
+    fn read_operand(
+        &mut self,
+        symbol: Symbol,
+        at: usize,
+        next: usize,
+    ) -> Result<(), OrMemory<ParseFault>>
+        ensures { MeansOrMemory (λ _. unfinished_of self.new) result
             (operand_step symbol (unfinished_of self.old).outer (unfinished_of self.old).sum) }
     {
         match symbol {
@@ -125,13 +134,13 @@ impl Reader {
                 self.wants_operand = true;
                 Ok(())
             }
-            _ => Err(ParseFault::Unexpected(at)),
+            _ => Err(ParseFault::Unexpected(at).into()),
         }
     }
 
     /// Closes a parenthesis, at `at`.
     fn close(&mut self, at: usize) -> Result<(), ParseFault>
-        ensures { Gives (λ _. unfinished_of self.new) result
+        ensures { Means (λ _. unfinished_of self.new) result
             (closed (unfinished_of self.old).outer (unfinished_of self.old).sum) }
     {
         let Some(around) = self.outer.pop() else {
@@ -145,7 +154,7 @@ impl Reader {
 
     /// Reads the symbol at `at` behind an operand. The next one is at `next`.
     fn read_operator(&mut self, symbol: Symbol, at: usize, next: usize) -> Result<(), ParseFault>
-        ensures { Gives (λ _. unfinished_of self.new) result
+        ensures { Means (λ _. unfinished_of self.new) result
             (operator_step symbol (unfinished_of self.old).outer (unfinished_of self.old).sum) }
     {
         match symbol {
@@ -162,15 +171,16 @@ impl Reader {
 
     /// Reads the symbol at `at`. The next one is at `next`.
     #[tactic(auto, unfolding(crate::specs::Expressions::step))]
-    fn read(&mut self, symbol: Symbol, at: usize, next: usize) -> Result<(), ParseFault>
-        ensures { Gives (λ _. unfinished_of self.new) result
+    fn read(&mut self, symbol: Symbol, at: usize, next: usize) -> Result<(), OrMemory<ParseFault>>
+        ensures { MeansOrMemory (λ _. unfinished_of self.new) result
             (step symbol (unfinished_of self.old)) }
     {
         if self.wants_operand {
-            self.read_operand(symbol, at, next)
+            self.read_operand(symbol, at, next)?;
         } else {
-            self.read_operator(symbol, at, next)
+            self.read_operator(symbol, at, next)?;
         }
+        Ok(())
     }
 
     /// Whether the symbol belongs to the expression no more.
@@ -191,7 +201,7 @@ impl Reader {
     /// The value of the expression, which ends before `rest`.
     #[tactic(auto, unfolding(crate::specs::Expressions::whole_value, crate::specs::Expressions::value_before))]
     fn value(self, rest: Rest<'_>) -> Result<(u32, Rest<'_>), ParseFault>
-        ensures { Gives (λ x. (x.0, left x.1)) result
+        ensures { Means (λ x. (x.0, left x.1)) result
             (value_before (left rest.entry) (unfinished_of self)) }
     {
         if self.wants_operand {
@@ -207,8 +217,8 @@ impl Reader {
 
 /// Reads an expression and gives its value, at most 2,147,483,647.
 #[tactic(auto, using(crate::proofs::ReadingLemmas::value_at_end, crate::proofs::ReadingLemmas::value_at_last, crate::proofs::ReadingLemmas::value_goes_on, crate::proofs::ReadingLemmas::tail_is_shorter), unfolding(crate::specs::Expressions::expression_at))]
-pub fn expression(alloc: Global, rest: Rest<'_>) -> Result<(u32, Rest<'_>), ParseFault>
-    ensures { Gives (λ x. (x.0, left x.1)) result (expression_at (left rest.entry)) }
+pub fn expression(alloc: Global, rest: Rest<'_>) -> Result<(u32, Rest<'_>), OrMemory<ParseFault>>
+    ensures { MeansOrMemory (λ x. (x.0, left x.1)) result (expression_at (left rest.entry)) }
 {
     let mut reader = Reader {
         outer: Vec::new(alloc),
@@ -219,11 +229,11 @@ pub fn expression(alloc: Global, rest: Rest<'_>) -> Result<(u32, Rest<'_>), Pars
     while !rest.is_empty() {
         let symbol = rest.first();
         if reader.ends(symbol) {
-            return reader.value(rest);
+            return Ok(reader.value(rest)?);
         }
         let next = rest.next();
         reader.read(symbol, rest.at(), next.at())?;
         rest = next;
     }
-    reader.value(rest)
+    Ok(reader.value(rest)?)
 }

@@ -1,8 +1,8 @@
 //! Why tokens are no subsystem.
 ghost use Rattle.std.specs.Prelude.{◌≡◌};
-ghost use Rattle.mrc_mig_symbols.specs.declared.fault.ParseFault.TheVariants.{Memory};
+ghost use Rattle.mrc_base.specs.declared.memory.OrMemory.TheVariants.{Fault};
 
-use std::alloc::{AllocError, AllocFailed};
+use mrc_base::OrMemory;
 use std::fmt;
 use thiserror::Error;
 
@@ -21,8 +21,8 @@ pub enum Feature {
     OldForm,
     /// `waittime`, `msgoption`, `msgseqno`, `ureplyport`, `sreplyport` and the flags of arguments.
     Option,
-    /// A `replyport` argument of a simpleroutine, of another type than a send-once right that is made or
-    /// moved, or after another one.
+    /// A `replyport` argument of a simpleroutine, of another type than a send-once right that is
+    /// made or moved, or after another one.
     ReplyPort,
     /// An array or a string of variable length inside an array or a struct.
     Nested,
@@ -46,8 +46,8 @@ impl fmt::Display for Feature {
     }
 }
 
-/// Why tokens are no subsystem: the first fault, by its place in the text and then by the order here.
-/// Each place is an offset in bytes.
+/// Why tokens are no subsystem: the first fault, by its place in the text and then by the order
+/// here. Each place is an offset in bytes.
 #[derive(Clone, Copy, Debug, PartialEq, Eq, Error)]
 pub enum ParseFault {
     /// A token that cannot stand there, or the end of the last token where one is missing.
@@ -68,23 +68,12 @@ pub enum ParseFault {
     /// A name above 64 bytes, a count outside 1 to 8,192, the 33rd argument or the 101st id.
     #[error("TooMany {0}")]
     TooMany(usize),
-    /// Memory ran out.
-    #[error("Memory")]
-    Memory,
 }
 
-impl From<AllocError> for ParseFault {
-    ghost from_gives = { λ _ e. e ≡ Memory };
+impl From<ParseFault> for OrMemory<ParseFault> {
+    ghost from_gives = { λ fault refusal. refusal ≡ Fault fault };
 
-    fn from(_e: AllocError) -> ParseFault {
-        ParseFault::Memory
-    }
-}
-
-impl<T: Drop> From<AllocFailed<T>> for ParseFault {
-    ghost from_gives = { λ _ e. e ≡ Memory };
-
-    fn from(_e: AllocFailed<T>) -> ParseFault {
-        ParseFault::Memory
+    fn from(fault: ParseFault) -> OrMemory<ParseFault> {
+        OrMemory::Fault(fault)
     }
 }

@@ -1,4 +1,5 @@
-//! What the grammar of MIG sees of tokens: words, signs, lines of the preprocessor, and whole-number expressions.
+//! What the grammar of MIG sees of tokens: words, signs, lines of the preprocessor, and
+//! whole-number expressions.
 #![tactic(auto)]
 
 mod directive;

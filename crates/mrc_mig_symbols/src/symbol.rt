@@ -1,11 +1,13 @@
 //! What the grammar sees of a token, and what is left to read.
 
 ghost use Rattle.std.specs.Prelude.{◌≡◌};
-ghost use Rattle.mrc_mig_symbols.specs.Symbols.{Gives, IsRefusal, symbol_of, no_tokens, first_of, text_of, tail_of, after_sign, name_at, left};
+ghost use Rattle.mrc_mig_symbols.specs.Symbols.{Means, symbol_of, no_tokens, first_of, text_of};
+ghost use Rattle.mrc_mig_symbols.specs.Symbols.{tail_of, after_sign, name_at, left, place_of};
 
 use crate::directive::{Directive, directive_of};
 use crate::fault::ParseFault;
 use crate::word::{Word, word_of};
+use mrc_base::limits;
 use mrc_mig_lex::{Sign, Token, TokenKind};
 
 /// What the grammar sees of a token.
@@ -90,7 +92,9 @@ impl<'t> Rest<'t> {
     }
 
     /// Where the first token begins, or the end.
-    pub fn at(self) -> usize {
+    pub fn at(self) -> usize
+        ensures { result ≡ place_of self.entry }
+    {
         match self.tokens {
             [] => self.end,
             [token, ..] => token.at(),
@@ -124,7 +128,7 @@ impl<'t> Rest<'t> {
 
     /// The fault of a first token that cannot stand there, or of a missing one.
     pub fn unexpected(self) -> ParseFault
-        ensures { IsRefusal result }
+        ensures { result ≡ ParseFault.Unexpected (place_of self.entry) }
     {
         ParseFault::Unexpected(self.at())
     }
@@ -133,7 +137,7 @@ impl<'t> Rest<'t> {
 /// Takes the sign. Anything else is Unexpected.
 #[tactic(auto, unfolding(crate::specs::Symbols::after_sign))]
 pub fn sign<'t>(rest: Rest<'t>, wanted: Sign) -> Result<Rest<'t>, ParseFault>
-    ensures { Gives left result (after_sign wanted (left rest.entry)) }
+    ensures { Means left result (after_sign wanted (left rest.entry)) }
 {
     match rest.first() {
         Symbol::Sign(found) if found == wanted => Ok(rest.next()),
@@ -141,17 +145,14 @@ pub fn sign<'t>(rest: Rest<'t>, wanted: Sign) -> Result<Rest<'t>, ParseFault>
     }
 }
 
-/// The most bytes of a name.
-const LONGEST: usize = 64;
-
-/// Takes a name that is not used but made, or stands for something outside of the text. One above 64 bytes is
-/// TooMany; a reserved word, and anything else, is Unexpected.
+/// Takes a name that is not used but made, or stands for something outside of the text. One above
+/// 64 bytes is TooMany; a reserved word, and anything else, is Unexpected.
 #[tactic(auto, unfolding(crate::specs::Symbols::name_at))]
 pub fn name(rest: Rest<'_>) -> Result<(&str, Rest<'_>), ParseFault>
-    ensures { Gives (λ x. (x.0.now, left x.1)) result (name_at (left rest.entry)) }
+    ensures { Means (λ x. (x.0.now, left x.1)) result (name_at (left rest.entry)) }
 {
     match rest.first() {
-        Symbol::Name if rest.text().len() <= LONGEST => Ok((rest.text(), rest.next())),
+        Symbol::Name if rest.text().len() <= limits::NAME => Ok((rest.text(), rest.next())),
         Symbol::Name => Err(ParseFault::TooMany(rest.at())),
         _ => Err(rest.unexpected()),
     }

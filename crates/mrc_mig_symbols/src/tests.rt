@@ -1,4 +1,5 @@
 use super::*;
+use mrc_base::OrMemory;
 use mrc_mig_lex::{Sign, lex};
 use std::alloc::Global;
 use std::process::Abort;
@@ -16,7 +17,8 @@ fn symbols(alloc: Global, text: &str) -> Result<Vec<Symbol>, Fail> {
     Ok(symbols)
 }
 
-// Each kind of symbol; reserved words in any case, a name that only contains one, a line of each kind.
+// Each kind of symbol; reserved words in any case, a name that only contains one, a line of each
+// kind.
 #[test]
 fn symbols_of_tokens(rt: HostRuntime) -> Result<(), Fail> {
     let text = "Routine routines 12 \"text\" <header> ; REPLYPORT
@@ -140,12 +142,13 @@ fn reserved_words(rt: HostRuntime) -> Result<(), Fail> {
     Ok(())
 }
 
-// Words of MIG that are not reserved, words that only resemble reserved ones, and the names of types.
+// Words of MIG that are not reserved, words that only resemble reserved ones, and the names of
+// types.
 #[test]
 fn other_names(rt: HostRuntime) -> Result<(), Fail> {
-    let text =
-        "error serverdemux nowaittime notdealloc msgtype const real include line _in in_ types c_strings cstring
-        MACH_MSG_TYPE_CHAR mach_msg_type_char MACH_MSG_TYPE_POLYMORPHIC int kernelservers inouts ustruct";
+    let text = "error serverdemux nowaittime notdealloc msgtype const real include line
+        _in in_ types c_strings cstring MACH_MSG_TYPE_CHAR mach_msg_type_char
+        MACH_MSG_TYPE_POLYMORPHIC int kernelservers inouts ustruct";
     let symbols = symbols(rt.alloc(), text)?;
     assert_eq!(rt; symbols.len(), 21);
     assert!(rt; symbols.iter().all(|symbol| *symbol == Symbol::Name));
@@ -214,7 +217,8 @@ fn are_lines(
     Ok(())
 }
 
-// Blanks may stand around `include`, and blanks, a carriage return and whole comments behind the file's name.
+// Blanks may stand around `include`, and blanks, a carriage return and whole comments behind the
+// file's name.
 #[test]
 fn include_lines(rt: HostRuntime) -> Result<(), Fail> {
     let lines = [
@@ -392,10 +396,18 @@ fn signs(rt: HostRuntime) -> Result<(), Fail> {
     Ok(())
 }
 
+/// A value of an expression, and where the rest begins.
+type Value = Result<(u32, usize), OrMemory<ParseFault>>;
+
+/// The refusal of a token that cannot stand in this place.
+fn unexpected(at: usize) -> Value {
+    Err(OrMemory::Fault(ParseFault::Unexpected(at)))
+}
+
 /// What is read of a text, and where the rest begins.
-fn value(alloc: Global, text: &str) -> Result<(u32, usize), ParseFault> {
+fn value(alloc: Global, text: &str) -> Value {
     let Ok(tokens) = lex(alloc, text) else {
-        return Err(ParseFault::Memory);
+        return Err(OrMemory::Memory);
     };
     let (value, rest) = expression(alloc, Rest::new(tokens.as_slice()))?;
     Ok((value, rest.at()))
@@ -410,14 +422,11 @@ fn values_of_expressions(rt: HostRuntime) {
     assert_eq!(rt; value(alloc, "12/4/3*5"), Ok((5, 8)));
     assert_eq!(rt; value(alloc, "2147483647"), Ok((2_147_483_647, 10)));
     assert_eq!(rt; value(alloc, "9 1+2147483647"), Ok((9, 2)));
-    assert_eq!(rt;
-        value(alloc, "1+2147483647"),
-        Err(ParseFault::Unexpected(0))
-    );
-    assert_eq!(rt; value(alloc, "3+(1-2)"), Err(ParseFault::Unexpected(3)));
-    assert_eq!(rt; value(alloc, "3/(2-2)"), Err(ParseFault::Unexpected(2)));
-    assert_eq!(rt; value(alloc, "3+"), Err(ParseFault::Unexpected(2)));
-    assert_eq!(rt; value(alloc, ""), Err(ParseFault::Unexpected(0)));
+    assert_eq!(rt; value(alloc, "1+2147483647"), unexpected(0));
+    assert_eq!(rt; value(alloc, "3+(1-2)"), unexpected(3));
+    assert_eq!(rt; value(alloc, "3/(2-2)"), unexpected(2));
+    assert_eq!(rt; value(alloc, "3+"), unexpected(2));
+    assert_eq!(rt; value(alloc, ""), unexpected(0));
 }
 
 /// Expressions, their values, and where each goes on no more.
@@ -539,20 +548,20 @@ const NO_EXPRESSIONS: [(&str, usize); 64] = [
 #[test]
 fn faults_of_expressions(rt: HostRuntime) {
     for (text, at) in NO_EXPRESSIONS {
-        let wanted = Err(ParseFault::Unexpected(at));
-        assert_eq!(rt; value(rt.alloc(), text), wanted, "{text}");
+        assert_eq!(rt; value(rt.alloc(), text), unexpected(at), "{text}");
     }
 }
 
 /// What is read of a text, asked for once more where memory was refused.
-fn value_tried_twice(alloc: Global, text: &str) -> Result<(u32, usize), ParseFault> {
+fn value_tried_twice(alloc: Global, text: &str) -> Value {
     match value(alloc, text) {
-        Err(ParseFault::Memory) => value(alloc, text),
+        Err(OrMemory::Memory) => value(alloc, text),
         answer => answer,
     }
 }
 
-/// Whichever single allocation is refused, the answer is the value or `Memory`, and the value at the next call.
+/// Whichever single allocation is refused, the answer is the value or `Memory`, and the value at
+/// the next call.
 #[test]
 fn value_or_memory(rt: HostRuntime) {
     assert_eq!(rt;
@@ -561,6 +570,6 @@ fn value_or_memory(rt: HostRuntime) {
     );
     assert_eq!(rt;
         value_tried_twice(rt.alloc(), "((2+3)*(4-5))"),
-        Err(ParseFault::Unexpected(8))
+        unexpected(8)
     );
 }

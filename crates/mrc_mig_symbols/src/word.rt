@@ -141,9 +141,9 @@ pub(crate) fn word_of(text: &str) -> Option<Word>
 #[derive(Clone, Copy, Debug, PartialEq, Eq)]
 pub enum Basic {
     /// A type number, and the bits of one item.
-    Plain(u32, u32),
+    Plain(u16, u16),
     /// A type number whose size has to be given.
-    Unsized(u32),
+    Unsized(u16),
     /// Left out.
     Polymorphic,
     /// Left out.

@@ -2,3 +2,4 @@ pub mod Births
 pub mod Resolved
 pub mod FirstHolds
 pub mod Sound
+pub mod NameLemmas

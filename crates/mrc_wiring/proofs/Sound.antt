@@ -2,7 +2,8 @@
 use Rattle.std.proofs.Common.{◌≡◌, ℕ, ◌+◌, true, ltb, List, [], ◌∷◌, refl, ap, arith, IsTrue}
 use Rattle.std.proofs.lemmas.Bool.{lt-ltb, and_from}
 use Rattle.mrc_model.specs.declared.FirstLine.{FirstLine}
-use Rattle.mrc_model.specs.declared.FirstLine.TheVariants.{Task as TaskLine, Port as PortLine, Hold as HoldLine}
+use Rattle.mrc_model.specs.declared.FirstLine.TheVariants.{Task as TaskLine, Port as PortLine}
+use Rattle.mrc_model.specs.declared.FirstLine.TheVariants.{Hold as HoldLine}
 use Rattle.mrc_model.specs.Wiring.{Wiring}
 use Rattle.mrc_model.specs.First.{is_sound}
 use Rattle.mrc_model.specs.FirstHoldings.{names_earlier, line_births, one_if_once, line_onces}
@@ -10,10 +11,14 @@ use Rattle.mrc_model.proofs.Few.{sound_if_few}
 use Rattle.mrc_wiring.specs.Table.{Table, IsTable, AreEarlier, task_lines, wiring_of}
 
 -- each line names what stands on an earlier one
-earlier : (W : Wiring) (n : ℕ) (ls : List FirstLine) → AreEarlier n ls → n + task_lines ls ≡ W.tasks → names_earlier W n 0 n ls ≡ true
+earlier : (W : Wiring) (n : ℕ) (ls : List FirstLine)
+    → AreEarlier n ls
+    → n + task_lines ls ≡ W.tasks
+    → names_earlier W n 0 n ls ≡ true
 earlier W n [] e all = refl
 earlier W n (TaskLine ∷ ls) e all =
-    and_from (ltb n W.tasks) (names_earlier W (n + 1) 0 (n + 1) ls) (lt-ltb n W.tasks (omega arith)) (earlier W (n + 1) ls e (omega arith))
+    and_from (ltb n W.tasks) (names_earlier W (n + 1) 0 (n + 1) ls) (lt-ltb n W.tasks (omega arith))
+    (earlier W (n + 1) ls e (omega arith))
 earlier W n (PortLine t ∷ ls) e all = absurd e
 earlier W n (HoldLine t p r ∷ ls) e all =
     let rest = earlier W n ls e.3 all in
@@ -35,5 +40,12 @@ no_onces n (HoldLine t p r ∷ ls) e = omega (arith, ap one_if_once e.2, no_once
 
 pub table_is_sound : (table : Table) → IsTable table → IsTrue (is_sound (wiring_of table))
 table_is_sound table is =
-    sound_if_few (wiring_of table) (earlier (wiring_of table) 0 table.lines is.earlier (omega (arith, is.tasks)))
-    (omega (arith, births_are 0 table.lines is.earlier, no_onces 0 table.lines is.earlier, is.tasks, is.few))
+    sound_if_few (wiring_of table) (earlier (wiring_of table) 0 table.lines is.earlier
+    (omega (arith, is.tasks)))
+    (omega (
+      arith,
+      births_are 0 table.lines is.earlier,
+      no_onces 0 table.lines is.earlier,
+      is.tasks,
+      is.few,
+    ))

@@ -1,10 +1,13 @@
--- The table that the lines of a wiring mean, and the model's wiring of it. This profile's own choice.
+-- The table that the lines of a wiring mean, and the model's wiring of it. This profile's own
+-- choice.
 use Rattle.std.specs.Prelude.{◌≡◌, ℕ, zero, suc, ◌+◌, ◌<◌, ◌≤◌, List, [], ◌∷◌, length}
+use Rattle.mrc_base.specs.Limits.{limit_of_tasks}
 use Rattle.mrc_base.specs.declared.Fact.{Fact}
 use Rattle.mrc_base.specs.declared.Fact.TheVariants.{Hold}
 use Rattle.mrc_base.specs.declared.PortRight.TheVariants.{Send}
 use Rattle.mrc_model.specs.declared.FirstLine.{FirstLine}
-use Rattle.mrc_model.specs.declared.FirstLine.TheVariants.{Task as TaskLine, Port as PortLine, Hold as HoldLine}
+use Rattle.mrc_model.specs.declared.FirstLine.TheVariants.{Task as TaskLine, Port as PortLine}
+use Rattle.mrc_model.specs.declared.FirstLine.TheVariants.{Hold as HoldLine}
 use Rattle.mrc_model.specs.Wiring.{Wiring}
 
 -- the tasks' names in the order of their lines, and what makes the first state, line by line
@@ -36,8 +39,8 @@ task_lines (TaskLine ∷ lines) = task_lines lines + 1
 task_lines (PortLine t ∷ lines) = task_lines lines
 task_lines (HoldLine t p r ∷ lines) = task_lines lines
 
--- each line is a task line, or a hold of a kernel port by a send right, where n tasks and the tasks of earlier lines are
--- there. A kernel port has the number of its task
+-- each line is a task line, or a hold of a kernel port by a send right, where n tasks and the tasks
+-- of earlier lines are there. A kernel port has the number of its task
 abbrev pub AreEarlier : ℕ → List FirstLine → Type 0
 AreEarlier n [] = Unit {0}
 AreEarlier n (TaskLine ∷ lines) = AreEarlier (n + 1) lines
@@ -46,11 +49,12 @@ AreEarlier n (HoldLine t p r ∷ lines) = (t < n) × (p < n) × (r ≡ Send) × 
 
 -- what the lines of a wiring can mean
 pub record IsTable (table : Table) : Type 0 where
-  pub few : length table.names ≤ 64
+  pub few : length table.names ≤ limit_of_tasks
   pub tasks : task_lines table.lines ≡ length table.names
   pub earlier : AreEarlier 0 table.lines
 
--- the holds that the lines give, where n tasks stand on earlier lines: class p is that of the kernel port of task p
+-- the holds that the lines give, where n tasks stand on earlier lines: class p is that of the
+-- kernel port of task p
 abbrev pub line_holds : ℕ → List FirstLine → List Fact
 line_holds n [] = []
 line_holds n (TaskLine ∷ lines) = Hold n n Send ∷ line_holds (n + 1) lines

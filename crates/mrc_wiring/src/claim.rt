@@ -1,12 +1,12 @@
 //! A wiring and what a policy forbids in it.
 
-ghost use Rattle.std.specs.Prelude.{◌≡◌, ◌+◌, ◌≤◌, ◌<◌, ℕ, List, length, Option, MatchResult};
-ghost use Rattle.mrc_wiring.specs.Table.{Table, IsTable};
-ghost use Rattle.mrc_wiring.specs.Claims.{Claimed, ClaimGives, ClaimTold, class_number, forbidden, forbidden_lines};
+ghost use Rattle.std.specs.Prelude.{◌≡◌};
+ghost use Rattle.mrc_base.specs.Reading.{Gives};
+ghost use Rattle.mrc_wiring.specs.Claims.{ClaimTold, class_number, forbidden, forbidden_lines};
 
 use crate::faults::ClaimFault;
 use crate::wired::Wired;
-use mrc_base::{ClassId, PortRight};
+use mrc_base::{ClassId, OrMemory, PortRight};
 use mrc_wiring_text::{ClassName, Forbid, PolicyLine};
 use std::alloc::Global;
 use std::marker::Model;
@@ -57,13 +57,15 @@ fn class_number(wired: &Wired, class: &ClassName) -> Option<ClassId>
 }
 
 #[tactic(auto, unfolding(crate::specs::Claims::forbidden))]
-fn forbidden(wired: &Wired, line: u32, says: &Forbid) -> Result<ForbiddenLine, ClaimFault>
-    ensures { result ≡ forbidden wired.now.names line says.now }
+fn forbidden(wired: &Wired, line: u32, says: &Forbid) -> Result<ForbiddenLine, OrMemory<ClaimFault>>
+    ensures { Gives (λ forbids. forbids) result (forbidden wired.now.names line says.now) }
 {
     let task = wired
         .task_named(says.task.as_str())
-        .ok_or(ClaimFault::UnknownName(line))?;
-    let class = class_number(wired, &says.class).ok_or(ClaimFault::UnknownName(line))?;
+        .ok_or(OrMemory::Fault(ClaimFault::UnknownName(line)))?;
+    let class = class_number(wired, &says.class).ok_or(OrMemory::Fault(ClaimFault::UnknownName(
+        line,
+    )))?;
     Ok(ForbiddenLine {
         line,
         task: task.0 as u16,
@@ -76,8 +78,9 @@ fn forbidden_lines(
     alloc: Global,
     wired: &Wired,
     lines: &[PolicyLine],
-) -> Result<Vec<ForbiddenLine>, ClaimFault>
-    ensures { ClaimGives (λ forbidden. forbidden.items) result (forbidden_lines wired.now.names lines.now) }
+) -> Result<Vec<ForbiddenLine>, OrMemory<ClaimFault>>
+    ensures { Gives (λ forbidden. forbidden.items) result
+        (forbidden_lines wired.now.names lines.now) }
 {
     let mut forbidden_so_far = Vec::new(alloc);
     for line in lines {
@@ -88,13 +91,14 @@ fn forbidden_lines(
 }
 
 impl Claim {
-    /// The claim that no task ever holds what the lines forbid. With a refusal the wiring comes back: the first line
-    /// that names a task or port that the wiring lacks.
+    /// The claim that no task ever holds what the lines forbid. With a refusal the wiring comes
+    /// back, as it was: the fault is that of the first line that names a task or port that the
+    /// wiring lacks.
     pub fn new(
         alloc: Global,
         wired: Wired,
         lines: &[PolicyLine],
-    ) -> Result<Claim, (Wired, ClaimFault)>
+    ) -> Result<Claim, (Wired, OrMemory<ClaimFault>)>
         ensures { ClaimTold wired result (forbidden_lines wired.names lines.now) }
     {
         match forbidden_lines(alloc, &wired, lines) {

@@ -1,5 +1,5 @@
-//! The table that a wiring means: tasks, classes and first rights, by numbers and by names; and what a
-//! policy forbids in it.
+//! The table that a wiring means: tasks, classes and first rights, by numbers and by names; and
+//! what a policy forbids in it.
 #![tactic(auto)]
 
 mod claim;

@@ -1,42 +1,32 @@
 //! The names of tasks and of classes.
 
-ghost use Rattle.std.specs.Prelude.{◌≡◌, ◌<◌, ℕ, List, length, IfSome, IfOk};
+ghost use Rattle.std.specs.Prelude.{◌≡◌, ◌<◌, length, IfSome, IfOk};
 ghost use Rattle.mrc_wiring.specs.Names.{number_of};
 
 use mrc_wiring_text::Name;
 use std::alloc::{AllocError, Global};
-use std::fmt;
 
-/// What a class of ports is of a task.
+/// The two kinds of classes of ports. Each task has one class of either kind.
 #[derive(Clone, Copy, Debug, PartialEq, Eq)]
 pub enum ClassKind {
-    /// Its kernel port.
+    /// The kernel port of the task, alone.
     Task,
-    /// The ports that it is the first to hold.
+    /// The ports that the task is the first to hold.
     Births,
 }
 
-/// A class of ports by its name. It prints as `task:U` or `births:U`.
+/// A class of ports by its kind and its task's name.
 #[derive(Clone, Copy, Debug)]
 pub struct ClassLabel<'a> {
+    /// Which of the task's two classes it is.
     pub kind: ClassKind,
     /// U, the task's name.
     pub task: &'a str,
 }
 
-impl fmt::Display for ClassLabel<'_> {
-    fn fmt<W: fmt::Write>(&self, f: &mut fmt::Formatter<W>) -> fmt::Result {
-        let task = self.task;
-        match self.kind {
-            ClassKind::Task => write!(f, "task:{task}"),
-            ClassKind::Births => write!(f, "births:{task}"),
-        }
-    }
-}
-
 /// The number of the task of a name.
 pub(crate) fn number_of(names: &[Name], name: &str) -> Option<usize>
-    ensures found { result ≡ number_of names.now name.now }
+    ensures exact { result ≡ number_of names.now name.now }
     ensures within { IfSome result (λ i. i < length names.now) }
 {
     names.iter().position(|known| name == known.as_str())

@@ -1,18 +1,21 @@
 //! Wirings, resolved to numbers.
 
-ghost use Rattle.std.specs.Prelude.{◌≡◌, ◌+◌, ◌*◌, ◌≤◌, ◌<◌, ℕ, List, length, slice_get, IfOk, IfSome, IsTrue, ◌↔◌, Option};
+ghost use Rattle.std.specs.Prelude.{◌≡◌, ◌≤◌, ◌<◌, length, slice_get, IfOk, IfSome, IsTrue};
 ghost use Rattle.std.specs.Option.{option_map};
+ghost use Rattle.mrc_base.specs.Limits.{limit_of_tasks};
+ghost use Rattle.mrc_base.specs.Reading.{Gives};
 ghost use Rattle.mrc_model.specs.First.{is_sound};
 ghost use Rattle.mrc_model.specs.Wiring.{classes};
 ghost use Rattle.mrc_wiring.specs.Table.{IsTable, AreEarlier, task_lines, wiring_of, line_holds};
 ghost use Rattle.mrc_wiring.specs.FirstState.{HasFirstHolds};
-ghost use Rattle.mrc_wiring.specs.Resolving.{Gives, resolved};
-ghost use Rattle.mrc_wiring.specs.Names.{number_of, class_label, shown_label, class_named};
+ghost use Rattle.mrc_wiring.specs.Resolving.{resolved};
+ghost use Rattle.mrc_wiring.specs.Names.{AreNames, number_of, class_label, shown_label};
+ghost use Rattle.mrc_wiring.specs.Names.{class_named};
 
 use crate::faults::ResolveFault;
 use crate::names::{ClassKind, ClassLabel, number_of};
-use crate::resolving::resolve_lines;
-use mrc_base::{ClassId, Fact, PortRight, TaskId};
+use crate::resolving::resolved;
+use mrc_base::{ClassId, Fact, OrMemory, PortRight, TaskId};
 use mrc_model::FirstLine;
 use mrc_wiring_text::{Name, WiringLine};
 use std::alloc::{AllocError, Global};
@@ -26,37 +29,41 @@ pub struct Wired {
 }
 
 impl Model for Wired {
+    ghost use Rattle.mrc_wiring.specs.Names.{AreNames};
     ghost use Rattle.mrc_wiring.specs.Table.{Table, IsTable};
 
     ghost Value = { Table };
 
     ghost view = { λ w. record { names = w.names.items; lines = w.lines.items } };
 
-    ghost invariant = { λ w. IsTable record { names = w.names.items; lines = w.lines.items } };
+    ghost invariant = { λ w. IsTable record { names = w.names.items; lines = w.lines.items }
+        × AreNames w.names.items };
 }
 
 impl Wired {
     /// The wiring that lines mean, or the first fault, by lines.
-    pub fn resolve(alloc: Global, lines: &[WiringLine]) -> Result<Wired, ResolveFault>
-        ensures { Gives result (resolved lines.now) }
+    pub fn resolve(alloc: Global, lines: &[WiringLine]) -> Result<Wired, OrMemory<ResolveFault>>
+        ensures { Gives (λ table. table) result (resolved lines.now) }
     {
-        let table = resolve_lines(alloc, lines)?;
+        let table = resolved(alloc, lines)?;
         Ok(Wired {
             names: table.names,
             lines: table.lines,
         })
     }
 
-    /// How many tasks there are, 64 at most.
+    /// How many tasks there are: no more than a wiring may have.
     pub fn tasks(&self) -> u16
-        ensures number { result ≡ length self.now.names }
+        ensures exact { result ≡ length self.now.names }
         ensures kept { IsTable self.now }
+        ensures named { AreNames self.now.names }
         ensures sound { IsTrue (is_sound (wiring_of self.now)) }
     {
         self.names.len() as u16
     }
 
-    /// How many classes of ports there are: the kernel port of each task, and then the births of each.
+    /// How many classes of ports there are: the kernel port of each task, and then the births of
+    /// each.
     pub fn classes(&self) -> u16
         ensures { result ≡ classes (wiring_of self.now) }
     {
@@ -73,7 +80,7 @@ impl Wired {
 
     /// The task of a name.
     pub fn task_named(&self, name: &str) -> Option<TaskId>
-        ensures found { result ≡ number_of self.now.names name.now }
+        ensures exact { result ≡ number_of self.now.names name.now }
         ensures within { IfSome result (λ task. task < length self.now.names) }
         ensures kept { IsTable self.now }
     {
@@ -122,7 +129,7 @@ impl Wired {
         ensures { IfOk result (λ holds. HasFirstHolds (wiring_of self.now) holds.items) }
     {
         let _kept = self.tasks();
-        holds_of(alloc, self.lines.as_slice())
+        line_holds(alloc, self.lines.as_slice())
     }
 }
 
@@ -136,10 +143,11 @@ fn hold(task: u16, class: u16, right: PortRight) -> Fact
     }
 }
 
-/// What the lines give. Task and port have one number where the port is the task's kernel port, and so has its class.
-fn holds_of(alloc: Global, lines: &[FirstLine]) -> Result<Vec<Fact>, AllocError>
+/// What the lines give. Task and port have one number where the port is the task's kernel port, and
+/// so has its class.
+fn line_holds(alloc: Global, lines: &[FirstLine]) -> Result<Vec<Fact>, AllocError>
     requires earlier { AreEarlier 0 lines.now }
-    requires few { task_lines lines.now ≤ 64 }
+    requires few { task_lines lines.now ≤ limit_of_tasks }
     ensures { IfOk result (λ holds. holds.items ≡ line_holds 0 lines.now) }
 {
     let mut holds = Vec::new(alloc);

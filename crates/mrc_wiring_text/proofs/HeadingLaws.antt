@@ -1,41 +1,22 @@
 -- What was found as a heading is one, and what is one is found.
-use Rattle.std.proofs.Common.{◌≡◌, ℕ, ◌+◌, ◌≤◌, Bool, true, false, cond, eqb, ltb, ◌&&◌, List, [], ◌∷◌, ◌++◌, length, Option, Some, None, Result, Ok, Err, refl, sym, ap, ◌∙◌, inl, inr, arith}
+use Rattle.std.proofs.Common.{◌≡◌, ℕ, ◌+◌, ◌≤◌, Bool, true, false, cond, eqb, ltb, ◌&&◌, List, []}
+use Rattle.std.proofs.Common.{◌∷◌, ◌++◌, length, Option, Some, None, Result, Ok, Err, refl, sym, ap}
+use Rattle.std.proofs.Common.{◌∙◌, inl, inr, arith}
 use Rattle.std.specs.Prelude.{bytes_eq}
 use Rattle.std.specs.List.{AllByRecursion}
 use Rattle.std.proofs.lemmas.Bool.{cases_Bool, and_parts, eqb-true, eq-eqb, ltb-false, le-ltb}
 use Rattle.std.proofs.lemmas.List.{nil_from_length}
+use Rattle.std.proofs.lemmas.Option.{none-some, same_Some}
 use Rattle.std.proofs.lemmas.Slice.Eq.{bytes_eq-Decides}
+use Rattle.mrc_base.specs.Reading.{◌>>=◌}
+use Rattle.mrc_base.proofs.Steps.{bind_ok, not_stopped, ok_is, err_is_ok}
 use Rattle.mrc_wiring_text.specs.declared.faults.TextFault.{TextFault}
 use Rattle.mrc_wiring_text.specs.declared.faults.TextFault.TheVariants.{Version}
-use Rattle.mrc_wiring_text.specs.declared.reading.TheConstants.{LAST_LINE}
+use Rattle.mrc_base.specs.Limits.{limit_of_lines}
 use Rattle.mrc_wiring_text.specs.Lexis.{words, decimal}
-use Rattle.mrc_wiring_text.specs.Reading.{◌>>=◌, too_far, is_number, version_of, after_version, after_heading, heading}
+use Rattle.mrc_wiring_text.specs.Reading.{too_far, is_number, version_of, after_version}
+use Rattle.mrc_wiring_text.specs.Reading.{after_heading, heading}
 use Rattle.mrc_wiring_text.specs.Texts.{IsWordless, IsHeading}
-
--- the value of a step that did not fail
-pub bind_ok : {A B : Type 0} (r : Result A TextFault) (f : A → Result B TextFault) (y : B) → (r >>= f) ≡ Ok y → (x : A) × (r ≡ Ok x) × (f x ≡ Ok y)
-bind_ok (Ok x) f y e = (x, refl, e)
-bind_ok (Err d) f y e = absurd cc
-
--- a test that did not fail
-pub guard_ok : {A : Type 0} (b : Bool) (d : TextFault) (r : Result A TextFault) (y : A) → cond b (Err d) r ≡ Ok y → (b ≡ false) × (r ≡ Ok y)
-guard_ok true d r y e = absurd cc
-guard_ok false d r y e = (refl, e)
-
-abbrev done : {A : Type 0} → A → Result A TextFault
-done x = Ok x
-
-pub ok_is : {A : Type 0} (x y : A) → done x ≡ done y → x ≡ y
-ok_is x y e = cc
-
-pub err_is_ok : {A P : Type 0} (d : TextFault) (x : A) → Err d ≡ done x → P
-err_is_ok d x e = absurd cc
-
-none_is_some : {A P : Type 0} (x : A) → None ≡ Some x → P
-none_is_some x e = absurd cc
-
-some_is : {A : Type 0} (x y : A) → Some x ≡ Some y → x ≡ y
-some_is x y e = cc
 
 -- the words of a line whose version is 1
 record Names (kind : List ℕ) (ws : List (List ℕ)) (v : ℕ) : Type 0 where
@@ -44,7 +25,9 @@ record Names (kind : List ℕ) (ws : List (List ℕ)) (v : ℕ) : Type 0 where
   digits : is_number number ≡ true
   value : decimal number ≡ v
 
-names_version : (kind : List ℕ) (said : List (List ℕ)) (v : ℕ) → version_of kind said ≡ Some v → Names kind said v
+names_version : (kind : List ℕ) (said : List (List ℕ)) (v : ℕ)
+    → version_of kind said ≡ Some v
+    → Names kind said v
 unfolding version_of
 names_version kind [] v e = absurd cc
 names_version kind (w ∷ []) v e = absurd cc
@@ -56,13 +39,16 @@ names_version kind (w ∷ number ∷ []) v e =
             number = number;
             said = ap (λ k. k ∷ number ∷ []) ((bytes_eq-Decides w kind).0 parts.0);
             digits = parts.1;
-            value = some_is _ _ (sym (ap (λ b. cond b (Some (decimal number)) None) passes) ∙ e);
+            value = same_Some _ _ (sym (ap (λ b. cond b (Some (decimal number)) None) passes) ∙ e);
           }
-      | inr fails ↦ none_is_some v (sym (ap (λ b. cond b (Some (decimal number)) None) fails) ∙ e)
+      | inr fails ↦ absurd (none-some v (sym (ap (λ b. cond b (Some (decimal number)) None) fails)
+          ∙ e))
     ]
 names_version kind (w ∷ number ∷ z ∷ zs) v e = absurd cc
 
-version_named : (kind : List ℕ) (ws : List (List ℕ)) (v : ℕ) → Names kind ws v → version_of kind ws ≡ Some v
+version_named : (kind : List ℕ) (ws : List (List ℕ)) (v : ℕ)
+    → Names kind ws v
+    → version_of kind ws ≡ Some v
 unfolding version_of
 version_named kind ws v named =
     let same : bytes_eq kind kind ≡ true = (bytes_eq-Decides kind kind).1 refl in
@@ -70,11 +56,15 @@ version_named kind ws v named =
 
 -- a line that is taken for a heading
 record Headed (kind line : List ℕ) (n next : ℕ) : Type 0 where
-  within : n ≤ LAST_LINE
+  within : n ≤ limit_of_lines
   heading : IsHeading kind line
   next_is : next ≡ n + 1
 
-headed_by : (kind line : List ℕ) (n : ℕ) (v : Option ℕ) (next : ℕ) → n ≤ LAST_LINE → version_of kind (words line) ≡ v → after_version n v ≡ Ok next → Headed kind line n next
+headed_by : (kind line : List ℕ) (n : ℕ) (v : Option ℕ) (next : ℕ)
+    → n ≤ limit_of_lines
+    → version_of kind (words line) ≡ v
+    → after_version n v ≡ Ok next
+    → Headed kind line n next
 headed_by kind line n None next within named e = absurd cc
 headed_by kind line n (Some v) next within named e =
     elim (cases_Bool (eqb v 1)) [
@@ -82,38 +72,56 @@ headed_by kind line n (Some v) next within named e =
           let names = names_version kind (words line) v named in
           record {
             within = within;
-            heading = record { number = names.number; said = names.said; digits = names.digits; one = names.value ∙ eqb-true v 1 passes };
-            next_is = sym (ok_is _ _ (sym (ap (λ b. cond b (Ok (n + 1)) (Err Version)) passes) ∙ e));
+            heading = record {
+              number = names.number;
+              said = names.said;
+              digits = names.digits;
+              one = names.value ∙ eqb-true v 1 passes;
+            };
+            next_is = sym (ok_is _ _ (sym (ap (λ b. cond b (Ok (n + 1)) (Err Version)) passes)
+                ∙ e));
           }
-      | inr fails ↦ err_is_ok Version next (sym (ap (λ b. cond b (Ok (n + 1)) (Err Version)) fails) ∙ e)
+      | inr fails ↦ err_is_ok Version next (sym (ap (λ b. cond b (Ok (n + 1)) (Err Version)) fails)
+          ∙ e)
     ]
 
-headed : (kind line : List ℕ) (n next : ℕ) → after_heading kind n (words line) ≡ Ok next → Headed kind line n next
+headed : (kind line : List ℕ) (n next : ℕ)
+    → after_heading kind n (words line) ≡ Ok next
+    → Headed kind line n next
 unfolding after_heading
 headed kind line n next e =
-    let g = guard_ok (ltb LAST_LINE n) too_far (after_version n (version_of kind (words line))) next e in
+    let g = not_stopped (ltb limit_of_lines n) too_far
+    (after_version n (version_of kind (words line))) next e in
     headed_by kind line n (version_of kind (words line)) next (ltb-false _ _ g.0) refl g.1
 
-heads : (kind line : List ℕ) (n : ℕ) → n ≤ LAST_LINE → IsHeading kind line → after_heading kind n (words line) ≡ Ok (n + 1)
+heads : (kind line : List ℕ) (n : ℕ)
+    → n ≤ limit_of_lines
+    → IsHeading kind line
+    → after_heading kind n (words line) ≡ Ok (n + 1)
 unfolding after_heading
 heads kind line n within is =
-    let named = version_named kind (words line) (decimal is.number) (record { number = is.number; said = is.said; digits = is.digits; value = refl }) in
-    rw (le-ltb LAST_LINE n within, named, eq-eqb _ _ is.one) refl
+    let named = version_named kind (words line) (decimal is.number)
+    (record { number = is.number; said = is.said; digits = is.digits; value = refl }) in
+    rw (le-ltb limit_of_lines n within, named, eq-eqb _ _ is.one) refl
 
 -- the lines before a heading, and the heading
-pub record Found (kind : List ℕ) (n : ℕ) (ls : List (List ℕ)) (next : ℕ) (rest : List (List ℕ)) : Type 0 where
+pub record Found (kind : List ℕ) (n : ℕ) (ls : List (List ℕ)) (next : ℕ) (rest : List (List ℕ)) :
+    Type 0 where
   pub before : List (List ℕ)
   pub head : List ℕ
   pub parts : ls ≡ before ++ head ∷ rest
   pub wordless : AllByRecursion IsWordless before
   pub heading : IsHeading kind head
   pub next_is : next ≡ n + length before + 1
-  pub few : n + length before ≤ LAST_LINE
+  pub few : n + length before ≤ limit_of_lines
 
 abbrev with_rest : List (List ℕ) → ℕ → Result (ℕ × List (List ℕ)) TextFault
 with_rest rest m = Ok (m, rest)
 
-found_here : (kind : List ℕ) (n : ℕ) (line : List ℕ) (ls : List (List ℕ)) (next : ℕ) (rest : List (List ℕ)) → (after_heading kind n (words line) >>= with_rest ls) ≡ Ok (next, rest) → Found kind n (line ∷ ls) next rest
+found_here : (kind : List ℕ) (n : ℕ) (line : List ℕ) (ls : List (List ℕ)) (next : ℕ)
+    (rest : List (List ℕ))
+    → (after_heading kind n (words line) >>= with_rest ls) ≡ Ok (next, rest)
+    → Found kind n (line ∷ ls) next rest
 found_here kind n line ls next rest e =
     let step = bind_ok (after_heading kind n (words line)) (with_rest ls) (next, rest) e in
     let here = headed kind line n step.0 step.1 in
@@ -128,7 +136,11 @@ found_here kind n line ls next rest e =
       few = omega (arith, here.within);
     }
 
-found_later : (kind : List ℕ) (n : ℕ) (line : List ℕ) (ls : List (List ℕ)) (next : ℕ) (rest : List (List ℕ)) → words line ≡ [] → Found kind (n + 1) ls next rest → Found kind n (line ∷ ls) next rest
+found_later : (kind : List ℕ) (n : ℕ) (line : List ℕ) (ls : List (List ℕ)) (next : ℕ)
+    (rest : List (List ℕ))
+    → words line ≡ []
+    → Found kind (n + 1) ls next rest
+    → Found kind n (line ∷ ls) next rest
 found_later kind n line ls next rest none found =
     record {
       before = line ∷ found.before;
@@ -141,18 +153,27 @@ found_later kind n line ls next rest none found =
     }
 
 -- what was found is a heading
-pub heading_found : (kind : List ℕ) (n : ℕ) (ls : List (List ℕ)) (next : ℕ) (rest : List (List ℕ)) → heading kind n ls ≡ Ok (next, rest) → Found kind n ls next rest
+pub heading_found : (kind : List ℕ) (n : ℕ) (ls : List (List ℕ)) (next : ℕ) (rest : List (List ℕ))
+    → heading kind n ls ≡ Ok (next, rest)
+    → Found kind n ls next rest
 unfolding heading
 heading_found kind n [] next rest e = absurd cc
 heading_found kind n (line ∷ ls) next rest e =
-    let choose : (b : Bool) → Result (ℕ × List (List ℕ)) TextFault = λ b. cond b (heading kind (n + 1) ls) (after_heading kind n (words line) >>= with_rest ls) in
+    let choose : (b : Bool) → Result (ℕ × List (List ℕ)) TextFault = λ b. cond b
+    (heading kind (n + 1) ls) (after_heading kind n (words line) >>= with_rest ls) in
     elim (cases_Bool (eqb (length (words line)) 0)) [
-      | inl passes ↦ found_later kind n line ls next rest (nil_from_length (words line) (eqb-true _ _ passes)) (heading_found kind (n + 1) ls next rest (sym (ap choose passes) ∙ e))
+      | inl passes ↦ found_later kind n line ls next rest
+          (nil_from_length (words line) (eqb-true _ _ passes))
+          (heading_found kind (n + 1) ls next rest (sym (ap choose passes) ∙ e))
       | inr fails ↦ found_here kind n line ls next rest (sym (ap choose fails) ∙ e)
     ]
 
 -- what is a heading is found
-pub heading_finds : (kind : List ℕ) (n : ℕ) (before : List (List ℕ)) (head : List ℕ) (rest : List (List ℕ)) → AllByRecursion IsWordless before → IsHeading kind head → n + length before ≤ LAST_LINE
+pub heading_finds : (kind : List ℕ) (n : ℕ) (before : List (List ℕ)) (head : List ℕ)
+    (rest : List (List ℕ))
+    → AllByRecursion IsWordless before
+    → IsHeading kind head
+    → n + length before ≤ limit_of_lines
     → heading kind n (before ++ head ∷ rest) ≡ Ok (n + length before + 1, rest)
 unfolding heading
 heading_finds kind n [] head rest none is few =
@@ -160,4 +181,5 @@ heading_finds kind n [] head rest none is few =
     rw (filled, heads kind head n (omega arith) is) (ap (λ (k : ℕ). Ok (k, rest)) (omega arith))
 heading_finds kind n (line ∷ before) head rest none is few =
     let blank : eqb (length (words line)) 0 ≡ true = rw none.0 refl in
-    rw blank (heading_finds kind (n + 1) before head rest none.1 is (omega arith) ∙ ap (λ (k : ℕ). Ok (k, rest)) (omega arith))
+    rw blank (heading_finds kind (n + 1) before head rest none.1 is (omega arith)
+    ∙ ap (λ (k : ℕ). Ok (k, rest)) (omega arith))

@@ -1,5 +1,6 @@
 -- How a text falls into lines, and a line into words. This grammar is this profile's own choice.
-use Rattle.std.specs.Prelude.{ℕ, ◌+◌, ◌-◌, ◌*◌, Bool, ◌==◌, ◌||◌, not, List, [], ◌∷◌, length, filter, fold, if◌then◌else◌}
+use Rattle.std.specs.Prelude.{ℕ, ◌+◌, ◌-◌, ◌*◌, Bool, ◌==◌, ◌||◌, not, List, [], ◌∷◌, length}
+use Rattle.std.specs.Prelude.{filter, fold, if◌then◌else◌}
 use Rattle.std.specs.List.{onto_first, slice_split, before_first}
 
 -- the lines of a text: a line feed ends one, and the last may lack it
@@ -15,6 +16,7 @@ is_blank b = b == 32 || b == 9 || b == 13
 abbrev pub is_hash : ℕ → Bool
 is_hash b = b == 35
 
+-- whether a word has any byte
 abbrev pub is_filled : List ℕ → Bool
 is_filled word = not (length word == 0)
 

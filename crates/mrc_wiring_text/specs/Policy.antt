@@ -1,5 +1,7 @@
--- What the lines of a policy say: the rights that a task must never hold. The grammar is this profile's own choice.
-use Rattle.std.specs.Prelude.{ℕ, bytes_eq, codes, List, [], ◌∷◌, Option, Some, None, Result, if◌then◌else◌}
+-- What the lines of a policy say: the rights that a task must never hold. The grammar is this
+-- profile's own choice.
+use Rattle.std.specs.Prelude.{ℕ, bytes_eq, codes, List, [], ◌∷◌, Option, Some, None, Result}
+use Rattle.std.specs.Prelude.{if◌then◌else◌}
 use Rattle.mrc_base.specs.declared.PortRight.{PortRight}
 use Rattle.mrc_base.specs.declared.PortRight.TheVariants.{Send, Receive, SendOnce}
 use Rattle.mrc_wiring_text.specs.declared.faults.TextFault.{TextFault}
@@ -17,6 +19,7 @@ right_of word =
     else (if bytes_eq word (codes "receive") then Some Receive
     else (if bytes_eq word (codes "once") then Some SendOnce else None))
 
+-- the class of a kind, where there is a name
 abbrev pub named : (List ℕ → ClassName) → Option (List ℕ) → Option ClassName
 named kind (Some name) = Some (kind name)
 named kind None = None
@@ -30,13 +33,15 @@ class_of kind name =
 
 -- `forbid T RIGHT CLASS`
 abbrev pub forbid_line : Option (List ℕ) → Option PortRight → Option ClassName → Option Forbid
-forbid_line (Some task) (Some right) (Some class) = Some (record { task = task; right = right; class = class })
+forbid_line (Some task) (Some right) (Some class) =
+    Some (record { task = task; right = right; class = class })
 forbid_line _ _ _ = None
 
 -- what the words of a line say
 unfoldable pub policy_says : List (List ℕ) → Option Forbid
 policy_says (key ∷ task ∷ right ∷ kind ∷ name ∷ []) =
-    if bytes_eq key (codes "forbid") then forbid_line (name_of task) (right_of right) (class_of kind name) else None
+    if bytes_eq key (codes "forbid") then forbid_line (name_of task) (right_of right)
+    (class_of kind name) else None
 policy_says words = None
 
 -- what a policy says

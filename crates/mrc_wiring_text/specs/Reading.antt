@@ -1,32 +1,21 @@
--- What a text of lines means: the lines that say something, each with its number, or the first fault.
--- Both kinds of text begin with a line that names the kind and version 1. This grammar is this profile's own choice.
-use Rattle.std.specs.Prelude.{◌≡◌, ℕ, ◌+◌, Bool, ◌==◌, ◌&&◌, not, nat_lt, bytes_eq, List, [], ◌∷◌, length, Option, Some, None, Result, Ok, Err, if◌then◌else◌}
+-- What a text of lines means: the lines that say something, each with its number, or the first
+-- fault. Both kinds of text begin with a line that names the kind and version 1. This grammar is
+-- this profile's own choice.
+use Rattle.std.specs.Prelude.{ℕ, ◌+◌, Bool, ◌==◌, ◌&&◌, not, nat_lt, bytes_eq, List, [], ◌∷◌}
+use Rattle.std.specs.Prelude.{length, Option, Some, None, Result, Ok, Err, if◌then◌else◌}
 use Rattle.std.specs.Char.{is_ascii_digit}
 use Rattle.std.specs.List.{list_all}
 use Rattle.std.specs.Str.{is_utf8}
-use Rattle.mrc_wiring_text.specs.declared.reading.TheConstants.{LAST_LINE}
+use Rattle.mrc_base.specs.Limits.{limit_of_lines}
+use Rattle.mrc_base.specs.Reading.{◌>>=◌}
 use Rattle.mrc_wiring_text.specs.declared.faults.TextFault.{TextFault}
-use Rattle.mrc_wiring_text.specs.declared.faults.TextFault.TheVariants.{NotUtf8, BadLine, Version, Memory}
+use Rattle.mrc_wiring_text.specs.declared.faults.TextFault.TheVariants.{NotUtf8, BadLine, Version}
 use Rattle.mrc_wiring_text.specs.declared.reading.Line.{Line}
 use Rattle.mrc_wiring_text.specs.Lexis.{lines, words, decimal}
 
-infixl 10 ◌>>=◌
-abbrev pub ◌>>=◌ : {A B : Type 0} → Result A TextFault → (A → Result B TextFault) → Result B TextFault
-(Ok x) >>= f = f x
-(Err e) >>= f = Err e
-
--- What a reader returned, seen by view, is what reading gives, unless memory ran out.
-abbrev pub Fails : {Y : Type 0} → TextFault → Result Y TextFault → Type 0
-Fails Memory read = Unit {0}
-Fails fault read = read ≡ Err fault
-
-abbrev pub Gives : {X Y : Type 0} → (X → Y) → Result X TextFault → Result Y TextFault → Type 0
-Gives view (Ok x) read = read ≡ Ok (view x)
-Gives view (Err e) read = Fails e read
-
 -- a line past the last that a text may have
 abbrev pub too_far : TextFault
-too_far = BadLine (LAST_LINE + 1)
+too_far = BadLine (limit_of_lines + 1)
 
 -- decimal digits, at least one
 abbrev pub is_number : List ℕ → Bool
@@ -34,7 +23,8 @@ is_number word = not (length word == 0) && list_all is_ascii_digit word
 
 -- the version that the words of a first line name
 unfoldable pub version_of : List ℕ → List (List ℕ) → Option ℕ
-version_of kind (word ∷ number ∷ []) = if bytes_eq word kind && is_number number then Some (decimal number) else None
+version_of kind (word ∷ number ∷ []) =
+    if bytes_eq word kind && is_number number then Some (decimal number) else None
 version_of kind words = None
 
 -- the number of the line after a first line, which names version 1
@@ -42,13 +32,17 @@ abbrev pub after_version : ℕ → Option ℕ → Result ℕ TextFault
 after_version n None = Err (BadLine n)
 after_version n (Some version) = if version == 1 then Ok (n + 1) else Err Version
 
+-- the same, of the words of that line, unless it stands past the last line that a text may have
 unfoldable pub after_heading : List ℕ → ℕ → List (List ℕ) → Result ℕ TextFault
-after_heading kind n words = if nat_lt LAST_LINE n then Err too_far else after_version n (version_of kind words)
+after_heading kind n words =
+    if nat_lt limit_of_lines n then Err too_far else after_version n (version_of kind words)
 
 -- past the first line that has words: the number of the next line, and the lines from there on
 unfoldable pub heading : List ℕ → ℕ → List (List ℕ) → Result (ℕ × List (List ℕ)) TextFault
 heading kind n [] = Err (BadLine 1)
-heading kind n (line ∷ rest) = if length (words line) == 0 then heading kind (n + 1) rest else after_heading kind n (words line) >>= λ next. Ok (next, rest)
+heading kind n (line ∷ rest) =
+    if length (words line) == 0 then heading kind (n + 1) rest
+    else after_heading kind n (words line) >>= λ next. Ok (next, rest)
 
 -- what words say, where they say something
 abbrev pub or_bad : {S : Type 0} → ℕ → Option S → Result (Option S) TextFault
@@ -56,16 +50,20 @@ or_bad n None = Err (BadLine n)
 or_bad n (Some says) = Ok (Some says)
 
 -- what a line says, if it has words
-unfoldable pub line_of : {S : Type 0} → (List (List ℕ) → Option S) → ℕ → List ℕ → Result (Option S) TextFault
+unfoldable pub line_of : {S : Type 0} → (List (List ℕ) → Option S) → ℕ → List ℕ
+    → Result (Option S) TextFault
 line_of meaning n line =
-    if nat_lt LAST_LINE n then Err too_far else (if length (words line) == 0 then Ok None else or_bad n (meaning (words line)))
+    if nat_lt limit_of_lines n then Err too_far
+    else (if length (words line) == 0 then Ok None else or_bad n (meaning (words line)))
 
+-- what a line says, if anything, before what the others say
 abbrev pub onto : {S : Type 0} → ℕ → Option S → List (Line S) → List (Line S)
 onto n None others = others
 onto n (Some says) others = record { number = n; says = says } ∷ others
 
 -- what lines say, the first of which has this number
-unfoldable pub body : {S : Type 0} → (List (List ℕ) → Option S) → ℕ → List (List ℕ) → Result (List (Line S)) TextFault
+unfoldable pub body : {S : Type 0} → (List (List ℕ) → Option S) → ℕ → List (List ℕ)
+    → Result (List (Line S)) TextFault
 body meaning n [] = Ok []
 body meaning n (line ∷ rest) = do
   says ← line_of meaning n line
@@ -77,7 +75,8 @@ unfoldable pub utf8_text : List ℕ → Result (List ℕ) TextFault
 utf8_text bytes = if is_utf8 bytes then Ok bytes else Err NotUtf8
 
 -- what a text of a kind says, given what words say
-unfoldable pub text_of : {S : Type 0} → List ℕ → (List (List ℕ) → Option S) → List ℕ → Result (List (Line S)) TextFault
+unfoldable pub text_of : {S : Type 0} → List ℕ → (List (List ℕ) → Option S) → List ℕ
+    → Result (List (Line S)) TextFault
 text_of kind meaning bytes = do
   text ← utf8_text bytes
   start ← heading kind 1 (lines text)

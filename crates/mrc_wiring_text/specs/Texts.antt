@@ -1,9 +1,10 @@
--- What a text is, apart from how it is read: lines without words, a heading, and lines that each say
--- something or have no words. This grammar is this profile's own choice.
-use Rattle.std.specs.Prelude.{◌≡◌, ◌≢◌, ℕ, ◌+◌, ◌≤◌, ◌⊎◌, IsTrue, List, [], ◌∷◌, ◌++◌, length, codes, Option, Some}
+-- What a text is, apart from how it is read: lines without words, a heading, and lines that each
+-- say something or have no words. This grammar is this profile's own choice.
+use Rattle.std.specs.Prelude.{◌≡◌, ◌≢◌, ℕ, ◌+◌, ◌≤◌, ◌⊎◌, IsTrue, List, [], ◌∷◌, ◌++◌, length}
+use Rattle.std.specs.Prelude.{codes, Option, Some}
 use Rattle.std.specs.List.{AllByRecursion}
 use Rattle.std.specs.Str.{IsUtf8}
-use Rattle.mrc_wiring_text.specs.declared.reading.TheConstants.{LAST_LINE}
+use Rattle.mrc_base.specs.Limits.{limit_of_lines}
 use Rattle.mrc_wiring_text.specs.declared.reading.Line.{Line}
 use Rattle.mrc_wiring_text.specs.declared.wiring.WiringSays.{WiringSays}
 use Rattle.mrc_wiring_text.specs.declared.policy.Forbid.{Forbid}
@@ -24,16 +25,19 @@ pub record IsHeading (kind line : List ℕ) : Type 0 where
   pub one : decimal number ≡ 1
 
 -- lines, the first of which has number n, and what those with words say
-abbrev pub Say : {S : Type 0} → (List (List ℕ) → Option S) → ℕ → List (List ℕ) → List (Line S) → Type 0
+abbrev pub Say : {S : Type 0} → (List (List ℕ) → Option S) → ℕ → List (List ℕ) → List (Line S)
+    → Type 0
 Say meaning n [] says = says ≡ []
 Say {S} meaning n (line ∷ rest) says =
     (IsWordless line × Say meaning (n + 1) rest says)
-    ⊎ ((s : S) × (others : List (Line S)) × (words line ≢ []) × (meaning (words line) ≡ Some s) × (says ≡ record { number = n; says = s } ∷ others) × Say meaning (n + 1) rest others)
+    ⊎ ((s : S) × (others : List (Line S)) × (words line ≢ []) × (meaning (words line) ≡ Some s)
+    × (says ≡ record { number = n; says = s } ∷ others) × Say meaning (n + 1) rest others)
 
 -- bytes that are a text of a kind, and what it says
-pub record IsText {S : Type 0} (kind : List ℕ) (meaning : List (List ℕ) → Option S) (bytes : List ℕ) (says : List (Line S)) : Type 0 where
+pub record IsText {S : Type 0} (kind : List ℕ) (meaning : List (List ℕ) → Option S) (bytes : List ℕ)
+    (says : List (Line S)) : Type 0 where
   pub utf8 : IsUtf8 bytes
-  pub few : length (lines bytes) ≤ LAST_LINE
+  pub few : length (lines bytes) ≤ limit_of_lines
   pub before : List (List ℕ)
   pub head : List ℕ
   pub after : List (List ℕ)

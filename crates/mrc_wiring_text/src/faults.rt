@@ -1,9 +1,5 @@
 //! Why a text has no meaning.
 
-ghost use Rattle.std.specs.Prelude.{◌≡◌};
-ghost use Rattle.mrc_wiring_text.specs.declared.faults.TextFault.TheVariants.{Memory};
-
-use std::alloc::{AllocError, AllocFailed};
 use thiserror::Error;
 
 /// Why a wiring or a policy could not be read: the first fault of the text.
@@ -18,23 +14,4 @@ pub enum TextFault {
     /// The first line with words names another version than 1.
     #[error("Version")]
     Version,
-    /// Memory ran out.
-    #[error("Memory")]
-    Memory,
-}
-
-impl From<AllocError> for TextFault {
-    ghost from_gives = { λ _ e. e ≡ Memory };
-
-    fn from(_e: AllocError) -> TextFault {
-        TextFault::Memory
-    }
-}
-
-impl<T: Drop> From<AllocFailed<T>> for TextFault {
-    ghost from_gives = { λ _ e. e ≡ Memory };
-
-    fn from(_e: AllocFailed<T>) -> TextFault {
-        TextFault::Memory
-    }
 }

@@ -45,7 +45,7 @@ fn before_comment(line: &[u8]) -> &[u8]
 
 /// The words of a line.
 pub(crate) fn words(alloc: Global, line: &[u8]) -> Result<Vec<&[u8]>, AllocError>
-    ensures found { IfOk result (λ found. map (λ word. word.now) found.items ≡ words line.now) }
+    ensures exact { IfOk result (λ found. map (λ word. word.now) found.items ≡ words line.now) }
     ensures count { IfOk result (λ found. vec_len found ≡ length (words line.now)) }
 {
     before_comment(line)

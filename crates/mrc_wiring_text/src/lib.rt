@@ -1,5 +1,5 @@
-//! The texts that name a system: the wiring, which says what tasks there are and what they hold at first,
-//! and the policy, which says what they must never hold. Read line by line, as bytes.
+//! The texts that name a system: the wiring, which says what tasks there are and what they hold at
+//! first, and the policy, which says what they must never hold. Read line by line, as bytes.
 #![tactic(auto)]
 
 mod faults;

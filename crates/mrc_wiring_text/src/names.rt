@@ -4,11 +4,13 @@ ghost use Rattle.std.specs.Prelude.{◌≡◌, ℕ, List, IsTrue, IfOk};
 ghost use Rattle.std.specs.List.{list_all};
 ghost use Rattle.mrc_wiring_text.specs.Names.{is_letter, is_name_byte, is_name, name_of};
 
+use mrc_base::limits::NAME;
 use std::alloc::{AllocError, Global};
 use std::marker::Model;
 use std::str;
 
-/// A name of a task or a port: a letter or `_`, then letters, digits and `_`, at most 64 bytes.
+/// A name of a task or a port: a letter or `_`, then letters, digits and `_`, no more bytes
+/// than a name may have.
 #[derive(Debug, Drop)]
 pub struct Name {
     text: String,
@@ -49,7 +51,7 @@ fn is_name(word: &[u8]) -> bool
 {
     match word.split_first() {
         Some((first, others)) => {
-            is_letter(*first) && others.len() < 64 && are_name_bytes(others)
+            is_letter(*first) && others.len() < NAME && are_name_bytes(others)
         }
         None => false,
     }
@@ -71,8 +73,8 @@ impl Name {
 
     /// The name as a text.
     pub fn as_str(&self) -> &str
-        ensures name { IsTrue (is_name self.now) }
-        ensures text { result.now ≡ self.now }
+        ensures kept { IsTrue (is_name self.now) }
+        ensures exact { result.now ≡ self.now }
     {
         self.text.as_str()
     }

@@ -4,16 +4,16 @@ ghost use Rattle.std.specs.Prelude.{◌≡◌, ◌≢◌, List, IfOk, Ok, Err};
 ghost use Rattle.std.specs.Str.{IsUtf8};
 ghost use Rattle.mrc_wiring_text.specs.declared.reading.Line.{Line};
 ghost use Rattle.mrc_wiring_text.specs.declared.policy.Forbid.{Forbid};
-ghost use Rattle.mrc_wiring_text.specs.Reading.{Gives};
+ghost use Rattle.mrc_base.specs.Reading.{Gives};
 ghost use Rattle.mrc_wiring_text.specs.Texts.{IsPolicy};
-ghost use Rattle.mrc_wiring_text.specs.Policy.{right_of, named, class_of, forbid_line, policy_says, policy_of};
-ghost use Rattle.mrc_wiring_text.specs.Names.{name_of};
+ghost use Rattle.mrc_wiring_text.specs.Policy.{right_of, class_of, forbid_line, policy_says};
+ghost use Rattle.mrc_wiring_text.specs.Policy.{policy_of};
 
 use crate::faults::TextFault;
 use crate::lexis::is_word;
 use crate::names::Name;
 use crate::reading::{Line, Statement, text_of};
-use mrc_base::PortRight;
+use mrc_base::{OrMemory, PortRight};
 use std::alloc::{AllocError, Global};
 
 /// A class of ports, by the names of a wiring.
@@ -27,7 +27,8 @@ pub enum ClassName {
     Births(Name),
 }
 
-/// What a line of a policy says, `forbid T RIGHT CLASS`: T must never hold the right on a port of the class.
+/// What a line of a policy says, `forbid T RIGHT CLASS`: T must never hold the right on a port of
+/// the class.
 #[derive(Debug, Drop)]
 pub struct Forbid {
     /// T.
@@ -71,7 +72,11 @@ fn class_of(alloc: Global, kind: &[u8], name: &[u8]) -> Result<Option<ClassName>
     }
 }
 
-fn whole(task: Option<Name>, right: Option<PortRight>, class: Option<ClassName>) -> Option<Forbid>
+fn forbid_line(
+    task: Option<Name>,
+    right: Option<PortRight>,
+    class: Option<ClassName>,
+) -> Option<Forbid>
     ensures { result ≡ forbid_line task right class }
 {
     match (task, right, class) {
@@ -89,31 +94,32 @@ impl Statement for Forbid {
             [key, task, right, kind, name] if is_word(key, "forbid") => {
                 let task = Name::new(alloc, task)?;
                 let class = class_of(alloc, kind, name)?;
-                Ok(whole(task, right_of(right), class))
+                Ok(forbid_line(task, right_of(right), class))
             }
             _ => Ok(None),
         }
     }
 }
 
-fn policy_lines(alloc: Global, bytes: &[u8]) -> Result<Vec<PolicyLine>, TextFault>
-    ensures said { Gives (λ lines. lines.items) result (policy_of bytes.now) }
-    ensures no_text { ¬ (IsUtf8 bytes.now) → result ≡ Err TextFault.NotUtf8 }
+fn policy_of(alloc: Global, bytes: &[u8]) -> Result<Vec<PolicyLine>, OrMemory<TextFault>>
+    ensures fault { Gives (λ lines. lines.items) result (policy_of bytes.now) }
+    ensures no_text { ¬ (IsUtf8 bytes.now) → result ≡ Err (OrMemory.Fault TextFault.NotUtf8) }
 {
     text_of(alloc, "policy", bytes)
 }
 
 /// Reads a policy: its lines that say something, in order, or the first fault.
-pub fn read_policy(alloc: Global, bytes: &[u8]) -> Result<Vec<PolicyLine>, TextFault>
+pub fn read_policy(alloc: Global, bytes: &[u8]) -> Result<Vec<PolicyLine>, OrMemory<TextFault>>
     // What is read is said by a text of this grammar.
     ensures found { IfOk result (λ lines. IsPolicy bytes.now lines.items) }
     // What a text of this grammar says is read, unless memory runs out.
-    ensures only { (says : List (Line Forbid)) → IsPolicy bytes.now says → Gives (λ lines. lines.items) result (Ok says) }
+    ensures only { (says : List (Line Forbid)) → IsPolicy bytes.now says →
+        Gives (λ lines. lines.items) result (Ok says) }
     // `NotUtf8` is told of bytes that are no text, and of no others.
-    ensures no_text { ¬ (IsUtf8 bytes.now) → result ≡ Err TextFault.NotUtf8 }
-    ensures text { IsUtf8 bytes.now → result ≢ Err TextFault.NotUtf8 }
+    ensures no_text { ¬ (IsUtf8 bytes.now) → result ≡ Err (OrMemory.Fault TextFault.NotUtf8) }
+    ensures text { IsUtf8 bytes.now → result ≢ Err (OrMemory.Fault TextFault.NotUtf8) }
     // Which fault it is: the first.
-    ensures exact { Gives (λ lines. lines.items) result (policy_of bytes.now) }
+    ensures fault { Gives (λ lines. lines.items) result (policy_of bytes.now) }
 {
-    policy_lines(alloc, bytes)
+    policy_of(alloc, bytes)
 }

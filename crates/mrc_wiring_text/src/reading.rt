@@ -1,20 +1,22 @@
 //! Texts of lines: what they have in common.
 
-ghost use Rattle.std.specs.Prelude.{◌≡◌, ◌+◌, ◌≤◌, ◌==◌, ℕ, Bool, List, length, map, Option, Err, IfOk, OnOk, IsTrue};
+ghost use Rattle.std.specs.Prelude.{◌≡◌, ◌+◌, ◌≤◌, ◌==◌, ℕ, List, map, Option, Err, IfOk, OnOk};
 ghost use Rattle.std.specs.Str.{IsUtf8};
 ghost use Rattle.std.specs.List.{list_all};
 ghost use Rattle.std.specs.Char.{is_ascii_digit};
 ghost use Rattle.std.specs.Option.{option_map};
+ghost use Rattle.mrc_base.specs.Limits.{limit_of_lines};
+ghost use Rattle.mrc_base.specs.Reading.{Gives};
 ghost use Rattle.mrc_wiring_text.specs.Lexis.{lines, words, decimal};
-ghost use Rattle.mrc_wiring_text.specs.Reading.{Gives, is_number, version_of, after_heading, heading, line_of, body, utf8_text, text_of};
+ghost use Rattle.mrc_wiring_text.specs.Reading.{is_number, version_of, after_heading, heading};
+ghost use Rattle.mrc_wiring_text.specs.Reading.{line_of, body, utf8_text, text_of};
 
 use crate::faults::TextFault;
 use crate::lexis::{first_line, is_word, words};
+use mrc_base::OrMemory;
+use mrc_base::limits::LINES;
 use std::alloc::{AllocError, Global};
 use std::str;
-
-/// The number of the last line that a text may have. Not a character may stand after its line feed.
-pub const LAST_LINE: u32 = 65_535;
 
 /// A line of a text that says something.
 #[derive(Debug, Drop)]
@@ -61,7 +63,8 @@ fn is_number(word: &[u8]) -> bool
 /// Whether the words of a first line name version 1: `None` where they name no version at all.
 #[tactic(auto, unfolding(crate::specs::Reading::version_of))]
 fn is_first_version(kind: &str, words: &[&[u8]]) -> Option<bool>
-    ensures { result ≡ option_map (λ version. version == 1) (version_of kind.now (map (λ word. word.now) words.now)) }
+    ensures { result ≡ option_map (λ version. version == 1)
+        (version_of kind.now (map (λ word. word.now) words.now)) }
 {
     match *words {
         [word, number] if is_word(word, kind) && is_number(number) => Some(is_one(number)),
@@ -71,24 +74,31 @@ fn is_first_version(kind: &str, words: &[&[u8]]) -> Option<bool>
 
 /// The number of the line after a first line with these words.
 #[tactic(auto, unfolding(crate::specs::Reading::after_heading))]
-fn after_heading(kind: &str, number: usize, words: &[&[u8]]) -> Result<u32, TextFault>
-    ensures next { Gives (λ next. next) result (after_heading kind.now number (map (λ word. word.now) words.now)) }
-    ensures within { IfOk result (λ next. next ≤ LAST_LINE + 1) }
+fn after_heading(kind: &str, number: usize, words: &[&[u8]]) -> Result<u32, OrMemory<TextFault>>
+    ensures fault { Gives (λ next. next) result
+        (after_heading kind.now number (map (λ word. word.now) words.now)) }
+    ensures within { IfOk result (λ next. next ≤ limit_of_lines + 1) }
 {
-    if number > LAST_LINE as usize {
-        return Err(TextFault::BadLine(LAST_LINE + 1));
+    if number > LINES as usize {
+        return Err(OrMemory::Fault(TextFault::BadLine(LINES + 1)));
     }
     match is_first_version(kind, words) {
-        None => Err(TextFault::BadLine(number as u32)),
-        Some(false) => Err(TextFault::Version),
+        None => Err(OrMemory::Fault(TextFault::BadLine(number as u32))),
+        Some(false) => Err(OrMemory::Fault(TextFault::Version)),
         Some(true) => Ok(number as u32 + 1),
     }
 }
 
-/// Goes past the first line that has words: the number of the next line, and the text from there on.
-fn heading<'a>(alloc: Global, kind: &str, text: &'a [u8]) -> Result<(u32, &'a [u8]), TextFault>
-    ensures start { Gives (λ start. (start.0, lines start.1.now)) result (heading kind.now 1 (lines text.now)) }
-    ensures within { IfOk result (λ start. start.0 ≤ LAST_LINE + 1) }
+/// Goes past the first line that has words: the number of the next line, and the text from there
+/// on.
+fn heading<'a>(
+    alloc: Global,
+    kind: &str,
+    text: &'a [u8],
+) -> Result<(u32, &'a [u8]), OrMemory<TextFault>>
+    ensures fault { Gives (λ start. (start.0, lines start.1.now)) result
+        (heading kind.now 1 (lines text.now)) }
+    ensures within { IfOk result (λ start. start.0 ≤ limit_of_lines + 1) }
 {
     let mut rest = text;
     let mut before = 0usize;
@@ -102,17 +112,21 @@ fn heading<'a>(alloc: Global, kind: &str, text: &'a [u8]) -> Result<(u32, &'a [u
         before += 1;
         rest = after;
     }
-    Err(TextFault::BadLine(1))
+    Err(OrMemory::Fault(TextFault::BadLine(1)))
 }
 
 /// What a line says, if it has words.
 #[tactic(auto, unfolding(crate::specs::Reading::line_of))]
-fn said_by<S: Statement>(alloc: Global, number: u32, line: &[u8]) -> Result<Option<S>, TextFault>
-    ensures says { Gives (λ says. says) result (line_of S.meaning number line.now) }
-    ensures within { OnOk result (number ≤ LAST_LINE) }
+fn line_of<S: Statement>(
+    alloc: Global,
+    number: u32,
+    line: &[u8],
+) -> Result<Option<S>, OrMemory<TextFault>>
+    ensures fault { Gives (λ says. says) result (line_of S.meaning number line.now) }
+    ensures within { OnOk result (number ≤ limit_of_lines) }
 {
-    if number > LAST_LINE {
-        return Err(TextFault::BadLine(LAST_LINE + 1));
+    if number > LINES {
+        return Err(OrMemory::Fault(TextFault::BadLine(LINES + 1)));
     }
     let said = words(alloc, line)?;
     if said.is_empty() {
@@ -120,13 +134,17 @@ fn said_by<S: Statement>(alloc: Global, number: u32, line: &[u8]) -> Result<Opti
     }
     match S::read(alloc, &said)? {
         Some(says) => Ok(Some(says)),
-        None => Err(TextFault::BadLine(number)),
+        None => Err(OrMemory::Fault(TextFault::BadLine(number))),
     }
 }
 
 /// What the lines of a text say, the first of which has this number.
-fn body<S: Statement>(alloc: Global, first: u32, text: &[u8]) -> Result<Vec<Line<S>>, TextFault>
-    requires { first ≤ LAST_LINE + 1 }
+fn body<S: Statement>(
+    alloc: Global,
+    first: u32,
+    text: &[u8],
+) -> Result<Vec<Line<S>>, OrMemory<TextFault>>
+    requires { first ≤ limit_of_lines + 1 }
     ensures { Gives (λ said. said.items) result (body S.meaning first (lines text.now)) }
 {
     let mut said = Vec::new(alloc);
@@ -134,7 +152,7 @@ fn body<S: Statement>(alloc: Global, first: u32, text: &[u8]) -> Result<Vec<Line
     let mut number = first;
     while !rest.is_empty() {
         let (line, after) = first_line(rest);
-        if let Some(says) = said_by::<S>(alloc, number, line)? {
+        if let Some(says) = line_of::<S>(alloc, number, line)? {
             said.push(Line { number, says })?;
         }
         number += 1;
@@ -145,13 +163,13 @@ fn body<S: Statement>(alloc: Global, first: u32, text: &[u8]) -> Result<Vec<Line
 
 /// Bytes that are a text.
 #[tactic(auto, unfolding(crate::specs::Reading::utf8_text))]
-fn utf8_text(bytes: &[u8]) -> Result<&[u8], TextFault>
-    ensures text { Gives (λ text. text.now) result (utf8_text bytes.now) }
-    ensures no_text { ¬ (IsUtf8 bytes.now) → result ≡ Err TextFault.NotUtf8 }
+fn utf8_text(bytes: &[u8]) -> Result<&[u8], OrMemory<TextFault>>
+    ensures fault { Gives (λ text. text.now) result (utf8_text bytes.now) }
+    ensures no_text { ¬ (IsUtf8 bytes.now) → result ≡ Err (OrMemory.Fault TextFault.NotUtf8) }
 {
     match str::from_utf8(bytes) {
         Ok(text) => Ok(text.as_bytes()),
-        Err(_) => Err(TextFault::NotUtf8),
+        Err(_) => Err(OrMemory::Fault(TextFault::NotUtf8)),
     }
 }
 
@@ -161,9 +179,9 @@ pub(crate) fn text_of<S: Statement>(
     alloc: Global,
     kind: &str,
     bytes: &[u8],
-) -> Result<Vec<Line<S>>, TextFault>
-    ensures said { Gives (λ said. said.items) result (text_of kind.now S.meaning bytes.now) }
-    ensures no_text { ¬ (IsUtf8 bytes.now) → result ≡ Err TextFault.NotUtf8 }
+) -> Result<Vec<Line<S>>, OrMemory<TextFault>>
+    ensures fault { Gives (λ said. said.items) result (text_of kind.now S.meaning bytes.now) }
+    ensures no_text { ¬ (IsUtf8 bytes.now) → result ≡ Err (OrMemory.Fault TextFault.NotUtf8) }
 {
     let text = utf8_text(bytes)?;
     let (first, rest) = heading(alloc, kind, text)?;

@@ -4,14 +4,16 @@ ghost use Rattle.std.specs.Prelude.{◌≡◌, ◌≢◌, List, IfOk, Ok, Err};
 ghost use Rattle.std.specs.Str.{IsUtf8};
 ghost use Rattle.mrc_wiring_text.specs.declared.reading.Line.{Line};
 ghost use Rattle.mrc_wiring_text.specs.declared.wiring.WiringSays.{WiringSays};
-ghost use Rattle.mrc_wiring_text.specs.Reading.{Gives};
+ghost use Rattle.mrc_base.specs.Reading.{Gives};
 ghost use Rattle.mrc_wiring_text.specs.Texts.{IsWiring};
-ghost use Rattle.mrc_wiring_text.specs.Wiring.{task_line, hold_task_named, hold_line, wiring_says, wiring_of};
+ghost use Rattle.mrc_wiring_text.specs.Wiring.{task_line, hold_task_named, hold_line, wiring_says};
+ghost use Rattle.mrc_wiring_text.specs.Wiring.{wiring_of};
 
 use crate::faults::TextFault;
 use crate::lexis::is_word;
 use crate::names::Name;
 use crate::reading::{Line, Statement, text_of};
+use mrc_base::OrMemory;
 use std::alloc::{AllocError, Global};
 
 /// What a line of a wiring says.
@@ -43,7 +45,7 @@ fn task_line(alloc: Global, key: &[u8], task: &[u8]) -> Result<Option<WiringSays
     Ok(task.map(|task| WiringSays::Task(task)))
 }
 
-fn hold_task(holder: Option<Name>, task: Option<Name>) -> Option<WiringSays>
+fn hold_task_named(holder: Option<Name>, task: Option<Name>) -> Option<WiringSays>
     ensures { result ≡ hold_task_named holder task }
 {
     match (holder, task) {
@@ -62,14 +64,15 @@ fn hold_line(
     kind: &[u8],
     held: &[u8],
 ) -> Result<Option<WiringSays>, AllocError>
-    ensures { IfOk result (λ says. says ≡ hold_line key.now holder.now right.now kind.now held.now) }
+    ensures { IfOk result (λ says.
+        says ≡ hold_line key.now holder.now right.now kind.now held.now) }
 {
     if !(is_word(key, "hold") && is_word(right, "send") && is_word(kind, "task")) {
         return Ok(None);
     }
     let holder = Name::new(alloc, holder)?;
     let held = Name::new(alloc, held)?;
-    Ok(hold_task(holder, held))
+    Ok(hold_task_named(holder, held))
 }
 
 impl Statement for WiringSays {
@@ -85,24 +88,25 @@ impl Statement for WiringSays {
     }
 }
 
-fn wiring_lines(alloc: Global, bytes: &[u8]) -> Result<Vec<WiringLine>, TextFault>
-    ensures said { Gives (λ lines. lines.items) result (wiring_of bytes.now) }
-    ensures no_text { ¬ (IsUtf8 bytes.now) → result ≡ Err TextFault.NotUtf8 }
+fn wiring_of(alloc: Global, bytes: &[u8]) -> Result<Vec<WiringLine>, OrMemory<TextFault>>
+    ensures fault { Gives (λ lines. lines.items) result (wiring_of bytes.now) }
+    ensures no_text { ¬ (IsUtf8 bytes.now) → result ≡ Err (OrMemory.Fault TextFault.NotUtf8) }
 {
     text_of(alloc, "wiring", bytes)
 }
 
 /// Reads a wiring: its lines that say something, in order, or the first fault.
-pub fn read_wiring(alloc: Global, bytes: &[u8]) -> Result<Vec<WiringLine>, TextFault>
+pub fn read_wiring(alloc: Global, bytes: &[u8]) -> Result<Vec<WiringLine>, OrMemory<TextFault>>
     // What is read is said by a text of this grammar.
     ensures found { IfOk result (λ lines. IsWiring bytes.now lines.items) }
     // What a text of this grammar says is read, unless memory runs out.
-    ensures only { (says : List (Line WiringSays)) → IsWiring bytes.now says → Gives (λ lines. lines.items) result (Ok says) }
+    ensures only { (says : List (Line WiringSays)) → IsWiring bytes.now says →
+        Gives (λ lines. lines.items) result (Ok says) }
     // `NotUtf8` is told of bytes that are no text, and of no others.
-    ensures no_text { ¬ (IsUtf8 bytes.now) → result ≡ Err TextFault.NotUtf8 }
-    ensures text { IsUtf8 bytes.now → result ≢ Err TextFault.NotUtf8 }
+    ensures no_text { ¬ (IsUtf8 bytes.now) → result ≡ Err (OrMemory.Fault TextFault.NotUtf8) }
+    ensures text { IsUtf8 bytes.now → result ≢ Err (OrMemory.Fault TextFault.NotUtf8) }
     // Which fault it is: the first.
-    ensures exact { Gives (λ lines. lines.items) result (wiring_of bytes.now) }
+    ensures fault { Gives (λ lines. lines.items) result (wiring_of bytes.now) }
 {
-    wiring_lines(alloc, bytes)
+    wiring_of(alloc, bytes)
 }

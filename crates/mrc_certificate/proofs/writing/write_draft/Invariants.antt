@@ -7,4 +7,5 @@ use Rattle.mrc_certificate.proofs.writing.write_draft.Given as goal
 
 abbrev pub invariant-loop-fact : goal.invariant-loop-fact
 invariant-loop-fact l =
-    l.out.items ≡ magic ++ to_be_bytes w16 1 ++ to_be_bytes w16 l.draft.tasks ++ to_be_bytes w16 l.draft.classes ++ to_be_bytes w32 (length l.draft.facts) ++ facts_bytes (map deref l.yielded)
+    l.out.items ≡ magic ++ to_be_bytes w16 1 ++ to_be_bytes w16 l.draft.tasks ++ to_be_bytes w16
+    l.draft.classes ++ to_be_bytes w32 (length l.draft.facts) ++ facts_bytes (map deref l.yielded)

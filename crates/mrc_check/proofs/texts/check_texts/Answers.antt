@@ -2,8 +2,12 @@ use Rattle.std.proofs.Common.{arith}
 use Rattle.mrc_check.proofs.TextLaws.{yes_told, only_memory_told}
 use Rattle.mrc_check.proofs.texts.check_texts.Goals as goal
 
-pub returns-clause-yes : goal.returns-clause-yes
-returns-clause-yes c = yes_told c.args.wiring.now c.args.policy.now c.args.certificate.now c.checked.result (λ i. omega (arith, c.type_inv.certificate i)) c.checked.ensures
+pub returns-clause-found : goal.returns-clause-found
+returns-clause-found c =
+    yes_told c.args.wiring.now c.args.policy.now c.args.certificate.now c.checked.result
+    (λ i. omega (arith, c.type_inv.certificate i)) c.checked.ensures
 
 pub returns-clause-only : goal.returns-clause-only
-returns-clause-only c = only_memory_told c.args.wiring.now c.args.policy.now c.args.certificate.now c.checked.result c.checked.ensures
+returns-clause-only c =
+    only_memory_told c.args.wiring.now c.args.policy.now c.args.certificate.now c.checked.result
+    c.checked.ensures

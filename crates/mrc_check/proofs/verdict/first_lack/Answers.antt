@@ -12,8 +12,12 @@ returns c =
     let claim = c.args.claim.now in
     let draft = content c.args.draft.now in
     let at_table : HasFirstHolds (wiring_of claim.table) c.in_ok-holdings.holdings.items =
-    subst (λ (t : Table). HasFirstHolds (wiring_of t) c.in_ok-holdings.holdings.items) c.wired.ensures c.in_ok-holdings.ensures in
+    subst (λ (t : Table). HasFirstHolds (wiring_of t) c.in_ok-holdings.holdings.items)
+    c.wired.ensures c.in_ok-holdings.ensures in
     let holds : HasFirstHolds (wiring_of claim.table) c.as_slice.result.now =
-    subst (λ (fs : List Fact). HasFirstHolds (wiring_of claim.table) fs) (sym c.as_slice.ensures.value) at_table in
-    let is = setting claim draft c.as_slice.result.now c.in_ok-first.first c.requires c.args.draft.now.within holds c.in_ok-first.ensures in
-    answered claim draft _ is refl c.violation.result c.violation.ensures.found c.violation.ensures.earlier c.violation.ensures.none
+    subst (λ (fs : List Fact). HasFirstHolds (wiring_of claim.table) fs)
+    (sym c.as_slice.ensures.value) at_table in
+    let is = setting claim draft c.as_slice.result.now c.in_ok-first.first c.requires
+    c.args.draft.now.within holds c.in_ok-first.ensures in
+    answered claim draft _ is refl c.violation.result c.violation.ensures.found
+    c.violation.ensures.earlier c.violation.ensures.none

@@ -8,4 +8,5 @@ use Rattle.mrc_desc.proofs.writing.put_arguments.Given as goal
 abbrev pub invariant-loop-argument : goal.invariant-loop-argument
 invariant-loop-argument l =
     AllByRecursion IsLawfulArg (arguments_of (drop l.argument-index l.args))
-    × (l.out.items ++ flat_map arg_bytes (arguments_of (drop l.argument-index l.args)) ≡ l.fn.out.items ++ flat_map arg_bytes (arguments_of l.args))
+    × (l.out.items ++ flat_map arg_bytes (arguments_of (drop l.argument-index l.args))
+    ≡ l.fn.out.items ++ flat_map arg_bytes (arguments_of l.args))

@@ -7,4 +7,5 @@ use Rattle.mrc_mig_lex.proofs.piece.comment_len.Goals as goal
 pub loop-start-preserved : goal.loop-start-preserved
 loop-start-preserved c =
     let begins = rw take_rest at c.starts_with.ensures.value in
-    comment_len_step c.args.rest.now c.loop-start.start (omega arith) (sym begins ∙ c.if-starts_with.false) ∙ c.loop-start.invariant
+    comment_len_step c.args.rest.now c.loop-start.start (omega arith) (sym begins
+    ∙ c.if-starts_with.false) ∙ c.loop-start.invariant

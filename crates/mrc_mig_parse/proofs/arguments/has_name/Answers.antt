@@ -8,5 +8,6 @@ use Rattle.mrc_mig_parse.proofs.arguments.has_name.Goals as goal
 
 pub returns : goal.returns
 returns c =
-    any_from_yields_List (λ w. bytes_eq w.name.now c.args.name.now) _ _ _ c.any.ensures.ran (YieldsList-from_slice c.args.seen.now cc) (λ x b q k. search (rules, tests))
+    any_from_yields_List (λ w. bytes_eq w.name.now c.args.name.now) _ _ _ c.any.ensures.ran
+    (YieldsList-from_slice c.args.seen.now cc) (λ x b q k. search (rules, tests))
     ∙ sym (any_map (λ p. bytes_eq p.name c.args.name.now) parameter_of c.args.seen.now)

@@ -8,5 +8,6 @@ use Rattle.mrc_mig_parse.proofs.arguments.has_reply_port.Goals as goal
 
 pub returns : goal.returns
 returns c =
-    any_from_yields_List (λ w. is_reply_port w.direction) _ _ _ c.any.ensures.ran (YieldsList-from_slice c.args.seen.now cc) (λ x b q k. search (rules, tests))
+    any_from_yields_List (λ w. is_reply_port w.direction) _ _ _ c.any.ensures.ran
+    (YieldsList-from_slice c.args.seen.now cc) (λ x b q k. search (rules, tests))
     ∙ sym (any_map (λ p. is_reply_port p.direction) parameter_of c.args.seen.now)

@@ -9,5 +9,7 @@ use Rattle.mrc_mig_parse.proofs.arguments.marked_are_ports.Goals as goal
 
 pub returns : goal.returns
 returns c =
-    all_from_yields_List (λ w. not (is_marked (parameter_of w)) || is_of_port_type (parameter_of w)) _ _ _ c.all.ensures.ran (YieldsList-from_slice c.args.seen.now cc) (λ x b q k. search (rules, tests))
+    all_from_yields_List (λ w. not (is_marked (parameter_of w)) || is_of_port_type (parameter_of w))
+    _ _ _ c.all.ensures.ran (YieldsList-from_slice c.args.seen.now cc)
+    (λ x b q k. search (rules, tests))
     ∙ sym (all_map (λ p. not (is_marked p) || is_of_port_type p) parameter_of c.args.seen.now)

@@ -6,4 +6,7 @@ use Rattle.mrc_mig_parse.specs.Readers.{parameter_of}
 use Rattle.mrc_mig_parse.proofs.arguments.more_arguments.Given as goal
 
 abbrev pub invariant-loop : goal.invariant-loop
-invariant-loop l = many goes_on (next_argument (plain l.types.entries) l.is_simple) (l.count - l.counter) (map parameter_of l.seen.items, left l.rest) ≡ many goes_on (next_argument (plain l.types.entries) l.is_simple) (length (left l.fn.rest)) (map parameter_of l.fn.seen.items, left l.fn.rest)
+invariant-loop l = many goes_on (next_argument (plain l.types.entries) l.is_simple)
+    (l.count - l.counter) (map parameter_of l.seen.items, left l.rest) ≡ many goes_on
+    (next_argument (plain l.types.entries) l.is_simple) (length (left l.fn.rest))
+    (map parameter_of l.fn.seen.items, left l.fn.rest)

@@ -5,4 +5,6 @@ use Rattle.mrc_mig_parse.proofs.FileLemmas.{row_of}
 use Rattle.mrc_mig_parse.proofs.file.declare_each.Given as goal
 
 abbrev pub invariant-loop-name : goal.invariant-loop-name
-invariant-loop-name l = declared_with_all (plain l.types.entries) (map row_of (drop l.name-index l.table)) ≡ declared_with_all (plain l.fn.types.entries) (map row_of l.table)
+invariant-loop-name l = declared_with_all (plain l.types.entries)
+    (map row_of (drop l.name-index l.table)) ≡ declared_with_all (plain l.fn.types.entries)
+    (map row_of l.table)

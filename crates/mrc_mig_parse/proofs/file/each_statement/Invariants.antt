@@ -5,4 +5,5 @@ use Rattle.mrc_mig_parse.specs.Readers.{state_of}
 use Rattle.mrc_mig_parse.proofs.file.each_statement.Given as goal
 
 abbrev pub invariant-loop : goal.invariant-loop
-invariant-loop l = many has_more statement_at (l.count - l.counter) (state_of l.file, left l.rest) ≡ many has_more statement_at (length (left l.fn.rest)) (state_of l.fn.file, left l.fn.rest)
+invariant-loop l = many has_more statement_at (l.count - l.counter) (state_of l.file, left l.rest)
+    ≡ many has_more statement_at (length (left l.fn.rest)) (state_of l.fn.file, left l.fn.rest)

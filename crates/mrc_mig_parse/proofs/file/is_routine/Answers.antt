@@ -7,5 +7,7 @@ use Rattle.mrc_mig_parse.proofs.file.is_routine.Goals as goal
 
 pub returns : goal.returns
 returns c =
-    any_from_yields_List (λ other. bytes_eq other.now c.args.name.now) _ _ _ c.any.ensures.ran (YieldsList-from_slice c.args.routines.now cc) (λ x b q k. search (rules, tests))
-    ∙ sym (any_map (λ other. bytes_eq other c.args.name.now) (λ (other : Bor (List ℕ)). other.now) c.args.routines.now)
+    any_from_yields_List (λ other. bytes_eq other.now c.args.name.now) _ _ _ c.any.ensures.ran
+    (YieldsList-from_slice c.args.routines.now cc) (λ x b q k. search (rules, tests))
+    ∙ sym (any_map (λ other. bytes_eq other c.args.name.now) (λ (other : Bor (List ℕ)). other.now)
+    c.args.routines.now)

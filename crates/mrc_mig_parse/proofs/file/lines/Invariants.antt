@@ -5,4 +5,5 @@ use Rattle.mrc_mig_parse.specs.Readers.{state_of}
 use Rattle.mrc_mig_parse.proofs.file.lines.Given as goal
 
 abbrev pub invariant-loop : goal.invariant-loop
-invariant-loop l = many begins_line line_at (l.count - l.counter) (state_of l.file, left l.rest) ≡ lines_at (state_of l.fn.file) (left l.fn.rest)
+invariant-loop l = many begins_line line_at (l.count - l.counter) (state_of l.file, left l.rest)
+    ≡ lines_at (state_of l.fn.file) (left l.fn.rest)

@@ -4,4 +4,5 @@ use Rattle.mrc_mig_parse.specs.Arguments.{begins_option, option_at}
 use Rattle.mrc_mig_parse.proofs.options.each_option.Given as goal
 
 abbrev pub invariant-loop : goal.invariant-loop
-invariant-loop l = many begins_option option_at (l.count - l.counter) (left l.rest) ≡ many begins_option option_at (length (left l.fn.rest)) (left l.fn.rest)
+invariant-loop l = many begins_option option_at (l.count - l.counter) (left l.rest)
+    ≡ many begins_option option_at (length (left l.fn.rest)) (left l.fn.rest)

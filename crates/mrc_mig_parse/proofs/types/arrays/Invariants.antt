@@ -4,4 +4,5 @@ use Rattle.mrc_mig_parse.specs.Types.{begins_layer, layer_at, layers_at}
 use Rattle.mrc_mig_parse.proofs.types.arrays.Given as goal
 
 abbrev pub invariant-loop : goal.invariant-loop
-invariant-loop l = many begins_layer layer_at (l.count - l.counter) (l.around, left l.rest) ≡ layers_at (left l.fn.rest)
+invariant-loop l = many begins_layer layer_at (l.count - l.counter) (l.around, left l.rest)
+    ≡ layers_at (left l.fn.rest)

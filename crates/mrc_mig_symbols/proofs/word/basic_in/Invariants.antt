@@ -3,4 +3,5 @@ use Rattle.mrc_mig_symbols.specs.Tables.{plain, entry_of}
 use Rattle.mrc_mig_symbols.proofs.word.basic_in.Given as goal
 
 abbrev pub invariant-loop-name : goal.invariant-loop-name
-invariant-loop-name l = entry_of (plain (drop l.name-index l.table)) l.text ≡ entry_of (plain l.table) l.text
+invariant-loop-name l = entry_of (plain (drop l.name-index l.table)) l.text
+    ≡ entry_of (plain l.table) l.text

@@ -8,5 +8,8 @@ use Rattle.mrc_wiring_text.proofs.lexis.place_of.Goals as goal
 
 pub returns : goal.returns
 returns c =
-    let at = position_from_yields_List (λ b. b == c.args.wanted) _ _ c.position.result c.position.ensures.ran (YieldsList-from_slice c.args.text.now cc) (λ x b q k. search (rules, tests)) in
-    c.unwrap_or.ensures ∙ ap (λ o. unwrap_or o (length c.args.text.now)) at ∙ place_found (λ b. b == c.args.wanted) c.args.text.now
+    let at = position_from_yields_List (λ b. b == c.args.wanted) _ _ c.position.result
+    c.position.ensures.ran (YieldsList-from_slice c.args.text.now cc)
+    (λ x b q k. search (rules, tests)) in
+    c.unwrap_or.ensures ∙ ap (λ o. unwrap_or o (length c.args.text.now)) at
+    ∙ place_found (λ b. b == c.args.wanted) c.args.text.now

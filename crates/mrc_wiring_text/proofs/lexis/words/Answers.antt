@@ -8,12 +8,18 @@ use Rattle.std.proofs.lemmas.Iterator.Splits.{YieldsList-from_slice_split}
 use Rattle.mrc_wiring_text.specs.Lexis.{is_blank, is_hash, is_filled, words}
 use Rattle.mrc_wiring_text.proofs.lexis.words.Goals as goal
 
-pub returns-clause-found : goal.returns-clause-found
+pub returns-clause-exact : goal.returns-clause-exact
 unfolding words
-returns-clause-found c =
-    map_from_collect _ c.collect.ensures.ran (YieldsList-from_filter _ is_filled (YieldsList-from_slice_split _ is_blank (before_first is_hash c.args.line.now) (cc) (cc) (cc) (λ x b q k. search (rules, tests))) c.filter.ensures.closure (λ x b q k. search (rules, tests)))
+returns-clause-exact c =
+    map_from_collect _ c.collect.ensures.ran (YieldsList-from_filter _ is_filled
+    (YieldsList-from_slice_split _ is_blank (before_first is_hash c.args.line.now) (cc) (cc)
+    (cc) (λ x b q k. search (rules, tests))) c.filter.ensures.closure
+    (λ x b q k. search (rules, tests)))
 
 pub returns-clause-count : goal.returns-clause-count
 unfolding words
 returns-clause-count c =
-    length_from_collect _ (length (words c.args.line.now)) c.collect.ensures.ran (YieldsList-from_filter _ is_filled (YieldsList-from_slice_split _ is_blank (before_first is_hash c.args.line.now) (cc) (cc) (cc) (λ x b q k. search (rules, tests))) c.filter.ensures.closure (λ x b q k. search (rules, tests))) refl
+    length_from_collect _ (length (words c.args.line.now)) c.collect.ensures.ran
+    (YieldsList-from_filter _ is_filled (YieldsList-from_slice_split _ is_blank
+    (before_first is_hash c.args.line.now) (cc) (cc) (cc) (λ x b q k. search (rules, tests)))
+    c.filter.ensures.closure (λ x b q k. search (rules, tests))) refl

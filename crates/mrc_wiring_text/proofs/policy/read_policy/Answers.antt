@@ -6,10 +6,16 @@ use Rattle.mrc_wiring_text.proofs.TextLaws.{found_in, read_by}
 use Rattle.mrc_wiring_text.proofs.policy.read_policy.Goals as goal
 
 pub returns-clause-found : goal.returns-clause-found
-returns-clause-found c = found_in (codes "policy") policy_says c.args.bytes.now (λ lines. lines.items) c.policy_lines.result c.policy_lines.ensures.said
+returns-clause-found c =
+    found_in (codes "policy") policy_says c.args.bytes.now (λ lines. lines.items) c.policy_of.result
+    c.policy_of.ensures.fault
 
 pub returns-clause-only : goal.returns-clause-only
-returns-clause-only c = λ says is. read_by (codes "policy") policy_says c.args.bytes.now (λ lines. lines.items) c.policy_lines.result says c.policy_lines.ensures.said is
+returns-clause-only c =
+    λ says is. read_by (codes "policy") policy_says c.args.bytes.now (λ lines. lines.items)
+    c.policy_of.result says c.policy_of.ensures.fault is
 
 pub returns-clause-text : goal.returns-clause-text
-returns-clause-text c = not_told (codes "policy") policy_says c.args.bytes.now (λ lines. lines.items) c.policy_lines.result c.policy_lines.ensures.said
+returns-clause-text c =
+    not_told (codes "policy") policy_says c.args.bytes.now (λ lines. lines.items) c.policy_of.result
+    c.policy_of.ensures.fault

@@ -1,6 +1,6 @@
 -- What was said so far, and what the rest says.
 use Rattle.std.proofs.Common.{◌≡◌, ◌≤◌, ◌+◌, length}
-use Rattle.mrc_wiring_text.specs.declared.reading.TheConstants.{LAST_LINE}
+use Rattle.mrc_base.specs.Limits.{limit_of_lines}
 use Rattle.mrc_wiring_text.specs.Lexis.{lines}
 use Rattle.mrc_wiring_text.specs.Reading.{body}
 use Rattle.mrc_wiring_text.proofs.BodyLemmas.{with_front}
@@ -10,8 +10,9 @@ abbrev pub invariant-loop-rest : goal.invariant-loop-rest
 invariant-loop-rest g l =
     let meaning = g.S.Statement.meaning in
     record {
-      same : with_front l.said.items (body meaning l.number (lines l.rest)) ≡ body meaning l.first (lines l.text);
-      within : l.number ≤ LAST_LINE + 1;
+      same : with_front l.said.items (body meaning l.number (lines l.rest)) ≡ body meaning l.first
+          (lines l.text);
+      within : l.number ≤ limit_of_lines + 1;
     }
 
 abbrev pub decreases-loop-rest : goal.decreases-loop-rest

@@ -5,17 +5,20 @@ use Rattle.mrc_classes.proofs.Keys.{ascending, next_is, range_after}
 use Rattle.mrc_classes.proofs.Members.{after_answers, after_lacks}
 use Rattle.mrc_classes.proofs.facts.Facts.after.Goals as goal
 
-pub returns-clause-value : goal.returns-clause-value
-returns-clause-value c =
+pub returns-clause-exact : goal.returns-clause-exact
+returns-clause-exact c =
     c.copied.ensures
     ∙ next_is c.next.result c.range.result c.next.new.self c.next.ensures.steps
     ∙ ap (λ facts. slice_get facts 0) (c.range.ensures.between tt)
     ∙ range_after c.self.inside.facts.keys c.args.fact
     ∙ ap (λ facts. after facts c.args.fact) c.self.view_is
 
-pub returns-clause-next : goal.returns-clause-next
-returns-clause-next c =
-    after_answers c.args.self.now c.args.fact c.copied.result (returns-clause-value c) (subst IsAscending c.self.view_is (ascending c.self.inside.facts.keys c.range.ensures.ordered))
+pub returns-clause-least : goal.returns-clause-least
+returns-clause-least c =
+    after_answers c.args.self.now c.args.fact c.copied.result (returns-clause-exact c)
+    (subst IsAscending c.self.view_is (ascending c.self.inside.facts.keys
+    c.range.ensures.ordered))
 
 pub returns-clause-none : goal.returns-clause-none
-returns-clause-none c = after_lacks c.args.self.now c.args.fact c.copied.result (returns-clause-value c)
+returns-clause-none c =
+    after_lacks c.args.self.now c.args.fact c.copied.result (returns-clause-exact c)

@@ -20,7 +20,9 @@ returns-clause-ok c =
     ∙ ap (λ facts. with_fact facts c.args.fact) c.self.view_is
 
 pub returns-clause-members : goal.returns-clause-members
-returns-clause-members c = λ g. ap (λ facts. has facts g) (returns-clause-ok c) ∙ has-with_fact c.args.self.now c.args.fact g
+returns-clause-members c =
+    λ g. ap (λ facts. has facts g) (returns-clause-ok c)
+    ∙ has-with_fact c.args.self.now c.args.fact g
 
 pub returns-clause-ascending : goal.returns-clause-ascending
 returns-clause-ascending c = ascending c.insert.new.self.keys c.insert.ensures.ordered

@@ -4,4 +4,5 @@ use Rattle.mrc_classes.proofs.Keys.{ascending}
 use Rattle.mrc_classes.proofs.facts.Facts.len.Goals as goal
 
 pub returns-clause-ascending : goal.returns-clause-ascending
-returns-clause-ascending c = subst IsAscending c.self.view_is (ascending c.self.inside.facts.keys c.len.ensures.ordered)
+returns-clause-ascending c =
+    subst IsAscending c.self.view_is (ascending c.self.inside.facts.keys c.len.ensures.ordered)

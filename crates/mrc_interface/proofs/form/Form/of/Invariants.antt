@@ -6,6 +6,10 @@ use Rattle.mrc_interface.proofs.form.Form.of.Given as goal
 abbrev pub invariant-loop-argument : goal.invariant-loop-argument
 invariant-loop-argument l =
     record l.form {
-      arguments = l.form.arguments ++ map (λ item. item.kind) (body l.kind (map item_of (drop l.argument-index l.arguments)));
-      slots = l.form.slots ++ slots_from (length l.form.arguments) (body l.kind (map item_of (drop l.argument-index l.arguments)));
+      arguments = l.form.arguments
+          ++ map (λ item. item.shape)
+          (body l.kind (map item_of (drop l.argument-index l.arguments)));
+      slots = l.form.slots
+          ++ slots_from (length l.form.arguments)
+          (body l.kind (map item_of (drop l.argument-index l.arguments)));
     } ≡ form_of l.id l.kind (map item_of l.arguments)

@@ -1,0 +1,71 @@
+-- The limits, each by one name. This profile's own choice; the bytes of a file, the lines of a text
+-- and all else that is counted here are counted in these words alone.
+use Rattle.std.specs.Prelude.{ℕ, ◌^◌}
+
+-- tasks of a wiring
+abbrev pub limit_of_tasks : ℕ
+limit_of_tasks = 64
+
+-- ports of a wiring
+abbrev pub limit_of_wired_ports : ℕ
+limit_of_wired_ports = 256
+
+-- interfaces of a wiring
+abbrev pub limit_of_interfaces : ℕ
+limit_of_interfaces = 16
+
+-- message ids of an interface, those that it skips counted
+abbrev pub limit_of_ids : ℕ
+limit_of_ids = 100
+
+-- arguments of a routine
+abbrev pub limit_of_arguments : ℕ
+limit_of_arguments = 32
+
+-- lines of a text
+abbrev pub limit_of_lines : ℕ
+limit_of_lines = 65535
+
+-- bytes of a name in a text
+abbrev pub limit_of_name : ℕ
+limit_of_name = 64
+
+-- bytes of a file
+abbrev pub limit_of_file : ℕ
+limit_of_file = 67108864
+
+-- a number in a MIG file
+abbrev pub limit_of_number : ℕ
+limit_of_number = 2147483647
+
+-- bytes of a message
+abbrev pub limit_of_message : ℕ
+limit_of_message = 8192
+
+-- items of an argument, as a MIG type counts them
+abbrev pub limit_of_items : ℕ
+limit_of_items = 8192
+
+-- names of a task
+abbrev pub limit_of_names : ℕ
+limit_of_names = 4096
+
+-- references of a send right or of a dead name
+abbrev pub limit_of_references : ℕ
+limit_of_references = 65535
+
+-- live ports
+abbrev pub limit_of_ports : ℕ
+limit_of_ports = 65536
+
+-- births of ports
+abbrev pub limit_of_births : ℕ
+limit_of_births = 2 ^ 48
+
+-- messages of a queue, when its port is made
+abbrev pub first_limit_of_queue : ℕ
+first_limit_of_queue = 5
+
+-- messages of a queue, as a task can set it
+abbrev pub limit_of_queue : ℕ
+limit_of_queue = 16
