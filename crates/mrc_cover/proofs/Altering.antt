@@ -14,7 +14,8 @@ use Rattle.mrc_cover.proofs.Taking.{one_name_if_traced}
 -- a space whose entries keep their rights
 pub record KeepsRights (g : ℕ → Entry → Option Entry) : Type 0 where
   pub rights : (k : ℕ) (e : Entry) → rights_left (g k e) ≡ entry_rights e
-  pub names : (k : ℕ) (e f : Entry) → g k e ≡ Some f → (p : ℕ) → is_entry_of p f ≡ true → is_entry_of p e ≡ true
+  pub names : (k : ℕ) (e f : Entry) → g k e ≡ Some f → (p : ℕ) → is_entry_of p f ≡ true
+      → is_entry_of p e ≡ true
 
 -- the receive rights of a name that may have nothing left
 at_opt : (q k : ℕ) (o : Option Entry) → at_or_0 (entry_receives q) k o ≡ receives q (rights_left o)
@@ -26,10 +27,12 @@ pub space_receives-alter : (g : ℕ → Entry → Option Entry) (x : Space) (q :
     → space_receives q (alter_all g x) ≡ space_receives q x
 unfolding space_receives
 space_receives-alter g x q keeps = total-alter_all (entry_receives q) g x
-    ∙ total-same _ (entry_receives q) x (λ k e is. at_opt q k (g k e) ∙ ap (receives q) (keeps.rights k e))
+    ∙ total-same _ (entry_receives q) x (λ k e is. at_opt q k (g k e)
+    ∙ ap (receives q) (keeps.rights k e))
 
 -- its rights stay known
-pub known-alter : (k : ℕ → Option ℕ) (F : ℕ → PortRight → Type 0) (g : ℕ → Entry → Option Entry) (x : Space)
+pub known-alter : (k : ℕ → Option ℕ) (F : ℕ → PortRight → Type 0) (g : ℕ → Entry
+    → Option Entry) (x : Space)
     → KeepsRights g → ((n : ℕ) (e : Entry) → get x n ≡ Some e → Known k F (entry_rights e))
     → (n : ℕ) (e : Entry) → get (alter_all g x) n ≡ Some e → Known k F (entry_rights e)
 known-alter k F g x keeps old n f is =

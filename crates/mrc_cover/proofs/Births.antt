@@ -1,41 +1,51 @@
 -- A port that is born: the task whose space it is born in gets its receive right.
-use Rattle.std.proofs.Common.{None, Option, Some, [], ap, arith, false, inl, inr, refl, subst, sym, true, ℕ, ◌+◌, ◌<◌, ◌∙◌, ◌∷◌, ◌≡◌, ◌≤◌, ◌⊎◌}
+use Rattle.std.proofs.Common.{None, Option, Some, [], ap, arith, false, inl, inr, refl, subst, sym}
+use Rattle.std.proofs.Common.{true, ℕ, ◌+◌, ◌<◌, ◌∙◌, ◌∷◌, ◌≡◌, ◌≤◌, ◌⊎◌}
 use Rattle.std.proofs.lemmas.Bool.{both_ways, cases_eq, eq-eqb, eqb-true}
 use Rattle.std.specs.Option.{option_map, unwrap_or}
 use Rattle.mrc_base.specs.declared.Fact.TheVariants.{Backup as BackupFact, Carry, Hold}
 use Rattle.mrc_base.specs.declared.PortRight.{PortRight}
 use Rattle.mrc_base.specs.declared.PortRight.TheVariants.{Receive}
-use Rattle.mrc_model.proofs.Maps.{at_or_0, get-insert_other, get-insert_same, not_None, origin-insert, same_Some, total-insert}
+use Rattle.mrc_model.proofs.Maps.{at_or_0, get-insert_other, get-insert_same, not_None}
+use Rattle.mrc_model.proofs.Maps.{origin-insert, same_Some, total-insert}
 use Rattle.mrc_model.proofs.Spaces.{get-unused}
 use Rattle.mrc_model.specs.CallAllocate.{birth, new_port}
 use Rattle.mrc_model.specs.Covers.{HasOneName, IsBackup, Known, owed}
 use Rattle.mrc_model.specs.Map.{empty, get, insert, len}
-use Rattle.mrc_model.specs.Rules.{Facts}
+use Rattle.mrc_model.specs.Rules.{FactSet}
 use Rattle.mrc_model.specs.Space.{is_entry_of, unused}
 use Rattle.mrc_model.specs.Target.{is_alive, with_store}
-use Rattle.mrc_model.specs.Wiring.{Wiring, classes, is_kernel_class}
-use Rattle.mrc_model.specs.World.{Port, Space, Store, World, class_of, entry_rights, places, queue_rights, receives, space, task_class}
+use Rattle.mrc_model.specs.Wiring.{Wiring, classes, is_kernel_class, numbers_of}
+use Rattle.mrc_model.specs.World.{Port, Space, Store, World, class_of, entry_rights, places}
+use Rattle.mrc_model.specs.World.{queue_rights, receives, space, task_class}
 use Rattle.mrc_model.specs.declared.Entry.{Entry}
-use Rattle.mrc_model.specs.declared.Entry.TheVariants.{DeadName as DeadEntry, SendOnce as OnceEntry, Receive as ReceiveEntry, Send as SendEntry, PortSet as SetEntry}
+use Rattle.mrc_model.specs.declared.Entry.TheVariants.{DeadName as DeadEntry, SendOnce as OnceEntry}
+use Rattle.mrc_model.specs.declared.Entry.TheVariants.{Receive as ReceiveEntry, Send as SendEntry}
+use Rattle.mrc_model.specs.declared.Entry.TheVariants.{PortSet as SetEntry}
 use Rattle.mrc_cover.proofs.Gaining.{HasGained, insert_new_gains}
 use Rattle.mrc_cover.proofs.Kept.{IsAlive, Kept}
-use Rattle.mrc_cover.proofs.Rights.{Known-grow, MayCarry, MayHold, each_receives, queue_receives, right_on, unknown_right}
+use Rattle.mrc_cover.proofs.Rights.{Known-grow, MayCarry, MayHold, each_receives, queue_receives}
+use Rattle.mrc_cover.proofs.Rights.{right_on, unknown_right}
 use Rattle.mrc_cover.proofs.Sound.{SoundWith, next_is_free, unknown_is_nowhere}
 use Rattle.mrc_cover.proofs.Stores.{at_space, unborn}
 
 -- a port new_receive shows a right on its port
-shows_a_right : (k : ℕ → Option ℕ) (F : ℕ → PortRight → Type 0) (p : ℕ) (e : Entry) → is_entry_of p e ≡ true
+shows_a_right : (k : ℕ → Option ℕ) (F : ℕ → PortRight → Type 0) (p : ℕ) (e : Entry)
+    → is_entry_of p e ≡ true
     → Known k F (entry_rights e) → k p ≡ None → ⊥
 shows_a_right k F p (ReceiveEntry q n i) is known none =
     let h = known.all.0 in
     not_None h.0 (sym h.1 ∙ ap k (eqb-true q p is) ∙ none)
-shows_a_right k F p (SendEntry q n) is known none = let h = known.all.0 in not_None h.0 (sym h.1 ∙ ap k (eqb-true q p is) ∙ none)
+shows_a_right k F p (SendEntry q n) is known none =
+    let h = known.all.0 in not_None h.0 (sym h.1 ∙ ap k (eqb-true q p is) ∙ none)
 shows_a_right k F p (OnceEntry q) is known none = both_ways false refl is
 shows_a_right k F p SetEntry is known none = both_ways false refl is
 shows_a_right k F p (DeadEntry n) is known none = both_ways false refl is
 
-module _ (W : Wiring) (G : Facts) (task : ℕ → ℕ) (s : Store) (t c : ℕ) (sound : SoundWith W G task s [])
-    (range : c < classes W) (owes : owed W c ≡ 1) (fact : G (Hold (task t) c Receive)) where
+module _ (W : Wiring) (G : FactSet) (task : ℕ
+    → ℕ) (s : Store) (t c : ℕ) (sound : SoundWith W G task s [])
+    (range : c < classes W) (owes : owed (numbers_of W) c
+    ≡ 1) (fact : G (Hold (task t) c Receive)) where
   -- the space of the task, before
   own_before : Space
   own_before = space s t
@@ -56,7 +66,8 @@ module _ (W : Wiring) (G : Facts) (task : ℕ → ℕ) (s : Store) (t c : ℕ) (
   -- the others keep theirs
   born_other : (p : ℕ) → (p ≡ s.next → ⊥) → class_of after p ≡ class_of s p
   unfolding after
-  born_other p n = ap (option_map (λ (x : Port). x.class)) (get-insert_other s.ports s.next (new_port c) p n)
+  born_other p n =
+      ap (option_map (λ (x : Port). x.class)) (get-insert_other s.ports s.next (new_port c) p n)
 
   -- no live port has the next number
   not_next : (p d : ℕ) → class_of s p ≡ Some d → p ≡ s.next → ⊥
@@ -71,10 +82,14 @@ module _ (W : Wiring) (G : Facts) (task : ℕ → ℕ) (s : Store) (t c : ℕ) (
   new_receive = ReceiveEntry s.next 0 None
 
   -- the space gains the receive right
-  gained : HasGained (class_of after) (MayHold G (task t)) own_before (insert own_before (unused own_before) new_receive) s.next Receive
+  gained : HasGained (class_of after) (MayHold G (task t)) own_before
+      (insert own_before (unused own_before) new_receive) s.next Receive
   unfolding own_before new_receive after
-  gained = insert_new_gains (class_of after) (MayHold G (task t)) own_before (unused own_before) s.next Receive (get-unused own_before)
-      (λ _ m e at here. shows_a_right (class_of s) (MayHold G (task t)) s.next e here (sound.covers.held t m e at) fresh)
+  gained =
+      insert_new_gains (class_of after) (MayHold G (task t)) own_before
+      (unused own_before) s.next Receive (get-unused own_before)
+      (λ _ m e at here. shows_a_right (class_of s) (MayHold G (task t)) s.next e here
+      (sound.covers.held t m e at) fresh)
 
   -- the next number is unused among the ports
   ports_empty : get s.ports s.next ≡ None
@@ -87,13 +102,16 @@ module _ (W : Wiring) (G : Facts) (task : ℕ → ℕ) (s : Store) (t c : ℕ) (
   -- the task has that space
   space_born : space after t ≡ own_after
   unfolding after own_after own_before new_receive
-  space_born = ap (λ o. unwrap_or o empty) (get-insert_same s.spaces t (insert own_before (unused own_before) new_receive))
+  space_born =
+      ap (λ o. unwrap_or o empty)
+      (get-insert_same s.spaces t (insert own_before (unused own_before) new_receive))
 
   -- the other spaces stay
   space_other : (u : ℕ) → (u ≡ t → ⊥) → space after u ≡ space s u
   unfolding after
   space_other u n = ap (λ o. unwrap_or o empty)
-      (get-insert_other s.spaces t (insert (space s t) (unused (space s t)) (ReceiveEntry s.next 0 None)) u n)
+      (get-insert_other s.spaces t
+      (insert (space s t) (unused (space s t)) (ReceiveEntry s.next 0 None)) u n)
 
   -- the only new place is that of the new receive right
   places_born : (p : ℕ) → places p after ≡ places p s + receives p (right_on s.next Receive ∷ [])
@@ -119,8 +137,9 @@ module _ (W : Wiring) (G : Facts) (task : ℕ → ℕ) (s : Store) (t c : ℕ) (
           let a = places_born p in
           let b = unknown_is_nowhere W G task s [] s.next sound fresh in
           let same : d ≡ c = same_Some d c (sym is ∙ ap (class_of after) e ∙ born_here) in
-          let one : receives p (right_on s.next Receive ∷ []) ≡ 1 = rw e (rw (eq-eqb s.next s.next refl)) in
-          let o : owed W d ≡ 1 = rw same owes in
+          let one : receives p (right_on s.next Receive ∷ []) ≡ 1 = rw e
+          (rw (eq-eqb s.next s.next refl)) in
+          let o : owed (numbers_of W) d ≡ 1 = rw same owes in
           let f : places p s ≡ 0 = rw e b in
           omega arith
       | inr n ↦
@@ -130,35 +149,47 @@ module _ (W : Wiring) (G : Facts) (task : ℕ → ℕ) (s : Store) (t c : ℕ) (
           omega arith
     ];
     numbers = λ p d is. elim (cases_eq p s.next) [
-      | inl e ↦ let same : d ≡ c = same_Some d c (sym is ∙ ap (class_of after) e ∙ born_here) in (omega arith, omega arith)
+      | inl e ↦ let same : d ≡ c = same_Some d c (sym is ∙ ap (class_of after) e
+          ∙ born_here) in (omega arith, omega arith)
       | inr n ↦ let o = sound.numbers p d (sym (born_other p n) ∙ is) in (omega arith, o.1)
     ];
     covers = record {
       held = λ u n e at. elim (cases_eq u t) [
-        | inl same ↦ subst (λ v. Known (class_of after) (MayHold G (task v)) (entry_rights e)) (sym same)
-            (gained.known (λ m f is. Known-grow grows (sound.covers.held t m f is)) (c, born_here, fact) n e
+        | inl same ↦ subst (λ v. Known (class_of after) (MayHold G (task v)) (entry_rights e))
+            (sym same)
+            (gained.known (λ m f is. Known-grow grows (sound.covers.held t m f is))
+            (c, born_here, fact) n e
             (ap (λ v. get v n) (sym (ap (space after) same ∙ space_born)) ∙ at))
-        | inr apart ↦ Known-grow grows (sound.covers.held u n e (ap (λ v. get v n) (sym (space_other u apart)) ∙ at))
+        | inr apart ↦ Known-grow grows
+            (sound.covers.held u n e (ap (λ v. get v n) (sym (space_other u apart)) ∙ at))
       ];
       carried = λ q x at. elim (origin-insert s.ports s.next (new_port c) q x at) [
-        | inl h ↦ subst (λ (v : Port). Known (class_of (birth s t c)) (MayCarry G v.class) (queue_rights v.queue)) h.1 no_rights
+        | inl h ↦ subst (λ (v : Port). Known (class_of (birth s t c)) (MayCarry G v.class)
+            (queue_rights v.queue)) h.1 no_rights
         | inr h ↦ Known-grow grows (sound.covers.carried q x h.1)
       ];
       backups = λ q x at. elim (origin-insert s.ports s.next (new_port c) q x at) [
-        | inl h ↦ subst (λ (v : Port). IsBackup (class_of (birth s t c)) (λ d. G (BackupFact v.class d)) v.backup) h.1 no_backup
-        | inr h ↦ record { live = λ b is. let r = (sound.covers.backups q x h.1).live b is in (r.0, grows b r.0 r.1, r.2) }
+        | inl h ↦ subst (λ (v : Port). IsBackup (class_of (birth s t c))
+            (λ d. G (BackupFact v.class d)) v.backup) h.1 no_backup
+        | inr h ↦ record {
+          live = λ b is. let r = (sound.covers.backups q x h.1).live b is in
+              (r.0, grows b r.0 r.1, r.2);
+        }
       ];
     };
     one_name = λ u. elim (cases_eq u t) [
-      | inl same ↦ subst HasOneName (sym (ap (space after) same ∙ space_born)) (gained.one_name (sound.one_name t))
+      | inl same ↦ subst HasOneName (sym (ap (space after) same
+          ∙ space_born)) (gained.one_name (sound.one_name t))
       | inr apart ↦ subst HasOneName (sym (space_other u apart)) (sound.one_name u)
     ];
   }
     where
-      no_rights : Known (class_of (birth s t c)) (λ d r. G (Carry (new_port c).class d r)) (queue_rights (new_port c).queue)
+      no_rights : Known (class_of (birth s t c)) (λ d r. G (Carry (new_port c).class d r))
+          (queue_rights (new_port c).queue)
       no_rights = record { all = tt }
 
-      no_backup : IsBackup (class_of (birth s t c)) (λ d. G (BackupFact (new_port c).class d)) (new_port c).backup
+      no_backup : IsBackup (class_of (birth s t c)) (λ d. G (BackupFact (new_port c).class d))
+          (new_port c).backup
       no_backup = record { live = λ q e. cc }
 
   -- live ports stay live, with their classes
@@ -167,7 +198,8 @@ module _ (W : Wiring) (G : Facts) (task : ℕ → ℕ) (s : Store) (t c : ℕ) (
   birth_grows p d e = grows p d e
 
   -- each class is that of a port from before, or the new port's
-  pub birth_class : (p d : ℕ) → class_of (birth s t c) p ≡ Some d → (class_of s p ≡ Some d) ⊎ (d ≡ c)
+  pub birth_class : (p d : ℕ) → class_of (birth s t c) p ≡ Some d
+      → (class_of s p ≡ Some d) ⊎ (d ≡ c)
   unfolding after
   birth_class p d is = elim (cases_eq p s.next) [
     | inl e ↦ inr (same_Some d c (sym is ∙ ap (class_of after) e ∙ born_here))
@@ -184,9 +216,11 @@ module _ (W : Wiring) (G : Facts) (task : ℕ → ℕ) (s : Store) (t c : ℕ) (
   unfolding after
   birth_other u n = space_other u n
 
-module _ (W : Wiring) (G : Facts) where
-  -- a birth of any class but a kernel port's, which the task may hold with its receive right, keeps the world
-  pub birth_keeps : (w : World) (u c : ℕ) → IsAlive w u → c < classes W → owed W c ≡ 1 → is_kernel_class W c ≡ false
+module _ (W : Wiring) (G : FactSet) where
+  -- a birth of any class but a kernel port's, which the task may hold with its receive right, keeps
+  -- the world
+  pub birth_keeps : (w : World) (u c : ℕ) → IsAlive w u → c < classes W → owed (numbers_of W) c ≡ 1
+      → is_kernel_class W c ≡ false
       → G (Hold (task_class w u) c Receive) → len (space (birth w.store u c) u) ≤ 4096 → Kept W G w
       → Kept W G (with_store w (birth w.store u c))
   birth_keeps w u c alive range owes plain fact room kept =
@@ -201,16 +235,22 @@ module _ (W : Wiring) (G : Facts) where
         tasks = record {
           class = kept.tasks.class;
           below = λ t x e. let a = kept.tasks.below t x e in omega arith;
-          kernel = λ t x e lives. birth_grows W G (task_class w) s u c sound range owes fact x.kernel (W.ports + x.class)
+          kernel =
+              λ t x e lives. birth_grows W G (task_class w) s u c sound range owes fact x.kernel
+              (W.ports + x.class)
               (kept.tasks.kernel t x e lives);
           own = kept.tasks.own;
-          only = λ p d e is. elim (birth_class W G (task_class w) s u c sound range owes fact p d e) [
-            | inl old ↦ kept.tasks.only p d old is
-            | inr new ↦ absurd (both_ways (is_kernel_class W d) (ap (is_kernel_class W) new ∙ plain) is)
-          ];
+          only =
+              λ p d e is. elim (birth_class W G (task_class w) s u c sound range owes fact p d e) [
+                | inl old ↦ kept.tasks.only p d old is
+                | inr new ↦ absurd (both_ways (is_kernel_class W d) (ap (is_kernel_class W) new
+                    ∙ plain) is)
+              ];
           gone = λ t n e. elim (cases_eq t u) [
-            | inl same ↦ absurd (both_ways (is_alive (get w.tasks t)) e (ap (λ v. is_alive (get w.tasks v)) same ∙ alive.of))
-            | inr apart ↦ ap (λ v. get v n) (birth_other W G (task_class w) s u c sound range owes fact t apart) ∙ kept.tasks.gone t n e
+            | inl same ↦ absurd (both_ways (is_alive (get w.tasks t)) e
+                (ap (λ v. is_alive (get w.tasks v)) same ∙ alive.of))
+            | inr apart ↦ ap (λ v. get v n) (birth_other W G
+                (task_class w) s u c sound range owes fact t apart) ∙ kept.tasks.gone t n e
           ];
         };
       }

@@ -1,18 +1,20 @@
--- A covered world has no breach: what a task, or one that it counts as, holds is a fact of the task, by K7.
+-- A covered world has no breach: what a task, or one that it counts as, holds is a fact of the
+-- task, by K7.
 use Rattle.std.proofs.Common.{List, Some, sym, ℕ, ◌∙◌, ◌≡◌}
 use Rattle.mrc_base.specs.declared.Fact.TheVariants.{Hold}
 use Rattle.mrc_base.specs.declared.PortRight.{PortRight}
 use Rattle.mrc_base.specs.declared.PortRight.TheVariants.{Send}
 use Rattle.mrc_model.proofs.Maps.{same_Some}
 use Rattle.mrc_model.specs.Breach.{Breach, Counts, Forbid, Holds, Reaches, also, itself}
-use Rattle.mrc_model.specs.Rules.{Closed, Facts, ForbidsNone}
+use Rattle.mrc_model.specs.Rules.{Closed, FactSet, ForbidsNone}
 use Rattle.mrc_model.specs.Wiring.{Wiring, kernel_class}
 use Rattle.mrc_model.specs.World.{World, class_of, entry_rights, task_class}
 use Rattle.mrc_cover.proofs.Kept.{Kept, task_class_is}
 use Rattle.mrc_cover.proofs.Obeyed.{Ranged, obeys}
 use Rattle.mrc_cover.proofs.Rights.{MayHold, known_in, right_on}
 
-module _ (W : Wiring) (F : Facts) (closed : Closed W F) (w : World) (kept : Kept W (Ranged W F) w) where
+module _ (W : Wiring) (F : FactSet) (closed : Closed W F) (w : World)
+    (kept : Kept W (Ranged W F) w) where
   -- each holding is a fact
   held_fact : (t p c : ℕ) (r : PortRight) → Holds w t p r → class_of w.store p ≡ Some c
       → Ranged W F (Hold (task_class w t) c r)
@@ -26,7 +28,8 @@ module _ (W : Wiring) (F : Facts) (closed : Closed W F) (w : World) (kept : Kept
   reached : (t u c : ℕ) (r : PortRight) → Reaches w t u → Ranged W F (Hold (task_class w u) c r)
       → Ranged W F (Hold (task_class w t) c r)
   reached t u c r (x, at, alive, holds) fact =
-      let kernel = held_fact t x.kernel (kernel_class W x.class) Send holds (kept.tasks.kernel u x at alive) in
+      let kernel = held_fact t x.kernel (kernel_class W x.class) Send holds
+      (kept.tasks.kernel u x at alive) in
       let of_class = task_class_is W F w u x at in
       (obeys W F closed).up (rw (← of_class) at kernel) fact.0.0 fact
 
@@ -34,7 +37,8 @@ module _ (W : Wiring) (F : Facts) (closed : Closed W F) (w : World) (kept : Kept
   counted : (t u c : ℕ) (r : PortRight) → Counts w t u → Ranged W F (Hold (task_class w u) c r)
       → Ranged W F (Hold (task_class w t) c r)
   counted t u c r (itself) fact = fact
-  counted t u c r (also {u = v} before reaches) fact = counted t v c r before (reached v u c r reaches fact)
+  counted t u c r (also {u = v} before reaches) fact =
+      counted t v c r before (reached v u c r reaches fact)
 
   -- so a holding that a policy forbids is a fact that it forbids
   pub no_breach : (policy : List Forbid) → ForbidsNone policy F → Breach w policy → ⊥

@@ -1,30 +1,38 @@
 -- Taking what a message carries.
-use Rattle.std.proofs.Common.{Bool, List, None, Ok, Option, Some, [], ap, arith, false, if◌then◌else◌, refl, subst, sym, true, ℕ, ◌++◌, ◌+◌, ◌-◌, ◌==◌, ◌∙◌, ◌∷◌, ◌≡◌, ◌≤◌}
+use Rattle.std.proofs.Common.{Bool, List, None, Ok, Option, Some, [], ap, arith, false}
+use Rattle.std.proofs.Common.{if◌then◌else◌, refl, subst, sym, true, ℕ, ◌++◌, ◌+◌, ◌-◌, ◌==◌, ◌∙◌}
+use Rattle.std.proofs.Common.{◌∷◌, ◌≡◌, ◌≤◌}
 use Rattle.std.proofs.Math.Nat.{le_trans}
-use Rattle.mrc_base.specs.Disposition.{given, needed}
+use Rattle.mrc_base.specs.Disposition.{given, needed, disp_of_number}
 use Rattle.mrc_base.specs.declared.Disp.{Disp}
-use Rattle.mrc_base.specs.declared.Disp.TheVariants.{CopySend, MakeSend, MakeSendOnce, MoveReceive, MoveSend, MoveSendOnce}
+use Rattle.mrc_base.specs.declared.Disp.TheVariants.{CopySend, MakeSend, MakeSendOnce, MoveReceive}
+use Rattle.mrc_base.specs.declared.Disp.TheVariants.{MoveSend, MoveSendOnce}
 use Rattle.mrc_base.specs.declared.Fact.TheVariants.{Hold}
 use Rattle.mrc_base.specs.declared.PortRight.{PortRight}
 use Rattle.mrc_model.proofs.Maps.{not_None, same_Some}
 use Rattle.mrc_model.proofs.Tries.{Gives, bind, bind_, checked, found, gives_ok}
-use Rattle.mrc_model.specs.CallSend.{admit_item, dead_taken, take_arg, take_args, take_dead, take_item, take_items, take_live, take_named}
+use Rattle.mrc_model.specs.CallSend.{admit_item, dead_taken, take_arg, take_args, take_dead}
+use Rattle.mrc_model.specs.CallSend.{take_item, take_items, take_live, take_named}
 use Rattle.mrc_model.specs.Covers.{Known}
-use Rattle.mrc_model.specs.Filter.{arg_kind}
+use Rattle.mrc_model.specs.Filter.{arg_name}
 use Rattle.mrc_model.specs.IsIn.{IsIn, here, later}
 use Rattle.mrc_model.specs.Map.{get, len}
 use Rattle.mrc_model.specs.Message.{Arg, Data, Ports}
 use Rattle.mrc_model.specs.Reply.{Reply}
-use Rattle.mrc_model.specs.Rights.{disp_of}
-use Rattle.mrc_model.specs.Rules.{Facts}
+use Rattle.mrc_model.specs.Rules.{FactSet}
 use Rattle.mrc_model.specs.Step.{step}
 use Rattle.mrc_model.specs.Wiring.{Shape, Wiring, admits}
-use Rattle.mrc_model.specs.World.{Held, QueuedArg, Store, arg_rights, args_rights, class_of, item_rights, items_rights, receives, space}
+use Rattle.mrc_model.specs.World.{Held, QueuedArg, Store, arg_rights, args_rights, class_of}
+use Rattle.mrc_model.specs.World.{item_rights, items_rights, receives, space}
 use Rattle.mrc_model.specs.declared.Entry.{Entry}
-use Rattle.mrc_model.specs.declared.Entry.TheVariants.{DeadName as DeadEntry, SendOnce as OnceEntry, Receive as ReceiveEntry, Send as SendEntry, PortSet as SetEntry}
+use Rattle.mrc_model.specs.declared.Entry.TheVariants.{DeadName as DeadEntry, SendOnce as OnceEntry}
+use Rattle.mrc_model.specs.declared.Entry.TheVariants.{Receive as ReceiveEntry, Send as SendEntry}
+use Rattle.mrc_model.specs.declared.Entry.TheVariants.{PortSet as SetEntry}
 use Rattle.mrc_model.specs.declared.Item.{Item}
-use Rattle.mrc_model.specs.declared.Item.TheVariants.{Dead as DeadItem, Null as NullItem, Right as RightItem}
-use Rattle.mrc_cover.proofs.Entries.{IsLeft, all_is_left, dead_is_left, rights-dead_entry, rights_left}
+use Rattle.mrc_model.specs.declared.Item.TheVariants.{Dead as DeadItem, Null as NullItem}
+use Rattle.mrc_model.specs.declared.Item.TheVariants.{Right as RightItem}
+use Rattle.mrc_cover.proofs.Entries.{IsLeft, all_is_left, dead_is_left, rights-dead_entry}
+use Rattle.mrc_cover.proofs.Entries.{rights_left}
 use Rattle.mrc_cover.proofs.Judging.{Fit, fits_next}
 use Rattle.mrc_cover.proofs.Obeyed.{Obeys, obeys}
 use Rattle.mrc_cover.proofs.Rights.{Known-along, Known-append, Known-more, MayHold, receives-append}
@@ -32,15 +40,17 @@ use Rattle.mrc_cover.proofs.Sound.{Leaves, SoundWith, changes_nothing, changes_t
 use Rattle.mrc_cover.proofs.Stores.{live_class}
 use Rattle.mrc_cover.proofs.Taking.{put_entry_adds_no_name, put_entry_leaves, take_leaves}
 
-module _ (W : Wiring) (G : Facts) (task : ℕ → ℕ) (A : ℕ → Type 0) where
+module _ (W : Wiring) (G : FactSet) (task : ℕ → ℕ) (A : ℕ → Type 0) where
   -- these rights are taken from the store, and P holds of each and its class
-  pub record IsCarried (s : Store) (hand rights : List Held) (P : ℕ → PortRight → Type 0) (z : Store) : Type 0 where
+  pub record IsCarried (s : Store) (hand rights : List Held) (P : ℕ → PortRight
+      → Type 0) (z : Store) : Type 0 where
     pub leaves : Leaves W G task A s (rights ++ hand) z
     pub known : Known (class_of z) P rights
     pub small : (u : ℕ) → len (space z u) ≤ len (space s u)
 
   -- no right is taken
-  pub carries_nothing : (s : Store) (hand : List Held) (P : ℕ → PortRight → Type 0) → SoundWith W G task s hand
+  pub carries_nothing : (s : Store) (hand : List Held) (P : ℕ → PortRight → Type 0)
+      → SoundWith W G task s hand
       → IsCarried s hand [] P s
   carries_nothing s hand P sound = record {
     leaves = record { sound = sound; changes = changes_nothing A s };
@@ -49,14 +59,16 @@ module _ (W : Wiring) (G : Facts) (task : ℕ → ℕ) (A : ℕ → Type 0) wher
   }
 
   -- first some rights, then more
-  pub carries_then : {r s z : Store} {hand xs ys : List Held} {P : ℕ → PortRight → Type 0} → IsCarried r hand xs P s
+  pub carries_then : {r s z : Store} {hand xs ys : List Held} {P : ℕ → PortRight → Type 0}
+      → IsCarried r hand xs P s
       → IsCarried s (xs ++ hand) ys P z → IsCarried r hand (xs ++ ys) P z
   carries_then {r} {s} {z} {hand} {xs} {ys} a b = record {
     leaves = record {
       sound = exchange_hand (λ q.
           let c = receives-append q (xs ++ ys) hand in
           let d = receives-append q xs ys in
-          let e = receives-append q ys (xs ++ hand) in let f = receives-append q xs hand in omega arith) b.leaves.sound;
+          let e = receives-append q ys (xs
+          ++ hand) in let f = receives-append q xs hand in omega arith) b.leaves.sound;
       changes = changes_then a.leaves.changes b.leaves.changes;
     };
     known = Known-append (Known-along b.leaves.changes.classes a.known) b.known;
@@ -64,13 +76,17 @@ module _ (W : Wiring) (G : Facts) (task : ℕ → ℕ) (A : ℕ → Type 0) wher
   }
 
   -- what is left of a dead entry has no right
-  dead_part : (k : ℕ) (x : Disp) (rest : Option Entry) (F : ℕ → PortRight → Type 0) (at : ℕ → Option ℕ)
+  dead_part : (k : ℕ) (x : Disp) (rest : Option Entry) (F : ℕ → PortRight → Type 0) (at : ℕ
+      → Option ℕ)
       → take_dead k x ≡ Some rest → (rights_left rest ≡ []) × IsLeft at F (DeadEntry k) rest
-  dead_part k MoveSend rest F at e = subst (λ v. (rights_left v ≡ []) × IsLeft at F (DeadEntry k) v) (same_Some _ rest e)
+  dead_part k MoveSend rest F at e =
+      subst (λ v. (rights_left v ≡ []) × IsLeft at F (DeadEntry k) v) (same_Some _ rest e)
       (rights-dead_entry (k - 1), dead_is_left at F k (k - 1))
-  dead_part k MoveSendOnce rest F at e = subst (λ v. (rights_left v ≡ []) × IsLeft at F (DeadEntry k) v) (same_Some _ rest e)
+  dead_part k MoveSendOnce rest F at e =
+      subst (λ v. (rights_left v ≡ []) × IsLeft at F (DeadEntry k) v) (same_Some _ rest e)
       (rights-dead_entry (k - 1), dead_is_left at F k (k - 1))
-  dead_part k CopySend rest F at e = subst (λ v. (rights_left v ≡ []) × IsLeft at F (DeadEntry k) v) (same_Some _ rest e)
+  dead_part k CopySend rest F at e =
+      subst (λ v. (rights_left v ≡ []) × IsLeft at F (DeadEntry k) v) (same_Some _ rest e)
       (refl, all_is_left at F (DeadEntry k))
   dead_part k MoveReceive rest F at e = absurd (not_None rest (sym e))
   dead_part k MakeSend rest F at e = absurd (not_None rest (sym e))
@@ -91,27 +107,35 @@ module _ (W : Wiring) (G : Facts) (task : ℕ → ℕ) (A : ℕ → Type 0) wher
   By t x c r = G (Hold (task t) c (needed x)) × (r ≡ given x)
 
   -- one item: null, dead, or a right that the sender may hold
-  pub take_item_carries : Obeys W G → (s : Store) (hand : List Held) (t n : ℕ) (x : Disp) (e : Reply) → A t
+  pub take_item_carries : Obeys W G
+      → (s : Store) (hand : List Held) (t n : ℕ) (x : Disp) (e : Reply) → A t
       → SoundWith W G task s hand
-      → Gives (λ (r : Store × Item). IsCarried s hand (item_rights r.1) (By t x) r.0) (take_item s t n x e)
+      → Gives (λ (r : Store × Item). IsCarried s hand (item_rights r.1) (By t x) r.0)
+      (take_item s t n x e)
   unfolding take_item
   take_item_carries obeys s hand t n x e mine sound = by_null (n == 0)
     where
-      by_live : Gives (λ (r : Store × Item). IsCarried s hand (item_rights r.1) (By t x) r.0) (take_live s t n x e)
-      by_live = bind _ _ (take_leaves W G task A obeys s hand t n x e e mine sound) (λ got h. gives_ok record {
-        leaves = h.leaves;
-        known = record { all = ((h.had.0, h.had.1, (h.had.2, refl)), tt) };
-        small = h.small;
-      })
+      by_live : Gives (λ (r : Store
+          × Item). IsCarried s hand (item_rights r.1) (By t x) r.0) (take_live s t n x e)
+      by_live =
+          bind _ _ (take_leaves W G task A obeys s hand t n x e e mine sound)
+          (λ got h. gives_ok record {
+            leaves = h.leaves;
+            known = record { all = ((h.had.0, h.had.1, (h.had.2, refl)), tt) };
+            small = h.small;
+          })
 
       by_dead : (o : Option (Option Entry)) → dead_taken (get (space s t) n) x ≡ o
-          → Gives (λ (r : Store × Item). IsCarried s hand (item_rights r.1) (By t x) r.0) (take_named s t n x e o)
+          → Gives (λ (r : Store × Item). IsCarried s hand (item_rights r.1) (By t x) r.0)
+          (take_named s t n x e o)
       by_dead None z = by_live
       by_dead (Some rest) z =
           let (k, is, took) = dead_entry_of (get (space s t) n) x rest z in
           let part = dead_part k x rest (MayHold G (task t)) (class_of s) took in
           gives_ok record {
-            leaves = put_entry_leaves W G task A s hand hand t n (DeadEntry k) rest mine sound is part.1 (λ q.
+            leaves =
+                put_entry_leaves W G task A s hand hand t n (DeadEntry k) rest mine sound is part.1
+                (λ q.
                 let a = ap (receives q) part.0 in
                 omega arith);
             known = record { all = tt };
@@ -126,18 +150,22 @@ module _ (W : Wiring) (G : Facts) (task : ℕ → ℕ) (A : ℕ → Type 0) wher
 
       by_null : (b : Bool)
           → Gives (λ (r : Store × Item). IsCarried s hand (item_rights r.1) (By t x) r.0)
-          (if b then Ok (s, NullItem) else if n == 0xffffffff then Ok (s, DeadItem) else take_named s t n x e
+          (if b then Ok (s, NullItem) else if n == 0xffffffff then Ok (s, DeadItem)
+          else take_named s t n x e
           (dead_taken (get (space s t) n) x))
       by_null true = gives_ok (carries_nothing s hand (By t x) sound)
       by_null false = by_gone (n == 0xffffffff)
 
   -- rights are carried for weaker facts
   pub carries_weaker : {s z : Store} {hand rights : List Held} {P Q : ℕ → PortRight → Type 0}
-      → ((c : ℕ) (r : PortRight) → P c r → Q c r) → IsCarried s hand rights P z → IsCarried s hand rights Q z
-  carries_weaker step c = record { leaves = c.leaves; known = Known-more step c.known; small = c.small }
+      → ((c : ℕ) (r : PortRight) → P c r → Q c r) → IsCarried s hand rights P z
+      → IsCarried s hand rights Q z
+  carries_weaker step c =
+      record { leaves = c.leaves; known = Known-more step c.known; small = c.small }
 
   -- an item of a slot, admitted
-  admitted : (s z : Store) (hand : List Held) (t sort i : ℕ) (x : Disp) (item : Item) (Q : ℕ → PortRight → Type 0)
+  admitted : (s z : Store) (hand : List Held) (t sort i : ℕ) (x : Disp) (item : Item) (Q : ℕ
+      → PortRight → Type 0)
       → ((c : ℕ) → admits W sort c ≡ true → G (Hold (task t) c (needed x)) → Q c (given x))
       → IsCarried s hand (item_rights item) (By t x) z
       → Gives (λ _. IsCarried s hand (item_rights item) Q z) (admit_item W z sort i item)
@@ -158,48 +186,68 @@ module _ (W : Wiring) (G : Facts) (task : ℕ → ℕ) (A : ℕ → Type 0) wher
             let h = c.known.all.0 in
             let same : y.class ≡ h.0 = same_Some y.class h.0 (sym (live_class z p y live) ∙ h.1) in
             let q : Q h.0 (given x) = step h.0 (rw same at yes) h.2.0 in
-            record { leaves = c.leaves; known = record { all = ((h.0, h.1, rw (sym h.2.1) at q), tt) }; small = c.small };
+            record {
+              leaves = c.leaves;
+              known =
+                  record { all = ((h.0, h.1, rw (sym h.2.1) at q), tt) };
+              small = c.small;
+            };
       })
 
   -- the items of one argument
   take_items_carry : Obeys W G
-      → (s : Store) (hand : List Held) (t sort i : ℕ) (x : Disp) (ns : List ℕ) (Q : ℕ → PortRight → Type 0)
+      → (s : Store) (hand : List Held) (t sort i : ℕ) (x : Disp) (ns : List ℕ) (Q : ℕ → PortRight
+      → Type 0)
       → ((c : ℕ) → admits W sort c ≡ true → G (Hold (task t) c (needed x)) → Q c (given x)) → A t
       → SoundWith W G task s hand
-      → Gives (λ (r : Store × List Item). IsCarried s hand (items_rights r.1) Q r.0) (take_items W t x sort i s ns)
-  take_items_carry obeys s hand t sort i x [] Q step mine sound = gives_ok (carries_nothing s hand Q sound)
+      → Gives (λ (r : Store × List Item). IsCarried s hand (items_rights r.1) Q r.0)
+      (take_items W t x sort i s ns)
+  take_items_carry obeys s hand t sort i x [] Q step mine sound =
+      gives_ok (carries_nothing s hand Q sound)
   take_items_carry obeys s hand t sort i x (n ∷ ns) Q step mine sound =
       bind _ _ (take_item_carries obeys s hand t n x _ mine sound) (λ a h.
       bind_ _ _ (admitted s a.0 hand t sort i x a.1 Q step h) (λ _ g.
-      bind _ _ (take_items_carry obeys a.0 (item_rights a.1 ++ hand) t sort i x ns Q step mine g.leaves.sound) (λ b k.
+      bind _ _ (take_items_carry obeys a.0 (item_rights a.1
+      ++ hand) t sort i x ns Q step mine g.leaves.sound) (λ b k.
       gives_ok (carries_then g k))))
 
   -- one argument
-  take_arg_carries : Obeys W G → (s : Store) (hand : List Held) (t sort i : ℕ) (a : Arg) (Q : ℕ → PortRight → Type 0)
-      → ((c : ℕ) (x : Disp) → disp_of (arg_kind a) ≡ Some x → admits W sort c ≡ true → G (Hold (task t) c (needed x)) → Q c (given x))
+  take_arg_carries : Obeys W G
+      → (s : Store) (hand : List Held) (t sort i : ℕ) (a : Arg) (Q : ℕ → PortRight → Type 0)
+      → ((c : ℕ) (x : Disp) → disp_of_number (arg_name a) ≡ Some x → admits W sort c ≡ true
+      → G (Hold (task t) c (needed x)) → Q c (given x))
       → A t → SoundWith W G task s hand
-      → Gives (λ (r : Store × QueuedArg). IsCarried s hand (arg_rights r.1) Q r.0) (take_arg W t sort i s a)
-  take_arg_carries obeys s hand t sort i (Data kind size number bytes) Q step mine sound = gives_ok (carries_nothing s hand Q sound)
-  take_arg_carries obeys s hand t sort i (Ports kind names) Q step mine sound =
-      bind _ _ (found (disp_of kind) _) (λ x is.
-      bind _ _ (take_items_carry obeys s hand t sort i x names Q (λ c a g. step c x is a g) mine sound) (λ b k.
+      → Gives (λ (r : Store × QueuedArg). IsCarried s hand (arg_rights r.1) Q r.0)
+      (take_arg W t sort i s a)
+  take_arg_carries obeys s hand t sort i (Data name size number bytes) Q step mine sound =
+      gives_ok (carries_nothing s hand Q sound)
+  take_arg_carries obeys s hand t sort i (Ports disp names) Q step mine sound =
+      bind _ _ (found (disp_of_number disp) _) (λ x is.
+      bind _ _
+      (take_items_carry obeys s hand t sort i x names Q (λ c a g. step c x is a g) mine sound)
+      (λ b k.
       gives_ok k))
 
   -- the rule of slots serves each argument
   abbrev pub IsSlotOf : (ℕ → PortRight → Type 0) → ℕ → Shape → Type 0
-  IsSlotOf Q t s = (c : ℕ) (x : Disp) → disp_of s.kind ≡ Some x → admits W s.sort c ≡ true → G (Hold (task t) c (needed x))
+  IsSlotOf Q t s =
+      (c : ℕ) (x : Disp) → disp_of_number s.name ≡ Some x → admits W s.sort c ≡ true
+      → G (Hold (task t) c (needed x))
       → Q c (given x)
 
   -- all arguments
   pub take_args_carry : Obeys W G
-      → (s : Store) (hand : List Held) (t i : ℕ) (ss : List Shape) (xs : List Arg) (Q : ℕ → PortRight → Type 0)
+      → (s : Store) (hand : List Held) (t i : ℕ) (ss : List Shape) (xs : List Arg) (Q : ℕ
+      → PortRight → Type 0)
       → Fit ss xs → ((h : Shape) → IsIn h ss → IsSlotOf Q t h) → A t → SoundWith W G task s hand
-      → Gives (λ (r : Store × List QueuedArg). IsCarried s hand (args_rights r.1) Q r.0) (take_args W t i ss s xs)
-  take_args_carry obeys s hand t i ss [] Q fit step mine sound = gives_ok (carries_nothing s hand Q sound)
+      → Gives (λ (r : Store × List QueuedArg). IsCarried s hand (args_rights r.1) Q r.0)
+      (take_args W t i ss s xs)
+  take_args_carry obeys s hand t i ss [] Q fit step mine sound =
+      gives_ok (carries_nothing s hand Q sound)
   take_args_carry obeys s hand t i [] (a ∷ more) Q fit step mine sound = elim fit [ ]
   take_args_carry obeys s hand t i (h ∷ ss) (a ∷ more) Q (fits_next k fit) step mine sound =
       bind _ _ (take_arg_carries obeys s hand t h.sort i a Q
-      (λ c x is yes g. step h (here) c x (ap disp_of k ∙ is) yes g) mine sound) (λ b l.
+      (λ c x is yes g. step h (here) c x (ap disp_of_number k ∙ is) yes g) mine sound) (λ b l.
       bind _ _ (take_args_carry obeys b.0 (arg_rights b.1 ++ hand) t (i + 1) ss more Q fit
       (λ v j. step v (later j)) mine l.leaves.sound) (λ d m.
       gives_ok (carries_then l m)))

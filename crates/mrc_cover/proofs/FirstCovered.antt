@@ -6,7 +6,7 @@ use Rattle.mrc_model.specs.Covers.{Covers, Known, KnownAt}
 use Rattle.mrc_model.specs.First.{first, is_sound}
 use Rattle.mrc_model.specs.IsIn.{IsIn, here, later}
 use Rattle.mrc_model.specs.Map.{get}
-use Rattle.mrc_model.specs.Rules.{Closed, Facts, k1}
+use Rattle.mrc_model.specs.Rules.{Closed, FactSet, k1}
 use Rattle.mrc_model.specs.Wiring.{Wiring}
 use Rattle.mrc_model.specs.World.{Held, class_of, entry_rights, queue_rights, space, task_class}
 use Rattle.mrc_model.specs.declared.Backup.TheVariants.{Port as BackupPort, Absent as NoBackup}
@@ -19,9 +19,12 @@ use Rattle.mrc_cover.proofs.WellFormed.{alive_of_entry, class_of_alive}
 
 module _ (W : Wiring) where
   -- each fact of the first holdings is a conclusion of the first rule
-  from_entries : (F : Facts) → Closed W F → (t n : ℕ) (e : Entry) → get (space (first W).store t) n ≡ Some e
-      → task_class (first W) t < W.tasks → (hs gs : List Held) → ((h : Held) → IsIn h hs → IsIn h (entry_rights e))
-      → AllByRecursion (KnownAt (class_of (first W).store) (MayHold (Ranged W Any) (task_class (first W) t))) hs
+  from_entries : (F : FactSet) → Closed W F → (t n : ℕ) (e : Entry)
+      → get (space (first W).store t) n ≡ Some e
+      → task_class (first W) t < W.tasks → (hs gs : List Held)
+      → ((h : Held) → IsIn h hs → IsIn h (entry_rights e))
+      → AllByRecursion
+      (KnownAt (class_of (first W).store) (MayHold (Ranged W Any) (task_class (first W) t))) hs
       → AllByRecursion (KnownAt (class_of (first W).store) (MayHold F (task_class (first W) t))) hs
   from_entries F closed t n e is its [] gs sub h = tt
   from_entries F closed t n e is its (x ∷ xs) gs sub h = (
@@ -36,18 +39,22 @@ module _ (W : Wiring) where
   )
 
   -- so each closed set covers the first state, where no message and no request is
-  pub first_covers : is_sound W ≡ true → (F : Facts) → Closed W F → Covers F (first W)
+  pub first_covers : is_sound W ≡ true → (F : FactSet) → Closed W F → Covers F (first W)
   first_covers ok F closed =
       let (kept, idle) = first_keeps W ok in
       record {
         held = λ t n e is. record {
           all = from_entries F closed t n e is
-              (class_of_alive W Any (first W) kept.tasks t (alive_of_entry W Any (first W) kept.tasks t n e is))
+              (class_of_alive W Any (first W) kept.tasks t
+              (alive_of_entry W Any (first W) kept.tasks t n e is))
               (entry_rights e) [] (λ h i. i) (kept.sound.covers.held t n e is).all;
         };
-        carried = λ q x is. subst (λ ms. Known (class_of (first W).store) (MayCarry F x.class) (queue_rights ms))
+        carried =
+            λ q x is. subst
+            (λ ms. Known (class_of (first W).store) (MayCarry F x.class) (queue_rights ms))
             (sym (idle q x is).0) record { all = tt };
-        backups = λ p x is. record { live = λ q e. absurd (not_backed q (sym (idle p x is).1 ∙ e)) };
+        backups =
+            λ p x is. record { live = λ q e. absurd (not_backed q (sym (idle p x is).1 ∙ e)) };
       }
     where
       not_backed : (q : ℕ) → NoBackup ≡ BackupPort q → ⊥

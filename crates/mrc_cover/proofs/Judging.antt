@@ -1,5 +1,8 @@
 -- What the filter says of a message that it lets through.
-use Rattle.std.proofs.Common.{Bool, Err, List, None, Ok, Option, Some, [], ap, false, if◌then◌else◌, inl, inr, map, refl, subst, sym, true, ℕ, ◌&&◌, ◌+◌, ◌==◌, ◌∙◌, ◌∷◌, ◌≡◌}
+use Rattle.mrc_base.specs.Disposition.{is_port_number}
+use Rattle.std.proofs.Common.{Bool, Err, List, None, Ok, Option, Some, [], ap, false, if◌then◌else◌}
+use Rattle.std.proofs.Common.{inl, inr, map, refl, subst, sym, true, ℕ, ◌&&◌, ◌+◌, ◌==◌, ◌∙◌, ◌∷◌}
+use Rattle.std.proofs.Common.{◌≡◌}
 use Rattle.std.proofs.lemmas.Bool.{eqb-true, or_right}
 use Rattle.std.specs.List.{find, list_any}
 use Rattle.std.specs.Prelude.{flat_map}
@@ -7,19 +10,24 @@ use Rattle.mrc_model.proofs.Concluding.{in_append}
 use Rattle.mrc_model.proofs.Maps.{not_None, same_Some}
 use Rattle.mrc_model.proofs.Tries.{Gives, gives_err, gives_ok}
 use Rattle.mrc_model.specs.CallSend.{by_filter}
-use Rattle.mrc_model.specs.Filter.{arg_kind, expected, first_alone, first_difference, fits_reply, has_size, is_port_kind, is_zero_data, judge, judge_form, judge_found}
+use Rattle.mrc_model.specs.Filter.{arg_name, expected, first_alone, first_difference, fits_reply}
+use Rattle.mrc_model.specs.Filter.{has_size, is_zero_data, judge, judge_form, judge_found}
 use Rattle.mrc_model.specs.IsIn.{IsIn, here, later}
 use Rattle.mrc_model.specs.Message.{Arg, Message}
-use Rattle.mrc_model.specs.Wiring.{Form, OfReply, OfRequest, RequestForm, Shape, Wiring, accepts_routine, form_id, form_shapes, forms, has_routine, interface, is_routine, item_forms, label}
+use Rattle.mrc_model.specs.Wiring.{Form, OfReply, OfRequest, RequestForm, Shape, Wiring}
+use Rattle.mrc_model.specs.Wiring.{accepts_routine, form_id, form_shapes, forms, has_routine}
+use Rattle.mrc_model.specs.Wiring.{interface, is_routine, item_forms, label}
 use Rattle.mrc_model.specs.declared.Denied.{Denied}
 use Rattle.mrc_model.specs.declared.Denied.TheVariants.{ReplySlot, WrongDisposition, WrongShape}
 use Rattle.mrc_model.specs.declared.LabelItem.{LabelItem}
-use Rattle.mrc_model.specs.declared.LabelItem.TheVariants.{Destroyed, Reply as ReplyOf, Request as RequestOf}
+use Rattle.mrc_model.specs.declared.LabelItem.TheVariants.{Destroyed, Reply as ReplyOf}
+use Rattle.mrc_model.specs.declared.LabelItem.TheVariants.{Request as RequestOf}
 
 -- the arguments stand at shapes of their kinds
 pub data Fit : List Shape → List Arg → Type 0 where
   fits_none : {ss : List Shape} → Fit ss []
-  fits_next : {s : Shape} {ss : List Shape} {a : Arg} {more : List Arg} → s.kind ≡ arg_kind a → Fit ss more
+  fits_next : {s : Shape} {ss : List Shape} {a : Arg} {more : List Arg} → s.name ≡ arg_name a
+      → Fit ss more
       → Fit (s ∷ ss) (a ∷ more)
 
 -- where no difference is found the arguments fit
@@ -28,19 +36,22 @@ fits i [] [] e = fits_none
 fits i [] (a ∷ more) e = absurd (not_None _ e)
 fits i (s ∷ ss) [] e = fits_none
 fits i (s ∷ ss) (a ∷ more) e =
-    let go : (b c : Bool) → (s.kind == arg_kind a) ≡ c
-    → (if b then (if c then first_difference (i + 1) ss more else if is_port_kind s.kind && is_port_kind
-    (arg_kind a) then Some (WrongDisposition i) else Some (WrongShape i)) else Some (WrongShape i)) ≡ None
+    let go : (b c : Bool) → (s.name == arg_name a) ≡ c
+    → (if b then
+    (if c then first_difference (i + 1) ss more else if is_port_number s.name && is_port_number
+    (arg_name a) then Some (WrongDisposition i) else Some (WrongShape i)) else Some (WrongShape i))
+    ≡ None
     → Fit (s ∷ ss) (a ∷ more) = elim [
       | true ↦ elim [
-        | true ↦ λ k z. fits_next (eqb-true s.kind (arg_kind a) k)
+        | true ↦ λ k z. fits_next (eqb-true s.name (arg_name a) k)
             (fits (i + 1) ss more z)
         | false ↦ λ k z. absurd
-            (never (is_port_kind s.kind && is_port_kind (arg_kind a)) (WrongDisposition i) (WrongShape i) z)
+            (never (is_port_number s.name && is_port_number (arg_name a)) (WrongDisposition i)
+            (WrongShape i) z)
       ]
       | false ↦ λ c k z. absurd (not_None (WrongShape i) z)
     ] in
-    go (has_size s a) (s.kind == arg_kind a) refl e
+    go (has_size s a) (s.name == arg_name a) refl e
   where
     never : (b : Bool) (x y : Denied) → (if b then Some x else Some y) ≡ None → ⊥
     never true x y z = not_None x z
@@ -78,35 +89,42 @@ found_in test (g ∷ gs) f e =
     go (test g) e
 
 -- what the filter lets through fits a form of the class
-pub judge_says : (W : Wiring) (d : ℕ) (m : Message) → Gives (IsJudged W d m) (by_filter (judge W d m))
+pub judge_says : (W : Wiring) (d : ℕ) (m : Message)
+    → Gives (IsJudged W d m) (by_filter (judge W d m))
 unfolding judge
 judge_says W d m = by_found (find (λ (f : Form). form_id f == m.id) (forms W d)) refl
   where
     by_reply : (f : Form) → IsIn f (forms W d) → Fit (form_shapes f) m.args → (b : Bool)
-        → fits_reply f m.local_disp ≡ b → Gives (IsJudged W d m) (by_filter (if b then Ok f else Err ReplySlot))
+        → fits_reply f m.local_disp ≡ b
+        → Gives (IsJudged W d m) (by_filter (if b then Ok f else Err ReplySlot))
     by_reply f is fit true e = gives_ok record { form = is; fit = fit; reply = e }
     by_reply f is fit false e = gives_err _ _
 
     by_difference : (f : Form) → IsIn f (forms W d) → (o : Option Denied)
-        → first_difference 0 (expected f m.args) m.args ≡ o → Gives (IsJudged W d m) (by_filter (judge_form f m o))
+        → first_difference 0 (expected f m.args) m.args ≡ o
+        → Gives (IsJudged W d m) (by_filter (judge_form f m o))
     by_difference f is (Some x) e = gives_err _ _
-    by_difference f is None e = by_reply f is (fit_expected f m.args (fits 0 (expected f m.args) m.args e))
+    by_difference f is None e =
+        by_reply f is (fit_expected f m.args (fits 0 (expected f m.args) m.args e))
         (fits_reply f m.local_disp) refl
 
     by_found : (o : Option Form) → find (λ (f : Form). form_id f == m.id) (forms W d) ≡ o
         → Gives (IsJudged W d m) (by_filter (judge_found m o))
     by_found None e = gives_err _ _
-    by_found (Some f) e = by_difference f (found_in (λ (f : Form). form_id f == m.id) (forms W d) f e)
+    by_found (Some f) e =
+        by_difference f (found_in (λ (f : Form). form_id f == m.id) (forms W d) f e)
         (first_difference 0 (expected f m.args) m.args) refl
 
 -- an element of a mapped list is the image of one
-in_map : {X Y : Type 0} (g : X → Y) (xs : List X) (y : Y) → IsIn y (map g xs) → (x : X) × IsIn x xs × (g x ≡ y)
+in_map : {X Y : Type 0} (g : X → Y) (xs : List X) (y : Y) → IsIn y (map g xs)
+    → (x : X) × IsIn x xs × (g x ≡ y)
 in_map g [] y i = elim i [ ]
 in_map g (x ∷ xs) y (here) = (x, here, refl)
 in_map g (x ∷ xs) y (later i) = let (v, in_xs, is) = in_map g xs y i in (v, later in_xs, is)
 
 -- a test that an element passes
-any_in : {X : Type 0} (test : X → Bool) (x : X) (xs : List X) → IsIn x xs → test x ≡ true → list_any test xs ≡ true
+any_in : {X : Type 0} (test : X → Bool) (x : X) (xs : List X) → IsIn x xs → test x ≡ true
+    → list_any test xs ≡ true
 any_in test x [] i e = elim i [ ]
 any_in test x (y ∷ xs) (here) e = rw e
 any_in test x (y ∷ xs) (later i) e = or_right (test y) (list_any test xs) (any_in test x xs i e)
@@ -118,11 +136,13 @@ item_routine W f (RequestOf s) i e =
     let (g, in_requests, is) = in_map OfRequest (interface W s).requests (OfRequest f) i in
     let same : g ≡ f = cc in
     any_in is_routine g (interface W s).requests in_requests (ap is_routine same ∙ e)
-item_routine W f (ReplyOf s) i e = let (g, in_replies, is) = in_map OfReply (interface W s).replies (OfRequest f) i in absurd (cc)
+item_routine W f (ReplyOf s) i e =
+    let (g, in_replies, is) = in_map OfReply (interface W s).replies (OfRequest f) i in absurd (cc)
 item_routine W f Destroyed i e = elim i [ ]
 
 -- so the class whose form it is accepts routines
-pub routine_accepted : (W : Wiring) (d : ℕ) (f : RequestForm) → IsIn (OfRequest f) (forms W d) → is_routine f ≡ true
+pub routine_accepted : (W : Wiring) (d : ℕ) (f : RequestForm) → IsIn (OfRequest f) (forms W d)
+    → is_routine f ≡ true
     → accepts_routine W d ≡ true
 unfolding forms accepts_routine
 routine_accepted W d f i e = of_items (label W d) i
@@ -130,7 +150,8 @@ routine_accepted W d f i e = of_items (label W d) i
     of_items : (items : List LabelItem) → IsIn (OfRequest f) (flat_map (item_forms W) items)
         → list_any (has_routine W) items ≡ true
     of_items [] i = elim i [ ]
-    of_items (x ∷ more) i = elim (in_append (OfRequest f) (item_forms W x) (flat_map (item_forms W) more) i) [
-      | inl a ↦ let is = item_routine W f x a e in rw is
-      | inr b ↦ or_right (has_routine W x) (list_any (has_routine W) more) (of_items more b)
-    ]
+    of_items (x ∷ more) i =
+        elim (in_append (OfRequest f) (item_forms W x) (flat_map (item_forms W) more) i) [
+          | inl a ↦ let is = item_routine W f x a e in rw is
+          | inr b ↦ or_right (has_routine W x) (list_any (has_routine W) more) (of_items more b)
+        ]

@@ -1,29 +1,35 @@
 -- A new task, with its kernel port and a send right to it under name 1.
-use Rattle.std.proofs.Common.{Bool, None, Some, [], ap, arith, if◌then◌else◌, inl, inr, refl, subst, sym, true, ℕ, ◌+◌, ◌<◌, ◌∙◌, ◌≡◌, ◌⊎◌}
+use Rattle.std.proofs.Common.{Bool, None, Some, [], ap, arith, if◌then◌else◌, inl, inr, refl, subst}
+use Rattle.std.proofs.Common.{sym, true, ℕ, ◌+◌, ◌<◌, ◌∙◌, ◌≡◌, ◌⊎◌}
 use Rattle.std.proofs.lemmas.Bool.{both_ways, cases_eq}
 use Rattle.std.specs.Option.{option_map, unwrap_or}
 use Rattle.mrc_base.specs.declared.Fact.TheVariants.{Backup as BackupFact, Hold}
 use Rattle.mrc_base.specs.declared.PortRight.TheVariants.{Send}
-use Rattle.mrc_model.proofs.Maps.{at_or_0, get-empty, get-insert_other, get-insert_same, len-empty, len-insert, not_None, origin-insert, same_Some, total-empty, total-insert, total-same, total-zero}
+use Rattle.mrc_model.proofs.Maps.{at_or_0, get-empty, get-insert_other, get-insert_same, len-empty}
+use Rattle.mrc_model.proofs.Maps.{len-insert, not_None, origin-insert, same_Some, total-empty}
+use Rattle.mrc_model.proofs.Maps.{total-insert, total-same, total-zero}
 use Rattle.mrc_model.specs.CallAllocate.{new_port}
 use Rattle.mrc_model.specs.Covers.{HasOneName, IsBackup, Known, owed}
 use Rattle.mrc_model.specs.Map.{empty, get, insert}
-use Rattle.mrc_model.specs.Rules.{Facts}
+use Rattle.mrc_model.specs.Rules.{FactSet}
 use Rattle.mrc_model.specs.Target.{is_alive}
-use Rattle.mrc_model.specs.Wiring.{Wiring, is_kernel_class, kernel_class}
-use Rattle.mrc_model.specs.World.{Port, Space, Store, Task, World, class_of, entry_rights, places, queue_rights, space, space_receives, task_class}
+use Rattle.mrc_model.specs.Wiring.{Wiring, is_kernel_class, kernel_class, numbers_of}
+use Rattle.mrc_model.specs.World.{Port, Space, Store, Task, World, class_of, entry_rights, places}
+use Rattle.mrc_model.specs.World.{queue_rights, space, space_receives, task_class}
 use Rattle.mrc_model.specs.declared.Entry.{Entry}
 use Rattle.mrc_model.specs.declared.Entry.TheVariants.{Send as SendEntry}
 use Rattle.mrc_cover.proofs.Destroying.{kernel_is_kernel}
 use Rattle.mrc_cover.proofs.Kept.{Kept}
-use Rattle.mrc_cover.proofs.Rights.{Known-grow, MayCarry, MayHold, each_receives, entry_receives, queue_receives}
+use Rattle.mrc_cover.proofs.Rights.{Known-grow, MayCarry, MayHold, each_receives, entry_receives}
+use Rattle.mrc_cover.proofs.Rights.{queue_receives}
 use Rattle.mrc_cover.proofs.Sound.{next_is_free, unknown_is_nowhere}
 use Rattle.mrc_cover.proofs.Stores.{at_space, unborn}
 
 -- the world with a new task of this number, of the class of a wired task
 abbrev pub with_task : Wiring → World → ℕ → ℕ → World
 with_task W base number wired = record {
-  tasks = insert base.tasks number (record { alive = true; kernel = base.store.next; class = wired });
+  tasks =
+      insert base.tasks number (record { alive = true; kernel = base.store.next; class = wired });
   store = record {
     next = base.store.next + 1;
     spaces = insert base.store.spaces number (insert empty 1 (SendEntry base.store.next 1));
@@ -31,8 +37,9 @@ with_task W base number wired = record {
   };
 }
 
-module _ (W : Wiring) (G : Facts) (base : World) (number wired : ℕ) (kept : Kept W G base)
-    (fresh : get base.tasks number ≡ None) (range : wired < W.tasks) (fact : G (Hold wired (kernel_class W wired) Send)) where
+module _ (W : Wiring) (G : FactSet) (base : World) (number wired : ℕ) (kept : Kept W G base)
+    (fresh : get base.tasks number
+    ≡ None) (range : wired < W.tasks) (fact : G (Hold wired (kernel_class W wired) Send)) where
   -- the new task's space
   own_space : Space
   own_space = insert empty 1 (SendEntry base.store.next 1)
@@ -89,12 +96,15 @@ module _ (W : Wiring) (G : Facts) (base : World) (number wired : ℕ) (kept : Ke
 
   -- live ports stay live, with their classes
   grows : (p d : ℕ) → class_of base.store p ≡ Some d → class_of store_after p ≡ Some d
-  grows p d e = class_old p (λ same. not_None d (sym e ∙ ap (class_of base.store) same ∙ next_free)) ∙ e
+  grows p d e =
+      class_old p (λ same. not_None d (sym e ∙ ap (class_of base.store) same ∙ next_free)) ∙ e
 
   -- the new task's space
   space_new : space store_after number ≡ own_space
   unfolding store_after own_space
-  space_new = ap (λ o. unwrap_or o empty) (get-insert_same base.store.spaces number (insert empty 1 (SendEntry base.store.next 1)))
+  space_new =
+      ap (λ o. unwrap_or o empty)
+      (get-insert_same base.store.spaces number (insert empty 1 (SendEntry base.store.next 1)))
 
   -- the other spaces stay
   space_old : (u : ℕ) → (u ≡ number → ⊥) → space store_after u ≡ space base.store u
@@ -110,30 +120,36 @@ module _ (W : Wiring) (G : Facts) (base : World) (number wired : ℕ) (kept : Ke
       let c = at_space p number (get base.store.spaces number) in
       let d = no_receives p in
       let e = own_receives p in
-      let g = total-insert (queue_receives p) base.store.ports base.store.next (new_port (kernel_class W wired)) in
+      let g = total-insert (queue_receives p) base.store.ports base.store.next
+      (new_port (kernel_class W wired)) in
       let h = ap (at_or_0 (queue_receives p) base.store.next) port_free in
       omega arith
 
   -- the new task's class
   task_class_new : task_class world_after number ≡ wired
   unfolding world_after
-  task_class_new = ap (λ o. unwrap_or (option_map (λ (x : Task). x.class) o) number) (get-insert_same base.tasks number (record {
-    alive = true;
-    kernel = base.store.next;
-    class = wired;
-  }))
+  task_class_new =
+      ap (λ o. unwrap_or (option_map (λ (x : Task). x.class) o) number)
+      (get-insert_same base.tasks number (record {
+        alive = true;
+        kernel = base.store.next;
+        class = wired;
+      }))
 
   -- the other tasks keep theirs
   task_class_old : (u : ℕ) → (u ≡ number → ⊥) → task_class world_after u ≡ task_class base u
   unfolding world_after
-  task_class_old u n = ap (λ o. unwrap_or (option_map (λ (x : Task). x.class) o) u) (get-insert_other base.tasks number (record {
-    alive = true;
-    kernel = base.store.next;
-    class = wired;
-  }) u n)
+  task_class_old u n =
+      ap (λ o. unwrap_or (option_map (λ (x : Task). x.class) o) u)
+      (get-insert_other base.tasks number (record {
+        alive = true;
+        kernel = base.store.next;
+        class = wired;
+      }) u n)
 
   -- the only entry of the new space
-  own_entry : (n : ℕ) (e : Entry) → get own_space n ≡ Some e → (n ≡ 1) × (SendEntry base.store.next 1 ≡ e)
+  own_entry : (n : ℕ) (e : Entry) → get own_space n ≡ Some e
+      → (n ≡ 1) × (SendEntry base.store.next 1 ≡ e)
   unfolding own_space
   own_entry n e is = elim (origin-insert empty 1 (SendEntry base.store.next 1) n e is) [
     | inl h ↦ h
@@ -148,7 +164,9 @@ module _ (W : Wiring) (G : Facts) (base : World) (number wired : ℕ) (kept : Ke
   task_origin : (t : ℕ) (x : Task) → get world_after.tasks t ≡ Some x
       → ((t ≡ number) × (task ≡ x)) ⊎ ((t ≡ number → ⊥) × (get base.tasks t ≡ Some x))
   unfolding world_after task
-  task_origin t x is = origin-insert base.tasks number (record { alive = true; kernel = base.store.next; class = wired }) t x is
+  task_origin t x is =
+      origin-insert base.tasks number
+      (record { alive = true; kernel = base.store.next; class = wired }) t x is
 
   -- the world is kept so with the new task
   pub new_task_keeps : Kept W G (with_task W base number wired)
@@ -159,13 +177,16 @@ module _ (W : Wiring) (G : Facts) (base : World) (number wired : ℕ) (kept : Ke
         | inl e ↦
             let same : c ≡ kernel_class W wired =
             same_Some c (kernel_class W wired) (sym is ∙ ap (class_of store_after) e ∙ class_new) in
-            let none : owed W c ≡ 0 = ap (λ v. owed W v) same ∙ ap (λ (v : Bool). if v then 0 else 1) is_kernel in
+            let none : owed (numbers_of W) c ≡ 0 = ap (λ v. owed (numbers_of W) v) same
+            ∙ ap (λ (v : Bool). if v then 0 else 1) is_kernel in
             let a = places_new p in
             let d : places p base.store ≡ 0 =
             ap (λ v. places v base.store) e
-            ∙ unknown_is_nowhere W G (task_class base) base.store [] base.store.next kept.sound next_free in
+            ∙ unknown_is_nowhere W G
+            (task_class base) base.store [] base.store.next kept.sound next_free in
             omega arith
-        | inr n ↦ let a = places_new p in let d = kept.sound.receive_once p c (sym (class_old p n) ∙ is) in omega arith
+        | inr n ↦ let a = places_new p in let d = kept.sound.receive_once p c (sym (class_old p n)
+            ∙ is) in omega arith
       ];
       numbers = λ p c is. elim (cases_eq p base.store.next) [
         | inl e ↦
@@ -177,27 +198,39 @@ module _ (W : Wiring) (G : Facts) (base : World) (number wired : ℕ) (kept : Ke
       covers = record {
         held = λ u n e is. elim (cases_eq u number) [
           | inl same ↦
-              let its = own_entry n e (ap (λ v. get v n) (sym (ap (space store_after) same ∙ space_new)) ∙ is) in
-              subst (λ v. Known (class_of store_after) (MayHold G (task_class world_after u)) (entry_rights v)) its.1
+              let its = own_entry n e
+              (ap (λ v. get v n) (sym (ap (space store_after) same ∙ space_new)) ∙ is) in
+              subst (λ v. Known (class_of store_after) (MayHold G (task_class world_after u))
+              (entry_rights v)) its.1
               record { all = ((kernel_class W wired, class_new, its_fact u same), tt) }
-          | inr apart ↦ subst (λ v. Known (class_of store_after) (MayHold G v) (entry_rights e)) (sym (task_class_old u apart))
-              (Known-grow grows (kept.sound.covers.held u n e (ap (λ v. get v n) (sym (space_old u apart)) ∙ is)))
+          | inr apart ↦ subst (λ v. Known (class_of store_after) (MayHold G v) (entry_rights e))
+              (sym (task_class_old u apart))
+              (Known-grow grows
+              (kept.sound.covers.held u n e (ap (λ v. get v n) (sym (space_old u apart)) ∙ is)))
         ];
-        carried = λ q x is. elim (origin-insert base.store.ports base.store.next (new_port (kernel_class W wired)) q x is) [
-          | inl h ↦ subst (λ (v : Port). Known (class_of store_after) (MayCarry G v.class)
-              (queue_rights v.queue)) h.1 record { all = tt }
-          | inr h ↦ Known-grow grows (kept.sound.covers.carried q x h.1)
-        ];
-        backups = λ q x is. elim (origin-insert base.store.ports base.store.next (new_port (kernel_class W wired)) q x is) [
-          | inl h ↦ subst (λ (v : Port). IsBackup (class_of store_after)
-              (λ d. G (BackupFact v.class d)) v.backup) h.1 record { live = λ q e. cc }
-          | inr h ↦ record { live = λ p e. let r = (kept.sound.covers.backups q x h.1).live p e in (r.0, grows p r.0 r.1, r.2) }
-        ];
+        carried =
+            λ q x is. elim (origin-insert base.store.ports base.store.next
+            (new_port (kernel_class W wired)) q x is) [
+              | inl h ↦ subst (λ (v : Port). Known (class_of store_after) (MayCarry G v.class)
+                  (queue_rights v.queue)) h.1 record { all = tt }
+              | inr h ↦ Known-grow grows (kept.sound.covers.carried q x h.1)
+            ];
+        backups =
+            λ q x is. elim (origin-insert base.store.ports base.store.next
+            (new_port (kernel_class W wired)) q x is) [
+              | inl h ↦ subst (λ (v : Port). IsBackup (class_of store_after)
+                  (λ d. G (BackupFact v.class d)) v.backup) h.1 record { live = λ q e. cc }
+              | inr h ↦ record {
+                live = λ p e. let r = (kept.sound.covers.backups q x h.1).live p e in
+                    (r.0, grows p r.0 r.1, r.2);
+              }
+            ];
       };
       one_name = λ u. elim (cases_eq u number) [
         | inl same ↦ λ n m p e g a c i j. (own_entry n e
             (ap (λ v. get v n) (sym (ap (space store_after) same ∙ space_new)) ∙ a)).0
-            ∙ sym (own_entry m g (ap (λ v. get v m) (sym (ap (space store_after) same ∙ space_new)) ∙ c)).0
+            ∙ sym (own_entry m g (ap (λ v. get v m) (sym (ap (space store_after) same ∙ space_new))
+            ∙ c)).0
         | inr apart ↦ subst HasOneName (sym (space_old u apart)) (kept.sound.one_name u)
       ];
     };
@@ -217,16 +250,19 @@ module _ (W : Wiring) (G : Facts) (base : World) (number wired : ℕ) (kept : Ke
         | inr h ↦ let a = kept.tasks.below t x h.1 in omega arith
       ];
       kernel = λ t x is a. elim (task_origin t x is) [
-        | inl h ↦ subst (λ (v : Task). class_of store_after v.kernel ≡ Some (kernel_class W v.class)) h.1 class_new
+        | inl h ↦ subst (λ (v : Task). class_of store_after v.kernel ≡ Some
+            (kernel_class W v.class)) h.1 class_new
         | inr h ↦ grows x.kernel (kernel_class W x.class) (kept.tasks.kernel t x h.1 a)
       ];
       own = λ t u x y is js a e. elim (task_origin t x is) [
         | inl h ↦ elim (task_origin u y js) [
           | inl g ↦ h.0 ∙ sym g.0
-          | inr g ↦ absurd (clash y (kept.tasks.below u y g.1) (ap (λ (v : Task). v.kernel) h.1 ∙ e))
+          | inr g ↦ absurd (clash y (kept.tasks.below u y g.1) (ap (λ (v : Task). v.kernel) h.1
+              ∙ e))
         ]
         | inr h ↦ elim (task_origin u y js) [
-          | inl g ↦ absurd (clash x (kept.tasks.below t x h.1) (ap (λ (v : Task). v.kernel) g.1 ∙ sym e))
+          | inl g ↦ absurd (clash x (kept.tasks.below t x h.1) (ap (λ (v : Task). v.kernel) g.1
+              ∙ sym e))
           | inr g ↦ kept.tasks.own t u x y h.1 g.1 a e
         ]
       ];
@@ -235,7 +271,8 @@ module _ (W : Wiring) (G : Facts) (base : World) (number wired : ℕ) (kept : Ke
         | inr n ↦ let (t, x, at, a, its) = kept.tasks.only p c (sym (class_old p n) ∙ is) k in (
           t,
           x,
-          get-insert_other base.tasks number task t (λ same. not_None x (sym at ∙ ap (get base.tasks) same ∙ fresh))
+          get-insert_other base.tasks number task t (λ same. not_None x (sym at
+              ∙ ap (get base.tasks) same ∙ fresh))
               ∙ at,
           a,
           its,
@@ -243,14 +280,17 @@ module _ (W : Wiring) (G : Facts) (base : World) (number wired : ℕ) (kept : Ke
       ];
       gone = λ t n e. elim (cases_eq t number) [
         | inl same ↦ absurd (both_ways (is_alive (get world_after.tasks t)) e
-            (ap (λ v. is_alive (get world_after.tasks v)) same ∙ ap is_alive (get-insert_same base.tasks number task)))
+            (ap (λ v. is_alive (get world_after.tasks v)) same
+            ∙ ap is_alive (get-insert_same base.tasks number task)))
         | inr apart ↦ ap (λ v. get v n) (space_old t apart)
-            ∙ kept.tasks.gone t n (ap is_alive (sym (get-insert_other base.tasks number task t apart)) ∙ e)
+            ∙ kept.tasks.gone t n
+            (ap is_alive (sym (get-insert_other base.tasks number task t apart)) ∙ e)
       ];
     };
   }
     where
-      its_fact : (u : ℕ) → u ≡ number → G (Hold (task_class world_after u) (kernel_class W wired) Send)
+      its_fact : (u : ℕ) → u ≡ number
+          → G (Hold (task_class world_after u) (kernel_class W wired) Send)
       its_fact u same = subst (λ v. G (Hold v (kernel_class W wired) Send))
           (sym (ap (task_class world_after) same ∙ task_class_new)) fact
 

@@ -1,8 +1,11 @@
 -- Each call, by any task number, keeps a world well formed and covered.
 use Rattle.std.proofs.Common.{Bool, Err, Ok, false, if◌then◌else◌, refl, true, ℕ, ◌≡◌}
 use Rattle.mrc_model.specs.Map.{get}
-use Rattle.mrc_model.specs.Reply.{Allocate, Call, DeadTask, Deallocate, Destroy, ExtractRight, GetRefs, InsertRight, ListNames, ModRefs, MoveMember, PortType, ReceiveMessage, Rename, Reply, RequestNotification, SendMessage, SetQlimit, Terminate, Try}
-use Rattle.mrc_model.specs.Rules.{Facts}
+use Rattle.mrc_model.specs.Reply.{Allocate, Call, DeadTask, Deallocate, Destroy, ExtractRight}
+use Rattle.mrc_model.specs.Reply.{GetRefs, InsertRight, ListNames, ModRefs, MoveMember, PortType}
+use Rattle.mrc_model.specs.Reply.{ReceiveMessage, Rename, Reply, RequestNotification, SendMessage}
+use Rattle.mrc_model.specs.Reply.{SetQlimit, Terminate, Try}
+use Rattle.mrc_model.specs.Rules.{FactSet}
 use Rattle.mrc_model.specs.Step.{concluded, step, try_call}
 use Rattle.mrc_model.specs.Target.{is_alive}
 use Rattle.mrc_model.specs.Wiring.{Wiring}
@@ -22,22 +25,30 @@ use Rattle.mrc_cover.proofs.StepSend.{send_keeps}
 use Rattle.mrc_cover.proofs.StepSetQlimit.{set_qlimit_keeps}
 use Rattle.mrc_cover.proofs.StepTerminate.{terminate_keeps}
 
-module _ (W : Wiring) (G : Facts) (obeys : Obeys W G) where
+module _ (W : Wiring) (G : FactSet) (obeys : Obeys W G) where
   -- each call of a live task
   call_keeps : (w : World) (t : ℕ) (call : Call) → IsAlive w t → Kept W G w
       → Keeps W G (try_call W w t call)
   call_keeps w t (SendMessage m) alive kept = send_keeps W G obeys w t m alive kept
-  call_keeps w t (ReceiveMessage name limit) alive kept = receive_keeps W G obeys w t name limit alive kept
-  call_keeps w t (Allocate task right kind) alive kept = allocate_keeps W G obeys w t task right kind kept
+  call_keeps w t (ReceiveMessage name limit) alive kept =
+      receive_keeps W G obeys w t name limit alive kept
+  call_keeps w t (Allocate task right kind) alive kept =
+      allocate_keeps W G obeys w t task right kind kept
   call_keeps w t (Deallocate task name) alive kept = deallocate_keeps W G obeys w t task name kept
   call_keeps w t (Destroy task name) alive kept = destroy_keeps W G obeys w t task name kept
-  call_keeps w t (ModRefs task name right delta) alive kept = mod_refs_keeps W G obeys w t task name right delta kept
+  call_keeps w t (ModRefs task name right delta) alive kept =
+      mod_refs_keeps W G obeys w t task name right delta kept
   call_keeps w t (GetRefs task name right) alive kept = get_refs_keeps W G w t task name right kept
-  call_keeps w t (InsertRight task name right disp) alive kept = insert_right_keeps W G obeys w t task name right disp alive kept
-  call_keeps w t (ExtractRight task name disp) alive kept = extract_right_keeps W G obeys w t task name disp alive kept
-  call_keeps w t (MoveMember task member n) alive kept = move_member_keeps W G w t task member n kept
-  call_keeps w t (RequestNotification task name id sync notify disp) alive kept = request_notification_keeps W G obeys w t task name id sync notify disp alive kept
-  call_keeps w t (SetQlimit task name limit) alive kept = set_qlimit_keeps W G w t task name limit kept
+  call_keeps w t (InsertRight task name right disp) alive kept =
+      insert_right_keeps W G obeys w t task name right disp alive kept
+  call_keeps w t (ExtractRight task name disp) alive kept =
+      extract_right_keeps W G obeys w t task name disp alive kept
+  call_keeps w t (MoveMember task member n) alive kept =
+      move_member_keeps W G w t task member n kept
+  call_keeps w t (RequestNotification task name id sync notify disp) alive kept =
+      request_notification_keeps W G obeys w t task name id sync notify disp alive kept
+  call_keeps w t (SetQlimit task name limit) alive kept =
+      set_qlimit_keeps W G w t task name limit kept
   call_keeps w t (PortType task name) alive kept = type_keeps W G w t task name kept
   call_keeps w t (ListNames task) alive kept = names_keeps W G w t task kept
   call_keeps w t (Rename task old new) alive kept = rename_keeps W G w t task old new kept
@@ -55,7 +66,8 @@ module _ (W : Wiring) (G : Facts) (obeys : Obeys W G) where
   step_keeps w t call kept =
       let go : (b : Bool) → is_alive (get w.tasks t) ≡ b
       → Kept W G (concluded w (if b then try_call W w t call else Err DeadTask)).0 = elim [
-        | true ↦ λ e. concluded_keeps w (try_call W w t call) kept (call_keeps w t call (record { of = e }) kept)
+        | true ↦ λ e. concluded_keeps w (try_call W w t call) kept
+            (call_keeps w t call (record { of = e }) kept)
         | false ↦ λ e. kept
       ] in
       go (is_alive (get w.tasks t)) refl

@@ -1,19 +1,25 @@
--- allocate keeps a world well formed and covered. New is a port of the births of the task that the caller acts for, which
--- holds its receive right: that fact comes by K2. Sets and dead names show no right.
-use Rattle.std.proofs.Common.{Bool, List, Some, [], ap, arith, false, if◌then◌else◌, inl, inr, length, nat_le, nat_lt, refl, subst, suc, sym, true, ℕ, ◌&&◌, ◌+◌, ◌<◌, ◌==◌, ◌||◌, ◌∷◌, ◌≡◌, ◌≤◌}
+-- allocate keeps a world well formed and covered. New is a port of the births of the task that the
+-- caller acts for, which holds its receive right: that fact comes by K2. Sets and dead names show
+-- no right.
+use Rattle.std.proofs.Common.{Bool, List, Some, [], ap, arith, false, if◌then◌else◌, inl, inr}
+use Rattle.std.proofs.Common.{length, nat_le, nat_lt, refl, subst, suc, sym, true, ℕ, ◌&&◌, ◌+◌}
+use Rattle.std.proofs.Common.{◌<◌, ◌==◌, ◌||◌, ◌∷◌, ◌≡◌, ◌≤◌}
 use Rattle.std.proofs.lemmas.Bool.{and_right, both_ways, cases_eq, le-ltb}
 use Rattle.mrc_base.specs.declared.Right.{Right}
-use Rattle.mrc_model.proofs.Maps.{at_or_0, len-insert, not_None, origin-insert, same_Some, total-insert}
+use Rattle.mrc_model.proofs.Maps.{at_or_0, len-insert, not_None, origin-insert, same_Some}
+use Rattle.mrc_model.proofs.Maps.{total-insert}
 use Rattle.mrc_model.proofs.Spaces.{get-unused}
 use Rattle.mrc_model.proofs.Tries.{bind, bind_, checked, found, gives_err, gives_ok, not_refused}
-use Rattle.mrc_model.specs.CallAllocate.{allocate_entry, allocate_in, allocate_port, call_allocate, limit_of_births, limit_of_ports}
+use Rattle.mrc_base.specs.Limits.{limit_of_births, limit_of_ports}
+use Rattle.mrc_model.specs.CallAllocate.{allocate_entry, allocate_in, allocate_port, call_allocate}
 use Rattle.mrc_model.specs.Covers.{Known, owed}
 use Rattle.mrc_model.specs.Map.{insert, len}
-use Rattle.mrc_model.specs.Rules.{Facts}
+use Rattle.mrc_model.specs.Rules.{FactSet}
 use Rattle.mrc_model.specs.Space.{is_entry_of, is_full, unused}
 use Rattle.mrc_model.specs.Target.{with_space}
-use Rattle.mrc_model.specs.Wiring.{Wiring, births_class, births_from, is_kernel_class}
-use Rattle.mrc_model.specs.World.{World, class_of, entry_rights, receives, set_space, space, space_receives, task_class}
+use Rattle.mrc_model.specs.Wiring.{Wiring, births_class, births_from, is_kernel_class, numbers_of}
+use Rattle.mrc_model.specs.World.{World, class_of, entry_rights, receives, set_space, space}
+use Rattle.mrc_model.specs.World.{space_receives, task_class}
 use Rattle.mrc_model.specs.declared.Entry.{Entry}
 use Rattle.mrc_model.specs.declared.Entry.TheVariants.{DeadName as DeadEntry, PortSet as SetEntry}
 use Rattle.mrc_cover.proofs.Births.{birth_keeps, birth_small}
@@ -42,9 +48,10 @@ births_from-range c u kind (b ∷ bs) d is =
 
 -- a class above those of kernel ports is none of them
 above_kernels : (W : Wiring) (c : ℕ) → W.ports + W.tasks ≤ c → is_kernel_class W c ≡ false
-above_kernels W c above = and_right (nat_le W.ports c) (nat_lt c (W.ports + W.tasks)) (le-ltb c (W.ports + W.tasks) above)
+above_kernels W c above =
+    and_right (nat_le W.ports c) (nat_lt c (W.ports + W.tasks)) (le-ltb c (W.ports + W.tasks) above)
 
-module _ (W : Wiring) (G : Facts) where
+module _ (W : Wiring) (G : FactSet) where
   -- a new entry that shows no right
   plain_entry_keeps : (w : World) (u : ℕ) (e : Entry) → IsAlive w u → entry_rights e ≡ []
       → ((p : ℕ) → is_entry_of p e ≡ true → ⊥) → is_full (space w.store u) ≡ false → Kept W G w
@@ -61,11 +68,14 @@ module _ (W : Wiring) (G : Facts) where
             let d = ap (receives p) plain in omega arith)
             (λ n f at. elim (origin-insert x (unused x) e n f at) [
               | inl h ↦
-                  let bare : Known (class_of w.store) (MayHold G (task_class w u)) [] = record { all = tt } in
-                  rw h.1 at (subst (Known (class_of w.store) (MayHold G (task_class w u))) (sym plain) bare)
+                  let bare : Known (class_of w.store) (MayHold G (task_class w u)) [] =
+                  record { all = tt } in
+                  rw h.1 at (subst (Known (class_of w.store) (MayHold G (task_class w u)))
+                  (sym plain) bare)
               | inr h ↦ kept.sound.covers.held u n f h.1
             ])
-            (one_name_if_traced x y (kept.sound.one_name u) (λ m f p at here. elim (origin-insert x (unused x) e m f at) [
+            (one_name_if_traced x y (kept.sound.one_name u)
+            (λ m f p at here. elim (origin-insert x (unused x) e m f at) [
               | inl h ↦ absurd (portless p (rw (sym h.1) at here))
               | inr h ↦ (f, h.1, here)
             ]));
@@ -83,17 +93,21 @@ module _ (W : Wiring) (G : Facts) where
   allocate_port_keeps obeys w t u kind is kept =
       bind _ _ (found (births_class W (task_class w u) kind) _) (λ c has.
       bind_ _ _ (not_refused (is_full (space w.store u)) _) (λ _ room.
-      bind_ _ _ (not_refused (nat_le limit_of_ports (len w.store.ports) || nat_le limit_of_births w.store.next) _) (λ _ _.
-      let (low, high) = births_from-range (W.ports + W.tasks) (task_class w u) kind W.births c has in
+      bind_ _ _ (not_refused
+      (nat_le limit_of_ports (len w.store.ports) || nat_le limit_of_births w.store.next) _)
+      (λ _ _.
+      let (low, high) = births_from-range (W.ports + W.tasks)
+      (task_class w u) kind W.births c has in
       let plain = above_kernels W c low in
-      let owes : owed W c ≡ 1 = ap (λ (b : Bool). if b then 0 else 1) plain in
+      let owes : owed (numbers_of W) c ≡ 1 = ap (λ (b : Bool). if b then 0 else 1) plain in
       let fact = obeys.births kind has is.class high in
       let small = birth_small W G (task_class w) w.store u c kept.sound high owes fact in
       let free = room_if_not_full (space w.store u) room in
       gives_ok (birth_keeps W G w u c is.alive high owes plain fact (omega arith) kept))))
 
   -- a new entry that is no port's
-  allocate_entry_keeps : (w : World) (t u kind : ℕ) (e : Entry) → IsTarget W G w t u → entry_rights e ≡ []
+  allocate_entry_keeps : (w : World) (t u kind : ℕ) (e : Entry) → IsTarget W G w t u
+      → entry_rights e ≡ []
       → ((p : ℕ) → is_entry_of p e ≡ true → ⊥) → Kept W G w
       → Keeps W G (allocate_entry w u kind e)
   allocate_entry_keeps w t u kind e is plain portless kept =
@@ -102,14 +116,18 @@ module _ (W : Wiring) (G : Facts) where
       gives_ok (plain_entry_keeps w u e is.alive plain portless room kept)))
 
   -- each of the five rights that allocate may name
-  allocate_in_keeps : Obeys W G → (w : World) (t u : ℕ) (right : Right) (kind : ℕ) → IsTarget W G w t u → Kept W G w
+  allocate_in_keeps : Obeys W G → (w : World) (t u : ℕ) (right : Right) (kind : ℕ)
+      → IsTarget W G w t u → Kept W G w
       → Keeps W G (allocate_in W w u right kind)
   allocate_in_keeps obeys w t u named.Send kind is kept = gives_err _ _
   allocate_in_keeps obeys w t u named.SendOnce kind is kept = gives_err _ _
-  allocate_in_keeps obeys w t u named.Receive kind is kept = allocate_port_keeps obeys w t u kind is kept
-  allocate_in_keeps obeys w t u named.PortSet kind is kept = allocate_entry_keeps w t u kind SetEntry is refl
+  allocate_in_keeps obeys w t u named.Receive kind is kept =
+      allocate_port_keeps obeys w t u kind is kept
+  allocate_in_keeps obeys w t u named.PortSet kind is kept =
+      allocate_entry_keeps w t u kind SetEntry is refl
       (λ p e. both_ways false refl e) kept
-  allocate_in_keeps obeys w t u named.DeadName kind is kept = allocate_entry_keeps w t u kind (DeadEntry 1) is refl
+  allocate_in_keeps obeys w t u named.DeadName kind is kept =
+      allocate_entry_keeps w t u kind (DeadEntry 1) is refl
       (λ p e. both_ways false refl e) kept
 
   -- allocate

@@ -3,12 +3,12 @@ use Rattle.std.proofs.Common.{ℕ}
 use Rattle.mrc_base.specs.declared.Right.{Right}
 use Rattle.mrc_model.proofs.Tries.{bind, gives_ok}
 use Rattle.mrc_model.specs.CallNames.{call_get_refs, call_names, call_type}
-use Rattle.mrc_model.specs.Rules.{Facts}
+use Rattle.mrc_model.specs.Rules.{FactSet}
 use Rattle.mrc_model.specs.Wiring.{Wiring}
 use Rattle.mrc_model.specs.World.{World}
 use Rattle.mrc_cover.proofs.Kept.{Keeps, Kept, entry_is, target_is}
 
-module _ (W : Wiring) (G : Facts) where
+module _ (W : Wiring) (G : FactSet) where
   -- get_refs
   pub get_refs_keeps : (w : World) (t task name : ℕ) (right : Right) → Kept W G w
       → Keeps W G (call_get_refs w t task name right)

@@ -1,21 +1,28 @@
 -- rename keeps a world well formed and covered: no right is new.
-use Rattle.std.proofs.Common.{None, Option, Some, [], ap, arith, false, inl, inr, refl, sym, true, ℕ, ◌∙◌, ◌≡◌, ◌≤◌, ◌⊎◌}
+use Rattle.std.proofs.Common.{Bool, None, Option, Some, [], ap, arith, false, inl, inr, refl, sym}
+use Rattle.std.proofs.Common.{true, ℕ, ◌∙◌, ◌≡◌, ◌≤◌, ◌⊎◌}
 use Rattle.std.proofs.Math.Nat.{le_trans}
 use Rattle.std.proofs.lemmas.Bool.{cases_eq}
 use Rattle.mrc_base.specs.declared.PortRight.{PortRight}
-use Rattle.mrc_model.proofs.Maps.{at_or_0, get-remove_other, len-alter_all, len-insert, len-remove, not_None, origin-insert, origin-remove, same_Some, total-insert, total-remove}
+use Rattle.mrc_model.proofs.Maps.{at_or_0, get-remove_other, len-alter_all, len-insert, len-remove}
+use Rattle.mrc_model.proofs.Maps.{not_None, origin-insert, origin-remove, same_Some, total-insert}
+use Rattle.mrc_model.proofs.Maps.{total-remove}
 use Rattle.mrc_model.proofs.Tries.{bind, bind_, gives_ok, not_refused}
-use Rattle.mrc_model.specs.CallRename.{call_rename, in_renamed, is_used}
+use Rattle.mrc_model.specs.CallRename.{call_rename, is_used}
+use Rattle.mrc_model.specs.Space.{in_renamed, is_entry_of, is_set, members_follow}
 use Rattle.mrc_model.specs.Covers.{HasOneName, Known}
-use Rattle.mrc_model.specs.Map.{alter_all, get, insert, len, remove}
-use Rattle.mrc_model.specs.Rules.{Facts}
-use Rattle.mrc_model.specs.Space.{is_entry_of}
+use Rattle.mrc_model.specs.Map.{get, insert, len, remove}
+use Rattle.mrc_model.specs.Rules.{FactSet}
 use Rattle.mrc_model.specs.Target.{is_reserved}
 use Rattle.mrc_model.specs.Wiring.{Wiring}
-use Rattle.mrc_model.specs.World.{Space, World, class_of, entry_rights, set_space, space, space_receives, task_class}
+use Rattle.mrc_model.specs.World.{Space, World, class_of, entry_rights, set_space, space}
+use Rattle.mrc_model.specs.World.{space_receives, task_class}
 use Rattle.mrc_model.specs.declared.Entry.{Entry}
-use Rattle.mrc_model.specs.declared.Entry.TheVariants.{DeadName as DeadEntry, SendOnce as OnceEntry, Receive as ReceiveEntry, Send as SendEntry, PortSet as SetEntry}
-use Rattle.mrc_cover.proofs.Altering.{KeepsRights, known-alter, one_name-alter, space_receives-alter}
+use Rattle.mrc_model.specs.declared.Entry.TheVariants.{DeadName as DeadEntry, SendOnce as OnceEntry}
+use Rattle.mrc_model.specs.declared.Entry.TheVariants.{Receive as ReceiveEntry, Send as SendEntry}
+use Rattle.mrc_model.specs.declared.Entry.TheVariants.{PortSet as SetEntry}
+use Rattle.mrc_cover.proofs.Altering.{KeepsRights, known-alter, one_name-alter}
+use Rattle.mrc_cover.proofs.Altering.{space_receives-alter}
 use Rattle.mrc_cover.proofs.Entries.{rights_left}
 use Rattle.mrc_cover.proofs.Kept.{Keeps, Kept, entry_is, keeps_with, target_is}
 use Rattle.mrc_cover.proofs.Rights.{MayHold, entry_receives}
@@ -33,7 +40,8 @@ renamed_keeps_rights old new = record { rights = rights; names = names }
     rights k SetEntry = refl
     rights k (DeadEntry s) = refl
 
-    names : (k : ℕ) (e f : Entry) → in_renamed old new k e ≡ Some f → (p : ℕ) → is_entry_of p f ≡ true
+    names : (k : ℕ) (e f : Entry) → in_renamed old new k e ≡ Some f → (p : ℕ)
+        → is_entry_of p f ≡ true
         → is_entry_of p e ≡ true
     names k (ReceiveEntry q s i) f is p e = rw (sym (same_Some _ f is)) at e
     names k (SendEntry q s) f is p e = rw (sym (same_Some _ f is)) at e
@@ -45,7 +53,8 @@ renamed_keeps_rights old new = record { rights = rights; names = names }
 moved : Space → ℕ → ℕ → Entry → Space
 moved x old new e = insert (remove x old) new e
 
-module _ (x : Space) (old new : ℕ) (e : Entry) (is : get x old ≡ Some e) (free : get x new ≡ None) where
+module _ (x : Space) (old new : ℕ) (e : Entry) (is : get x old ≡ Some e)
+    (free : get x new ≡ None) where
   -- the two names are not the same
   apart : new ≡ old → ⊥
   apart z = not_None e (sym is ∙ ap (get x) (sym z) ∙ free)
@@ -72,7 +81,8 @@ module _ (x : Space) (old new : ℕ) (e : Entry) (is : get x old ≡ Some e) (fr
   moved_known : (k : ℕ → Option ℕ) (F : ℕ → PortRight → Type 0)
       → ((n : ℕ) (e : Entry) → get x n ≡ Some e → Known k F (entry_rights e)) → (n : ℕ) (f : Entry)
       → get (moved x old new e) n ≡ Some f → Known k F (entry_rights f)
-  moved_known k F known n f at = elim (moved_origin n f at) [ inl h ↦ rw h.1 at (known old e is) | inr h ↦ known n f h.1 ]
+  moved_known k F known n f at =
+      elim (moved_origin n f at) [ inl h ↦ rw h.1 at (known old e is) | inr h ↦ known n f h.1 ]
 
   -- a port still has one name
   moved_one_name : HasOneName x → HasOneName (moved x old new e)
@@ -92,7 +102,8 @@ module _ (x : Space) (old new : ℕ) (e : Entry) (is : get x old ≡ Some e) (fr
   unfolding moved
   moved_len =
       let a = len-insert (remove x old) new e in
-      let b = ap (at_or_0 (λ (q : ℕ) (y : Entry). 1) new) (get-remove_other x old new apart ∙ free) in
+      let b = ap (at_or_0 (λ (q : ℕ) (y : Entry). 1) new) (get-remove_other x old new apart
+      ∙ free) in
       let c = len-remove x old in
       let d = ap (at_or_0 (λ (q : ℕ) (y : Entry). 1) old) is in omega arith
 
@@ -101,7 +112,39 @@ not_used : (o : Option Entry) → is_used o ≡ false → o ≡ None
 not_used None e = refl
 not_used (Some x) e = cc
 
-module _ (W : Wiring) (G : Facts) where
+module _ (b : Bool) (old new : ℕ) (y : Space) where
+  -- the space whose members follow a set that is renamed
+  abbrev followed : Space
+  followed = members_follow b old new y
+
+module _ (old new : ℕ) (y : Space) where
+  -- its rights stay known
+  followed_known : (b : Bool) (k : ℕ → Option ℕ) (F : ℕ → PortRight → Type 0)
+      → ((n : ℕ) (e : Entry) → get y n ≡ Some e → Known k F (entry_rights e)) → (n : ℕ) (f : Entry)
+      → get (followed b old new y) n ≡ Some f → Known k F (entry_rights f)
+  followed_known true k F known =
+      known-alter k F (in_renamed old new) y (renamed_keeps_rights old new) known
+  followed_known false k F known = known
+
+  -- a port still has one name
+  followed_one_name : (b : Bool) → HasOneName y → HasOneName (followed b old new y)
+  followed_one_name true one =
+      one_name-alter (in_renamed old new) y (renamed_keeps_rights old new) one
+  followed_one_name false one = one
+
+  -- the space has the same receive rights
+  followed_receives : (b : Bool) (p : ℕ)
+      → space_receives p (followed b old new y) ≡ space_receives p y
+  followed_receives true p =
+      space_receives-alter (in_renamed old new) y p (renamed_keeps_rights old new)
+  followed_receives false p = refl
+
+  -- there are no more names than before
+  followed_len : (b : Bool) → len (followed b old new y) ≤ len y
+  followed_len true = len-alter_all (in_renamed old new) y
+  followed_len false = omega arith
+
+module _ (W : Wiring) (G : FactSet) where
   -- rename
   pub rename_keeps : (w : World) (t task old new : ℕ) → Kept W G w
       → Keeps W G (call_rename w t task old new)
@@ -113,20 +156,23 @@ module _ (W : Wiring) (G : Facts) where
       bind_ _ _ (not_refused (is_used (get (space w.store u) new)) _) (λ _ unused.
       let x = space w.store u in
       let free = not_used (get x new) unused in
-      let y = alter_all (in_renamed old new) (moved x old new e) in
-      let keeps = renamed_keeps_rights old new in
+      let z = moved x old new e in
+      let y = followed (is_set e) old new z in
+      let k = class_of w.store in
+      let may = MayHold G (task_class w u) in
       gives_ok (keeps_with W G w (set_space w.store u y) kept record {
         sound = set_space_sound W G (task_class w) w.store [] [] u y kept.sound
             (λ p c has.
-            let a = space_receives-alter (in_renamed old new) (moved x old new e) p keeps in
+            let a = followed_receives old new z (is_set e) p in
             let b = moved_receives x old new e at free p in omega arith)
-            (known-alter (class_of w.store) (MayHold G (task_class w u)) (in_renamed old new) (moved x old new e) keeps
-            (moved_known x old new e at free (class_of w.store) (MayHold G (task_class w u)) (kept.sound.covers.held u)))
-            (one_name-alter (in_renamed old new) (moved x old new e) keeps
+            (followed_known old new z (is_set e) k may
+            (moved_known x old new e at free k may (kept.sound.covers.held u)))
+            (followed_one_name old new z (is_set e)
             (moved_one_name x old new e at free (kept.sound.one_name u)));
         changes = set_space_changes w.store u y is.alive;
       } (λ v. elim (cases_eq v u) [
-        | inl z ↦ rw z (rw (space-set_same w.store u y)
-            (le_trans (len-alter_all (in_renamed old new) (moved x old new e)) (le_trans (moved_len x old new e at free) (kept.few u))))
+        | inl same ↦ rw same (rw (space-set_same w.store u y)
+            (le_trans (followed_len old new z (is_set e))
+            (le_trans (moved_len x old new e at free) (kept.few u))))
         | inr n ↦ rw (space-set_other w.store u v y n) (kept.few v)
       ]))))))

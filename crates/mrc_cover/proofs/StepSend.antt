@@ -1,17 +1,22 @@
--- send keeps a world well formed and covered. New are the rights that the message carries, on the queue of its
--- destination. The sender may hold a right to send there and what each disposition needs, and the filter has found a form
--- that the message fits: so the facts of slots come by K4, and that of the reply right by K5.
-use Rattle.std.proofs.Common.{Bool, Err, List, None, Ok, Option, Some, [], ap, false, if◌then◌else◌, inl, inr, refl, subst, sym, true, ℕ, ◌++◌, ◌==◌, ◌||◌, ◌∙◌, ◌∷◌, ◌≡◌, ◌⊎◌}
+-- send keeps a world well formed and covered. New are the rights that the message carries, on the
+-- queue of its destination. The sender may hold a right to send there and what each disposition
+-- needs, and the filter has found a form that the message fits: so the facts of slots come by K4,
+-- and that of the reply right by K5.
+use Rattle.std.proofs.Common.{Bool, Err, List, None, Ok, Option, Some, [], ap, false, if◌then◌else◌}
+use Rattle.std.proofs.Common.{inl, inr, refl, subst, sym, true, ℕ, ◌++◌, ◌==◌, ◌||◌, ◌∙◌, ◌∷◌, ◌≡◌}
+use Rattle.std.proofs.Common.{◌⊎◌}
 use Rattle.std.proofs.Math.Nat.{le_trans}
 use Rattle.std.proofs.lemmas.Bool.{eqb-true, or_cases}
-use Rattle.mrc_base.specs.Disposition.{given, needed}
+use Rattle.mrc_base.specs.Disposition.{given, needed, disp_of_number}
 use Rattle.mrc_base.specs.declared.Disp.{Disp}
-use Rattle.mrc_base.specs.declared.Disp.TheVariants.{CopySend, MakeSend, MakeSendOnce, MoveReceive, MoveSend, MoveSendOnce}
+use Rattle.mrc_base.specs.declared.Disp.TheVariants.{CopySend, MakeSend, MakeSendOnce, MoveReceive}
+use Rattle.mrc_base.specs.declared.Disp.TheVariants.{MoveSend, MoveSendOnce}
 use Rattle.mrc_base.specs.declared.Fact.TheVariants.{Carry, Hold}
 use Rattle.mrc_base.specs.declared.PortRight.{PortRight}
 use Rattle.mrc_base.specs.declared.PortRight.TheVariants.{Receive, Send, SendOnce}
 use Rattle.mrc_model.proofs.Maps.{not_None, same_Some}
-use Rattle.mrc_model.proofs.Tries.{Gives, bind, bind_, checked, found, gives_err, gives_ok, not_refused}
+use Rattle.mrc_model.proofs.Tries.{Gives, bind, bind_, checked, found, gives_err, gives_ok}
+use Rattle.mrc_model.proofs.Tries.{not_refused}
 use Rattle.mrc_model.specs.CallSend.{call_send, not_receive, take_reply_by}
 use Rattle.mrc_model.specs.Death.{append}
 use Rattle.mrc_model.specs.Filter.{fits_reply, fits_request}
@@ -19,15 +24,18 @@ use Rattle.mrc_model.specs.IsIn.{IsIn}
 use Rattle.mrc_model.specs.Map.{get}
 use Rattle.mrc_model.specs.Message.{Message}
 use Rattle.mrc_model.specs.Reply.{Reply}
-use Rattle.mrc_model.specs.Rights.{disp_of, is_once}
-use Rattle.mrc_model.specs.Rules.{CanSendBy, Facts, by_once, by_send}
-use Rattle.mrc_model.specs.Wiring.{Form, OfReply, OfRequest, RequestForm, Wiring, form_shapes, forms, is_routine, is_routine_kind}
-use Rattle.mrc_model.specs.World.{Held, Parcel, Store, World, class_of, item_rights, receives, task_class}
+use Rattle.mrc_model.specs.Rights.{is_once}
+use Rattle.mrc_model.specs.Rules.{CanSendBy, FactSet, by_once, by_send}
+use Rattle.mrc_model.specs.Wiring.{Form, OfReply, OfRequest, RequestForm, Wiring, form_shapes}
+use Rattle.mrc_model.specs.Wiring.{forms, is_routine, is_routine_kind}
+use Rattle.mrc_model.specs.World.{Held, Parcel, Store, World, class_of, item_rights, receives}
+use Rattle.mrc_model.specs.World.{task_class}
 use Rattle.mrc_model.specs.declared.Item.{Item}
 use Rattle.mrc_model.specs.declared.Item.TheVariants.{Dead as DeadItem, Null as NullItem}
 use Rattle.mrc_model.specs.declared.RequestKind.{RequestKind}
 use Rattle.mrc_model.specs.declared.RequestKind.TheVariants.{Routine, Simple}
-use Rattle.mrc_cover.proofs.Carrying.{IsCarried, carries_nothing, carries_then, carries_weaker, take_args_carry, take_item_carries}
+use Rattle.mrc_cover.proofs.Carrying.{IsCarried, carries_nothing, carries_then, carries_weaker}
+use Rattle.mrc_cover.proofs.Carrying.{take_args_carry, take_item_carries}
 use Rattle.mrc_cover.proofs.Judging.{judge_says, routine_accepted}
 use Rattle.mrc_cover.proofs.Kept.{IsAlive, Keeps, Kept, keeps_with}
 use Rattle.mrc_cover.proofs.Obeyed.{Obeys, obeys}
@@ -38,7 +46,8 @@ use Rattle.mrc_cover.proofs.Stores.{live_class}
 use Rattle.mrc_cover.proofs.Taking.{take_leaves}
 
 -- who sends by this disposition has a right to send
-sender : (W : Wiring) (G : Facts) → Obeys W G → (t d : ℕ) (x : Disp) → not_receive x ≡ true → G (Hold t d (needed x))
+sender : (W : Wiring) (G : FactSet) → Obeys W G → (t d : ℕ) (x : Disp) → not_receive x ≡ true
+    → G (Hold t d (needed x))
     → (r : PortRight) × CanSendBy r × G (Hold t d r)
 sender W G o t d MoveReceive e g = cc
 sender W G o t d MoveSend e g = (Send, by_send, g)
@@ -57,39 +66,48 @@ not_moved MakeSend p q e = refl
 not_moved MakeSendOnce p q e = refl
 
 -- so the hand is as good as empty
-not_moved_back : (x : Disp) (p q : ℕ) → not_receive x ≡ true → receives q [] ≡ receives q (right_on p (given x) ∷ [])
+not_moved_back : (x : Disp) (p q : ℕ) → not_receive x ≡ true
+    → receives q [] ≡ receives q (right_on p (given x) ∷ [])
 not_moved_back x p q e = sym (not_moved x p q e)
 
 -- a form admits a reply right only as a send-once right, of a routine's request
-reply_once : (f : Form) (n : ℕ) (x : Disp) → fits_reply f n ≡ true → disp_of n ≡ Some x
+reply_once : (f : Form) (n : ℕ) (x : Disp) → fits_reply f n ≡ true → disp_of_number n ≡ Some x
     → (r : RequestForm) × (f ≡ OfRequest r) × (is_routine r ≡ true) × (given x ≡ SendOnce)
     × ((needed x ≡ SendOnce) ⊎ (needed x ≡ Receive))
-reply_once (OfRequest r) n x fit is = let (routine, gives, needs) = by_kind r.kind fit in (r, refl, routine, gives, needs)
+reply_once (OfRequest r) n x fit is =
+    let (routine, gives, needs) = by_kind r.kind fit in (r, refl, routine, gives, needs)
   where
     by_kind : (k : RequestKind) → fits_request k n ≡ true
-        → (is_routine_kind k ≡ true) × (given x ≡ SendOnce) × ((needed x ≡ SendOnce) ⊎ (needed x ≡ Receive))
+        → (is_routine_kind k ≡ true) × (given x ≡ SendOnce) ×
+        ((needed x ≡ SendOnce) ⊎ (needed x ≡ Receive))
     by_kind Routine fit = elim (or_cases (n == 0) (n == 18 || n == 21) fit) [
-      | inl z ↦ absurd (not_None x (sym is ∙ ap disp_of (eqb-true n 0 z)))
+      | inl z ↦ absurd (not_None x (sym is ∙ ap disp_of_number (eqb-true n 0 z)))
       | inr z ↦ elim (or_cases (n == 18) (n == 21) z) [
         | inl a ↦
-            let same : MoveSendOnce ≡ x = same_Some MoveSendOnce x (sym (ap disp_of (eqb-true n 18 a)) ∙ is) in
+            let same : MoveSendOnce ≡ x = same_Some MoveSendOnce x
+            (sym (ap disp_of_number (eqb-true n 18 a)) ∙ is) in
             (refl, ap given (sym same), inl (ap needed (sym same)))
         | inr a ↦
-            let same : MakeSendOnce ≡ x = same_Some MakeSendOnce x (sym (ap disp_of (eqb-true n 21 a)) ∙ is) in
+            let same : MakeSendOnce ≡ x = same_Some MakeSendOnce x
+            (sym (ap disp_of_number (eqb-true n 21 a)) ∙ is) in
             (refl, ap given (sym same), inr (ap needed (sym same)))
       ]
     ]
-    by_kind Simple fit = absurd (not_None x (sym is ∙ ap disp_of (eqb-true n 0 fit)))
-reply_once (OfReply r) n x fit is = absurd (not_None x (sym is ∙ ap disp_of (eqb-true n 0 fit)))
+    by_kind Simple fit = absurd (not_None x (sym is ∙ ap disp_of_number (eqb-true n 0 fit)))
+reply_once (OfReply r) n x fit is =
+    absurd (not_None x (sym is ∙ ap disp_of_number (eqb-true n 0 fit)))
 
-module _ (W : Wiring) (G : Facts) (obeys : Obeys W G) (task : ℕ → ℕ) (A : ℕ → Type 0) where
+module _ (W : Wiring) (G : FactSet) (obeys : Obeys W G) (task : ℕ → ℕ) (A : ℕ → Type 0) where
   -- the reply right is a send-once right that the sender has
-  reply_fact : (t d : ℕ) (f : Form) (n : ℕ) (x : Disp) → (r : PortRight) × CanSendBy r × G (Hold t d r)
-      → IsIn f (forms W d) → fits_reply f n ≡ true → disp_of n ≡ Some x → (c : ℕ) (q : PortRight)
+  reply_fact : (t d : ℕ) (f : Form) (n : ℕ) (x : Disp)
+      → (r : PortRight) × CanSendBy r × G (Hold t d r)
+      → IsIn f (forms W d) → fits_reply f n ≡ true → disp_of_number n ≡ Some x
+      → (c : ℕ) (q : PortRight)
       → G (Hold t c (needed x)) × (q ≡ given x) → G (Carry d c q)
   reply_fact t d f n x (r, by, g) form fit is c q (h, same) =
       let (request, kind, routine, once, from) = reply_once f n x fit is in
-      let accepts = routine_accepted W d request (subst (λ v. IsIn v (forms W d)) kind form) routine in
+      let accepts = routine_accepted W d request
+      (subst (λ v. IsIn v (forms W d)) kind form) routine in
       let holds : G (Hold t c SendOnce) = elim from [
         | inl e ↦ subst (λ v. G (Hold t c v)) e h
         | inr e ↦ obeys.onces (subst (λ v. G (Hold t c v)) e h)
@@ -98,26 +116,32 @@ module _ (W : Wiring) (G : Facts) (obeys : Obeys W G) (task : ℕ → ℕ) (A : 
 
   -- the reply right
   take_reply_carries : (s : Store) (hand : List Held) (t d n : ℕ) (f : Form) (name : ℕ) (e : Reply)
-      → (r : PortRight) × CanSendBy r × G (Hold (task t) d r) → IsIn f (forms W d) → fits_reply f n ≡ true → A t
+      → (r : PortRight) × CanSendBy r × G (Hold (task t) d r) → IsIn f (forms W d)
+      → fits_reply f n ≡ true → A t
       → SoundWith W G task s hand
-      → Gives (λ (r : Store × Item). IsCarried W G task A s hand (item_rights r.1) (MayCarry G d) r.0)
-      (take_reply_by s t name (disp_of n) e)
-  take_reply_carries s hand t d n f name e sender form fit mine sound = by_disp (disp_of n) refl
+      → Gives
+      (λ (r : Store × Item). IsCarried W G task A s hand (item_rights r.1) (MayCarry G d) r.0)
+      (take_reply_by s t name (disp_of_number n) e)
+  take_reply_carries s hand t d n f name e sender form fit mine sound =
+      by_disp (disp_of_number n) refl
     where
       by_gone : (b : Bool)
-          → Gives (λ (r : Store × Item). IsCarried W G task A s hand (item_rights r.1) (MayCarry G d) r.0)
+          → Gives (λ (r : Store × Item). IsCarried W G task A s hand (item_rights r.1)
+          (MayCarry G d) r.0)
           (if b then Ok (s, DeadItem) else Err e)
       by_gone true = gives_ok (carries_nothing W G task A s hand (MayCarry G d) sound)
       by_gone false = gives_err _ _
 
       by_null : (b : Bool)
-          → Gives (λ (r : Store × Item). IsCarried W G task A s hand (item_rights r.1) (MayCarry G d) r.0)
+          → Gives (λ (r : Store × Item). IsCarried W G task A s hand (item_rights r.1)
+          (MayCarry G d) r.0)
           (if b then Ok (s, NullItem) else if name == 0xffffffff then Ok (s, DeadItem) else Err e)
       by_null true = gives_ok (carries_nothing W G task A s hand (MayCarry G d) sound)
       by_null false = by_gone (name == 0xffffffff)
 
-      by_disp : (o : Option Disp) → disp_of n ≡ o
-          → Gives (λ (r : Store × Item). IsCarried W G task A s hand (item_rights r.1) (MayCarry G d) r.0)
+      by_disp : (o : Option Disp) → disp_of_number n ≡ o
+          → Gives (λ (r : Store × Item). IsCarried W G task A s hand (item_rights r.1)
+          (MayCarry G d) r.0)
           (take_reply_by s t name o e)
       by_disp None is = by_null (name == 0)
       by_disp (Some x) is = record {
@@ -126,7 +150,7 @@ module _ (W : Wiring) (G : Facts) (obeys : Obeys W G) (task : ℕ → ℕ) (A : 
             ((take_item_carries W G task A obeys s hand t name x e mine sound).holds r z);
       }
 
-module _ (W : Wiring) (G : Facts) where
+module _ (W : Wiring) (G : FactSet) where
   -- the rights that a message carries: its reply right (K5), and those of its slots (K4)
   pub send_keeps : Obeys W G → (w : World) (t : ℕ) (m : Message) → IsAlive w t → Kept W G w
       → Keeps W G (call_send W w t m)
@@ -134,7 +158,7 @@ module _ (W : Wiring) (G : Facts) where
   send_keeps obeys w t m alive kept =
       let τ = task_class w in
       let A = IsAlive w in
-      bind _ _ (found (disp_of m.remote_disp) _) (λ x is.
+      bind _ _ (found (disp_of_number m.remote_disp) _) (λ x is.
       bind_ _ _ (checked (not_receive x) _) (λ _ plain.
       bind _ _ (take_leaves W G τ A obeys w.store [] t m.remote x _ _ alive kept.sound) (λ got h.
       bind _ _ (found (get got.0.ports got.1) _) (λ dest live.
@@ -142,14 +166,20 @@ module _ (W : Wiring) (G : Facts) where
       let class : class_of got.0 got.1 ≡ Some dest.class = live_class got.0 got.1 dest live in
       let same : h.had.0 ≡ dest.class = same_Some _ _ (sym h.had.1 ∙ class) in
       let by = sender W G obeys (τ t) dest.class x plain (rw same at h.had.2) in
-      let s1 : SoundWith W G τ got.0 [] = exchange_hand (λ q. not_moved_back x got.1 q plain) h.leaves.sound in
-      bind _ _ (take_reply_carries W G obeys τ A got.0 [] t dest.class m.local_disp form m.local _ by j.form j.reply alive s1) (λ r k.
-      bind _ _ (take_args_carry W G τ A obeys r.0 (item_rights r.1 ++ []) t 0 (form_shapes form) m.args (MayCarry G dest.class) j.fit
-      (λ v i c y e a g. obeys.slot {f = form} {s = v} {x = y} by.1 j.form i e a by.2 g) alive k.leaves.sound) (λ b l.
+      let s1 : SoundWith W G τ got.0 [] = exchange_hand
+      (λ q. not_moved_back x got.1 q plain) h.leaves.sound in
+      bind _ _ (take_reply_carries W G obeys τ A got.0 [] t dest.class m.local_disp form m.local _
+      by j.form j.reply alive s1) (λ r k.
+      bind _ _ (take_args_carry W G τ A obeys r.0 (item_rights r.1
+      ++ []) t 0 (form_shapes form) m.args (MayCarry G dest.class) j.fit
+      (λ v i c y e a g. obeys.slot {f = form} {s = v} {x = y} by.1 j.form i e a by.2 g) alive
+      k.leaves.sound) (λ b l.
       bind_ _ _ (not_refused _ _) (λ _ _.
       let all = carries_then W G τ A k l in
-      let parcel : Parcel = record { by_once = is_once (given x); id = m.id; reply = r.1; args = b.1 } in
+      let parcel : Parcel =
+      record { by_once = is_once (given x); id = m.id; reply = r.1; args = b.1 } in
       let end = append_leaves W G τ A b.0 [] got.1 dest.class parcel
       (all.leaves.changes.classes got.1 ∙ class) all.leaves.sound all.known in
-      gives_ok (keeps_with W G w (append b.0 got.1 parcel) kept (leaves_then (changes_then h.leaves.changes all.leaves.changes) end.0)
+      gives_ok (keeps_with W G w (append b.0 got.1 parcel) kept
+      (leaves_then (changes_then h.leaves.changes all.leaves.changes) end.0)
       (λ u. rw (end.1 u) (le_trans (all.small u) (le_trans (h.small u) (kept.few u)))))))))))))

@@ -1,28 +1,35 @@
--- terminate keeps a world well formed and covered. All rights of the task are destroyed, and its kernel port dies. New are
--- only the notices on queues, of which those of a destroyed receive right carry it (Noticing).
-use Rattle.std.proofs.Common.{Bool, List, None, Option, Some, [], ap, arith, false, if◌then◌else◌, inl, inr, refl, subst, sym, true, ℕ, ◌+◌, ◌∙◌, ◌∷◌, ◌≡◌, ◌≤◌}
+-- terminate keeps a world well formed and covered. All rights of the task are destroyed, and its
+-- kernel port dies. New are only the notices on queues, of which those of a destroyed receive right
+-- carry it (Noticing).
+use Rattle.std.proofs.Common.{Bool, List, None, Option, Some, [], ap, arith, false, if◌then◌else◌}
+use Rattle.std.proofs.Common.{inl, inr, refl, subst, sym, true, ℕ, ◌+◌, ◌∙◌, ◌∷◌, ◌≡◌, ◌≤◌}
 use Rattle.std.proofs.Math.Nat.{le_trans}
 use Rattle.std.proofs.lemmas.Bool.{both_ways, cases_eq, eq-eqb, ne_eqb}
 use Rattle.std.specs.Option.{option_map, unwrap_or}
 use Rattle.mrc_model.proofs.Dying.{dying_closed}
-use Rattle.mrc_model.proofs.Maps.{get-empty, get-insert_other, get-insert_same, len-alter_all, len-empty, not_None, origin-insert, same_Some}
+use Rattle.mrc_model.proofs.Maps.{get-empty, get-insert_other, get-insert_same, len-alter_all}
+use Rattle.mrc_model.proofs.Maps.{len-empty, not_None, origin-insert, same_Some}
 use Rattle.mrc_model.proofs.Tries.{bind, found, gives_ok}
-use Rattle.mrc_model.specs.CallTerminate.{all_rights, call_terminate, ended}
+use Rattle.mrc_model.specs.CallTerminate.{call_terminate, ended}
 use Rattle.mrc_model.specs.Covers.{Known}
 use Rattle.mrc_model.specs.Death.{Doomed, destroy, dying, has, is_kernel_of}
+use Rattle.mrc_model.specs.Destroyed.{all_rights, destroyed}
 use Rattle.mrc_model.specs.Map.{empty, get, len, sum_list, total}
-use Rattle.mrc_model.specs.Rules.{Facts}
+use Rattle.mrc_model.specs.Rules.{FactSet}
 use Rattle.mrc_model.specs.Target.{is_alive}
 use Rattle.mrc_model.specs.Wiring.{Wiring, kernel_class}
-use Rattle.mrc_model.specs.World.{Held, Space, Store, Task, World, class_of, entry_rights, receives, set_space, space, space_receives, task_class}
+use Rattle.mrc_model.specs.World.{Held, Space, Store, Task, World, class_of, entry_rights, receives}
+use Rattle.mrc_model.specs.World.{set_space, space, space_receives, task_class}
 use Rattle.mrc_model.specs.declared.Entry.{Entry}
-use Rattle.mrc_cover.proofs.Destroying.{IsDestroyed, destroy_leaves, kernel_is_kernel, kernel_lives, live_key, space-none}
+use Rattle.mrc_cover.proofs.Destroying.{IsDestroyed, destroy_leaves, kernel_is_kernel, kernel_lives}
+use Rattle.mrc_cover.proofs.Destroying.{live_key, space-none}
 use Rattle.mrc_cover.proofs.Kept.{Keeps, Kept, target_is}
 use Rattle.mrc_cover.proofs.Obeyed.{Obeys}
 use Rattle.mrc_cover.proofs.Pruning.{perish}
 use Rattle.mrc_cover.proofs.Rights.{MayHold, entry_receives, receives-append}
 use Rattle.mrc_cover.proofs.Sound.{SoundWith, set_space_sound}
-use Rattle.mrc_cover.proofs.Stores.{port_of_class, space-set_other, space-set_same, space_receives-empty}
+use Rattle.mrc_cover.proofs.Stores.{port_of_class, space-set_other, space-set_same}
+use Rattle.mrc_cover.proofs.Stores.{space_receives-empty}
 
 -- the receive rights of all entries
 receives-all_rights : (q : ℕ) (es : List (ℕ × Entry))
@@ -38,14 +45,16 @@ unfolding space_receives total
 receives-space q x = receives-all_rights q x.list
 
 -- the classes of tasks as another function
-same_tasks : (W : Wiring) (G : Facts) (task other : ℕ → ℕ) (s : Store) (hand : List Held)
+same_tasks : (W : Wiring) (G : FactSet) (task other : ℕ → ℕ) (s : Store) (hand : List Held)
     → ((t : ℕ) → other t ≡ task t) → SoundWith W G task s hand → SoundWith W G other s hand
 same_tasks W G task other s hand same sound = record {
   receive_once = sound.receive_once;
   numbers = sound.numbers;
   one_name = sound.one_name;
   covers = record {
-    held = λ t n e is. subst (λ v. Known (class_of s) (MayHold G v) (entry_rights e)) (sym (same t)) (sound.covers.held t n e is);
+    held =
+        λ t n e is. subst (λ v. Known (class_of s) (MayHold G v) (entry_rights e)) (sym (same t))
+        (sound.covers.held t n e is);
     carried = sound.covers.carried;
     backups = sound.covers.backups;
   };
@@ -55,7 +64,8 @@ same_tasks W G task other s hand same sound = record {
 few_empty : len {X = Entry} empty ≤ 4096
 few_empty = let a = len-empty {X = Entry} empty refl in omega arith
 
-module _ (W : Wiring) (G : Facts) (obeys : Obeys W G) (w : World) (u : ℕ) (x : Task) (kept : Kept W G w)
+module _ (W : Wiring) (G : FactSet) (obeys : Obeys W G) (w : World) (u : ℕ) (x : Task)
+    (kept : Kept W G w)
     (at : get w.tasks u ≡ Some x) (alive : x.alive ≡ true) where
   -- the store without the task's space
   s1 : Store
@@ -68,8 +78,11 @@ module _ (W : Wiring) (G : Facts) (obeys : Obeys W G) (w : World) (u : ℕ) (x :
   -- the store is sound with all rights of the task in hand
   emptied : SoundWith W G (task_class w) s1 doomed.rights
   unfolding s1 doomed
-  emptied = set_space_sound W G (task_class w) w.store [] (all_rights (space w.store u).list) u empty kept.sound
-      (λ p c is. let a = receives-space p (space w.store u) in let b = space_receives-empty p in omega arith)
+  emptied =
+      set_space_sound W G (task_class w) w.store []
+      (all_rights (space w.store u).list) u empty kept.sound
+      (λ p c is. let a = receives-space p
+      (space w.store u) in let b = space_receives-empty p in omega arith)
       (λ n e is. absurd (not_None e (sym is ∙ get-empty n)))
       (λ n m p e f a. absurd (not_None e (sym a ∙ get-empty n)))
 
@@ -88,12 +101,14 @@ module _ (W : Wiring) (G : Facts) (obeys : Obeys W G) (w : World) (u : ℕ) (x :
     | inl e ↦ rw e (ap (λ o. unwrap_or (option_map (λ (x : Task). x.class) o) u)
         (get-insert_same w.tasks u (record x { alive = false }))
         ∙ sym (ap (λ o. unwrap_or (option_map (λ (x : Task). x.class) o) u) at))
-    | inr n ↦ ap (λ o. unwrap_or (option_map (λ (x : Task). x.class) o) t) (get-insert_other w.tasks u (record x { alive = false }) t n)
+    | inr n ↦ ap (λ o. unwrap_or (option_map (λ (x : Task). x.class) o) t)
+        (get-insert_other w.tasks u (record x { alive = false }) t n)
   ]
 
   -- an empty name stays empty
   space_after : (t n : ℕ) → get (space s1 t) n ≡ None → get (space (destroy s1 doomed) t) n ≡ None
-  space_after t n e = ap (λ v. get v n) (done.spaces t) ∙ space-none (dying s1 doomed) (space s1 t) n e
+  space_after t n e =
+      ap (λ v. get v n) (done.spaces t) ∙ space-none (dying s1 doomed) (space s1 t) n e
 
   -- another kernel port is not the task's
   other_kernel : (p : ℕ) → (x.kernel ≡ p → ⊥) → is_kernel_of doomed.kernel p ≡ false
@@ -109,7 +124,8 @@ module _ (W : Wiring) (G : Facts) (obeys : Obeys W G) (w : World) (u : ℕ) (x :
   class_of_after : (p c : ℕ) → class_of (destroy s1 doomed) p ≡ Some c
       → (has (dying s1 doomed) p ≡ false) × (class_of s1 p ≡ Some c)
   class_of_after p c is =
-      let go : (b : Bool) → has (dying s1 doomed) p ≡ b → (if b then None else class_of s1 p) ≡ Some c
+      let go : (b : Bool) → has (dying s1 doomed) p ≡ b
+      → (if b then None else class_of s1 p) ≡ Some c
       → (has (dying s1 doomed) p ≡ false) × (class_of s1 p ≡ Some c) = elim [
         | true ↦ λ h z. absurd (not_None c (sym z))
         | false ↦ λ h z. (h, z)
@@ -123,7 +139,8 @@ module _ (W : Wiring) (G : Facts) (obeys : Obeys W G) (w : World) (u : ℕ) (x :
       dying_closed s1 doomed x.kernel (live_key s1 x.kernel y live) (rw (its_kernel x.kernel refl))
 
   -- a live task is another one, and was alive
-  task_after : (t : ℕ) (y : Task) → get after.tasks t ≡ Some y → y.alive ≡ true → (t ≡ u → ⊥) × (get w.tasks t ≡ Some y)
+  task_after : (t : ℕ) (y : Task) → get after.tasks t ≡ Some y → y.alive ≡ true
+      → (t ≡ u → ⊥) × (get w.tasks t ≡ Some y)
   unfolding after
   task_after t y is a = elim (origin-insert w.tasks u (record x { alive = false }) t y is) [
     | inl h ↦ absurd (both_ways false refl (ap (λ (v : Task). v.alive) h.1 ∙ a))
@@ -135,29 +152,45 @@ module _ (W : Wiring) (G : Facts) (obeys : Obeys W G) (w : World) (u : ℕ) (x :
       → (z : Task) × (get w.tasks t ≡ Some z) × (z.class ≡ y.class) × (z.kernel ≡ y.kernel)
   unfolding after
   any_task t y is = elim (origin-insert w.tasks u (record x { alive = false }) t y is) [
-    | inl h ↦ (x, ap (get w.tasks) h.0 ∙ at, ap (λ (v : Task). v.class) h.1, ap (λ (v : Task). v.kernel) h.1)
+    | inl h ↦ (
+      x,
+      ap (get w.tasks) h.0
+          ∙ at,
+      ap (λ (v : Task). v.class) h.1,
+      ap (λ (v : Task). v.kernel) h.1,
+    )
     | inr h ↦ (y, h.1, refl, refl)
   ]
 
   -- the end of a task keeps the world
   pub end_keeps : Kept W G (ended w u x)
-  unfolding after s1 doomed
+  unfolding after s1 doomed destroyed
   end_keeps = record {
-    sound = same_tasks W G (task_class w) (task_class (ended w u x)) (destroy s1 doomed) [] class_after done.sound;
-    few = λ t. rw (done.spaces t) (le_trans (len-alter_all (perish (dying s1 doomed)) (space s1 t)) (elim (cases_eq t u) [
-      | inl e ↦ rw e (rw (space-set_same w.store u empty) few_empty)
-      | inr n ↦ rw (space-set_other w.store u t empty n) (kept.few t)
-    ]));
+    sound =
+        same_tasks W G (task_class w) (task_class (ended w u x))
+        (destroy s1 doomed) [] class_after done.sound;
+    few =
+        λ t. rw (done.spaces t)
+        (le_trans (len-alter_all (perish (dying s1 doomed)) (space s1 t)) (elim (cases_eq t u) [
+          | inl e ↦ rw e (rw (space-set_same w.store u empty) few_empty)
+          | inr n ↦ rw (space-set_other w.store u t empty n) (kept.few t)
+        ]));
     tasks = record {
       class = λ t y is. let (z, was, c, k) = any_task t y is in rw c at (kept.tasks.class t z was);
-      below = λ t y is. let (z, was, c, k) = any_task t y is in rw done.next (rw k at (kept.tasks.below t z was));
+      below =
+          λ t y is. let (z, was, c, k) = any_task t y is in rw done.next
+          (rw k at (kept.tasks.below t z was));
       kernel = λ t y is a.
           let (apart, was) = task_after t y is a in
-          let class : class_of s1 y.kernel ≡ Some (kernel_class W y.class) = kept.tasks.kernel t y was a in
-          let spared = other_kernel y.kernel (λ e. apart (kept.tasks.own t u y x was at a (sym e))) in
-          let lives = kernel_lives W G obeys (task_class w) s1 doomed emptied y.kernel (W.ports + y.class) class
+          let class : class_of s1 y.kernel ≡ Some
+          (kernel_class W y.class) = kept.tasks.kernel t y was a in
+          let spared = other_kernel y.kernel
+          (λ e. apart (kept.tasks.own t u y x was at a (sym e))) in
+          let lives = kernel_lives W G obeys (task_class w) s1 doomed emptied y.kernel
+          (W.ports + y.class) class
           (kernel_is_kernel W y.class (kept.tasks.class t y was)) spared in
-          done.classes y.kernel ∙ ap (λ (b : Bool). if b then None else class_of s1 y.kernel) lives ∙ class;
+          done.classes y.kernel ∙ ap (λ (b : Bool). if b then None else class_of s1 y.kernel) lives
+          ∙ class;
       own = λ t v y z is js a e.
           let (before, was, c, k) = any_task v z js in
           kept.tasks.own t v y before (task_after t y is a).1 was a (e ∙ sym k);
@@ -168,12 +201,15 @@ module _ (W : Wiring) (G : Facts) (obeys : Obeys W G) (w : World) (u : ℕ) (x :
           let same : x ≡ y = same_Some x y (sym at ∙ ap (get w.tasks) (sym e) ∙ old) in
           let kernel : x.kernel ≡ p = ap (λ (v : Task). v.kernel) same ∙ its in
           both_ways (has (dying s1 doomed) p) lives
-          (ap (has (dying s1 doomed)) (sym kernel) ∙ kernel_dies c (ap (class_of s1) kernel ∙ was)) in
+          (ap (has (dying s1 doomed)) (sym kernel)
+          ∙ kernel_dies c (ap (class_of s1) kernel ∙ was)) in
           (t, y, get-insert_other w.tasks u (record x { alive = false }) t apart ∙ old, a, its);
       gone = λ t n e. space_after t n (elim (cases_eq t u) [
-        | inl same ↦ ap (λ v. get v n) (ap (space s1) same ∙ space-set_same w.store u empty) ∙ get-empty n
+        | inl same ↦ ap (λ v. get v n) (ap (space s1) same ∙ space-set_same w.store u empty)
+            ∙ get-empty n
         | inr apart ↦ ap (λ v. get v n) (space-set_other w.store u t empty apart)
-            ∙ kept.tasks.gone t n (ap is_alive (sym (get-insert_other w.tasks u (record x { alive = false }) t apart)) ∙ e)
+            ∙ kept.tasks.gone t n (ap is_alive
+            (sym (get-insert_other w.tasks u (record x { alive = false }) t apart)) ∙ e)
       ]);
     };
   }
@@ -182,7 +218,7 @@ module _ (W : Wiring) (G : Facts) (obeys : Obeys W G) (w : World) (u : ℕ) (x :
 alive_task : (o : Option Task) (x : Task) → is_alive o ≡ true → o ≡ Some x → x.alive ≡ true
 alive_task o x a e = ap is_alive (sym e) ∙ a
 
-module _ (W : Wiring) (G : Facts) (obeys : Obeys W G) where
+module _ (W : Wiring) (G : FactSet) (obeys : Obeys W G) where
   -- terminate
   pub terminate_keeps : (w : World) (t task : ℕ) → Kept W G w
       → Keeps W G (call_terminate w t task)

@@ -1,12 +1,16 @@
--- A store in which one space or one port is changed: what stands there, and in how many places each receive right is.
-use Rattle.std.proofs.Common.{None, Option, Some, ap, arith, false, if◌then◌else◌, inl, inr, refl, sym, true, ℕ, ◌+◌, ◌∙◌, ◌≡◌, ◌≤◌}
+-- A store in which one space or one port is changed: what stands there, and in how many places each
+-- receive right is.
+use Rattle.std.proofs.Common.{None, Option, Some, ap, arith, false, if◌then◌else◌, inl, inr, refl}
+use Rattle.std.proofs.Common.{sym, true, ℕ, ◌+◌, ◌∙◌, ◌≡◌, ◌≤◌}
 use Rattle.std.proofs.lemmas.Bool.{cases_eq}
 use Rattle.std.specs.Option.{option_map, unwrap_or}
-use Rattle.mrc_model.proofs.Maps.{at_most-total, at_or_0, get-insert_other, get-insert_same, not_None, total-empty, total-insert}
+use Rattle.mrc_model.proofs.Maps.{at_most-total, at_or_0, get-insert_other, get-insert_same}
+use Rattle.mrc_model.proofs.Maps.{not_None, total-empty, total-insert}
 use Rattle.mrc_model.specs.Covers.{owed}
 use Rattle.mrc_model.specs.Map.{empty, get}
-use Rattle.mrc_model.specs.Wiring.{Wiring, is_kernel_class}
-use Rattle.mrc_model.specs.World.{Port, Space, Store, class_of, places, queue_rights, receives, set_port, set_space, space, space_receives}
+use Rattle.mrc_model.specs.Wiring.{Wiring, is_kernel_class, numbers_of}
+use Rattle.mrc_model.specs.World.{Port, Space, Store, class_of, places, queue_rights, receives}
+use Rattle.mrc_model.specs.World.{set_port, set_space, space, space_receives}
 use Rattle.mrc_cover.proofs.Rights.{each_receives, queue_receives}
 
 -- the space that was put there
@@ -14,7 +18,8 @@ pub space-set_same : (s : Store) (t : ℕ) (x : Space) → space (set_space s t 
 space-set_same s t x = ap (λ o. unwrap_or o empty) (get-insert_same s.spaces t x)
 
 -- the other spaces stay
-pub space-set_other : (s : Store) (t u : ℕ) (x : Space) → (u ≡ t → ⊥) → space (set_space s t x) u ≡ space s u
+pub space-set_other : (s : Store) (t u : ℕ) (x : Space) → (u ≡ t → ⊥)
+    → space (set_space s t x) u ≡ space s u
 space-set_other s t u x n = ap (λ o. unwrap_or o empty) (get-insert_other s.spaces t x u n)
 
 -- no receive right is in the empty space
@@ -38,17 +43,20 @@ places-set_space p s t x =
     omega arith
 
 -- a port whose queue or backup changes
-pub class_of-set_port : (s : Store) (p : ℕ) (x y : Port) → get s.ports p ≡ Some x → y.class ≡ x.class → (q : ℕ)
+pub class_of-set_port : (s : Store) (p : ℕ) (x y : Port) → get s.ports p ≡ Some x
+    → y.class ≡ x.class → (q : ℕ)
     → class_of (set_port s p y) q ≡ class_of s q
 class_of-set_port s p x y is same q = elim (cases_eq q p) [
-  | inl e ↦ rw e (ap (option_map (λ (x : Port). x.class)) (get-insert_same s.ports p y) ∙ ap (λ c. Some c) same
+  | inl e ↦ rw e (ap (option_map (λ (x : Port). x.class)) (get-insert_same s.ports p y)
+      ∙ ap (λ c. Some c) same
       ∙ sym (ap (option_map (λ (x : Port). x.class)) is))
   | inr n ↦ ap (option_map (λ (x : Port). x.class)) (get-insert_other s.ports p y q n)
 ]
 
 -- the places of a receive right, where one queue changes
 pub places-set_port : (p : ℕ) (s : Store) (q : ℕ) (x y : Port) → get s.ports q ≡ Some x
-    → places p (set_port s q y) + receives p (queue_rights x.queue) ≡ places p s + receives p (queue_rights y.queue)
+    → places p (set_port s q y) + receives p (queue_rights x.queue) ≡ places p s + receives p
+    (queue_rights y.queue)
 unfolding places
 places-set_port p s q x y is =
     let a = total-insert (queue_receives p) s.ports q y in
@@ -59,15 +67,18 @@ places-set_port p s q x y is =
 pub space_at_most_places : (p : ℕ) (s : Store) (t : ℕ) → space_receives p (space s t) ≤ places p s
 unfolding places
 space_at_most_places p s t =
-    let go : (o : Option Space) → get s.spaces t ≡ o → space_receives p (unwrap_or o empty) ≤ places p s = elim [
+    let go : (o : Option Space) → get s.spaces t ≡ o
+    → space_receives p (unwrap_or o empty) ≤ places p s = elim [
       | None ↦ λ e. rw space_receives-empty (omega arith)
       | Some x ↦ λ e. let a = at_most-total (each_receives p) s.spaces t x e in omega arith
     ] in
     go (get s.spaces t) refl
 
 -- no receive right has to be in two places
-pub owed_at_most_one : (W : Wiring) (c : ℕ) → owed W c ≤ 1
-owed_at_most_one W c = elim (is_kernel_class W c) as (λ b. (if b then 0 else 1) ≤ 1) [ true ↦ omega arith | false ↦ omega arith ]
+pub owed_at_most_one : (W : Wiring) (c : ℕ) → owed (numbers_of W) c ≤ 1
+owed_at_most_one W c =
+    elim (is_kernel_class W c) as
+    (λ b. (if b then 0 else 1) ≤ 1) [ true ↦ omega arith | false ↦ omega arith ]
 
 -- a number with no class is that of no port
 pub unborn : (s : Store) (p : ℕ) → class_of s p ≡ None → get s.ports p ≡ None
@@ -77,7 +88,8 @@ unborn s p none =
     go (get s.ports p) none
 
 -- a port that has a class is live
-pub port_of_class : (s : Store) (p c : ℕ) → class_of s p ≡ Some c → (x : Port) × (get s.ports p ≡ Some x)
+pub port_of_class : (s : Store) (p c : ℕ) → class_of s p ≡ Some c
+    → (x : Port) × (get s.ports p ≡ Some x)
 port_of_class s p c is =
     let go : (o : Option Port) → get s.ports p ≡ o → option_map (λ (x : Port). x.class) o ≡ Some c
     → (x : Port) × (get s.ports p ≡ Some x) = elim [
@@ -87,5 +99,6 @@ port_of_class s p c is =
     go (get s.ports p) refl is
 
 -- the class of a live port
-pub live_class : (s : Store) (p : ℕ) (x : Port) → get s.ports p ≡ Some x → class_of s p ≡ Some x.class
+pub live_class : (s : Store) (p : ℕ) (x : Port) → get s.ports p ≡ Some x
+    → class_of s p ≡ Some x.class
 live_class s p x is = ap (option_map (λ (x : Port). x.class)) is

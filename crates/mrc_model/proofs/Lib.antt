@@ -1,6 +1,8 @@
 pub mod Maps
 pub mod Tries
 pub mod Spaces
+pub mod KeptSpaces
+pub mod KeptCalls
 pub mod Dying
 pub mod FirstHeld
 pub mod Few

@@ -12,12 +12,14 @@ gives_ok {A} {P} {a} h = record { holds = λ b e. let is : a ≡ b = cc in rw is
 pub gives_err : {A : Type 0} (P : A → Type 0) (e : Reply) → Gives P (Err e)
 gives_err P e = record { holds = λ b is. cc }
 
-pub bind : {A B : Type 0} {Q : A → Type 0} {P : B → Type 0} (m : Try A) (f : A → Try B) → Gives Q m → ((a : A) → Q a → Gives P (f a)) → Gives P (m >>= f)
+pub bind : {A B : Type 0} {Q : A → Type 0} {P : B → Type 0} (m : Try A) (f : A → Try B) → Gives Q m
+    → ((a : A) → Q a → Gives P (f a)) → Gives P (m >>= f)
 unfolding ◌>>=◌
 bind (Ok a) f q k = k a (q.holds a refl)
 bind (Err e) f q k = gives_err _ e
 
-pub bind_ : {A B : Type 0} {Q : A → Type 0} {P : B → Type 0} (m : Try A) (r : Try B) → Gives Q m → ((a : A) → Q a → Gives P r) → Gives P (m >> r)
+pub bind_ : {A B : Type 0} {Q : A → Type 0} {P : B → Type 0} (m : Try A) (r : Try B) → Gives Q m
+    → ((a : A) → Q a → Gives P r) → Gives P (m >> r)
 unfolding ◌>>◌
 bind_ (Ok a) f q k = k a (q.holds a refl)
 bind_ (Err e) f q k = gives_err _ e

@@ -1,16 +1,19 @@
--- Who holds what in a world, which tasks a task counts as, and when a world breaks a policy. That holding a task's
--- kernel port counts as being that task is Mach's rule, read so by this profile.
+-- Who holds what in a world, which tasks a task counts as, and when a world breaks a policy. That
+-- holding a task's kernel port counts as being that task is Mach's rule, read so by this profile.
 use Rattle.std.specs.Prelude.{◌≡◌, ◌↔◌, ℕ, true, List, [], ◌∷◌, ◌++◌, map, Some}
 use Rattle.mrc_base.specs.declared.PortRight.{PortRight}
 use Rattle.mrc_base.specs.declared.PortRight.TheVariants.{Send}
 use Rattle.mrc_model.specs.declared.Entry.{Entry}
 use Rattle.mrc_model.specs.IsIn.{IsIn}
 use Rattle.mrc_model.specs.Map.{get}
-use Rattle.mrc_model.specs.World.{Space, Task, World, Held, space, task_class, class_of, entry_rights}
+use Rattle.mrc_model.specs.World.{Space, Task, World, Held, space, task_class, class_of}
+use Rattle.mrc_model.specs.World.{entry_rights}
 
 -- t holds the right on the port: an entry of its space shows it
 abbrev pub Holds : World → ℕ → ℕ → PortRight → Type 0
-Holds w t p r = (n : ℕ) × (e : Entry) × (get (space w.store t) n ≡ Some e) × IsIn record { port = p; right = r } (entry_rights e)
+Holds w t p r =
+    (n : ℕ) × (e : Entry) × (get (space w.store t) n ≡ Some e)
+    × IsIn record { port = p; right = r } (entry_rights e)
 
 -- a task holds the right on the port
 pub record Holding : Type 0 where
@@ -20,7 +23,8 @@ pub record Holding : Type 0 where
 
 -- what an entry of task t shows
 abbrev pub entry_holdings : ℕ → Entry → List Holding
-entry_holdings t e = map (λ (h : Held). record { task = t; port = h.port; right = h.right }) (entry_rights e)
+entry_holdings t e =
+    map (λ (h : Held). record { task = t; port = h.port; right = h.right }) (entry_rights e)
 
 -- what the entries of task t show, in their order
 abbrev pub space_holdings : ℕ → List (ℕ × Entry) → List Holding
@@ -32,8 +36,8 @@ abbrev pub spaces_holdings : List (ℕ × Space) → List Holding
 spaces_holdings [] = []
 spaces_holdings (x ∷ xs) = space_holdings x.0 x.1.list ++ spaces_holdings xs
 
--- All that tasks hold, by ascending task and name: receive and send each one time for an entry that has them, whatever the number
--- of references, and once for each send-once entry.
+-- All that tasks hold, by ascending task and name: receive and send each one time for an entry that
+-- has them, whatever the number of references, and once for each send-once entry.
 abbrev pub holdings : World → List Holding
 holdings w = spaces_holdings w.store.spaces.list
 
@@ -66,4 +70,6 @@ pub record Breach (w : World) (policy : List Forbid) : Type 0 where
 
 -- the list has what is held, and nothing else
 abbrev pub HoldingsAreHeld : Type 0
-HoldingsAreHeld = (w : World) (t p : ℕ) (r : PortRight) → IsIn record { task = t; port = p; right = r } (holdings w) ↔ Holds w t p r
+HoldingsAreHeld =
+    (w : World) (t p : ℕ) (r : PortRight)
+    → IsIn record { task = t; port = p; right = r } (holdings w) ↔ Holds w t p r

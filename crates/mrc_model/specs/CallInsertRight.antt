@@ -1,11 +1,11 @@
--- Moving rights between tasks directly.
--- From Mach 3 Kernel Interfaces, mach_port_insert_right and mach_port_extract_right. The order of the refusals is this
--- profile's own choice.
+-- Moving rights between tasks directly. From Mach 3 Kernel Interfaces, mach_port_insert_right and
+-- mach_port_extract_right. The order of the refusals is this profile's own choice.
 use Rattle.std.specs.Prelude.{ℕ, ◌||◌, Ok}
 use Rattle.mrc_base.specs.declared.Disp.{Disp}
 use Rattle.mrc_base.specs.Disposition.{given}
 use Rattle.mrc_model.specs.declared.Item.TheVariants.{Right as RightItem}
-use Rattle.mrc_model.specs.declared.Code.TheVariants.{KernInvalidTask, KernInvalidValue, KernInvalidCapability, KernNoSpace}
+use Rattle.mrc_model.specs.declared.Code.TheVariants.{KernInvalidTask, KernInvalidValue}
+use Rattle.mrc_model.specs.declared.Code.TheVariants.{KernInvalidCapability, KernNoSpace}
 use Rattle.mrc_model.specs.Map.{get}
 use Rattle.mrc_model.specs.World.{World, space, set_space}
 use Rattle.mrc_model.specs.Reply.{Reply, Done, Name, Refused, Try, ◌>>=◌, ◌>>◌, refuse_if}
@@ -18,7 +18,8 @@ unfoldable pub call_insert_right : World → ℕ → ℕ → ℕ → ℕ → Dis
 call_insert_right w t task name right x = do
   u ← target w t task KernInvalidTask
   refuse_if (is_reserved name) (Refused KernInvalidValue)
-  refuse_if (is_reserved right || is_dead_taken (dead_taken (get (space w.store t) right) x)) (Refused KernInvalidCapability)
+  refuse_if (is_reserved right || is_dead_taken (dead_taken (get (space w.store t) right) x))
+      (Refused KernInvalidCapability)
   (s1, p) ← take w.store t right x bad_name wrong_right
   y ← insert_at (space s1 u) name p (given x)
   Ok (with_store w (set_space s1 u y), Done)

@@ -3,7 +3,9 @@
 use Rattle.std.specs.Prelude.{ℕ, ◌+◌, map, Ok, nat_lt, if◌then◌else◌}
 use Rattle.mrc_base.specs.declared.Right.{Right}
 use Rattle.mrc_model.specs.declared.Entry.{Entry}
-use Rattle.mrc_model.specs.declared.Entry.TheVariants.{Receive as ReceiveEntry, Send as SendEntry, SendOnce as OnceEntry, PortSet as SetEntry, DeadName as DeadEntry}
+use Rattle.mrc_model.specs.declared.Entry.TheVariants.{Receive as ReceiveEntry, Send as SendEntry}
+use Rattle.mrc_model.specs.declared.Entry.TheVariants.{SendOnce as OnceEntry, PortSet as SetEntry}
+use Rattle.mrc_model.specs.declared.Entry.TheVariants.{DeadName as DeadEntry}
 use Rattle.mrc_model.specs.declared.Code.TheVariants.{KernInvalidTask}
 use Rattle.mrc_model.specs.World.{World, space}
 use Rattle.mrc_model.specs.Reply.{Reply, Refs, Mask, Names, Try, ◌>>=◌}

@@ -1,17 +1,24 @@
--- Receiving a message.
--- From Mach 3 Kernel Interfaces, mach_msg (MACH_RCV_MSG, MACH_RCV_LARGE). PROFILE_NO_SPACE, and the order of the refusals,
--- are this profile's own choice.
-use Rattle.std.specs.Prelude.{ℕ, ◌+◌, ◌%◌, ◌^◌, Bool, true, false, not, ◌&&◌, List, [], ◌∷◌, length, Option, Some, None, Ok, Err, ◌==◌, nat_lt, nat_le, if◌then◌else◌}
+-- Receiving a message. From Mach 3 Kernel Interfaces, mach_msg (MACH_RCV_MSG, MACH_RCV_LARGE).
+-- PROFILE_NO_SPACE, and the order of the refusals, are this profile's own choice.
+use Rattle.std.specs.Prelude.{ℕ, ◌+◌, ◌%◌, Bool, true, false, not, ◌&&◌, List, [], ◌∷◌, length}
+use Rattle.std.specs.Prelude.{Option, Some, None, Ok, Err, ◌==◌, nat_lt, nat_le, if◌then◌else◌}
+use Rattle.mrc_base.specs.declared.PortRight.TheVariants.{Send, SendOnce}
 use Rattle.mrc_model.specs.declared.Entry.{Entry}
-use Rattle.mrc_model.specs.declared.Entry.TheVariants.{Receive as ReceiveEntry, Send as SendEntry, SendOnce as OnceEntry, PortSet as SetEntry, DeadName as DeadEntry}
+use Rattle.mrc_model.specs.declared.Entry.TheVariants.{Receive as ReceiveEntry, Send as SendEntry}
+use Rattle.mrc_model.specs.declared.Entry.TheVariants.{SendOnce as OnceEntry, PortSet as SetEntry}
+use Rattle.mrc_model.specs.declared.Entry.TheVariants.{DeadName as DeadEntry}
 use Rattle.mrc_model.specs.declared.Item.{Item}
-use Rattle.mrc_model.specs.declared.Item.TheVariants.{Null as NullItem, Dead as DeadItem, Right as RightItem}
-use Rattle.mrc_model.specs.declared.Code.TheVariants.{MachRcvInvalidName, MachRcvInSet, MachRcvTimedOut, ProfileNoSpace}
+use Rattle.mrc_model.specs.declared.Item.TheVariants.{Null as NullItem, Dead as DeadItem}
+use Rattle.mrc_model.specs.declared.Item.TheVariants.{Right as RightItem}
+use Rattle.mrc_model.specs.declared.Code.TheVariants.{MachRcvInvalidName, MachRcvInSet}
+use Rattle.mrc_model.specs.declared.Code.TheVariants.{MachRcvTimedOut, ProfileNoSpace}
 use Rattle.mrc_model.specs.Rights.{given_number}
 use Rattle.mrc_model.specs.Map.{get}
 use Rattle.mrc_model.specs.Message.{Message, Arg, Data, Ports, written, written_size}
-use Rattle.mrc_model.specs.World.{QueuedArg, QueuedData, QueuedItems, Parcel, Port, Store, World, space, set_port}
-use Rattle.mrc_model.specs.Reply.{Reply, Bytes, TooLarge, Refused, Try, ◌>>=◌, ◌>>◌, refuse_if, or_refuse}
+use Rattle.mrc_model.specs.World.{QueuedArg, QueuedData, QueuedItems, Parcel, Port, Store, World}
+use Rattle.mrc_model.specs.World.{space, set_port, modulus_of_receipts}
+use Rattle.mrc_model.specs.Reply.{Reply, Bytes, TooLarge, Refused, Try, ◌>>=◌, ◌>>◌, refuse_if}
+use Rattle.mrc_model.specs.Reply.{or_refuse}
 use Rattle.mrc_model.specs.Space.{give_item, is_over_full}
 use Rattle.mrc_model.specs.Target.{with_store}
 
@@ -25,8 +32,9 @@ give_items t s (x ∷ xs) =
 
 -- an argument as the task receives it
 abbrev pub give_arg : ℕ → Store → QueuedArg → Store × Arg
-give_arg t s (QueuedData kind size number bytes) = (s, Data kind size number bytes)
-give_arg t s (QueuedItems r items) = let a = give_items t s items in (a.0, Ports (given_number r) a.1)
+give_arg t s (QueuedData name size number bytes) = (s, Data name size number bytes)
+give_arg t s (QueuedItems r items) =
+    let a = give_items t s items in (a.0, Ports (given_number r) a.1)
 
 -- all arguments, in order
 abbrev pub give_args : ℕ → Store → List QueuedArg → Store × List Arg
@@ -39,8 +47,8 @@ give_args t s (x ∷ xs) =
 -- a receiver sees the disposition of a send-once right where there is a reply, dead ones included
 abbrev pub reply_disp : Item → ℕ
 reply_disp NullItem = 0
-reply_disp DeadItem = 18
-reply_disp (RightItem p r) = 18
+reply_disp DeadItem = given_number SendOnce
+reply_disp (RightItem p r) = given_number SendOnce
 
 -- the message as received under this name, and the store after the giving
 unfoldable pub received : Store → ℕ → ℕ → ℕ → Parcel → Store × Message
@@ -50,7 +58,7 @@ received s t name receipts m =
       b.0,
       record {
         remote_disp = reply_disp m.reply;
-        local_disp = if m.by_once then 18 else 17;
+        local_disp = if m.by_once then given_number SendOnce else given_number Send;
         remote = a.1;
         local = name;
         seqno = receipts;
@@ -76,7 +84,8 @@ is_member n (Some m) = m == n
 
 -- the port of the entry, where it is a member of the set with a message
 abbrev pub ready_member : Store → ℕ → Entry → Option ℕ
-ready_member s n (ReceiveEntry p k i) = if is_member n i && not (is_empty_queue (get s.ports p)) then Some p else None
+ready_member s n (ReceiveEntry p k i) =
+    if is_member n i && not (is_empty_queue (get s.ports p)) then Some p else None
 ready_member s n (SendEntry p k) = None
 ready_member s n (OnceEntry p) = None
 ready_member s n SetEntry = None
@@ -99,7 +108,8 @@ source_at s t n (Some (ReceiveEntry p k (Some i))) = Err (Refused MachRcvInSet)
 source_at s t n (Some (ReceiveEntry p k None)) = Ok record { name = n; port = p }
 source_at s t n (Some (SendEntry p k)) = Err (Refused MachRcvInvalidName)
 source_at s t n (Some (OnceEntry p)) = Err (Refused MachRcvInvalidName)
-source_at s t n (Some SetEntry) = or_refuse (first_ready s n (space s t).list) (Refused MachRcvTimedOut)
+source_at s t n (Some SetEntry) =
+    or_refuse (first_ready s n (space s t).list) (Refused MachRcvTimedOut)
 source_at s t n (Some (DeadEntry k)) = Err (Refused MachRcvInvalidName)
 
 -- the first message, and the others
@@ -107,14 +117,15 @@ abbrev pub first_parcel : List Parcel → Option (Parcel × List Parcel)
 first_parcel [] = None
 first_parcel (m ∷ ms) = Some (m, ms)
 
--- The first message leaves its queue, its rights are given, and its bytes are answered. One that is too large, or
--- whose rights have no room, stays.
+-- The first message leaves its queue, its rights are given, and its bytes are answered. One that is
+-- too large, or whose rights have no room, stays.
 unfoldable pub call_receive : World → ℕ → ℕ → ℕ → Try (World × Reply)
 call_receive w t name limit = do
   from ← source_at w.store t name (get (space w.store t) name)
   x ← or_refuse (get w.store.ports from.port) (Refused MachRcvInvalidName)
   (m, ms) ← or_refuse (first_parcel x.queue) (Refused MachRcvTimedOut)
-  let s1 = set_port w.store from.port (record x { queue = ms; receipts = (x.receipts + 1) % 2 ^ 32 })
+  let s1 = set_port w.store from.port
+      (record x { queue = ms; receipts = (x.receipts + 1) % modulus_of_receipts })
   let got = received s1 t from.name x.receipts m
   refuse_if (nat_lt limit (written_size got.1)) (TooLarge (written_size got.1))
   refuse_if (is_over_full (space got.0 t)) (Refused ProfileNoSpace)

@@ -1,29 +1,37 @@
--- Sending a message.
--- From Mach 3 Kernel Interfaces, mach_msg (MACH_SEND_MSG). The order of the refusals, and the filter, are this profile's
--- own choice.
-use Rattle.std.specs.Prelude.{ℕ, ◌+◌, ◌-◌, Bool, true, false, not, ◌&&◌, List, [], ◌∷◌, length, Option, Some, None, Result, Ok, Err, ◌==◌, nat_le, if◌then◌else◌}
+-- Sending a message. From Mach 3 Kernel Interfaces, mach_msg (MACH_SEND_MSG). The order of the
+-- refusals, and the filter, are this profile's own choice.
+use Rattle.std.specs.Prelude.{ℕ, ◌+◌, ◌-◌, Bool, true, false, not, ◌&&◌, List, [], ◌∷◌, length}
+use Rattle.std.specs.Prelude.{Option, Some, None, Result, Ok, Err, ◌==◌, nat_le, if◌then◌else◌}
 use Rattle.mrc_base.specs.declared.Disp.{Disp}
-use Rattle.mrc_base.specs.declared.Disp.TheVariants.{MoveReceive, MoveSend, MoveSendOnce, CopySend, MakeSend, MakeSendOnce}
-use Rattle.mrc_base.specs.Disposition.{given}
+use Rattle.mrc_base.specs.declared.Disp.TheVariants.{MoveReceive, MoveSend, MoveSendOnce, CopySend}
+use Rattle.mrc_base.specs.declared.Disp.TheVariants.{MakeSend, MakeSendOnce}
+use Rattle.mrc_base.specs.Disposition.{given, disp_of_number}
 use Rattle.mrc_model.specs.declared.Entry.{Entry}
-use Rattle.mrc_model.specs.declared.Entry.TheVariants.{Receive as ReceiveEntry, Send as SendEntry, SendOnce as OnceEntry, PortSet as SetEntry, DeadName as DeadEntry}
+use Rattle.mrc_model.specs.declared.Entry.TheVariants.{Receive as ReceiveEntry, Send as SendEntry}
+use Rattle.mrc_model.specs.declared.Entry.TheVariants.{SendOnce as OnceEntry, PortSet as SetEntry}
+use Rattle.mrc_model.specs.declared.Entry.TheVariants.{DeadName as DeadEntry}
 use Rattle.mrc_model.specs.declared.Item.{Item}
-use Rattle.mrc_model.specs.declared.Item.TheVariants.{Null as NullItem, Dead as DeadItem, Right as RightItem}
+use Rattle.mrc_model.specs.declared.Item.TheVariants.{Null as NullItem, Dead as DeadItem}
+use Rattle.mrc_model.specs.declared.Item.TheVariants.{Right as RightItem}
 use Rattle.mrc_model.specs.declared.Denied.{Denied}
 use Rattle.mrc_model.specs.declared.Denied.TheVariants.{NotAdmitted}
-use Rattle.mrc_model.specs.declared.Code.TheVariants.{MachSendInvalidDest, MachSendInvalidReply, MachSendInvalidRight, MachSendTimedOut}
-use Rattle.mrc_model.specs.Rights.{is_once, disp_of}
+use Rattle.mrc_model.specs.declared.Code.TheVariants.{MachSendInvalidDest, MachSendInvalidReply}
+use Rattle.mrc_model.specs.declared.Code.TheVariants.{MachSendInvalidRight, MachSendTimedOut}
+use Rattle.mrc_model.specs.Rights.{is_once}
 use Rattle.mrc_model.specs.Map.{get}
 use Rattle.mrc_model.specs.Message.{Message, Arg, Data, Ports}
 use Rattle.mrc_model.specs.Wiring.{Wiring, Shape, Form, form_shapes, admits}
 use Rattle.mrc_model.specs.Filter.{judge}
-use Rattle.mrc_model.specs.World.{QueuedArg, QueuedData, QueuedItems, Parcel, Store, World, space, set_space}
-use Rattle.mrc_model.specs.Reply.{Reply, Done, Refused, DeniedBy, Try, ◌>>=◌, ◌>>◌, check, refuse_if, or_refuse}
+use Rattle.mrc_model.specs.World.{QueuedArg, QueuedData, QueuedItems, Parcel, Store, World, space}
+use Rattle.mrc_model.specs.World.{set_space, port_null, port_dead}
+use Rattle.mrc_model.specs.Reply.{Reply, Done, Refused, DeniedBy, Try, ◌>>=◌, ◌>>◌, check}
+use Rattle.mrc_model.specs.Reply.{refuse_if, or_refuse}
 use Rattle.mrc_model.specs.Space.{dead_entry, take, put_entry}
 use Rattle.mrc_model.specs.Death.{append}
 use Rattle.mrc_model.specs.Target.{with_store}
 
--- what is left of a dead entry that gives a dead right: one reference goes by a move, none by a copy
+-- what is left of a dead entry that gives a dead right: one reference goes by a move, none by a
+-- copy
 abbrev pub take_dead : ℕ → Disp → Option (Option Entry)
 take_dead k MoveSend = Some (dead_entry (k - 1))
 take_dead k MoveSendOnce = Some (dead_entry (k - 1))
@@ -60,14 +68,16 @@ take_named s t n x fault (Some rest) = Ok (set_space s t (put_entry (space s t) 
 -- what a name carries by a disposition, and the store after it is taken
 unfoldable pub take_item : Store → ℕ → ℕ → Disp → Reply → Try (Store × Item)
 take_item s t n x fault =
-    if n == 0 then Ok (s, NullItem)
-    else if n == 0xffffffff then Ok (s, DeadItem)
+    if n == port_null then Ok (s, NullItem)
+    else if n == port_dead then Ok (s, DeadItem)
     else take_named s t n x fault (dead_taken (get (space s t) n) x)
 
 -- the same for the reply port; a message may have no disposition for it
 abbrev pub take_reply_by : Store → ℕ → ℕ → Option Disp → Reply → Try (Store × Item)
 take_reply_by s t n (Some x) fault = take_item s t n x fault
-take_reply_by s t n None fault = if n == 0 then Ok (s, NullItem) else if n == 0xffffffff then Ok (s, DeadItem) else Err fault
+take_reply_by s t n None fault =
+    if n == port_null then Ok (s, NullItem) else if n == port_dead then Ok (s, DeadItem)
+    else Err fault
 
 -- the slot admits the class of the port; i is the argument's number
 abbrev pub admit_item : Wiring → Store → ℕ → ℕ → Item → Try (Unit {0})
@@ -88,9 +98,9 @@ take_items W t x sort i s (n ∷ ns) = do
 
 -- one argument
 abbrev pub take_arg : Wiring → ℕ → ℕ → ℕ → Store → Arg → Try (Store × QueuedArg)
-take_arg W t sort i s (Data kind size number bytes) = Ok (s, QueuedData kind size number bytes)
-take_arg W t sort i s (Ports kind names) = do
-  x ← or_refuse (disp_of kind) (Refused MachSendInvalidRight)
+take_arg W t sort i s (Data name size number bytes) = Ok (s, QueuedData name size number bytes)
+take_arg W t sort i s (Ports disp names) = do
+  x ← or_refuse (disp_of_number disp) (Refused MachSendInvalidRight)
   (s1, items) ← take_items W t x sort i s names
   Ok (s1, QueuedItems (given x) items)
 
@@ -126,17 +136,21 @@ abbrev pub by_filter : Result Form Denied → Try Form
 by_filter (Ok f) = Ok f
 by_filter (Err d) = Err (DeniedBy d)
 
--- First the destination's right is taken, then the filter judges, then the reply right and the arguments are taken, each
--- from what the takings before it left. A full queue takes a message only through a send-once right.
+-- First the destination's right is taken, then the filter judges, then the reply right and the
+-- arguments are taken, each from what the takings before it left. A full queue takes a message only
+-- through a send-once right.
 unfoldable pub call_send : Wiring → World → ℕ → Message → Try (World × Reply)
 call_send W w t m = do
-  x ← or_refuse (disp_of m.remote_disp) (Refused MachSendInvalidDest)
+  x ← or_refuse (disp_of_number m.remote_disp) (Refused MachSendInvalidDest)
   check (not_receive x) (Refused MachSendInvalidDest)
   (s1, d) ← take w.store t m.remote x (Refused MachSendInvalidDest) (Refused MachSendInvalidDest)
   dest ← or_refuse (get s1.ports d) (Refused MachSendInvalidDest)
   form ← by_filter (judge W dest.class m)
-  (s2, reply) ← take_reply_by s1 t m.local (disp_of m.local_disp) (Refused MachSendInvalidReply)
+  (s2, reply) ← take_reply_by s1 t m.local (disp_of_number m.local_disp)
+      (Refused MachSendInvalidReply)
   (s3, args) ← take_args W t 0 (form_shapes form) s2 m.args
-  refuse_if (not (is_once (given x)) && nat_le dest.limit (length dest.queue)) (Refused MachSendTimedOut)
-  let parcel : Parcel = record { by_once = is_once (given x); id = m.id; reply = reply; args = args }
+  refuse_if (not (is_once (given x)) && nat_le dest.limit (length dest.queue))
+      (Refused MachSendTimedOut)
+  let parcel : Parcel =
+      record { by_once = is_once (given x); id = m.id; reply = reply; args = args }
   Ok (with_store w (append s3 d parcel), Done)

@@ -1,18 +1,19 @@
--- The conclusions of the rules from a list of facts, as a list; so a test tells whether the list is closed, and rounds of
--- conclusions lead to the least closed set. This profile's own choice.
-use Rattle.std.specs.Prelude.{◌↔◌, ℕ, zero, suc, ◌-◌, Bool, true, false, not, ◌&&◌, ◌||◌, List, [], ◌∷◌, ◌++◌, filter, Option, Some, None, ◌==◌, nat_lt, nat_le, if◌then◌else◌, IsTrue}
-use Rattle.std.specs.List.{AllByRecursion}
+-- The conclusions of the rules from a list of facts, as a list. So a test tells whether the list is
+-- closed, and rounds of conclusions stay within every closed set. This profile's own choice.
+use Rattle.std.specs.Prelude.{◌↔◌, ℕ, zero, suc, ◌-◌, Bool, true, false, not, ◌&&◌, ◌||◌, List, []}
+use Rattle.std.specs.Prelude.{◌∷◌, ◌++◌, filter, Option, Some, None, ◌==◌, nat_lt, nat_le}
+use Rattle.std.specs.Prelude.{if◌then◌else◌, IsTrue}
 use Rattle.mrc_base.specs.declared.PortRight.{PortRight}
 use Rattle.mrc_base.specs.declared.PortRight.TheVariants.{Send, Receive, SendOnce}
 use Rattle.mrc_base.specs.declared.Disp.{Disp}
-use Rattle.mrc_base.specs.Disposition.{needed, given}
+use Rattle.mrc_base.specs.Disposition.{needed, given, disp_of_number}
 use Rattle.mrc_base.specs.declared.Fact.{Fact}
 use Rattle.mrc_base.specs.declared.Fact.TheVariants.{Hold, Carry, Backup as BackupFact}
 use Rattle.mrc_model.specs.IsIn.{IsIn}
-use Rattle.mrc_model.specs.Rights.{disp_of}
-use Rattle.mrc_model.specs.Wiring.{Wiring, Shape, Form, form_shapes, births_class, classes, forms, admits, accepts_destroyed, accepts_routine}
+use Rattle.mrc_model.specs.Wiring.{Wiring, Shape, Form, form_shapes, births_class, classes, forms}
+use Rattle.mrc_model.specs.Wiring.{admits, accepts_destroyed, accepts_routine}
 use Rattle.mrc_model.specs.First.{is_sound}
-use Rattle.mrc_model.specs.Rules.{Has, Rule, InRange, Closed, Least}
+use Rattle.mrc_model.specs.Rules.{Has, Follows, FollowsFrom, Closed, Least}
 use Rattle.mrc_model.specs.FirstHoldings.{first_facts}
 
 -- tests on facts
@@ -74,7 +75,9 @@ birth_facts W (b ∷ bs) = birth_fact b.0 (births_class W b.0 b.1) ++ birth_fact
 
 -- what follows from one fact
 abbrev pub from_one : Fact → List Conclusion
-from_one (Hold t c r) = by_rule 3 (same_right r Receive) (Hold t c Send) ++ by_rule 3 (same_right r Receive) (Hold t c SendOnce)
+from_one (Hold t c r) =
+    by_rule 3 (same_right r Receive) (Hold t c Send)
+    ++ by_rule 3 (same_right r Receive) (Hold t c SendOnce)
 from_one (Carry d c r) = []
 from_one (BackupFact c d) = by_rule 9 true (Carry d c Receive)
 
@@ -83,12 +86,13 @@ from_one (BackupFact c d) = by_rule 9 true (Carry d c Receive)
 -- what a slot of this disposition carries
 abbrev pub slot_by : Wiring → ℕ → ℕ → PortRight → Shape → Option Disp → List Conclusion
 slot_by W d c q s None = []
-slot_by W d c q s (Some x) = by_rule 4 (same_right q (needed x) && admits W s.sort c) (Carry d c (given x))
+slot_by W d c q s (Some x) =
+    by_rule 4 (same_right q (needed x) && admits W s.sort c) (Carry d c (given x))
 
 -- what these slots carry
 abbrev pub slots_carry : Wiring → ℕ → ℕ → PortRight → List Shape → List Conclusion
 slots_carry W d c q [] = []
-slots_carry W d c q (s ∷ ss) = slot_by W d c q s (disp_of s.kind) ++ slots_carry W d c q ss
+slots_carry W d c q (s ∷ ss) = slot_by W d c q s (disp_of_number s.name) ++ slots_carry W d c q ss
 
 -- what the slots of these forms carry
 abbrev pub forms_carry : Wiring → ℕ → ℕ → PortRight → List Form → List Conclusion
@@ -106,16 +110,20 @@ slot_facts W false d c q = []
 abbrev pub from_holds : Wiring → ℕ → ℕ → PortRight → ℕ → ℕ → PortRight → List Conclusion
 from_holds W t d r u c q =
     slot_facts W (t == u && can_send r) d c q
-    ++ by_rule 5 (t == u && (can_send r && (same_right q SendOnce && accepts_routine W d))) (Carry d c SendOnce)
+    ++ by_rule 5 (t == u && (can_send r && (same_right q SendOnce && accepts_routine W d)))
+    (Carry d c SendOnce)
     ++ by_rule 7 (same_right r Send && (nat_le W.ports d && d - W.ports == u)) (Hold t c q)
     ++ by_rule 7 (same_right r Send && (nat_le W.ports d && t == u)) (Hold (d - W.ports) c q)
-    ++ by_rule 8 (t == u && (same_right r Receive && (same_right q SendOnce && accepts_destroyed W c))) (BackupFact d c)
+    ++ by_rule 8
+    (t == u && (same_right r Receive && (same_right q SendOnce && accepts_destroyed W c)))
+    (BackupFact d c)
 
 -- with K6 and K10, the rules of two premises, in their order
 abbrev pub from_two : Wiring → Fact → Fact → List Conclusion
 from_two W (Hold t d r) (Hold u c q) = from_holds W t d r u c q
 from_two W (Hold t d r) (Carry e c q) = by_rule 6 (same_right r Receive && d == e) (Hold t c q)
-from_two W (Hold t c r) (BackupFact b d) = by_rule 10 (same_right r Receive && c == b) (Hold t d SendOnce)
+from_two W (Hold t c r) (BackupFact b d) =
+    by_rule 10 (same_right r Receive && c == b) (Hold t d SendOnce)
 from_two W (Carry d c r) g = []
 from_two W (BackupFact c d) g = []
 
@@ -141,21 +149,37 @@ abbrev pub twos : Wiring → List Fact → List Fact → List Conclusion
 twos W [] gs = []
 twos W (f ∷ fs) gs = twos_of W f gs ++ twos W fs gs
 
--- the conclusions from these facts, all of which are in range; a conclusion need not be
+-- the conclusions from these facts, all of which are in range; some of them may be out of range
 abbrev pub conclusions_of : Wiring → List Fact → List Conclusion
-conclusions_of W fs = first_conclusions (first_facts W) ++ birth_facts W W.births ++ ones fs ++ twos W fs fs
+conclusions_of W fs =
+    first_conclusions (first_facts W) ++ birth_facts W W.births ++ ones fs ++ twos W fs fs
 
--- the conclusions of all instances whose premises are in the list
+-- those of the conclusions that are over the wiring's tasks and classes
+abbrev pub within : Wiring → List Conclusion → List Conclusion
+within W xs = filter (λ (x : Conclusion). in_range W x.fact) xs
+
+-- the conclusions of all instances in range whose premises are in the list
 unfoldable pub conclusions : Wiring → List Fact → List Conclusion
-conclusions W fs = conclusions_of W (filter (in_range W) fs)
+conclusions W fs = within W (conclusions_of W (filter (in_range W) fs))
 
--- the conclusion is in range, and the list lacks it
-abbrev pub is_missing : Wiring → List Fact → Conclusion → Bool
-is_missing W fs x = in_range W x.fact && not (has_fact fs x.fact)
+-- what follows from f, alone and with each of these facts in either order, where f is in range;
+-- some of it may be out of range
+abbrev pub consequences_of : Wiring → List Fact → Fact → Bool → List Conclusion
+consequences_of W fs f true = from_one f ++ twos_of W f (f ∷ fs) ++ twos W fs (f ∷ [])
+consequences_of W fs f false = []
+
+-- the conclusions of all instances in range that have f as a premise, and whose other premises are
+-- in the list
+unfoldable pub consequences : Wiring → List Fact → Fact → List Conclusion
+consequences W fs f = within W (consequences_of W (filter (in_range W) fs) f (in_range W f))
+
+-- the list lacks the conclusion
+abbrev pub is_missing : List Fact → Conclusion → Bool
+is_missing fs x = not (has_fact fs x.fact)
 
 -- the conclusions that the list lacks
 abbrev pub missing : Wiring → List Fact → List Conclusion
-missing W fs = filter (is_missing W fs) (conclusions W fs)
+missing W fs = filter (is_missing fs) (conclusions W fs)
 
 -- the list has no element
 abbrev pub is_empty : {X : Type 0} → List X → Bool
@@ -167,27 +191,38 @@ abbrev pub is_closed : Wiring → List Fact → Bool
 is_closed W fs = is_empty (missing W fs)
 
 -- the facts with those of the conclusions that they lack, each once
-abbrev pub with_missing : Wiring → List Fact → List Conclusion → List Fact
-with_missing W fs [] = fs
-with_missing W fs (x ∷ xs) = with_missing W (if is_missing W fs x then fs ++ x.fact ∷ [] else fs) xs
+abbrev pub with_missing : List Fact → List Conclusion → List Fact
+with_missing fs [] = fs
+with_missing fs (x ∷ xs) = with_missing (if is_missing fs x then fs ++ x.fact ∷ [] else fs) xs
 
 -- what so many rounds of conclusions give, from nothing
 abbrev pub concluded_in : ℕ → Wiring → List Fact
 concluded_in zero W = []
-concluded_in (suc n) W = let fs = concluded_in n W in with_missing W fs (conclusions W fs)
+concluded_in (suc n) W = let fs = concluded_in n W in with_missing fs (conclusions W fs)
 
 -- The laws of these tests, for the wirings that have a first state.
 
--- the conclusions are those of the instances of rules whose premises are in the list
+-- the conclusions are those of the instances of rules, in range, whose premises are in the list
 abbrev pub ConclusionsAreByRules : Type 0
-ConclusionsAreByRules = (W : Wiring) → IsTrue (is_sound W) → (fs : List Fact) (k : ℕ) (f : Fact) →
-    IsIn record { rule = k; fact = f } (conclusions W fs)
-    ↔ (premises : List Fact) × Rule W k premises f × AllByRecursion (λ p. InRange W p × Has (has_fact fs) p) premises
+ConclusionsAreByRules = (W : Wiring) → IsTrue (is_sound W) → (fs : List Fact) (k : ℕ) (f : Fact)
+    → IsIn record { rule = k; fact = f } (conclusions W fs) ↔ Follows W (Has (has_fact fs)) k f
+
+-- the consequences of a fact are those of the instances that have it as a premise, and the others
+-- in the list
+abbrev pub ConsequencesAreByRules : Type 0
+ConsequencesAreByRules =
+    (W : Wiring) → IsTrue (is_sound W) → (fs : List Fact) (p : Fact) (k : ℕ) (f : Fact)
+    → IsIn record { rule = k; fact = f } (consequences W fs p)
+    ↔ FollowsFrom W (Has (has_fact fs)) p k f
 
 -- the test tells whether the list is closed
 abbrev pub IsClosedTells : Type 0
-IsClosedTells = (W : Wiring) → IsTrue (is_sound W) → (fs : List Fact) → IsTrue (is_closed W fs) ↔ Closed W (Has (has_fact fs))
+IsClosedTells =
+    (W : Wiring) → IsTrue (is_sound W) → (fs : List Fact)
+    → IsTrue (is_closed W fs) ↔ Closed W (Has (has_fact fs))
 
 -- what comes in rounds is in every closed set
 abbrev pub RoundsAreLeast : Type 0
-RoundsAreLeast = (W : Wiring) → IsTrue (is_sound W) → (n : ℕ) (f : Fact) → Has (has_fact (concluded_in n W)) f → Least W f
+RoundsAreLeast =
+    (W : Wiring) → IsTrue (is_sound W) → (n : ℕ) (f : Fact) → Has (has_fact (concluded_in n W)) f
+    → Least W f

@@ -1,18 +1,25 @@
--- Which ports die when rights or a task's kernel port are destroyed, and what follows.
--- From Mach 3 Kernel Interfaces, mach_port_destroy and mach_port_request_notification (MACH_NOTIFY_PORT_DESTROYED,
--- MACH_NOTIFY_SEND_ONCE). The ids and the order of the notices are this profile's own choice.
-use Rattle.std.specs.Prelude.{ℕ, zero, suc, Bool, true, false, ◌&&◌, ◌||◌, List, [], ◌∷◌, ◌++◌, map, filter, Option, Some, None, ◌==◌, if◌then◌else◌}
+-- Which ports die when rights or a task's kernel port are destroyed, and what follows. From Mach 3
+-- Kernel Interfaces, mach_port_destroy and mach_port_request_notification
+-- (MACH_NOTIFY_PORT_DESTROYED, MACH_NOTIFY_SEND_ONCE). The ids and the order of the notices are
+-- this profile's own choice.
+use Rattle.std.specs.Prelude.{ℕ, zero, suc, Bool, true, false, ◌&&◌, ◌||◌, List, [], ◌∷◌, ◌++◌, map}
+use Rattle.std.specs.Prelude.{filter, Option, Some, None, ◌==◌, if◌then◌else◌}
 use Rattle.std.specs.List.{list_any}
 use Rattle.mrc_base.specs.declared.PortRight.TheVariants.{Receive}
 use Rattle.mrc_model.specs.declared.Entry.{Entry}
-use Rattle.mrc_model.specs.declared.Entry.TheVariants.{Receive as ReceiveEntry, Send as SendEntry, SendOnce as OnceEntry, PortSet as SetEntry, DeadName as DeadEntry}
+use Rattle.mrc_model.specs.declared.Entry.TheVariants.{Receive as ReceiveEntry, Send as SendEntry}
+use Rattle.mrc_model.specs.declared.Entry.TheVariants.{SendOnce as OnceEntry, PortSet as SetEntry}
+use Rattle.mrc_model.specs.declared.Entry.TheVariants.{DeadName as DeadEntry}
 use Rattle.mrc_model.specs.declared.Item.{Item}
-use Rattle.mrc_model.specs.declared.Item.TheVariants.{Null as NullItem, Dead as DeadItem, Right as RightItem}
+use Rattle.mrc_model.specs.declared.Item.TheVariants.{Null as NullItem, Dead as DeadItem}
+use Rattle.mrc_model.specs.declared.Item.TheVariants.{Right as RightItem}
 use Rattle.mrc_model.specs.declared.Backup.{Backup}
-use Rattle.mrc_model.specs.declared.Backup.TheVariants.{Absent as NoBackup, Dead as DeadBackup, Port as BackupPort}
+use Rattle.mrc_model.specs.declared.Backup.TheVariants.{Absent as NoBackup, Dead as DeadBackup}
+use Rattle.mrc_model.specs.declared.Backup.TheVariants.{Port as BackupPort}
 use Rattle.mrc_model.specs.Rights.{is_receive, is_once}
 use Rattle.mrc_model.specs.Map.{get, alter_all, len, keys}
-use Rattle.mrc_model.specs.World.{QueuedArg, QueuedData, QueuedItems, Parcel, Port, Store, Held, set_port, queue_rights}
+use Rattle.mrc_model.specs.World.{QueuedArg, QueuedData, QueuedItems, Parcel, Port, Store, Held}
+use Rattle.mrc_model.specs.World.{set_port, queue_rights}
 use Rattle.mrc_model.specs.Space.{dead_entry}
 
 -- the list has the number
@@ -58,12 +65,13 @@ abbrev pub is_kernel_of : Option ℕ → ℕ → Bool
 is_kernel_of None p = false
 is_kernel_of (Some k) p = k == p
 
--- The port dies, where those in `dead` do: it is the ended task's kernel port, or its receive right goes and no backup
--- saves it.
+-- The port dies, where those in `dead` do: it is the ended task's kernel port, or its receive right
+-- goes and no backup saves it.
 abbrev pub dies : Store → Doomed → List ℕ → ℕ → Bool
 dies s d dead p =
     is_kernel_of d.kernel p
-    || (has_receive p (d.rights ++ queued_rights s dead) && is_lost dead (backup_of (get s.ports p)))
+    || (has_receive p (d.rights ++ queued_rights s dead)
+    && is_lost dead (backup_of (get s.ports p)))
 
 -- the ports that die, where those in `dead` do
 abbrev pub dying_round : Store → Doomed → List ℕ → List ℕ
@@ -74,14 +82,16 @@ abbrev pub rounds : ℕ → Store → Doomed → List ℕ
 rounds zero s d = []
 rounds (suc n) s d = dying_round s d (rounds n s d)
 
--- The least set that has each port that dies: what dies where the set before does, as often as there are ports. That it
--- is the least one is the law DyingIsLeast.
+-- The least set that has each port that dies: what dies where the set before does, as often as
+-- there are ports. That it is the least one is the law DyingIsLeast.
 unfoldable pub dying : Store → Doomed → List ℕ
 dying s d = rounds (len s.ports) s d
 
--- what dead ports leave of an entry: as many dead references as there were send references, one for a send-once right
+-- what dead ports leave of an entry: as many dead references as there were send references, one for
+-- a send-once right
 abbrev pub perished_entry : List ℕ → Entry → Option Entry
-perished_entry dead (ReceiveEntry p k i) = if has dead p then dead_entry k else Some (ReceiveEntry p k i)
+perished_entry dead (ReceiveEntry p k i) =
+    if has dead p then dead_entry k else Some (ReceiveEntry p k i)
 perished_entry dead (SendEntry p k) = if has dead p then dead_entry k else Some (SendEntry p k)
 perished_entry dead (OnceEntry p) = if has dead p then Some (DeadEntry 1) else Some (OnceEntry p)
 perished_entry dead SetEntry = Some SetEntry
@@ -95,12 +105,13 @@ perished_item dead (RightItem p r) = if has dead p then DeadItem else RightItem 
 
 -- the items of an argument, where these ports are dead
 abbrev pub perished_arg : List ℕ → QueuedArg → QueuedArg
-perished_arg dead (QueuedData kind size number bytes) = QueuedData kind size number bytes
+perished_arg dead (QueuedData name size number bytes) = QueuedData name size number bytes
 perished_arg dead (QueuedItems r xs) = QueuedItems r (map (perished_item dead) xs)
 
 -- what a queued message carries, where these ports are dead
 abbrev pub perished_parcel : List ℕ → Parcel → Parcel
-perished_parcel dead m = record m { reply = perished_item dead m.reply; args = map (perished_arg dead) m.args }
+perished_parcel dead m =
+    record m { reply = perished_item dead m.reply; args = map (perished_arg dead) m.args }
 
 -- so does a request that names one
 abbrev pub perished_backup : List ℕ → Backup → Backup
@@ -111,8 +122,9 @@ perished_backup dead (BackupPort b) = if has dead b then DeadBackup else BackupP
 -- a port that stays, where these are dead
 abbrev pub perished_port : List ℕ → ℕ → Port → Option Port
 perished_port dead p x =
-    if has dead p then None
-    else Some (record x { queue = map (perished_parcel dead) x.queue; backup = perished_backup dead x.backup })
+    let queue = map (perished_parcel dead) x.queue in
+    let backup = perished_backup dead x.backup in
+    if has dead p then None else Some (record x { queue = queue; backup = backup })
 
 -- these ports leave with their queues; what named them is dead
 unfoldable pub bury : Store → List ℕ → Store
@@ -130,13 +142,25 @@ append_to s p m (Some x) = set_port s p (record x { queue = x.queue ++ m ∷ [] 
 unfoldable pub append : Store → ℕ → Parcel → Store
 append s p m = append_to s p m (get s.ports p)
 
+-- the ids of the two notices: MACH_NOTIFY_SEND_ONCE and MACH_NOTIFY_PORT_DESTROYED
+
+-- of SEND_ONCE
+abbrev pub send_once_id : ℕ
+send_once_id = 71
+
+-- of PORT_DESTROYED
+abbrev pub port_destroyed_id : ℕ
+port_destroyed_id = 69
+
 -- a message of the kernel, which counts as sent through a send-once right
 abbrev pub once_notice : Parcel
-once_notice = record { by_once = true; id = 71; reply = NullItem; args = [] }
+once_notice = record { by_once = true; id = send_once_id; reply = NullItem; args = [] }
 
 -- PORT_DESTROYED carries the receive right of p
 abbrev pub destroyed_notice : ℕ → Parcel
-destroyed_notice p = record { by_once = true; id = 69; reply = NullItem; args = QueuedItems Receive (RightItem p Receive ∷ []) ∷ [] }
+destroyed_notice p =
+    let right = QueuedItems Receive (RightItem p Receive ∷ []) in
+    record { by_once = true; id = port_destroyed_id; reply = NullItem; args = right ∷ [] }
 
 -- SEND_ONCE for each send-once right that goes, where its port stays
 abbrev pub notify_once : Store → List Held → Store
@@ -147,7 +171,8 @@ notify_once s (h ∷ hs) = notify_once (if is_once h.right then append s h.port 
 abbrev pub notify_backup : Store → ℕ → Port → Backup → Store
 notify_backup s p x NoBackup = s
 notify_backup s p x DeadBackup = s
-notify_backup s p x (BackupPort b) = append (set_port s p (record x { backup = NoBackup; receipts = 0 })) b (destroyed_notice p)
+notify_backup s p x (BackupPort b) =
+    append (set_port s p (record x { backup = NoBackup; receipts = 0 })) b (destroyed_notice p)
 
 -- PORT_DESTROYED for p, if it is live
 abbrev pub notify_port : Store → ℕ → Option Port → Store
@@ -157,10 +182,11 @@ notify_port s p (Some x) = notify_backup s p x x.backup
 -- PORT_DESTROYED for each of these ports whose receive right goes
 abbrev pub notify_destroyed : Store → List Held → List ℕ → Store
 notify_destroyed s hs [] = s
-notify_destroyed s hs (p ∷ ps) = notify_destroyed (if has_receive p hs then notify_port s p (get s.ports p) else s) hs ps
+notify_destroyed s hs (p ∷ ps) =
+    notify_destroyed (if has_receive p hs then notify_port s p (get s.ports p) else s) hs ps
 
--- The rights go, and what follows from it. First the dying ports are buried, then come the SEND_ONCE notices, then
--- PORT_DESTROYED by ascending birth number.
+-- The rights go, and what follows from it. First the dying ports are buried, then come the
+-- SEND_ONCE notices, then PORT_DESTROYED by ascending birth number.
 unfoldable pub destroy : Store → Doomed → Store
 destroy s d =
     let dead = dying s d in

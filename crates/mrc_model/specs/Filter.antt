@@ -1,36 +1,40 @@
--- Which messages a class of ports accepts. How a message meets a form is MIG's rule (Server Writer's Guide); that a
--- port takes only messages of its label's forms is this profile's own choice.
-use Rattle.std.specs.Prelude.{ℕ, ◌+◌, Bool, true, ◌&&◌, ◌||◌, List, [], ◌∷◌, length, Option, Some, None, Result, Ok, Err, nat_le, ◌==◌, if◌then◌else◌, find}
+-- Which messages a class of ports accepts. How a message meets a form is MIG's rule (Server
+-- Writer's Guide); that a port takes only messages of its label's forms is this profile's own
+-- choice.
+use Rattle.mrc_base.specs.Disposition.{is_port_number, disp_number}
+use Rattle.std.specs.Prelude.{ℕ, ◌+◌, Bool, true, ◌&&◌, ◌||◌, List, [], ◌∷◌, length, Option, Some}
+use Rattle.std.specs.Prelude.{None, Result, Ok, Err, nat_le, ◌==◌, if◌then◌else◌, find}
 use Rattle.std.specs.List.{list_all}
+use Rattle.mrc_base.specs.declared.Disp.TheVariants.{MoveSendOnce, MakeSendOnce}
 use Rattle.mrc_model.specs.declared.RequestKind.{RequestKind}
 use Rattle.mrc_model.specs.declared.RequestKind.TheVariants.{Routine, Simple}
 use Rattle.mrc_model.specs.declared.Denied.{Denied}
-use Rattle.mrc_model.specs.declared.Denied.TheVariants.{NoSuchId, WrongShape, WrongDisposition, ReplySlot}
+use Rattle.mrc_model.specs.declared.Denied.TheVariants.{NoSuchId, WrongShape, WrongDisposition}
+use Rattle.mrc_model.specs.declared.Denied.TheVariants.{ReplySlot}
 use Rattle.mrc_model.specs.Message.{Message, Arg, Data, Ports}
 use Rattle.mrc_model.specs.Wiring.{Wiring, Shape, Form, OfRequest, OfReply, form_id, forms}
 
 -- the type number of an argument
-abbrev pub arg_kind : Arg → ℕ
-arg_kind (Data kind size number bytes) = kind
-arg_kind (Ports kind names) = kind
+abbrev pub arg_name : Arg → ℕ
+arg_name (Data name size number bytes) = name
+arg_name (Ports disp names) = disp
 
 -- the bits of an item; a port right has 32
 abbrev pub arg_size : Arg → ℕ
-arg_size (Data kind size number bytes) = size
-arg_size (Ports kind names) = 32
+arg_size (Data name size number bytes) = size
+arg_size (Ports disp names) = 32
 
 -- the number of items
 abbrev pub arg_number : Arg → ℕ
-arg_number (Data kind size number bytes) = number
-arg_number (Ports kind names) = length names
+arg_number (Data name size number bytes) = number
+arg_number (Ports disp names) = length names
 
--- the size is that of the form, and the number is the count, or at most the bound
+-- the size is that of the form, and so is the number, or it is at most the form's where that is a
+-- bound
 abbrev pub has_size : Shape → Arg → Bool
-has_size s a = s.size == arg_size a && (if s.is_bound then nat_le (arg_number a) s.count else arg_number a == s.count)
-
--- the type number is a disposition's
-abbrev pub is_port_kind : ℕ → Bool
-is_port_kind k = nat_le 16 k && nat_le k 21
+has_size s a =
+    s.size == arg_size a
+    && (if s.is_bound then nat_le (arg_number a) s.number else arg_number a == s.number)
 
 -- the first argument, counted from i, at which message and form differ
 abbrev pub first_difference : ℕ → List Shape → List Arg → Option Denied
@@ -39,15 +43,16 @@ first_difference i [] (a ∷ more) = Some (WrongShape i)
 first_difference i (s ∷ ss) [] = Some (WrongShape i)
 first_difference i (s ∷ ss) (a ∷ more) =
     if has_size s a
-    then (if s.kind == arg_kind a then first_difference (i + 1) ss more
-    else if is_port_kind s.kind && is_port_kind (arg_kind a) then Some (WrongDisposition i) else Some (WrongShape i))
+    then (if s.name == arg_name a then first_difference (i + 1) ss more
+    else if is_port_number s.name && is_port_number (arg_name a) then Some (WrongDisposition i)
+    else Some (WrongShape i))
     else Some (WrongShape i)
 
 -- the return code of a reply is 0, as far as the first argument has one
 abbrev pub is_zero_data : List Arg → Bool
 is_zero_data [] = true
-is_zero_data (Data kind size number bytes ∷ more) = list_all (λ b. b == 0) bytes
-is_zero_data (Ports kind names ∷ more) = true
+is_zero_data (Data name size number bytes ∷ more) = list_all (λ b. b == 0) bytes
+is_zero_data (Ports disp names ∷ more) = true
 
 -- the first shape alone
 abbrev pub first_alone : List Shape → List Shape
@@ -59,12 +64,15 @@ abbrev pub expected : Form → List Arg → List Shape
 expected (OfRequest f) args = f.shapes
 expected (OfReply f) args = if is_zero_data args then f.shapes else first_alone f.shapes
 
--- a routine takes no disposition for the reply port or one that gives a send-once right, a simpleroutine takes none
+-- a routine takes no disposition for the reply port or one that gives a send-once right, a
+-- simpleroutine takes none
 abbrev pub fits_request : RequestKind → ℕ → Bool
-fits_request Routine x = x == 0 || (x == 18 || x == 21)
+fits_request Routine x =
+    x == 0 || (x == disp_number MoveSendOnce || x == disp_number MakeSendOnce)
 fits_request Simple x = x == 0
 
--- the form goes with this disposition of the reply port: a routine's request takes one that gives a send-once right, or none
+-- the form goes with this disposition of the reply port: a routine's request takes one that gives a
+-- send-once right, or none
 abbrev pub fits_reply : Form → ℕ → Bool
 fits_reply (OfRequest f) x = fits_request f.kind x
 fits_reply (OfReply f) x = x == 0

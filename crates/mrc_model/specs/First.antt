@@ -3,12 +3,13 @@ use Rattle.std.specs.Prelude.{ℕ, ◌+◌, Bool, true, List, [], ◌∷◌, Ok,
 use Rattle.mrc_model.specs.declared.Entry.TheVariants.{Send as SendEntry}
 use Rattle.mrc_model.specs.declared.Item.TheVariants.{Right as RightItem}
 use Rattle.mrc_model.specs.declared.FirstLine.{FirstLine}
-use Rattle.mrc_model.specs.declared.FirstLine.TheVariants.{Task as TaskLine, Port as PortLine, Hold as HoldLine}
+use Rattle.mrc_model.specs.declared.FirstLine.TheVariants.{Task as TaskLine, Port as PortLine}
+use Rattle.mrc_model.specs.declared.FirstLine.TheVariants.{Hold as HoldLine}
 use Rattle.mrc_model.specs.declared.Code.TheVariants.{KernInvalidTask, KernInvalidName, KernNoSpace}
 use Rattle.mrc_model.specs.Rights.{is_receive}
 use Rattle.mrc_model.specs.Map.{empty, get, insert}
 use Rattle.mrc_model.specs.Wiring.{Wiring, kernel_class}
-use Rattle.mrc_model.specs.World.{World, space}
+use Rattle.mrc_model.specs.World.{Task, World, space}
 use Rattle.mrc_model.specs.Reply.{Refused, Try, ◌>>=◌, ◌>>◌, check, refuse_if, or_refuse}
 use Rattle.mrc_model.specs.Space.{give_item, is_over_full}
 use Rattle.mrc_model.specs.Target.{with_store}
@@ -24,15 +25,17 @@ pub record First : Type 0 where
 abbrev pub no_world : World
 no_world = record { tasks = empty; store = record { next = 0; spaces = empty; ports = empty } }
 
--- the next task, of the class that has its number, with its kernel port and a send right to it under name 1
+-- the next task, of the class that has its number, with its kernel port and a send right to it
+-- under name 1
 abbrev pub add_task : Wiring → First → First
 add_task W f =
     let s = f.world.store in
+    let task : Task = record { alive = true; kernel = s.next; class = f.tasks } in
     record {
       tasks = f.tasks + 1;
       ports = f.ports;
       world = record {
-        tasks = insert f.world.tasks f.tasks (record { alive = true; kernel = s.next; class = f.tasks });
+        tasks = insert f.world.tasks f.tasks task;
         store = record {
           next = s.next + 1;
           spaces = insert s.spaces f.tasks (insert empty 1 (SendEntry s.next 1));
@@ -41,8 +44,8 @@ add_task W f =
       };
     }
 
--- A line is refused where it makes a task or port beyond the wiring's numbers, names a task or port that is not there,
--- holds a receive right, or leaves a space with more than 4,096 entries.
+-- A line is refused where it makes a task or port beyond the wiring's numbers, names a task or port
+-- that is not there, holds a receive right, or leaves a space with more entries than it may have.
 abbrev pub add_line : Wiring → First → FirstLine → Try First
 add_line W f TaskLine = do
   check (nat_lt f.tasks W.tasks) (Refused KernInvalidTask)

@@ -8,6 +8,7 @@ pub mod World
 pub mod Reply
 pub mod Space
 pub mod Death
+pub mod Destroyed
 pub mod Target
 pub mod CallSend
 pub mod CallReceive

@@ -1,5 +1,5 @@
--- The calls of the machine and its replies, and steps that may be refused.
--- From Mach 3 Kernel Interfaces (mach_msg and the mach_port_ calls); the numbers of Mach's replies stand by name.
+-- The calls of the machine and its replies, and steps that may be refused. From Mach 3 Kernel
+-- Interfaces (mach_msg and the mach_port_ calls); the numbers of Mach's replies stand by name.
 use Rattle.std.specs.Prelude.{ℕ, Bool, true, false, List, Option, Some, None, Result, Ok, Err, ℤ}
 use Rattle.mrc_base.specs.declared.Right.{Right}
 use Rattle.mrc_base.specs.declared.Disp.{Disp}
@@ -7,8 +7,8 @@ use Rattle.mrc_model.specs.declared.Code.{Code}
 use Rattle.mrc_model.specs.declared.Denied.{Denied}
 use Rattle.mrc_model.specs.Message.{Message}
 
--- What a call answers. Names are given with their masks of rights; TooLarge tells the size of the message that stays
--- queued.
+-- What a call answers. Names are given with their masks of rights; TooLarge tells the size of the
+-- message that stays queued.
 pub data Reply : Type 0 where
   Done : Reply
   Name : ℕ → Reply
@@ -21,8 +21,8 @@ pub data Reply : Type 0 where
   DeniedBy : Denied → Reply
   DeadTask : Reply
 
--- A call of a task, with the names as they stand in it. `task` names the task whose space the call acts on, by a send
--- right to its kernel port.
+-- A call of a task, with the names as they stand in it. `task` names the task whose space the call
+-- acts on, by a send right to its kernel port.
 pub data Call : Type 0 where
   SendMessage : Message → Call
   ReceiveMessage : (name limit : ℕ) → Call

@@ -1,10 +1,11 @@
--- Tests on rights, and the numbers that messages carry for dispositions.
+-- Tests on rights, and the numbers that messages carry for them.
 -- From Mach 3 Kernel Interfaces, "Port rights" and "Messages" (mach_msg_type_name_t).
-use Rattle.std.specs.Prelude.{ℕ, Bool, true, false, Option, Some, None, ◌==◌, if◌then◌else◌}
+use Rattle.std.specs.Prelude.{ℕ, Bool, true, false}
 use Rattle.mrc_base.specs.declared.PortRight.{PortRight}
 use Rattle.mrc_base.specs.declared.PortRight.TheVariants.{Send, Receive, SendOnce}
 use Rattle.mrc_base.specs.declared.Disp.{Disp}
-use Rattle.mrc_base.specs.declared.Disp.TheVariants.{MoveReceive, MoveSend, MoveSendOnce, CopySend, MakeSend, MakeSendOnce}
+use Rattle.mrc_base.specs.declared.Disp.TheVariants.{MoveReceive, MoveSend, MoveSendOnce}
+use Rattle.mrc_base.specs.Disposition.{disp_number}
 
 -- the receive right
 abbrev pub is_receive : PortRight → Bool
@@ -18,14 +19,12 @@ is_once SendOnce = true
 is_once Send = false
 is_once Receive = false
 
--- the disposition of a number
-abbrev pub disp_of : ℕ → Option Disp
-disp_of k =
-    if k == 16 then Some MoveReceive else if k == 17 then Some MoveSend else if k == 18 then Some MoveSendOnce
-    else if k == 19 then Some CopySend else if k == 20 then Some MakeSend else if k == 21 then Some MakeSendOnce else None
+-- the disposition that moves the right
+abbrev pub moving : PortRight → Disp
+moving Receive = MoveReceive
+moving Send = MoveSend
+moving SendOnce = MoveSendOnce
 
--- the number that a receiver sees for what it was given
+-- the number that a receiver sees for a right that it was given
 abbrev pub given_number : PortRight → ℕ
-given_number Receive = 16
-given_number Send = 17
-given_number SendOnce = 18
+given_number r = disp_number (moving r)

@@ -1,4 +1,5 @@
--- Runs of the machine: lists of calls of tasks in any order, each with its reply. This profile's own choice.
+-- Runs of the machine: lists of calls of tasks in any order, each with its reply. This profile's
+-- own choice.
 use Rattle.std.specs.Prelude.{◌≡◌, ℕ, List, [], ◌∷◌}
 use Rattle.mrc_model.specs.Wiring.{Wiring}
 use Rattle.mrc_model.specs.World.{World}
@@ -11,7 +12,8 @@ pub record Event : Type 0 where
   pub call : Call
   pub reply : Reply
 
--- the events lead from one world to another: each is the step of the world that the ones before it lead to
+-- the events lead from one world to another: each is the step of the world that the ones before it
+-- lead to
 abbrev pub Run : Wiring → World → List Event → World → Type 0
 Run W v [] w = v ≡ w
 Run W v (e ∷ es) w = ((step W v e.task e.call).1 ≡ e.reply) × Run W (step W v e.task e.call).0 es w

@@ -4,7 +4,10 @@ use Rattle.std.specs.Prelude.{ℕ, Ok, Err, if◌then◌else◌}
 use Rattle.mrc_model.specs.Map.{get}
 use Rattle.mrc_model.specs.Wiring.{Wiring}
 use Rattle.mrc_model.specs.World.{World}
-use Rattle.mrc_model.specs.Reply.{Reply, DeadTask, Call, SendMessage, ReceiveMessage, Allocate, Deallocate, Destroy, ModRefs, GetRefs, InsertRight, ExtractRight, MoveMember, RequestNotification, SetQlimit, PortType, ListNames, Rename, Terminate, Try}
+use Rattle.mrc_model.specs.Reply.{Reply, DeadTask, Call, SendMessage, ReceiveMessage, Allocate}
+use Rattle.mrc_model.specs.Reply.{Deallocate, Destroy, ModRefs, GetRefs, InsertRight, ExtractRight}
+use Rattle.mrc_model.specs.Reply.{MoveMember, RequestNotification, SetQlimit, PortType, ListNames}
+use Rattle.mrc_model.specs.Reply.{Rename, Terminate, Try}
 use Rattle.mrc_model.specs.Target.{is_alive}
 use Rattle.mrc_model.specs.CallSend.{call_send}
 use Rattle.mrc_model.specs.CallDeallocate.{call_deallocate, call_destroy}
@@ -31,7 +34,8 @@ try_call W w t (GetRefs task name right) = call_get_refs w t task name right
 try_call W w t (InsertRight task name right disp) = call_insert_right w t task name right disp
 try_call W w t (ExtractRight task name disp) = call_extract_right w t task name disp
 try_call W w t (MoveMember task member set) = call_move_member w t task member set
-try_call W w t (RequestNotification task name id sync notify disp) = call_request_notification W w t task name id sync notify disp
+try_call W w t (RequestNotification task name id sync notify disp) =
+    call_request_notification W w t task name id sync notify disp
 try_call W w t (SetQlimit task name limit) = call_set_qlimit w t task name limit
 try_call W w t (PortType task name) = call_type w t task name
 try_call W w t (ListNames task) = call_names w t task
@@ -43,6 +47,8 @@ abbrev pub concluded : World → Try (World × Reply) → World × Reply
 concluded w (Ok r) = r
 concluded w (Err e) = (w, e)
 
--- the world and the reply after a call of task t; a number that is no task, or of one that has ended, is refused
+-- the world and the reply after a call of task t; a number that is no task, or of one that has
+-- ended, is refused
 unfoldable pub step : Wiring → World → ℕ → Call → World × Reply
-step W w t call = concluded w (if is_alive (get w.tasks t) then try_call W w t call else Err DeadTask)
+step W w t call =
+    concluded w (if is_alive (get w.tasks t) then try_call W w t call else Err DeadTask)

@@ -1,17 +1,21 @@
--- What the calls have in common: the names that stand for no entry, the task that a call acts on, and its entries.
--- From Mach 3 Kernel Interfaces: a send right to a task's kernel port lets its holder make port calls on that task.
-use Rattle.std.specs.Prelude.{ℕ, Bool, false, ◌&&◌, ◌||◌, List, [], ◌∷◌, Option, Some, None, ◌==◌, nat_lt, if◌then◌else◌}
+-- What the calls have in common: the names that stand for no entry, the task that a call acts on,
+-- and its entries. From Mach 3 Kernel Interfaces: a send right to a task's kernel port lets its
+-- holder make port calls on that task.
+use Rattle.std.specs.Prelude.{ℕ, Bool, false, ◌&&◌, ◌||◌, List, [], ◌∷◌, Option, Some, None, ◌==◌}
+use Rattle.std.specs.Prelude.{nat_lt, if◌then◌else◌}
 use Rattle.mrc_model.specs.declared.Entry.{Entry}
-use Rattle.mrc_model.specs.declared.Entry.TheVariants.{Receive as ReceiveEntry, Send as SendEntry, SendOnce as OnceEntry, PortSet as SetEntry, DeadName as DeadEntry}
+use Rattle.mrc_model.specs.declared.Entry.TheVariants.{Receive as ReceiveEntry, Send as SendEntry}
+use Rattle.mrc_model.specs.declared.Entry.TheVariants.{SendOnce as OnceEntry, PortSet as SetEntry}
+use Rattle.mrc_model.specs.declared.Entry.TheVariants.{DeadName as DeadEntry}
 use Rattle.mrc_model.specs.declared.Code.{Code}
 use Rattle.mrc_model.specs.declared.Code.TheVariants.{KernInvalidName, KernInvalidRight}
 use Rattle.mrc_model.specs.Map.{get}
-use Rattle.mrc_model.specs.World.{Space, Store, Task, World, space, set_space}
+use Rattle.mrc_model.specs.World.{Space, Store, Task, World, space, set_space, port_null, port_dead}
 use Rattle.mrc_model.specs.Reply.{Try, Reply, Refused, or_refuse}
 
 -- MACH_PORT_NULL and MACH_PORT_DEAD stand for no entry
 abbrev pub is_reserved : ℕ → Bool
-is_reserved n = n == 0 || n == 0xffffffff
+is_reserved n = n == port_null || n == port_dead
 
 -- the world with this store
 abbrev pub with_store : World → Store → World

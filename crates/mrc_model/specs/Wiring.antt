@@ -1,19 +1,28 @@
--- What a wiring says: tasks and ports of the first state, classes, interfaces, labels and what slots admit.
--- Classes, labels and admit lines are this profile's own choice; forms are those of MIG (Server Writer's Guide).
-use Rattle.std.specs.Prelude.{ℕ, ◌+◌, Bool, true, false, ◌&&◌, List, [], ◌∷◌, length, map, flat_map, Option, Some, None, nat_le, nat_lt, ◌==◌, if◌then◌else◌, slice_get, unwrap_or, option_map}
+-- What a wiring says: tasks and ports of the first state, classes, interfaces, labels and what
+-- slots admit. Classes, labels and admit lines are this profile's own choice; forms are those of
+-- MIG (Server Writer's Guide).
+use Rattle.std.specs.Prelude.{ℕ, ◌+◌, ◌<◌, IsTrue, is_some, Bool, true, false, ◌&&◌, List, [], ◌∷◌}
+use Rattle.std.specs.Prelude.{length, map, flat_map, Option, Some, None, nat_le, nat_lt, ◌==◌}
+use Rattle.std.specs.Prelude.{if◌then◌else◌, slice_get, unwrap_or, option_map}
 use Rattle.std.specs.List.{list_any}
 use Rattle.mrc_model.specs.declared.RequestKind.{RequestKind}
 use Rattle.mrc_model.specs.declared.RequestKind.TheVariants.{Routine, Simple}
 use Rattle.mrc_model.specs.declared.LabelItem.{LabelItem}
-use Rattle.mrc_model.specs.declared.LabelItem.TheVariants.{Request as RequestOf, Reply as ReplyOf, Destroyed}
+use Rattle.mrc_model.specs.declared.LabelItem.TheVariants.{Request as RequestOf, Reply as ReplyOf}
+use Rattle.mrc_model.specs.declared.LabelItem.TheVariants.{Destroyed}
 use Rattle.mrc_model.specs.declared.FirstLine.{FirstLine}
 
--- One argument of a form: its type number, the bits of an item, how many items there are, or at most are, and the
--- number of its MIG type over all interfaces.
+-- One argument of a form. As in mach_msg_type_t, `name` is its type number, `size` the bits of an
+-- item and `number` how many items there are, or, where that is a bound, the most that there are.
+-- `sort` is the number of the argument's MIG type in the wiring. There is one number for each pair
+-- of an interface that the wiring lists and a name of a type that stands in that interface: two
+-- arguments have the same number exactly where they are of one interface and their types have the
+-- same name. So types of two interfaces that have the same name have two numbers, and an admit
+-- line, which names an interface and a type, is for one number.
 pub record Shape : Type 0 where
-  pub kind : ℕ
+  pub name : ℕ
   pub size : ℕ
-  pub count : ℕ
+  pub number : ℕ
   pub is_bound : Bool
   pub sort : ℕ
 
@@ -48,9 +57,10 @@ abbrev pub form_shapes : Form → List Shape
 form_shapes (OfRequest f) = f.shapes
 form_shapes (OfReply f) = f.shapes
 
--- `lines` make the first state. `tasks` and `ports` are the numbers of wired tasks and ports. `births` has the birth
--- classes in their order, each by its task and its kind; every task has kind 0. `labels` are by class. `admitted` has
--- a pair for each admit line: the number of a MIG type, and the class, or none.
+-- `lines` make the first state. `tasks` and `ports` are the numbers of wired tasks and ports.
+-- `births` has the birth classes in their order, each by its task and its kind. `labels` are by
+-- class. `admitted` has a pair for each admit line: the number of a MIG type, and the class, or
+-- none.
 pub record Wiring : Type 0 where
   pub lines : List FirstLine
   pub tasks : ℕ
@@ -60,32 +70,57 @@ pub record Wiring : Type 0 where
   pub labels : List (List LabelItem)
   pub admitted : List (ℕ × Option ℕ)
 
--- classes: wired ports, then the kernel ports of the wired tasks, then births
-
--- the class of the kernel port of a task of class u
-abbrev pub kernel_class : Wiring → ℕ → ℕ
-kernel_class W u = W.ports + u
-
--- the class of the first of these pairs that is (u, kind), where the classes count from c
-abbrev pub births_from : ℕ → ℕ → ℕ → List (ℕ × ℕ) → Option ℕ
-births_from c u kind [] = None
-births_from c u kind (b ∷ bs) = if b.0 == u && b.1 == kind then Some c else births_from (c + 1) u kind bs
-
--- the class of the ports that a task of class u is the first to hold, by kind
-abbrev pub births_class : Wiring → ℕ → ℕ → Option ℕ
-births_class W u kind = births_from (W.ports + W.tasks) u kind W.births
+-- Classes are numbers: first the wired ports, then the kernel ports of the wired tasks, then
+-- births.
 
 -- how many classes there are
 abbrev pub classes : Wiring → ℕ
 classes W = W.ports + W.tasks + length W.births
 
+-- How many wired tasks, wired ports and classes there are: all of a wiring that tells kernel ports
+-- from others.
+pub record Numbers : Type 0 where
+  pub tasks : ℕ
+  pub ports : ℕ
+  pub classes : ℕ
+
+-- the numbers of a wiring
+abbrev pub numbers_of : Wiring → Numbers
+numbers_of W = record { tasks = W.tasks; ports = W.ports; classes = classes W }
+
+-- by these numbers, the class of the kernel port of a task of class u
+abbrev pub kernel_number : Numbers → ℕ → ℕ
+kernel_number N u = N.ports + u
+
+-- by these numbers, the class is that of a kernel port
+abbrev pub is_kernel_number : Numbers → ℕ → Bool
+is_kernel_number N c = nat_le N.ports c && nat_lt c (N.ports + N.tasks)
+
+-- the class of the kernel port of a task of class u
+abbrev pub kernel_class : Wiring → ℕ → ℕ
+kernel_class W u = kernel_number (numbers_of W) u
+
 -- the class is that of a kernel port
 abbrev pub is_kernel_class : Wiring → ℕ → Bool
-is_kernel_class W c = nat_le W.ports c && nat_lt c (W.ports + W.tasks)
+is_kernel_class W c = is_kernel_number (numbers_of W) c
 
--- what a class accepts
+-- the class of the first of these pairs that is (u, kind), where the classes count from c
+abbrev pub births_from : ℕ → ℕ → ℕ → List (ℕ × ℕ) → Option ℕ
+births_from c u kind [] = None
+births_from c u kind (b ∷ bs) =
+    if b.0 == u && b.1 == kind then Some c else births_from (c + 1) u kind bs
+
+-- the class of the ports that a task of class u is the first to hold, by kind
+abbrev pub births_class : Wiring → ℕ → ℕ → Option ℕ
+births_class W u kind = births_from (W.ports + W.tasks) u kind W.births
+
+-- every wired task has births of kind 0
+abbrev pub HasKindZero : Wiring → Type 0
+HasKindZero W = (u : ℕ) → u < W.tasks → IsTrue (is_some (births_class W u 0))
+
+-- what a class accepts; a number that is no class has no label
 abbrev pub label : Wiring → ℕ → List LabelItem
-label W c = unwrap_or (slice_get W.labels c) []
+label W c = if nat_lt c (classes W) then unwrap_or (slice_get W.labels c) [] else []
 
 -- the interface of this number; one with no form where there is none
 abbrev pub interface : Wiring → ℕ → Interface
@@ -116,7 +151,8 @@ has_routine W (RequestOf s) = list_any is_routine (interface W s).requests
 has_routine W (ReplyOf s) = false
 has_routine W Destroyed = false
 
--- the class accepts requests of an interface that has a routine, so a reply right can come with them
+-- the class accepts requests of an interface that has a routine, so a reply right can come with
+-- them
 unfoldable pub accepts_routine : Wiring → ℕ → Bool
 accepts_routine W c = list_any (has_routine W) (label W c)
 
@@ -138,7 +174,10 @@ is_line_of sort line = line.0 == sort
 abbrev pub admits_by : ℕ → ℕ → ℕ × Option ℕ → Bool
 admits_by sort c line = line.0 == sort && unwrap_or (option_map (λ d. d == c) line.1) false
 
--- a type admits the classes of its admit lines; a type with no such line admits every class
+-- A type admits the classes of its admit lines; a type with no such line admits every class. A
+-- number that is no class is admitted by no type.
 unfoldable pub admits : Wiring → ℕ → ℕ → Bool
 admits W sort c =
-    if list_any (is_line_of sort) W.admitted then list_any (admits_by sort c) W.admitted else nat_lt c (classes W)
+    nat_lt c (classes W)
+    && (if list_any (is_line_of sort) W.admitted then list_any (admits_by sort c) W.admitted
+    else true)

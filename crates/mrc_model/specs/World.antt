@@ -1,24 +1,29 @@
--- The state of the machine: spaces, ports with their queues, and tasks.
--- From Mach 3 Kernel Interfaces, "Ports" and "Messages". Ports stand by birth numbers that never come again, where a
+-- The state of the machine: spaces, ports with their queues, and tasks. From Mach 3 Kernel
+-- Interfaces, "Ports" and "Messages". Ports stand by birth numbers that never come again, where a
 -- kernel reuses its slots; this is the profile's own choice, as classes are.
-use Rattle.std.specs.Prelude.{ℕ, ◌+◌, Bool, List, [], ◌∷◌, ◌++◌, Option, unwrap_or, ◌==◌, nat_lt, if◌then◌else◌, option_map}
+use Rattle.std.specs.Prelude.{ℕ, ◌+◌, ◌^◌, Bool, List, [], ◌∷◌, ◌++◌, Option, unwrap_or, ◌==◌}
+use Rattle.std.specs.Prelude.{nat_lt, if◌then◌else◌, option_map}
 use Rattle.mrc_base.specs.declared.PortRight.{PortRight}
 use Rattle.mrc_base.specs.declared.PortRight.TheVariants.{Send, Receive, SendOnce}
 use Rattle.mrc_model.specs.declared.Entry.{Entry}
-use Rattle.mrc_model.specs.declared.Entry.TheVariants.{Receive as ReceiveEntry, Send as SendEntry, SendOnce as OnceEntry, PortSet as SetEntry, DeadName as DeadEntry}
+use Rattle.mrc_model.specs.declared.Entry.TheVariants.{Receive as ReceiveEntry, Send as SendEntry}
+use Rattle.mrc_model.specs.declared.Entry.TheVariants.{SendOnce as OnceEntry, PortSet as SetEntry}
+use Rattle.mrc_model.specs.declared.Entry.TheVariants.{DeadName as DeadEntry}
 use Rattle.mrc_model.specs.declared.Item.{Item}
-use Rattle.mrc_model.specs.declared.Item.TheVariants.{Null as NullItem, Dead as DeadItem, Right as RightItem}
+use Rattle.mrc_model.specs.declared.Item.TheVariants.{Null as NullItem, Dead as DeadItem}
+use Rattle.mrc_model.specs.declared.Item.TheVariants.{Right as RightItem}
 use Rattle.mrc_model.specs.declared.Backup.{Backup}
 use Rattle.mrc_model.specs.Map.{Map, empty, get, insert, total}
 
--- What a task has under its names. An entry for a port is a receive entry, with the send references beside the right
--- and the set that it is in, or a send entry, whose references the calls keep above 0.
+-- What a task has under its names. An entry for a port is a receive entry, with the send references
+-- beside the right and the set that it is in, or a send entry. Which maps of entries are spaces of
+-- a world is said by IsSpace (Space).
 abbrev pub Space : Type 0
 Space = Map Entry
 
--- an argument of a queued message: data as it was sent, or rights, all of one kind
+-- an argument of a queued message: data as it was sent, or rights, all given as the same right
 pub data QueuedArg : Type 0 where
-  QueuedData : (kind size number : ℕ) → (bytes : List ℕ) → QueuedArg
+  QueuedData : (name size number : ℕ) → (bytes : List ℕ) → QueuedArg
   QueuedItems : (right : PortRight) → (items : List Item) → QueuedArg
 
 -- a queued message; `by_once` where it was sent through a send-once right
@@ -28,13 +33,26 @@ pub record Parcel : Type 0 where
   pub reply : Item
   pub args : List QueuedArg
 
--- a live port. `limit` is the queue's, and `receipts` the number of messages received, until the receive right moves
+-- receipts are counted modulo this, as 32-bit numbers
+abbrev pub modulus_of_receipts : ℕ
+modulus_of_receipts = 2 ^ 32
+
+-- a live port. `limit` is the queue's, and `receipts` the number of messages received, until the
+-- receive right moves
 pub record Port : Type 0 where
   pub class : ℕ
   pub queue : List Parcel
   pub backup : Backup
   pub limit : ℕ
   pub receipts : ℕ
+
+-- MACH_PORT_NULL, the name that stands for no right
+abbrev pub port_null : ℕ
+port_null = 0
+
+-- MACH_PORT_DEAD, the name that stands for a right on a dead port
+abbrev pub port_dead : ℕ
+port_dead = 0xffffffff
 
 -- all spaces, by task, and all live ports, by birth number; `next` is the next birth number
 pub record Store : Type 0 where
@@ -48,7 +66,10 @@ pub record Task : Type 0 where
   pub kernel : ℕ
   pub class : ℕ
 
--- all tasks, by number, and the store
+-- All tasks, by number, and the store. A number is a task's exactly where the map has it. Tasks get
+-- the numbers 0, 1, 2 and so on, and one that has ended stays in the map, no longer alive: so the
+-- next task's number is that of the entries of the map, no number is given twice, and no number
+-- needs to be kept beside the map for tasks that are made at run time.
 pub record World : Type 0 where
   pub tasks : Map Task
   pub store : Store
@@ -90,7 +111,8 @@ entry_rights (OnceEntry p) = record { port = p; right = SendOnce } ∷ []
 entry_rights SetEntry = []
 entry_rights (DeadEntry k) = []
 
--- the rights that a message carries: its reply right and those of its arguments; null and dead carry none
+-- the rights that a message carries: its reply right and those of its arguments; null and dead
+-- carry none
 abbrev pub item_rights : Item → List Held
 item_rights NullItem = []
 item_rights DeadItem = []
@@ -103,7 +125,7 @@ items_rights (x ∷ xs) = item_rights x ++ items_rights xs
 
 -- the same for an argument
 abbrev pub arg_rights : QueuedArg → List Held
-arg_rights (QueuedData kind size number bytes) = []
+arg_rights (QueuedData name size number bytes) = []
 arg_rights (QueuedItems r xs) = items_rights xs
 
 -- for the arguments of a message
@@ -139,4 +161,6 @@ space_receives p x = total (λ n e. receives p (entry_rights e)) x
 
 -- how many entries and queued messages have it
 unfoldable pub places : ℕ → Store → ℕ
-places p s = total (λ t x. space_receives p x) s.spaces + total (λ q (x : Port). receives p (queue_rights x.queue)) s.ports
+places p s =
+    total (λ t x. space_receives p x) s.spaces
+    + total (λ q (x : Port). receives p (queue_rights x.queue)) s.ports

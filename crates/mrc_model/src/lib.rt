@@ -1,12 +1,13 @@
-//! The definitions of the machine and of the rules: what a space, a port and a world are, what each call
-//! does, which facts a set must have, and what it means that it covers a world. The definitions stand in
-//! `specs/`; here are the enums that they speak of, and the laws about them.
+//! The definitions of the machine and of the rules: what a space, a port and a world are, what each
+//! call does, which facts a set must have, and what it means that it covers a world. The
+//! definitions stand in `specs/`; here are the enums that they speak of, and the laws about them.
 #![tactic(auto)]
 
 ghost use Rattle.mrc_model.specs.Breach.{HoldingsAreHeld};
-ghost use Rattle.mrc_model.specs.Conclusions.{ConclusionsAreByRules, IsClosedTells, RoundsAreLeast};
-ghost use Rattle.mrc_model.specs.FirstHoldings.{FirstHoldingsAreGiven, SoundIfFew};
-ghost use Rattle.mrc_model.specs.Headline.{DyingIsLeast};
+ghost use Rattle.mrc_model.specs.Conclusions.{ConclusionsAreByRules, ConsequencesAreByRules};
+ghost use Rattle.mrc_model.specs.Conclusions.{IsClosedTells, RoundsAreLeast};
+ghost use Rattle.mrc_model.specs.FirstHoldings.{FirstHoldingsAreGiven, SoundIfFew, SoundTaskByTask};
+ghost use Rattle.mrc_model.specs.Headline.{DyingIsLeast, FirstHasSpaces, SpacesAreKept};
 ghost use Rattle.mrc_model.specs.Rules.{DerivationsAreLeast};
 
 use mrc_base::{PortId, PortRight, TaskId};
@@ -15,14 +16,14 @@ use thiserror::Error;
 /// What a name of a space stands for (Mach 3 Kernel Interfaces, "Port rights").
 #[derive(Clone, Copy, Debug, PartialEq, Eq)]
 pub enum Entry {
-    /// A receive right, the send references that stand under the same name, and the name of the set that
-    /// the right is in.
+    /// A receive right, the send references that stand under the same name, and the name of the set
+    /// that the right is in.
     Receive {
         port: PortId,
         sends: u16,
         in_set: Option<u32>,
     },
-    /// Send references without the receive right. Each call that makes such an entry leaves at least one.
+    /// Send references without the receive right: at least one, in a space.
     Send {
         port: PortId,
         sends: u16,
@@ -33,8 +34,8 @@ pub enum Entry {
     },
     /// A port set.
     PortSet,
-    /// A dead name: made as such, or what is left of rights on a port that has died, as many references as there were send references,
-    /// one for a send-once right.
+    /// A dead name: made as such, or what is left of rights on a port that has died, as many
+    /// references as there were send references, one for a send-once right.
     DeadName {
         refs: u16,
     },
@@ -82,8 +83,8 @@ pub enum LabelItem {
     Destroyed,
 }
 
-/// A line of a wiring that makes a part of the first state. Ports and kernel ports stand by their birth
-/// numbers.
+/// A line of a wiring that makes a part of the first state. Ports and kernel ports stand by their
+/// birth numbers.
 #[derive(Clone, Copy, Debug, PartialEq, Eq)]
 pub enum FirstLine {
     /// The next task, with its kernel port.
@@ -175,29 +176,45 @@ pub fn dying_least()
     ensures least { DyingIsLeast }
 {}
 
-/// In the first state of a sound wiring a task holds exactly what a line gives it, and ports have the
-/// classes of their lines: a task line gives a send right to the task's kernel port, a port line the
-/// receive right to its receiver, a hold line what it says.
+/// Each space is one, in the first state and after each call: the entries have numbers of
+/// references that they may have, and the set that a receive right is in is a set of the same
+/// space.
+pub fn spaces_kept()
+    ensures first { FirstHasSpaces }
+    ensures kept { SpacesAreKept }
+{}
+
+/// In the first state of a sound wiring a task holds exactly what a line gives it, and ports have
+/// the classes of their lines: a task line gives a send right to the task's kernel port, a port
+/// line the receive right to its receiver, a hold line what it says.
 pub fn first_holdings_given()
     ensures given { FirstHoldingsAreGiven }
 {}
 
-/// Lines that name what is there, over few ports and few send-once rights, are sound: no space gets too full.
+/// No line of a wiring is refused exactly where each names what stands on an earlier line, the
+/// lines are within the wiring's numbers, and no task gets more than 4,096 names.
+pub fn sound_task_by_task()
+    ensures sound { SoundTaskByTask }
+{}
+
+/// So lines that name what is there, over few ports and few send-once rights, are sound.
 pub fn sound_if_few()
     ensures sound { SoundIfFew }
 {}
 
-/// The list of conclusions from some facts has the conclusions of the rules' instances and no others. So
-/// the test of a closed list tells whether it is closed, and what comes in rounds of conclusions, from
-/// nothing, is in every closed set.
+/// The list of conclusions from some facts has the conclusions of the rules' instances over the
+/// wiring's tasks and classes, and no others; and the consequences of a fact are those of the
+/// instances that have it as a premise. So the test of a closed list tells whether it is closed,
+/// and what comes in rounds of conclusions, from nothing, is in every closed set.
 pub fn conclusions_by_rules()
     ensures by_rules { ConclusionsAreByRules }
+    ensures from_fact { ConsequencesAreByRules }
     ensures closed { IsClosedTells }
     ensures least { RoundsAreLeast }
 {}
 
-/// What is derived by instances of the rules, each from conclusions of earlier ones, is in every closed
-/// set.
+/// What is derived by instances of the rules, each from conclusions of earlier ones, is in every
+/// closed set.
 pub fn derivations_are_least()
     ensures least { DerivationsAreLeast }
 {}

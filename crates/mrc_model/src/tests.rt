@@ -52,7 +52,9 @@ fn denials_print_their_name_and_argument(rt: HostRuntime) -> Result<(), AllocErr
 #[test]
 fn laws_are_calls_that_do_nothing() {
     dying_least();
+    spaces_kept();
     first_holdings_given();
+    sound_task_by_task();
     sound_if_few();
     conclusions_by_rules();
     derivations_are_least();
