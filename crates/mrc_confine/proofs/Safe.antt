@@ -1,0 +1,21 @@
+-- The checker's yes is the premise of the headline.
+use Rattle.mrc_cover.proofs.Laws.{runs_are_safe}
+use Rattle.mrc_classes.specs.Sets.{has}
+use Rattle.mrc_wiring.proofs.Resolved.{resolved_is_table}
+use Rattle.mrc_wiring.proofs.Sound.{table_is_sound}
+use Rattle.mrc_wiring.specs.Claims.{policy_of}
+use Rattle.mrc_wiring.specs.Table.{wiring_of}
+use Rattle.mrc_confine.specs.Safety.{AcceptedIsSafe, YesIsSafe}
+
+-- what an accepted claim and draft say is the checker's yes
+pub accepted_safe : AcceptedIsSafe
+accepted_safe claim draft sound accepted events w run =
+    runs_are_safe (wiring_of claim.table) (policy_of claim)
+    (has draft.facts) sound accepted.yes events w run
+
+-- a wiring that its text means has a first state
+pub yes_safe : YesIsSafe
+yes_safe wiring policy certificate case says =
+    let table = case.claim.table in
+    let sound = table_is_sound table (resolved_is_table says.wiring_lines table says.is_table) in
+    accepted_safe case.claim case.draft sound says.accepted
