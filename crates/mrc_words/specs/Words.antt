@@ -1,0 +1,50 @@
+-- The words in which a fact is printed: rights, classes and tasks by the names of a wiring. This
+-- profile's own choice.
+use Rattle.std.specs.Prelude.{ℕ, List, ◌++◌, Option, Some, None, codes, decimal, slice_get}
+use Rattle.std.specs.Prelude.{unwrap_or}
+use Rattle.mrc_base.specs.declared.PortRight.{PortRight}
+use Rattle.mrc_base.specs.declared.PortRight.TheVariants.{Send, Receive, SendOnce}
+use Rattle.mrc_base.specs.declared.Fact.{Fact}
+use Rattle.mrc_base.specs.declared.Fact.TheVariants.{Hold, Carry, Backup}
+use Rattle.mrc_wiring.specs.declared.names.ClassKind.{ClassKind}
+use Rattle.mrc_wiring.specs.declared.names.ClassKind.TheVariants.{Task, Births}
+use Rattle.mrc_wiring.specs.Names.{class_label}
+use Rattle.mrc_wiring.specs.Table.{Table}
+
+-- one text and the next, with a blank between
+infixr 10 ◌␣◌
+abbrev pub ◌␣◌ : List ℕ → List ℕ → List ℕ
+one ␣ next = one ++ (codes " " ++ next)
+
+-- the word of a right
+abbrev pub right_word : PortRight → List ℕ
+right_word Send = codes "send"
+right_word Receive = codes "receive"
+right_word SendOnce = codes "once"
+
+-- the class of a task, as `task:U` or `births:U`
+abbrev pub label_word : ClassKind × List ℕ → List ℕ
+label_word (Task, name) = codes "task:" ++ name
+label_word (Births, name) = codes "births:" ++ name
+
+-- a class by its label, or by its number where the wiring has none for it
+abbrev pub class_text : ℕ → Option (ClassKind × List ℕ) → List ℕ
+class_text class None = decimal class
+class_text class (Some label) = label_word label
+
+-- a class by the names of a wiring
+abbrev pub class_word : Table → ℕ → List ℕ
+class_word table class = class_text class (class_label table.names class)
+
+-- a task by its name, or `?` where the wiring has no task of the number
+abbrev pub task_word : Table → ℕ → List ℕ
+task_word table task = unwrap_or (slice_get table.names task) (codes "?")
+
+-- a fact as it is printed
+abbrev pub fact_text : Table → Fact → List ℕ
+fact_text table (Hold task class right) =
+    codes "hold" ␣ task_word table task ␣ class_word table class ␣ right_word right
+fact_text table (Carry destination class right) =
+    codes "carry" ␣ class_word table destination ␣ class_word table class ␣ right_word right
+fact_text table (Backup class notify) =
+    codes "backup" ␣ class_word table class ␣ class_word table notify

@@ -1,0 +1,78 @@
+//! Rights, classes, tasks and facts as they are printed.
+
+ghost use Rattle.std.specs.Prelude.{◌≡◌, ◌++◌, IfOk, codes, string_bytes};
+ghost use Rattle.mrc_wiring.specs.Names.{shown_label};
+ghost use Rattle.mrc_words.specs.Words.{right_word, label_word, class_word, task_word, fact_text};
+
+use mrc_base::{ClassId, Fact, PortRight, TaskId};
+use mrc_wiring::{ClassKind, ClassLabel, Wired};
+use std::alloc::{AllocError, Global};
+
+/// The word of a right: `send`, `receive` or `once`.
+pub fn right_word(right: PortRight) -> &'static str
+    ensures { result.now ≡ right_word right }
+{
+    match right {
+        PortRight::Send => "send",
+        PortRight::Receive => "receive",
+        PortRight::SendOnce => "once",
+    }
+}
+
+/// A task by its name, or `?` where the wiring has no task of the number.
+pub fn task_word(wired: &Wired, task: TaskId) -> &str
+    ensures { result.now ≡ task_word wired.now task }
+{
+    wired.task_name(task).unwrap_or("?")
+}
+
+fn label_word(alloc: Global, label: ClassLabel<'_>) -> Result<String, AllocError>
+    ensures { IfOk result (λ text. string_bytes text ≡ label_word (shown_label label.entry)) }
+{
+    let task = label.task;
+    match label.kind {
+        ClassKind::Task => format!(in alloc; "task:{task}"),
+        ClassKind::Births => format!(in alloc; "births:{task}"),
+    }
+}
+
+/// A class as `task:U` or `births:U`, or by its number where the wiring has no class of the number.
+pub fn class_word(alloc: Global, wired: &Wired, class: ClassId) -> Result<String, AllocError>
+    ensures { IfOk result (λ text. string_bytes text ≡ class_word wired.now class) }
+{
+    match wired.class_name(class) {
+        Some(label) => label_word(alloc, label),
+        None => format!(in alloc; "{}", class.0),
+    }
+}
+
+/// A fact as `hold TASK CLASS RIGHT`, `carry CLASS CLASS RIGHT` (first the class of the ports that
+/// the message goes to) or `backup CLASS CLASS` (first the class of the ports that the request is
+/// for).
+pub fn fact_text(alloc: Global, wired: &Wired, fact: Fact) -> Result<String, AllocError>
+    ensures { IfOk result (λ text. string_bytes text ≡ fact_text wired.now fact) }
+{
+    match fact {
+        Fact::Hold { task, class, right } => {
+            let holder = task_word(wired, TaskId(u32::from(task)));
+            let class = class_word(alloc, wired, class)?;
+            let right = right_word(right);
+            format!(in alloc; "hold {holder} {class} {right}")
+        }
+        Fact::Carry {
+            destination,
+            class,
+            right,
+        } => {
+            let destination = class_word(alloc, wired, destination)?;
+            let class = class_word(alloc, wired, class)?;
+            let right = right_word(right);
+            format!(in alloc; "carry {destination} {class} {right}")
+        }
+        Fact::Backup { class, notify } => {
+            let class = class_word(alloc, wired, class)?;
+            let notify = class_word(alloc, wired, notify)?;
+            format!(in alloc; "backup {class} {notify}")
+        }
+    }
+}
