@@ -1,3 +1,4 @@
+pub mod Files
 pub mod Texts
-pub mod Words
 pub mod Told
+pub mod CommandLine

@@ -1,7 +1,8 @@
--- The three texts that are judged together: of a wiring, of a policy, and of a certificate. This profile's own choice.
+-- The three texts that are judged together: of a wiring, of a policy, and of a certificate. This
+-- profile's own choice.
 use Rattle.std.specs.Prelude.{ℕ, List, Result}
 use Rattle.mrc_check.specs.Verdict.{Case}
-use Rattle.mrc_check.specs.Texts.{SayYes, Fault, case_of}
+use Rattle.mrc_check.specs.Texts.{SayYes, Meaningless, case_of}
 
 -- the bytes of a wiring, of a policy and of a certificate
 pub record ThreeTexts : Type 0 where
@@ -13,6 +14,6 @@ pub record ThreeTexts : Type 0 where
 abbrev pub AreAccepted : ThreeTexts → Case → Type 0
 AreAccepted texts case = SayYes texts.wiring texts.policy texts.certificate case
 
--- what they say, or the first step that refuses
-abbrev pub said_by : ThreeTexts → Result Case Fault
+-- what they say, or the first that has no meaning
+abbrev pub said_by : ThreeTexts → Result Case Meaningless
 said_by texts = case_of texts.wiring texts.policy texts.certificate

@@ -1,52 +1,54 @@
--- What the program tells of an answer of the checker: the status, and the texts on standard output and on standard error.
--- This profile's own choice.
-use Rattle.std.specs.Prelude.{◌≡◌, ◌≢◌, ◌⊎◌, ℕ, List, [], ◌++◌, Result, Ok, Err, codes, decimal, string_bytes}
+-- What the program tells of an answer of the checker: the status, and the texts on standard output
+-- and on standard error. This profile's own choice.
+use Rattle.std.specs.Prelude.{◌≡◌, ◌⊎◌, ℕ, List, [], ◌++◌, Option, Result, Ok, Err, codes, decimal}
+use Rattle.std.specs.Prelude.{string_bytes}
+use Rattle.std.specs.Io.KnownBytes.{Appends}
 use Rattle.mrc_wiring.specs.Table.{Table}
 use Rattle.mrc_check.specs.declared.verdict.Why.{Why}
-use Rattle.mrc_check.specs.declared.verdict.Why.TheVariants.{Counts, MissingFirst, NotClosed, Forbidden, Memory}
+use Rattle.mrc_base.specs.declared.memory.OrMemory.{OrMemory}
+use Rattle.mrc_base.specs.declared.memory.OrMemory.TheVariants.{Fault, Memory}
+use Rattle.mrc_check.specs.declared.verdict.Why.TheVariants.{Counts, MissingFirst, NotClosed}
+use Rattle.mrc_check.specs.declared.verdict.Why.TheVariants.{Forbidden}
 use Rattle.mrc_check.specs.declared.texts.TextsFault.{TextsFault}
-use Rattle.mrc_check.specs.declared.texts.TextsFault.TheVariants.{Wiring, Policy, Certificate, Check}
+use Rattle.mrc_check.specs.declared.texts.TextsFault.TheVariants.{Wiring, Policy, Certificate}
+use Rattle.mrc_check.specs.declared.texts.TextsFault.TheVariants.{Check}
 use Rattle.mrc_check.specs.Conclusions.{rule_number}
 use Rattle.mrc_check.specs.Verdict.{Case, IsWhy}
-use Rattle.mrc_check.specs.Texts.{Fault, InWiring, InWiringLines, InPolicy, InPolicyLines, InCertificate, IsMemory}
-use Rattle.machcheck.specs.declared.tell.Told.{Told}
+use Rattle.mrc_check.specs.Texts.{Meaningless, InWiring, InPolicy, InCertificate}
+use Rattle.machcheck.specs.declared.told.Told.{Told}
 use Rattle.machcheck.specs.declared.command.CheckFiles.{CheckFiles}
-use Rattle.machcheck.specs.declared.command.NoCommand.{NoCommand}
-use Rattle.machcheck.specs.declared.command.NoCommand.TheVariants.{Told as TextTold, Memory as NoMemory}
+use Rattle.machcheck.specs.declared.files.ReadFault.{ReadFault}
+use Rattle.machcheck.specs.declared.files.ReadFault.TheVariants.{ReadFailed, TooBig}
+use Rattle.machcheck.specs.declared.files.ReadFault.TheVariants.{Memory as NoMemory}
+use Rattle.mrc_words.specs.Words.{◌␣◌, fact_text}
 use Rattle.machcheck.specs.Texts.{ThreeTexts, AreAccepted, said_by}
-use Rattle.machcheck.specs.Words.{◌␣◌, fact_text}
+use Rattle.machcheck.specs.Files.{Held, AreHeld, IsFirstUnread}
 
--- a refusal is told with status 1, want of memory with 2
-abbrev pub why_status : Why → ℕ
-why_status Counts = 1
-why_status (MissingFirst fact) = 1
-why_status (NotClosed rule fact) = 1
-why_status (Forbidden number) = 1
-why_status Memory = 2
-
--- the status of an answer: 0 for a yes, 1 for a refusal, 2 for a fault
-abbrev pub status_of : Result Case TextsFault → ℕ
+-- the status of an answer: 0 for a yes, 1 for a refusal, 2 for a fault and for want of memory
+abbrev pub status_of : Result Case (OrMemory TextsFault) → ℕ
 status_of (Ok case) = 0
-status_of (Err (Check refused)) = why_status refused.why
-status_of (Err (Wiring fault)) = 2
-status_of (Err (Policy fault)) = 2
-status_of (Err (Certificate fault)) = 2
+status_of (Err (Fault (Check refused))) = 1
+status_of (Err (Fault (Wiring fault))) = 2
+status_of (Err (Fault (Policy fault))) = 2
+status_of (Err (Fault (Certificate fault))) = 2
+status_of (Err Memory) = 2
 
 -- the line that tells a reason
 abbrev pub why_line : Table → Why → List ℕ
 why_line table Counts = codes "NO counts\n"
 why_line table (MissingFirst fact) = codes "NO missing " ++ (fact_text table fact ++ codes "\n")
-why_line table (NotClosed rule fact) = codes "NO not closed K" ++ (decimal (rule_number rule) ␣ fact_text table fact ++ codes "\n")
+why_line table (NotClosed rule fact) =
+    codes "NO not closed K" ++ (decimal (rule_number rule) ␣ fact_text table fact ++ codes "\n")
 why_line table (Forbidden number) = codes "NO forbidden line " ++ (decimal number ++ codes "\n")
-why_line table Memory = []
 
 -- what an answer gives to standard output
-abbrev pub out_of : Result Case TextsFault → List ℕ
+abbrev pub out_of : Result Case (OrMemory TextsFault) → List ℕ
 out_of (Ok case) = codes "YES\n"
-out_of (Err (Check refused)) = why_line refused.claim.table refused.why
-out_of (Err (Wiring fault)) = []
-out_of (Err (Policy fault)) = []
-out_of (Err (Certificate fault)) = []
+out_of (Err (Fault (Check refused))) = why_line refused.claim.table refused.why
+out_of (Err (Fault (Wiring fault))) = []
+out_of (Err (Fault (Policy fault))) = []
+out_of (Err (Fault (Certificate fault))) = []
+out_of (Err Memory) = []
 
 -- the line that tells that memory ran out
 abbrev pub memory_line : List ℕ
@@ -56,29 +58,18 @@ memory_line = codes "machcheck: Memory\n"
 abbrev pub fault_line : List ℕ → List ℕ → List ℕ
 fault_line file fault = codes "machcheck: " ++ (file ++ (codes ": " ++ (fault ++ codes "\n")))
 
--- what a reason gives to standard error
-abbrev pub why_error : Why → List ℕ
-why_error Counts = []
-why_error (MissingFirst fact) = []
-why_error (NotClosed rule fact) = []
-why_error (Forbidden number) = []
-why_error Memory = memory_line
-
 -- the text tells a fault of the file
 abbrev pub IsFaultOf : List ℕ → List ℕ → Type 0
 IsFaultOf file text = (fault : List ℕ) × (text ≡ fault_line file fault)
 
--- what a fault gives to standard error where memory is there: a refusal gives nothing
-abbrev pub IsErrorOf : CheckFiles → TextsFault → List ℕ → Type 0
-IsErrorOf files (Wiring fault) text = IsFaultOf files.wiring.now text
-IsErrorOf files (Policy fault) text = IsFaultOf files.policy.now text
-IsErrorOf files (Certificate fault) text = IsFaultOf files.certificate.now text
-IsErrorOf files (Check refused) text = text ≡ []
-
--- what an answer gives to standard error
-abbrev pub IsError : CheckFiles → Result Case TextsFault → List ℕ → Type 0
+-- the text is what an answer gives to standard error
+abbrev pub IsError : CheckFiles → Result Case (OrMemory TextsFault) → List ℕ → Type 0
 IsError files (Ok case) text = text ≡ []
-IsError files (Err fault) text = (IsMemory fault × (text ≡ memory_line)) ⊎ ((IsMemory fault → ⊥) × IsErrorOf files fault text)
+IsError files (Err (Fault (Check refused))) text = text ≡ []
+IsError files (Err (Fault (Wiring fault))) text = IsFaultOf files.wiring.now text
+IsError files (Err (Fault (Policy fault))) text = IsFaultOf files.policy.now text
+IsError files (Err (Fault (Certificate fault))) text = IsFaultOf files.certificate.now text
+IsError files (Err Memory) text = text ≡ memory_line
 
 -- it is told that memory ran out
 pub record ToldMemory (told : Told) : Type 0 where
@@ -86,60 +77,84 @@ pub record ToldMemory (told : Told) : Type 0 where
   pub out : string_bytes told.out ≡ []
   pub err : string_bytes told.err ≡ memory_line
 
--- a yes is told of three texts, which are accepted
+-- `YES` is told of three texts, and it is right: the checker accepts them
 pub record ToldYes (texts : ThreeTexts) (told : Told) : Type 0 where
   pub case : Case
   pub says : AreAccepted texts case
   pub out : string_bytes told.out ≡ codes "YES\n"
   pub err : string_bytes told.err ≡ []
 
--- a no is told of three texts: they spell a case, and the reason that is told refuses it
+-- `NO` is told of three texts, and it is right: each of them has a meaning, together they are a
+-- case for the checker, and the reason that is told is the one by which the checker refuses the
+-- case
 pub record ToldNo (texts : ThreeTexts) (told : Told) : Type 0 where
   pub case : Case
   pub says : said_by texts ≡ Ok case
   pub why : Why
   pub is_why : IsWhy case.claim case.draft why
-  pub not_memory : why ≢ Memory
   pub out : string_bytes told.out ≡ why_line case.claim.table why
   pub err : string_bytes told.err ≡ []
 
--- the file in which a fault stands
-abbrev pub file_of : CheckFiles → Fault → List ℕ
+-- the file of a text that has no meaning
+abbrev pub file_of : CheckFiles → Meaningless → List ℕ
 file_of files (InWiring fault) = files.wiring.now
-file_of files (InWiringLines fault) = files.wiring.now
 file_of files (InPolicy fault) = files.policy.now
-file_of files (InPolicyLines fault) = files.policy.now
 file_of files (InCertificate fault) = files.certificate.now
 
--- a fault is told of three texts: they spell no case, and the first file that has a fault is named
+-- a fault is told of three texts, and it is right: one of them has no meaning, and the file of the
+-- first such is named
 pub record ToldFault (files : CheckFiles) (texts : ThreeTexts) (told : Told) : Type 0 where
-  pub fault : Fault
+  pub fault : Meaningless
   pub says : said_by texts ≡ Err fault
   pub out : string_bytes told.out ≡ []
   pub err : IsFaultOf (file_of files fault) (string_bytes told.err)
 
--- a yes is told of some three texts
-pub record YesOfSome (told : Told) : Type 0 where
+-- `YES` is told of what the files hold
+pub record YesOfFiles (held : Held) (files : CheckFiles) (told : Told) : Type 0 where
   pub texts : ThreeTexts
+  pub are_held : AreHeld held files texts
   pub yes : ToldYes texts told
 
--- a no is told of some three texts
-pub record NoOfSome (told : Told) : Type 0 where
+-- `NO` is told of what the files hold
+pub record NoOfFiles (held : Held) (files : CheckFiles) (told : Told) : Type 0 where
   pub texts : ThreeTexts
+  pub are_held : AreHeld held files texts
   pub no : ToldNo texts told
 
--- one of the files that the command names
-abbrev pub IsFileOf : CheckFiles → List ℕ → Type 0
-IsFileOf files file = (file ≡ files.wiring.now) ⊎ ((file ≡ files.policy.now) ⊎ (file ≡ files.certificate.now))
+-- a fault is told of what the files hold
+pub record FaultOfTexts (held : Held) (files : CheckFiles) (told : Told) : Type 0 where
+  pub texts : ThreeTexts
+  pub are_held : AreHeld held files texts
+  pub fault : ToldFault files texts told
 
--- a fault is told: that memory ran out, or one of a file that the command names
-pub record FaultOfSome (files : CheckFiles) (told : Told) : Type 0 where
+-- what is told of a file that can't be read, and why
+abbrev pub UnreadTold : List ℕ → ReadFault → Told → Type 0
+UnreadTold file NoMemory told = ToldMemory told
+UnreadTold file TooBig told = (string_bytes told.out ≡ [])
+    × (string_bytes told.err ≡ fault_line file (codes "TooBig"))
+UnreadTold file ReadFailed told = (string_bytes told.out ≡ [])
+    × (string_bytes told.err ≡ fault_line file (codes "ReadFailed"))
+
+-- the first file that can't be read is named
+pub record ToldUnread (held : Held) (files : CheckFiles) (told : Told) : Type 0 where
+  pub file : List ℕ
+  pub first : IsFirstUnread held files file
   pub out : string_bytes told.out ≡ []
-  pub err : (string_bytes told.err ≡ memory_line) ⊎ ((file : List ℕ) × IsFileOf files file × IsFaultOf file (string_bytes told.err))
+  pub err : IsFaultOf file (string_bytes told.err)
 
--- what the command line's reader gives in place of a command: a text for standard output with status 0, one for standard
--- error with status 2, or want of memory
-abbrev pub IsNoCommand : NoCommand → Type 0
-IsNoCommand (TextTold told) =
-    ((told.status ≡ 0) × (string_bytes told.err ≡ [])) ⊎ ((told.status ≡ 2) × (string_bytes told.out ≡ []))
-IsNoCommand NoMemory = Unit {0}
+-- why status 2 is told of files: memory ran out, a file can't be read, or a text has no meaning
+abbrev pub FaultOfFiles : Held → CheckFiles → Told → Type 0
+FaultOfFiles held files told = ToldMemory told
+    ⊎ (ToldUnread held files told ⊎ FaultOfTexts held files told)
+
+-- it is told of some files
+abbrev pub SomeFiles : (CheckFiles → Told → Type 0) → Told → Type 0
+SomeFiles Tells told = (files : CheckFiles) × Tells files told
+
+-- what the program told of files that the command names, and that standard output took all of it:
+-- it held `old`, and holds `new`
+pub record WentOut (Tells : CheckFiles → Told → Type 0) (old new : Option (List ℕ)) : Type 0 where
+  pub files : CheckFiles
+  pub told : Told
+  pub tells : Tells files told
+  pub out : Appends old new (string_bytes told.out)

@@ -1,4 +1,5 @@
-//! `machcheck` answers whether a wired system of tasks can ever pass a forbidden port right to a task.
+//! `machcheck` answers whether a wired system of tasks can ever pass a forbidden port right to a
+//! task.
 #![tactic(auto)]
 
 mod command;
@@ -7,15 +8,20 @@ mod run;
 mod tell;
 #[cfg(test)]
 mod tests;
+mod told;
+mod words;
 
-use std::io;
 use std::process::ExitCode;
 
-fn main(rt: HostRuntime) -> io::Result<ExitCode> {
-    let alloc = rt.alloc();
-    let words: Vec<String> = std::env::args(&rt)?.collect(alloc)?;
+fn main(rt: HostRuntime) -> ExitCode {
     let mut out = rt.stdout();
     let mut err = rt.stderr();
-    let status = run::run(&rt, alloc, words.as_slice(), &mut out, &mut err);
-    Ok(ExitCode::from(status))
+    let status = run::start(
+        &files::Disk(&rt),
+        rt.alloc(),
+        words::words_of(&rt),
+        &mut out,
+        &mut err,
+    );
+    ExitCode::from(status)
 }

@@ -1,21 +1,26 @@
 //! The program from its words to its status.
 
-ghost use Rattle.std.specs.Prelude.{◌≡◌, ◌≢◌, ◌≤◌, ◌⊎◌, [], IfOk, IfErr, string_bytes};
+ghost use Rattle.std.specs.Prelude.{◌≡◌, ◌≢◌, ◌≤◌, ◌⊎◌, [], IfOk, IfErr, IsOkAnd, map};
+ghost use Rattle.std.specs.Prelude.{string_bytes};
 ghost use Rattle.std.specs.Io.KnownBytes.{Appends};
 ghost use Rattle.mrc_check.specs.Verdict.{Case};
-ghost use Rattle.mrc_check.specs.Texts.{IsMemory, Tells};
+ghost use Rattle.mrc_check.specs.Texts.{Tells};
 ghost use Rattle.machcheck.specs.Texts.{AreAccepted, said_by};
-ghost use Rattle.machcheck.specs.Told.{ToldYes, ToldNo, ToldMemory, ToldFault, IsFileOf, YesOfSome, NoOfSome, FaultOfSome};
-ghost use Rattle.machcheck.specs.declared.tell.Told.{Told};
+ghost use Rattle.machcheck.specs.Files.{HasBytes, AreHeld, Fits, Exceeds, IsFirstUnread};
+ghost use Rattle.machcheck.specs.Told.{ToldYes, ToldNo, ToldMemory, ToldFault, YesOfFiles};
+ghost use Rattle.machcheck.specs.Told.{NoOfFiles, FaultOfFiles, SomeFiles, UnreadTold, WentOut};
+ghost use Rattle.machcheck.specs.CommandLine.{AsksHelp};
 
 use crate::command::{CheckFiles, Command, NoCommand, read};
-use crate::files::{ReadFault, read_file, write_text};
-use crate::tell::{Told, fault_of, memory, verdict};
+use crate::files::{Folder, ReadFault, read_file, write_text};
+use crate::tell::verdict;
+use crate::told::{Told, fault_of, memory};
+use crate::words::{WordsFault, words_line};
+use mrc_base::OrMemory;
 use mrc_check::{Confined, TextsFault, check_texts};
 use std::alloc::{AllocError, Global};
 use std::io::Write;
 use std::marker::Model;
-use std::rt::Files;
 
 /// The bytes of the files of a `check`.
 #[derive(Drop)]
@@ -30,7 +35,11 @@ impl Model for CheckBytes {
 
     ghost Value = { ThreeTexts };
 
-    ghost view = { λ b. record { wiring = b.wiring.items; policy = b.policy.items; certificate = b.certificate.items } };
+    ghost view = { λ b. record {
+      wiring = b.wiring.items;
+      policy = b.policy.items;
+      certificate = b.certificate.items;
+    } };
 }
 
 /// A file that could not be read, and why.
@@ -40,26 +49,34 @@ struct Unread<'a> {
     fault: ReadFault,
 }
 
-fn bytes_of<'a, R: Files>(rt: &R, alloc: Global, file: &'a str) -> Result<Vec<u8>, Unread<'a>>
-    ensures { IfErr result (λ unread. unread.file.now ≡ file.now) }
+fn bytes_of<'a, F: Folder>(folder: &F, alloc: Global, file: &'a str) -> Result<Vec<u8>, Unread<'a>>
+    ensures held { IfOk result (λ bytes. HasBytes (F.held folder.now) file.now bytes.items) }
+    ensures fits { IfOk result (λ bytes. Fits (F.held folder.now) file.now) }
+    ensures named { IfErr result (λ unread. unread.file.now ≡ file.now) }
+    ensures too_big { IfErr result (λ unread. unread.fault ≡ ReadFault.TooBig
+        → Exceeds (F.held folder.now) file.now) }
 {
-    match read_file(rt, alloc, file) {
+    match read_file(folder, alloc, file) {
         Ok(bytes) => Ok(bytes),
         Err(fault) => Err(Unread { file, fault }),
     }
 }
 
-/// All files are read before any is judged.
-fn check_bytes<'a, R: Files>(
-    rt: &R,
+/// All files are read before any is judged, in the order wiring, policy, certificate.
+fn check_bytes<'a, F: Folder>(
+    folder: &F,
     alloc: Global,
     files: &CheckFiles<'a>,
 ) -> Result<CheckBytes, Unread<'a>>
-    ensures { IfErr result (λ unread. IsFileOf files.now unread.file.now) }
+    ensures held { IfOk result (AreHeld (F.held folder.now) files.now) }
+    ensures first { IfErr result
+        (λ unread. IsFirstUnread (F.held folder.now) files.now unread.file.now) }
+    ensures too_big { IfErr result (λ unread. unread.fault ≡ ReadFault.TooBig
+        → Exceeds (F.held folder.now) unread.file.now) }
 {
-    let wiring = bytes_of(rt, alloc, files.wiring)?;
-    let policy = bytes_of(rt, alloc, files.policy)?;
-    let certificate = bytes_of(rt, alloc, files.certificate)?;
+    let wiring = bytes_of(folder, alloc, files.wiring)?;
+    let policy = bytes_of(folder, alloc, files.policy)?;
+    let certificate = bytes_of(folder, alloc, files.certificate)?;
     Ok(CheckBytes {
         wiring,
         policy,
@@ -68,9 +85,10 @@ fn check_bytes<'a, R: Files>(
 }
 
 /// The checker's answer to the bytes of three files.
-fn answer_of(alloc: Global, bytes: &CheckBytes) -> Result<Confined, TextsFault>
+fn answer_of(alloc: Global, bytes: &CheckBytes) -> Result<Confined, OrMemory<TextsFault>>
     ensures yes { IfOk result (AreAccepted bytes.now) }
-    ensures only { (case : Case) → AreAccepted bytes.now case → IfErr result IsMemory }
+    ensures only { (case : Case) → AreAccepted bytes.now case
+        → IfErr result (λ refusal. refusal ≡ OrMemory.Memory) }
     ensures told { Tells result (said_by bytes.now) }
 {
     check_texts(
@@ -99,48 +117,65 @@ fn told_of(alloc: Global, files: &CheckFiles<'_>, bytes: &CheckBytes) -> Result<
     verdict(alloc, files, &answer)
 }
 
-fn check_files<R: Files>(rt: &R, alloc: Global, files: &CheckFiles<'_>) -> Result<Told, AllocError>
-    ensures status { IfOk result (λ told. told.status ≤ 2) }
-    // A yes or a no is told of some three texts.
-    ensures yes { IfOk result (λ told. told.status ≡ 0 → YesOfSome told) }
-    ensures no { IfOk result (λ told. told.status ≡ 1 → NoOfSome told) }
-    ensures fault { IfOk result (λ told. told.status ≡ 2 → FaultOfSome files.now told) }
+/// What is told of a file that could not be read. Want of memory is no file's fault.
+fn unread_told(alloc: Global, unread: &Unread<'_>) -> Result<Told, AllocError>
+    ensures status { IfOk result (λ told. told.status ≡ 2) }
+    ensures told { IfOk result (UnreadTold unread.now.file.now unread.now.fault) }
 {
-    let bytes = match check_bytes(rt, alloc, files) {
-        Ok(bytes) => bytes,
-        Err(
-            Unread {
-                fault: ReadFault::Memory,
-                ..
-            },
-        ) => return memory(alloc),
-        Err(unread) => {
-            let fault = unread.fault.to_string(alloc)?;
-            return fault_of(alloc, unread.file, fault.as_str());
-        }
-    };
-    told_of(alloc, files, &bytes)
+    match unread.fault {
+        ReadFault::Memory => memory(alloc),
+        ReadFault::TooBig => fault_of(alloc, unread.file, "TooBig"),
+        ReadFault::ReadFailed => fault_of(alloc, unread.file, "ReadFailed"),
+    }
 }
 
-fn told<R: Files>(rt: &R, alloc: Global, words: &[String]) -> Result<Told, AllocError>
+/// What is told of the files of a `check`.
+fn check_files<F: Folder>(
+    folder: &F,
+    alloc: Global,
+    files: &CheckFiles<'_>,
+) -> Result<Told, AllocError>
     ensures status { IfOk result (λ told. told.status ≤ 2) }
-    // A no is told of some three texts.
-    ensures no { IfOk result (λ told. told.status ≡ 1 → NoOfSome told) }
+    // A yes or a no is right of what the files hold, so far as that is known.
+    ensures yes { IfOk result (λ told. told.status ≡ 0
+        → YesOfFiles (F.held folder.now) files.now told) }
+    ensures no { IfOk result (λ told. told.status ≡ 1
+        → NoOfFiles (F.held folder.now) files.now told) }
+    ensures fault { IfOk result (λ told. told.status ≡ 2
+        → FaultOfFiles (F.held folder.now) files.now told) }
+{
+    match check_bytes(folder, alloc, files) {
+        Ok(bytes) => told_of(alloc, files, &bytes),
+        Err(unread) => unread_told(alloc, &unread),
+    }
+}
+
+/// What is told of the words of a command line.
+fn told<F: Folder>(folder: &F, alloc: Global, words: &[String]) -> Result<Told, AllocError>
+    ensures status { IfOk result (λ told. told.status ≤ 2) }
+    // Status 0 is that of a yes, unless the words ask for help or the version.
+    ensures yes { IfOk result (λ told. told.status ≡ 0
+        → SomeFiles (YesOfFiles (F.held folder.now)) told ⊎ AsksHelp (map string_bytes words.now)) }
+    ensures no { IfOk result (λ told. told.status ≡ 1
+        → SomeFiles (NoOfFiles (F.held folder.now)) told) }
     ensures fault { IfOk result (λ told. told.status ≡ 2 → string_bytes told.out ≡ []) }
 {
     match read(alloc, words) {
-        Ok(Command::Check(files)) => check_files(rt, alloc, &files),
+        Ok(Command::Check(files)) => check_files(folder, alloc, &files),
         Err(NoCommand::Told(told)) => Ok(told),
         Err(NoCommand::Memory) => memory(alloc),
     }
 }
 
-/// Writes what is told. Where standard output does not take it, that is told on standard error in its place.
+/// Writes what is told. Where standard output does not take it, that is told on standard error in
+/// its place.
 fn write_told<O: Write, E: Write>(alloc: Global, told: &Told, out: &mut O, err: &mut E) -> u8
     ensures status { (result ≡ told.now.status) ⊎ (result ≡ 2) }
     // Another status than 2 says that all went out.
-    ensures out { result ≢ 2 → Appends (O.contents out.old) (O.contents out.new) (string_bytes told.now.out) }
-    ensures err { result ≢ 2 → Appends (E.contents err.old) (E.contents err.new) (string_bytes told.now.err) }
+    ensures out { result ≢ 2 → Appends (O.contents out.old) (O.contents out.new)
+        (string_bytes told.now.out) }
+    ensures err { result ≢ 2 → Appends (E.contents err.old) (E.contents err.new)
+        (string_bytes told.now.err) }
 {
     let status = match write_text(out, told.out.as_bytes()) {
         Ok(()) => told.status,
@@ -157,24 +192,58 @@ fn write_told<O: Write, E: Write>(alloc: Global, told: &Told, out: &mut O, err: 
     }
 }
 
-/// Runs the program on the words of a command line, its own name first. The status is 0 for `YES`, 1 for `NO`, and 2
-/// for a fault.
-pub fn run<R: Files, O: Write, E: Write>(
-    rt: &R,
+/// Runs the program on the words of a command line, its own name first, and on the files of a
+/// folder. The status is 0 for `YES` and for help and the version, 1 for `NO`, and 2 for a fault.
+pub fn run<F: Folder, O: Write, E: Write>(
+    folder: &F,
     alloc: Global,
     words: &[String],
     out: &mut O,
     err: &mut E,
 ) -> u8
     ensures status { result ≤ 2 }
-    // A no that went out is right of some three texts.
-    ensures no { result ≡ 1 → (told : Told)
-        × NoOfSome told × Appends (O.contents out.old) (O.contents out.new) (string_bytes told.out) }
+    // With status 0 a yes went out that is right of what the files hold, unless the words ask for
+    // help or the version.
+    ensures yes { result ≡ 0
+        → WentOut (YesOfFiles (F.held folder.now)) (O.contents out.old) (O.contents out.new)
+        ⊎ AsksHelp (map string_bytes words.now) }
+    // With status 1 a no went out that is right of what the files hold.
+    ensures no { result ≡ 1
+        → WentOut (NoOfFiles (F.held folder.now)) (O.contents out.old) (O.contents out.new) }
 {
-    match told(rt, alloc, words) {
+    match told(folder, alloc, words) {
         Ok(told) => write_told(alloc, &told, out, err),
         Err(AllocError) => {
             let _ = write_text(err, b"machcheck: Memory\n");
+            2
+        }
+    }
+}
+
+/// Runs the program on the words of a command line, or tells why they can't be had. The status is
+/// that of [`run`], or 2.
+pub fn start<F: Folder, O: Write, E: Write>(
+    folder: &F,
+    alloc: Global,
+    words: Result<Vec<String>, WordsFault>,
+    out: &mut O,
+    err: &mut E,
+) -> u8
+    ensures status { result ≤ 2 }
+    ensures fault { IfErr words (λ _. result ≡ 2) }
+    // With status 0 a yes went out that is right of what the files hold, unless the words ask for
+    // help or the version.
+    ensures yes { result ≡ 0
+        → WentOut (YesOfFiles (F.held folder.now)) (O.contents out.old) (O.contents out.new)
+        ⊎ IsOkAnd words (λ given. AsksHelp (map string_bytes given.items)) }
+    // With status 1 a no went out that is right of what the files hold.
+    ensures no { result ≡ 1
+        → WentOut (NoOfFiles (F.held folder.now)) (O.contents out.old) (O.contents out.new) }
+{
+    match words {
+        Ok(words) => run(folder, alloc, words.as_slice(), out, err),
+        Err(fault) => {
+            let _ = write_text(err, words_line(fault));
             2
         }
     }

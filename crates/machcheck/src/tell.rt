@@ -1,129 +1,22 @@
-//! What the program says of a verdict.
+//! What the program tells of the checker's answer.
 
-ghost use Rattle.std.specs.Prelude.{◌≡◌, ◌↔◌, ◌++◌, [], IsTrue, IfOk, codes, string_bytes};
-ghost use Rattle.mrc_wiring.specs.Names.{shown_label};
-ghost use Rattle.mrc_check.specs.Texts.{IsMemory};
-ghost use Rattle.machcheck.specs.Words.{right_word, label_word, class_word, fact_text};
-ghost use Rattle.machcheck.specs.Told.{why_status, why_line, why_error, status_of, out_of, memory_line, fault_line, IsErrorOf, IsError};
+ghost use Rattle.std.specs.Prelude.{◌≡◌, [], IfOk, string_bytes};
+ghost use Rattle.mrc_base.specs.declared.memory.OrMemory.TheVariants.{Fault};
+ghost use Rattle.machcheck.specs.Told.{why_line, status_of, out_of, IsError};
 
 use crate::command::CheckFiles;
-use mrc_base::{ClassId, Fact, PortRight, TaskId};
-use mrc_certificate::DraftFault;
-use mrc_check::{Confined, PolicyFault, Refused, TextsFault, Why, WiringFault};
-use mrc_wiring::{ClaimFault, ClassKind, ClassLabel, ResolveFault, Wired};
-use mrc_wiring_text::TextFault;
+use crate::told::{Told, fault_of, memory, said};
+use mrc_base::OrMemory;
+use mrc_check::{Confined, Refused, TextsFault, Why};
+use mrc_words::fact_text;
 use std::alloc::{AllocError, Global};
 
-/// What the program ends with.
-#[derive(Drop)]
-pub struct Told {
-    /// What goes to standard output.
-    pub out: String,
-    /// What goes to standard error.
-    pub err: String,
-    pub status: u8,
-}
-
-fn said(alloc: Global, out: String, status: u8) -> Told
-    ensures status { result.status ≡ status }
-    ensures out { string_bytes result.out ≡ string_bytes out }
-    ensures err { string_bytes result.err ≡ [] }
-{
-    Told {
-        out,
-        err: String::new(alloc),
-        status,
-    }
-}
-
-/// A fault of a file.
-pub fn fault_of(alloc: Global, file: &str, fault: &str) -> Result<Told, AllocError>
-    ensures status { IfOk result (λ told. told.status ≡ 2) }
-    ensures out { IfOk result (λ told. string_bytes told.out ≡ []) }
-    ensures err { IfOk result (λ told. string_bytes told.err ≡ fault_line file.now fault.now) }
-{
-    Ok(Told {
-        out: String::new(alloc),
-        err: format!(in alloc; "machcheck: {file}: {fault}\n")?,
-        status: 2,
-    })
-}
-
-/// There was no memory.
-pub fn memory(alloc: Global) -> Result<Told, AllocError>
-    ensures status { IfOk result (λ told. told.status ≡ 2) }
-    ensures out { IfOk result (λ told. string_bytes told.out ≡ []) }
-    ensures err { IfOk result (λ told. string_bytes told.err ≡ memory_line) }
-{
-    Ok(Told {
-        out: String::new(alloc),
-        err: String::from_str(alloc, "machcheck: Memory\n")?,
-        status: 2,
-    })
-}
-
-fn right_word(right: PortRight) -> &'static str
-    ensures { result.now ≡ right_word right }
-{
-    match right {
-        PortRight::Send => "send",
-        PortRight::Receive => "receive",
-        PortRight::SendOnce => "once",
-    }
-}
-
-fn label_word(alloc: Global, label: ClassLabel<'_>) -> Result<String, AllocError>
-    ensures { IfOk result (λ text. string_bytes text ≡ label_word (shown_label label.entry)) }
-{
-    let task = label.task;
-    match label.kind {
-        ClassKind::Task => format!(in alloc; "task:{task}"),
-        ClassKind::Births => format!(in alloc; "births:{task}"),
-    }
-}
-
-fn class_word(alloc: Global, wired: &Wired, class: ClassId) -> Result<String, AllocError>
-    ensures { IfOk result (λ text. string_bytes text ≡ class_word wired.now class) }
-{
-    match wired.class_name(class) {
-        Some(label) => label_word(alloc, label),
-        None => format!(in alloc; "{}", class.0),
-    }
-}
-
-/// A fact as it is printed, by the names of the wiring.
-pub fn fact_text(alloc: Global, wired: &Wired, fact: Fact) -> Result<String, AllocError>
-    ensures { IfOk result (λ text. string_bytes text ≡ fact_text wired.now fact) }
-{
-    match fact {
-        Fact::Hold { task, class, right } => {
-            let holder = wired.task_name(TaskId(u32::from(task))).unwrap_or("?");
-            let class = class_word(alloc, wired, class)?;
-            let right = right_word(right);
-            format!(in alloc; "hold {holder} {class} {right}")
-        }
-        Fact::Carry {
-            destination,
-            class,
-            right,
-        } => {
-            let destination = class_word(alloc, wired, destination)?;
-            let class = class_word(alloc, wired, class)?;
-            let right = right_word(right);
-            format!(in alloc; "carry {destination} {class} {right}")
-        }
-        Fact::Backup { class, notify } => {
-            let class = class_word(alloc, wired, class)?;
-            let notify = class_word(alloc, wired, notify)?;
-            format!(in alloc; "backup {class} {notify}")
-        }
-    }
-}
-
-fn refusal(alloc: Global, refused: &Refused) -> Result<Told, AllocError>
-    ensures status { IfOk result (λ told. told.status ≡ why_status refused.now.why) }
-    ensures out { IfOk result (λ told. string_bytes told.out ≡ why_line refused.now.claim.table refused.now.why) }
-    ensures err { IfOk result (λ told. string_bytes told.err ≡ why_error refused.now.why) }
+/// What is told of a refusal: the reason.
+fn refusal(alloc: Global, refused: &Refused<Why>) -> Result<Told, AllocError>
+    ensures status { IfOk result (λ told. told.status ≡ 1) }
+    ensures out { IfOk result
+        (λ told. string_bytes told.out ≡ why_line refused.now.claim.table refused.now.why) }
+    ensures err { IfOk result (λ told. string_bytes told.err ≡ []) }
 {
     let wired = refused.claim.wired();
     let line = match refused.why {
@@ -138,30 +31,17 @@ fn refusal(alloc: Global, refused: &Refused) -> Result<Told, AllocError>
             format!(in alloc; "NO not closed K{rule} {fact}\n")?
         }
         Why::Forbidden(number) => format!(in alloc; "NO forbidden line {number}\n")?,
-        Why::Memory => return memory(alloc),
     };
     Ok(said(alloc, line, 1))
 }
 
-/// Whether memory ran out.
-fn is_memory(fault: &TextsFault) -> bool
-    ensures { IsTrue result ↔ IsMemory fault.now }
-{
-    match fault {
-        TextsFault::Wiring(WiringFault::Text(fault)) => *fault == TextFault::Memory,
-        TextsFault::Wiring(WiringFault::Lines(fault)) => *fault == ResolveFault::Memory,
-        TextsFault::Policy(PolicyFault::Text(fault)) => *fault == TextFault::Memory,
-        TextsFault::Policy(PolicyFault::Lines(fault)) => *fault == ClaimFault::Memory,
-        TextsFault::Certificate(fault) => *fault == DraftFault::Memory,
-        TextsFault::Check(refused) => refused.why == Why::Memory,
-    }
-}
-
-/// What is told of a fault where memory is there.
+/// What is told of three texts that are not accepted: the file that has no meaning with its fault,
+/// or the reason of a refusal.
 fn fault_told(alloc: Global, files: &CheckFiles<'_>, fault: &TextsFault) -> Result<Told, AllocError>
-    ensures status { IfOk result (λ told. told.status ≡ status_of (Err fault.now)) }
-    ensures out { IfOk result (λ told. string_bytes told.out ≡ out_of (Err fault.now)) }
-    ensures err { IfOk result (λ told. (IsMemory fault.now → ⊥) → IsErrorOf files.now fault.now (string_bytes told.err)) }
+    ensures status { IfOk result (λ told. told.status ≡ status_of (Err (Fault fault.now))) }
+    ensures out { IfOk result (λ told. string_bytes told.out ≡ out_of (Err (Fault fault.now))) }
+    ensures err { IfOk result
+        (λ told. IsError files.now (Err (Fault fault.now)) (string_bytes told.err)) }
 {
     match fault {
         TextsFault::Check(refused) => refusal(alloc, refused),
@@ -180,11 +60,11 @@ fn fault_told(alloc: Global, files: &CheckFiles<'_>, fault: &TextsFault) -> Resu
     }
 }
 
-/// What the program says of three texts. Want of memory is no file's fault.
+/// What is told of the checker's answer to three texts. Want of memory is no file's fault.
 pub fn verdict(
     alloc: Global,
     files: &CheckFiles<'_>,
-    answer: &Result<Confined, TextsFault>,
+    answer: &Result<Confined, OrMemory<TextsFault>>,
 ) -> Result<Told, AllocError>
     ensures status { IfOk result (λ told. told.status ≡ status_of answer.now) }
     ensures out { IfOk result (λ told. string_bytes told.out ≡ out_of answer.now) }
@@ -192,12 +72,7 @@ pub fn verdict(
 {
     match answer {
         Ok(_) => Ok(said(alloc, String::from_str(alloc, "YES\n")?, 0)),
-        Err(fault) => {
-            if is_memory(fault) {
-                memory(alloc)
-            } else {
-                fault_told(alloc, files, fault)
-            }
-        }
+        Err(OrMemory::Fault(fault)) => fault_told(alloc, files, fault),
+        Err(OrMemory::Memory) => memory(alloc),
     }
 }

@@ -1,8 +1,12 @@
 //! The program on worked cases: standard output, standard error and status.
 
-use crate::run::run;
+use crate::files::{Disk, Folder, ReadFault, WriteFault, read_all, write_text};
+use crate::run::{run, start};
+use crate::words::{WordsFault, words_of};
 use std::alloc::Global;
-use std::io::Write;
+use std::cell::Cell;
+use std::env::{Env, FillError};
+use std::io::{ErrorKind, Read, Write};
 use std::process::Abort;
 use std::test::Fail;
 use std::{fs, io};
@@ -73,7 +77,7 @@ fn run_words(rt: &HostRuntime, words: &[String]) -> Outcome {
     let alloc = rt.alloc();
     let mut out = Vec::new(alloc);
     let mut err = Vec::new(alloc);
-    let status = run(rt, alloc, words, &mut out, &mut err);
+    let status = run(&Disk(rt), alloc, words, &mut out, &mut err);
     Outcome { out, err, status }
 }
 
@@ -281,7 +285,7 @@ fn standard_output_that_fails(rt: HostRuntime) -> Result<(), Fail> {
     let mut out = Failing { left: 2 };
     let mut err = Vec::new(alloc);
     let status = run(
-        &rt,
+        &Disk(&rt),
         alloc,
         words(alloc, folder)?.as_slice(),
         &mut out,
@@ -292,22 +296,351 @@ fn standard_output_that_fails(rt: HostRuntime) -> Result<(), Fail> {
     Ok(())
 }
 
+fn line(alloc: Global, words: &[&str]) -> Result<Vec<String>, Fail> {
+    let mut line = Vec::new(alloc);
+    for word in words {
+        line.push(String::from_str(alloc, word)?)?;
+    }
+    Ok(line)
+}
+
 #[test]
 fn the_command_line(rt: HostRuntime) -> Result<(), Fail> {
     let alloc = rt.alloc();
-    let mut version = Vec::new(alloc);
-    version.push(String::from_str(alloc, "machcheck")?)?;
-    version.push(String::from_str(alloc, "--version")?)?;
-    let told = run_words(&rt, version.as_slice());
+    let told = run_words(&rt, line(alloc, &["machcheck", "--version"])?.as_slice());
     assert_eq!(rt; told.out.as_slice(), b"machcheck 0.1.0\n".as_slice());
     assert_eq!(rt; told.status, 0);
 
-    let mut wrong = Vec::new(alloc);
-    wrong.push(String::from_str(alloc, "machcheck")?)?;
-    wrong.push(String::from_str(alloc, "check")?)?;
-    let told = run_words(&rt, wrong.as_slice());
+    let told = run_words(&rt, line(alloc, &["machcheck", "check"])?.as_slice());
     assert!(rt; told.err.as_slice().starts_with(b"error: ".as_slice()));
     assert_eq!(rt; told.out.as_slice(), b"".as_slice());
     assert_eq!(rt; told.status, 2);
+    Ok(())
+}
+
+/// Help goes to standard output with status 0, and has each of the lines.
+fn tells_help(
+    rt: &HostRuntime,
+    abort: &impl Abort,
+    words: &[&str],
+    lines: &[&str],
+) -> Result<(), Fail> {
+    let told = run_words(rt, line(rt.alloc(), words)?.as_slice());
+    let text = std::str::from_utf8(told.out.as_slice()).map_err(|_| "no text")?;
+    for line in lines {
+        assert!(abort; text.contains(*line), "{line}");
+    }
+    assert_eq!(abort; told.err.as_slice(), b"".as_slice());
+    assert_eq!(abort; told.status, 0);
+    Ok(())
+}
+
+#[test]
+fn help(rt: HostRuntime) -> Result<(), Fail> {
+    let program = [
+        "Checks that no task of a wired Mach 3 system can ever obtain a forbidden port right",
+        "check",
+        "Exit status of each command:",
+        "  0  YES was printed",
+        "  1  NO was printed",
+        "  2  a fault was told on standard error",
+        "README.md",
+        "docs/ARCHITECTURE.md",
+    ];
+    tells_help(&rt, &rt, &["machcheck", "--help"], &program)?;
+    tells_help(&rt, &rt, &["machcheck", "help"], &program)?;
+    tells_help(
+        &rt,
+        &rt,
+        &["machcheck", "check", "--help"],
+        &[
+            "Says whether a certificate shows that no forbidden right can be obtained",
+            "--wiring <FILE>",
+            "--policy <FILE>",
+            "--cert <FILE>",
+            "a wiring has the tasks and the rights that they hold at first",
+            "a policy has who must never hold what",
+            "a certificate has who may come to hold what",
+            "  0  YES",
+            "  1  NO",
+            "  2  a fault on standard error",
+            "README.md",
+            "docs/ARCHITECTURE.md",
+        ],
+    )
+}
+
+/// A writer that fails as each of its turns says: it is interrupted, takes a byte, or fails.
+#[derive(Drop)]
+struct Turned<'a> {
+    turns: &'a [Option<ErrorKind>],
+    taken: Vec<u8>,
+}
+
+impl Write for Turned<'_> {
+    fn write(&mut self, buf: &[u8]) -> io::Result<usize> {
+        let (Some((turn, later)), Some(byte)) = (self.turns.split_first(), buf.first()) else {
+            return Ok(0);
+        };
+        self.turns = later;
+        match turn {
+            Some(kind) => Err(io::Error::from(*kind)),
+            None => {
+                self.taken.push(*byte)?;
+                Ok(1)
+            }
+        }
+    }
+
+    fn flush(&mut self) -> io::Result<()> {
+        let Some((turn, later)) = self.turns.split_first() else {
+            return Ok(());
+        };
+        self.turns = later;
+        match turn {
+            Some(kind) => Err(io::Error::from(*kind)),
+            None => Ok(()),
+        }
+    }
+}
+
+// A write and a flush that are interrupted are tried again; a write that fails is not.
+#[test]
+fn interrupted_writes(rt: HostRuntime) -> Result<(), Fail> {
+    let alloc = rt.alloc();
+    let again = Some(ErrorKind::Interrupted);
+    let broken = Some(ErrorKind::BrokenPipe);
+    let whole = [again, None, again, None, again, None];
+    let cut = [again, None, again, broken, None];
+    let unflushed = [None, None, again, broken];
+    let table = [
+        (whole.as_slice(), b"ab".as_slice(), Ok(())),
+        (
+            cut.as_slice(),
+            b"a".as_slice(),
+            Err(WriteFault { written: 1 }),
+        ),
+        (
+            unflushed.as_slice(),
+            b"ab".as_slice(),
+            Err(WriteFault { written: 2 }),
+        ),
+    ];
+    for (turns, taken, want) in table {
+        let mut writer = Turned {
+            turns,
+            taken: Vec::new(alloc),
+        };
+        assert_eq!(rt; write_text(&mut writer, b"ab"), want);
+        assert_eq!(rt; writer.taken.as_slice(), taken);
+    }
+    Ok(())
+}
+
+/// A reader that gives so many zeros, and then the end or an error.
+#[derive(Drop)]
+struct Zeros {
+    left: usize,
+    last: Option<ErrorKind>,
+}
+
+impl Read for Zeros {
+    fn read(&mut self, buf: &mut [u8]) -> io::Result<usize> {
+        if self.left == 0 {
+            return match self.last {
+                Some(kind) => Err(io::Error::from(kind)),
+                None => Ok(0),
+            };
+        }
+        let count = self.left.min(buf.len());
+        buf[..count].fill(0);
+        self.left -= count;
+        Ok(count)
+    }
+}
+
+// The limit itself is allowed; want of memory is no failed read.
+#[test]
+fn reading_to_the_limit(rt: HostRuntime) -> Result<(), Fail> {
+    let alloc = rt.alloc();
+    for (left, last, want) in [
+        (0, None, Ok(0)),
+        (4, None, Ok(4)),
+        (5, None, Err(ReadFault::TooBig)),
+        (9, Some(ErrorKind::BrokenPipe), Err(ReadFault::TooBig)),
+        (3, Some(ErrorKind::BrokenPipe), Err(ReadFault::ReadFailed)),
+        (3, Some(ErrorKind::OutOfMemory), Err(ReadFault::Memory)),
+    ] {
+        let read = read_all(alloc, Zeros { left, last }, 4);
+        assert_eq!(rt; read.map(|bytes| bytes.len()), want);
+    }
+    Ok(())
+}
+
+/// Three files, each named by its first letter, and the order in which they were opened.
+#[derive(Drop)]
+struct Shelf<'a> {
+    wiring: Result<&'a [u8], ErrorKind>,
+    policy: Result<&'a [u8], ErrorKind>,
+    certificate: Result<&'a [u8], ErrorKind>,
+    opened: Cell<u32>,
+}
+
+impl<'a> Folder for Shelf<'a> {
+    ghost use Rattle.std.specs.Prelude.{None};
+
+    type File = &'a [u8];
+
+    ghost held = { λ _ _. None };
+
+    fn open(&self, name: &str) -> io::Result<&'a [u8]> {
+        let (place, file) = match name {
+            "w" => (1, self.wiring),
+            "p" => (2, self.policy),
+            "c" => (3, self.certificate),
+            _ => return Err(io::Error::from(ErrorKind::NotFound)),
+        };
+        self.opened
+            .set(self.opened.get().wrapping_mul(10).wrapping_add(place));
+        file.map_err(io::Error::from)
+    }
+}
+
+const CHECK: [&str; 8] = [
+    "machcheck",
+    "check",
+    "--cert",
+    "c",
+    "--policy",
+    "p",
+    "--wiring",
+    "w",
+];
+
+/// What is told of three files, and the order in which they were opened.
+fn of_shelf(alloc: Global, shelf: &Shelf<'_>) -> Result<(Outcome, u32), Fail> {
+    let mut out = Vec::new(alloc);
+    let mut err = Vec::new(alloc);
+    let words = line(alloc, &CHECK)?;
+    let status = run(shelf, alloc, words.as_slice(), &mut out, &mut err);
+    Ok((Outcome { out, err, status }, shelf.opened.get()))
+}
+
+// Wiring, policy, certificate: the first that can't be read is told, and none after it is opened.
+#[test]
+fn files_are_read_in_order(rt: HostRuntime) -> Result<(), Fail> {
+    let alloc = rt.alloc();
+    let wiring = ONE.as_bytes();
+    let policy = NOTHING.as_bytes();
+    let denied = Err(ErrorKind::PermissionDenied);
+    let full = Err(ErrorKind::OutOfMemory);
+    for (wiring, policy, certificate, want, order) in [
+        (
+            Ok(wiring),
+            Ok(policy),
+            Ok(ALONE.as_slice()),
+            b"".as_slice(),
+            123,
+        ),
+        (
+            denied,
+            denied,
+            denied,
+            b"machcheck: w: ReadFailed\n".as_slice(),
+            1,
+        ),
+        (
+            Ok(wiring),
+            denied,
+            denied,
+            b"machcheck: p: ReadFailed\n".as_slice(),
+            12,
+        ),
+        (
+            Ok(wiring),
+            Ok(policy),
+            denied,
+            b"machcheck: c: ReadFailed\n".as_slice(),
+            123,
+        ),
+        (
+            Ok(wiring),
+            full,
+            denied,
+            b"machcheck: Memory\n".as_slice(),
+            12,
+        ),
+    ] {
+        let shelf = Shelf {
+            wiring,
+            policy,
+            certificate,
+            opened: Cell::new(0),
+        };
+        let (told, opened) = of_shelf(alloc, &shelf)?;
+        assert_eq!(rt; told.err.as_slice(), want);
+        assert_eq!(rt; opened, order);
+        assert_eq!(rt; told.status, if want.is_empty() { 0 } else { 2 });
+    }
+    Ok(())
+}
+
+/// Words as a system may give them.
+#[derive(Drop)]
+struct GivenWords<'a> {
+    words: &'a [&'a [u8]],
+}
+
+impl Env for GivenWords<'_> {
+    fn arg(&self, i: usize, buf: &mut [u8]) -> Result<usize, FillError> {
+        let word = self.words.get(i).ok_or(FillError::NotPresent)?;
+        if word.len() > buf.len() {
+            return Err(FillError::TooLong);
+        }
+        buf[..word.len()].copy_from_slice(word);
+        Ok(word.len())
+    }
+
+    fn var(&self, _name: &str, _buf: &mut [u8]) -> Result<usize, FillError> {
+        Err(FillError::NotPresent)
+    }
+
+    fn var_at(&self, _i: usize, _buf: &mut [u8]) -> Result<usize, FillError> {
+        Err(FillError::NotPresent)
+    }
+}
+
+// Words that are no text, and want of memory for them, are faults, with status 2 and not 1.
+#[test]
+fn words_that_cannot_be_had(rt: HostRuntime) -> Result<(), Fail> {
+    let alloc = rt.alloc();
+    let system = (
+        GivenWords {
+            words: &[b"machcheck".as_slice(), b"\xff".as_slice()],
+        },
+        alloc,
+    );
+    assert!(rt; words_of(&system).is_err_and(|fault| fault == WordsFault::NotUtf8));
+    let system = (
+        GivenWords {
+            words: &[b"machcheck".as_slice(), b"--version".as_slice()],
+        },
+        alloc,
+    );
+    assert!(rt; words_of(&system).is_ok_and(|words| words.len() == 2));
+    for (fault, want) in [
+        (
+            WordsFault::NotUtf8,
+            b"machcheck: arguments: NotUtf8\n".as_slice(),
+        ),
+        (WordsFault::Memory, b"machcheck: Memory\n".as_slice()),
+    ] {
+        let mut out = Vec::new(alloc);
+        let mut err = Vec::new(alloc);
+        let status = start(&Disk(&rt), alloc, Err(fault), &mut out, &mut err);
+        assert_eq!(rt; err.as_slice(), want);
+        assert_eq!(rt; out.as_slice(), b"".as_slice());
+        assert_eq!(rt; status, 2);
+    }
     Ok(())
 }

@@ -1,6 +1,7 @@
-use Rattle.machcheck.proofs.ToldLaws.{some_fault}
+use Rattle.machcheck.proofs.ToldLaws.{unread_fault}
 use Rattle.machcheck.proofs.run.check_files.Goals as goal
 
-pub returns-clause-fault : goal.returns-clause-fault
-returns-clause-fault g c =
-    some_fault c.args.files.now _ c.told_of.result c.told_of.ensures.fault
+pub returns-in-Err-clause-fault : goal.returns-in-Err-clause-fault
+returns-in-Err-clause-fault g c =
+    unread_fault (g.F.Folder.held c.args.folder.now) c.args.files.now _ _ c.unread_told.result
+    c.in-Err.ensures.first c.unread_told.ensures.told

@@ -1,10 +1,29 @@
-use Rattle.std.proofs.Common.{◌≡◌, ◌⊎◌, ℕ, arith}
+use Rattle.std.proofs.Common.{◌≡◌, ◌⊎◌, ◌<◌, ℕ, arith, inl, inr}
 use Rattle.machcheck.proofs.run.run.Goals as goal
 
--- status 1 is not that of a failed write
-is_told : (status told : ℕ) → (status ≡ told) ⊎ (status ≡ 2) → status ≡ 1 → told ≡ 1
-is_told status told h one = omega arith
+-- a status below 2 is that of what is told
+is_told : (status told wanted : ℕ) → (status ≡ told) ⊎ (status ≡ 2) → status ≡ wanted → wanted < 2
+    → told ≡ wanted
+is_told status told wanted h is below = omega arith
+
+pub returns-in-Ok-clause-yes : goal.returns-in-Ok-clause-yes
+returns-in-Ok-clause-yes g c zero_is =
+    elim (c.in-Ok.ensures.yes (is_told c.write_told.result c.in-Ok.told.status 0 c.write_told.ensures.status zero_is (omega arith))) [
+      | inl said ↦ inl record {
+        files = said.0;
+        told = c.in-Ok.told;
+        tells = said.1;
+        out = c.write_told.ensures.out (λ two. absurd (omega arith));
+      }
+      | inr help ↦ inr help
+    ]
 
 pub returns-in-Ok-clause-no : goal.returns-in-Ok-clause-no
-returns-in-Ok-clause-no g c one =
-    (c.in-Ok.told, c.in-Ok.ensures.no (is_told c.write_told.result c.in-Ok.told.status c.write_told.ensures.status one), c.write_told.ensures.out (λ two. absurd (omega arith)))
+returns-in-Ok-clause-no g c one_is =
+    let no = c.in-Ok.ensures.no (is_told c.write_told.result c.in-Ok.told.status 1 c.write_told.ensures.status one_is (omega arith)) in
+    record {
+      files = no.0;
+      told = c.in-Ok.told;
+      tells = no.1;
+      out = c.write_told.ensures.out (λ two. absurd (omega arith));
+    }

@@ -1,0 +1,81 @@
+-- The command line that `clap` reads, and the words that it comes in. This profile's own choice.
+use Rattle.std.specs.Prelude.{◌≡◌, ◌⊎◌, ℕ, List, [], Some, true, codes, string_bytes, false}
+use Rattle.std.specs.declared.io.ErrorKind.{ErrorKind}
+use Rattle.std.specs.declared.io.ErrorKind.TheVariants.{InvalidData}
+use Rattle.clap.specs.Words.{App, Rule, Text, new_app, new_rule, with_rule, with_subcommand}
+use Rattle.clap.specs.Words.{fault_of, IsAmong}
+use Rattle.clap.specs.Simple.{on_top}
+use Rattle.clap.specs.declared.builder.command.Command.{Command}
+use Rattle.clap.specs.declared.builder.command.Command.TheViews.{out-Command}
+use Rattle.clap.specs.declared.builder.action.ArgAction.TheVariants.{Set}
+use Rattle.clap.specs.declared.error.kind.ErrorKind.{ErrorKind as ClapKind}
+use Rattle.clap.specs.declared.error.kind.ErrorKind.TheVariants.{DisplayHelp, DisplayVersion}
+use Rattle.machcheck.specs.declared.words.WordsFault.{WordsFault}
+use Rattle.machcheck.specs.declared.words.WordsFault.TheVariants.{NotUtf8, Memory}
+use Rattle.machcheck.specs.declared.command.NoCommand.{NoCommand}
+use Rattle.machcheck.specs.declared.command.NoCommand.TheVariants.{Told as TextTold}
+use Rattle.machcheck.specs.declared.command.NoCommand.TheVariants.{Memory as NoMemory}
+use Rattle.machcheck.specs.Told.{memory_line}
+
+-- why the words of the command line can't be had, by the kind of the system's error
+abbrev pub words_fault : ErrorKind → WordsFault
+words_fault InvalidData = NotUtf8
+words_fault kind = Memory
+
+-- the line that tells it
+abbrev pub words_line : WordsFault → List ℕ
+words_line NotUtf8 = codes "machcheck: arguments: NotUtf8\n"
+words_line Memory = memory_line
+
+-- an option that names a file, and has to be given
+abbrev pub file_rule : Text → Rule
+file_rule name = record
+    (new_rule name) { long = Some name; value_names = 1; action = Some Set; required = true }
+
+-- `check --wiring FILE --policy FILE --cert FILE`
+abbrev pub check_app : App
+check_app =
+    with_rule (with_rule (with_rule (new_app (codes "check")) (file_rule (codes "wiring")))
+    (file_rule (codes "policy")))
+    (file_rule (codes "cert"))
+
+-- no option of the command holds for its subcommands too
+abbrev pub HasNoGlobals : Command → Type 0
+HasNoGlobals command = (out-Command command).has_globals ≡ false
+
+-- the program alone: it has a version, and wants a command
+abbrev pub bare_app : App
+bare_app =
+    on_top (λ top. record top {
+      has_version = true;
+      subcommand_required = true;
+      arg_required_else_help = true;
+    })
+    (new_app (codes "machcheck"))
+
+-- the program and its commands
+abbrev pub machcheck_app : App
+machcheck_app = with_subcommand bare_app check_app.top
+
+-- the words ask for help or for the version, as `clap` reads them; then they are no command
+abbrev pub AsksHelp : List Text → Type 0
+AsksHelp words = IsAmong DisplayHelp (fault_of machcheck_app words)
+    ⊎ IsAmong DisplayVersion (fault_of machcheck_app words)
+
+-- what is told of an error of `clap`: help and the version, with status 0, on standard output; all
+-- else, with status 2, on standard error; or want of memory
+abbrev pub TellsError : ClapKind → NoCommand → Type 0
+TellsError kind (TextTold told) =
+    ((told.status ≡ 0) × (string_bytes told.err ≡ []) × ((kind ≡ DisplayHelp)
+    ⊎ (kind ≡ DisplayVersion)))
+    ⊎ ((told.status ≡ 2) × (string_bytes told.out ≡ []))
+TellsError kind NoMemory = Unit {0}
+
+-- what the reader of a command line gives in place of a command: with status 0 a text for standard
+-- output, where the words ask for help or the version; with status 2 a text for standard error; or
+-- want of memory
+abbrev pub IsNoCommand : List Text → NoCommand → Type 0
+IsNoCommand words (TextTold told) =
+    ((told.status ≡ 0) × (string_bytes told.err ≡ []) × AsksHelp words)
+    ⊎ ((told.status ≡ 2) × (string_bytes told.out ≡ []))
+IsNoCommand words NoMemory = Unit {0}
