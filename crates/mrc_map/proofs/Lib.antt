@@ -1,0 +1,4 @@
+pub mod EntryLaws
+pub mod SameMaps
+pub mod Places
+pub mod Values
