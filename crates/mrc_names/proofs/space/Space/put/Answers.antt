@@ -1,0 +1,12 @@
+use Rattle.std.proofs.Common.{◌<◌, ◌^◌, sym, ap, ◌∙◌, subst, arith}
+use Rattle.mrc_model.specs.Space.{is_full}
+use Rattle.mrc_names.specs.Bounds.{IsBounded}
+use Rattle.mrc_names.proofs.BoundLaws.{bounded_new}
+use Rattle.mrc_names.proofs.space.Space.put.Goals as goal
+
+pub invariant_of-self-2 : goal.invariant_of-self-2
+invariant_of-self-2 c =
+    let room = ap is_full c.self.view_is ∙ c.requires in
+    let short : c.from.result < 2 ^ 32 = omega (arith, c.ranges.name.fits, c.from.ensures) in
+    subst IsBounded (sym c.in_ok-insert.ensures.ok)
+    (bounded_new _ c.from.result c.args.entry c.self.invariant room short)

@@ -1,0 +1,4 @@
+pub mod Bounds
+pub mod Listings
+pub mod Refusals
+pub mod Takes

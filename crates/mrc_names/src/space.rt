@@ -1,0 +1,387 @@
+//! What a task has under its names.
+
+ghost use Rattle.std.specs.Prelude.{◌≡◌, ◌≤◌, ◌<◌, ◌+◌, ◌^◌, length, Ok, Err, Some, IfOk, OnOk};
+ghost use Rattle.std.specs.Prelude.{OnErr, IfErr, IfSome, IsSome, false, option_map, map};
+ghost use Rattle.mrc_model.specs.Map.{empty, get, insert, len, alter_all};
+ghost use Rattle.mrc_model.specs.Space.{first_entry, entry_of, is_full, insert_at, insert_new};
+ghost use Rattle.mrc_model.specs.Space.{insert_joined, is_other, least_from, unused, place_new};
+ghost use Rattle.mrc_model.specs.Reply.{Refused};
+ghost use Rattle.mrc_model.specs.Target.{is_reserved};
+ghost use Rattle.mrc_model.specs.CallNames.{refs_of, mask_of};
+ghost use Rattle.mrc_model.specs.Space.{in_renamed, is_set, members_follow};
+ghost use Rattle.mrc_names.specs.Listings.{entry_name};
+ghost use Rattle.mrc_names.specs.Refusals.{IsRefusal};
+ghost use Rattle.mrc_names.specs.Takes.{take_right, give_right, give_new, rename_entry};
+
+use crate::entry;
+use crate::listing::{Listing, NamedType};
+use crate::types::PortType;
+use mrc_base::{Disp, OrMemory, PortId, PortRight, Right, limits};
+use mrc_map::Map;
+use mrc_model::{Code, Entry};
+use std::alloc::{AllocError, Global};
+use std::marker::Model;
+
+/// What a task has under its names: at most 4,096 entries. It keeps the allocator that it is made
+/// with.
+#[derive(Debug, Drop)]
+pub struct Space {
+    entries: Map<Entry>,
+}
+
+impl Model for Space {
+    ghost use Rattle.mrc_model.specs.World.{Space};
+    ghost use Rattle.mrc_names.specs.Bounds.{IsBounded};
+
+    ghost Value = { Space };
+
+    ghost view = { λ a. a.entries };
+
+    ghost invariant = { λ a. IsBounded a.entries };
+}
+
+/// The first of these entries that is the port's.
+fn first_entry(entries: &[(u64, Entry)], port: PortId) -> Option<(u64, Entry)>
+    ensures { result ≡ first_entry port entries.now }
+{
+    for held in entries {
+        if entry::is_entry_of(port, &held.1) {
+            return Some(*held);
+        }
+    }
+    None
+}
+
+/// The least number from 1 on that is no key.
+fn least_unused(entries: &[(u64, Entry)]) -> u64
+    ensures least { result ≡ least_from 1 entries.now }
+    ensures within { result ≤ length entries.now + 1 }
+{
+    let mut name = 1u64;
+    for held in entries {
+        if held.0 == name {
+            name += 1;
+        } else if name < held.0 {
+            return name;
+        }
+    }
+    name
+}
+
+/// Whether the entry has another name.
+fn is_other(name: u32, found: Option<(u64, Entry)>) -> bool
+    ensures { result ≡ is_other name found }
+{
+    match found {
+        None => false,
+        Some(held) => held.0 != u64::from(name),
+    }
+}
+
+/// Whether the name stands for no entry: 0 is MACH_PORT_NULL, 0xffffffff MACH_PORT_DEAD.
+fn is_reserved(name: u32) -> bool
+    ensures { result ≡ is_reserved name }
+{
+    name == 0 || name == 0xffff_ffff
+}
+
+/// The entries after a set of the space got another name. Its members stay members.
+fn rename_set(entries: &mut Map<Entry>, old: u32, new: u32)
+    ensures { entries.new ≡ alter_all (in_renamed old new) entries.old }
+{
+    for index in 0..entries.len() {
+        let held = entries.entries()[index].1;
+        entries.set_at(index, entry::in_renamed(&held, old, new));
+    }
+}
+
+/// The members of a set follow it, if what got the new name was a set.
+fn move_members(entries: &mut Map<Entry>, held: &Entry, old: u32, new: u32)
+    ensures { entries.new ≡ members_follow (is_set held.now) old new entries.old }
+{
+    if let Entry::PortSet = *held {
+        rename_set(entries, old, new);
+    }
+}
+
+impl Space {
+    /// The space with no entry.
+    pub fn new(alloc: Global) -> Space
+        ensures { result ≡ empty }
+    {
+        Space {
+            entries: Map::new(alloc),
+        }
+    }
+
+    /// The entry of a name.
+    pub fn get(&self, name: u32) -> Option<Entry>
+        ensures { result ≡ get self.now name }
+    {
+        self.entries.get(u64::from(name)).copied()
+    }
+
+    /// The port's receive or send entry, with its name.
+    fn find_entry(&self, port: PortId) -> Option<(u64, Entry)>
+        ensures found { result ≡ entry_of self.now port }
+        ensures short { IfSome result (λ held. held.0 < 2 ^ 32) }
+    {
+        first_entry(self.entries.entries(), port)
+    }
+
+    /// The name of the port's receive or send entry.
+    pub fn find(&self, port: PortId) -> Option<u32>
+        ensures { result ≡ option_map (λ e. e.0) (entry_of self.now port) }
+    {
+        match self.find_entry(port) {
+            None => None,
+            Some(held) => Some(held.0 as u32),
+        }
+    }
+
+    /// The least unused name from 1.
+    fn unused(&self) -> u32
+        ensures { result ≡ unused self.now }
+    {
+        least_unused(self.entries.entries()) as u32
+    }
+
+    /// Whether the space has 4,096 entries.
+    pub fn is_full(&self) -> bool
+        ensures { result ≡ is_full self.now }
+    {
+        limits::NAMES <= self.entries.len()
+    }
+
+    /// The same space once more.
+    pub fn copy(&self, alloc: Global) -> Result<Space, AllocError>
+        ensures { IfOk result (λ copy. copy ≡ self.now) }
+    {
+        Ok(Space {
+            entries: self.entries.copy(alloc)?,
+        })
+    }
+
+    /// Takes a right from a name: its port. Refused are a name without an entry (KERN_INVALID_NAME)
+    /// and an entry that lacks the right (KERN_INVALID_RIGHT).
+    pub fn take(&mut self, name: u32, disp: Disp) -> Result<PortId, Code>
+        ensures taken { IfOk result (λ port. take_right self.old name disp ≡ Ok (self.new, port)) }
+        ensures refused { IfErr result
+            (λ code. take_right self.old name disp ≡ Err (Refused code)) }
+        ensures err { OnErr result (self.new ≡ self.old) }
+    {
+        let Some(held) = self.get(name) else {
+            return Err(Code::KernInvalidName);
+        };
+        let Some(taken) = entry::take_from(held, disp) else {
+            return Err(Code::KernInvalidRight);
+        };
+        let (port, rest) = taken;
+        match rest {
+            Some(left) => {
+                self.entries.set(u64::from(name), left);
+                Ok(port)
+            }
+            None => {
+                self.entries.remove(u64::from(name));
+                Ok(port)
+            }
+        }
+    }
+
+    /// Puts an entry under a name, where the space has room for one more.
+    pub(crate) fn put(&mut self, name: u32, entry: Entry) -> Result<(), AllocError>
+        requires { is_full self.old ≡ false }
+        ensures ok { OnOk result (self.new ≡ insert self.old name entry) }
+        ensures err { OnErr result (self.new ≡ self.old) }
+    {
+        self.entries.insert(u64::from(name), entry)?;
+        Ok(())
+    }
+
+    /// Puts a right under a name that has no entry.
+    fn insert_new(
+        &mut self,
+        name: u32,
+        port: PortId,
+        right: PortRight,
+    ) -> Result<(), OrMemory<Code>>
+        ensures ok { OnOk result
+            (insert_new self.old name port right (get self.old name) ≡ Ok self.new) }
+        ensures refused { IfErr result (λ e.
+            IsRefusal e (insert_new self.old name port right (get self.old name))) }
+        ensures err { OnErr result (self.new ≡ self.old) }
+    {
+        if self.get(name).is_some() {
+            return Err(OrMemory::Fault(Code::KernNameExists));
+        }
+        if self.is_full() {
+            return Err(OrMemory::Fault(Code::KernNoSpace));
+        }
+        self.put(name, entry::new_entry(port, right))?;
+        Ok(())
+    }
+
+    /// A right joins the entry of a name.
+    fn join(
+        &mut self,
+        name: u32,
+        port: PortId,
+        right: PortRight,
+        held: Entry,
+    ) -> Result<(), OrMemory<Code>>
+        requires { get self.old name ≡ Some held }
+        ensures ok { OnOk result
+            (insert_joined self.old name port right (Some held) ≡ Ok self.new) }
+        ensures refused { IfErr result (λ e.
+            IsRefusal e (insert_joined self.old name port right (Some held))) }
+        ensures err { OnErr result (self.new ≡ self.old) }
+    {
+        if !entry::is_entry_of(port, &held) {
+            return Err(OrMemory::Fault(Code::KernNameExists));
+        }
+        if entry::overflows(&held, right) {
+            return Err(OrMemory::Fault(Code::KernUrefsOverflow));
+        }
+        if self.is_full() {
+            return Err(OrMemory::Fault(Code::KernNoSpace));
+        }
+        self.entries
+            .set(u64::from(name), entry::joined(held, right));
+        Ok(())
+    }
+
+    /// Puts a right under a name that may be the port's.
+    fn insert_joined(
+        &mut self,
+        name: u32,
+        port: PortId,
+        right: PortRight,
+    ) -> Result<(), OrMemory<Code>>
+        ensures ok { OnOk result
+            (insert_joined self.old name port right (get self.old name) ≡ Ok self.new) }
+        ensures refused { IfErr result (λ e.
+            IsRefusal e (insert_joined self.old name port right (get self.old name))) }
+        ensures err { OnErr result (self.new ≡ self.old) }
+    {
+        match self.get(name) {
+            None => self.insert_new(name, port, right),
+            Some(held) => self.join(name, port, right, held),
+        }
+    }
+
+    /// Puts a right under a name of the caller's choice. Refused are a send or receive right where
+    /// the port has an entry under another name (KERN_RIGHT_EXISTS), a name that is used, but by
+    /// the port's own entry for a send or receive right (KERN_NAME_EXISTS), a send reference above
+    /// 65,535 (KERN_UREFS_OVERFLOW), and a full space (KERN_NO_SPACE), in this order.
+    pub fn insert_at(
+        &mut self,
+        name: u32,
+        port: PortId,
+        right: PortRight,
+    ) -> Result<(), OrMemory<Code>>
+        ensures ok { OnOk result (insert_at self.old name port right ≡ Ok self.new) }
+        ensures refused { IfErr result (λ e. IsRefusal e (insert_at self.old name port right)) }
+        ensures err { OnErr result (self.new ≡ self.old) }
+    {
+        if let PortRight::SendOnce = right {
+            return self.insert_new(name, port, right);
+        }
+        if is_other(name, self.find_entry(port)) {
+            return Err(OrMemory::Fault(Code::KernRightExists));
+        }
+        self.insert_joined(name, port, right)
+    }
+
+    /// Gives a right the least unused name.
+    fn give_new(&mut self, port: PortId, right: PortRight) -> Result<u32, OrMemory<Code>>
+        ensures ok { IfOk result (λ name. give_new self.old port right ≡ Ok (self.new, name)) }
+        ensures refused { IfErr result (λ e. IsRefusal e (give_new self.old port right)) }
+        ensures err { OnErr result (self.new ≡ self.old) }
+    {
+        if self.is_full() {
+            return Err(OrMemory::Fault(Code::KernNoSpace));
+        }
+        let name = self.unused();
+        self.put(name, entry::new_entry(port, right))?;
+        Ok(name)
+    }
+
+    /// Gives a right, as a receiver gets it: a send or receive right joins the port's entry, where
+    /// there is one; else it takes the least unused name, which is answered. A send reference above
+    /// 65,535 is dropped. Refused where the space would have more than 4,096 entries
+    /// (KERN_NO_SPACE).
+    pub fn copyout(&mut self, port: PortId, right: PortRight) -> Result<u32, OrMemory<Code>>
+        ensures ok { IfOk result (λ name. give_right self.old port right ≡ Ok (self.new, name)) }
+        ensures refused { IfErr result (λ e. IsRefusal e (give_right self.old port right)) }
+        ensures err { OnErr result (self.new ≡ self.old) }
+    {
+        if let PortRight::SendOnce = right {
+            return self.give_new(port, right);
+        }
+        let Some(held) = self.find_entry(port) else {
+            return self.give_new(port, right);
+        };
+        self.entries.set(held.0, entry::joined(held.1, right));
+        Ok(held.0 as u32)
+    }
+
+    /// How many references of a right a name has: 1 for a right that is there once, 0 for one that
+    /// is not. None where the name has no entry.
+    pub fn refs(&self, name: u32, right: Right) -> Option<u32>
+        ensures { result ≡ option_map (λ held. refs_of held right) (get self.now name) }
+    {
+        match self.get(name) {
+            None => None,
+            Some(held) => Some(entry::refs_of(&held, right)),
+        }
+    }
+
+    /// The rights of a name, as bits. None where it has no entry.
+    pub fn rights(&self, name: u32) -> Option<PortType>
+        ensures { option_map (λ rights. rights.0) result ≡ option_map mask_of (get self.now name) }
+    {
+        match self.get(name) {
+            None => None,
+            Some(held) => Some(PortType::of(&held)),
+        }
+    }
+
+    /// All names with their rights, ascending.
+    pub fn names(&self, alloc: Global) -> Result<Listing, AllocError>
+        ensures { IfOk result (λ listing. listing ≡ map entry_name self.now.list) }
+    {
+        let entries = self.entries.entries();
+        let mut names = Vec::with_capacity(alloc, entries.len())?;
+        for held in entries {
+            names.push(NamedType {
+                name: held.0 as u32,
+                rights: PortType::of(&held.1),
+            })?;
+        }
+        Ok(Listing::new(names))
+    }
+
+    /// Moves an entry to an unused name; the members of a set stay members. Refused are a new name
+    /// that stands for no entry (KERN_INVALID_VALUE), an old one without an entry
+    /// (KERN_INVALID_NAME), and a new one that has an entry (KERN_NAME_EXISTS), in this order.
+    pub fn rename(&mut self, old: u32, new: u32) -> Result<(), OrMemory<Code>>
+        ensures ok { OnOk result (rename_entry self.old old new ≡ Ok self.new) }
+        ensures refused { IfErr result (λ e. IsRefusal e (rename_entry self.old old new)) }
+        ensures err { OnErr result (self.new ≡ self.old) }
+    {
+        if is_reserved(new) {
+            return Err(OrMemory::Fault(Code::KernInvalidValue));
+        }
+        let Some(held) = self.get(old) else {
+            return Err(OrMemory::Fault(Code::KernInvalidName));
+        };
+        if self.get(new).is_some() {
+            return Err(OrMemory::Fault(Code::KernNameExists));
+        }
+        self.entries.insert(u64::from(new), held)?;
+        self.entries.remove(u64::from(old));
+        move_members(&mut self.entries, &held, old, new);
+        Ok(())
+    }
+}
