@@ -1,0 +1,112 @@
+//! All spaces and all ports.
+
+ghost use Rattle.std.specs.Prelude.{◌≡◌, ◌↔◌, Some, None, IfOk, OnOk, OnErr, IsSome, IsOk, IsErr};
+ghost use Rattle.std.specs.Prelude.{IsErrAnd, IsTrue};
+ghost use Rattle.std.specs.Option.{option_copied};
+ghost use Rattle.mrc_model.specs.Map.{get, insert};
+ghost use Rattle.mrc_model.specs.World.{set_space, set_port, Port as TPort};
+ghost use Rattle.mrc_model.specs.Space.{restart};
+ghost use Rattle.mrc_ports.specs.Faults.{IsFault};
+ghost use Rattle.mrc_ports.specs.Tables.{table_of, store_of, with_birth, is_short, no_store};
+
+use crate::table::{NoSuchPort, PortTable, Shortage};
+use mrc_base::{ClassId, OrMemory, PortId, TaskId};
+use mrc_map::Map;
+use mrc_names::Space;
+use std::alloc::{AllocError, Global};
+use std::marker::Model;
+
+/// The spaces of all tasks, and all live ports.
+#[derive(Debug, Drop)]
+pub struct Store {
+    spaces: Map<Space>,
+    table: PortTable,
+}
+
+impl Model for Store {
+    ghost use Rattle.mrc_model.specs.World as model;
+    ghost use Rattle.mrc_ports.specs.Tables.{store_of};
+
+    ghost Value = { model.Store };
+
+    ghost view = { λ a. store_of a.spaces a.table };
+}
+
+impl Store {
+    /// The store with no space and no port.
+    pub fn new(alloc: Global) -> Store
+        ensures { result ≡ no_store }
+    {
+        Store {
+            spaces: Map::new(alloc),
+            table: PortTable::new(alloc),
+        }
+    }
+
+    /// The space of a task.
+    pub fn space(&self, task: TaskId) -> Option<&Space>
+        ensures { option_copied result ≡ get self.now.spaces task }
+    {
+        self.spaces.get(u64::from(task.0))
+    }
+
+    /// Gives a task a space, or another one.
+    pub fn add_space(&mut self, task: TaskId, space: Space) -> Result<(), AllocError>
+        ensures ok { OnOk result (self.new ≡ set_space self.old task space) }
+        ensures err { OnErr result (self.new ≡ self.old) }
+    {
+        self.spaces.insert(u64::from(task.0), space)
+    }
+
+    /// Puts another space in the place of a task's, and gives back the one that stood there; where
+    /// the task has none, the one that is handed in. It takes no memory.
+    pub fn put_space(&mut self, task: TaskId, space: Space) -> Space
+        ensures put { IsSome (get self.old.spaces task)
+            → (Some result ≡ get self.old.spaces task) × (self.new ≡ set_space self.old task space) }
+        ensures absent { get self.old.spaces task ≡ None
+            → (result ≡ space) × (self.new ≡ self.old) }
+    {
+        let key = u64::from(task.0);
+        if self.spaces.get(key).is_none() {
+            return space;
+        }
+        self.spaces.replace(key, space)
+    }
+
+    /// All live ports.
+    pub fn ports(&self) -> &PortTable
+        ensures { result.now ≡ table_of self.now }
+    {
+        &self.table
+    }
+
+    /// A new port of the class, under the next number; its receive right is nowhere yet. Refused
+    /// exactly where there are as many live ports, or births have been, as there may be.
+    pub fn birth(&mut self, class: ClassId) -> Result<PortId, OrMemory<Shortage>>
+        ensures born { OnOk result
+            (self.new ≡ store_of self.old.spaces (with_birth (table_of self.old) class)) }
+        ensures number { IfOk result (λ port. port ≡ self.old.next) }
+        ensures short { IsErrAnd result IsFault ↔ IsTrue (is_short (table_of self.old)) }
+        ensures err { OnErr result (self.new ≡ self.old) }
+    {
+        self.table.birth(class)
+    }
+
+    /// Sets how many messages the queue of a port takes. Refused exactly where no live port has
+    /// this number.
+    pub fn set_limit(&mut self, port: PortId, limit: u32) -> Result<(), NoSuchPort>
+        ensures limit { (x : TPort) → get self.old.ports port ≡ Some x
+            → IsOk result × (self.new ≡ set_port self.old port (record x { limit = limit })) }
+        ensures absent { get self.old.ports port ≡ None → IsErr result × (self.new ≡ self.old) }
+    {
+        self.table.set_limit(port, limit)
+    }
+
+    /// The receipts of a port are 0 again, as its receive right has moved. Nothing where no live
+    /// port has this number.
+    pub fn restart(&mut self, port: PortId)
+        ensures { self.new ≡ restart self.old port }
+    {
+        self.table.restart(port);
+    }
+}

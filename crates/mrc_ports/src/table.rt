@@ -1,0 +1,139 @@
+//! All live ports.
+
+ghost use Rattle.std.specs.Prelude.{◌≡◌, ◌↔◌, Some, IfOk, OnOk, OnErr, None, IsSome, IsOk, IsErr};
+ghost use Rattle.std.specs.Prelude.{IsErrAnd, IsTrue};
+ghost use Rattle.std.specs.Option.{option_copied};
+ghost use Rattle.mrc_model.specs.Map.{empty, get, len};
+ghost use Rattle.mrc_ports.specs.Tables.{with_birth, is_short, with_port, restarted};
+ghost use Rattle.mrc_model.specs.World.{Port as TPort};
+ghost use Rattle.mrc_ports.specs.Faults.{IsFault};
+
+use crate::port::Port;
+use mrc_base::{ClassId, OrMemory, PortId, limits};
+use mrc_map::Map;
+use std::alloc::Global;
+use std::marker::Model;
+use thiserror::Error;
+
+/// There are 65,536 live ports, or 2^48 ports have been born.
+#[derive(Clone, Copy, Debug, PartialEq, Eq, Error)]
+#[error("Shortage")]
+pub struct Shortage;
+
+/// No live port has this number.
+#[derive(Clone, Copy, Debug, PartialEq, Eq, Error)]
+#[error("NoSuchPort")]
+pub struct NoSuchPort;
+
+/// All live ports, by the numbers of their births. It keeps the allocator that it is made with.
+#[derive(Debug, Drop)]
+pub struct PortTable {
+    alloc: Global,
+    next: u64,
+    ports: Map<Port>,
+}
+
+impl Model for PortTable {
+    ghost use Rattle.mrc_ports.specs.Tables.{Table};
+
+    ghost Value = { Table };
+
+    ghost view = { λ a. record { next = a.next; ports = a.ports } };
+}
+
+impl PortTable {
+    /// The table with no port, before the first birth.
+    pub fn new(alloc: Global) -> PortTable
+        ensures { result ≡ record { next = 0; ports = empty } }
+    {
+        PortTable {
+            alloc,
+            next: 0,
+            ports: Map::new(alloc),
+        }
+    }
+
+    /// The port of this number.
+    pub fn get(&self, port: PortId) -> Option<&Port>
+        ensures { option_copied result ≡ get self.now.ports port }
+    {
+        self.ports.get(port.0)
+    }
+
+    /// How many live ports there are.
+    pub fn len(&self) -> usize
+        ensures { result ≡ len self.now.ports }
+    {
+        self.ports.len()
+    }
+
+    /// The number that the next birth gives.
+    pub fn next(&self) -> PortId
+        ensures { result ≡ self.now.next }
+    {
+        PortId(self.next)
+    }
+
+    /// Whether there are as many live ports, or births have been, as there may be.
+    pub fn is_short(&self) -> bool
+        ensures { result ≡ is_short self.now }
+    {
+        limits::PORTS <= self.ports.len() || limits::BIRTHS <= self.next
+    }
+
+    /// A new port of the class, under the next number. Refused exactly where there are as many live
+    /// ports, or births have been, as there may be.
+    pub fn birth(&mut self, class: ClassId) -> Result<PortId, OrMemory<Shortage>>
+        ensures born { OnOk result (self.new ≡ with_birth self.old class) }
+        ensures number { IfOk result (λ port. port ≡ self.old.next) }
+        ensures short { IsErrAnd result IsFault ↔ IsTrue (is_short self.old) }
+        ensures err { OnErr result (self.new ≡ self.old) }
+    {
+        if self.is_short() {
+            return Err(OrMemory::Fault(Shortage));
+        }
+        let port = self.next();
+        self.ports.insert(self.next, Port::new(self.alloc, class))?;
+        self.next += 1;
+        Ok(port)
+    }
+
+    /// Takes a port out of the table, and puts another one in its place for now.
+    fn taken(&mut self, port: PortId) -> Port
+        requires { IsSome (get self.old.ports port) }
+        ensures port { Some result ≡ get self.old.ports port }
+        ensures others { (x : TPort) → with_port self.new port x ≡ with_port self.old port x }
+        ensures there { IsSome (get self.new.ports port) }
+    {
+        let blank = Port::new(self.alloc, ClassId(0));
+        self.ports.replace(port.0, blank)
+    }
+
+    /// Sets how many messages the queue of a port takes. Refused exactly where no live port has
+    /// this number.
+    pub fn set_limit(&mut self, port: PortId, limit: u32) -> Result<(), NoSuchPort>
+        ensures limit { (x : TPort) → get self.old.ports port ≡ Some x
+            → IsOk result × (self.new ≡ with_port self.old port (record x { limit = limit })) }
+        ensures absent { get self.old.ports port ≡ None
+            → IsErr result × (self.new ≡ self.old) }
+    {
+        if self.ports.get(port.0).is_none() {
+            return Err(NoSuchPort);
+        }
+        let found = self.taken(port);
+        self.ports.set(port.0, found.limited(limit));
+        Ok(())
+    }
+
+    /// The receipts of a port are 0 again, as its receive right has moved. Nothing where no live
+    /// port has this number.
+    pub fn restart(&mut self, port: PortId)
+        ensures { self.new ≡ restarted self.old port (get self.old.ports port) }
+    {
+        if self.ports.get(port.0).is_none() {
+            return;
+        }
+        let found = self.taken(port);
+        self.ports.set(port.0, found.restarted());
+    }
+}
