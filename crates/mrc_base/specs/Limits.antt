@@ -1,5 +1,4 @@
--- The limits, each by one name. This profile's own choice; the bytes of a file, the lines of a text
--- and all else that is counted here are counted in these words alone.
+-- How many there may be of what is counted, each by one name. This profile's own choice.
 use Rattle.std.specs.Prelude.{ℕ, ◌^◌}
 
 -- tasks of a wiring

@@ -75,8 +75,8 @@ impl Around {
     }
 }
 
-/// Reads `[n]` or, with a bound, `[*:n]`, of a word at `at`. Answers the number with those around
-/// it.
+/// Reads `n]`, from behind the opening bracket, as a count among those around it. Answers the counts
+/// with it.
 #[tactic(auto, unfolding(crate::specs::Types::dimension_at))]
 fn dimension(
     alloc: Global,

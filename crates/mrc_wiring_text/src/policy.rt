@@ -27,8 +27,8 @@ pub enum ClassName {
     Births(Name),
 }
 
-/// What a line of a policy says, `forbid T RIGHT CLASS`: T must never hold the right on a port of
-/// the class.
+/// What a line of a policy says, `forbid T RIGHT CLASS`: neither T nor a task that it counts as must
+/// ever hold the right on a port of the class.
 #[derive(Debug, Drop)]
 pub struct Forbid {
     /// T.
