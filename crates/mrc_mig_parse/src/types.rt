@@ -75,8 +75,8 @@ impl Around {
     }
 }
 
-/// Reads `n]`, from behind the opening bracket, as a count among those around it. Answers the counts
-/// with it.
+/// Reads `n]`, from behind the opening bracket, as a count among those around it. Answers the
+/// counts with it.
 #[tactic(auto, unfolding(crate::specs::Types::dimension_at))]
 fn dimension(
     alloc: Global,
