@@ -16,6 +16,3 @@ pub use lists::{Bytes, Names};
 pub use message::{Arguments, Header, Message, Unlawful};
 pub use reading::read_message;
 pub use writing::{write_message, written_size};
-
-#[cfg(test)]
-mod tests;

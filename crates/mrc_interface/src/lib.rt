@@ -12,6 +12,3 @@ pub use interface::Interface;
 pub use laws::{forms_are_found_by_ids, slots_are_ports};
 pub use mrc_mig_parse::Shape;
 pub use mrc_model::RequestKind;
-
-#[cfg(test)]
-mod tests;

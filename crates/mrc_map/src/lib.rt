@@ -5,6 +5,3 @@
 mod map;
 
 pub use map::Map;
-
-#[cfg(test)]
-mod tests;

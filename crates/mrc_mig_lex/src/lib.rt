@@ -9,6 +9,3 @@ mod token;
 pub use fault::LexFault;
 pub use lexer::lex;
 pub use token::{Sign, Token, TokenKind};
-
-#[cfg(test)]
-mod tests;

@@ -12,6 +12,3 @@ pub use file::parse;
 pub use laws::files_by_grammar;
 pub use mrc_mig_symbols::{Direction, Feature, ParseFault};
 pub use subsystem::{Argument, Entry, Shape, Subsystem};
-
-#[cfg(test)]
-mod tests;

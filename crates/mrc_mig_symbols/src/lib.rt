@@ -15,6 +15,3 @@ pub use fault::{Feature, ParseFault};
 pub use laws::expressions_by_grammar;
 pub use symbol::{Rest, Symbol, name, sign};
 pub use word::{Basic, Direction, Word, basic_of};
-
-#[cfg(test)]
-mod tests;

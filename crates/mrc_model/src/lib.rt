@@ -223,6 +223,3 @@ pub fn derivations_are_least()
 pub fn holdings_are_held()
     ensures held { HoldingsAreHeld }
 {}
-
-#[cfg(test)]
-mod tests;

@@ -1,4 +1,6 @@
-use super::*;
+//! Ordered maps.
+
+use mrc_map::Map;
 use std::alloc::{AllocError, Global};
 use std::process::Abort;
 use std::test::Fail;
@@ -31,55 +33,6 @@ fn assert_has(rt: &impl Abort, map: &Map<u8>, entries: &[(u64, u8)]) {
 }
 
 #[test]
-fn an_empty_map(rt: HostRuntime) {
-    let mut map = Map::new(rt.alloc());
-    assert_has(&rt, &map, &[]);
-    map.remove(0);
-    map.set_at(0, 1);
-    assert_has(&rt, &map, &[]);
-}
-
-#[test]
-fn entries_stand_by_their_keys(rt: HostRuntime) -> Result<(), Fail> {
-    let orders = [
-        [(2, 20), (5, 50), (9, 90)],
-        [(2, 20), (9, 90), (5, 50)],
-        [(5, 50), (2, 20), (9, 90)],
-        [(5, 50), (9, 90), (2, 20)],
-        [(9, 90), (2, 20), (5, 50)],
-        [(9, 90), (5, 50), (2, 20)],
-    ];
-    for order in orders {
-        let map = map_of(rt.alloc(), &order)?;
-        assert_has(&rt, &map, &[(2, 20), (5, 50), (9, 90)]);
-    }
-    Ok(())
-}
-
-#[test]
-fn a_key_stands_once(rt: HostRuntime) -> Result<(), Fail> {
-    let map = map_of(
-        rt.alloc(),
-        &[(2, 20), (5, 50), (2, 21), (9, 90), (9, 91), (5, 51)],
-    )?;
-    assert_has(&rt, &map, &[(2, 21), (5, 51), (9, 91)]);
-    Ok(())
-}
-
-#[test]
-fn keys_at_both_ends(rt: HostRuntime) -> Result<(), Fail> {
-    let map = map_of(rt.alloc(), &[(u64::MAX, 3), (0, 1), (u64::MAX - 1, 2)])?;
-    let entries = [(0, 1), (u64::MAX - 1, 2), (u64::MAX, 3)];
-    assert_eq!(rt; map.entries(), entries.as_slice());
-    for (key, want) in entries {
-        assert_eq!(rt; map.get(key).copied(), Some(want), "at {key}");
-    }
-    assert_eq!(rt; map.get(1).copied(), None);
-    assert_eq!(rt; map.get(u64::MAX - 2).copied(), None);
-    Ok(())
-}
-
-#[test]
 fn a_key_goes(rt: HostRuntime) -> Result<(), Fail> {
     let mut map = map_of(rt.alloc(), &[(2, 20), (5, 50), (9, 90)])?;
     map.remove(5);
@@ -101,35 +54,13 @@ fn a_key_goes(rt: HostRuntime) -> Result<(), Fail> {
 #[test]
 fn another_value_at_a_key(rt: HostRuntime) -> Result<(), Fail> {
     let mut map = map_of(rt.alloc(), &[(2, 20), (5, 50), (9, 90)])?;
-    for (key, value) in [(9, 91), (2, 21), (5, 51)] {
+    for (key, value) in [(9, 91), (2, 21)] {
         assert!(rt; map.get(key).copied().is_some());
         map.set(key, value);
     }
-    assert_has(&rt, &map, &[(2, 21), (5, 51), (9, 91)]);
-    Ok(())
-}
-
-#[test]
-fn another_value_at_an_index(rt: HostRuntime) -> Result<(), Fail> {
-    let mut map = map_of(rt.alloc(), &[(2, 20), (5, 50), (9, 90)])?;
-    map.set_at(0, 21);
-    assert_has(&rt, &map, &[(2, 21), (5, 50), (9, 90)]);
-    map.set_at(2, 91);
-    assert_has(&rt, &map, &[(2, 21), (5, 50), (9, 91)]);
+    map.set_at(1, 51);
     map.set_at(3, 1);
-    assert_has(&rt, &map, &[(2, 21), (5, 50), (9, 91)]);
-    Ok(())
-}
-
-#[test]
-fn a_copy_stands_alone(rt: HostRuntime) -> Result<(), Fail> {
-    let mut map = map_of(rt.alloc(), &[(2, 20), (5, 50)])?;
-    let mut copy = map.copy(rt.alloc())?;
-    assert_has(&rt, &copy, &[(2, 20), (5, 50)]);
-    map.remove(2);
-    copy.insert(9, 90)?;
-    assert_has(&rt, &map, &[(5, 50)]);
-    assert_has(&rt, &copy, &[(2, 20), (5, 50), (9, 90)]);
+    assert_has(&rt, &map, &[(2, 21), (5, 51), (9, 91)]);
     Ok(())
 }
 

@@ -1,5 +1,53 @@
-use super::*;
+//! Facts and refusals: the words that all crates share.
+
+use mrc_base::{
+    ClassId, Disp, Fact, OrMemory, PortRight, Right, give, is_port_number, limits, need,
+};
+use mrc_model::{
+    Code, Denied, conclusions_by_rules, derivations_are_least, dying_least, first_holdings_given,
+    holdings_are_held, sound_if_few, sound_task_by_task, spaces_kept,
+};
 use std::alloc::AllocError;
+use std::test::Fail;
+
+// By kind, then by the fields as they stand.
+#[test]
+fn order_of_facts(rt: HostRuntime) {
+    let hold = |task: u16, class: u16, right| Fact::Hold {
+        task,
+        class: ClassId(class),
+        right,
+    };
+    let carry = Fact::Carry {
+        destination: ClassId(0),
+        class: ClassId(0),
+        right: PortRight::Send,
+    };
+    let backup = Fact::Backup {
+        class: ClassId(0),
+        notify: ClassId(0),
+    };
+    assert!(rt; hold(0, 1, PortRight::Send) < hold(0, 1, PortRight::Receive));
+    assert!(rt; hold(0, 1, PortRight::SendOnce) < hold(0, 2, PortRight::Send));
+    assert!(rt; hold(0, 9, PortRight::SendOnce) < hold(1, 0, PortRight::Send));
+    assert!(rt; hold(9, 9, PortRight::SendOnce) < carry);
+    assert!(rt; carry < backup);
+}
+
+#[test]
+fn refusals_print_their_fault_or_memory(rt: HostRuntime) -> Result<(), Fail> {
+    let fault = OrMemory::Fault("Magic").to_string(rt.alloc())?;
+    assert_eq!(rt; fault.as_str(), "Magic");
+    let memory = OrMemory::<&str>::Memory.to_string(rt.alloc())?;
+    assert_eq!(rt; memory.as_str(), "Memory");
+    Ok(())
+}
+
+#[test]
+fn refused_allocations_are_want_of_memory(rt: HostRuntime) {
+    assert_eq!(rt; OrMemory::<u8>::from(AllocError), OrMemory::Memory);
+    assert_ne!(rt; OrMemory::<u8>::from(AllocError), OrMemory::Fault(0));
+}
 
 const CODES: [(Code, &str); 20] = [
     (Code::KernInvalidTask, "KERN_INVALID_TASK"),

@@ -1,0 +1,79 @@
+//! Tables of forms of MIG texts.
+
+use anyhow::Result;
+use mrc_interface::{Form, FormKind, Interface};
+use mrc_mig_lex::lex;
+use mrc_mig_parse::{Shape, parse};
+use mrc_model::RequestKind;
+use std::alloc::{AllocError, Global};
+
+fn kind_word(kind: FormKind) -> &'static str {
+    match kind {
+        FormKind::Request(RequestKind::Routine) => "request",
+        FormKind::Request(RequestKind::Simple) => "simple",
+        FormKind::Reply => "reply",
+    }
+}
+
+/// An argument as its name, size and number, with `*` behind a number that is a bound.
+fn shape_text(alloc: Global, shape: &Shape) -> Result<String, AllocError> {
+    let star = if shape.is_bound { "*" } else { "" };
+    let Shape {
+        name,
+        size,
+        number,
+        ..
+    } = *shape;
+    format!(in alloc; " {name}/{size}/{number}{star}")
+}
+
+/// A form: what it is, its id, its arguments, and its slots by argument, disposition and type.
+fn form_text(alloc: Global, form: &Form) -> Result<String, AllocError> {
+    let mut text = format!(in alloc; "; {} {}", kind_word(form.kind()), form.id())?;
+    for shape in form.arguments() {
+        text.push_str(shape_text(alloc, shape)?.as_str())?;
+    }
+    for slot in form.slots() {
+        let disposition = slot.disposition.number();
+        let slot_text = format!(in alloc;
+            " {}:{disposition}:{}",
+            slot.argument,
+            slot.type_name.as_str()
+        )?;
+        text.push_str(slot_text.as_str())?;
+    }
+    Ok(text)
+}
+
+/// The subsystem's name, its first id and how many ids it has, and each form.
+fn table_text(alloc: Global, interface: &Interface) -> Result<String, AllocError> {
+    let (base, count) = interface.ids();
+    let mut text = format!(in alloc; "{} {base} {count}", interface.name())?;
+    let mut id = base;
+    for _ in 0..count {
+        if let Some(form) = interface.request_form(id) {
+            text.push_str(form_text(alloc, form)?.as_str())?;
+        }
+        if let Some(form) = interface.reply_form(id.wrapping_add(100)) {
+            text.push_str(form_text(alloc, form)?.as_str())?;
+        }
+        id = id.wrapping_add(1);
+    }
+    Ok(text)
+}
+
+/// The table of forms of a text, or the fault of the reader that refuses it.
+pub fn forms(alloc: Global, text: &str) -> Result<String> {
+    let tokens = match lex(alloc, text) {
+        Ok(tokens) => tokens,
+        Err(fault) => return Ok(fault.to_string(alloc)?),
+    };
+    let subsystem = match parse(alloc, tokens.as_slice()) {
+        Ok(subsystem) => subsystem,
+        Err(fault) => return Ok(fault.to_string(alloc)?),
+    };
+    match Interface::of(alloc, subsystem) {
+        Ok(interface) => Ok(table_text(alloc, &interface)?),
+        Err((_, fault)) => Ok(fault.to_string(alloc)?),
+    }
+}

@@ -1,0 +1,6 @@
+//! Tests of public calls that are no rows of a table.
+
+mod maps;
+mod messages;
+mod readers;
+mod words;

@@ -1,0 +1,106 @@
+//! Tokens, symbols and expressions of MIG texts.
+
+use anyhow::Result;
+use mrc_mig_lex::{Sign, Token, TokenKind, lex};
+use mrc_mig_symbols::{Rest, basic_of, expression};
+use std::alloc::{AllocError, Global};
+
+fn sign_mark(sign: Sign) -> char {
+    match sign {
+        Sign::Semicolon => ';',
+        Sign::Colon => ':',
+        Sign::Comma => ',',
+        Sign::Equals => '=',
+        Sign::OpenParenthesis => '(',
+        Sign::CloseParenthesis => ')',
+        Sign::OpenBracket => '[',
+        Sign::CloseBracket => ']',
+        Sign::Star => '*',
+        Sign::Plus => '+',
+        Sign::Minus => '-',
+        Sign::Slash => '/',
+        Sign::Caret => '^',
+        Sign::Bar => '|',
+    }
+}
+
+/// A character for a token: itself for a sign, `n` for a name, `0` for a number.
+fn mark(kind: TokenKind) -> char {
+    match kind {
+        TokenKind::Name => 'n',
+        TokenKind::Number(_) => '0',
+        TokenKind::Text => '"',
+        TokenKind::Header => '<',
+        TokenKind::Directive => '#',
+        TokenKind::Sign(sign) => sign_mark(sign),
+    }
+}
+
+/// A character for each token, or the fault.
+pub fn marks(alloc: Global, text: &str) -> Result<String> {
+    let tokens = match lex(alloc, text) {
+        Ok(tokens) => tokens,
+        Err(fault) => return Ok(fault.to_string(alloc)?),
+    };
+    let mut marks = String::new(alloc);
+    for token in &tokens {
+        marks.push(mark(token.kind()))?;
+    }
+    Ok(marks)
+}
+
+/// A token as its mark, the bytes that it goes from and to, and its value where it is a number.
+fn shown(alloc: Global, token: &Token<'_>) -> Result<String, AllocError> {
+    let mark = mark(token.kind());
+    let (at, end) = (token.at(), token.end());
+    match token.kind() {
+        TokenKind::Number(value) => format!(in alloc; " {mark} {at}-{end} {value};"),
+        _ => format!(in alloc; " {mark} {at}-{end};"),
+    }
+}
+
+/// Each token, or the fault.
+pub fn tokens(alloc: Global, text: &str) -> Result<String> {
+    let tokens = match lex(alloc, text) {
+        Ok(tokens) => tokens,
+        Err(fault) => return Ok(fault.to_string(alloc)?),
+    };
+    let mut line = String::new(alloc);
+    for token in &tokens {
+        line.push_str(shown(alloc, token)?.as_str())?;
+    }
+    Ok(line)
+}
+
+/// Each symbol, or the fault.
+pub fn symbols(alloc: Global, text: &str) -> Result<String> {
+    let tokens = match lex(alloc, text) {
+        Ok(tokens) => tokens,
+        Err(fault) => return Ok(fault.to_string(alloc)?),
+    };
+    let mut line = String::new(alloc);
+    let mut rest = Rest::new(tokens.as_slice());
+    for _ in 0..tokens.len() {
+        line.push_str(format!(in alloc; " {:?};", rest.first())?.as_str())?;
+        rest = rest.next();
+    }
+    Ok(line)
+}
+
+/// The basic type of a name, if it is one.
+pub fn basic(alloc: Global, name: &str) -> Result<String> {
+    Ok(format!(in alloc; "{:?}", basic_of(name))?)
+}
+
+/// The value of an expression and where it ends, or the fault.
+pub fn value(alloc: Global, text: &str) -> Result<String> {
+    let tokens = match lex(alloc, text) {
+        Ok(tokens) => tokens,
+        Err(fault) => return Ok(fault.to_string(alloc)?),
+    };
+    let line = match expression(alloc, Rest::new(tokens.as_slice())) {
+        Ok((value, rest)) => format!(in alloc; "{value} to {}", rest.at())?,
+        Err(fault) => fault.to_string(alloc)?,
+    };
+    Ok(line)
+}
