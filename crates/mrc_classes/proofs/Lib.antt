@@ -6,3 +6,4 @@ pub mod Members
 pub mod Adding
 pub mod Concluding
 pub mod Premises
+pub mod Beginning

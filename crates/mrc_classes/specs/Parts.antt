@@ -12,21 +12,22 @@ use Rattle.mrc_base.specs.declared.Fact.TheVariants.{Hold, Carry, Backup}
 use Rattle.mrc_model.specs.IsIn.{IsIn}
 use Rattle.mrc_model.specs.Wiring.{Wiring, classes, births_class, kernel_class, is_kernel_class}
 use Rattle.mrc_model.specs.Wiring.{accepts_routine, accepts_destroyed}
-use Rattle.mrc_model.specs.Rules.{InRange}
 use Rattle.mrc_model.specs.Conclusions.{same_right, can_send}
 use Rattle.mrc_wiring.specs.Slots.{takes}
 use Rattle.mrc_classes.specs.Growing.{Only, If, Below}
 
 -- without premises
 
+-- a hold over the wiring's tasks and classes
+abbrev pub IsHoldInRange : Wiring → Fact → Type 0
+IsHoldInRange W (Hold t c r) = (t < W.tasks) × (c < classes W)
+IsHoldInRange W (Carry d c r) = ⊥
+IsHoldInRange W (Backup c d) = ⊥
+
 -- one of these holds, over the wiring's tasks and classes
 pub record IsListedHold (W : Wiring) (list : List Fact) (g : Fact) : Type 0 where
-  pub task : ℕ
-  pub class : ℕ
-  pub right : PortRight
-  pub is : g ≡ Hold task class right
   pub there : IsIn g list
-  pub in_range : InRange W g
+  pub within : IsHoldInRange W g
 
 -- the receive right of a task's births, which are of class c
 pub record IsBirth (W : Wiring) (c : ℕ) (g : Fact) : Type 0 where
