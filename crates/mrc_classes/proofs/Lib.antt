@@ -7,3 +7,5 @@ pub mod Adding
 pub mod Concluding
 pub mod Premises
 pub mod Beginning
+pub mod Comparing
+pub mod Missed

@@ -5,3 +5,5 @@ pub mod Worked
 pub mod Following
 pub mod Growing
 pub mod Parts
+pub mod Missing
+pub mod Lacks

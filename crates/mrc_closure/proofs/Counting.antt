@@ -1,9 +1,7 @@
 -- How many facts there can be over a wiring's tasks and classes, and so how many rounds.
 use Rattle.std.proofs.Common.{◌≡◌, ℕ, lit<, ◌+◌, ◌*◌, ◌-◌, ◌^◌, ◌<◌, ◌≤◌, Bool, true, false, List, []}
 use Rattle.std.proofs.Common.{◌∷◌, length, refl, IsTrue, ◌⊎◌, inl, inr, arith}
-use Rattle.std.proofs.lemmas.Bool.{or_left, or_right, and_parts, cases_order, le-ltb, eq-eqb, ne_eqb}
-use Rattle.std.specs.declared.cmp.Ordering.{Ordering}
-use Rattle.std.specs.Ordering.{nat_cmp, ordering_then, is_lt}
+use Rattle.std.proofs.lemmas.Bool.{or_left, or_right, and_parts}
 use Rattle.mrc_base.specs.declared.Fact.{Fact}
 use Rattle.mrc_base.specs.declared.Fact.TheVariants.{Hold, Carry, Backup}
 use Rattle.mrc_base.specs.declared.PortRight.TheVariants.{Send, Receive, SendOnce}
@@ -12,6 +10,7 @@ use Rattle.mrc_model.specs.Rules.{InRange}
 use Rattle.mrc_classes.specs.Order.{is_same, is_before, kind, first_number, second_number, last_byte}
 use Rattle.mrc_classes.specs.Sets.{has, are_ascending, IsAscending}
 use Rattle.mrc_classes.proofs.Total.{same_itself}
+use Rattle.mrc_classes.proofs.Comparing.{cmp_less, last_less}
 use Rattle.mrc_closure.specs.Merging.{Merged}
 use Rattle.mrc_closure.proofs.Keeping.{some, IsRound}
 
@@ -27,17 +26,6 @@ pub record IsSmall (W : Wiring) : Type 0 where
 -- tasks are no more than classes
 pub small_of : (W : Wiring) → classes W < 2 ^ 14 → IsSmall W
 small_of W few = record { tasks = omega (arith, few); classes = few }
-
-cmp_less : (m n : ℕ) (o : Ordering)
-    → is_lt (ordering_then (nat_cmp m n) o) ≡ true
-    → (m < n) ⊎ ((m ≡ n) × (is_lt o ≡ true))
-cmp_less m n o e =
-    elim (cases_order m n) [
-      | inl same ↦ inr (same, rw (le-ltb m n (omega arith), eq-eqb m n same) at e)
-      | inr (inl less) ↦ inl less
-      | inr (inr greater) ↦ absurd
-          (let x = rw (le-ltb m n (omega arith), ne_eqb m n (omega arith)) at e in cc)
-    ]
 
 -- the parts of a fact's number are below their bounds
 pub record IsCoded (f : Fact) : Type 0 where
@@ -96,13 +84,8 @@ code_less f g a b h =
         | inr (same_first, rest_second) ↦ elim
             (cmp_less (second_number f) (second_number g) _ rest_second) [
               | inl low ↦ omega (arith, a.last, b.last)
-              | inr (same_second, last) ↦ elim (cases_order (last_byte f) (last_byte g)) [
-                | inl e ↦ absurd (let x = rw (le-ltb (last_byte f) (last_byte g) (omega arith),
-                    eq-eqb (last_byte f) (last_byte g) e) at last in cc)
-                | inr (inl low) ↦ omega arith
-                | inr (inr high) ↦ absurd (let x = rw (le-ltb (last_byte f) (last_byte g)
-                    (omega arith), ne_eqb (last_byte f) (last_byte g) (omega arith)) at last in cc)
-              ]
+              | inr (same_second, last) ↦
+                  let low = last_less (last_byte f) (last_byte g) last in omega arith
             ]
       ]
     ]
