@@ -11,6 +11,8 @@ use Rattle.mrc_model.specs.Wiring.{Wiring, classes, births_class}
 use Rattle.mrc_model.specs.World.{task_class}
 use Rattle.mrc_model.specs.First.{first}
 use Rattle.mrc_model.specs.Rules.{InRange, Rule, k1, k2}
+use Rattle.mrc_model.proofs.Concluding.{in_left, in_right, in_append}
+use Rattle.mrc_model.proofs.FirstHeld.{in_one}
 use Rattle.mrc_wiring.specs.FirstState.{IsFirstHold, HasFirstHolds}
 use Rattle.mrc_classes.specs.Sets.{has}
 use Rattle.mrc_classes.specs.Growing.{Added, Only, Below, nothing}
@@ -18,26 +20,10 @@ use Rattle.mrc_classes.specs.Following.{IsHeldAtFirst, IsFirstFact, IsListOf}
 use Rattle.mrc_classes.specs.Parts.{IsListedHold, IsHoldInRange, IsBirth}
 use Rattle.mrc_classes.proofs.Adding.{added_none, added_both, added_as}
 
--- lists
-
-pub in_front : {g : Fact} {xs : List Fact} (ys : List Fact) → IsIn g xs → IsIn g (xs ++ ys)
-in_front ys here = here
-in_front ys (later at) = later (in_front ys at)
-
-pub at_end : (xs : List Fact) (g : Fact) → IsIn g (xs ++ g ∷ [])
-at_end [] g = here
-at_end (x ∷ xs) g = later (at_end xs g)
-
-in_one : {g x : Fact} → IsIn g (x ∷ []) → g ≡ x
-in_one here = refl
-in_one (later at) = elim at [ ]
-
-pub in_push : (g x : Fact) (xs : List Fact) → IsIn g (xs ++ x ∷ []) → IsIn g xs ⊎ (g ≡ x)
-in_push g x [] at = inr (in_one at)
-in_push g x (y ∷ xs) here = inl here
-in_push g x (y ∷ xs) (later at) = elim (in_push g x xs at) [
-  | inl a ↦ inl (later a)
-  | inr e ↦ inr e
+in_push : (g x : Fact) (xs : List Fact) → IsIn g (xs ++ x ∷ []) → IsIn g xs ⊎ (g ≡ x)
+in_push g x xs at = elim (in_append g xs (x ∷ []) at) [
+  | inl old ↦ inl old
+  | inr new ↦ inr (in_one g x new)
 ]
 
 -- one more of a list
@@ -60,13 +46,13 @@ one_listed W list i f below is F G H b decides before step =
         → IsListedHold W (take i list) g ⊎ Only b f g
         → IsListedHold W (take (i + 1) list) g
     there g (inl x) = record {
-      there = subst (λ xs. IsIn g xs) (sym more) (in_front (f ∷ []) x.there);
+      there = subst (λ xs. IsIn g xs) (sym more) (in_left g (take i list) (f ∷ []) x.there);
       within = x.within;
     }
     there g (inr x) =
         subst (λ y. IsListedHold W (take (i + 1) list) y) (sym x.is)
         (record {
-          there = subst (λ xs. IsIn f xs) (sym more) (at_end (take i list) f);
+          there = subst (λ xs. IsIn f xs) (sym more) (in_right f (take i list) (f ∷ []) here);
           within = decides.0 x.there;
         })
 
