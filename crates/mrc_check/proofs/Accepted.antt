@@ -1,6 +1,6 @@
 -- From what the code found to the verdict: forbidden lines, and that the verdict is one.
-use Rattle.std.proofs.Common.{◌≡◌, ℕ, true, false, List, [], ◌∷◌, map, Option, Some, None, refl}
-use Rattle.std.proofs.Common.{subst, sym, arith, IsTrue, inl, inr, if◌then◌else◌}
+use Rattle.std.proofs.Common.{◌≡◌, ℕ, true, false, List, [], ◌∷◌, map, Some, None, refl}
+use Rattle.std.proofs.Common.{subst, arith, IsTrue, inl, inr, if◌then◌else◌}
 use Rattle.std.specs.Prelude.{find}
 use Rattle.std.specs.Option.{option_map}
 use Rattle.mrc_base.specs.declared.memory.OrMemory.{OrMemory}

@@ -71,11 +71,7 @@ fn has_counts(claim: &Claim, draft: &Draft) -> bool
 }
 
 /// The first fact that the draft lacks, with its rule.
-fn first_missing(
-    alloc: Global,
-    claim: &Claim,
-    draft: &Draft,
-) -> Result<Option<Missing>, AllocError>
+fn first_missing(alloc: Global, claim: &Claim, draft: &Draft) -> Result<Option<Missing>, AllocError>
     ensures { IfOk result
         (IsAnswer (wiring_of claim.now.table) (has (content draft.now).facts)) }
 {

@@ -1,5 +1,5 @@
 -- How sets grow by parts.
-use Rattle.std.proofs.Common.{◌≡◌, ℕ, ◌+◌, ◌<◌, Bool, true, false, refl, sym, subst, ◌∙◌, IsTrue}
+use Rattle.std.proofs.Common.{◌≡◌, ℕ, ◌+◌, Bool, true, false, refl, sym, subst, ◌∙◌, IsTrue}
 use Rattle.std.proofs.Common.{◌⊎◌, inl, inr, arith}
 use Rattle.std.specs.Prelude.{◌||◌}
 use Rattle.std.proofs.lemmas.Bool.{cases_eq, or_cases, or_left, or_right, false≢true}
@@ -89,5 +89,6 @@ below_more i Q p q =
     back : (g : Fact) → Below (i + 1) Q g → Below i Q g ⊎ Q i g
     back g x = elim (cases_eq x.place i) [
       | inl same ↦ inr (subst (λ k. Q k g) same x.at)
-      | inr other ↦ inl (record { place = x.place; below = omega (arith, x.below, other); at = x.at })
+      | inr other ↦ inl
+          (record { place = x.place; below = omega (arith, x.below, other); at = x.at })
     ]

@@ -1,24 +1,22 @@
 -- What the first state and births give is what the rules without premises conclude.
-use Rattle.std.proofs.Common.{◌≡◌, ℕ, ◌+◌, ◌<◌, Bool, true, List, [], ◌∷◌, ◌++◌, length, take, Some}
+use Rattle.std.proofs.Common.{◌≡◌, ℕ, ◌+◌, ◌<◌, Bool, List, [], ◌∷◌, ◌++◌, length, take}
 use Rattle.std.proofs.Common.{refl, ap, sym, slice_index_or, subst, ◌∙◌, IsTrue, ◌↔◌, ◌⊎◌, inl, inr}
 use Rattle.std.proofs.lemmas.List.{take_more}
 use Rattle.mrc_base.specs.declared.Fact.{Fact}
 use Rattle.mrc_base.specs.declared.Fact.TheVariants.{Hold, Carry, Backup}
-use Rattle.mrc_base.specs.declared.PortRight.{PortRight}
-use Rattle.mrc_base.specs.declared.PortRight.TheVariants.{Receive}
-use Rattle.mrc_model.specs.IsIn.{IsIn, here, later}
-use Rattle.mrc_model.specs.Wiring.{Wiring, classes, births_class}
+use Rattle.mrc_model.specs.IsIn.{IsIn, here}
+use Rattle.mrc_model.specs.Wiring.{Wiring, classes}
 use Rattle.mrc_model.specs.World.{task_class}
 use Rattle.mrc_model.specs.First.{first}
 use Rattle.mrc_model.specs.Rules.{InRange, Rule, k1, k2}
 use Rattle.mrc_model.proofs.Concluding.{in_left, in_right, in_append}
 use Rattle.mrc_model.proofs.FirstHeld.{in_one}
-use Rattle.mrc_wiring.specs.FirstState.{IsFirstHold, HasFirstHolds}
+use Rattle.mrc_wiring.specs.FirstState.{HasFirstHolds}
 use Rattle.mrc_classes.specs.Sets.{has}
 use Rattle.mrc_classes.specs.Growing.{Added, Only, Below, nothing}
 use Rattle.mrc_classes.specs.Following.{IsHeldAtFirst, IsFirstFact, IsListOf}
 use Rattle.mrc_classes.specs.Parts.{IsListedHold, IsHoldInRange, IsBirth}
-use Rattle.mrc_classes.proofs.Adding.{added_none, added_both, added_as}
+use Rattle.mrc_classes.proofs.Adding.{added_both, added_as}
 
 in_push : (g x : Fact) (xs : List Fact) → IsIn g (xs ++ x ∷ []) → IsIn g xs ⊎ (g ≡ x)
 in_push g x xs at = elim (in_append g xs (x ∷ []) at) [
@@ -98,8 +96,8 @@ module _ (W : Wiring) (list : List Fact) (first_holds : HasFirstHolds W list) wh
 
 pub first_hold_is : (W : Wiring) (g : Fact) → IsHeldAtFirst W g → Rule W 1 [] g
 first_hold_is W g x =
-    let rule : Rule W 1 [] (Hold (task_class (first W) x.held.task) x.class x.right) = k1 x.held.task
-    x.held.port x.held.held x.held.port_class in
+    let rule : Rule W 1 [] (Hold (task_class (first W) x.held.task) x.class x.right) = k1
+    x.held.task x.held.port x.held.held x.held.port_class in
     let at : Rule W 1 [] (Hold x.task x.class x.right) = subst
     (λ t. Rule W 1 [] (Hold t x.class x.right)) x.held.task_class_is rule in
     subst (λ y. Rule W 1 [] y) (sym x.is) at

@@ -1,6 +1,6 @@
 -- The parts of what follows from a fact are the instances that have it as a premise.
-use Rattle.std.proofs.Common.{◌≡◌, ℕ, ◌+◌, ◌-◌, ◌<◌, ◌≤◌, Bool, true, false, List, [], ◌∷◌, refl}
-use Rattle.std.proofs.Common.{ap, sym, subst, ◌∙◌, IsTrue, ◌⊎◌, inl, inr, arith, ◌&&◌, ◌||◌, nat_le}
+use Rattle.std.proofs.Common.{◌≡◌, ℕ, ◌+◌, ◌-◌, ◌<◌, Bool, true, List, [], ◌∷◌, refl}
+use Rattle.std.proofs.Common.{sym, subst, IsTrue, inl, inr, arith, ◌&&◌, nat_le}
 use Rattle.std.proofs.Common.{nat_lt, length, Some}
 use Rattle.std.specs.List.{AllByRecursion}
 use Rattle.std.proofs.lemmas.Bool.{and_parts, and_from, or_cases, or_left, or_right, le-leb}
@@ -22,10 +22,11 @@ use Rattle.mrc_model.specs.Conclusions.{same_right, can_send}
 use Rattle.mrc_model.proofs.Concluding.{same_right_is, same_right_self}
 use Rattle.mrc_wiring.specs.Slots.{takes}
 use Rattle.mrc_wiring.proofs.Slots.{IsTaker, taken, taker}
-use Rattle.mrc_classes.specs.Growing.{Only, If, Below}
-use Rattle.mrc_classes.specs.Parts.{EachRight, BySlot, BySlots, ByReply, ByRequest, ByPair, PairedBy}
-use Rattle.mrc_classes.specs.Parts.{PairedAt, SharedAt, are_linked, PartnerAt, is_link, ByLink}
-use Rattle.mrc_classes.specs.Parts.{ReceivedAt, NotifiedAt, ReceiverAt, ByReceive, ByHold, ByFact}
+use Rattle.mrc_classes.specs.Growing.{Only, Below}
+use Rattle.mrc_classes.specs.Parts.{EachRight, BySlot, BySlots, ByReply, ByRequest, ByPair}
+use Rattle.mrc_classes.specs.Parts.{PairedBy}
+use Rattle.mrc_classes.specs.Parts.{SharedAt, are_linked, is_link, ByLink}
+use Rattle.mrc_classes.specs.Parts.{ReceivedAt, ByReceive, ByHold, ByFact}
 
 -- a rule concludes g by an instance in range that has f as a premise; all its premises are in the
 -- set
@@ -193,11 +194,12 @@ module _ (W : Wiring) (S : Fact → Bool) where
   part_of k premises f g (k3_once {t} {c}) here all within =
       in_receive t c (Hold t c SendOnce) (inr (inl (record { there = refl; is = refl })))
   part_of k premises f g (k3_once {t} {c}) (later at) all within = absurd (not_in at)
-  part_of k premises f g (k4 {t} {d} {c} {r} {f = h} {s} {x} can label slot is fits) here all within =
+  part_of k premises f g (k4 {t} {d} {c} {r} {f = h} {s} {x} can label slot is fits) here all
+      within =
       first_of_pair t d c r (needed x) (Carry d c (given x)) within.1 all.1.0.1
       (by_slot W d r c x (sends can) (taken W d x c (takes_by d c h s x label slot is fits)))
-  part_of k premises f g (k4 {t} {d} {c} {r} {f = h} {s} {x} can label slot is fits) (later here) all
-      within =
+  part_of k premises f g (k4 {t} {d} {c} {r} {f = h} {s} {x} can label slot is fits) (later here)
+      all within =
       second_of_pair t d c r (needed x) (Carry d c (given x)) within.0 all.0.1
       (by_slot W d r c x (sends can) (taken W d x c (takes_by d c h s x label slot is fits)))
   part_of k premises f g (k4 can label slot is fits) (later (later at)) all within =
@@ -225,7 +227,7 @@ module _ (W : Wiring) (S : Fact → Bool) where
   part_of k premises f g (k7_down {t} {u} {c} {r}) (later here) all within =
       in_partner t u c r within.0
       (or_left (S (Hold t (kernel_class W u) Send)) (S (Hold u (kernel_class W t) Send)) all.0.1)
-  part_of k premises f g (k7_down {t} {u} {c} {r}) (later (later at)) all within = absurd (not_in at)
+  part_of k premises f g k7_down (later (later at)) all within = absurd (not_in at)
   part_of k premises f g (k8 {t} {c} {d} side) here all within =
       first_of_pair t c d Receive SendOnce (Backup c d) within.1 all.1.0.1 (by_request W c d side)
   part_of k premises f g (k8 {t} {c} {d} side) (later here) all within =
@@ -259,8 +261,8 @@ kernel_task W c r h =
 
 -- the class of a task's kernel port is one of the classes
 pub kernel_there : (W : Wiring) (u : ℕ) → u < W.tasks → kernel_class W u < classes W
-kernel_there W u low = let h : W.ports + u < W.ports + W.tasks + length W.births = omega (arith, low)
-    in h
+kernel_there W u low =
+    let h : W.ports + u < W.ports + W.tasks + length W.births = omega (arith, low) in h
 
 module _ (W : Wiring) (S : Fact → Bool) where
   one : {k : ℕ} {f g : Fact}

@@ -1,35 +1,31 @@
 -- The tests of a set and the ten rules conclude the same, so the first lack by the tests is the
 -- first missing fact.
 use Rattle.std.proofs.Common.{◌≡◌, ℕ, ◌<◌, Bool, true, false, List, [], ◌∷◌, Option, Some, None}
-use Rattle.std.proofs.Common.{refl, sym, ap, subst, ◌∙◌, IsTrue, ◌⊎◌, inl, inr, arith, ◌||◌, ◌==◌}
+use Rattle.std.proofs.Common.{refl, sym, ap, subst, ◌∙◌, IsTrue, ◌⊎◌, inl, inr, arith, ◌==◌}
 use Rattle.std.proofs.Common.{if◌then◌else◌}
-use Rattle.std.specs.Prelude.{not, IfSome, IfNone}
+use Rattle.std.specs.Prelude.{IfSome, IfNone}
 use Rattle.std.specs.List.{AllByRecursion}
 use Rattle.std.proofs.lemmas.Bool.{or_cases, or_left, or_right, cases_order}
 use Rattle.mrc_base.specs.declared.PortRight.{PortRight}
 use Rattle.mrc_base.specs.declared.PortRight.TheVariants.{Send, Receive, SendOnce}
-use Rattle.mrc_base.specs.declared.Disp.{Disp}
 use Rattle.mrc_base.specs.Disposition.{needed, given}
 use Rattle.mrc_base.specs.declared.Fact.{Fact}
-use Rattle.mrc_base.specs.declared.Fact.TheVariants.{Hold, Carry, Backup}
-use Rattle.mrc_model.specs.Wiring.{Wiring, classes, kernel_class, accepts_routine}
+use Rattle.mrc_base.specs.declared.Fact.TheVariants.{Hold, Carry}
+use Rattle.mrc_model.specs.Wiring.{Wiring, classes, kernel_class}
 use Rattle.mrc_model.specs.World.{task_class}
 use Rattle.mrc_model.specs.First.{first}
 use Rattle.mrc_model.specs.Rules.{Has, InRange, Closed, Follows, CanSendBy, by_send, by_once, Rule}
 use Rattle.mrc_model.specs.Rules.{k1, k2, k3_send, k3_once, k4, k5, k6, k7_up, k7_down, k8, k9, k10}
 use Rattle.mrc_model.specs.Conclusions.{same_right}
-use Rattle.mrc_model.proofs.Concluding.{same_right_is, same_right_self}
-use Rattle.mrc_wiring.specs.Slots.{takes}
+use Rattle.mrc_model.proofs.Concluding.{same_right_is}
 use Rattle.mrc_wiring.proofs.Slots.{IsTaker, taken, taker}
 use Rattle.mrc_classes.specs.Order.{is_before, right_number}
-use Rattle.mrc_classes.specs.Following.{IsHeldAtFirst}
-use Rattle.mrc_classes.specs.Parts.{are_linked}
 use Rattle.mrc_classes.specs.declared.rule_names.RuleName.{RuleName}
 use Rattle.mrc_classes.specs.declared.rule_names.RuleName.TheVariants.{First, Births, Weaker, Slot}
 use Rattle.mrc_classes.specs.declared.rule_names.RuleName.TheVariants.{Reply, Received, KernelPort}
 use Rattle.mrc_classes.specs.declared.rule_names.RuleName.TheVariants.{Request, Notice, Returned}
 use Rattle.mrc_classes.specs.declared.lacking.Missing.{Missing}
-use Rattle.mrc_classes.specs.Lacks.{conclusion, rows, can_send_to, IsSender, Concludes, Lacks}
+use Rattle.mrc_classes.specs.Lacks.{conclusion, rows, can_send_to, Concludes, Lacks}
 use Rattle.mrc_classes.specs.Lacks.{LacksNothing, IsFirstLack}
 use Rattle.mrc_classes.specs.Missing.{rule_number, IsMissing, IsFirstMissing, IsAnswer}
 use Rattle.mrc_classes.proofs.Beginning.{first_hold_is}
@@ -120,8 +116,14 @@ module _ (W : Wiring) (S : Fact → Bool) where
         class = c;
         right = given x;
         is = refl;
-        concluded = (x, refl, (taken W d x c at,
-            (t, all.0.0.0, can_send t d r can all.0.1, all.1.0.1)));
+        concluded = (
+          x,
+          refl,
+          (
+            taken W d x c at,
+            (t, all.0.0.0, can_send t d r can all.0.1, all.1.0.1),
+          ),
+        );
       }
   tested k premises g (k5 {t} {d} {c} {r} can side) all within = record {
     rule = Reply;
@@ -148,8 +150,13 @@ module _ (W : Wiring) (S : Fact → Bool) where
     class = c;
     right = r;
     is = refl;
-    concluded = (u, all.1.0.0.0, or_left (S (Hold t (kernel_class W u) Send))
-        (S (Hold u (kernel_class W t) Send)) all.0.1, all.1.0.1);
+    concluded = (
+      u,
+      all.1.0.0.0,
+      or_left (S (Hold t (kernel_class W u) Send))
+          (S (Hold u (kernel_class W t) Send)) all.0.1,
+      all.1.0.1,
+    );
   }
   tested k premises g (k7_down {t} {u} {c} {r}) all within = record {
     rule = KernelPort;
@@ -158,8 +165,13 @@ module _ (W : Wiring) (S : Fact → Bool) where
     class = c;
     right = r;
     is = refl;
-    concluded = (t, all.1.0.0.0, or_right (S (Hold u (kernel_class W t) Send))
-        (S (Hold t (kernel_class W u) Send)) all.0.1, all.1.0.1);
+    concluded = (
+      t,
+      all.1.0.0.0,
+      or_right (S (Hold u (kernel_class W t) Send))
+          (S (Hold t (kernel_class W u) Send)) all.0.1,
+      all.1.0.1,
+    );
   }
   tested k premises g (k8 {t} {c} {d} side) all within = record {
     rule = Request;

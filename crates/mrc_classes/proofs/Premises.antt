@@ -1,13 +1,12 @@
 -- What follows from a fact and those of a set is what the parts of the fact conclude, where the
 -- fact is put with the set.
-use Rattle.std.proofs.Common.{ℕ, Bool, false, List, [], ◌∷◌, sym, subst, IsTrue, ◌≡◌, ◌⊎◌, inl, inr}
-use Rattle.std.specs.Prelude.{◌||◌}
+use Rattle.std.proofs.Common.{Bool, List, [], ◌∷◌, sym, subst, IsTrue, ◌≡◌, ◌⊎◌, inl, inr}
 use Rattle.std.specs.List.{AllByRecursion}
 use Rattle.std.proofs.lemmas.Bool.{or_cases, or_left, or_right}
 use Rattle.mrc_base.specs.declared.Fact.{Fact}
 use Rattle.mrc_model.specs.IsIn.{IsIn, here, later}
 use Rattle.mrc_model.specs.Wiring.{Wiring}
-use Rattle.mrc_model.specs.Rules.{Has, InRange, FollowsFrom}
+use Rattle.mrc_model.specs.Rules.{Has, InRange}
 use Rattle.mrc_classes.specs.Order.{is_same}
 use Rattle.mrc_classes.specs.Sets.{has}
 use Rattle.mrc_classes.specs.Growing.{Added, nothing}

@@ -18,8 +18,9 @@ ghost use Rattle.mrc_classes.specs.Parts.{is_link, ByLink, ReceivedAt, NotifiedA
 ghost use Rattle.mrc_classes.specs.Parts.{ByReceive, ByHold, ByFact};
 
 use crate::facts::Facts;
-use crate::rights::{backup, can_send, carry, hold, is_in_range, kernel_port, linked_task};
-use crate::rights::same_right;
+use crate::rights::{
+    backup, can_send, carry, hold, is_in_range, kernel_port, linked_task, same_right,
+};
 use mrc_base::{ClassId, Disp, Fact, PortRight, give, need};
 use mrc_wiring::Wired;
 use std::alloc::{AllocError, Global};
@@ -182,8 +183,26 @@ fn pair_at(
         (PairedAt (wiring_of wired.now) (has known.now) task to right class)) }
 {
     pair_by(wired, known, task, to, right, class, PortRight::Send, found)?;
-    pair_by(wired, known, task, to, right, class, PortRight::Receive, found)?;
-    pair_by(wired, known, task, to, right, class, PortRight::SendOnce, found)?;
+    pair_by(
+        wired,
+        known,
+        task,
+        to,
+        right,
+        class,
+        PortRight::Receive,
+        found,
+    )?;
+    pair_by(
+        wired,
+        known,
+        task,
+        to,
+        right,
+        class,
+        PortRight::SendOnce,
+        found,
+    )?;
     Ok(())
 }
 

@@ -59,8 +59,7 @@ fn is_sent(wired: &Wired, facts: &Facts, to: u16, class: u16, held: PortRight) -
 fn is_carried_by(wired: &Wired, facts: &Facts, to: u16, class: u16, disp: Disp) -> bool
     ensures { IsTrue result ↔ IsCarriedBy (wiring_of wired.now) (has facts.now) to class disp }
 {
-    wired.takes(ClassId(to), disp, ClassId(class))
-        && is_sent(wired, facts, to, class, need(disp))
+    wired.takes(ClassId(to), disp, ClassId(class)) && is_sent(wired, facts, to, class, need(disp))
 }
 
 /// Whether a slot carries the right on the class to class `to`.
@@ -325,7 +324,8 @@ fn first_missing(wired: &Wired, first: &Facts, facts: &Facts) -> Option<Missing>
     requires held { IsListOf (IsHeldAtFirst (wiring_of wired.now)) first.now }
     ensures found { IfSome result (λ m.
         IsFirstLack (wiring_of wired.now) (has facts.now) m.rule m.fact) }
-    ensures earlier { IfSome result (λ m. (rule : RuleName) → rule_number rule < rule_number m.rule →
+    ensures earlier { IfSome result (λ m. (rule : RuleName) →
+        rule_number rule < rule_number m.rule →
         LacksNothing (wiring_of wired.now) (has facts.now) rule) }
     ensures none { IfNone result ((rule : RuleName) →
         LacksNothing (wiring_of wired.now) (has facts.now) rule) }
@@ -342,11 +342,7 @@ fn first_missing(wired: &Wired, first: &Facts, facts: &Facts) -> Option<Missing>
 /// The first conclusion of the rules that the set lacks: of least rule number, and then the least
 /// fact. There is none exactly where the set is closed under the ten rules. Memory is taken for
 /// what is held at first alone.
-pub fn violation(
-    alloc: Global,
-    wired: &Wired,
-    facts: &Facts,
-) -> Result<Option<Missing>, AllocError>
+pub fn violation(alloc: Global, wired: &Wired, facts: &Facts) -> Result<Option<Missing>, AllocError>
     ensures { IfOk result (IsAnswer (wiring_of wired.now) (has facts.now)) }
 {
     let first = held_at_first(alloc, wired)?;

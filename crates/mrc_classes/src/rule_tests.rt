@@ -64,10 +64,7 @@ fn backup(class: u16, notify: u16) -> Fact
 }
 
 fn wired(alloc: Global, text: &str) -> Result<Wired, Fail> {
-    Ok(Wired::resolve(
-        alloc,
-        &read_wiring(alloc, text.as_bytes())?,
-    )?)
+    Ok(Wired::resolve(alloc, &read_wiring(alloc, text.as_bytes())?)?)
 }
 
 fn set_of(alloc: Global, facts: &[Fact]) -> Result<Facts, AllocError> {
@@ -115,7 +112,11 @@ fn what_is_carried_is_received(rt: HostRuntime) -> Result<(), Fail> {
     let carried = carry(2, 1, PortRight::SendOnce);
     let receive = hold(0, 2, PortRight::Receive);
     let got = hold(0, 1, PortRight::SendOnce);
-    let weaker = [hold(0, 2, PortRight::Send), hold(0, 2, PortRight::SendOnce), got];
+    let weaker = [
+        hold(0, 2, PortRight::Send),
+        hold(0, 2, PortRight::SendOnce),
+        got,
+    ];
     assert!(rt; follow(rt.alloc(), carried, receive, &[got])?);
     assert!(rt; follow(rt.alloc(), receive, carried, &weaker)?);
     // At another class, and without the receive right.
@@ -147,10 +148,21 @@ fn requests_have_notices(rt: HostRuntime) -> Result<(), Fail> {
     let carried = carry(1, 2, PortRight::Receive);
     let receive = hold(0, 2, PortRight::Receive);
     let returned = hold(0, 1, PortRight::SendOnce);
-    let weaker = [hold(0, 2, PortRight::Send), hold(0, 2, PortRight::SendOnce), returned];
+    let weaker = [
+        hold(0, 2, PortRight::Send),
+        hold(0, 2, PortRight::SendOnce),
+        returned,
+    ];
     assert!(rt; follow(rt.alloc(), asked, receive, &[carried, returned])?);
     assert!(rt; follow(rt.alloc(), receive, asked, &weaker)?);
-    assert!(rt; follow(rt.alloc(), asked, hold(0, 3, PortRight::Receive), &[carried])?);
+    assert!(rt;
+        follow(
+            rt.alloc(),
+            asked,
+            hold(0, 3, PortRight::Receive),
+            &[carried]
+        )?
+    );
     Ok(())
 }
 

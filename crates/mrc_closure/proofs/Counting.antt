@@ -1,13 +1,14 @@
 -- How many facts there can be over a wiring's tasks and classes, and so how many rounds.
-use Rattle.std.proofs.Common.{◌≡◌, ℕ, lit<, ◌+◌, ◌*◌, ◌-◌, ◌^◌, ◌<◌, ◌≤◌, Bool, true, false, List, []}
-use Rattle.std.proofs.Common.{◌∷◌, length, refl, IsTrue, ◌⊎◌, inl, inr, arith}
+use Rattle.std.proofs.Common.{◌≡◌, ℕ, ◌+◌, ◌*◌, ◌-◌, ◌^◌, ◌<◌, ◌≤◌, false, List, []}
+use Rattle.std.proofs.Common.{◌∷◌, length, refl, IsTrue, inl, inr, arith}
 use Rattle.std.proofs.lemmas.Bool.{or_left, or_right, and_parts}
 use Rattle.mrc_base.specs.declared.Fact.{Fact}
 use Rattle.mrc_base.specs.declared.Fact.TheVariants.{Hold, Carry, Backup}
 use Rattle.mrc_base.specs.declared.PortRight.TheVariants.{Send, Receive, SendOnce}
 use Rattle.mrc_model.specs.Wiring.{Wiring, classes}
 use Rattle.mrc_model.specs.Rules.{InRange}
-use Rattle.mrc_classes.specs.Order.{is_same, is_before, kind, first_number, second_number, last_byte}
+use Rattle.mrc_classes.specs.Order.{is_same, is_before, kind, first_number, second_number}
+use Rattle.mrc_classes.specs.Order.{last_byte}
 use Rattle.mrc_classes.specs.Sets.{has, are_ascending, IsAscending}
 use Rattle.mrc_classes.proofs.Total.{same_itself}
 use Rattle.mrc_classes.proofs.Comparing.{cmp_less, last_less}

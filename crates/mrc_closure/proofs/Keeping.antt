@@ -1,7 +1,8 @@
 -- A round keeps what the loop keeps, and the last one leaves the least closed set.
-use Rattle.std.proofs.Common.{◌≡◌, ℕ, zero, suc, not, ◌==◌, ◌+◌, ◌<◌, Bool, true, false, List, []}
-use Rattle.std.proofs.Common.{◌∷◌, ◌++◌, length, take, add-zero, if◌then◌else◌, slice_index_or, refl, ap, sym, subst, ◌∙◌}
-use Rattle.std.proofs.Common.{IsTrue, ◌⊎◌, ◌↔◌, inl, inr, arith}
+use Rattle.std.proofs.Common.{◌≡◌, ℕ, not, ◌==◌, ◌+◌, ◌<◌, Bool, true, false, List, []}
+use Rattle.std.proofs.Common.{◌∷◌, ◌++◌, length, take, add-zero, if◌then◌else◌, slice_index_or}
+use Rattle.std.proofs.Common.{refl, ap, sym, subst, ◌∙◌}
+use Rattle.std.proofs.Common.{IsTrue, ◌⊎◌, inl, inr, arith}
 use Rattle.std.specs.Prelude.{◌||◌}
 use Rattle.std.specs.List.{AllByRecursion}
 use Rattle.std.proofs.lemmas.Bool.{or_cases, or_left, or_right, true≢false, ne_eqb}
@@ -18,7 +19,7 @@ use Rattle.mrc_classes.specs.Growing.{Added}
 use Rattle.mrc_classes.specs.Following.{IsConsequence, IsFirstFact, IsListOf}
 use Rattle.mrc_classes.proofs.Total.{equal_from_same, same_itself}
 use Rattle.mrc_classes.proofs.Premises.{all_as}
-use Rattle.mrc_closure.specs.Merging.{FromOne, IsNew, Merged}
+use Rattle.mrc_closure.specs.Merging.{FromOne, Merged}
 
 -- lists
 

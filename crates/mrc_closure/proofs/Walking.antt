@@ -1,16 +1,13 @@
 -- From a fact of an ascending list to the next one.
-use Rattle.std.proofs.Common.{◌≡◌, ℕ, zero, suc, ◌+◌, ◌-◌, ◌<◌, ◌≤◌, true, false, cond, List, [], ◌∷◌, length}
+use Rattle.std.proofs.Common.{◌≡◌, ℕ, zero, suc, ◌+◌, ◌-◌, ◌<◌, ◌≤◌, List, [], ◌∷◌, length}
 use Rattle.std.proofs.Common.{◌++◌, take, Some, None, refl, ap, sym, subst, ◌∙◌, IsTrue, arith}
-use Rattle.std.specs.Prelude.{slice_get, find}
-use Rattle.std.specs.List.{AllByRecursion}
-use Rattle.std.specs.List.Sorted.{IsStrictlySortedBy}
+use Rattle.std.specs.Prelude.{slice_get}
 use Rattle.std.proofs.lemmas.List.{take_more, take_all, length-append}
 use Rattle.std.proofs.lemmas.Option.{get_or_from_slice_get}
 use Rattle.std.proofs.lemmas.Bool.{and_parts, or_left, or_right}
 use Rattle.mrc_base.specs.declared.Fact.{Fact}
-use Rattle.mrc_classes.specs.Order.{fact_cmp, is_before, is_same}
+use Rattle.mrc_classes.specs.Order.{is_before, is_same}
 use Rattle.mrc_classes.specs.Sets.{has, after, begins_after, are_ascending, IsAscending}
-use Rattle.mrc_classes.specs.Laws.{IsLeast}
 use Rattle.mrc_classes.proofs.Total.{not_before_itself, same_itself}
 use Rattle.mrc_classes.proofs.Members.{first_is_least}
 
@@ -80,7 +77,7 @@ listed_more fs list list_then f up so_far at is =
     let longer : length list_then ≡ length list + 1 = ap length is
     ∙ length-append list (f ∷ []) in (
       is ∙ (ap (λ xs. xs ++ f ∷ []) so_far ∙ (sym (up_to fs (length list) f at)
-      ∙ ap (λ n. take n fs) (sym longer))),
+          ∙ ap (λ n. take n fs) (sym longer))),
       next_after fs up (length list) f (sym at) ∙ ap (λ n. slice_get fs n) (sym longer),
     )
 

@@ -2,12 +2,12 @@
 -- no labels they are holds.
 use Rattle.std.proofs.Common.{◌≡◌, ℕ, ◌<◌, Bool, true, false, List, [], ◌∷◌, refl, sym, subst, ◌∙◌}
 use Rattle.std.proofs.Common.{IsTrue, nat_lt}
-use Rattle.std.specs.List.{AllByRecursion, list_all}
+use Rattle.std.specs.List.{list_all}
 use Rattle.std.proofs.lemmas.Bool.{and_from, or_left, or_right, lt-ltb, true≢false}
 use Rattle.mrc_base.specs.declared.Fact.{Fact}
 use Rattle.mrc_base.specs.declared.Fact.TheVariants.{Hold, Carry, Backup}
-use Rattle.mrc_model.specs.Wiring.{Wiring, classes}
-use Rattle.mrc_model.specs.Rules.{Has, InRange, Closed, Least, Rule, k1, k2, k3_send, k3_once, k4}
+use Rattle.mrc_model.specs.Wiring.{classes}
+use Rattle.mrc_model.specs.Rules.{Has, InRange, Closed, Least, k1, k2, k3_send, k3_once, k4}
 use Rattle.mrc_model.specs.Rules.{k5, k6, k7_up, k7_down, k8, k9, k10}
 use Rattle.mrc_wiring.specs.Table.{Table, wiring_of}
 use Rattle.mrc_wiring.proofs.Slots.{IsTaker, taken, takes_nothing, no_routine, no_destroyed}

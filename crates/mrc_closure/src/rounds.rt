@@ -16,12 +16,7 @@ use mrc_wiring::Wired;
 use std::alloc::{AllocError, Global};
 
 /// What follows from one of the new facts, with those of the set.
-fn round(
-    alloc: Global,
-    wired: &Wired,
-    facts: &Facts,
-    new: &[Fact],
-) -> Result<Facts, AllocError>
+fn round(alloc: Global, wired: &Wired, facts: &Facts, new: &[Fact]) -> Result<Facts, AllocError>
     ensures { IfOk result (IsListOf (FromOne (wiring_of wired.now) facts.now new.now)) }
 {
     let mut found = Facts::new(alloc);

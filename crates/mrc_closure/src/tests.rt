@@ -33,10 +33,7 @@ fn hold(task: u16, class: u16, right: PortRight) -> Fact
 }
 
 fn wired(alloc: Global, text: &str) -> Result<Wired, Fail> {
-    Ok(Wired::resolve(
-        alloc,
-        &read_wiring(alloc, text.as_bytes())?,
-    )?)
+    Ok(Wired::resolve(alloc, &read_wiring(alloc, text.as_bytes())?)?)
 }
 
 fn made(alloc: Global, text: &str) -> Result<Draft, Fail> {

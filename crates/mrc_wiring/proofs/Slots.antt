@@ -1,6 +1,6 @@
 -- A slot that takes a right is one of a form of the label. And no class of a table has a label.
-use Rattle.std.proofs.Common.{◌≡◌, ℕ, Bool, true, false, List, [], ◌∷◌, Some, refl, ap, subst, sym}
-use Rattle.std.proofs.Common.{◌∙◌, inl, inr, rules, ◌==◌, ◌&&◌, ◌||◌, if◌then◌else◌, nat_lt}
+use Rattle.std.proofs.Common.{◌≡◌, ℕ, Bool, true, false, List, [], ◌∷◌, Some, refl, ap}
+use Rattle.std.proofs.Common.{◌∙◌, inl, inr, rules, ◌==◌, if◌then◌else◌, nat_lt}
 use Rattle.std.specs.Prelude.{flat_map}
 use Rattle.std.specs.List.{list_any}
 use Rattle.std.proofs.lemmas.Bool.{and_parts, and_from, or_cases, or_left, or_right, eqb-true}
@@ -76,7 +76,7 @@ taker W d x c e =
       labelled = form.1;
       among = slot.1;
       disposition = ap disp_of_number (eqb-true slot.0.name (disp_number x) parts.0)
-      ∙ disp_of_its_number x;
+          ∙ disp_of_its_number x;
       admitted = parts.1;
     }
 

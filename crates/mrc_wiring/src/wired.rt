@@ -92,11 +92,14 @@ impl Wired {
             births_class (wiring_of self.now) u kind ≡ Some class → ⊥) }
     {
         let tasks = self.tasks();
-        if tasks <= class.0 && class.0 < tasks * 2 {
-            Some(TaskId((class.0 - tasks) as u32))
-        } else {
-            None
+        if class.0 < tasks {
+            return None;
         }
+        let task = class.0 - tasks;
+        if task >= tasks {
+            return None;
+        }
+        Some(TaskId(task as u32))
     }
 
     /// Whether a slot of this disposition, in a form of the one class's label, admits the other

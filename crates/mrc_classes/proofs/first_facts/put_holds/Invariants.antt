@@ -8,4 +8,5 @@ use Rattle.mrc_classes.proofs.first_facts.put_holds.Given as goal
 -- the holds so far are in the set
 abbrev pub invariant-loop-fact : goal.invariant-loop-fact
 invariant-loop-fact l =
-    Added (has l.fn.facts) (has l.facts) (IsListedHold (wiring_of l.wired) (take l.fact-index l.list))
+    Added (has l.fn.facts) (has l.facts)
+    (IsListedHold (wiring_of l.wired) (take l.fact-index l.list))

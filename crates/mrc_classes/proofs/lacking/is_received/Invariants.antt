@@ -1,10 +1,7 @@
 use Rattle.std.proofs.Common.{ℕ, ◌<◌, IsTrue}
-use Rattle.mrc_base.specs.declared.Fact.TheVariants.{Hold, Carry, Backup}
-use Rattle.mrc_base.specs.declared.PortRight.TheVariants.{Send, Receive, SendOnce}
-use Rattle.mrc_wiring.specs.Table.{wiring_of}
+use Rattle.mrc_base.specs.declared.Fact.TheVariants.{Hold, Carry}
+use Rattle.mrc_base.specs.declared.PortRight.TheVariants.{Receive}
 use Rattle.mrc_classes.specs.Sets.{has}
-use Rattle.mrc_classes.specs.Parts.{are_linked}
-use Rattle.mrc_classes.specs.Lacks.{can_send_to}
 use Rattle.mrc_classes.proofs.lacking.is_received.Given as goal
 
 -- at no class so far the right is received

@@ -1,9 +1,6 @@
 use Rattle.std.proofs.Common.{ℕ, ◌<◌, IsTrue}
-use Rattle.mrc_base.specs.declared.Fact.TheVariants.{Hold, Carry, Backup}
-use Rattle.mrc_base.specs.declared.PortRight.TheVariants.{Send, Receive, SendOnce}
-use Rattle.mrc_wiring.specs.Table.{wiring_of}
+use Rattle.mrc_base.specs.declared.Fact.TheVariants.{Hold}
 use Rattle.mrc_classes.specs.Sets.{has}
-use Rattle.mrc_classes.specs.Parts.{are_linked}
 use Rattle.mrc_classes.specs.Lacks.{can_send_to}
 use Rattle.mrc_classes.proofs.lacking.is_sent.Given as goal
 

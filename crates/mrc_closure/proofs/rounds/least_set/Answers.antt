@@ -1,4 +1,4 @@
-use Rattle.std.proofs.Common.{◌≡◌, ℕ, ◌<◌, ◌^◌, List, [], ap, ◌∙◌, ◌==◌, subst, sym}
+use Rattle.std.proofs.Common.{◌≡◌, ℕ, ◌<◌, ◌^◌, List, [], ap, ◌∙◌, ◌==◌, subst}
 use Rattle.mrc_base.specs.declared.Fact.{Fact}
 use Rattle.mrc_model.specs.Wiring.{classes}
 use Rattle.mrc_wiring.specs.Table.{Table, wiring_of}

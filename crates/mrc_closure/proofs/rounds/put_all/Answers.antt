@@ -1,4 +1,4 @@
-use Rattle.std.proofs.Common.{◌≡◌, Vec, Global, ap, ◌∙◌, true, false}
+use Rattle.std.proofs.Common.{Vec, Global, ap, ◌∙◌, true, false}
 use Rattle.mrc_base.specs.declared.Fact.{Fact}
 use Rattle.mrc_closure.proofs.Keeping.{one_merged}
 use Rattle.mrc_closure.proofs.rounds.put_all.Goals as goal
@@ -14,7 +14,8 @@ loop-fact-preserved c =
     record {
       merged = elim c.if-branch.branch [
         | then-branch+in_ok-push w ↦ merged true i.added i.len w.if-branch.true
-            c.if-branch.new.items (ap (λ (v : Vec Fact Global). v.items) w.new-is ∙ w.in_ok-push.ensures.items)
+            c.if-branch.new.items
+            (ap (λ (v : Vec Fact Global). v.items) w.new-is ∙ w.in_ok-push.ensures.items)
         | else-branch w ↦ merged false i.added i.len w.if-branch.false c.if-branch.new.items
             (ap (λ (v : Vec Fact Global). v.items) w.new-is)
       ];

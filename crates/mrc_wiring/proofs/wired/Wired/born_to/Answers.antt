@@ -1,41 +1,44 @@
-use Rattle.std.proofs.Common.{◌≡◌, ℕ, ◌+◌, ◌-◌, ◌*◌, ◌<◌, ◌≤◌, length, Some, arith, true, subst, sym}
+use Rattle.std.proofs.Common.{◌≡◌, ℕ, ◌+◌, ◌-◌, ◌<◌, ◌≤◌, length, Some, arith, subst}
 use Rattle.mrc_model.specs.Wiring.{births_class}
 use Rattle.mrc_wiring.specs.Table.{Table, wiring_of}
 use Rattle.mrc_wiring.proofs.Births.{births_found, births_are, birth_within}
 use Rattle.mrc_wiring.proofs.wired.Wired.born_to.Goals as goal
-use Rattle.mrc_wiring.proofs.wired.Wired.born_to.Goals.{else-tasks-class-via-then-tasks-class+else-class-tasks, else-tasks-class-via-else-tasks-class}
 
 -- the births of task t are class n + t, where there are n tasks
-born : (table : Table) (d n : ℕ) → n ≡ length table.names → n ≤ d → d < n * 2
+born : (table : Table) (d n : ℕ)
+    → n ≡ length table.names
+    → n ≤ d
+    → d - n < n
     → births_class (wiring_of table) (d - n) 0 ≡ Some d
 born table d n is low high =
     births_found (0 + length table.names) 0 (length table.names) (d - n) d (omega arith)
     (omega arith) (omega arith)
 
-pub returns-then-class-tasks-clause-some : goal.returns-then-class-tasks-clause-some
-returns-then-class-tasks-clause-some c =
+pub returns-then-class-tasks-clause-none : goal.returns-then-class-tasks-clause-none
+returns-then-class-tasks-clause-none c = λ u kind e.
+    let n = length c.args.self.now.names in
+    let at = birth_within (0 + n) 0 n u kind c.args.class e in
+    omega (arith, c.class.view_is, at.0, c.if-class-tasks.true, c.tasks-tasks.ensures.exact)
+
+pub returns-then-task-tasks-clause-none : goal.returns-then-task-tasks-clause-none
+returns-then-task-tasks-clause-none c = λ u kind e.
+    let n = length c.args.self.now.names in
+    let at = birth_within (0 + n) 0 n u kind c.args.class e in
+    omega (arith, c.class.view_is, at.1, c.if-task-tasks.true, c.tasks-tasks.ensures.exact)
+
+pub returns-clause-some : goal.returns-clause-some
+returns-clause-some c =
     let table = c.args.self.now in
-    let at : births_class (wiring_of table) (c.class.inside.0 - c.tasks-tasks.result) 0
-    ≡ Some c.class.inside.0 = born table c.class.inside.0 c.tasks-tasks.result
-    c.tasks-tasks.ensures.exact c.if-tasks-class.true c.if-class-tasks.true in (
-      omega (arith, c.if-tasks-class.true, c.if-class-tasks.true, c.tasks-tasks.ensures.exact),
-      (0, subst (λ (d : ℕ). births_class (wiring_of table) (c.class.inside.0 - c.tasks-tasks.result) 0
-      ≡ Some d) c.class.view_is at),
+    let d = c.class.inside.0 in
+    let n = c.tasks-tasks.result in
+    let at : births_class (wiring_of table) (d - n) 0 ≡ Some d = born table d n
+    c.tasks-tasks.ensures.exact c.if-class-tasks.false c.if-task-tasks.false in (
+      omega (arith, c.if-task-tasks.false, c.tasks-tasks.ensures.exact),
+      (0, subst (λ (k : ℕ). births_class (wiring_of table) (d - n) 0 ≡ Some k) c.class.view_is at),
     )
 
-pub returns-then-class-tasks-clause-only : goal.returns-then-class-tasks-clause-only
-returns-then-class-tasks-clause-only c = λ u kind e.
+pub returns-clause-only : goal.returns-clause-only
+returns-clause-only c = λ u kind e.
     let n = length c.args.self.now.names in
     let at = births_are (0 + n) 0 n u kind c.args.class e in
     omega (arith, c.class.view_is, c.tasks-tasks.ensures.exact)
-
-pub returns-else-tasks-class-clause-none : goal.returns-else-tasks-class-clause-none
-returns-else-tasks-class-clause-none c = λ u kind e.
-    let n = length c.args.self.now.names in
-    let at = birth_within (0 + n) 0 n u kind c.args.class e in
-    elim c.else-tasks-class.branch [
-      | else-tasks-class-via-then-tasks-class+else-class-tasks w ↦
-          omega (arith, c.class.view_is, at.0, at.1, w.if-tasks-class, w.if-class-tasks, c.tasks-tasks.ensures.exact)
-      | else-tasks-class-via-else-tasks-class w ↦
-          omega (arith, c.class.view_is, at.0, at.1, w.if-tasks-class, c.tasks-tasks.ensures.exact)
-    ]
