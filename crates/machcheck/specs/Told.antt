@@ -12,7 +12,7 @@ use Rattle.mrc_check.specs.declared.verdict.Why.TheVariants.{Forbidden}
 use Rattle.mrc_check.specs.declared.texts.TextsFault.{TextsFault}
 use Rattle.mrc_check.specs.declared.texts.TextsFault.TheVariants.{Wiring, Policy, Certificate}
 use Rattle.mrc_check.specs.declared.texts.TextsFault.TheVariants.{Check}
-use Rattle.mrc_check.specs.Conclusions.{rule_number}
+use Rattle.mrc_classes.specs.Missing.{rule_number}
 use Rattle.mrc_check.specs.Verdict.{Case, IsWhy}
 use Rattle.mrc_check.specs.Texts.{Meaningless, InWiring, InPolicy, InCertificate}
 use Rattle.machcheck.specs.declared.told.Told.{Told}

@@ -2,12 +2,11 @@
 #![tactic(auto)]
 
 mod confined;
-mod rules;
 mod texts;
 mod verdict;
 
 pub use confined::{Confined, Refused, check};
-pub use rules::HoldRule;
+pub use mrc_classes::RuleName;
 pub use texts::{PolicyFault, TextsFault, WiringFault, check_texts};
 pub use verdict::Why;
 

@@ -198,17 +198,17 @@ fn first_holds_are_missing(rt: HostRuntime) -> Result<(), Fail> {
 fn weaker_rights_are_missing(rt: HostRuntime) -> Result<(), Fail> {
     let why = lack_of(&rt, 3, &[(0, 0, 0), (0, 1, 1), (0, 1, 2)])?;
     let send = hold(0, 1, PortRight::Send);
-    assert_eq!(rt; why, Why::NotClosed(HoldRule::Weaker, send));
+    assert_eq!(rt; why, Why::NotClosed(RuleName::Weaker, send));
     let why = lack_of(&rt, 3, &[(0, 0, 0), (0, 1, 0), (0, 1, 1)])?;
     let once = hold(0, 1, PortRight::SendOnce);
-    assert_eq!(rt; why, Why::NotClosed(HoldRule::Weaker, once));
+    assert_eq!(rt; why, Why::NotClosed(RuleName::Weaker, once));
     Ok(())
 }
 
 #[test]
 fn kernel_ports_are_shared(rt: HostRuntime) -> Result<(), Fail> {
     let apart = certificate(rt.alloc(), 2, 4, 9, &APART)?;
-    let want = Why::NotClosed(HoldRule::KernelPort, hold(0, 3, PortRight::Send));
+    let want = Why::NotClosed(RuleName::KernelPort, hold(0, 3, PortRight::Send));
     for policy in [ANY, NO_SEND_TO_L] {
         assert_eq!(rt; reason_of(&rt, TWO, policy, &apart), want);
     }
@@ -340,10 +340,16 @@ fn what_is_accepted_shows_its_wiring(rt: HostRuntime) -> Result<(), Fail> {
 #[test]
 fn rules_have_numbers(rt: HostRuntime) {
     for (rule, number) in [
-        (HoldRule::First, 1),
-        (HoldRule::Births, 2),
-        (HoldRule::Weaker, 3),
-        (HoldRule::KernelPort, 7),
+        (RuleName::First, 1),
+        (RuleName::Births, 2),
+        (RuleName::Weaker, 3),
+        (RuleName::Slot, 4),
+        (RuleName::Reply, 5),
+        (RuleName::Received, 6),
+        (RuleName::KernelPort, 7),
+        (RuleName::Request, 8),
+        (RuleName::Notice, 9),
+        (RuleName::Returned, 10),
     ] {
         assert_eq!(rt; rule.number(), number);
     }

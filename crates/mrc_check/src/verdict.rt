@@ -1,16 +1,16 @@
 //! Claims and certificates: accepted or refused.
 
-ghost use Rattle.std.specs.Prelude.{◌≡◌, ◌↔◌, [], IsTrue, IfOk, OnOk, IfErr};
+ghost use Rattle.std.specs.Prelude.{◌≡◌, ◌↔◌, IsTrue, IfOk, OnOk, IfErr};
 ghost use Rattle.mrc_base.specs.Reading.{UnlessMemory};
 ghost use Rattle.mrc_certificate.specs.Spelling.{content};
-ghost use Rattle.mrc_check.specs.Gathered.{with_facts};
-ghost use Rattle.mrc_check.specs.Verdict.{HasCounts, IsAnswer, IsAccepted, IsWhy, first_broken};
-ghost use Rattle.mrc_check.specs.Verdict.{reason};
+ghost use Rattle.mrc_classes.specs.Sets.{has};
+ghost use Rattle.mrc_classes.specs.Missing.{IsAnswer};
+ghost use Rattle.mrc_wiring.specs.Table.{wiring_of};
+ghost use Rattle.mrc_check.specs.Verdict.{HasCounts, IsAccepted, IsWhy, first_broken, reason};
 
-use crate::rules::{HoldRule, Setting};
 use mrc_base::{Fact, OrMemory};
 use mrc_certificate::Draft;
-use mrc_classes::Facts;
+use mrc_classes::{Facts, Missing, RuleName, violation};
 use mrc_wiring::{Claim, ForbiddenLine};
 use std::alloc::{AllocError, Global};
 
@@ -23,20 +23,9 @@ pub enum Why {
     /// (K2).
     MissingFirst(Fact),
     /// The certificate lacks this conclusion of the rule.
-    NotClosed(HoldRule, Fact),
+    NotClosed(RuleName, Fact),
     /// The certificate has what the policy's line of this number forbids.
     Forbidden(u32),
-}
-
-/// The facts of a list as a set.
-fn as_set(alloc: Global, facts: &[Fact]) -> Result<Facts, AllocError>
-    ensures { IfOk result (λ set. set ≡ with_facts [] facts.now) }
-{
-    let mut set = Facts::new(alloc);
-    for fact in facts {
-        set.insert(*fact)?;
-    }
-    Ok(set)
 }
 
 /// The number of the first line that forbids a hold of the set.
@@ -57,12 +46,19 @@ fn first_broken(facts: &Facts, lines: &[ForbiddenLine]) -> Option<u32>
 }
 
 /// The reason as it is told: what the first two rules conclude is there from the first.
-fn reason(rule: HoldRule, fact: Fact) -> Why
+fn reason(rule: RuleName, fact: Fact) -> Why
     ensures { result ≡ reason rule fact }
 {
     match rule {
-        HoldRule::First | HoldRule::Births => Why::MissingFirst(fact),
-        HoldRule::Weaker | HoldRule::KernelPort => Why::NotClosed(rule, fact),
+        RuleName::First | RuleName::Births => Why::MissingFirst(fact),
+        RuleName::Weaker
+        | RuleName::Slot
+        | RuleName::Reply
+        | RuleName::Received
+        | RuleName::KernelPort
+        | RuleName::Request
+        | RuleName::Notice
+        | RuleName::Returned => Why::NotClosed(rule, fact),
     }
 }
 
@@ -75,23 +71,11 @@ fn has_counts(claim: &Claim, draft: &Draft) -> bool
 }
 
 /// The first fact that the draft lacks, with its rule.
-fn first_lack(
-    alloc: Global,
-    claim: &Claim,
-    draft: &Draft,
-) -> Result<Option<(HoldRule, Fact)>, AllocError>
-    requires { HasCounts claim.now (content draft.now) }
-    ensures { IfOk result (IsAnswer claim.now (content draft.now)) }
+fn first_missing(alloc: Global, claim: &Claim, draft: &Draft) -> Result<Option<Missing>, AllocError>
+    ensures { IfOk result
+        (IsAnswer (wiring_of claim.now.table) (has (content draft.now).facts)) }
 {
-    let holdings = claim.wired().first_holdings(alloc)?;
-    let first = as_set(alloc, holdings.as_slice())?;
-    let setting = Setting {
-        tasks: draft.tasks,
-        classes: draft.classes,
-        first: &first,
-        facts: &draft.facts,
-    };
-    Ok(setting.violation())
+    violation(alloc, claim.wired(), &draft.facts)
 }
 
 /// Whether the draft is accepted, and else the first reason why not.
@@ -102,8 +86,8 @@ pub(crate) fn judge(alloc: Global, claim: &Claim, draft: &Draft) -> Result<(), O
     if !has_counts(claim, draft) {
         return Err(OrMemory::Fault(Why::Counts));
     }
-    match first_lack(alloc, claim, draft)? {
-        Some((rule, fact)) => Err(OrMemory::Fault(reason(rule, fact))),
+    match first_missing(alloc, claim, draft)? {
+        Some(missing) => Err(OrMemory::Fault(reason(missing.rule, missing.fact))),
         None => match first_broken(&draft.facts, claim.lines()) {
             Some(line) => Err(OrMemory::Fault(Why::Forbidden(line))),
             None => Ok(()),

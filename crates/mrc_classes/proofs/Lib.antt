@@ -3,3 +3,9 @@ pub mod Keys
 pub mod Total
 pub mod Bytes
 pub mod Members
+pub mod Adding
+pub mod Concluding
+pub mod Premises
+pub mod Beginning
+pub mod Comparing
+pub mod Missed

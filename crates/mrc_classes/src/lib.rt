@@ -1,11 +1,22 @@
-//! Facts of a wired system, and sets of them.
+//! Facts of a wired system, sets of them, and what follows from them by the ten rules.
 #![tactic(auto)]
 
+mod conclude;
 mod facts;
+mod first_facts;
+mod lacking;
 pub mod laws;
+mod rights;
+mod rule_names;
 
+pub use conclude::{consequences, with_consequences};
 pub use facts::Facts;
+pub use first_facts::first_rules;
+pub use lacking::{Missing, violation};
 pub use mrc_base::Fact;
+pub use rule_names::RuleName;
 
+#[cfg(test)]
+mod rule_tests;
 #[cfg(test)]
 mod tests;

@@ -37,3 +37,17 @@ births_are c t (suc n) u kind d e =
           let at : c ≡ d = cc in omega arith
       | false ↦ λ is found. let rest = births_are (c + 1) (t + 1) n u kind d found in omega arith
     ] refl e
+
+-- births are of kind 0, and of a task that is there
+pub birth_within : (c t n u kind d : ℕ)
+    → births_from c u kind (births_after t n) ≡ Some d
+    → (c ≤ d) × (d < c + n)
+birth_within c t zero u kind d e = cc
+birth_within c t (suc n) u kind d e =
+    elim (t == u && 0 == kind) as (λ b. (t == u && 0 == kind) ≡ b
+    → (if b then Some c else births_from (c + 1) u kind (births_after (t + 1) n)) ≡ Some d
+    → (c ≤ d) × (d < c + suc n)) [
+      | true ↦ λ is found. let at : c ≡ d = cc in (omega arith, omega arith)
+      | false ↦ λ is found. let rest = birth_within (c + 1) (t + 1) n u kind d found in
+          (omega (arith, rest.0), omega (arith, rest.1))
+    ] refl e

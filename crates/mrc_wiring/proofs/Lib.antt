@@ -3,3 +3,4 @@ pub mod Resolved
 pub mod FirstHolds
 pub mod Sound
 pub mod NameLemmas
+pub mod Slots

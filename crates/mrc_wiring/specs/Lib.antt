@@ -3,3 +3,4 @@ pub mod FirstState
 pub mod Resolving
 pub mod Names
 pub mod Claims
+pub mod Slots

@@ -1,13 +1,16 @@
 //! Wirings, resolved to numbers.
 
-ghost use Rattle.std.specs.Prelude.{◌≡◌, ◌≤◌, ◌<◌, length, slice_get, IfOk, IfSome, IsTrue};
+ghost use Rattle.std.specs.Prelude.{◌≡◌, ◌≤◌, ◌<◌, ◌^◌, ℕ, Some, length, slice_get, IfOk, IfSome};
+ghost use Rattle.std.specs.Prelude.{IfNone, IsTrue};
 ghost use Rattle.std.specs.Option.{option_map};
-ghost use Rattle.mrc_base.specs.Limits.{limit_of_tasks};
+ghost use Rattle.mrc_base.specs.Limits.{limit_of_tasks, limit_of_wired_ports};
 ghost use Rattle.mrc_base.specs.Reading.{Gives};
 ghost use Rattle.mrc_model.specs.First.{is_sound};
-ghost use Rattle.mrc_model.specs.Wiring.{classes};
+ghost use Rattle.mrc_model.specs.Wiring.{classes, births_class, accepts_routine};
+ghost use Rattle.mrc_model.specs.Wiring.{accepts_destroyed};
 ghost use Rattle.mrc_wiring.specs.Table.{IsTable, AreEarlier, task_lines, wiring_of, line_holds};
 ghost use Rattle.mrc_wiring.specs.FirstState.{HasFirstHolds};
+ghost use Rattle.mrc_wiring.specs.Slots.{takes};
 ghost use Rattle.mrc_wiring.specs.Resolving.{resolved};
 ghost use Rattle.mrc_wiring.specs.Names.{AreNames, number_of, class_label, shown_label};
 ghost use Rattle.mrc_wiring.specs.Names.{class_named};
@@ -15,7 +18,7 @@ ghost use Rattle.mrc_wiring.specs.Names.{class_named};
 use crate::faults::ResolveFault;
 use crate::names::{ClassKind, ClassLabel, number_of};
 use crate::resolving::resolved;
-use mrc_base::{ClassId, Fact, OrMemory, PortRight, TaskId};
+use mrc_base::{ClassId, Disp, Fact, OrMemory, PortRight, TaskId};
 use mrc_model::FirstLine;
 use mrc_wiring_text::{Name, WiringLine};
 use std::alloc::{AllocError, Global};
@@ -62,12 +65,63 @@ impl Wired {
         self.names.len() as u16
     }
 
+    /// How many wired ports there are.
+    pub fn ports(&self) -> u16
+        ensures exact { result ≡ (wiring_of self.now).ports }
+        ensures within { result ≤ limit_of_wired_ports }
+    {
+        0
+    }
+
     /// How many classes of ports there are: the kernel port of each task, and then the births of
     /// each.
     pub fn classes(&self) -> u16
-        ensures { result ≡ classes (wiring_of self.now) }
+        ensures exact { result ≡ classes (wiring_of self.now) }
+        ensures within { result < 2 ^ 14 }
     {
         self.tasks() * 2
+    }
+
+    /// The task that is the first to hold the ports of a class, where there is one.
+    pub fn born_to(&self, class: ClassId) -> Option<TaskId>
+        ensures some { IfSome result (λ t. (t < (wiring_of self.now).tasks)
+            × ((kind : ℕ) × (births_class (wiring_of self.now) t kind ≡ Some class))) }
+        ensures only { IfSome result (λ t. (u kind : ℕ) →
+            births_class (wiring_of self.now) u kind ≡ Some class → u ≡ t) }
+        ensures none { IfNone result ((u kind : ℕ) →
+            births_class (wiring_of self.now) u kind ≡ Some class → ⊥) }
+    {
+        let tasks = self.tasks();
+        if class.0 < tasks {
+            return None;
+        }
+        let task = class.0 - tasks;
+        if task >= tasks {
+            return None;
+        }
+        Some(TaskId(task as u32))
+    }
+
+    /// Whether a slot of this disposition, in a form of the one class's label, admits the other
+    /// class.
+    pub fn takes(&self, to: ClassId, disp: Disp, carried: ClassId) -> bool
+        ensures { result ≡ takes (wiring_of self.now) to disp carried }
+    {
+        false
+    }
+
+    /// Whether the class accepts requests of an interface that has a routine.
+    pub fn accepts_routine(&self, class: ClassId) -> bool
+        ensures { result ≡ accepts_routine (wiring_of self.now) class }
+    {
+        false
+    }
+
+    /// Whether a port of the class may be named in a port-destroyed request.
+    pub fn accepts_destroyed(&self, class: ClassId) -> bool
+        ensures { result ≡ accepts_destroyed (wiring_of self.now) class }
+    {
+        false
     }
 
     /// The name of a task.

@@ -1,0 +1,11 @@
+use Rattle.mrc_classes.specs.Sets.{has}
+use Rattle.mrc_classes.specs.Growing.{Added, Below}
+use Rattle.mrc_classes.specs.Parts.{PairedAt}
+use Rattle.mrc_wiring.specs.Table.{wiring_of}
+use Rattle.mrc_classes.proofs.conclude.pairs.Given as goal
+
+-- what was found so far is that of the earlier numbers
+abbrev pub invariant-loop-class : goal.invariant-loop-class
+invariant-loop-class l =
+    Added (has l.fn.found) (has l.found)
+    (Below l.class (PairedAt (wiring_of l.wired) (has l.known) l.task l.to l.right))

@@ -1,0 +1,10 @@
+use Rattle.mrc_classes.specs.Sets.{has}
+use Rattle.mrc_classes.specs.Growing.{Added, Below}
+use Rattle.mrc_classes.specs.Parts.{ReceivedAt}
+use Rattle.mrc_classes.proofs.conclude.receive.Given as goal
+
+-- what was found so far is that of the earlier numbers
+abbrev pub invariant-loop-class : goal.invariant-loop-class
+invariant-loop-class l =
+    Added (has l.fn.found) (has l.found)
+    (Below l.class (ReceivedAt (has l.known) l.task l.to))

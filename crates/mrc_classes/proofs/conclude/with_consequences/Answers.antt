@@ -1,0 +1,17 @@
+use Rattle.mrc_wiring.specs.Table.{wiring_of}
+use Rattle.mrc_classes.specs.Sets.{has}
+use Rattle.mrc_classes.proofs.Premises.{parts_follow, nothing_follows}
+use Rattle.std.proofs.lemmas.Bool.Decides.{not_from_Decides}
+use Rattle.mrc_classes.proofs.conclude.with_consequences.Goals as goal
+
+-- a fact that is not over the tasks and classes is no premise
+pub returns-then-not-is_in_range : goal.returns-then-not-is_in_range
+returns-then-not-is_in_range c =
+    nothing_follows (wiring_of c.args.wired.now) c.args.facts.now c.args.fact (has c.args.found)
+    (not_from_Decides _ c.is_in_range.ensures c.if-not-is_in_range.true)
+
+pub returns : goal.returns
+returns c =
+    parts_follow (wiring_of c.args.wired.now) c.args.facts.now c.args.fact (has c.args.found)
+    (has c.by_fact.new.found) (c.is_in_range.ensures.0 c.if-not-is_in_range.false)
+    c.in_ok-by_fact.ensures

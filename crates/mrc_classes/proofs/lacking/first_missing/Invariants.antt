@@ -1,0 +1,13 @@
+use Rattle.std.proofs.Common.{◌<◌}
+use Rattle.mrc_wiring.specs.Table.{wiring_of}
+use Rattle.mrc_classes.specs.Sets.{has}
+use Rattle.mrc_classes.specs.Lacks.{LacksNothing}
+use Rattle.mrc_classes.specs.Missing.{rule_number}
+use Rattle.mrc_classes.specs.declared.rule_names.RuleName.{RuleName}
+use Rattle.mrc_classes.proofs.lacking.first_missing.Given as goal
+
+-- nothing is lacking by the rules so far
+abbrev pub invariant-loop-number : goal.invariant-loop-number
+invariant-loop-number l =
+    (rule : RuleName) → rule_number rule < l.number
+    → LacksNothing (wiring_of l.wired) (has l.facts) rule

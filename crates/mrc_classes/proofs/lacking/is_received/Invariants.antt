@@ -1,0 +1,11 @@
+use Rattle.std.proofs.Common.{ℕ, ◌<◌, IsTrue}
+use Rattle.mrc_base.specs.declared.Fact.TheVariants.{Hold, Carry}
+use Rattle.mrc_base.specs.declared.PortRight.TheVariants.{Receive}
+use Rattle.mrc_classes.specs.Sets.{has}
+use Rattle.mrc_classes.proofs.lacking.is_received.Given as goal
+
+-- at no class so far the right is received
+abbrev pub invariant-loop-to : goal.invariant-loop-to
+invariant-loop-to l =
+    (d : ℕ) → d < l.to → IsTrue (has l.facts (Hold l.task d Receive))
+    → IsTrue (has l.facts (Carry d l.class l.right)) → ⊥

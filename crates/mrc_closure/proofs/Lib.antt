@@ -1,0 +1,4 @@
+pub mod Walking
+pub mod Keeping
+pub mod Counting
+pub mod Within

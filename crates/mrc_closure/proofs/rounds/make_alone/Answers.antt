@@ -1,0 +1,12 @@
+use Rattle.mrc_closure.proofs.Within.{are_within}
+use Rattle.mrc_closure.proofs.rounds.make_alone.Goals as goal
+
+pub invariant_of-result-clause-ascending : goal.invariant_of-result-clause-ascending
+invariant_of-result-clause-ascending c = c.in_ok-facts.ensures.ascending
+
+-- the facts are over the wiring's tasks and classes
+pub invariant_of-result-clause-within : goal.invariant_of-result-clause-within
+invariant_of-result-clause-within c =
+    are_within c.args.wired.now c.tasks.result c.classes.result c.tasks.ensures.exact
+    c.classes.ensures.exact c.in_ok-facts.facts c.in_ok-facts.ensures.in_range
+    c.in_ok-facts.ensures.least.least

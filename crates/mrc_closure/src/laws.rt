@@ -1,0 +1,13 @@
+//! Laws of least sets, proved of the definitions alone.
+
+ghost use Rattle.mrc_closure.specs.Laws.{ForbiddenIsFinal, OneLeast};
+
+/// Where a line of the policy forbids a hold of the least set, no set is accepted.
+pub fn forbidden_is_final()
+    ensures { ForbiddenIsFinal }
+{}
+
+/// There is one least set: two ascending lists that are least are one list.
+pub fn one_least()
+    ensures { OneLeast }
+{}

@@ -1,0 +1,100 @@
+ghost use Rattle.std.specs.Prelude.{◌≡◌};
+ghost use Rattle.mrc_base.specs.declared.Fact.{Fact};
+
+use super::*;
+use mrc_base::{ClassId, Fact, PortRight};
+use mrc_certificate::{Draft, write_draft};
+use mrc_wiring::Wired;
+use mrc_wiring_text::read_wiring;
+use std::alloc::{AllocError, Global};
+use std::fmt::Write;
+use std::test::Fail;
+
+const ONE: &str = "wiring 1\ntask a\n";
+
+const TWO: &str = "wiring 1\ntask l\ntask f\nhold l send task f\n";
+
+/// The certificate of a task alone: it holds a send right to its own kernel port, and all three
+/// rights on the ports of its births.
+const ALONE: [u8; 38] = [
+    0x4d, 0x52, 0x43, 0x43, 0x00, 0x01, 0x00, 0x01, 0x00, 0x02, 0x00, 0x00, 0x00, 0x04, // header
+    0x01, 0x00, 0x00, 0x00, 0x00, 0x00, 0x01, 0x00, 0x00, 0x00, 0x01, 0x00, // send, send
+    0x01, 0x00, 0x00, 0x00, 0x01, 0x01, 0x01, 0x00, 0x00, 0x00, 0x01, 0x02, // receive, once
+];
+
+fn hold(task: u16, class: u16, right: PortRight) -> Fact
+    ensures { result ≡ Fact.Hold task class right }
+{
+    Fact::Hold {
+        task,
+        class: ClassId(class),
+        right,
+    }
+}
+
+fn wired(alloc: Global, text: &str) -> Result<Wired, Fail> {
+    Ok(Wired::resolve(alloc, &read_wiring(alloc, text.as_bytes())?)?)
+}
+
+fn made(alloc: Global, text: &str) -> Result<Draft, Fail> {
+    Ok(make_alone(alloc, &wired(alloc, text)?)?)
+}
+
+#[test]
+fn nobody_holds_nothing(rt: HostRuntime) -> Result<(), Fail> {
+    let draft = made(rt.alloc(), "wiring 1\n")?;
+    assert_eq!(rt; (draft.tasks, draft.classes), (0, 0));
+    assert_eq!(rt; draft.facts.len(), 0);
+    Ok(())
+}
+
+#[test]
+fn a_task_alone(rt: HostRuntime) -> Result<(), Fail> {
+    let draft = made(rt.alloc(), ONE)?;
+    let bytes = write_draft(rt.alloc(), &draft)?;
+    assert_eq!(rt; bytes.as_slice(), ALONE.as_slice());
+    Ok(())
+}
+
+#[test]
+fn two_tasks_share_all(rt: HostRuntime) -> Result<(), Fail> {
+    let draft = made(rt.alloc(), TWO)?;
+    assert_eq!(rt; (draft.tasks, draft.classes), (2, 4));
+    assert_eq!(rt; draft.facts.len(), 16);
+    for task in 0..2 {
+        for class in 0..4 {
+            assert!(rt; draft.facts.has(&hold(task, class, PortRight::Send)));
+            let receives = draft.facts.has(&hold(task, class, PortRight::Receive));
+            assert_eq!(rt; receives, class > 1);
+        }
+    }
+    Ok(())
+}
+
+/// A wiring of 64 tasks and nothing else.
+fn many(alloc: Global) -> Result<String, AllocError> {
+    let mut text = String::from_str(alloc, "wiring 1\n")?;
+    for task in 0..64u32 {
+        writeln!(text, "task t{task}")?;
+    }
+    Ok(text)
+}
+
+#[test]
+fn the_most_tasks(rt: HostRuntime) -> Result<(), Fail> {
+    let text = many(rt.alloc())?;
+    let draft = made(rt.alloc(), text.as_str())?;
+    assert_eq!(rt; (draft.tasks, draft.classes), (64, 128));
+    assert_eq!(rt; draft.facts.len(), 256);
+    Ok(())
+}
+
+// Where an allocation of the call is refused, it says so.
+#[test]
+fn memory_that_runs_out_is_told(rt: HostRuntime) -> Result<(), Fail> {
+    let wired = wired(rt.alloc(), TWO)?;
+    if let Ok(draft) = make_alone(rt.alloc(), &wired) {
+        assert_eq!(rt; draft.facts.len(), 16);
+    }
+    Ok(())
+}
