@@ -126,8 +126,16 @@ within_fits tasks classes (Hold task class right) fits_tasks fits_classes within
     let first = ltb-true task tasks parts.0 in
     let second = ltb-true class classes parts.1 in
     record { first = omega arith; second = omega arith }
-within_fits tasks classes (Carry destination class right) fits_tasks fits_classes within = absurd cc
-within_fits tasks classes (Backup class notify) fits_tasks fits_classes within = absurd cc
+within_fits tasks classes (Carry destination class right) fits_tasks fits_classes within =
+    let parts = and_parts (nat_lt destination classes) (nat_lt class classes) within in
+    let first = ltb-true destination classes parts.0 in
+    let second = ltb-true class classes parts.1 in
+    record { first = omega arith; second = omega arith }
+within_fits tasks classes (Backup class notify) fits_tasks fits_classes within =
+    let parts = and_parts (nat_lt class classes) (nat_lt notify classes) within in
+    let first = ltb-true class classes parts.0 in
+    let second = ltb-true notify classes parts.1 in
+    record { first = omega arith; second = omega arith }
 
 pub fact_again : (tasks classes at : ℕ) (f : Fact) (rest : List ℕ)
     → tasks < 2 ^ 16

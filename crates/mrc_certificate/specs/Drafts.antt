@@ -1,15 +1,16 @@
 -- Drafts: what a certificate claims. The profile's own choice.
-use Rattle.std.specs.Prelude.{ℕ, ◌^◌, ◌<◌, Bool, false, ◌&&◌, List, length, IsTrue, nat_lt}
+use Rattle.std.specs.Prelude.{ℕ, ◌^◌, ◌<◌, Bool, ◌&&◌, List, length, IsTrue, nat_lt}
 use Rattle.std.specs.List.{list_all}
 use Rattle.mrc_base.specs.declared.Fact.{Fact}
 use Rattle.mrc_base.specs.declared.Fact.TheVariants.{Hold, Carry, Backup}
 use Rattle.mrc_classes.specs.Sets.{IsAscending}
 
--- whether the fact is a hold of one of so many tasks and one of so many classes
+-- whether the fact's task, where it has one, and its classes are of so many
 abbrev pub is_within : ℕ → ℕ → Fact → Bool
 is_within tasks classes (Hold task class right) = nat_lt task tasks && nat_lt class classes
-is_within tasks classes (Carry destination class right) = false
-is_within tasks classes (Backup class notify) = false
+is_within tasks classes (Carry destination class right) =
+    nat_lt destination classes && nat_lt class classes
+is_within tasks classes (Backup class notify) = nat_lt class classes && nat_lt notify classes
 
 -- each of the facts is one
 abbrev pub AreWithin : ℕ → ℕ → List Fact → Type 0

@@ -1,7 +1,7 @@
 -- Worked certificates: what is spelled, what is read, and the first fault. This profile's own
 -- choice.
 use Rattle.std.specs.Prelude.{◌≡◌, ℕ, List, [], ◌∷◌, ◌++◌, take, Ok, Err, refl}
-use Rattle.mrc_base.specs.declared.Fact.TheVariants.{Hold}
+use Rattle.mrc_base.specs.declared.Fact.TheVariants.{Hold, Carry, Backup}
 use Rattle.mrc_base.specs.declared.PortRight.TheVariants.{Send, Receive, SendOnce}
 use Rattle.mrc_certificate.specs.declared.fault.DraftFault.TheVariants.{Magic, Version, Truncated}
 use Rattle.mrc_certificate.specs.declared.fault.DraftFault.TheVariants.{BadFact, NotAscending}
@@ -83,6 +83,59 @@ no_such_kind : draft_from (header ++ no_fact ++ second_fact ++ third_fact ++ fou
     ≡ Err (BadFact 14)
 unfolding draft_from behind_magic behind_version fact_at facts_at
 no_such_kind = refl
+
+-- a fact of each kind: a task holds a receive right, messages carry two rights, and ports of two
+-- classes may have requests
+abbrev each_kind : Content
+each_kind = record {
+  tasks = 1;
+  classes = 2;
+  facts =
+      Hold 0 1 Receive ∷ Carry 0 1 Send ∷ Carry 1 1 SendOnce ∷ Backup 0 1 ∷ Backup 1 0 ∷ [];
+}
+
+-- a header for five facts
+abbrev header_of_five : List ℕ
+header_of_five = 77 ∷ 82 ∷ 67 ∷ 67 ∷ 0 ∷ 1 ∷ 0 ∷ 1 ∷ 0 ∷ 2 ∷ 0 ∷ 0 ∷ 0 ∷ 5 ∷ []
+
+-- a hold and two carries
+abbrev hold_and_carries : List ℕ
+hold_and_carries =
+    1 ∷ 0 ∷ 0 ∷ 0 ∷ 1 ∷ 1 ∷ 2 ∷ 0 ∷ 0 ∷ 0 ∷ 1 ∷ 0 ∷ 2 ∷ 0 ∷ 1 ∷ 0 ∷ 1 ∷ 2 ∷ []
+
+-- two backups
+abbrev backups : List ℕ
+backups = 3 ∷ 0 ∷ 0 ∷ 0 ∷ 1 ∷ 0 ∷ 3 ∷ 0 ∷ 1 ∷ 0 ∷ 0 ∷ 0 ∷ []
+
+-- it is what they are spelled as
+each_kind_is_spelled : spelling each_kind ≡ header_of_five ++ hold_and_carries ++ backups
+each_kind_is_spelled = refl
+
+-- and it is read as them
+each_kind_is_read : draft_from (header_of_five ++ hold_and_carries ++ backups) ≡ Ok each_kind
+unfolding draft_from behind_magic behind_version fact_at facts_at
+each_kind_is_read = refl
+
+-- a carry to a class that is not below their number
+carry_too_far : draft_from (header ++ 2 ∷ 0 ∷ 2 ∷ 0 ∷ 1 ∷ 0 ∷ []) ≡ Err (BadFact 14)
+unfolding draft_from behind_magic behind_version fact_at facts_at
+carry_too_far = refl
+
+-- a backup that names a class that is not below their number
+backup_too_far : draft_from (header ++ 3 ∷ 0 ∷ 1 ∷ 0 ∷ 2 ∷ 0 ∷ []) ≡ Err (BadFact 14)
+unfolding draft_from behind_magic behind_version fact_at facts_at
+backup_too_far = refl
+
+-- a backup whose last byte is not 0
+backup_of_a_right : draft_from (header ++ 3 ∷ 0 ∷ 1 ∷ 0 ∷ 1 ∷ 1 ∷ []) ≡ Err (BadFact 14)
+unfolding draft_from behind_magic behind_version fact_at facts_at
+backup_of_a_right = refl
+
+-- a carry behind a backup
+carry_behind_a_backup : draft_from (header ++ 3 ∷ 0 ∷ 0 ∷ 0 ∷ 0 ∷ 0 ∷ 2 ∷ 0 ∷ 0 ∷ 0 ∷ 0 ∷ 0 ∷ [])
+    ≡ Err (NotAscending 20)
+unfolding draft_from behind_magic behind_version fact_at facts_at
+carry_behind_a_backup = refl
 
 -- a wiring without tasks
 abbrev nobody : Content

@@ -8,7 +8,7 @@ ghost use Rattle.mrc_certificate.specs.Drafts.{is_within, AreWithin};
 use mrc_classes::{Fact, Facts};
 
 /// What a certificate claims of a wired system: how many tasks and classes it has, and what may
-/// come about in it. Its facts are holds of those tasks and classes, fewer than 2^32 of them.
+/// come about in it. Its facts are of those tasks and classes, fewer than 2^32 of them.
 #[derive(Debug, Drop)]
 pub struct Draft {
     /// How many tasks there are.
@@ -22,13 +22,18 @@ pub struct Draft {
     pub ghost few: { length facts < 2 ^ 32 },
 }
 
-/// Whether the fact is a hold of one of so many tasks and one of so many classes.
+/// Whether the fact's task, where it has one, and its classes are of so many.
 pub(crate) fn is_within(tasks: u16, classes: u16, fact: &Fact) -> bool
     ensures { result ≡ is_within tasks classes fact.now }
 {
     match *fact {
         Fact::Hold { task, class, .. } => task < tasks && class.0 < classes,
-        Fact::Carry { .. } | Fact::Backup { .. } => false,
+        Fact::Carry {
+            destination,
+            class,
+            ..
+        } => destination.0 < classes && class.0 < classes,
+        Fact::Backup { class, notify } => class.0 < classes && notify.0 < classes,
     }
 }
 
@@ -41,10 +46,10 @@ fn are_within(tasks: u16, classes: u16, facts: &Facts) -> bool
 impl Draft {
     ghost use Rattle.mrc_certificate.specs.Spelling.{content};
 
-    /// The draft of these counts and facts. There is none where a fact is no hold of those tasks
-    /// and classes, or where there are 2^32 facts or more.
+    /// The draft of these counts and facts. There is none where a fact is not of those tasks and
+    /// classes, or where there are 2^32 facts or more.
     pub fn new(tasks: u16, classes: u16, facts: Facts) -> Option<Draft>
-        // The draft is made exactly where the facts are holds within the counts, and few enough.
+        // The draft is made exactly where the facts are within the counts, and few enough.
         ensures some { IsSome result ↔ (AreWithin tasks classes facts × (length facts < 2 ^ 32)) }
         // What it says.
         ensures exact { IfSome result (λ d.

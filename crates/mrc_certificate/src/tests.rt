@@ -1,5 +1,6 @@
 ghost use Rattle.std.specs.Prelude.{◌≡◌};
 ghost use Rattle.mrc_base.specs.declared.Fact.{Fact};
+ghost use Rattle.mrc_base.specs.declared.PortRight.{PortRight};
 
 use super::*;
 use mrc_base::{ClassId, OrMemory, PortRight};
@@ -33,6 +34,20 @@ const CARRIES: [u8; 122] = [
     0x01, 0x00, 0x01, 0x00, 0x04, 0x01, 0x01, 0x00, 0x01, 0x00, 0x04, 0x02, //
     0x02, 0x00, 0x00, 0x00, 0x00, 0x02, 0x02, 0x00, 0x00, 0x00, 0x03, 0x02, // carries
     0x02, 0x00, 0x00, 0x00, 0x04, 0x02, 0x02, 0x00, 0x03, 0x00, 0x04, 0x00, //
+];
+
+/// A hold, two carries and two backups, of one task and two classes.
+const EACH_KIND: [u8; 44] = [
+    0x4d, 0x52, 0x43, 0x43, 0x00, 0x01, 0x00, 0x01, 0x00, 0x02, 0x00, 0x00, 0x00, 0x05, // header
+    0x01, 0x00, 0x00, 0x00, 0x01, 0x01, // hold, at 14
+    0x02, 0x00, 0x00, 0x00, 0x01, 0x00, 0x02, 0x00, 0x01, 0x00, 0x01, 0x02, // carries, at 20, 26
+    0x03, 0x00, 0x00, 0x00, 0x01, 0x00, 0x03, 0x00, 0x01, 0x00, 0x00, 0x00, // backups, at 32, 38
+];
+
+/// A carry and a backup of a wiring without tasks.
+const NO_TASK: [u8; 26] = [
+    0x4d, 0x52, 0x43, 0x43, 0x00, 0x01, 0x00, 0x00, 0x00, 0x01, 0x00, 0x00, 0x00, 0x02, // header
+    0x02, 0x00, 0x00, 0x00, 0x00, 0x01, 0x03, 0x00, 0x00, 0x00, 0x00, 0x00, // a carry, a backup
 ];
 
 fn hold(class: u16, right: PortRight) -> Fact
@@ -166,8 +181,8 @@ fn each_byte_is_read(rt: HostRuntime) -> Result<(), Fail> {
         (13, 0x05, DraftFault::Truncated),
         (13, 0x03, DraftFault::Trailing),
         (14, 0x00, DraftFault::BadFact(14)),
-        (14, 0x02, DraftFault::BadFact(14)),
-        (14, 0x03, DraftFault::BadFact(14)),
+        (14, 0x02, DraftFault::NotAscending(20)),
+        (14, 0x03, DraftFault::NotAscending(20)),
         (14, 0x04, DraftFault::BadFact(14)),
         (16, 0x01, DraftFault::BadFact(14)),
         (18, 0x02, DraftFault::BadFact(14)),
@@ -201,20 +216,6 @@ fn prefixes_are_refused(rt: HostRuntime) {
             "{n} bytes"
         );
     }
-    for (n, _) in CARRIES.iter().enumerate() {
-        let fault = if n < 4 {
-            DraftFault::Magic
-        } else if n < 104 {
-            DraftFault::Truncated
-        } else {
-            DraftFault::BadFact(98)
-        };
-        assert_eq!(rt;
-            fault_of(&rt, &CARRIES[..n]),
-            OrMemory::Fault(fault),
-            "{n} bytes"
-        );
-    }
     assert_eq!(rt; fault_of(&rt, b"MRCD"), OrMemory::Fault(DraftFault::Magic));
     assert_eq!(rt;
         fault_of(&rt, b"MRCC\xff"),
@@ -224,6 +225,132 @@ fn prefixes_are_refused(rt: HostRuntime) {
         fault_of(&rt, b"MRCC\x00\x02"),
         OrMemory::Fault(DraftFault::Version)
     );
+}
+
+#[test]
+fn prefixes_with_carries_are_refused(rt: HostRuntime) {
+    for n in 4..122usize {
+        assert_eq!(rt;
+            fault_of(&rt, &CARRIES[..n]),
+            OrMemory::Fault(DraftFault::Truncated),
+            "{n} bytes"
+        );
+    }
+}
+
+/// Whether the bytes are read, and what is written of that draft is the bytes again.
+fn comes_back(alloc: Global, bytes: &[u8]) -> Result<bool, Fail> {
+    let draft = read_draft(alloc, bytes)?;
+    let written = write_draft(alloc, &draft)?;
+    Ok(written.as_slice() == bytes)
+}
+
+#[test]
+fn each_kind_is_read_and_written(rt: HostRuntime) -> Result<(), Fail> {
+    assert!(rt; comes_back(rt.alloc(), &CARRIES)?, "carries");
+    assert!(rt; comes_back(rt.alloc(), &EACH_KIND)?, "each kind");
+    assert!(rt; comes_back(rt.alloc(), &NO_TASK)?, "no task");
+    Ok(())
+}
+
+/// What is told of the certificate of each kind of fact, with one byte changed.
+fn each_is_told(
+    rt: &(impl Abort + AllocGlobal),
+    table: &[(usize, u8, DraftFault)],
+) -> Result<(), Fail> {
+    for (at, byte, fault) in table {
+        let bytes = changed(rt.alloc(), &EACH_KIND, *at, *byte)?;
+        assert_eq!(rt;
+            fault_of(rt, &bytes),
+            OrMemory::Fault(*fault),
+            "{byte} at {at}"
+        );
+    }
+    Ok(())
+}
+
+#[test]
+fn each_byte_of_a_carry_is_read(rt: HostRuntime) -> Result<(), Fail> {
+    each_is_told(
+        &rt,
+        &[
+            (26, 0x04, DraftFault::BadFact(26)),
+            (27, 0x01, DraftFault::BadFact(26)),
+            (28, 0x02, DraftFault::BadFact(26)),
+            (29, 0x01, DraftFault::BadFact(26)),
+            (30, 0x02, DraftFault::BadFact(26)),
+            (31, 0x03, DraftFault::BadFact(26)),
+            // A carry behind a greater one, and behind a backup.
+            (14, 0x02, DraftFault::NotAscending(20)),
+            (20, 0x03, DraftFault::NotAscending(26)),
+            (38, 0x02, DraftFault::NotAscending(38)),
+        ],
+    )
+}
+
+#[test]
+fn each_byte_of_a_backup_is_read(rt: HostRuntime) -> Result<(), Fail> {
+    each_is_told(
+        &rt,
+        &[
+            (33, 0x01, DraftFault::BadFact(32)),
+            (34, 0x02, DraftFault::BadFact(32)),
+            (35, 0x01, DraftFault::BadFact(32)),
+            (36, 0x02, DraftFault::BadFact(32)),
+            // The last byte is 0.
+            (37, 0x01, DraftFault::BadFact(32)),
+            (43, 0x02, DraftFault::BadFact(38)),
+            // A backup behind a greater one, and a hold behind a carry.
+            (34, 0x01, DraftFault::NotAscending(38)),
+            (40, 0x00, DraftFault::NotAscending(38)),
+            (32, 0x01, DraftFault::NotAscending(32)),
+            // The count of facts.
+            (13, 0x04, DraftFault::Trailing),
+            (13, 0x06, DraftFault::Truncated),
+        ],
+    )
+}
+
+fn carry(destination: u16, class: u16) -> Fact
+    ensures { result ≡ Fact.Carry destination class PortRight.Receive }
+{
+    Fact::Carry {
+        destination: ClassId(destination),
+        class: ClassId(class),
+        right: PortRight::Receive,
+    }
+}
+
+fn backup(class: u16, notify: u16) -> Fact
+    ensures { result ≡ Fact.Backup class notify }
+{
+    Fact::Backup {
+        class: ClassId(class),
+        notify: ClassId(notify),
+    }
+}
+
+/// Whether a fact is one of a draft of no task and two classes.
+fn makes_a_draft(alloc: Global, fact: Fact) -> Result<bool, AllocError> {
+    let mut facts = Facts::new(alloc);
+    let _ = facts.insert(fact)?;
+    Ok(Draft::new(0, 2, facts).is_some())
+}
+
+#[test]
+fn carries_and_backups_are_within_the_classes(rt: HostRuntime) -> Result<(), Fail> {
+    for (fact, is_one) in [
+        (carry(1, 1), true),
+        (carry(2, 1), false),
+        (carry(1, 2), false),
+        (backup(1, 1), true),
+        (backup(2, 1), false),
+        (backup(1, 2), false),
+        (hold(1, PortRight::Send), false),
+    ] {
+        assert_eq!(rt; makes_a_draft(rt.alloc(), fact)?, is_one, "{fact:?}");
+    }
+    Ok(())
 }
 
 #[test]
