@@ -10,3 +10,6 @@ pub use parcel::{Items, Parcel, Queue, QueuedArgument};
 pub use port::Port;
 pub use store::Store;
 pub use table::{NoSuchPort, PortTable, Shortage};
+
+#[cfg(test)]
+mod tests;
