@@ -9,4 +9,3 @@ pub invariant_of-result-clause-within : goal.invariant_of-result-clause-within
 invariant_of-result-clause-within c =
     are_within c.args.wired.now c.tasks.result c.classes.result c.tasks.ensures.exact
     c.classes.ensures.exact c.in_ok-facts.facts c.in_ok-facts.ensures.in_range
-    c.in_ok-facts.ensures.least.least
