@@ -73,6 +73,28 @@ impl Wired {
         0
     }
 
+    /// What makes the first state, line by line.
+    pub fn first_lines(&self) -> &[FirstLine]
+        ensures { result.now ≡ (wiring_of self.now).lines }
+    {
+        self.lines.as_slice()
+    }
+
+    /// The class of the ports that a task is the first to hold, by their kind: today each task has
+    /// kind 0 alone.
+    pub fn births_class(&self, task: TaskId, kind: u32) -> Option<ClassId>
+        ensures { result ≡ births_class (wiring_of self.now) task kind }
+    {
+        if kind != 0 {
+            return None;
+        }
+        let tasks = self.tasks();
+        if u32::from(tasks) <= task.0 {
+            return None;
+        }
+        Some(ClassId(tasks + task.0 as u16))
+    }
+
     /// How many classes of ports there are: the kernel port of each task, and then the births of
     /// each.
     pub fn classes(&self) -> u16
