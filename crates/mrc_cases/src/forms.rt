@@ -1,10 +1,11 @@
-//! Tables of forms of MIG texts.
+//! Tables of forms of MIG files.
 
+use crate::messages::bytes_of;
 use anyhow::Result;
-use mrc_interface::{Form, FormKind, Interface};
-use mrc_mig_lex::lex;
-use mrc_mig_parse::{Shape, parse};
-use mrc_model::RequestKind;
+use mrc_base::OrMemory;
+use mrc_interface::{
+    FileFault, Form, FormKind, Interface, RequestKind, Shape, read_interface, read_interfaces,
+};
 use std::alloc::{AllocError, Global};
 
 fn kind_word(kind: FormKind) -> &'static str {
@@ -62,18 +63,36 @@ fn table_text(alloc: Global, interface: &Interface) -> Result<String, AllocError
     Ok(text)
 }
 
-/// The table of forms of a text, or the fault of the reader that refuses it.
-pub fn forms(alloc: Global, text: &str) -> Result<String> {
-    let tokens = match lex(alloc, text) {
-        Ok(tokens) => tokens,
-        Err(fault) => return Ok(fault.to_string(alloc)?),
-    };
-    let subsystem = match parse(alloc, tokens.as_slice()) {
-        Ok(subsystem) => subsystem,
-        Err(fault) => return Ok(fault.to_string(alloc)?),
-    };
-    match Interface::of(alloc, subsystem) {
+/// The table of forms of a MIG file, or the fault of the reader that refuses it.
+pub fn forms(alloc: Global, bytes: &[u8]) -> Result<String> {
+    match read_interface(alloc, bytes) {
         Ok(interface) => Ok(table_text(alloc, &interface)?),
-        Err((_, fault)) => Ok(fault.to_string(alloc)?),
+        Err(fault) => Ok(fault.to_string(alloc)?),
     }
+}
+
+/// The files of a list, in hexadecimal digits with `,` between them.
+fn files_of(alloc: Global, text: &str) -> Result<Vec<Vec<u8>>, AllocError> {
+    let mut files = Vec::new(alloc);
+    for digits in text.split(',') {
+        files.push(bytes_of(alloc, digits)?)?;
+    }
+    Ok(files)
+}
+
+/// The name of each file of a list, or the number of the first that is refused, and its fault.
+pub fn defs(alloc: Global, text: &str) -> Result<String> {
+    let interfaces = match read_interfaces(alloc, files_of(alloc, text)?.as_slice()) {
+        Ok(interfaces) => interfaces,
+        Err(OrMemory::Fault(FileFault { file, fault })) => {
+            return Ok(format!(in alloc; "file {file}: {fault}")?);
+        }
+        Err(OrMemory::Memory) => return Ok(String::from_str(alloc, "Memory")?),
+    };
+    let mut names = String::new(alloc);
+    for interface in interfaces.as_slice() {
+        let blank = if names.is_empty() { "" } else { " " };
+        names.push_str(format!(in alloc; "{blank}{}", interface.name())?.as_str())?;
+    }
+    Ok(names)
 }

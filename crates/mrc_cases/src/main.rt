@@ -1,5 +1,5 @@
 //! Reads cases from standard input, one a line, and prints a line for each: what the readers of MIG
-//! texts and of messages say of it.
+//! texts, of messages and of certificates say of it.
 //!
 //! A case is a word, `:` and a text. In the text `\n` is a line feed, `\r` a carriage return, `\0`
 //! the character 0, and `\` before any other character is that character.
@@ -9,13 +9,16 @@
 //! - `symbols`: each symbol of a MIG text
 //! - `basic`: the basic type of a name
 //! - `value`: the value of an expression, and where the first token stands that is behind it
-//! - `forms`: the table of forms of a MIG text
+//! - `forms`: the table of forms of a MIG file
+//! - `defs`: a list of MIG files, in hexadecimal digits with `,` between them: their names
 //! - `disposition`: what a number of MIG's port types needs of a sender and gives a receiver
 //! - `message`: in hexadecimal digits, what a message is written as that was read
+//! - `certificate`: in hexadecimal digits, what a certificate is written as that was read
 //!
 //! Any other line is printed as it is.
 #![tactic(auto)]
 
+mod certificates;
 mod escapes;
 mod forms;
 mod messages;
@@ -40,9 +43,11 @@ fn said(alloc: Global, line: &str) -> Result<String> {
         "symbols" => tokens::symbols(alloc, text.as_str()),
         "basic" => tokens::basic(alloc, text.as_str()),
         "value" => tokens::value(alloc, text.as_str()),
-        "forms" => forms::forms(alloc, text.as_str()),
+        "forms" => forms::forms(alloc, text.as_str().as_bytes()),
+        "defs" => forms::defs(alloc, text.as_str()),
         "disposition" => numbers::disposition(alloc, text.as_str()),
         "message" => messages::written(alloc, text.as_str()),
+        "certificate" => certificates::written(alloc, text.as_str()),
         _ => Ok(String::from_str(alloc, line)?),
     }
 }

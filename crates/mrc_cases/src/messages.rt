@@ -31,7 +31,7 @@ pub fn bytes_of(alloc: Global, text: &str) -> Result<Vec<u8>, AllocError> {
 }
 
 /// Bytes in words of eight digits.
-fn digits_of(alloc: Global, bytes: &[u8]) -> Result<String, AllocError> {
+pub fn digits_of(alloc: Global, bytes: &[u8]) -> Result<String, AllocError> {
     let mut text = String::new(alloc);
     for (place, byte) in bytes.iter().enumerate() {
         let blank = if place > 0 && place % 4 == 0 { " " } else { "" };

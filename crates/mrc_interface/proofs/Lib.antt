@@ -1,2 +1,3 @@
 mod Finding
 mod Slots
+mod ReadingLaws

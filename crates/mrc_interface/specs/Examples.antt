@@ -1,15 +1,24 @@
--- Worked examples of forms.
-use Rattle.std.specs.Prelude.{◌≡◌, ℕ, [], ◌∷◌, Option, Some, None, Result, Ok, Err, refl, codes}
-use Rattle.std.specs.Prelude.{option_map}
+-- Worked examples of forms, and of files that are read.
+use Rattle.std.specs.Prelude.{◌≡◌, ℕ, [], ◌∷◌, ◌++◌, Option, Some, None, Result, Ok, Err, refl}
+use Rattle.std.specs.Prelude.{codes, option_map}
+use Rattle.std.specs.Str.{is_utf8, chars}
 use Rattle.mrc_base.specs.declared.Disp.TheVariants.{CopySend}
+use Rattle.mrc_mig_lex.specs.Pieces.{piece_at}
+use Rattle.mrc_mig_lex.specs.declared.fault.LexFault.TheVariants.{BadCharacter}
+use Rattle.mrc_mig_symbols.specs.Symbols.{many, symbol_of, first_of, text_of, tail_of, after_sign}
+use Rattle.mrc_mig_symbols.specs.Symbols.{name_at}
+use Rattle.mrc_mig_symbols.specs.Tables.{entry_of}
 use Rattle.mrc_mig_symbols.specs.declared.word.Direction.{Direction}
 use Rattle.mrc_mig_symbols.specs.declared.word.Direction.TheVariants.{In, Out, RequestPort}
 use Rattle.mrc_mig_parse.specs.Arguments.{Item}
-use Rattle.mrc_mig_parse.specs.Files.{Meaning, Routine, Skip, one}
+use Rattle.mrc_mig_parse.specs.Files.{Meaning, Routine, Skip, one, begins_line, line_at, lines_at}
+use Rattle.mrc_mig_parse.specs.Files.{after_sides, number_at, named_number_at, heading_at, row_at}
+use Rattle.mrc_mig_parse.specs.Files.{statement_at, has_more, statements_at, meaning_of}
 use Rattle.mrc_interface.specs.declared.fault.InterfaceFault.{InterfaceFault}
 use Rattle.mrc_interface.specs.declared.fault.InterfaceFault.TheVariants.{IdRange}
 use Rattle.mrc_interface.specs.Forms.{Form}
 use Rattle.mrc_interface.specs.Tables.{Table, table_of, request_form, reply_form}
+use Rattle.mrc_interface.specs.Reading.{NoText, NoTokens, NoFile, interface_of, interfaces_of}
 
 -- one item of a type that has this number
 abbrev of_type : Direction → ℕ → Item
@@ -79,3 +88,34 @@ last_reply_fits = refl
 pub one_id_too_many :
     table_of (record two { base = 2147483548; rows = Routine [] ∷ [] }) ≡ Err IdRange
 one_id_too_many = refl
+
+-- a file of one skip
+pub file_of_a_skip : interface_of (codes "subsystem s 7; skip;")
+    ≡ Ok (record {
+      name = codes "s";
+      base = 7;
+      rows = record { request = None; reply = None } ∷ [];
+    })
+unfolding is_utf8 chars lib.Utf8.encode piece_at symbol_of many first_of text_of tail_of after_sign
+    name_at entry_of begins_line line_at lines_at after_sides number_at named_number_at heading_at
+    row_at statement_at has_more statements_at meaning_of
+file_of_a_skip = refl
+
+-- no character begins with this byte, also in a comment
+pub no_text : interface_of (codes "/*" ++ 255 ∷ codes "*/ @") ≡ Err NoText
+unfolding is_utf8 chars
+no_text = refl
+
+-- no token begins so, and that is told before a word that cannot stand in front of it
+pub no_tokens : interface_of (codes "skip; @") ≡ Err (NoTokens (BadCharacter 6))
+unfolding is_utf8 chars lib.Utf8.encode piece_at
+no_tokens = refl
+
+-- the second file is the first that is refused
+pub second_refused : interfaces_of
+    (codes "subsystem s 7;" ∷ codes "skip;" ∷ (255 ∷ []) ∷ codes "subsystem t 8;" ∷ [])
+    ≡ Err (record { file = 1; reason = NoFile })
+unfolding is_utf8 chars lib.Utf8.encode piece_at symbol_of many first_of text_of tail_of after_sign
+    name_at entry_of begins_line line_at lines_at after_sides number_at named_number_at heading_at
+    row_at statement_at has_more statements_at meaning_of
+second_refused = refl

@@ -1,6 +1,6 @@
 -- Which form is found by an id, and which arguments are slots, in words apart from how the table is
--- searched. After the Server Writer's Guide for MIG.
-use Rattle.std.specs.Prelude.{◌≡◌, ℕ, ◌+◌, List, [], ◌∷◌, Some, Ok, slice_get, ◌↔◌}
+-- searched; and that files are read as what they are. After the Server Writer's Guide for MIG.
+use Rattle.std.specs.Prelude.{◌≡◌, ℕ, ◌+◌, List, [], ◌∷◌, Some, Ok, Err, slice_get, ◌↔◌}
 use Rattle.mrc_base.specs.declared.Disp.{Disp}
 use Rattle.mrc_model.specs.IsIn.{IsIn}
 use Rattle.mrc_base.specs.Disposition.{disp_of_number}
@@ -12,6 +12,8 @@ use Rattle.mrc_interface.specs.declared.form.FormKind.{FormKind}
 use Rattle.mrc_interface.specs.declared.form.FormKind.TheVariants.{Request, Reply}
 use Rattle.mrc_interface.specs.Forms.{Slot, Form, form_of}
 use Rattle.mrc_interface.specs.Tables.{Table, table_of, request_form, reply_form}
+use Rattle.mrc_interface.specs.Reading.{IsInterface, AreInterfaces, Reason, IsReason, Refused}
+use Rattle.mrc_interface.specs.Reading.{IsFirstRefused, interface_of, interfaces_of}
 
 -- the forms of a statement that takes this id
 abbrev pub forms_at : ℕ → Statement → List Form
@@ -57,3 +59,25 @@ SlotsArePorts =
     → HasSlot (form_of id kind items) i disposition
     ↔ ((argument : Shape) × (slice_get (form_of id kind items).arguments i ≡ Some argument)
     × (disp_of_number argument.name ≡ Some disposition))
+
+-- reading finds exactly the table that bytes have
+abbrev pub ReadsInterface : Type 0
+ReadsInterface =
+    (bytes : List ℕ) (table : Table) → (interface_of bytes ≡ Ok table) ↔ IsInterface bytes table
+
+-- and else exactly the reason why they have none
+abbrev pub ReadsReason : Type 0
+ReadsReason =
+    (bytes : List ℕ) (reason : Reason) → (interface_of bytes ≡ Err reason) ↔ IsReason bytes reason
+
+-- reading finds exactly the tables of the files, in their order
+abbrev pub ReadsInterfaces : Type 0
+ReadsInterfaces =
+    (files : List (List ℕ)) (tables : List Table)
+    → (interfaces_of files ≡ Ok tables) ↔ AreInterfaces files tables
+
+-- and else exactly the first that has none, with its reason
+abbrev pub ReadsFirstRefused : Type 0
+ReadsFirstRefused =
+    (files : List (List ℕ)) (refused : Refused)
+    → (interfaces_of files ≡ Err refused) ↔ IsFirstRefused files refused

@@ -1,6 +1,8 @@
-//! What holds of the forms of a subsystem.
+//! What holds of the forms of a subsystem, and of reading files.
 
 ghost use Rattle.mrc_interface.specs.Laws.{FoundByIds, SlotsArePorts};
+ghost use Rattle.mrc_interface.specs.Laws.{ReadsInterface, ReadsReason};
+ghost use Rattle.mrc_interface.specs.Laws.{ReadsInterfaces, ReadsFirstRefused};
 
 /// The request that is found by an id is that of the statement that takes the id, and a reply that
 /// of the statement that takes an id 100 below. Nothing else is found.
@@ -11,4 +13,13 @@ pub fn forms_are_found_by_ids()
 /// The slots of a form are exactly those of its arguments whose type number is a disposition's.
 pub fn slots_are_ports()
     ensures ports { SlotsArePorts }
+{}
+
+/// Reading finds exactly the table that bytes have, and else exactly the reason why they have none;
+/// of a list of files exactly their tables, and else exactly the first that has none.
+pub fn files_are_read()
+    ensures table { ReadsInterface }
+    ensures reason { ReadsReason }
+    ensures tables { ReadsInterfaces }
+    ensures first { ReadsFirstRefused }
 {}

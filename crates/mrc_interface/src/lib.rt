@@ -1,14 +1,17 @@
-//! The forms of a subsystem's messages, by their ids.
+//! The forms of a subsystem's messages, by their ids, and MIG files from their bytes.
 #![tactic(auto)]
 
 mod fault;
 mod form;
 mod interface;
 mod laws;
+mod reading;
 
-pub use fault::InterfaceFault;
+pub use fault::{DefsFault, FileFault, InterfaceFault};
 pub use form::{Form, FormKind, Slot};
 pub use interface::Interface;
-pub use laws::{forms_are_found_by_ids, slots_are_ports};
-pub use mrc_mig_parse::Shape;
+pub use laws::{files_are_read, forms_are_found_by_ids, slots_are_ports};
+pub use mrc_mig_lex::LexFault;
+pub use mrc_mig_parse::{Feature, ParseFault, Shape};
 pub use mrc_model::RequestKind;
+pub use reading::{read_interface, read_interfaces};

@@ -36,6 +36,17 @@ fn forms_or_memory(rt: HostRuntime) -> Result<(), Fail> {
     Ok(())
 }
 
+// A list of files has their names or `Memory` likewise.
+#[test]
+fn names_or_memory(rt: HostRuntime) -> Result<(), Fail> {
+    let text = "defs:73756273797374656d206120313b,73756273797374656d206220323b";
+    let Ok(told) = said_twice(rt.alloc(), text) else {
+        return Err("memory is there at the second call".into());
+    };
+    assert_eq!(rt; told.as_str(), "a b");
+    Ok(())
+}
+
 // An expression may be as deep as a file is long.
 #[test]
 fn many_parentheses(rt: HostRuntime) -> Result<(), Fail> {

@@ -1,0 +1,125 @@
+-- Which bytes are a MIG file, and the table of its forms; of other bytes, which step refuses them.
+-- What a file is stands in the crates that read it, after the Server Writer's Guide for MIG; the
+-- order of the steps is this profile's own choice.
+use Rattle.std.specs.Prelude.{◌≡◌, ℕ, ◌+◌, List, [], ◌∷◌, ◌++◌, length, Result, Ok, Err}
+use Rattle.std.specs.Prelude.{if◌then◌else◌}
+use Rattle.std.specs.Option.{ok_or}
+use Rattle.std.specs.List.{AllZip}
+use Rattle.std.specs.Str.{IsUtf8, is_utf8}
+use Rattle.mrc_base.specs.declared.memory.OrMemory.{OrMemory}
+use Rattle.mrc_base.specs.Reading.{◌>>=◌, UnlessMemory}
+use Rattle.mrc_mig_lex.specs.declared.fault.LexFault.{LexFault}
+use Rattle.mrc_mig_lex.specs.Tokens.{Lexeme}
+use Rattle.mrc_mig_lex.specs.Parts.{HasTokens}
+use Rattle.mrc_mig_lex.specs.Lexing.{tokens_of}
+use Rattle.mrc_mig_parse.specs.Files.{Meaning, meaning_of}
+use Rattle.mrc_mig_parse.specs.Grammar.{IsFile}
+use Rattle.mrc_interface.specs.declared.fault.InterfaceFault.{InterfaceFault}
+use Rattle.mrc_interface.specs.declared.fault.DefsFault.{DefsFault}
+use Rattle.mrc_interface.specs.declared.fault.DefsFault.TheVariants.{NotUtf8, Lex, Parse, Interface}
+use Rattle.mrc_interface.specs.declared.fault.FileFault.{FileFault}
+use Rattle.mrc_interface.specs.Tables.{Table, table_of}
+
+-- The bytes are a MIG file, and this is the table of its forms: they are a text, made of tokens
+-- that by the grammar are a subsystem, whose ids are not too great.
+pub record IsInterface (bytes : List ℕ) (table : Table) : Type 0 where
+  pub utf8 : IsUtf8 bytes
+  pub tokens : List Lexeme
+  pub has : HasTokens bytes tokens
+  pub subsystem : Meaning
+  pub is_file : IsFile tokens subsystem
+  pub is_table : table_of subsystem ≡ Ok table
+
+-- each of the files is a MIG file, and these are their tables, in the same order
+abbrev pub AreInterfaces : List (List ℕ) → List Table → Type 0
+AreInterfaces files tables = AllZip IsInterface files tables
+
+-- Why bytes have no table: they are no text, or have no tokens, or the tokens are no file, or an id
+-- would be too great. Which token it is that cannot stand there is not said.
+pub data Reason : Type 0 where
+  NoText : Reason
+  NoTokens : LexFault → Reason
+  NoFile : Reason
+  NoTable : InterfaceFault → Reason
+
+-- the bytes have no table for this reason, and for none that comes before it
+abbrev pub IsReason : List ℕ → Reason → Type 0
+IsReason bytes NoText = ¬ (IsUtf8 bytes)
+IsReason bytes (NoTokens fault) =
+    IsUtf8 bytes
+    × (tokens_of bytes ≡ Err fault)
+IsReason bytes NoFile =
+    IsUtf8 bytes
+    × (tokens : List Lexeme)
+    × HasTokens bytes tokens
+    × ((subsystem : Meaning) → ¬ (IsFile tokens subsystem))
+IsReason bytes (NoTable fault) =
+    IsUtf8 bytes
+    × (tokens : List Lexeme)
+    × (subsystem : Meaning)
+    × HasTokens bytes tokens
+    × IsFile tokens subsystem
+    × (table_of subsystem ≡ Err fault)
+
+-- the reason that a fault tells
+abbrev pub reason_of : DefsFault → Reason
+reason_of NotUtf8 = NoText
+reason_of (Lex fault) = NoTokens fault
+reason_of (Parse fault) = NoFile
+reason_of (Interface fault) = NoTable fault
+
+-- A file of a list that is refused: how many stand before it, and its reason.
+pub record Refused : Type 0 where
+  pub file : ℕ
+  pub reason : Reason
+
+-- the first of the files that is refused, with the reason: all that stand before it are MIG files
+pub record IsFirstRefused (files : List (List ℕ)) (refused : Refused) : Type 0 where
+  pub before : List (List ℕ)
+  pub bytes : List ℕ
+  pub after : List (List ℕ)
+  pub parts : files ≡ before ++ bytes ∷ after
+  pub place : length before ≡ refused.file
+  pub tables : List Table
+  pub sound : AreInterfaces before tables
+  pub reason : IsReason bytes refused.reason
+
+-- the file that a fault tells, and the reason
+abbrev pub refused_of : FileFault → Refused
+refused_of told = record { file = told.file; reason = reason_of told.fault }
+
+-- a step of the reading, whose fault is the reason
+abbrev pub step : {A E F : Type 0} → (E → F) → Result A E → Result A F
+step place (Ok x) = Ok x
+step place (Err fault) = Err (place fault)
+
+-- bytes that are a text
+abbrev pub text_of : List ℕ → Result (List ℕ) Reason
+text_of bytes = if is_utf8 bytes then Ok bytes else Err NoText
+
+-- the table of the forms of a file's bytes, or the first reason
+abbrev pub interface_of : List ℕ → Result Table Reason
+interface_of bytes = do
+  text ← text_of bytes
+  tokens ← step NoTokens (tokens_of text)
+  subsystem ← ok_or (meaning_of tokens) NoFile
+  step NoTable (table_of subsystem)
+
+-- the tables of files, behind this many others, or the first that is refused
+abbrev pub interfaces_from : ℕ → List (List ℕ) → Result (List Table) Refused
+interfaces_from n [] = Ok []
+interfaces_from n (bytes ∷ files) = do
+  table ← step (λ reason. record { file = n; reason = reason }) (interface_of bytes)
+  tables ← interfaces_from (n + 1) files
+  Ok (table ∷ tables)
+
+-- the tables of a list of files, or the first that is refused
+abbrev pub interfaces_of : List (List ℕ) → Result (List Table) Refused
+interfaces_of files = interfaces_from 0 files
+
+-- what was answered, seen by view, is what the definition gives; a fault tells what it gives
+-- instead, unless memory ran out
+abbrev pub GivesAs : {A B E F : Type 0} → (A → B) → (F → E) → Result A (OrMemory F) → Result B E
+    → Type 0
+GivesAs view told (Ok x) given = given ≡ Ok (view x)
+GivesAs view told (Err refusal) given = UnlessMemory (λ fault. given ≡ Err (told fault)) refusal
