@@ -11,6 +11,3 @@ pub use draft::Draft;
 pub use fault::DraftFault;
 pub use reading::read_draft;
 pub use writing::write_draft;
-
-#[cfg(test)]
-mod tests;
