@@ -14,7 +14,7 @@ use Rattle.mrc_model.specs.Space.{place_at, place_new, Placed}
 use Rattle.mrc_model.proofs.Maps.{at_or_0, len-insert}
 use Rattle.mrc_model.proofs.Spaces.{get-unused, entry_of-some}
 use Rattle.mrc_names.specs.Bounds.{IsBounded}
-use Rattle.mrc_names.specs.Takes.{give_new, give_right}
+use Rattle.mrc_names.specs.Takes.{add_entry, give_new, give_right}
 use Rattle.mrc_names.proofs.BoundLaws.{same_len, found_used}
 
 -- a full space takes no new name
@@ -32,7 +32,7 @@ unfolding give_new ◌>>◌ refuse_if
 new_given x p r room = rw room refl
 
 -- a new name makes a full space too large, and no other
-over_full : (x : Space) (e : Entry) → is_over_full (insert x (unused x) e) ≡ is_full x
+pub over_full : (x : Space) (e : Entry) → is_over_full (insert x (unused x) e) ≡ is_full x
 over_full x e =
     let none : at_or_0 (λ q (y : Entry). 1) (unused x) (get x (unused x)) ≡ 0 =
     ap (at_or_0 (λ q y. 1) (unused x)) (get-unused x) in
@@ -120,3 +120,20 @@ given_as_new x y p r name e room least entry put =
     ap (λ k. insert x k e) least ∙ ap (insert x (unused x)) entry in
     new_given x p r room ∙ ap (λ z. Ok (z, unused x)) (sym (put ∙ kept))
     ∙ ap (λ n. Ok (y, n)) (sym least)
+
+-- an entry that is added, from what each step of code tells
+pub add_refused : (x : Space) (e : Entry)
+    → is_full x ≡ true
+    → add_entry x e ≡ Err (Refused KernNoSpace)
+unfolding add_entry ◌>>◌ refuse_if
+add_refused x e full = rw full refl
+
+pub added : (x y : Space) (name : ℕ) (e : Entry)
+    → is_full x ≡ false
+    → name ≡ unused x
+    → y ≡ insert x name e
+    → add_entry x e ≡ Ok (y, name)
+unfolding add_entry ◌>>◌ refuse_if
+added x y name e room least put =
+    let done : add_entry x e ≡ Ok (insert x (unused x) e, unused x) = rw room refl in
+    done ∙ ap (λ n. Ok (insert x n e, n)) (sym least) ∙ ap (λ z. Ok (z, name)) (sym put)

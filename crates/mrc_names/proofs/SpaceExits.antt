@@ -14,7 +14,7 @@ use Rattle.mrc_model.specs.Space.{Taken, taken, take_from, put_entry, insert_new
 use Rattle.mrc_model.specs.Space.{insert_known, insert_at, is_full, is_other, is_entry_of}
 use Rattle.mrc_model.specs.Space.{overflows, joined, new_entry, entry_of}
 use Rattle.mrc_model.specs.Target.{bad_name, wrong_right}
-use Rattle.mrc_names.specs.Takes.{take_right}
+use Rattle.mrc_names.specs.Takes.{take_right, taken_port}
 
 -- taking: the name has no entry
 pub take_no_name : (x : Space) (n : ℕ) (d : Disp) → get x n ≡ None → take_right x n d ≡ Err bad_name
@@ -184,3 +184,15 @@ take_spends x inside y n m p q d e o rest has what is port none view name gone =
     ap (λ z. remove z m) view ∙ ap (λ z. remove x z) name in
     done ∙ ap (λ r. Ok (put_entry x n r, q)) none ∙ ap (λ z. Ok (z, q)) (sym (gone ∙ kept))
     ∙ ap (λ z. Ok (y, z)) port
+
+-- the port of a taking, from what each step of code tells
+pub port_taken : (x : Space) (n p q : ℕ) (d : Disp) (e : Entry) (o : Option (ℕ × Option Entry))
+    (left : Option Entry)
+    → get x n ≡ Some e
+    → option_map (λ (t : ℕ × Option Entry). taken t.0 t.1) o ≡ take_from e d
+    → o ≡ Some (q, left)
+    → q ≡ p
+    → taken_port x n d ≡ Ok p
+unfolding taken_port ◌>>=◌
+port_taken x n p q d e o left has what is port =
+    rw (take_done x n d e (taken q left) has (taken_some o _ q left what is)) (ap Ok port)

@@ -3,11 +3,13 @@
 use Rattle.std.specs.Prelude.{ℕ, Ok}
 use Rattle.mrc_base.specs.declared.Disp.{Disp}
 use Rattle.mrc_base.specs.declared.PortRight.{PortRight}
+use Rattle.mrc_model.specs.declared.Entry.{Entry}
 use Rattle.mrc_model.specs.declared.Code.TheVariants.{KernInvalidValue, KernNameExists, KernNoSpace}
 use Rattle.mrc_model.specs.Map.{get, insert, remove}
 use Rattle.mrc_model.specs.World.{Space}
 use Rattle.mrc_model.specs.Reply.{Try, Refused, ◌>>=◌, ◌>>◌, or_refuse, refuse_if}
 use Rattle.mrc_model.specs.Space.{take_from, put_entry, place, place_new, is_full, is_over_full}
+use Rattle.mrc_model.specs.Space.{unused}
 use Rattle.mrc_model.specs.Space.{is_set, members_follow}
 use Rattle.mrc_model.specs.CallRename.{is_used}
 use Rattle.mrc_model.specs.Target.{is_reserved, bad_name, wrong_right}
@@ -18,6 +20,19 @@ take_right x n d = do
   e ← or_refuse (get x n) bad_name
   got ← or_refuse (take_from e d) wrong_right
   Ok (put_entry x n got.rest, got.port)
+
+-- the right's port alone
+unfoldable pub taken_port : Space → ℕ → Disp → Try ℕ
+taken_port x n d = do
+  (y, p) ← take_right x n d
+  Ok p
+
+-- the space after an entry was put under the least unused name, and that name; refused where the
+-- space is full
+unfoldable pub add_entry : Space → Entry → Try (Space × ℕ)
+add_entry x e = do
+  refuse_if (is_full x) (Refused KernNoSpace)
+  Ok (insert x (unused x) e, unused x)
 
 -- the space after the giving of a right under the least unused name, and that name; refused where
 -- the space is full

@@ -11,7 +11,8 @@ ghost use Rattle.mrc_model.specs.CallNames.{refs_of, mask_of};
 ghost use Rattle.mrc_model.specs.Space.{in_renamed, is_set, members_follow};
 ghost use Rattle.mrc_names.specs.Listings.{entry_name};
 ghost use Rattle.mrc_names.specs.Refusals.{IsRefusal};
-ghost use Rattle.mrc_names.specs.Takes.{take_right, give_right, give_new, rename_entry};
+ghost use Rattle.mrc_names.specs.Takes.{take_right, taken_port, give_right, give_new, add_entry};
+ghost use Rattle.mrc_names.specs.Takes.{rename_entry};
 
 use crate::entry;
 use crate::listing::{Listing, NamedType};
@@ -114,6 +115,13 @@ impl Space {
         }
     }
 
+    /// All entries with their names, ascending.
+    pub fn entries(&self) -> &[(u64, Entry)]
+        ensures { result.now ≡ self.now.list }
+    {
+        self.entries.entries()
+    }
+
     /// The entry of a name.
     pub fn get(&self, name: u32) -> Option<Entry>
         ensures { result ≡ get self.now name }
@@ -160,6 +168,22 @@ impl Space {
         Ok(Space {
             entries: self.entries.copy(alloc)?,
         })
+    }
+
+    /// The port of the right that `take` takes, or its refusal.
+    pub fn peek(&self, name: u32, disp: Disp) -> Result<PortId, Code>
+        ensures found { IfOk result (λ port. taken_port self.now name disp ≡ Ok port) }
+        ensures refused { IfErr result
+            (λ code. take_right self.now name disp ≡ Err (Refused code)) }
+    {
+        let Some(held) = self.get(name) else {
+            return Err(Code::KernInvalidName);
+        };
+        let Some(taken) = entry::take_from(held, disp) else {
+            return Err(Code::KernInvalidRight);
+        };
+        let (port, _) = taken;
+        Ok(port)
     }
 
     /// Takes a right from a name: its port. Refused are a name without an entry (KERN_INVALID_NAME)
@@ -291,6 +315,21 @@ impl Space {
             return Err(OrMemory::Fault(Code::KernRightExists));
         }
         self.insert_joined(name, port, right)
+    }
+
+    /// Puts an entry under the least unused name, which is answered. Refused where the space is
+    /// full (KERN_NO_SPACE).
+    pub fn add(&mut self, entry: Entry) -> Result<u32, OrMemory<Code>>
+        ensures ok { IfOk result (λ name. add_entry self.old entry ≡ Ok (self.new, name)) }
+        ensures refused { IfErr result (λ e. IsRefusal e (add_entry self.old entry)) }
+        ensures err { OnErr result (self.new ≡ self.old) }
+    {
+        if self.is_full() {
+            return Err(OrMemory::Fault(Code::KernNoSpace));
+        }
+        let name = self.unused();
+        self.put(name, entry)?;
+        Ok(name)
     }
 
     /// Gives a right the least unused name.

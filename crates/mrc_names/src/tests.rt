@@ -760,3 +760,34 @@ fn memory_that_runs_out_changes_nothing(rt: HostRuntime) -> Result<(), Fail> {
     assert!(rt; names.next().is_none());
     Ok(())
 }
+
+// An entry takes the least unused name.
+#[test]
+fn an_entry_is_added(rt: HostRuntime) -> Result<(), Fail> {
+    let mut space = space_of(rt.alloc(), &[(1, once(OTHER)), (3, receives(2))])?;
+    assert_eq!(rt; space.add(Entry::PortSet)?, 2);
+    assert_eq!(rt; space.add(dead(4))?, 4);
+    let want = [
+        (1, once(OTHER)),
+        (2, Entry::PortSet),
+        (3, receives(2)),
+        (4, dead(4)),
+    ];
+    assert_eq!(rt; space.entries(), want.as_slice());
+    Ok(())
+}
+
+// What a taking would answer, and nothing is taken.
+#[test]
+fn a_look_at_a_taking(rt: HostRuntime) -> Result<(), Fail> {
+    let space = space_of(rt.alloc(), &[(3, receives(0))])?;
+    for (name, disp, answer) in [
+        (3, MOVE_RECEIVE, Ok(PORT)),
+        (3, MOVE_SEND, Err(Code::KernInvalidRight)),
+        (4, MOVE_RECEIVE, Err(Code::KernInvalidName)),
+    ] {
+        assert_eq!(rt; space.peek(name, disp), answer, "{name} {disp:?}");
+    }
+    assert_eq!(rt; space.get(3), Some(receives(0)));
+    Ok(())
+}

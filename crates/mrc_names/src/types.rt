@@ -45,6 +45,13 @@ impl Flags for PortType {
 }
 
 impl PortType {
+    /// The rights as one number, a bit each.
+    pub fn mask(self) -> u32
+        ensures { result ≡ self.0 }
+    {
+        self.0
+    }
+
     /// The rights that an entry shows.
     pub fn of(entry: &Entry) -> PortType
         ensures { result.0 ≡ mask_of entry.now }

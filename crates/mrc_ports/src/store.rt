@@ -50,6 +50,13 @@ impl Store {
         self.spaces.get(u64::from(task.0))
     }
 
+    /// The spaces by the numbers of their tasks, ascending.
+    pub fn spaces(&self) -> &[(u64, Space)]
+        ensures { result.now ≡ self.now.spaces.list }
+    {
+        self.spaces.entries()
+    }
+
     /// Gives a task a space, or another one.
     pub fn add_space(&mut self, task: TaskId, space: Space) -> Result<(), AllocError>
         ensures ok { OnOk result (self.new ≡ set_space self.old task space) }

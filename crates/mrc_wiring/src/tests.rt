@@ -83,6 +83,27 @@ fn first_state(rt: HostRuntime) -> Result<(), Fail> {
     Ok(())
 }
 
+// Each task has births of kind 0 alone, whose classes come behind those of kernel ports.
+#[test]
+fn births(rt: HostRuntime) -> Result<(), Fail> {
+    let two = wired(rt.alloc(), TWO)?;
+    for (task, kind, class) in [
+        (0, 0, Some(ClassId(2))),
+        (1, 0, Some(ClassId(3))),
+        (2, 0, None),
+        (0, 1, None),
+    ] {
+        assert_eq!(rt;
+            two.births_class(TaskId(task), kind),
+            class,
+            "{task} {kind}"
+        );
+    }
+    assert_eq!(rt; two.ports(), 0);
+    assert_eq!(rt; two.first_lines().len(), 3);
+    Ok(())
+}
+
 #[test]
 fn names(rt: HostRuntime) -> Result<(), Fail> {
     let alloc = rt.alloc();

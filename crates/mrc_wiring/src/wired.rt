@@ -2,10 +2,10 @@
 
 ghost use Rattle.std.specs.Prelude.{◌≡◌, ◌≤◌, ◌<◌, length, slice_get, IfOk, IfSome, IsTrue};
 ghost use Rattle.std.specs.Option.{option_map};
-ghost use Rattle.mrc_base.specs.Limits.{limit_of_tasks};
+ghost use Rattle.mrc_base.specs.Limits.{limit_of_tasks, limit_of_wired_ports};
 ghost use Rattle.mrc_base.specs.Reading.{Gives};
 ghost use Rattle.mrc_model.specs.First.{is_sound};
-ghost use Rattle.mrc_model.specs.Wiring.{classes};
+ghost use Rattle.mrc_model.specs.Wiring.{classes, births_class};
 ghost use Rattle.mrc_wiring.specs.Table.{IsTable, AreEarlier, task_lines, wiring_of, line_holds};
 ghost use Rattle.mrc_wiring.specs.FirstState.{HasFirstHolds};
 ghost use Rattle.mrc_wiring.specs.Resolving.{resolved};
@@ -60,6 +60,36 @@ impl Wired {
         ensures sound { IsTrue (is_sound (wiring_of self.now)) }
     {
         self.names.len() as u16
+    }
+
+    /// How many ports there are beside kernel ports: today none.
+    pub fn ports(&self) -> u16
+        ensures exact { result ≡ (wiring_of self.now).ports }
+        ensures within { result ≤ limit_of_wired_ports }
+    {
+        0
+    }
+
+    /// What makes the first state, line by line.
+    pub fn first_lines(&self) -> &[FirstLine]
+        ensures { result.now ≡ (wiring_of self.now).lines }
+    {
+        self.lines.as_slice()
+    }
+
+    /// The class of the ports that a task is the first to hold, by their kind: today each task has
+    /// kind 0 alone.
+    pub fn births_class(&self, task: TaskId, kind: u32) -> Option<ClassId>
+        ensures { result ≡ births_class (wiring_of self.now) task kind }
+    {
+        if kind != 0 {
+            return None;
+        }
+        let tasks = self.tasks();
+        if u32::from(tasks) <= task.0 {
+            return None;
+        }
+        Some(ClassId(tasks + task.0 as u16))
     }
 
     /// How many classes of ports there are: the kernel port of each task, and then the births of

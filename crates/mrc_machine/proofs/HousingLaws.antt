@@ -1,0 +1,202 @@
+-- Each task keeps a space, and numbers stay short.
+use Rattle.std.proofs.Common.{◌≡◌, ℕ, ◌<◌, ◌^◌, Option, Some, None, refl, sym, ◌∙◌, ap, subst}
+use Rattle.std.proofs.Common.{inl, inr, true, false, List, [], ◌∷◌, T, Bool, if◌then◌else◌, ◌+◌}
+use Rattle.std.specs.Prelude.{IsSome, IfSome, ◌==◌}
+use Rattle.std.specs.Option.{is_some}
+use Rattle.std.proofs.lemmas.Bool.{cases_eq}
+use Rattle.mrc_model.specs.Rising.{is_rising, find_key, right_holds}
+use Rattle.mrc_model.specs.Map.{Map, empty, get, insert, Each}
+use Rattle.mrc_model.specs.World.{Space, Store, Task, World, set_space}
+use Rattle.mrc_model.specs.Target.{first_task, has_kernel, with_space, is_alive}
+use Rattle.mrc_model.proofs.Maps.{get-insert, get-insert_same, get-insert_other, get-empty}
+use Rattle.mrc_model.proofs.Maps.{Each-insert, same_Some, not_None, find_here, find_later}
+use Rattle.mrc_map.proofs.SameMaps.{same_map}
+use Rattle.mrc_ports.specs.Tables.{no_store}
+use Rattle.mrc_ports.proofs.TableLaws.{insert_twice}
+use Rattle.std.specs.List.{AllByRecursion}
+use Rattle.mrc_machine.specs.Holdings.{AreShort}
+use Rattle.mrc_machine.specs.Housing.{IsHoused}
+
+-- what holds of each entry holds of one that is there
+each_there : {X : Type 0} (P : ℕ → Type 0) (m : Map X) (k : ℕ) (o : Option X)
+    → Each (λ q x. P q) m
+    → get m k ≡ o
+    → IsSome o
+    → P k
+each_there P m k None all at has = cc
+each_there P m k (Some x) all at has = all k x at
+
+-- a map with no entry
+none_there : {X : Type 0} (m : Map X) (k : ℕ) → m ≡ empty → get m k ≡ None
+none_there m k is = ap (λ (n : Map _). get n k) is ∙ get-empty k
+
+each_none : {X : Type 0} (P : ℕ → X → Type 0) (m : Map X) → m ≡ empty → Each P m
+each_none P m is k x at = absurd (not_None x (sym at ∙ none_there m k is))
+
+-- where there is no task
+pub housed_empty : (ts : Map Task) (s : Store)
+    → ts ≡ empty
+    → s ≡ no_store
+    → IsHoused record { tasks = ts; store = s }
+housed_empty ts s no_task no_space = record {
+  spaces = λ t has. let none = none_there ts t no_task in cc;
+  tasks = each_none _ ts no_task;
+  owners = each_none _ s.spaces (ap (λ (z : Store). z.spaces) no_space);
+}
+
+-- where no space changes
+pub housed_same : (ts : Map Task) (s z : Store)
+    → IsHoused record { tasks = ts; store = s }
+    → z.spaces ≡ s.spaces
+    → IsHoused record { tasks = ts; store = z }
+housed_same ts s z h same = record {
+  spaces = λ t has. subst (λ (m : Map Space). IsSome (get m t)) (sym same) (h.spaces t has);
+  tasks = h.tasks;
+  owners = subst (Each (λ t x. t < 2 ^ 32)) (sym same) h.owners;
+}
+
+-- what was there is still there
+pub kept_there : {X : Type 0} (m : Map X) (k q : ℕ) (v : X)
+    → IsSome (get m q)
+    → IsSome (get (insert m k v) q)
+kept_there m k q v has =
+    subst IsSome (sym (get-insert m k v q)) (elim (q == k)
+    as (λ b. IsSome (if b then Some v else get m q)) [ true ↦ refl | false ↦ has ])
+
+-- where a task gets another space
+pub housed_space : (ts : Map Task) (s z : Store) (t : ℕ) (x : Space)
+    → IsHoused record { tasks = ts; store = s }
+    → t < 2 ^ 32
+    → z ≡ set_space s t x
+    → IsHoused record { tasks = ts; store = z }
+housed_space ts s z t x h short is =
+    housed_same ts (set_space s t x) z record {
+      spaces = λ u has. kept_there s.spaces t u x (h.spaces u has);
+      tasks = h.tasks;
+      owners = Each-insert (λ u y. u < 2 ^ 32) s.spaces t x h.owners short;
+    } (ap (λ (y : Store). y.spaces) is)
+
+-- what is known of a task, where a world is open
+module _ (ts : Map Task) (s : Store) (w : World) (t : ℕ)
+    (h : IsHoused record { tasks = ts; store = s })
+    (v : ◌≡◌ {A = World} record { tasks = ts; store = s } w)
+    (has : IsSome (get w.tasks t)) where
+  task_in : IsSome (get ts t)
+  task_in = subst (λ (z : World). IsSome (get z.tasks t)) (sym v) has
+
+  pub has_space : IsSome (get s.spaces t)
+  has_space = h.spaces t task_in
+
+  pub has_number : t < 2 ^ 32
+  has_number = each_there (λ q. q < 2 ^ 32) ts t (get ts t) h.tasks refl task_in
+
+-- the space that a task had is put back
+pub space_back : (w : World) (t : ℕ) (x : Space)
+    → Some x ≡ get w.store.spaces t
+    → with_space w t x ≡ w
+space_back w t x at =
+    let same : insert w.store.spaces t x ≡ w.store.spaces = same_map _ _ (λ q. elim (cases_eq q t) [
+      | inl k ↦
+          ap (get (insert w.store.spaces t x)) k ∙ get-insert_same w.store.spaces t x ∙ at
+          ∙ ap (get w.store.spaces) (sym k)
+      | inr n ↦ get-insert_other w.store.spaces t x q n
+    ]) in
+    ap (λ (m : Map Space). record w { store = record w.store { spaces = m } }) same
+
+-- the space that is put last stands
+pub space_twice : (w : World) (t : ℕ) (x y : Space)
+    → with_space (with_space w t x) t y ≡ with_space w t y
+space_twice w t x y =
+    ap (λ (m : Map Space). record w { store = record w.store { spaces = m } })
+    (insert_twice w.store.spaces t x y)
+
+-- the first task with a kernel port is there
+later : (e : ℕ × Task) (es : List (ℕ × Task)) (u : ℕ)
+    → IsSome (find_key u es)
+    → IsSome (find_key u (e ∷ es))
+later e es u has =
+    elim (u == e.0) as (λ b. IsSome (if b then Some e.1 else find_key u es))
+    [ true ↦ refl | false ↦ has ]
+
+task_found : (p : ℕ) (es : List (ℕ × Task)) (u : ℕ)
+    → first_task p es ≡ Some u
+    → IsSome (find_key u es)
+task_found p [] u is = absurd (not_None u (sym is))
+task_found p (e ∷ es) u is = go (has_kernel p e.1) is (task_found p es u)
+  where
+    go : (b : Bool)
+        → (if b then Some e.0 else first_task p es) ≡ Some u
+        → (first_task p es ≡ Some u → IsSome (find_key u es))
+        → IsSome (find_key u (e ∷ es))
+    go true z rest = subst (λ n. IsSome (find_key n (e ∷ es))) (same_Some e.0 u z)
+        (ap is_some (find_here e es))
+    go false z rest = later e es u (rest z)
+
+pub task_there : (m : Map Task) (p : ℕ) (o : Option ℕ)
+    → o ≡ first_task p m.list
+    → IfSome o (λ u. IsSome (get m u))
+unfolding get
+task_there m p None is = tt
+task_there m p (Some u) is = task_found p m.list u (sym is)
+
+-- a live task is there
+pub alive_there : (o : Option Task) → is_alive o ≡ true → IsSome o
+alive_there None is = cc
+alive_there (Some x) is = refl
+
+-- the number of the first such task is short
+pub found_number : (ts : Map Task) (s : Store) (es : List (ℕ × Task)) (p u : ℕ) (o : Option ℕ)
+    → IsHoused record { tasks = ts; store = s }
+    → es ≡ ts.list
+    → o ≡ first_task p es
+    → o ≡ Some u
+    → (IsSome (get ts u)) × (u < 2 ^ 32)
+unfolding get
+found_number ts s es p u o h list found is =
+    let there : IsSome (get ts u) =
+    task_found p ts.list u (ap (first_task p) (sym list) ∙ sym found ∙ is) in
+    (there, each_there (λ q. q < 2 ^ 32) ts u (get ts u) h.tasks refl there)
+
+-- what holds of each entry of a map holds of all of its list
+all_of : {X : Type 0} (P : ℕ → Type 0) (low : ℕ) (es : List (ℕ × X))
+    → T (is_rising low es)
+    → ((k : ℕ) (v : X) → find_key k es ≡ Some v → P k)
+    → AllByRecursion (λ (x : ℕ × X). P x.0) es
+all_of P low [] r all = tt
+all_of P low (e ∷ es) r all = (
+  all e.0 e.1 (find_here e es),
+  all_of P (e.0 + 1) es (right_holds _ _ r) (λ k v at. all k v (find_later low e es k v r at)),
+)
+
+-- all owners of spaces have short numbers
+pub short_owners : (ts : Map Task) (s : Store) (spaces : List (ℕ × Space))
+    → IsHoused record { tasks = ts; store = s }
+    → spaces ≡ s.spaces.list
+    → AreShort spaces
+unfolding get
+short_owners ts s spaces h is =
+    subst AreShort (sym is)
+    (all_of (λ k. k < 2 ^ 32) 0 s.spaces.list s.spaces.rising (λ k v at. h.owners k v at))
+
+-- where a task with a space is added
+pub housed_task : (ts us : Map Task) (s z : Store) (t : ℕ) (x : Space) (task : Task)
+    → IsHoused record { tasks = ts; store = s }
+    → t < 2 ^ 32
+    → z ≡ set_space s t x
+    → us ≡ insert ts t task
+    → IsHoused record { tasks = us; store = z }
+housed_task ts us s z t x task h short space_is task_is =
+    let put : IsHoused record { tasks = ts; store = set_space s t x } =
+    housed_space ts s (set_space s t x) t x h short refl in
+    let both : IsHoused record { tasks = insert ts t task; store = set_space s t x } = record {
+      spaces = λ u has. elim (cases_eq u t) [
+        | inl same ↦ subst (λ o. IsSome o)
+            (sym (ap (get (insert s.spaces t x)) same ∙ get-insert_same s.spaces t x)) refl
+        | inr apart ↦ put.spaces u
+            (subst (λ o. IsSome o) (get-insert_other ts t task u apart) has)
+      ];
+      tasks = Each-insert (λ u y. u < 2 ^ 32) ts t task h.tasks short;
+      owners = put.owners;
+    } in
+    subst (λ (w : World). IsHoused w)
+    (λ i. record { tasks = sym task_is i; store = sym space_is i }) both

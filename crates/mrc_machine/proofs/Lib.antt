@@ -1,0 +1,11 @@
+pub mod Trying
+pub mod HousingLaws
+pub mod StoreLaws
+pub mod TargetLaws
+pub mod AllocateLaws
+pub mod AskingLaws
+pub mod QlimitLaws
+pub mod RenameLaws
+pub mod MoveLaws
+pub mod StepLaws
+pub mod StartLaws

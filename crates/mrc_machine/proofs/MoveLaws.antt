@@ -1,0 +1,266 @@
+-- What moving a right between two tasks comes to, from what each step of code tells.
+use Rattle.std.proofs.Common.{◌≡◌, ℕ, ◌+◌, ◌≤◌, Bool, true, false, Option}
+use Rattle.std.proofs.Common.{Some, None, Ok, Err, refl}
+use Rattle.std.proofs.Common.{sym, ◌∙◌, ap, arith, ◌==◌, if◌then◌else◌}
+use Rattle.std.specs.Prelude.{◌||◌}
+use Rattle.std.proofs.lemmas.Bool.{leb-false, le-ltb}
+use Rattle.mrc_base.specs.declared.memory.OrMemory.{OrMemory}
+use Rattle.mrc_base.specs.declared.memory.OrMemory.TheVariants.{Fault, Memory}
+use Rattle.mrc_base.specs.declared.PortRight.{PortRight}
+use Rattle.mrc_base.specs.declared.PortRight.TheVariants.{Send, Receive, SendOnce}
+use Rattle.mrc_base.specs.declared.Disp.{Disp}
+use Rattle.mrc_base.specs.Disposition.{given}
+use Rattle.mrc_model.specs.declared.Entry.{Entry}
+use Rattle.mrc_model.specs.declared.Code.{Code}
+use Rattle.mrc_model.specs.declared.Code.TheVariants.{KernInvalidTask, KernInvalidValue}
+use Rattle.mrc_model.specs.declared.Code.TheVariants.{KernNoSpace}
+use Rattle.mrc_model.specs.declared.Code.TheVariants.{KernInvalidCapability}
+use Rattle.mrc_model.specs.Rights.{is_receive}
+use Rattle.mrc_model.specs.Map.{get, len}
+use Rattle.mrc_model.specs.World.{Space, Store, World, space, set_space}
+use Rattle.mrc_model.specs.Reply.{Reply, Done, Name, Refused, Try, ◌>>=◌}
+use Rattle.mrc_model.specs.Reply.{◌>>◌, refuse_if, or_refuse}
+use Rattle.mrc_model.specs.Space.{Taken, take_from, put_entry, take}
+use Rattle.mrc_model.specs.Space.{restart_if, insert_at, give_item}
+use Rattle.mrc_model.specs.Space.{is_full, is_over_full, place, place_at, entry_of}
+use Rattle.mrc_model.specs.Space.{unused, new_entry, joined}
+use Rattle.mrc_model.specs.Target.{is_reserved, with_store, bad_name, wrong_right}
+use Rattle.mrc_model.specs.CallSend.{dead_taken, is_dead_taken}
+use Rattle.mrc_model.specs.CallInsertRight.{call_insert_right, call_extract_right}
+use Rattle.mrc_model.proofs.Maps.{len-insert}
+use Rattle.mrc_names.specs.Takes.{take_right, give_right}
+use Rattle.mrc_names.specs.Refusals.{IsRefusal}
+use Rattle.mrc_machine.specs.Housing.{target_of}
+use Rattle.mrc_machine.specs.Moves.{moved}
+use Rattle.mrc_machine.proofs.StoreLaws.{space_moved}
+use Rattle.mrc_machine.proofs.TargetLaws.{target_none, target_some}
+use Rattle.mrc_machine.proofs.Trying.{bind_bind, ok_bind, err_bind, same_Ok, not_Err}
+
+-- taking from a store is taking from a space
+
+-- the store after a taking
+abbrev on_taken : Store → ℕ → Disp → Space × ℕ → Try (Store × ℕ)
+on_taken s t x got = Ok (restart_if (is_receive (given x)) (set_space s t got.0) got.1, got.1)
+
+take_by_space : (s : Store) (t n : ℕ) (x : Disp)
+    → take s t n x bad_name wrong_right ≡ (take_right (space s t) n x >>= on_taken s t x)
+unfolding take take_right ◌>>=◌
+take_by_space s t n x =
+    let put : Taken → Try (Space × ℕ) = λ got. Ok (put_entry (space s t) n got.rest, got.port) in
+    let parts : Entry → Try (Space × ℕ) = λ e. or_refuse (take_from e x) wrong_right >>= put in
+    sym (bind_bind (or_refuse (get (space s t) n) bad_name) parts (on_taken s t x)
+    ∙ ap (λ (f : Entry → Try (Store × ℕ)). or_refuse (get (space s t) n) bad_name >>= f)
+    (λ i e. bind_bind (or_refuse (take_from e x) wrong_right) put (on_taken s t x) i))
+
+-- inserting a right
+
+-- what is answered for a right that was taken from t, and is given to u
+abbrev inserted : World → ℕ → ℕ → ℕ → Disp → Space × ℕ → Try (World × Reply)
+inserted w t u name x got =
+    insert_at (if u == t then got.0 else space w.store u) name got.1 (given x)
+    >>= λ y. Ok (with_store w (moved w.store t got.0 got.1 (given x) u y), Done)
+
+module _ (w : World) (t task name right : ℕ) (x : Disp) where
+  pub insert_no_task : target_of w t task ≡ None
+      → call_insert_right w t task name right x ≡ Err (Refused KernInvalidTask)
+  unfolding call_insert_right ◌>>=◌
+  insert_no_task none = rw (target_none w t task KernInvalidTask none) refl
+
+  module _ (u : ℕ) (task_is : target_of w t task ≡ Some u) where
+    pub insert_bad_name : is_reserved name ≡ true
+        → call_insert_right w t task name right x ≡ Err (Refused KernInvalidValue)
+    unfolding call_insert_right ◌>>=◌ ◌>>◌ refuse_if
+    insert_bad_name reserved = rw (target_some w t task u KernInvalidTask task_is, reserved) refl
+
+    module _ (plain : is_reserved name ≡ false) where
+      pub insert_gives_none :
+          (is_reserved right || is_dead_taken (dead_taken (get (space w.store t) right) x)) ≡ true
+          → call_insert_right w t task name right x ≡ Err (Refused KernInvalidCapability)
+      unfolding call_insert_right ◌>>=◌ ◌>>◌ refuse_if
+      insert_gives_none none =
+          rw (target_some w t task u KernInvalidTask task_is, plain, none) refl
+
+      module _ (gives : (is_reserved right
+          || is_dead_taken (dead_taken (get (space w.store t) right) x)) ≡ false) where
+        insert_by_spaces : call_insert_right w t task name right x
+            ≡ (take_right (space w.store t) right x >>= inserted w t u name x)
+        unfolding call_insert_right ◌>>=◌ ◌>>◌ refuse_if
+        insert_by_spaces =
+            let last : Store × ℕ → Try (World × Reply) = λ got.
+            insert_at (space got.0 u) name got.1 (given x)
+            >>= λ y. Ok (with_store w (set_space got.0 u y), Done) in
+            rw (target_some w t task u KernInvalidTask task_is, plain, gives)
+            (ap (λ m. m >>= last) (take_by_space w.store t right x)
+            ∙ bind_bind (take_right (space w.store t) right x) (on_taken w.store t x) last
+            ∙ ap (λ (f : Space × ℕ → Try (World × Reply)).
+            take_right (space w.store t) right x >>= f)
+            (λ i got. insert_at (space_moved w.store t u got.1 (is_receive (given x)) got.0 i) name
+            got.1 (given x)
+            >>= λ y. Ok (with_store w (moved w.store t got.0 got.1 (given x) u y), Done)))
+
+        module _ (g : Space) (copy : g ≡ space w.store t) where
+          pub insert_not_taken : (e : Reply)
+              → take_right g right x ≡ Err e
+              → call_insert_right w t task name right x ≡ Err e
+          insert_not_taken e refused =
+              insert_by_spaces ∙ err_bind _ (inserted w t u name x) e
+              (ap (λ y. take_right y right x) (sym copy) ∙ refused)
+
+          module _ (h y : Space) (p : ℕ) (r : PortRight)
+              (taken : take_right g right x ≡ Ok (h, p))
+              (second : y ≡ (if u == t then h else space w.store u))
+              (r_is : r ≡ given x) where
+            insert_taken : call_insert_right w t task name right x ≡ inserted w t u name x (h, p)
+            insert_taken =
+                insert_by_spaces ∙ ok_bind _ (h, p) (inserted w t u name x)
+                (ap (λ z. take_right z right x) (sym copy) ∙ taken)
+
+            at_second : insert_at (if u == t then h else space w.store u) name p (given x)
+                ≡ insert_at y name p r
+            at_second = ap (λ z. insert_at z name p (given x)) (sym second)
+                ∙ ap (insert_at y name p) (sym r_is)
+
+            pub insert_not_given : (e : OrMemory Code)
+                → IsRefusal e (insert_at y name p r)
+                → IsRefusal e (call_insert_right w t task name right x)
+            insert_not_given (Fault code) refused =
+                insert_taken ∙ err_bind _ _ (Refused code) (at_second ∙ refused)
+            insert_not_given Memory refused = tt
+
+            pub insert_given : (z : Space) (q : PortRight) (v : World)
+                → insert_at y name p r ≡ Ok z
+                → q ≡ given x
+                → v ≡ with_store w (moved w.store t h p q u z)
+                → call_insert_right w t task name right x ≡ Ok (v, Done)
+            insert_given z q v put q_is done =
+                insert_taken ∙ ok_bind _ z _ (at_second ∙ put)
+                ∙ ap (λ (a : World). Ok (a, Done)) (sym (done
+                ∙ ap (λ k. with_store w (moved w.store t h p k u z)) q_is))
+
+-- extracting a right
+
+-- what is answered for a right that was taken from u, and is given to t
+abbrev extracted : World → ℕ → ℕ → Disp → Space × ℕ → Try (World × Reply)
+extracted w t u x got =
+    let y = if t == u then got.0 else space w.store t in
+    refuse_if (is_full y) (Refused KernNoSpace)
+    >> Ok (
+      with_store w (moved w.store u got.0 got.1 (given x) t (place y got.1 (given x)).space),
+      Name (place y got.1 (given x)).name,
+    )
+
+-- the parts of what was given
+given_parts : (x y : Space) (p n : ℕ) (r : PortRight)
+    → give_right x p r ≡ Ok (y, n)
+    → (y ≡ (place x p r).space) × (n ≡ (place x p r).name)
+unfolding give_right ◌>>◌ refuse_if
+given_parts x y p n r is = go (is_over_full (place x p r).space) is
+  where
+    go : (b : Bool)
+        → ◌≡◌ {A = Try (Space × ℕ)} (refuse_if b (Refused KernNoSpace)
+        >> Ok ((place x p r).space, (place x p r).name)) (Ok (y, n))
+        → (y ≡ (place x p r).space) × (n ≡ (place x p r).name)
+    go true e = absurd (not_Err _ _ (sym e))
+    go false e = let same = same_Ok _ _ (sym e) in (ap (λ z. z.0) same, ap (λ z. z.1) same)
+
+-- what is given adds one entry at most
+place_at_len : (x : Space) (p : ℕ) (r : PortRight) (o : Option (ℕ × Entry))
+    → len (place_at x p r o).space ≤ len x + 1
+place_at_len x p r None = omega (arith, len-insert x (unused x) (new_entry p r))
+place_at_len x p r (Some e) = omega (arith, len-insert x e.0 (joined e.1 r))
+
+place_len : (x : Space) (p : ℕ) (r : PortRight) → len (place x p r).space ≤ len x + 1
+place_len x p Send = place_at_len x p Send (entry_of x p)
+place_len x p Receive = place_at_len x p Receive (entry_of x p)
+place_len x p SendOnce = place_at_len x p SendOnce None
+
+-- a space that is not full takes what it is given
+not_given : (x : Space) (p : ℕ) (r : PortRight) (e : Reply)
+    → is_full x ≡ false
+    → give_right x p r ≡ Err e
+    → ⊥
+unfolding give_right ◌>>◌ refuse_if
+not_given x p r e room is =
+    let few : is_over_full (place x p r).space ≡ false =
+    le-ltb 4096 (len (place x p r).space)
+    (omega (arith, place_len x p r, leb-false 4096 (len x) room)) in
+    let done : give_right x p r ≡ Ok ((place x p r).space, (place x p r).name) = rw few refl in
+    not_Err _ _ (sym done ∙ is)
+
+module _ (w : World) (t task name : ℕ) (x : Disp) where
+  pub extract_no_task : target_of w t task ≡ None
+      → call_extract_right w t task name x ≡ Err (Refused KernInvalidTask)
+  unfolding call_extract_right ◌>>=◌
+  extract_no_task none = rw (target_none w t task KernInvalidTask none) refl
+
+  module _ (u : ℕ) (task_is : target_of w t task ≡ Some u) where
+    extract_by_spaces : call_extract_right w t task name x
+        ≡ (take_right (space w.store u) name x >>= extracted w t u x)
+    unfolding call_extract_right give_item ◌>>=◌
+    extract_by_spaces =
+        let given_at : Store → ℕ → Space → Try (World × Reply) = λ s p y.
+        refuse_if (is_full y) (Refused KernNoSpace)
+        >> Ok (
+          with_store w (set_space s t (place y p (given x)).space),
+          Name (place y p
+              (given x)).name,
+        ) in
+        let last : Store × ℕ → Try (World × Reply) = λ got. given_at got.0 got.1 (space got.0 t) in
+        rw (target_some w t task u KernInvalidTask task_is)
+        (ap (λ m. m >>= last) (take_by_space w.store u name x)
+        ∙ bind_bind (take_right (space w.store u) name x) (on_taken w.store u x) last
+        ∙ ap (λ (f : Space × ℕ → Try (World × Reply)).
+        take_right (space w.store u) name x >>= f)
+        (λ i got. given_at (restart_if (is_receive (given x))
+        (set_space w.store u got.0) got.1) got.1
+        (space_moved w.store u t got.1 (is_receive (given x)) got.0 i)))
+
+    module _ (g : Space) (copy : g ≡ space w.store u) where
+      pub extract_not_taken : (e : Reply)
+          → take_right g name x ≡ Err e
+          → call_extract_right w t task name x ≡ Err e
+      extract_not_taken e refused =
+          extract_by_spaces ∙ err_bind _ (extracted w t u x) e
+          (ap (λ y. take_right y name x) (sym copy) ∙ refused)
+
+      module _ (h y : Space) (p : ℕ)
+          (taken : take_right g name x ≡ Ok (h, p))
+          (second : y ≡ (if t == u then h else space w.store t)) where
+        extract_taken : call_extract_right w t task name x ≡ extracted w t u x (h, p)
+        extract_taken =
+            extract_by_spaces ∙ ok_bind _ (h, p) (extracted w t u x)
+            (ap (λ z. take_right z name x) (sym copy) ∙ taken)
+
+        pub extract_full : is_full y ≡ true
+            → call_extract_right w t task name x ≡ Err (Refused KernNoSpace)
+        unfolding ◌>>◌ refuse_if
+        extract_full full =
+            let at : is_full (if t == u then h else space w.store t) ≡ true =
+            ap is_full (sym second) ∙ full in
+            extract_taken ∙ rw at refl
+
+        module _ (room : is_full y ≡ false) (r : PortRight) (r_is : r ≡ given x) where
+          pub extract_not_given : (e : OrMemory Code)
+              → IsRefusal e (give_right y p r)
+              → IsRefusal e (call_extract_right w t task name x)
+          extract_not_given (Fault code) refused =
+              absurd (not_given y p r (Refused code) room refused)
+          extract_not_given Memory refused = tt
+
+          pub extract_given : (z : Space) (n : ℕ) (q : PortRight) (v : World)
+              → give_right y p r ≡ Ok (z, n)
+              → q ≡ given x
+              → v ≡ with_store w (moved w.store u h p q t z)
+              → call_extract_right w t task name x ≡ Ok (v, Name n)
+          unfolding ◌>>◌ refuse_if
+          extract_given z n q v put q_is done =
+              let parts = given_parts y z p n r put in
+              let at : is_full (if t == u then h else space w.store t) ≡ false =
+              ap is_full (sym second) ∙ room in
+              let here : place y p r ≡ place (if t == u then h else space w.store t) p (given x) =
+              ap (place y p) r_is ∙ ap (λ k. place k p (given x)) second in
+              let space_is = parts.0 ∙ ap (λ k. k.space) here in
+              let name_is = parts.1 ∙ ap (λ k. k.name) here in
+              let whole = done ∙ ap (λ k. with_store w (moved w.store u h p k t z)) q_is
+              ∙ ap (λ k. with_store w (moved w.store u h p (given x) t k)) space_is in
+              extract_taken ∙ rw at (λ i. Ok (sym whole i, Name (sym name_is i)))

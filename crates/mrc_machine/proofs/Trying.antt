@@ -1,0 +1,83 @@
+-- Steps that may be refused, one after the other: in whichever way they stand together.
+use Rattle.std.proofs.Common.{◌≡◌, Result, Ok, Err, refl, ap, ◌∙◌}
+use Rattle.std.specs.Prelude.{IfOk, IfErr, OnErr}
+use Rattle.std.specs.Result.{result_unwrap_or}
+use Rattle.mrc_base.specs.declared.memory.OrMemory.{OrMemory}
+use Rattle.mrc_base.specs.declared.memory.OrMemory.TheVariants.{Fault, Memory}
+use Rattle.mrc_model.specs.declared.Code.{Code}
+use Rattle.mrc_names.specs.Refusals.{IsRefusal}
+use Rattle.mrc_model.specs.Reply.{Reply, Refused, Try, ◌>>=◌, ◌>>◌}
+
+-- three steps, each with what the one before gives
+pub bind_bind : {A B C : Type 0} (m : Try A) (f : A → Try B) (g : B → Try C)
+    → (m >>= f >>= g) ≡ (m >>= λ a. f a >>= g)
+unfolding ◌>>=◌
+bind_bind (Ok a) f g = refl
+bind_bind (Err e) f g = refl
+
+-- a test, and then two steps
+pub then_bind : {A B C : Type 0} (m : Try A) (r : Try B) (g : B → Try C)
+    → (m >> r >>= g) ≡ (m >> (r >>= g))
+unfolding ◌>>=◌ ◌>>◌
+then_bind (Ok a) r g = refl
+then_bind (Err e) r g = refl
+
+-- a step that is done
+pub ok_bind : {A B : Type 0} (m : Try A) (a : A) (f : A → Try B) → m ≡ Ok a → (m >>= f) ≡ f a
+unfolding ◌>>=◌
+ok_bind m a f is = rw is refl
+
+-- a step that is refused
+pub err_bind : {A B : Type 0} (m : Try A) (f : A → Try B) (e : Reply) → m ≡ Err e → (m
+    >>= f) ≡ Err e
+unfolding ◌>>=◌
+err_bind m f e is = rw is refl
+
+-- what code answers for a call of which a step is the definition's
+
+-- the call goes on with what the step gives
+pub goes_on : {A B C E : Type 0} (r : Result A E) (call : Try C) (step : Try B)
+    (k : B → Try C) (f : A → B)
+    → call ≡ (step >>= k)
+    → IfOk r (λ a. step ≡ Ok (f a))
+    → IfOk r (λ a. call ≡ k (f a))
+goes_on (Ok a) call step k f is done = is ∙ ok_bind step (f a) k done
+goes_on (Err e) call step k f is done = tt
+
+-- and is refused where the step is
+pub is_refused : {A B C : Type 0} (r : Result A (OrMemory Code)) (call : Try C) (step : Try B)
+    (k : B → Try C)
+    → call ≡ (step >>= k)
+    → IfErr r (λ e. IsRefusal e step)
+    → IfErr r (λ e. IsRefusal e call)
+is_refused (Ok a) call step k is refuses = tt
+is_refused (Err (Fault code)) call step k is refuses = is ∙ err_bind step k (Refused code) refuses
+is_refused (Err Memory) call step k is refuses = tt
+
+-- so where memory has no part in it
+pub is_refused_by : {A B C : Type 0} (r : Result A Code) (call : Try C) (step : Try B)
+    (k : B → Try C)
+    → call ≡ (step >>= k)
+    → IfErr r (λ code. step ≡ Err (Refused code))
+    → IfErr r (λ code. call ≡ Err (Refused code))
+is_refused_by (Ok a) call step k is refuses = tt
+is_refused_by (Err code) call step k is refuses = is ∙ err_bind step k (Refused code) refuses
+
+-- what is answered is seen another way
+pub seen_as : {A B E : Type 0} (r : Result A E) (call : Try B) (f g : A → B)
+    → ((a : A) → f a ≡ g a)
+    → IfOk r (λ a. call ≡ Ok (f a))
+    → IfOk r (λ a. call ≡ Ok (g a))
+seen_as (Ok a) call f g same is = is ∙ ap Ok (same a)
+seen_as (Err e) call f g same is = tt
+
+-- what follows from an error
+pub on_err : {A E : Type 0} (r : Result A E) (P Q : Type 0) → (P → Q) → OnErr r P → OnErr r Q
+on_err (Ok a) P Q go p = tt
+on_err (Err e) P Q go p = go p
+
+pub same_Ok : {A E : Type 0} (a b : A) → ◌≡◌ {A = Result A E} (Ok a) (Ok b) → a ≡ b
+same_Ok a b is = ap (λ r. result_unwrap_or r a) is
+
+pub not_Err : {A E : Type 0} (a : A) (e : E) → ◌≡◌ {A = Result A E} (Ok a) (Err e) → ⊥
+not_Err a e is = cc

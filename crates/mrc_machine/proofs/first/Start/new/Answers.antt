@@ -1,0 +1,5 @@
+use Rattle.mrc_machine.proofs.StartLaws.{start_none}
+use Rattle.mrc_machine.proofs.first.Start.new.Goals as goal
+
+pub invariant_of-result : goal.invariant_of-result
+invariant_of-result c = start_none c.new.result c.new.ensures

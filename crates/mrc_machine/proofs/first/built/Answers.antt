@@ -1,0 +1,22 @@
+use Rattle.std.proofs.Common.{Err, ◌∙◌}
+use Rattle.std.proofs.lemmas.Result.{err_from_is_err_and}
+use Rattle.mrc_wiring.specs.Table.{wiring_of}
+use Rattle.mrc_machine.proofs.StartLaws.{next_lines}
+use Rattle.mrc_machine.proofs.Trying.{is_refused, ok_bind}
+use Rattle.mrc_machine.proofs.first.built.Goals as goal
+
+pub returns-in_err-start-clause-refused : goal.returns-in_err-start-clause-refused
+returns-in_err-start-clause-refused c =
+    let p = err_from_is_err_and c.from_residual.result c.from_residual.ensures.1 in
+    let lines = c.loop-line.invariant
+    ∙ next_lines (wiring_of c.args.wired.now) c.loop-line.start _ c.loop-line.line-index
+    c.line-item.result c.loop-line-test.true c.line-item.is in
+    rw (p.1, p.2) (is_refused {A = Unit {0}} (Err c.in_err-start.field-0.0) _ _ _ lines
+    c.in_err-start.ensures.refused)
+
+pub loop-line-preserved : goal.loop-line-preserved
+loop-line-preserved c =
+    c.loop-line.invariant
+    ∙ next_lines (wiring_of c.args.wired.now) c.loop-line.start _ c.loop-line.line-index
+    c.line-item.result c.loop-line-test.true c.line-item.is
+    ∙ ok_bind _ c.in_ok-start.start _ c.in_ok-start.ensures.ok

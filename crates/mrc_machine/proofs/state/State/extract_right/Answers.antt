@@ -1,0 +1,53 @@
+use Rattle.std.proofs.Common.{sym, ◌∙◌}
+use Rattle.std.proofs.lemmas.Result.{err_from_is_err_and}
+use Rattle.mrc_model.specs.Reply.{Refused}
+use Rattle.mrc_machine.proofs.MoveLaws.{extract_no_task, extract_not_taken, extract_full}
+use Rattle.mrc_machine.proofs.MoveLaws.{extract_not_given, extract_given}
+use Rattle.mrc_machine.proofs.state.State.extract_right.Goals as goal
+
+pub returns-in_default-clause-refused : goal.returns-in_default-clause-refused
+returns-in_default-clause-refused c =
+    extract_no_task c.args.self.now c.args.caller c.args.task c.args.name c.args.disp
+    (sym c.target.ensures.exact ∙ c.in_default.is)
+
+pub returns-in-Err-clause-refused : goal.returns-in-Err-clause-refused
+returns-in-Err-clause-refused c =
+    extract_not_taken c.args.self.now c.args.caller c.args.task c.args.name c.args.disp
+    c.in-Some.target (sym c.target.ensures.exact ∙ c.in-Some.is) _ c.space.ensures
+    (Refused c.in-Err.code)
+    c.in-Err.ensures.refused
+
+pub returns-in-Err-take-clause-refused : goal.returns-in-Err-take-clause-refused
+returns-in-Err-take-clause-refused c =
+    extract_not_taken c.args.self.now c.args.caller c.args.task c.args.name c.args.disp
+    c.in-Some.target (sym c.target.ensures.exact ∙ c.in-Some.is) c.in_ok-giver.giver
+    c.in_ok-giver.ensures (Refused c.in-Err-take.code) c.in-Err-take.ensures.refused
+
+pub returns-then-is_full-clause-refused : goal.returns-then-is_full-clause-refused
+returns-then-is_full-clause-refused c =
+    extract_full c.args.self.now c.args.caller c.args.task c.args.name c.args.disp
+    c.in-Some.target (sym c.target.ensures.exact ∙ c.in-Some.is)
+    c.in_ok-giver.giver c.in_ok-giver.ensures c.take.new.self
+    c.in_ok-taker.taker c.in-Ok.port c.in-Ok.ensures.taken c.in_ok-taker.ensures
+    (sym c.is_full.ensures ∙ c.if-is_full.true)
+
+pub returns-in_err-given-clause-refused : goal.returns-in_err-given-clause-refused
+returns-in_err-given-clause-refused c =
+    let p = err_from_is_err_and c.from_residual-in_err-given.result
+    c.from_residual-in_err-given.ensures.1 in
+    rw (p.1, p.2) (extract_not_given c.args.self.now c.args.caller c.args.task c.args.name
+    c.args.disp
+    c.in-Some.target (sym c.target.ensures.exact ∙ c.in-Some.is)
+    c.in_ok-giver.giver c.in_ok-giver.ensures c.take.new.self
+    c.in_ok-taker.taker c.in-Ok.port c.in-Ok.ensures.taken c.in_ok-taker.ensures
+    (sym c.is_full.ensures ∙ c.if-is_full.false) c.give.result c.give.ensures _
+    c.in_err-given.ensures.refused)
+
+pub returns-clause-ok : goal.returns-clause-ok
+returns-clause-ok c =
+    extract_given c.args.self.now c.args.caller c.args.task c.args.name c.args.disp
+    c.in-Some.target (sym c.target.ensures.exact ∙ c.in-Some.is)
+    c.in_ok-giver.giver c.in_ok-giver.ensures c.take.new.self
+    c.in_ok-taker.taker c.in-Ok.port c.in-Ok.ensures.taken c.in_ok-taker.ensures
+    (sym c.is_full.ensures ∙ c.if-is_full.false) c.give.result c.give.ensures _ _
+    c.give-2.result _ c.in_ok-given.ensures.ok c.give-2.ensures c.move_right.ensures

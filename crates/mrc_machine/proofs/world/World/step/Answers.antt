@@ -1,0 +1,50 @@
+use Rattle.std.proofs.Common.{sym, ap, ◌∙◌, subst}
+use Rattle.mrc_model.specs.Map.{get}
+use Rattle.mrc_model.specs.World.{World}
+use Rattle.mrc_model.specs.Reply.{Refused}
+use Rattle.mrc_model.specs.Target.{is_alive}
+use Rattle.mrc_model.specs.Step.{step, try_call}
+use Rattle.mrc_model.specs.Covers.{HasSpaces}
+use Rattle.mrc_names.specs.Refusals.{IsRefusal}
+use Rattle.mrc_wiring.specs.Table.{wiring_of}
+use Rattle.mrc_machine.specs.Calls.{call_of}
+use Rattle.mrc_machine.proofs.StepLaws.{step_dead, step_done, step_refused, spaces_after}
+use Rattle.mrc_machine.proofs.world.World.step.Goals.{in-Ok, in-Err-Fault, in-Err-Memory}
+use Rattle.mrc_machine.proofs.world.World.step.Goals as goal
+
+pub returns-then-not-is_alive-clause-step : goal.returns-then-not-is_alive-clause-step
+returns-then-not-is_alive-clause-step c =
+    step_dead (wiring_of c.args.wired.now) c.args.self.now c.args.caller (call_of c.args.call.now)
+    (ap (λ (v : World). is_alive (get v.tasks c.args.caller)) (sym c.self.view_is)
+    ∙ sym c.is_alive.ensures.exact ∙ c.if-not-is_alive.true)
+
+pub invariant_of-self : goal.invariant_of-self
+invariant_of-self c =
+    let W = wiring_of c.args.wired.now in
+    let alive = sym c.is_alive.ensures.exact ∙ c.if-not-is_alive.false in
+    elim c.match-call.branch [
+      | in-Ok w ↦ spaces_after W c.self.inside.state c.args.caller (call_of c.args.call.now) _ _
+          (step_done W c.self.inside.state c.args.caller (call_of c.args.call.now) alive _ _
+          w.in-Ok.ensures.ok) c.self.invariant
+      | in-Err-Fault w ↦ subst HasSpaces (sym w.in-Err-Fault.ensures.err) c.self.invariant
+      | in-Err-Memory w ↦ subst HasSpaces (sym w.in-Err-Memory.ensures.err) c.self.invariant
+    ]
+
+pub returns-clause-step : goal.returns-clause-step
+returns-clause-step c =
+    let W = wiring_of c.args.wired.now in
+    let call = call_of c.args.call.now in
+    let was = c.self.inside.state in
+    let alive = sym c.is_alive.ensures.exact ∙ c.if-not-is_alive.false in
+    elim c.match-call.branch [
+      | in-Ok w ↦ rw w.result-is (ap (λ (v : World). step W v c.args.caller call)
+          (sym c.self.view_is)
+          ∙ step_done W was c.args.caller call alive _ _ w.in-Ok.ensures.ok)
+      | in-Err-Fault w ↦
+          let refused = subst (λ e. IsRefusal e (try_call W was c.args.caller call))
+          w.in-Err-Fault.field-0-is w.in-Err-Fault.ensures.refused in
+          rw w.result-is (ap (λ (v : World). step W v c.args.caller call) (sym c.self.view_is)
+          ∙ step_refused W was c.args.caller call alive w.in-Err-Fault.code refused
+          ∙ ap (λ (v : World). (v, Refused w.in-Err-Fault.code)) (sym w.in-Err-Fault.ensures.err))
+      | in-Err-Memory w ↦ rw w.result-is tt
+    ]

@@ -1,0 +1,20 @@
+-- What a right that moves leaves in the store. From Mach 3 Kernel Interfaces, "Port rights".
+use Rattle.std.specs.Prelude.{ℕ, Ok}
+use Rattle.mrc_base.specs.declared.PortRight.{PortRight}
+use Rattle.mrc_model.specs.Rights.{is_receive}
+use Rattle.mrc_model.specs.Map.{get}
+use Rattle.mrc_model.specs.World.{Space, Store, World, set_space, set_port}
+use Rattle.mrc_model.specs.Reply.{Try, ◌>>=◌, or_refuse}
+use Rattle.mrc_model.specs.Target.{with_store, bad_name}
+use Rattle.mrc_model.specs.Space.{restart_if}
+
+-- the store after a right on p went from t, which keeps x, to u, which then has y: t and u may be
+-- one task, and y is the space that it has in the end
+abbrev pub moved : Store → ℕ → Space → ℕ → PortRight → ℕ → Space → Store
+moved s t x p right u y = set_space (restart_if (is_receive right) (set_space s t x) p) u y
+
+-- the world after the limit of a port's queue was set; refused where there is no such port
+unfoldable pub limited : World → ℕ → ℕ → Try World
+limited w p limit = do
+  x ← or_refuse (get w.store.ports p) bad_name
+  Ok (with_store w (set_port w.store p (record x { limit = limit })))

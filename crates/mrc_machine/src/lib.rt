@@ -1,0 +1,27 @@
+//! The machine: tasks with their spaces, and ports, changed by one call of one task at a time.
+#![tactic(auto)]
+
+mod allocate;
+mod call;
+mod extract_right;
+mod first;
+mod get_refs;
+mod holding;
+mod insert_right;
+mod names;
+mod port_type;
+mod rename;
+mod reply;
+mod set_qlimit;
+mod state;
+mod step;
+mod task;
+mod world;
+
+pub use call::Call;
+pub use holding::Holding;
+pub use reply::Reply;
+pub use world::World;
+
+#[cfg(test)]
+mod tests;

@@ -1,0 +1,28 @@
+//! All names of a task.
+
+ghost use Rattle.std.specs.Prelude.{◌≡◌, Ok, IfOk, IfErr, IsSome};
+ghost use Rattle.mrc_model.specs.Map.{get};
+ghost use Rattle.mrc_model.specs.Reply.{Names};
+ghost use Rattle.mrc_model.specs.CallNames.{call_names};
+ghost use Rattle.mrc_names.specs.Refusals.{IsRefusal};
+
+use crate::state::State;
+use mrc_base::{OrMemory, TaskId};
+use mrc_model::Code;
+use mrc_names::Listing;
+
+impl State {
+    /// All names of a task with their rights.
+    pub(crate) fn names(&self, caller: TaskId, task: u32) -> Result<Listing, OrMemory<Code>>
+        requires { IsSome (get self.now.tasks caller) }
+        ensures ok { IfOk result
+            (λ names. call_names self.now caller task ≡ Ok (self.now, Names names)) }
+        ensures refused { IfErr result (λ e. IsRefusal e (call_names self.now caller task)) }
+    {
+        let Some(target) = self.target(caller, task) else {
+            return Err(OrMemory::Fault(Code::KernInvalidTask));
+        };
+        let names = self.listing(target)?;
+        Ok(names)
+    }
+}

@@ -1,0 +1,53 @@
+//! How many messages a queue takes.
+
+ghost use Rattle.std.specs.Prelude.{◌≡◌, Ok, Err, OnOk, OnErr, IfErr, IsSome};
+ghost use Rattle.mrc_model.specs.Map.{get};
+ghost use Rattle.mrc_model.specs.Reply.{Done, Refused};
+ghost use Rattle.mrc_model.specs.CallRequestNotification.{received_port};
+ghost use Rattle.mrc_model.specs.CallSetQlimit.{call_set_qlimit};
+
+use crate::state::State;
+use mrc_base::{PortId, TaskId, limits};
+use mrc_model::{Code, Entry};
+
+/// The port of an entry's receive right.
+fn received_port(entry: &Entry) -> Option<PortId>
+    ensures { result ≡ received_port entry.now }
+{
+    match *entry {
+        Entry::Receive { port, .. } => Some(port),
+        _ => None,
+    }
+}
+
+impl State {
+    /// Sets how many messages the queue of a name's receive right takes.
+    pub(crate) fn set_qlimit(
+        &mut self,
+        caller: TaskId,
+        task: u32,
+        name: u32,
+        limit: u32,
+    ) -> Result<(), Code>
+        requires { IsSome (get self.old.tasks caller) }
+        ensures ok { OnOk result
+            (call_set_qlimit self.old caller task name limit ≡ Ok (self.new, Done)) }
+        ensures refused { IfErr result
+            (λ code. call_set_qlimit self.old caller task name limit ≡ Err (Refused code)) }
+        ensures err { OnErr result (self.new ≡ self.old) }
+    {
+        let Some(target) = self.target(caller, task) else {
+            return Err(Code::KernInvalidTask);
+        };
+        if limit > limits::QUEUE {
+            return Err(Code::KernInvalidValue);
+        }
+        let Some(held) = self.space(target).get(name) else {
+            return Err(Code::KernInvalidName);
+        };
+        let Some(port) = received_port(&held) else {
+            return Err(Code::KernInvalidRight);
+        };
+        self.set_limit(port, limit)
+    }
+}

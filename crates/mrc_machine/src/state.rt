@@ -1,0 +1,366 @@
+//! All tasks and the store, with what every call needs of them.
+
+ghost use Rattle.std.specs.Prelude.{◌≡◌, false, map, None, Ok, Err, IfOk};
+ghost use Rattle.std.specs.Prelude.{OnOk, OnErr, IfSome, IsSome};
+ghost use Rattle.std.specs.Prelude.{IfErr, is_some, ◌<◌};
+ghost use Rattle.mrc_model.specs.declared.Entry.TheVariants.{Receive as ReceiveEntry};
+ghost use Rattle.mrc_model.specs.declared.Entry.TheVariants.{Send as SendEntry};
+ghost use Rattle.mrc_base.specs.Limits.{limit_of_tasks};
+ghost use Rattle.mrc_model.specs.Rights.{is_receive};
+ghost use Rattle.mrc_model.specs.Map.{empty, get, insert, len};
+ghost use Rattle.mrc_model.specs.World.{space, task_class};
+ghost use Rattle.mrc_model.specs.Space.{is_full, unused, restart_if};
+ghost use Rattle.mrc_model.specs.Reply.{Refused};
+ghost use Rattle.mrc_model.specs.First.{no_world};
+ghost use Rattle.mrc_model.specs.CallAllocate.{birth};
+ghost use Rattle.mrc_model.specs.Target.{is_alive, first_task, kernel_right};
+ghost use Rattle.mrc_model.specs.Target.{with_space, with_store};
+ghost use Rattle.mrc_names.specs.Listings.{entry_name};
+ghost use Rattle.mrc_ports.specs.Tables.{table_of, store_of, with_birth, is_short};
+ghost use Rattle.mrc_model.specs.Breach.{holdings};
+ghost use Rattle.mrc_machine.specs.Holdings.{holdings_of};
+ghost use Rattle.mrc_machine.specs.Housing.{target_of};
+ghost use Rattle.mrc_names.specs.Refusals.{IsRefusal};
+ghost use Rattle.mrc_machine.specs.Moves.{moved, limited};
+ghost use Rattle.mrc_machine.specs.Starts.{with_task, with_right};
+
+use crate::holding::{Holding, spaces_holdings};
+use crate::task::Task;
+use mrc_base::{ClassId, OrMemory, PortId, PortRight, TaskId};
+use mrc_map::Map;
+use mrc_model::{Code, Entry};
+use mrc_names::{Listing, Space};
+use mrc_ports::Store;
+use std::alloc::{AllocError, Global};
+use std::marker::Model;
+
+/// All tasks, and the store with their spaces and all ports. Each task has a space.
+#[derive(Debug, Drop)]
+pub(crate) struct State {
+    alloc: Global,
+    tasks: Map<Task>,
+    store: Store,
+}
+
+impl Model for State {
+    ghost use Rattle.mrc_model.specs.World.{World};
+    ghost use Rattle.mrc_model.specs.Breach.{holdings};
+    ghost use Rattle.mrc_machine.specs.Holdings.{holdings_of};
+    ghost use Rattle.mrc_machine.specs.Housing.{IsHoused};
+
+    ghost Value = { World };
+
+    ghost view = { λ a. record { tasks = a.tasks; store = a.store } };
+
+    ghost invariant = { λ a. IsHoused record { tasks = a.tasks; store = a.store } };
+}
+
+/// The first of these tasks that is alive and has this kernel port.
+fn first_task(tasks: &[(u64, Task)], port: PortId) -> Option<u64>
+    ensures { result ≡ first_task port tasks.now }
+{
+    for task in tasks {
+        if task.1.has_kernel(port) {
+            return Some(task.0);
+        }
+    }
+    None
+}
+
+/// The port of an entry's send right.
+fn kernel_right(entry: Option<Entry>) -> Option<PortId>
+    ensures { result ≡ kernel_right entry }
+{
+    match entry? {
+        Entry::Receive { port, sends, .. } if 0 < sends => Some(port),
+        Entry::Send { port, .. } => Some(port),
+        _ => None,
+    }
+}
+
+/// A receive right alone, in no set.
+fn received(port: PortId) -> Entry
+    ensures { result ≡ ReceiveEntry port 0 None }
+{
+    Entry::Receive {
+        port,
+        sends: 0,
+        in_set: None,
+    }
+}
+
+impl State {
+    /// No task and no port.
+    pub(crate) fn new(alloc: Global) -> State
+        ensures { result ≡ no_world }
+    {
+        State {
+            alloc,
+            tasks: Map::new(alloc),
+            store: Store::new(alloc),
+        }
+    }
+
+    /// Whether the number is that of a live task.
+    pub(crate) fn is_alive(&self, task: TaskId) -> bool
+        ensures exact { result ≡ is_alive (get self.now.tasks task) }
+    {
+        match self.tasks.get(u64::from(task.0)) {
+            Some(found) => found.is_alive(),
+            None => false,
+        }
+    }
+
+    /// The wired task whose class a task has.
+    pub(crate) fn task_class(&self, task: TaskId) -> TaskId
+        ensures { result ≡ task_class self.now task }
+    {
+        match self.tasks.get(u64::from(task.0)) {
+            Some(found) => found.class(),
+            None => task,
+        }
+    }
+
+    /// The space of a task.
+    pub(crate) fn space(&self, task: TaskId) -> &Space
+        requires { IsSome (get self.now.tasks task) }
+        ensures { result.now ≡ space self.now.store task }
+    {
+        match self.store.space(task) {
+            Some(space) => space,
+            None => unreachable!(),
+        }
+    }
+
+    /// The live task whose kernel port this is.
+    fn task_of(&self, port: PortId) -> Option<TaskId>
+        ensures exact { result ≡ first_task port self.now.tasks.list }
+        ensures there { IfSome result (λ u. IsSome (get self.now.tasks u)) }
+    {
+        match first_task(self.tasks.entries(), port) {
+            Some(task) => Some(TaskId(task as u32)),
+            None => None,
+        }
+    }
+
+    /// The live task for whose kernel port the caller has a send right under the name.
+    pub(crate) fn target(&self, caller: TaskId, name: u32) -> Option<TaskId>
+        requires { IsSome (get self.now.tasks caller) }
+        ensures exact { result ≡ target_of self.now caller name }
+        ensures there { IfSome result (λ u. IsSome (get self.now.tasks u)) }
+    {
+        match kernel_right(self.space(caller).get(name)) {
+            Some(port) => self.task_of(port),
+            None => None,
+        }
+    }
+
+    /// A copy of a task's space.
+    pub(crate) fn copy_space(&self, task: TaskId) -> Result<Space, AllocError>
+        requires { IsSome (get self.now.tasks task) }
+        ensures { IfOk result (λ copy. copy ≡ space self.now.store task) }
+    {
+        self.space(task).copy(self.alloc)
+    }
+
+    /// A copy of a space.
+    pub(crate) fn copy_of(&self, space: &Space) -> Result<Space, AllocError>
+        ensures { IfOk result (λ copy. copy ≡ space.now) }
+    {
+        space.copy(self.alloc)
+    }
+
+    /// All names of a task with their rights.
+    pub(crate) fn listing(&self, task: TaskId) -> Result<Listing, AllocError>
+        requires { IsSome (get self.now.tasks task) }
+        ensures { IfOk result (λ names. names ≡ map entry_name (space self.now.store task).list) }
+    {
+        self.space(task).names(self.alloc)
+    }
+
+    /// Whether there are as many live ports, or births have been, as there may be.
+    pub(crate) fn is_short(&self) -> bool
+        ensures { result ≡ is_short (table_of self.now.store) }
+    {
+        self.store.ports().is_short()
+    }
+
+    /// How many live ports there are.
+    pub(crate) fn live_ports(&self) -> usize
+        ensures { result ≡ len self.now.store.ports }
+    {
+        self.store.ports().len()
+    }
+
+    /// What tasks hold.
+    pub(crate) fn holdings(&self) -> Result<Vec<Holding>, AllocError>
+        ensures { IfOk result (λ list. holdings_of list.items ≡ holdings self.now) }
+    {
+        let mut list = Vec::new(self.alloc);
+        spaces_holdings(&mut list, self.store.spaces())?;
+        Ok(list)
+    }
+
+    /// Puts another space in the place of a task's.
+    pub(crate) fn put_space(&mut self, task: TaskId, space: Space)
+        requires { IsSome (get self.old.tasks task) }
+        ensures { self.new ≡ with_space self.old task space }
+    {
+        let _ = self.store.put_space(task, space);
+    }
+
+    /// Takes the space of a task out, and leaves an empty one until it is put back.
+    pub(crate) fn take_space(&mut self, task: TaskId) -> Space
+        requires { IsSome (get self.old.tasks task) }
+        ensures out { result ≡ space self.old.store task }
+        ensures left { self.new ≡ with_space self.old task empty }
+        ensures back { with_space self.old task result ≡ self.old }
+    {
+        let blank = Space::new(self.alloc);
+        self.store.put_space(task, blank)
+    }
+
+    /// The port's receipts are 0 again, if it is the receive right that has moved.
+    fn restart_moved(&mut self, right: PortRight, port: PortId)
+        ensures { self.new ≡ with_store self.old
+            (restart_if (is_receive right) self.old.store port) }
+    {
+        if let PortRight::Receive = right {
+            self.store.restart(port);
+        }
+    }
+
+    /// Puts the spaces of two tasks, which may be one, after a right on the port has gone from the
+    /// first to the second.
+    pub(crate) fn move_right(
+        &mut self,
+        giving: TaskId,
+        giver: Space,
+        port: PortId,
+        right: PortRight,
+        taking: TaskId,
+        taker: Space,
+    )
+        requires giving { IsSome (get self.old.tasks giving) }
+        requires taking { IsSome (get self.old.tasks taking) }
+        ensures { self.new ≡ with_store self.old
+            (moved self.old.store giving giver port right taking taker) }
+    {
+        self.put_space(giving, giver);
+        self.restart_moved(right, port);
+        self.put_space(taking, taker);
+    }
+
+    /// Sets how many messages the queue of a port takes. Refused where no live port has this
+    /// number.
+    pub(crate) fn set_limit(&mut self, port: PortId, limit: u32) -> Result<(), Code>
+        ensures ok { OnOk result (limited self.old port limit ≡ Ok self.new) }
+        ensures refused { IfErr result (λ code. limited self.old port limit ≡ Err (Refused code)) }
+        ensures err { OnErr result (self.new ≡ self.old) }
+    {
+        if self.store.set_limit(port, limit).is_err() {
+            return Err(Code::KernInvalidName);
+        }
+        Ok(())
+    }
+
+    /// The number that the next birth gives.
+    pub(crate) fn next_port(&self) -> PortId
+        ensures { result ≡ self.now.store.next }
+    {
+        self.store.ports().next()
+    }
+
+    /// A new port of the class, whose receive right is nowhere yet.
+    pub(crate) fn new_port(&mut self, class: ClassId) -> Result<(), AllocError>
+        requires { is_short (table_of self.old.store) ≡ false }
+        ensures ok { OnOk result (self.new ≡ with_store self.old
+            (store_of self.old.store.spaces (with_birth (table_of self.old.store) class))) }
+        ensures err { OnErr result (self.new ≡ self.old) }
+    {
+        match self.store.birth(class) {
+            Ok(_) => Ok(()),
+            Err(OrMemory::Memory) => Err(AllocError),
+            Err(OrMemory::Fault(_)) => unreachable!(),
+        }
+    }
+
+    /// A new port of the class, whose receive right the task gets under the least unused name,
+    /// which is answered.
+    pub(crate) fn birth(&mut self, task: TaskId, class: ClassId) -> Result<u32, AllocError>
+        requires there { IsSome (get self.old.tasks task) }
+        requires room { is_full (space self.old.store task) ≡ false }
+        requires few { is_short (table_of self.old.store) ≡ false }
+        ensures ok { OnOk result
+            (self.new ≡ with_store self.old (birth self.old.store task class)) }
+        ensures name { IfOk result (λ name. name ≡ unused (space self.old.store task)) }
+        ensures err { OnErr result (self.new ≡ self.old) }
+    {
+        let mut space = self.copy_space(task)?;
+        let name = match space.add(received(self.next_port())) {
+            Ok(name) => name,
+            Err(OrMemory::Memory) => return Err(AllocError),
+            Err(OrMemory::Fault(_)) => unreachable!(),
+        };
+        self.new_port(class)?;
+        self.put_space(task, space);
+        Ok(name)
+    }
+
+    /// The space of a new task: a send right to its kernel port under name 1.
+    fn first_space(&self, kernel: PortId) -> Result<Space, AllocError>
+        ensures { IfOk result (λ space. space ≡ insert empty 1 (SendEntry kernel 1)) }
+    {
+        let mut space = Space::new(self.alloc);
+        match space.add(Entry::Send {
+            port: kernel,
+            sends: 1,
+        }) {
+            Ok(_) => Ok(space),
+            Err(OrMemory::Memory) => Err(AllocError),
+            Err(OrMemory::Fault(_)) => unreachable!(),
+        }
+    }
+
+    /// The next task, alive, whose kernel port is new, and of this class. It has a send right to
+    /// its kernel port under name 1.
+    pub(crate) fn add_task(mut self, task: TaskId, class: ClassId) -> Result<State, AllocError>
+        requires short { is_short (table_of self.store) ≡ false }
+        requires wired { task < limit_of_tasks }
+        ensures { IfOk result (λ next. next ≡ with_task self task class) }
+    {
+        let kernel = self.next_port();
+        let space = self.first_space(kernel)?;
+        self.store.add_space(task, space)?;
+        self.tasks
+            .insert(u64::from(task.0), Task::new(kernel, task))?;
+        self.new_port(class)?;
+        Ok(self)
+    }
+
+    /// Whether a live port has this number.
+    pub(crate) fn is_live(&self, port: PortId) -> bool
+        ensures { result ≡ is_some (get self.now.store.ports port) }
+    {
+        self.store.ports().get(port).is_some()
+    }
+
+    /// Gives a task a right, as a receiver gets it.
+    pub(crate) fn give(
+        &mut self,
+        task: TaskId,
+        port: PortId,
+        right: PortRight,
+    ) -> Result<(), OrMemory<Code>>
+        requires { IsSome (get self.old.tasks task) }
+        ensures ok { OnOk result (with_right self.old task port right ≡ Ok self.new) }
+        ensures refused { IfErr result (λ e. IsRefusal e (with_right self.old task port right)) }
+        ensures err { OnErr result (self.new ≡ self.old) }
+    {
+        let mut space = self.take_space(task);
+        let given = space.copyout(port, right);
+        self.put_space(task, space);
+        given?;
+        Ok(())
+    }
+}

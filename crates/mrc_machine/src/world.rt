@@ -1,0 +1,87 @@
+//! The machine as its users see it: its first state, its steps, and what it shows.
+
+ghost use Rattle.std.specs.Prelude.{◌≡◌, IfOk, OnErr};
+ghost use Rattle.mrc_model.specs.Map.{len};
+ghost use Rattle.mrc_model.specs.First.{first};
+ghost use Rattle.mrc_model.specs.Step.{step};
+ghost use Rattle.mrc_wiring.specs.Table.{wiring_of};
+ghost use Rattle.mrc_model.specs.Breach.{holdings};
+ghost use Rattle.mrc_machine.specs.Holdings.{holdings_of};
+ghost use Rattle.mrc_machine.specs.Calls.{call_of, reply_of, IsRefused};
+
+use crate::call::Call;
+use crate::first::built;
+use crate::holding::Holding;
+use crate::reply::Reply;
+use crate::state::State;
+use mrc_base::{OrMemory, TaskId};
+use mrc_wiring::Wired;
+use std::alloc::{AllocError, Global};
+use std::marker::Model;
+
+/// The machine: all tasks with their spaces, and all ports.
+#[derive(Debug, Drop)]
+pub struct World {
+    state: State,
+}
+
+impl Model for World {
+    ghost use Rattle.mrc_model.specs.World.{World};
+    ghost use Rattle.mrc_model.specs.Covers.{HasSpaces};
+
+    ghost Value = { World };
+
+    ghost view = { λ a. a.state };
+
+    ghost invariant = { λ a. HasSpaces a.state };
+}
+
+impl World {
+    /// The first state of a wiring: what its lines make, one after the other.
+    pub fn first(alloc: Global, wired: &Wired) -> Result<World, AllocError>
+        ensures { IfOk result (λ world. world ≡ first (wiring_of wired.now)) }
+    {
+        let _sound = wired.tasks();
+        match built(alloc, wired) {
+            Ok(start) => Ok(World {
+                state: start.into_state(),
+            }),
+            Err(OrMemory::Memory) => Err(AllocError),
+            Err(OrMemory::Fault(_)) => unreachable!(),
+        }
+    }
+
+    /// One call of a task, made whole: the reply, with the machine as the call leaves it. A reply
+    /// that is a refusal leaves it as it was, and so does want of memory.
+    pub fn step(&mut self, wired: &Wired, caller: TaskId, call: &Call) -> Result<Reply, AllocError>
+        ensures step { IfOk result (λ reply.
+            step (wiring_of wired.now) self.old caller (call_of call.now)
+            ≡ (self.new, reply_of reply)) }
+        ensures refused { IfOk result (λ reply. IsRefused reply → self.new ≡ self.old) }
+        ensures err { OnErr result (self.new ≡ self.old) }
+    {
+        if !self.state.is_alive(caller) {
+            return Ok(Reply::DeadTask);
+        }
+        match self.state.call(wired, caller, call) {
+            Ok(reply) => Ok(reply),
+            Err(OrMemory::Fault(code)) => Ok(Reply::Refused(code)),
+            Err(OrMemory::Memory) => Err(AllocError),
+        }
+    }
+
+    /// What tasks hold, by task and name: receive and send each once for an entry that has them,
+    /// whatever the number of references, and once for each send-once right.
+    pub fn holdings(&self) -> Result<Vec<Holding>, AllocError>
+        ensures { IfOk result (λ list. holdings_of list.items ≡ holdings self.now) }
+    {
+        self.state.holdings()
+    }
+
+    /// How many live ports there are.
+    pub fn live_ports(&self) -> usize
+        ensures { result ≡ len self.now.store.ports }
+    {
+        self.state.live_ports()
+    }
+}
