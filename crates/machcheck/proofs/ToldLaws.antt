@@ -11,13 +11,14 @@ use Rattle.mrc_check.specs.Verdict.{Case}
 use Rattle.mrc_check.specs.Texts.{InWiring, InPolicy, InCertificate, Tells}
 use Rattle.machcheck.specs.declared.told.Told.{Told}
 use Rattle.machcheck.specs.declared.command.CheckFiles.{CheckFiles}
-use Rattle.machcheck.specs.declared.files.ReadFault.{ReadFault}
-use Rattle.machcheck.specs.declared.files.ReadFault.TheVariants.{ReadFailed, TooBig}
-use Rattle.machcheck.specs.declared.files.ReadFault.TheVariants.{Memory as NoMemory}
-use Rattle.machcheck.specs.Files.{Held, IsFirstUnread}
+use Rattle.mrc_report.specs.declared.files.ReadFault.{ReadFault}
+use Rattle.mrc_report.specs.declared.files.ReadFault.TheVariants.{ReadFailed, TooBig}
+use Rattle.mrc_report.specs.declared.files.ReadFault.TheVariants.{Memory as NoMemory}
+use Rattle.machcheck.specs.declared.command.ReplayFiles.{ReplayFiles}
+use Rattle.machcheck.specs.Files.{Held, IsFirstUnread, IsFirstOfBothUnread}
 use Rattle.machcheck.specs.Texts.{ThreeTexts, said_by}
 use Rattle.machcheck.specs.Told.{status_of, out_of, IsError, ToldMemory, ToldFault, UnreadTold}
-use Rattle.machcheck.specs.Told.{FaultOfFiles}
+use Rattle.machcheck.specs.Told.{FaultOfFiles, FaultOfReplay}
 
 -- what is told of an answer, where there is memory for it
 pub record Verdict {E : Type 0} (files : CheckFiles) (answer : Result Case (OrMemory TextsFault))
@@ -66,3 +67,25 @@ unread_fault held files file TooBig (Ok told) first h =
     λ two. inr (inl record { file = file; first = first; out = h.0; err = (codes "TooBig", h.1) })
 unread_fault held files file ReadFailed (Ok told) first h =
     λ two. inr (inl record { file = file; first = first; out = h.0; err = (codes "ReadFailed", h.1) })
+
+-- the same of the files of a replay
+pub both_unread_fault : {E : Type 0} (held : Held) (files : ReplayFiles) (file : List ℕ)
+    (fault : ReadFault) (result : Result Told E)
+    → IsFirstOfBothUnread held files file → IfOk result (UnreadTold file fault)
+    → IfOk result (λ told. told.status ≡ 2 → FaultOfReplay held files told)
+both_unread_fault held files file fault (Err e) first h = tt
+both_unread_fault held files file NoMemory (Ok told) first h = λ two. inl h
+both_unread_fault held files file TooBig (Ok told) first h =
+    λ two. inr (inl record {
+      file = file;
+      first = first;
+      out = h.0;
+      err = (codes "TooBig", h.1);
+    })
+both_unread_fault held files file ReadFailed (Ok told) first h =
+    λ two. inr (inl record {
+      file = file;
+      first = first;
+      out = h.0;
+      err = (codes "ReadFailed", h.1);
+    })

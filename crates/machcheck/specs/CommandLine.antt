@@ -39,6 +39,12 @@ check_app =
     (file_rule (codes "policy")))
     (file_rule (codes "cert"))
 
+-- `replay --wiring FILE --script FILE`
+abbrev pub replay_app : App
+replay_app =
+    with_rule (with_rule (new_app (codes "replay")) (file_rule (codes "wiring")))
+    (file_rule (codes "script"))
+
 -- no option of the command holds for its subcommands too
 abbrev pub HasNoGlobals : Command → Type 0
 HasNoGlobals command = (out-Command command).has_globals ≡ false
@@ -55,7 +61,7 @@ bare_app =
 
 -- the program and its commands
 abbrev pub machcheck_app : App
-machcheck_app = with_subcommand bare_app check_app.top
+machcheck_app = with_subcommand (with_subcommand bare_app check_app.top) replay_app.top
 
 -- the words ask for help or for the version, as `clap` reads them; then they are no command
 abbrev pub AsksHelp : List Text → Type 0

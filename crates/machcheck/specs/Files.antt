@@ -1,17 +1,9 @@
--- What is read of files, and which fault is told of them. This profile's own choice.
+-- What is read of files. This profile's own choice.
 use Rattle.std.specs.Prelude.{◌≡◌, ◌≤◌, ◌<◌, ◌⊎◌, ℕ, List, Option, length, IfSome}
-use Rattle.std.specs.declared.io.ErrorKind.{ErrorKind}
-use Rattle.std.specs.declared.io.ErrorKind.TheVariants.{OutOfMemory}
 use Rattle.mrc_base.specs.Limits.{limit_of_file}
-use Rattle.machcheck.specs.declared.files.ReadFault.{ReadFault}
-use Rattle.machcheck.specs.declared.files.ReadFault.TheVariants.{ReadFailed, Memory}
 use Rattle.machcheck.specs.declared.command.CheckFiles.{CheckFiles}
-use Rattle.machcheck.specs.Texts.{ThreeTexts}
-
--- the fault of a read that failed: want of memory is told as such, and all else as a failed read
-abbrev pub read_fault : ErrorKind → ReadFault
-read_fault OutOfMemory = Memory
-read_fault kind = ReadFailed
+use Rattle.machcheck.specs.declared.command.ReplayFiles.{ReplayFiles}
+use Rattle.machcheck.specs.Texts.{ThreeTexts, TwoTexts}
 
 -- the bytes of each file by its name, where they are known
 abbrev pub Held : Type 0
@@ -42,3 +34,13 @@ IsFirstUnread held files file =
     (file ≡ files.wiring.now)
     ⊎ (((file ≡ files.policy.now) × Fits held files.wiring.now)
     ⊎ ((file ≡ files.certificate.now) × Fits held files.wiring.now × Fits held files.policy.now))
+
+-- the two texts are the bytes of the two files
+pub record AreBothHeld (held : Held) (files : ReplayFiles) (texts : TwoTexts) : Type 0 where
+  pub wiring : HasBytes held files.wiring.now texts.wiring
+  pub script : HasBytes held files.script.now texts.script
+
+-- the file is the first that could not be read, in the order wiring, script
+abbrev pub IsFirstOfBothUnread : Held → ReplayFiles → List ℕ → Type 0
+IsFirstOfBothUnread held files file =
+    (file ≡ files.wiring.now) ⊎ ((file ≡ files.script.now) × Fits held files.wiring.now)

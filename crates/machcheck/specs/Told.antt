@@ -1,5 +1,5 @@
--- What the program tells of an answer of the checker: the status, and the texts on standard output
--- and on standard error. This profile's own choice.
+-- What the program tells of an answer of the checker, and of a replay: the status, and the texts on
+-- standard output and on standard error. This profile's own choice.
 use Rattle.std.specs.Prelude.{◌≡◌, ◌⊎◌, ℕ, List, [], ◌++◌, Option, Result, Ok, Err, codes, decimal}
 use Rattle.std.specs.Prelude.{string_bytes}
 use Rattle.std.specs.Io.KnownBytes.{Appends}
@@ -17,12 +17,17 @@ use Rattle.mrc_check.specs.Verdict.{Case, IsWhy}
 use Rattle.mrc_check.specs.Texts.{Meaningless, InWiring, InPolicy, InCertificate}
 use Rattle.machcheck.specs.declared.told.Told.{Told}
 use Rattle.machcheck.specs.declared.command.CheckFiles.{CheckFiles}
-use Rattle.machcheck.specs.declared.files.ReadFault.{ReadFault}
-use Rattle.machcheck.specs.declared.files.ReadFault.TheVariants.{ReadFailed, TooBig}
-use Rattle.machcheck.specs.declared.files.ReadFault.TheVariants.{Memory as NoMemory}
+use Rattle.machcheck.specs.declared.command.ReplayFiles.{ReplayFiles}
+use Rattle.machcheck.specs.declared.replay.WiredScript.{WiredScript}
+use Rattle.mrc_report.specs.declared.files.ReadFault.{ReadFault}
+use Rattle.mrc_report.specs.declared.files.ReadFault.TheVariants.{ReadFailed, TooBig}
+use Rattle.mrc_report.specs.declared.files.ReadFault.TheVariants.{Memory as NoMemory}
+use Rattle.mrc_report.specs.Replay.{IsReplay}
 use Rattle.mrc_words.specs.Words.{◌␣◌, fact_text}
-use Rattle.machcheck.specs.Texts.{ThreeTexts, AreAccepted, said_by}
-use Rattle.machcheck.specs.Files.{Held, AreHeld, IsFirstUnread}
+use Rattle.machcheck.specs.Texts.{ThreeTexts, AreAccepted, said_by, TwoTexts, scripted}
+use Rattle.machcheck.specs.Texts.{Unscripted, InScript}
+use Rattle.machcheck.specs.Texts as texts
+use Rattle.machcheck.specs.Files.{Held, AreHeld, IsFirstUnread, AreBothHeld, IsFirstOfBothUnread}
 
 -- the status of an answer: 0 for a yes, 1 for a refusal, 2 for a fault and for want of memory
 abbrev pub status_of : Result Case (OrMemory TextsFault) → ℕ
@@ -147,14 +152,61 @@ abbrev pub FaultOfFiles : Held → CheckFiles → Told → Type 0
 FaultOfFiles held files told = ToldMemory told
     ⊎ (ToldUnread held files told ⊎ FaultOfTexts held files told)
 
+-- A replay is told of two texts, and it is right: each of them has a meaning, and what is printed
+-- is the run of the script's calls from the first state of the wiring.
+pub record ToldReplay (texts : TwoTexts) (told : Told) : Type 0 where
+  pub both : WiredScript
+  pub says : scripted texts ≡ Ok both
+  pub out : IsReplay both.wired both.script (string_bytes told.out)
+  pub err : string_bytes told.err ≡ []
+
+-- the file of the text that has no meaning
+abbrev pub unscripted_file : ReplayFiles → Unscripted → List ℕ
+unscripted_file files (texts.InWiring fault) = files.wiring.now
+unscripted_file files (InScript fault) = files.script.now
+
+-- a fault is told of two texts, and it is right: one of them has no meaning, and the file of the
+-- first such is named
+pub record ToldUnscripted (files : ReplayFiles) (texts : TwoTexts) (told : Told) : Type 0 where
+  pub fault : Unscripted
+  pub says : scripted texts ≡ Err fault
+  pub out : string_bytes told.out ≡ []
+  pub err : IsFaultOf (unscripted_file files fault) (string_bytes told.err)
+
+-- a replay is told of what the files hold
+pub record ReplayOfFiles (held : Held) (files : ReplayFiles) (told : Told) : Type 0 where
+  pub texts : TwoTexts
+  pub are_held : AreBothHeld held files texts
+  pub replay : ToldReplay texts told
+
+-- a fault is told of what the files of a replay hold
+pub record FaultOfBoth (held : Held) (files : ReplayFiles) (told : Told) : Type 0 where
+  pub texts : TwoTexts
+  pub are_held : AreBothHeld held files texts
+  pub fault : ToldUnscripted files texts told
+
+-- the first file of a replay that can't be read is named
+pub record ToldBothUnread (held : Held) (files : ReplayFiles) (told : Told) : Type 0 where
+  pub file : List ℕ
+  pub first : IsFirstOfBothUnread held files file
+  pub out : string_bytes told.out ≡ []
+  pub err : IsFaultOf file (string_bytes told.err)
+
+-- why status 2 is told of the files of a replay: memory ran out, a file can't be read, or a text
+-- has no meaning
+abbrev pub FaultOfReplay : Held → ReplayFiles → Told → Type 0
+FaultOfReplay held files told = ToldMemory told
+    ⊎ (ToldBothUnread held files told ⊎ FaultOfBoth held files told)
+
 -- it is told of some files
-abbrev pub SomeFiles : (CheckFiles → Told → Type 0) → Told → Type 0
-SomeFiles Tells told = (files : CheckFiles) × Tells files told
+abbrev pub SomeFiles : {F : Type 0} → (F → Told → Type 0) → Told → Type 0
+SomeFiles {F} Tells told = (files : F) × Tells files told
 
 -- what the program told of files that the command names, and that standard output took all of it:
 -- it held `old`, and holds `new`
-pub record WentOut (Tells : CheckFiles → Told → Type 0) (old new : Option (List ℕ)) : Type 0 where
-  pub files : CheckFiles
+pub record WentOut {F : Type 0} (Tells : F → Told → Type 0) (old new : Option (List ℕ))
+    : Type 0 where
+  pub files : F
   pub told : Told
   pub tells : Tells files told
   pub out : Appends old new (string_bytes told.out)

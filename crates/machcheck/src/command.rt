@@ -7,6 +7,7 @@ ghost use Rattle.clap.specs.Matches.{found_of, first_value};
 ghost use Rattle.clap.specs.declared.error.kind.ErrorKind.TheVariants.{OutOfMemory, DisplayHelp};
 ghost use Rattle.clap.specs.declared.error.kind.ErrorKind.TheVariants.{DisplayVersion};
 ghost use Rattle.machcheck.specs.CommandLine.{IsNoCommand, TellsError, file_rule, check_app};
+ghost use Rattle.machcheck.specs.CommandLine.{replay_app};
 ghost use Rattle.machcheck.specs.CommandLine.{machcheck_app, HasNoGlobals};
 
 use crate::told::Told;
@@ -15,13 +16,13 @@ use clap::{Arg, ArgAction, ArgMatches, Error};
 use std::alloc::{AllocError, AllocFailed, Global};
 
 const PROGRAM_HELP: &str = "Exit status of each command:
-  0  YES was printed, or help or the version
+  0  YES was printed, or the replay of a script, or help or the version
   1  NO was printed, with the first reason
   2  a fault was told on standard error: a file can't be read or has no meaning,
      the command line is wrong, the output was not taken, or memory ran out
 
-`machcheck check --help` tells of the files. Read on in README.md, which starts with
-a worked example, and in docs/ARCHITECTURE.md.";
+`machcheck check --help` and `machcheck replay --help` tell of the files. Read on in
+README.md, which starts with a worked example, and in docs/ARCHITECTURE.md.";
 
 const CHECK_HELP: &str = "Files, as README.md describes them:
   a wiring has the tasks and the rights that they hold at first,
@@ -37,11 +38,28 @@ Exit status:
 
 Read on in README.md, and in docs/ARCHITECTURE.md.";
 
+const REPLAY_HELP: &str = "Files, as docs/FORMATS.md describes them:
+  a wiring has the tasks and the rights that they hold at first,
+  a script has a call of a task on each line.
+
+Each call is made, one after the other, from the wiring's first state on. A line is printed
+for each, with its number from 0, the task and the reply, and then how many there were and how
+many ports are live.
+
+Exit status:
+  0  the script was run to its end: a call that is refused is told, and the next one is made
+  2  a fault on standard error, as `machcheck: FILE: FAULT`: a file can't be read or has
+     no meaning, the command line is wrong, the output was not taken, or memory ran out
+
+Read on in README.md, and in docs/ARCHITECTURE.md.";
+
 /// What the user asks for.
 #[derive(Drop)]
 pub enum Command<'a> {
     /// Is the certificate accepted for the wiring and the policy?
     Check(CheckFiles<'a>),
+    /// What do the calls of the script answer?
+    Replay(ReplayFiles<'a>),
 }
 
 /// The files of a `check`.
@@ -50,6 +68,13 @@ pub struct CheckFiles<'a> {
     pub wiring: &'a str,
     pub policy: &'a str,
     pub certificate: &'a str,
+}
+
+/// The files of a `replay`.
+#[derive(Drop)]
+pub struct ReplayFiles<'a> {
+    pub wiring: &'a str,
+    pub script: &'a str,
 }
 
 /// Why there is no command to run.
@@ -96,10 +121,22 @@ fn check_command<'a>(alloc: Global) -> Result<clap::Command<'a>, AllocError>
         .arg(file_option(alloc, "cert", "The certificate: who may come to hold what"))
 }
 
+fn replay_command<'a>(alloc: Global) -> Result<clap::Command<'a>, AllocError>
+    ensures app { IfOk result (λ command. app_of command ≡ replay_app) }
+    ensures local { IfOk result HasNoGlobals }
+{
+    clap::Command::new(alloc, "replay")
+        .about("Runs a script of calls, and prints the reply to each")
+        .after_help(REPLAY_HELP)
+        .arg(file_option(alloc, "wiring", "Tasks and their first rights"))?
+        .arg(file_option(alloc, "script", "The calls, one a line"))
+}
+
 fn whole_command<'a>(alloc: Global) -> Result<clap::Command<'a>, AllocError>
     ensures { IfOk result (λ command. app_of command ≡ machcheck_app) }
 {
     let check = check_command(alloc)?;
+    let replay = replay_command(alloc)?;
     clap::Command::new(alloc, "machcheck")
         .version("0.1.0")
         .about(
@@ -108,7 +145,8 @@ fn whole_command<'a>(alloc: Global) -> Result<clap::Command<'a>, AllocError>
         .after_help(PROGRAM_HELP)
         .subcommand_required(true)
         .arg_required_else_help(true)
-        .subcommand(check)
+        .subcommand(check)?
+        .subcommand(replay)
 }
 
 /// The text of clap: help and version go to standard output, all else to standard error.
@@ -152,6 +190,26 @@ fn check_files<'a>(matches: &ArgMatches<'a>) -> Option<CheckFiles<'a>>
     })
 }
 
+fn replay_files<'a>(matches: &ArgMatches<'a>) -> Option<ReplayFiles<'a>>
+    ensures wiring { IfSome result
+        (λ files. first_value (found_of matches.now) (codes "wiring") ≡ Some files.wiring.now) }
+    ensures script { IfSome result
+        (λ files. first_value (found_of matches.now) (codes "script") ≡ Some files.script.now) }
+{
+    Some(ReplayFiles {
+        wiring: matches.get_str("wiring")?,
+        script: matches.get_str("script")?,
+    })
+}
+
+fn command_of<'a>(matches: &ArgMatches<'a>) -> Option<Command<'a>> {
+    if let Some(matches) = matches.subcommand_matches("check") {
+        return Some(Command::Check(check_files(matches)?));
+    }
+    let matches = matches.subcommand_matches("replay")?;
+    Some(Command::Replay(replay_files(matches)?))
+}
+
 /// Reads the words of a command line, the program's own name first.
 pub fn read(alloc: Global, words: &[String]) -> Result<Command<'_>, NoCommand>
     ensures { IfErr result (IsNoCommand (map string_bytes words.now)) }
@@ -161,12 +219,8 @@ pub fn read(alloc: Global, words: &[String]) -> Result<Command<'_>, NoCommand>
         Ok(matches) => matches,
         Err(error) => return Err(clap_text(alloc, error)),
     };
-    let files = match matches.subcommand_matches("check") {
-        Some(matches) => check_files(matches),
-        None => None,
-    };
-    match files {
-        Some(files) => Ok(Command::Check(files)),
+    match command_of(&matches) {
+        Some(command) => Ok(command),
         None => Err(NoCommand::Memory),
     }
 }

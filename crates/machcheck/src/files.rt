@@ -1,39 +1,18 @@
-//! Bytes in from files, and out to a writer.
+//! Files that are opened by their names.
 
-ghost use Rattle.std.specs.Prelude.{◌≡◌, ◌≤◌, ◌<◌, ℕ, List, Option, take, length, vec_len, OnOk};
-ghost use Rattle.std.specs.Prelude.{IfOk, IfErr, IfSome, IfNone};
-ghost use Rattle.std.specs.IoError.{error_kind};
-ghost use Rattle.std.specs.Io.KnownBytes.{Appends, Keeps};
+ghost use Rattle.std.specs.Prelude.{◌≡◌, ◌≤◌, ◌<◌, ℕ, List, Option, length, vec_len, IfOk, IfErr};
+ghost use Rattle.std.specs.Prelude.{IfSome, [], string_bytes};
 ghost use Rattle.mrc_base.specs.Limits.{limit_of_file};
-ghost use Rattle.machcheck.specs.Files.{read_fault};
+ghost use Rattle.machcheck.specs.Files.{HasBytes, Fits, Exceeds};
+ghost use Rattle.machcheck.specs.Told.{UnreadTold};
 
+use crate::told::{Told, fault_of, memory};
 use mrc_base::limits;
-use std::alloc::Global;
-use std::io::{ErrorKind, Read, Write};
+use mrc_report::{ReadFault, read_all, read_fault};
+use std::alloc::{AllocError, Global};
+use std::io::Read;
 use std::rt::Files;
 use std::{fs, io};
-
-/// Why a file was not read.
-#[derive(Clone, Copy, Debug, PartialEq, Eq, thiserror::Error)]
-pub enum ReadFault {
-    /// It can't be opened, or a read failed.
-    #[error("ReadFailed")]
-    ReadFailed,
-    /// It has more bytes than a file may have.
-    #[error("TooBig")]
-    TooBig,
-    /// There is no memory for it.
-    #[error("Memory")]
-    Memory,
-}
-
-/// Not all of a text was taken.
-#[derive(Clone, Copy, Debug, PartialEq, Eq, thiserror::Error)]
-#[error("WriteFailed {written}")]
-pub struct WriteFault {
-    /// The bytes that went out.
-    pub written: usize,
-}
 
 /// Files that are opened by their names.
 pub trait Folder {
@@ -65,43 +44,6 @@ impl<R: Files> Folder for Disk<'_, R> {
     }
 }
 
-fn read_fault(error: &io::Error) -> ReadFault
-    ensures { result ≡ read_fault (error_kind error.now) }
-{
-    match error.kind() {
-        ErrorKind::OutOfMemory => ReadFault::Memory,
-        _ => ReadFault::ReadFailed,
-    }
-}
-
-fn sized(bytes: Vec<u8>, limit: usize) -> Result<Vec<u8>, ReadFault>
-    ensures kept { IfOk result (λ kept. (kept ≡ bytes) × (vec_len bytes ≤ limit)) }
-    ensures refused { IfErr result (λ fault. (fault ≡ ReadFault.TooBig) × (limit < vec_len bytes)) }
-{
-    if bytes.len() > limit {
-        Err(ReadFault::TooBig)
-    } else {
-        Ok(bytes)
-    }
-}
-
-/// All bytes of a reader, or `TooBig` where there are more than the limit. A read that is
-/// interrupted is tried again.
-pub fn read_all<R: Read + Drop>(alloc: Global, reader: R, limit: u32) -> Result<Vec<u8>, ReadFault>
-    // Where it is known what there is to read, that was read.
-    ensures whole { IfOk result
-        (λ bytes. IfSome (R.remaining reader) (λ known. bytes.items ≡ known)) }
-    ensures within { IfOk result (λ bytes. vec_len bytes ≤ limit) }
-    ensures too_big { IfErr result (λ fault. fault ≡ ReadFault.TooBig
-        → IfSome (R.remaining reader) (λ known. limit < length known)) }
-{
-    let mut bytes = Vec::new(alloc);
-    match reader.take(u64::from(limit) + 1).read_to_end(&mut bytes) {
-        Ok(_) => sized(bytes, limit as usize),
-        Err(error) => Err(read_fault(&error)),
-    }
-}
-
 /// All bytes of the file of a name.
 pub fn read_file<F: Folder>(folder: &F, alloc: Global, name: &str) -> Result<Vec<u8>, ReadFault>
     // Where it is known what the file has, that was read.
@@ -112,71 +54,44 @@ pub fn read_file<F: Folder>(folder: &F, alloc: Global, name: &str) -> Result<Vec
         → IfSome (F.held folder.now name.now) (λ known. limit_of_file < length known)) }
 {
     match folder.open(name) {
-        Ok(file) => read_all(alloc, file, limits::FILE as u32),
+        Ok(mut file) => read_all(alloc, &mut file, limits::FILE as u32),
         Err(error) => Err(read_fault(&error)),
     }
 }
 
-/// Whether the writer was flushed. A flush that is interrupted is tried again.
-fn is_flushed<W: Write>(writer: &mut W) -> bool
-    ensures { Keeps (W.contents writer.old) (W.contents writer.new) }
-{
-    for _ in 0..u64::MAX {
-        match writer.flush() {
-            Ok(()) => return true,
-            Err(error) => {
-                if error.kind() != ErrorKind::Interrupted {
-                    return false;
-                }
-            }
-        }
-    }
-    false
+/// A file that could not be read, and why.
+#[derive(Drop)]
+pub struct Unread<'a> {
+    pub file: &'a str,
+    pub fault: ReadFault,
 }
 
-/// One write: how many bytes were taken, 0 where it was interrupted; nothing where it failed or
-/// took no byte.
-fn write_some<W: Write>(writer: &mut W, text: &[u8]) -> Option<usize>
-    ensures some { IfSome result (λ count. (count ≤ length text.now)
-        × Appends (W.contents writer.old) (W.contents writer.new) (take count text.now)) }
-    ensures none { IfNone result (Keeps (W.contents writer.old) (W.contents writer.new)) }
+/// The bytes of a file, or the file with the reason why they can't be had.
+pub fn bytes_of<'a, F: Folder>(
+    folder: &F,
+    alloc: Global,
+    file: &'a str,
+) -> Result<Vec<u8>, Unread<'a>>
+    ensures held { IfOk result (λ bytes. HasBytes (F.held folder.now) file.now bytes.items) }
+    ensures fits { IfOk result (λ bytes. Fits (F.held folder.now) file.now) }
+    ensures named { IfErr result (λ unread. unread.file.now ≡ file.now) }
+    ensures too_big { IfErr result (λ unread. unread.fault ≡ ReadFault.TooBig
+        → Exceeds (F.held folder.now) file.now) }
 {
-    match writer.write(text) {
-        Ok(0) => None,
-        Ok(count) => Some(count),
-        Err(error) => {
-            if error.kind() == ErrorKind::Interrupted {
-                Some(0)
-            } else {
-                None
-            }
-        }
+    match read_file(folder, alloc, file) {
+        Ok(bytes) => Ok(bytes),
+        Err(fault) => Err(Unread { file, fault }),
     }
 }
 
-/// Writes the whole text. A write that is interrupted is tried again, and one that takes no byte is
-/// a failure.
-pub fn write_text<W: Write>(writer: &mut W, text: &[u8]) -> Result<(), WriteFault>
-    // All of the text was appended.
-    ensures whole { OnOk result (Appends (W.contents writer.old) (W.contents writer.new) text.now) }
-    // Else the bytes that the fault counts were.
-    ensures cut { IfErr result
-        (λ fault. Appends (W.contents writer.old) (W.contents writer.new)
-        (take fault.written text.now)) }
+/// What is told of a file that could not be read. Want of memory is no file's fault.
+pub fn unread_told(alloc: Global, unread: &Unread<'_>) -> Result<Told, AllocError>
+    ensures status { IfOk result (λ told. told.status ≡ 2) }
+    ensures told { IfOk result (UnreadTold unread.now.file.now unread.now.fault) }
 {
-    let mut written = 0;
-    for _ in 0..u64::MAX {
-        if written == text.len() {
-            return if is_flushed(writer) {
-                Ok(())
-            } else {
-                Err(WriteFault { written })
-            };
-        }
-        let Some(count) = write_some(writer, &text[written..]) else {
-            return Err(WriteFault { written });
-        };
-        written += count;
+    match unread.fault {
+        ReadFault::Memory => memory(alloc),
+        ReadFault::TooBig => fault_of(alloc, unread.file, "TooBig"),
+        ReadFault::ReadFailed => fault_of(alloc, unread.file, "ReadFailed"),
     }
-    Err(WriteFault { written })
 }

@@ -4,6 +4,7 @@
 
 mod command;
 mod files;
+mod replay;
 mod run;
 mod tell;
 #[cfg(test)]

@@ -6,18 +6,20 @@ ghost use Rattle.std.specs.Io.KnownBytes.{Appends};
 ghost use Rattle.mrc_check.specs.Verdict.{Case};
 ghost use Rattle.mrc_check.specs.Texts.{Tells};
 ghost use Rattle.machcheck.specs.Texts.{AreAccepted, said_by};
-ghost use Rattle.machcheck.specs.Files.{HasBytes, AreHeld, Fits, Exceeds, IsFirstUnread};
+ghost use Rattle.machcheck.specs.Files.{AreHeld, Exceeds, IsFirstUnread};
 ghost use Rattle.machcheck.specs.Told.{ToldYes, ToldNo, ToldMemory, ToldFault, YesOfFiles};
-ghost use Rattle.machcheck.specs.Told.{NoOfFiles, FaultOfFiles, SomeFiles, UnreadTold, WentOut};
+ghost use Rattle.machcheck.specs.Told.{NoOfFiles, FaultOfFiles, ReplayOfFiles, SomeFiles, WentOut};
 ghost use Rattle.machcheck.specs.CommandLine.{AsksHelp};
 
 use crate::command::{CheckFiles, Command, NoCommand, read};
-use crate::files::{Folder, ReadFault, read_file, write_text};
+use crate::files::{Folder, Unread, bytes_of, unread_told};
+use crate::replay::replay_files;
 use crate::tell::verdict;
-use crate::told::{Told, fault_of, memory};
+use crate::told::{Told, memory};
 use crate::words::{WordsFault, words_line};
 use mrc_base::OrMemory;
 use mrc_check::{Confined, TextsFault, check_texts};
+use mrc_report::{ReadFault, write_text};
 use std::alloc::{AllocError, Global};
 use std::io::Write;
 use std::marker::Model;
@@ -40,26 +42,6 @@ impl Model for CheckBytes {
       policy = b.policy.items;
       certificate = b.certificate.items;
     } };
-}
-
-/// A file that could not be read, and why.
-#[derive(Drop)]
-struct Unread<'a> {
-    file: &'a str,
-    fault: ReadFault,
-}
-
-fn bytes_of<'a, F: Folder>(folder: &F, alloc: Global, file: &'a str) -> Result<Vec<u8>, Unread<'a>>
-    ensures held { IfOk result (λ bytes. HasBytes (F.held folder.now) file.now bytes.items) }
-    ensures fits { IfOk result (λ bytes. Fits (F.held folder.now) file.now) }
-    ensures named { IfErr result (λ unread. unread.file.now ≡ file.now) }
-    ensures too_big { IfErr result (λ unread. unread.fault ≡ ReadFault.TooBig
-        → Exceeds (F.held folder.now) file.now) }
-{
-    match read_file(folder, alloc, file) {
-        Ok(bytes) => Ok(bytes),
-        Err(fault) => Err(Unread { file, fault }),
-    }
 }
 
 /// All files are read before any is judged, in the order wiring, policy, certificate.
@@ -117,18 +99,6 @@ fn told_of(alloc: Global, files: &CheckFiles<'_>, bytes: &CheckBytes) -> Result<
     verdict(alloc, files, &answer)
 }
 
-/// What is told of a file that could not be read. Want of memory is no file's fault.
-fn unread_told(alloc: Global, unread: &Unread<'_>) -> Result<Told, AllocError>
-    ensures status { IfOk result (λ told. told.status ≡ 2) }
-    ensures told { IfOk result (UnreadTold unread.now.file.now unread.now.fault) }
-{
-    match unread.fault {
-        ReadFault::Memory => memory(alloc),
-        ReadFault::TooBig => fault_of(alloc, unread.file, "TooBig"),
-        ReadFault::ReadFailed => fault_of(alloc, unread.file, "ReadFailed"),
-    }
-}
-
 /// What is told of the files of a `check`.
 fn check_files<F: Folder>(
     folder: &F,
@@ -153,15 +123,18 @@ fn check_files<F: Folder>(
 /// What is told of the words of a command line.
 fn told<F: Folder>(folder: &F, alloc: Global, words: &[String]) -> Result<Told, AllocError>
     ensures status { IfOk result (λ told. told.status ≤ 2) }
-    // Status 0 is that of a yes, unless the words ask for help or the version.
+    // Status 0 is that of a yes or of a replay, unless the words ask for help or the version.
     ensures yes { IfOk result (λ told. told.status ≡ 0
-        → SomeFiles (YesOfFiles (F.held folder.now)) told ⊎ AsksHelp (map string_bytes words.now)) }
+        → SomeFiles (YesOfFiles (F.held folder.now)) told
+        ⊎ (SomeFiles (ReplayOfFiles (F.held folder.now)) told
+        ⊎ AsksHelp (map string_bytes words.now))) }
     ensures no { IfOk result (λ told. told.status ≡ 1
         → SomeFiles (NoOfFiles (F.held folder.now)) told) }
     ensures fault { IfOk result (λ told. told.status ≡ 2 → string_bytes told.out ≡ []) }
 {
     match read(alloc, words) {
         Ok(Command::Check(files)) => check_files(folder, alloc, &files),
+        Ok(Command::Replay(files)) => replay_files(folder, alloc, &files),
         Err(NoCommand::Told(told)) => Ok(told),
         Err(NoCommand::Memory) => memory(alloc),
     }
@@ -193,7 +166,8 @@ fn write_told<O: Write, E: Write>(alloc: Global, told: &Told, out: &mut O, err: 
 }
 
 /// Runs the program on the words of a command line, its own name first, and on the files of a
-/// folder. The status is 0 for `YES` and for help and the version, 1 for `NO`, and 2 for a fault.
+/// folder. The status is 0 for `YES`, for a replay and for help and the version, 1 for `NO`, and 2
+/// for a fault.
 pub fn run<F: Folder, O: Write, E: Write>(
     folder: &F,
     alloc: Global,
@@ -202,11 +176,12 @@ pub fn run<F: Folder, O: Write, E: Write>(
     err: &mut E,
 ) -> u8
     ensures status { result ≤ 2 }
-    // With status 0 a yes went out that is right of what the files hold, unless the words ask for
-    // help or the version.
+    // With status 0 a yes or a replay went out that is right of what the files hold, unless the
+    // words ask for help or the version.
     ensures yes { result ≡ 0
         → WentOut (YesOfFiles (F.held folder.now)) (O.contents out.old) (O.contents out.new)
-        ⊎ AsksHelp (map string_bytes words.now) }
+        ⊎ (WentOut (ReplayOfFiles (F.held folder.now)) (O.contents out.old) (O.contents out.new)
+        ⊎ AsksHelp (map string_bytes words.now)) }
     // With status 1 a no went out that is right of what the files hold.
     ensures no { result ≡ 1
         → WentOut (NoOfFiles (F.held folder.now)) (O.contents out.old) (O.contents out.new) }
@@ -231,11 +206,12 @@ pub fn start<F: Folder, O: Write, E: Write>(
 ) -> u8
     ensures status { result ≤ 2 }
     ensures fault { IfErr words (λ _. result ≡ 2) }
-    // With status 0 a yes went out that is right of what the files hold, unless the words ask for
-    // help or the version.
+    // With status 0 a yes or a replay went out that is right of what the files hold, unless the
+    // words ask for help or the version.
     ensures yes { result ≡ 0
         → WentOut (YesOfFiles (F.held folder.now)) (O.contents out.old) (O.contents out.new)
-        ⊎ IsOkAnd words (λ given. AsksHelp (map string_bytes given.items)) }
+        ⊎ (WentOut (ReplayOfFiles (F.held folder.now)) (O.contents out.old) (O.contents out.new)
+        ⊎ IsOkAnd words (λ given. AsksHelp (map string_bytes given.items))) }
     // With status 1 a no went out that is right of what the files hold.
     ensures no { result ≡ 1
         → WentOut (NoOfFiles (F.held folder.now)) (O.contents out.old) (O.contents out.new) }

@@ -1,12 +1,12 @@
 //! The program on worked cases: standard output, standard error and status.
 
-use crate::files::{Disk, Folder, ReadFault, WriteFault, read_all, write_text};
+use crate::files::{Disk, Folder};
 use crate::run::{run, start};
 use crate::words::{WordsFault, words_of};
 use std::alloc::Global;
 use std::cell::Cell;
 use std::env::{Env, FillError};
-use std::io::{ErrorKind, Read, Write};
+use std::io::{ErrorKind, Write};
 use std::process::Abort;
 use std::test::Fail;
 use std::{fs, io};
@@ -340,6 +340,7 @@ fn help(rt: HostRuntime) -> Result<(), Fail> {
     let program = [
         "Checks that no task of a wired Mach 3 system can ever obtain a forbidden port right",
         "check",
+        "replay",
         "Exit status of each command:",
         "  0  YES was printed",
         "  1  NO was printed",
@@ -370,111 +371,22 @@ fn help(rt: HostRuntime) -> Result<(), Fail> {
     )
 }
 
-/// A writer that fails as each of its turns says: it is interrupted, takes a byte, or fails.
-#[derive(Drop)]
-struct Turned<'a> {
-    turns: &'a [Option<ErrorKind>],
-    taken: Vec<u8>,
-}
-
-impl Write for Turned<'_> {
-    fn write(&mut self, buf: &[u8]) -> io::Result<usize> {
-        let (Some((turn, later)), Some(byte)) = (self.turns.split_first(), buf.first()) else {
-            return Ok(0);
-        };
-        self.turns = later;
-        match turn {
-            Some(kind) => Err(io::Error::from(*kind)),
-            None => {
-                self.taken.push(*byte)?;
-                Ok(1)
-            }
-        }
-    }
-
-    fn flush(&mut self) -> io::Result<()> {
-        let Some((turn, later)) = self.turns.split_first() else {
-            return Ok(());
-        };
-        self.turns = later;
-        match turn {
-            Some(kind) => Err(io::Error::from(*kind)),
-            None => Ok(()),
-        }
-    }
-}
-
-// A write and a flush that are interrupted are tried again; a write that fails is not.
 #[test]
-fn interrupted_writes(rt: HostRuntime) -> Result<(), Fail> {
-    let alloc = rt.alloc();
-    let again = Some(ErrorKind::Interrupted);
-    let broken = Some(ErrorKind::BrokenPipe);
-    let whole = [again, None, again, None, again, None];
-    let cut = [again, None, again, broken, None];
-    let unflushed = [None, None, again, broken];
-    let table = [
-        (whole.as_slice(), b"ab".as_slice(), Ok(())),
-        (
-            cut.as_slice(),
-            b"a".as_slice(),
-            Err(WriteFault { written: 1 }),
-        ),
-        (
-            unflushed.as_slice(),
-            b"ab".as_slice(),
-            Err(WriteFault { written: 2 }),
-        ),
-    ];
-    for (turns, taken, want) in table {
-        let mut writer = Turned {
-            turns,
-            taken: Vec::new(alloc),
-        };
-        assert_eq!(rt; write_text(&mut writer, b"ab"), want);
-        assert_eq!(rt; writer.taken.as_slice(), taken);
-    }
-    Ok(())
-}
-
-/// A reader that gives so many zeros, and then the end or an error.
-#[derive(Drop)]
-struct Zeros {
-    left: usize,
-    last: Option<ErrorKind>,
-}
-
-impl Read for Zeros {
-    fn read(&mut self, buf: &mut [u8]) -> io::Result<usize> {
-        if self.left == 0 {
-            return match self.last {
-                Some(kind) => Err(io::Error::from(kind)),
-                None => Ok(0),
-            };
-        }
-        let count = self.left.min(buf.len());
-        buf[..count].fill(0);
-        self.left -= count;
-        Ok(count)
-    }
-}
-
-// The limit itself is allowed; want of memory is no failed read.
-#[test]
-fn reading_to_the_limit(rt: HostRuntime) -> Result<(), Fail> {
-    let alloc = rt.alloc();
-    for (left, last, want) in [
-        (0, None, Ok(0)),
-        (4, None, Ok(4)),
-        (5, None, Err(ReadFault::TooBig)),
-        (9, Some(ErrorKind::BrokenPipe), Err(ReadFault::TooBig)),
-        (3, Some(ErrorKind::BrokenPipe), Err(ReadFault::ReadFailed)),
-        (3, Some(ErrorKind::OutOfMemory), Err(ReadFault::Memory)),
-    ] {
-        let read = read_all(alloc, Zeros { left, last }, 4);
-        assert_eq!(rt; read.map(|bytes| bytes.len()), want);
-    }
-    Ok(())
+fn help_of_replays(rt: HostRuntime) -> Result<(), Fail> {
+    tells_help(
+        &rt,
+        &rt,
+        &["machcheck", "replay", "--help"],
+        &[
+            "Runs a script of calls, and prints the reply to each",
+            "--wiring <FILE>",
+            "--script <FILE>",
+            "a script has a call of a task on each line",
+            "  0  the script was run to its end",
+            "  2  a fault on standard error",
+            "docs/FORMATS.md",
+        ],
+    )
 }
 
 /// Three files, each named by its first letter, and the order in which they were opened.
@@ -517,11 +429,11 @@ const CHECK: [&str; 8] = [
     "w",
 ];
 
-/// What is told of three files, and the order in which they were opened.
-fn of_shelf(alloc: Global, shelf: &Shelf<'_>) -> Result<(Outcome, u32), Fail> {
+/// What is told of the files of a shelf, and the order in which they were opened.
+fn of_shelf(alloc: Global, shelf: &Shelf<'_>, words: &[&str]) -> Result<(Outcome, u32), Fail> {
     let mut out = Vec::new(alloc);
     let mut err = Vec::new(alloc);
-    let words = line(alloc, &CHECK)?;
+    let words = line(alloc, words)?;
     let status = run(shelf, alloc, words.as_slice(), &mut out, &mut err);
     Ok((Outcome { out, err, status }, shelf.opened.get()))
 }
@@ -577,10 +489,87 @@ fn files_are_read_in_order(rt: HostRuntime) -> Result<(), Fail> {
             certificate,
             opened: Cell::new(0),
         };
-        let (told, opened) = of_shelf(alloc, &shelf)?;
+        let (told, opened) = of_shelf(alloc, &shelf, &CHECK)?;
         assert_eq!(rt; told.err.as_slice(), want);
         assert_eq!(rt; opened, order);
         assert_eq!(rt; told.status, if want.is_empty() { 0 } else { 2 });
+    }
+    Ok(())
+}
+
+// The script stands in the place of the policy.
+const REPLAY: [&str; 6] = ["machcheck", "replay", "--script", "p", "--wiring", "w"];
+
+/// What is told of a replay, and the order in which the files were opened.
+fn replayed<'a>(
+    alloc: Global,
+    wiring: Result<&'a [u8], ErrorKind>,
+    script: Result<&'a [u8], ErrorKind>,
+) -> Result<(Outcome, u32), Fail> {
+    let shelf = Shelf {
+        wiring,
+        policy: script,
+        certificate: Err(ErrorKind::NotFound),
+        opened: Cell::new(0),
+    };
+    of_shelf(alloc, &shelf, &REPLAY)
+}
+
+// A loader puts its own kernel port into the space of the task that it loads.
+#[test]
+fn replays(rt: HostRuntime) -> Result<(), Fail> {
+    let alloc = rt.alloc();
+    for (script, want) in [
+        (
+            b"l insert_right 2 9 1 19\nf names 1\n".as_slice(),
+            b"0 l done\n1 f names 1:65536 9:65536\nend events 2 ports 2\n".as_slice(),
+        ),
+        (
+            b"f allocate 1 send # not one of these\r\n\nf names 7".as_slice(),
+            b"0 f refused KERN_INVALID_VALUE\n1 f refused KERN_INVALID_TASK\n\
+                end events 2 ports 2\n"
+                .as_slice(),
+        ),
+        (b"".as_slice(), b"end events 0 ports 2\n".as_slice()),
+    ] {
+        let (told, _) = replayed(alloc, Ok(LOADER.as_bytes()), Ok(script))?;
+        assert_eq!(rt; told.out.as_slice(), want);
+        assert_eq!(rt; told.err.as_slice(), b"".as_slice());
+        assert_eq!(rt; told.status, 0);
+    }
+    Ok(())
+}
+
+// All files are read first, the wiring before the script; then come the wiring's text and names,
+// and then the script's bytes and lines.
+#[test]
+fn faults_of_replays(rt: HostRuntime) -> Result<(), Fail> {
+    let alloc = rt.alloc();
+    let one = Ok(ONE.as_bytes());
+    let wrong = Ok(b"wiring 1\ntask".as_slice());
+    let unknown = Ok(b"wiring 1\nhold a send task a".as_slice());
+    let no_text = Ok(b"a names 1\na \xff\nb".as_slice());
+    let bad = Ok(b"a names 1\n\na receive 1 24\nb names 1\n".as_slice());
+    let denied = Err(ErrorKind::PermissionDenied);
+    let full = Err(ErrorKind::OutOfMemory);
+    for (wiring, script, want, order) in [
+        (denied, denied, b"machcheck: w: ReadFailed\n".as_slice(), 1),
+        (wrong, denied, b"machcheck: p: ReadFailed\n".as_slice(), 12),
+        (one, full, b"machcheck: Memory\n".as_slice(), 12),
+        (wrong, no_text, b"machcheck: w: BadLine 2\n".as_slice(), 12),
+        (
+            unknown,
+            no_text,
+            b"machcheck: w: UnknownName 2\n".as_slice(),
+            12,
+        ),
+        (one, no_text, b"machcheck: p: NotUtf8\n".as_slice(), 12),
+        (one, bad, b"machcheck: p: BadLine 3\n".as_slice(), 12),
+    ] {
+        let (told, opened) = replayed(alloc, wiring, script)?;
+        assert_eq!(rt; told.err.as_slice(), want);
+        assert_eq!(rt; told.out.as_slice(), b"".as_slice());
+        assert_eq!(rt; (told.status, opened), (2, order));
     }
     Ok(())
 }

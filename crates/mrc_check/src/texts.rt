@@ -49,7 +49,8 @@ pub enum TextsFault {
     Check(Refused<Why>),
 }
 
-fn table_of(alloc: Global, wiring: &[u8]) -> Result<Wired, OrMemory<WiringFault>>
+/// The wiring that bytes mean.
+pub fn table_of(alloc: Global, wiring: &[u8]) -> Result<Wired, OrMemory<WiringFault>>
     ensures { Gives (λ table. table) result (table_of wiring.now) }
 {
     match read_wiring(alloc, wiring) {

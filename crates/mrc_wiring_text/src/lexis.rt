@@ -16,7 +16,7 @@ fn place_of(text: &[u8], wanted: u8) -> usize
 }
 
 /// The first line of a text, without its line feed, and the text after it.
-pub(crate) fn first_line(text: &[u8]) -> (&[u8], &[u8])
+pub fn first_line(text: &[u8]) -> (&[u8], &[u8])
     requires { 0 < length text.now }
     ensures cut { lines text.now ≡ result.0.now ∷ lines result.1.now }
     ensures shorter { length result.1.now < length text.now }
@@ -44,7 +44,7 @@ fn before_comment(line: &[u8]) -> &[u8]
 }
 
 /// The words of a line.
-pub(crate) fn words(alloc: Global, line: &[u8]) -> Result<Vec<&[u8]>, AllocError>
+pub fn words(alloc: Global, line: &[u8]) -> Result<Vec<&[u8]>, AllocError>
     ensures exact { IfOk result (λ found. map (λ word. word.now) found.items ≡ words line.now) }
     ensures count { IfOk result (λ found. vec_len found ≡ length (words line.now)) }
 {
@@ -55,7 +55,7 @@ pub(crate) fn words(alloc: Global, line: &[u8]) -> Result<Vec<&[u8]>, AllocError
 }
 
 /// Whether a word is the given one.
-pub(crate) fn is_word(word: &[u8], wanted: &str) -> bool
+pub fn is_word(word: &[u8], wanted: &str) -> bool
     ensures { result ≡ bytes_eq word.now wanted.now }
 {
     word == wanted.as_bytes()

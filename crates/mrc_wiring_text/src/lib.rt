@@ -10,9 +10,10 @@ mod reading;
 mod wiring;
 
 pub use faults::TextFault;
+pub use lexis::{first_line, is_word, words};
 pub use names::Name;
 pub use policy::{ClassName, Forbid, PolicyLine, read_policy};
-pub use reading::Line;
+pub use reading::{Line, is_number};
 pub use wiring::{WiringLine, WiringSays, read_wiring};
 
 #[cfg(test)]

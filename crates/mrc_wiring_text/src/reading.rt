@@ -54,7 +54,8 @@ fn are_digits(bytes: &[u8]) -> bool
     bytes.iter().all(|byte| byte.is_ascii_digit())
 }
 
-fn is_number(word: &[u8]) -> bool
+/// Whether a word has decimal digits, at least one, and nothing else.
+pub fn is_number(word: &[u8]) -> bool
     ensures { result ≡ is_number word.now }
 {
     !word.is_empty() && are_digits(word)

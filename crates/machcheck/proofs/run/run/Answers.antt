@@ -15,7 +15,15 @@ returns-in-Ok-clause-yes g c zero_is =
         tells = said.1;
         out = c.write_told.ensures.out (λ two. absurd (omega arith));
       }
-      | inr help ↦ inr help
+      | inr others ↦ inr (elim others [
+        | inl said ↦ inl record {
+          files = said.0;
+          told = c.in-Ok.told;
+          tells = said.1;
+          out = c.write_told.ensures.out (λ two. absurd (omega arith));
+        }
+        | inr help ↦ inr help
+      ])
     ]
 
 pub returns-in-Ok-clause-no : goal.returns-in-Ok-clause-no

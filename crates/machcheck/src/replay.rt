@@ -1,0 +1,176 @@
+//! What the program tells of a wiring and a script.
+
+ghost use Rattle.std.specs.Prelude.{◌≡◌, ◌⊎◌, [], Ok, IfOk, IfErr, string_bytes};
+ghost use Rattle.mrc_check.specs.Texts.{step};
+ghost use Rattle.mrc_report.specs.Replay.{IsReplay};
+ghost use Rattle.machcheck.specs.declared.replay.WiredScript.{WiredScript};
+ghost use Rattle.machcheck.specs.Texts.{InScript, Plays, script_said, scripted, unscripted};
+ghost use Rattle.machcheck.specs.Files.{AreBothHeld, Exceeds, IsFirstOfBothUnread};
+ghost use Rattle.machcheck.specs.Told.{ToldReplay, ToldUnscripted, ToldMemory, IsFaultOf};
+ghost use Rattle.machcheck.specs.Told.{unscripted_file, ReplayOfFiles, FaultOfReplay};
+
+use crate::command::ReplayFiles;
+use crate::files::{Folder, Unread, bytes_of, unread_told};
+use crate::told::{Told, fault_of, memory, said};
+use mrc_base::OrMemory;
+use mrc_check::{WiringFault, table_of};
+use mrc_report::{ReadFault, Script, ScriptFault, read_script, replay};
+use mrc_wiring::Wired;
+use std::alloc::{AllocError, Global};
+use std::marker::Model;
+use std::str;
+
+/// The bytes of the files of a `replay`.
+#[derive(Drop)]
+struct ReplayBytes {
+    wiring: Vec<u8>,
+    script: Vec<u8>,
+}
+
+impl Model for ReplayBytes {
+    ghost use Rattle.machcheck.specs.Texts.{TwoTexts};
+
+    ghost Value = { TwoTexts };
+
+    ghost view = { λ b. record { wiring = b.wiring.items; script = b.script.items } };
+}
+
+/// A wiring, and a script of its tasks.
+#[derive(Drop)]
+pub struct WiredScript {
+    pub wired: Wired,
+    pub script: Script,
+}
+
+/// Why the bytes of a wiring and a script are none.
+#[derive(Clone, Copy, Debug, PartialEq, Eq)]
+pub enum ReplayFault {
+    /// The wiring has no meaning.
+    Wiring(WiringFault),
+    /// The script's bytes are no UTF-8 text.
+    NotUtf8,
+    /// The script has no meaning.
+    Script(ScriptFault),
+}
+
+/// All files are read before any is judged, in the order wiring, script.
+fn replay_bytes<'a, F: Folder>(
+    folder: &F,
+    alloc: Global,
+    files: &ReplayFiles<'a>,
+) -> Result<ReplayBytes, Unread<'a>>
+    ensures held { IfOk result (AreBothHeld (F.held folder.now) files.now) }
+    ensures first { IfErr result
+        (λ unread. IsFirstOfBothUnread (F.held folder.now) files.now unread.file.now) }
+    ensures too_big { IfErr result (λ unread. unread.fault ≡ ReadFault.TooBig
+        → Exceeds (F.held folder.now) unread.file.now) }
+{
+    let wiring = bytes_of(folder, alloc, files.wiring)?;
+    let script = bytes_of(folder, alloc, files.script)?;
+    Ok(ReplayBytes { wiring, script })
+}
+
+/// What a script's bytes say to the tasks of a wiring.
+fn script_said(alloc: Global, wired: &Wired, bytes: &[u8]) -> Result<Script, OrMemory<ReplayFault>>
+    ensures { Plays (λ script. script) result (step InScript (script_said wired.now bytes.now)) }
+{
+    match str::from_utf8(bytes) {
+        Ok(text) => match read_script(alloc, wired, text) {
+            Ok(script) => Ok(script),
+            Err(OrMemory::Fault(fault)) => Err(OrMemory::Fault(ReplayFault::Script(fault))),
+            Err(OrMemory::Memory) => Err(OrMemory::Memory),
+        },
+        Err(_) => Err(OrMemory::Fault(ReplayFault::NotUtf8)),
+    }
+}
+
+/// What the bytes of a wiring and a script say together.
+fn scripted(alloc: Global, bytes: &ReplayBytes) -> Result<WiredScript, OrMemory<ReplayFault>>
+    ensures { Plays (λ both. both) result (scripted bytes.now) }
+{
+    match table_of(alloc, bytes.wiring.as_slice()) {
+        Ok(wired) => {
+            let script = script_said(alloc, &wired, bytes.script.as_slice())?;
+            Ok(WiredScript { wired, script })
+        }
+        Err(OrMemory::Fault(fault)) => Err(OrMemory::Fault(ReplayFault::Wiring(fault))),
+        Err(OrMemory::Memory) => Err(OrMemory::Memory),
+    }
+}
+
+/// A fault of a wiring or a script, with its file.
+fn fault_told(
+    alloc: Global,
+    files: &ReplayFiles<'_>,
+    fault: ReplayFault,
+) -> Result<Told, AllocError>
+    ensures status { IfOk result (λ told. told.status ≡ 2) }
+    ensures out { IfOk result (λ told. string_bytes told.out ≡ []) }
+    ensures err { IfOk result (λ told.
+        IsFaultOf (unscripted_file files.now (unscripted fault)) (string_bytes told.err)) }
+{
+    match fault {
+        ReplayFault::Wiring(fault) => {
+            let text = fault.to_string(alloc)?;
+            fault_of(alloc, files.wiring, text.as_str())
+        }
+        ReplayFault::NotUtf8 => fault_of(alloc, files.script, "NotUtf8"),
+        ReplayFault::Script(fault) => {
+            let text = fault.to_string(alloc)?;
+            fault_of(alloc, files.script, text.as_str())
+        }
+    }
+}
+
+/// What is told of a replay.
+fn replay_said(alloc: Global, both: &WiredScript) -> Result<Told, AllocError>
+    ensures status { IfOk result (λ told. told.status ≡ 0) }
+    ensures out { IfOk result
+        (λ told. IsReplay both.now.wired both.now.script (string_bytes told.out)) }
+    ensures err { IfOk result (λ told. string_bytes told.err ≡ []) }
+{
+    let text = replay(alloc, &both.wired, &both.script)?;
+    Ok(said(alloc, text, 0))
+}
+
+/// What is told of the bytes of a wiring and a script.
+fn replay_told(
+    alloc: Global,
+    files: &ReplayFiles<'_>,
+    bytes: &ReplayBytes,
+) -> Result<Told, AllocError>
+    ensures status { IfOk result (λ told. (told.status ≡ 0) ⊎ (told.status ≡ 2)) }
+    // What is told with status 0 is the replay.
+    ensures replay { IfOk result (λ told. told.status ≡ 0 → ToldReplay bytes.now told) }
+    // Where both texts have a meaning the replay is told, unless memory runs out.
+    ensures only { (both : WiredScript) → scripted bytes.now ≡ Ok both
+        → IfOk result (λ told. (told.status ≡ 0) ⊎ ToldMemory told) }
+    // A fault is one of the first file that has one, unless memory ran out.
+    ensures fault { IfOk result (λ told. told.status ≡ 2
+        → ToldMemory told ⊎ ToldUnscripted files.now bytes.now told) }
+{
+    match scripted(alloc, bytes) {
+        Ok(both) => replay_said(alloc, &both),
+        Err(OrMemory::Fault(fault)) => fault_told(alloc, files, fault),
+        Err(OrMemory::Memory) => memory(alloc),
+    }
+}
+
+/// What is told of the files of a `replay`.
+pub fn replay_files<F: Folder>(
+    folder: &F,
+    alloc: Global,
+    files: &ReplayFiles<'_>,
+) -> Result<Told, AllocError>
+    ensures status { IfOk result (λ told. (told.status ≡ 0) ⊎ (told.status ≡ 2)) }
+    // A replay is right of what the files hold, so far as that is known.
+    ensures replay { IfOk result (λ told. told.status ≡ 0
+        → ReplayOfFiles (F.held folder.now) files.now told) }
+    ensures fault { IfOk result (λ told. told.status ≡ 2
+        → FaultOfReplay (F.held folder.now) files.now told) }
+{
+    match replay_bytes(folder, alloc, files) {
+        Ok(bytes) => replay_told(alloc, files, &bytes),
+        Err(unread) => unread_told(alloc, &unread),
+    }
+}

@@ -1,0 +1,89 @@
+-- Scripts and what they say, and printed events, by computation.
+use Rattle.std.proofs.Common.{◌≡◌, ℕ, List, [], ◌∷◌, ◌++◌, Ok, Err, Some, None, refl}
+use Rattle.std.specs.Prelude.{codes}
+use Rattle.std.specs.Fmt.{digits}
+use Rattle.mrc_base.specs.declared.Right.TheVariants.{Receive}
+use Rattle.mrc_base.specs.declared.Disp.TheVariants.{CopySend}
+use Rattle.mrc_model.specs.declared.Code.TheVariants.{KernNoSpace}
+use Rattle.mrc_model.specs.declared.Denied.TheVariants.{NoSuchId, NotAdmitted}
+use Rattle.mrc_model.specs.Reply.{Done, Names, Bytes, TooLarge, Refused, DeniedBy}
+use Rattle.mrc_wiring_text.specs.declared.faults.TextFault.TheVariants.{BadLine}
+use Rattle.mrc_wiring_text.specs.declared.reading.Line.{Line}
+use Rattle.mrc_wiring_text.specs.Lexis.{is_blank, words}
+use Rattle.mrc_wiring_text.specs.Reading.{line_of, body}
+use Rattle.mrc_wiring.specs.Table.{Table}
+use Rattle.mrc_machine.specs.declared.call.Call.{Call}
+use Rattle.mrc_machine.specs.declared.call.Call.TheVariants as call
+use Rattle.mrc_report.specs.declared.script.TaskCall.{TaskCall}
+use Rattle.mrc_report.specs.Parameters.{number_of_word, right_of_word}
+use Rattle.mrc_report.specs.Calls.{allocate, insert_right, names, call_named, script_says}
+use Rattle.mrc_report.specs.Scripts.{script_of}
+use Rattle.mrc_report.specs.Printing.{reply_text, event_line, end_line}
+
+-- lines, each with its line feed
+abbrev text : List (List ℕ) → List ℕ
+text [] = []
+text (line ∷ rest) = line ++ 10 ∷ text rest
+
+abbrev tasks : List (List ℕ)
+tasks = codes "l" ∷ codes "f" ∷ []
+
+abbrev at : ℕ → ℕ → Call → Line TaskCall
+at n task call = record { number = n; says = record { task = task; call = call } }
+
+-- two calls
+two_calls : script_of tasks (text (
+    codes "l insert_right 2 009 1 19" ∷ [] ∷ codes "f names 1 #" ∷ []))
+    ≡ Ok (at 1 0 (call.InsertRight 2 9 1 CopySend) ∷ at 3 1 (call.Names 1) ∷ [])
+unfolding body line_of words is_blank script_says call_named insert_right names number_of_word
+two_calls = refl
+
+-- a text without words
+nothing : script_of tasks (codes "  # nothing") ≡ Ok []
+unfolding body line_of words is_blank
+nothing = refl
+
+-- the first wrong line is told
+another_task : script_of tasks (text (codes "f names 1" ∷ codes "g names 1" ∷ codes "f" ∷ []))
+    ≡ Err (BadLine 2)
+unfolding body line_of words is_blank script_says call_named names number_of_word
+another_task = refl
+
+-- a number of more than 32 bits, and the last that has no more
+large : number_of_word (codes "4294967296") ≡ None
+unfolding number_of_word
+large = refl
+
+largest : number_of_word (codes "04294967295") ≡ Some 4294967295
+unfolding number_of_word
+largest = refl
+
+abbrev table : Table
+table = record { names = tasks; lines = [] }
+
+-- the line of an event
+listed : event_line table 1 1 (Names ((1, 65536) ∷ (9, 65536) ∷ []))
+    ≡ codes "1 f names 1:65536 9:65536\n"
+unfolding digits
+listed = refl
+
+ends : end_line 2 2 ≡ codes "end events 2 ports 2\n"
+unfolding digits
+ends = refl
+
+refused : reply_text (Refused KernNoSpace) ≡ codes "refused KERN_NO_SPACE"
+refused = refl
+
+denied : reply_text (DeniedBy (NotAdmitted 0)) ≡ codes "denied NotAdmitted 0"
+unfolding digits
+denied = refl
+
+denied_id : reply_text (DeniedBy NoSuchId) ≡ codes "denied NoSuchId"
+denied_id = refl
+
+bytes : reply_text (Bytes (0 ∷ 18 ∷ 208 ∷ 175 ∷ [])) ≡ codes "message 0012d0af"
+bytes = refl
+
+too_large : reply_text (TooLarge 32) ≡ codes "too large 32"
+unfolding digits
+too_large = refl

@@ -1,0 +1,56 @@
+-- A whole replay, from the texts to what is printed, by computation: a loader puts its own kernel
+-- port into the space of the task that it loads.
+use Rattle.std.proofs.Common.{◌≡◌, ℕ, List, [], ◌∷◌, ◌++◌, Ok, refl}
+use Rattle.std.specs.Prelude.{codes}
+use Rattle.std.specs.Fmt.{digits}
+use Rattle.mrc_base.specs.declared.PortRight.TheVariants.{Send}
+use Rattle.mrc_base.specs.declared.Disp.TheVariants.{CopySend}
+use Rattle.mrc_model.specs.declared.FirstLine.TheVariants.{Task, Hold}
+use Rattle.mrc_model.specs.Map.{empty, get, insert, alter_all, len, keys}
+use Rattle.mrc_model.specs.Wiring.{Wiring}
+use Rattle.mrc_model.specs.World.{World}
+use Rattle.mrc_model.specs.Reply.{Call, Done, Names, InsertRight, ListNames}
+use Rattle.mrc_model.specs.Reply.{◌>>=◌, ◌>>◌, check, refuse_if, or_refuse}
+use Rattle.mrc_model.specs.Space.{restart, take, unused, entry_of, give_item, insert_at}
+use Rattle.mrc_model.specs.Target.{target, entry_at}
+use Rattle.mrc_model.specs.CallSend.{take_item}
+use Rattle.mrc_model.specs.CallNames.{call_names}
+use Rattle.mrc_model.specs.CallInsertRight.{call_insert_right}
+use Rattle.mrc_model.specs.Step.{step}
+use Rattle.mrc_model.specs.First.{first}
+use Rattle.mrc_model.specs.Runs.{Event}
+use Rattle.mrc_wiring_text.specs.declared.reading.Line.{Line}
+use Rattle.mrc_wiring.specs.Table.{Table, wiring_of}
+use Rattle.mrc_machine.specs.declared.call.Call.TheVariants as call
+use Rattle.mrc_report.specs.declared.script.TaskCall.{TaskCall}
+use Rattle.mrc_report.specs.Replay.{IsReplay}
+
+-- `task l`, `task f`, `hold l send task f`
+abbrev loader : Table
+loader = record {
+  names = codes "l" ∷ codes "f" ∷ [];
+  lines = Task ∷ Task ∷ Hold 0 1 Send ∷ [];
+}
+
+-- `l insert_right 2 9 1 19`, `f names 1`
+abbrev script : List (Line TaskCall)
+script =
+    record { number = 1; says = record { task = 0; call = call.InsertRight 2 9 1 CopySend } }
+    ∷ record { number = 2; says = record { task = 1; call = call.Names 1 } } ∷ []
+
+abbrev after : World → ℕ → Call → World
+after world task call = (step (wiring_of loader) world task call).0
+
+pub worked : IsReplay loader script
+    (codes "0 l done\n1 f names 1:65536 9:65536\nend events 2 ports 2\n")
+unfolding ◌>>=◌ ◌>>◌ check refuse_if or_refuse empty get insert alter_all len keys restart take
+    unused entry_of give_item insert_at target entry_at take_item call_names call_insert_right step
+    first digits
+worked = record {
+  events = record { task = 0; call = InsertRight 2 9 1 CopySend; reply = Done }
+      ∷ record { task = 1; call = ListNames 1; reply = Names ((1, 65536) ∷ (9, 65536) ∷ []) } ∷ [];
+  world = after (after (first (wiring_of loader)) 0 (InsertRight 2 9 1 CopySend)) 1 (ListNames 1);
+  calls = refl;
+  run = (refl, (refl, refl));
+  printed = refl;
+}

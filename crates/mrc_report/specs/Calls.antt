@@ -1,0 +1,103 @@
+-- What a line of a script says: a task of the wiring by its name, a call by Mach's name without
+-- `mach_port_`, and the call's parameters in order. One definition a call. The calls are those of
+-- Mach 3 Kernel Interfaces; how they are written is this profile's own choice.
+use Rattle.std.specs.Prelude.{ℕ, bytes_eq, codes, List, [], ◌∷◌, Option, Some, None}
+use Rattle.std.specs.Prelude.{if◌then◌else◌}
+use Rattle.mrc_wiring.specs.Names.{number_of}
+use Rattle.mrc_words.specs.Reading.{◌>>=◌}
+use Rattle.mrc_machine.specs.declared.call.Call.{Call}
+use Rattle.mrc_machine.specs.declared.call.Call.TheVariants.{Allocate, GetRefs, InsertRight}
+use Rattle.mrc_machine.specs.declared.call.Call.TheVariants.{ExtractRight, SetQlimit, PortType}
+use Rattle.mrc_machine.specs.declared.call.Call.TheVariants.{Names, Rename}
+use Rattle.mrc_report.specs.declared.script.TaskCall.{TaskCall}
+use Rattle.mrc_report.specs.Parameters.{number_of_word, right_of_word, disp_of_word}
+
+-- `allocate TASK RIGHT`, of kind 0
+unfoldable pub allocate : List (List ℕ) → Option Call
+allocate (task ∷ right ∷ []) = do
+  t ← number_of_word task
+  r ← right_of_word right
+  Some (Allocate t r 0)
+allocate words = None
+
+-- `get_refs TASK NAME RIGHT`
+unfoldable pub get_refs : List (List ℕ) → Option Call
+get_refs (task ∷ name ∷ right ∷ []) = do
+  t ← number_of_word task
+  n ← number_of_word name
+  r ← right_of_word right
+  Some (GetRefs t n r)
+get_refs words = None
+
+-- `insert_right TASK NAME RIGHT DISP`, where RIGHT is a name of the caller
+unfoldable pub insert_right : List (List ℕ) → Option Call
+insert_right (task ∷ name ∷ right ∷ disp ∷ []) = do
+  t ← number_of_word task
+  n ← number_of_word name
+  r ← number_of_word right
+  d ← disp_of_word disp
+  Some (InsertRight t n r d)
+insert_right words = None
+
+-- `extract_right TASK NAME DISP`
+unfoldable pub extract_right : List (List ℕ) → Option Call
+extract_right (task ∷ name ∷ disp ∷ []) = do
+  t ← number_of_word task
+  n ← number_of_word name
+  d ← disp_of_word disp
+  Some (ExtractRight t n d)
+extract_right words = None
+
+-- `set_qlimit TASK NAME LIMIT`
+unfoldable pub set_qlimit : List (List ℕ) → Option Call
+set_qlimit (task ∷ name ∷ limit ∷ []) = do
+  t ← number_of_word task
+  n ← number_of_word name
+  l ← number_of_word limit
+  Some (SetQlimit t n l)
+set_qlimit words = None
+
+-- `type TASK NAME`
+unfoldable pub port_type : List (List ℕ) → Option Call
+port_type (task ∷ name ∷ []) = do
+  t ← number_of_word task
+  n ← number_of_word name
+  Some (PortType t n)
+port_type words = None
+
+-- `names TASK`
+unfoldable pub names : List (List ℕ) → Option Call
+names (task ∷ []) = do
+  t ← number_of_word task
+  Some (Names t)
+names words = None
+
+-- `rename TASK OLD NEW`
+unfoldable pub rename : List (List ℕ) → Option Call
+rename (task ∷ old ∷ new ∷ []) = do
+  t ← number_of_word task
+  o ← number_of_word old
+  n ← number_of_word new
+  Some (Rename t o n)
+rename words = None
+
+-- a call by its name, with the words of its parameters
+unfoldable pub call_named : List ℕ → List (List ℕ) → Option Call
+call_named name parameters =
+    if bytes_eq name (codes "allocate") then allocate parameters
+    else if bytes_eq name (codes "get_refs") then get_refs parameters
+    else if bytes_eq name (codes "insert_right") then insert_right parameters
+    else if bytes_eq name (codes "extract_right") then extract_right parameters
+    else if bytes_eq name (codes "set_qlimit") then set_qlimit parameters
+    else if bytes_eq name (codes "type") then port_type parameters
+    else if bytes_eq name (codes "names") then names parameters
+    else if bytes_eq name (codes "rename") then rename parameters
+    else None
+
+-- what the words of a line say: the call of a task, which has one of these names
+unfoldable pub script_says : List (List ℕ) → List (List ℕ) → Option TaskCall
+script_says tasks (task ∷ name ∷ parameters) = do
+  t ← number_of tasks task
+  call ← call_named name parameters
+  Some (record { task = t; call = call })
+script_says tasks words = None

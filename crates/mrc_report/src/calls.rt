@@ -1,0 +1,176 @@
+//! The words of a script's line as the call of a task.
+
+ghost use Rattle.std.specs.Prelude.{◌≡◌, map};
+ghost use Rattle.mrc_wiring.specs.Names.{number_of};
+ghost use Rattle.mrc_report.specs.Calls.{allocate, get_refs, insert_right, extract_right};
+ghost use Rattle.mrc_report.specs.Calls.{set_qlimit, port_type, names, rename, call_named};
+ghost use Rattle.mrc_report.specs.Calls.{script_says};
+
+use crate::parameters::{disp_of_word, number_of_word, right_of_word};
+use crate::script::TaskCall;
+use mrc_base::TaskId;
+use mrc_machine::Call;
+use mrc_wiring::Wired;
+use mrc_wiring_text::is_word;
+use std::str;
+
+#[tactic(auto, unfolding(crate::specs::Calls::allocate))]
+fn allocate(words: &[&[u8]]) -> Option<Call>
+    ensures { result ≡ allocate (map (λ word. word.now) words.now) }
+{
+    match *words {
+        [task, right] => Some(Call::Allocate {
+            task: number_of_word(task)?,
+            right: right_of_word(right)?,
+            kind: 0,
+        }),
+        _ => None,
+    }
+}
+
+#[tactic(auto, unfolding(crate::specs::Calls::get_refs))]
+fn get_refs(words: &[&[u8]]) -> Option<Call>
+    ensures { result ≡ get_refs (map (λ word. word.now) words.now) }
+{
+    match *words {
+        [task, name, right] => Some(Call::GetRefs {
+            task: number_of_word(task)?,
+            name: number_of_word(name)?,
+            right: right_of_word(right)?,
+        }),
+        _ => None,
+    }
+}
+
+#[tactic(auto, unfolding(crate::specs::Calls::insert_right))]
+fn insert_right(words: &[&[u8]]) -> Option<Call>
+    ensures { result ≡ insert_right (map (λ word. word.now) words.now) }
+{
+    match *words {
+        [task, name, right, disp] => Some(Call::InsertRight {
+            task: number_of_word(task)?,
+            name: number_of_word(name)?,
+            right: number_of_word(right)?,
+            disp: disp_of_word(disp)?,
+        }),
+        _ => None,
+    }
+}
+
+#[tactic(auto, unfolding(crate::specs::Calls::extract_right))]
+fn extract_right(words: &[&[u8]]) -> Option<Call>
+    ensures { result ≡ extract_right (map (λ word. word.now) words.now) }
+{
+    match *words {
+        [task, name, disp] => Some(Call::ExtractRight {
+            task: number_of_word(task)?,
+            name: number_of_word(name)?,
+            disp: disp_of_word(disp)?,
+        }),
+        _ => None,
+    }
+}
+
+#[tactic(auto, unfolding(crate::specs::Calls::set_qlimit))]
+fn set_qlimit(words: &[&[u8]]) -> Option<Call>
+    ensures { result ≡ set_qlimit (map (λ word. word.now) words.now) }
+{
+    match *words {
+        [task, name, limit] => Some(Call::SetQlimit {
+            task: number_of_word(task)?,
+            name: number_of_word(name)?,
+            limit: number_of_word(limit)?,
+        }),
+        _ => None,
+    }
+}
+
+#[tactic(auto, unfolding(crate::specs::Calls::port_type))]
+fn port_type(words: &[&[u8]]) -> Option<Call>
+    ensures { result ≡ port_type (map (λ word. word.now) words.now) }
+{
+    match *words {
+        [task, name] => Some(Call::PortType {
+            task: number_of_word(task)?,
+            name: number_of_word(name)?,
+        }),
+        _ => None,
+    }
+}
+
+#[tactic(auto, unfolding(crate::specs::Calls::names))]
+fn names(words: &[&[u8]]) -> Option<Call>
+    ensures { result ≡ names (map (λ word. word.now) words.now) }
+{
+    match *words {
+        [task] => Some(Call::Names {
+            task: number_of_word(task)?,
+        }),
+        _ => None,
+    }
+}
+
+#[tactic(auto, unfolding(crate::specs::Calls::rename))]
+fn rename(words: &[&[u8]]) -> Option<Call>
+    ensures { result ≡ rename (map (λ word. word.now) words.now) }
+{
+    match *words {
+        [task, old, new] => Some(Call::Rename {
+            task: number_of_word(task)?,
+            old: number_of_word(old)?,
+            new: number_of_word(new)?,
+        }),
+        _ => None,
+    }
+}
+
+/// A call by its name, with the words of its parameters.
+#[tactic(auto, unfolding(crate::specs::Calls::call_named))]
+fn call_named(name: &[u8], parameters: &[&[u8]]) -> Option<Call>
+    ensures { result ≡ call_named name.now (map (λ word. word.now) parameters.now) }
+{
+    if is_word(name, "allocate") {
+        allocate(parameters)
+    } else if is_word(name, "get_refs") {
+        get_refs(parameters)
+    } else if is_word(name, "insert_right") {
+        insert_right(parameters)
+    } else if is_word(name, "extract_right") {
+        extract_right(parameters)
+    } else if is_word(name, "set_qlimit") {
+        set_qlimit(parameters)
+    } else if is_word(name, "type") {
+        port_type(parameters)
+    } else if is_word(name, "names") {
+        names(parameters)
+    } else if is_word(name, "rename") {
+        rename(parameters)
+    } else {
+        None
+    }
+}
+
+/// The wired task of a name.
+fn task_of_word(wired: &Wired, word: &[u8]) -> Option<TaskId>
+    ensures { result ≡ number_of wired.now.names word.now }
+{
+    let _tasks = wired.tasks();
+    match str::from_utf8(word) {
+        Ok(name) => wired.task_named(name),
+        Err(_) => None,
+    }
+}
+
+/// What the words of a line say: the call of a task.
+#[tactic(auto, unfolding(crate::specs::Calls::script_says))]
+pub(crate) fn script_says(wired: &Wired, words: &[&[u8]]) -> Option<TaskCall>
+    ensures { result ≡ script_says wired.now.names (map (λ word. word.now) words.now) }
+{
+    match *words {
+        [task, name, ref parameters @ ..] => Some(TaskCall {
+            task: task_of_word(wired, task)?,
+            call: call_named(name, parameters)?,
+        }),
+        _ => None,
+    }
+}

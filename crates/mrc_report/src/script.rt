@@ -1,0 +1,135 @@
+//! Scripts.
+
+ghost use Rattle.std.specs.Prelude.{◌≡◌, ◌+◌, ◌≤◌, List, IfOk, OnOk, Ok};
+ghost use Rattle.mrc_base.specs.Limits.{limit_of_lines};
+ghost use Rattle.mrc_wiring_text.specs.declared.reading.Line.{Line};
+ghost use Rattle.mrc_wiring_text.specs.Lexis.{lines};
+ghost use Rattle.mrc_wiring_text.specs.Reading.{line_of, body};
+ghost use Rattle.mrc_report.specs.declared.script.TaskCall.{TaskCall};
+ghost use Rattle.mrc_report.specs.Calls.{script_says};
+ghost use Rattle.mrc_report.specs.Scripts.{IsScript, Reads, script_of};
+
+use crate::calls::script_says;
+use mrc_base::limits::LINES;
+use mrc_base::{OrMemory, TaskId};
+use mrc_machine::Call;
+use mrc_wiring::Wired;
+use mrc_wiring_text::{Line, first_line, words};
+use std::alloc::Global;
+use std::marker::Model;
+use thiserror::Error;
+
+/// Why a text is no script: the first fault.
+#[derive(Clone, Copy, Debug, PartialEq, Eq, Error)]
+pub enum ScriptFault {
+    /// The line of this number, counted from 1, is not one of the grammar.
+    #[error("BadLine {0}")]
+    BadLine(u32),
+}
+
+/// What a line of a script says: a task makes a call.
+#[derive(Debug, Drop)]
+pub struct TaskCall {
+    /// The task, which is wired.
+    pub task: TaskId,
+    /// The call.
+    pub call: Call,
+}
+
+/// A script: its lines that say something, in order.
+#[derive(Debug, Drop)]
+pub struct Script {
+    lines: Vec<Line<TaskCall>>,
+}
+
+impl Model for Script {
+    ghost use Rattle.std.specs.Prelude.{List};
+    ghost use Rattle.mrc_wiring_text.specs.declared.reading.Line.{Line};
+    ghost use Rattle.mrc_report.specs.declared.script.TaskCall.{TaskCall};
+
+    ghost Value = { List (Line TaskCall) };
+
+    ghost view = { λ a. a.lines.items };
+}
+
+impl Script {
+    /// The lines in order.
+    pub fn lines(&self) -> &[Line<TaskCall>]
+        ensures { result.now ≡ self.now }
+    {
+        self.lines.as_slice()
+    }
+}
+
+/// What a line says, if it has words.
+#[tactic(auto, unfolding(mrc_wiring_text::specs::Reading::line_of))]
+fn line_of(
+    alloc: Global,
+    wired: &Wired,
+    number: u32,
+    line: &[u8],
+) -> Result<Option<TaskCall>, OrMemory<ScriptFault>>
+    ensures fault { Reads (λ says. says) result
+        (line_of (script_says wired.now.names) number line.now) }
+    ensures within { OnOk result (number ≤ limit_of_lines) }
+{
+    if number > LINES {
+        return Err(OrMemory::Fault(ScriptFault::BadLine(LINES + 1)));
+    }
+    let said = words(alloc, line)?;
+    if said.is_empty() {
+        return Ok(None);
+    }
+    match script_says(wired, &said) {
+        Some(says) => Ok(Some(says)),
+        None => Err(OrMemory::Fault(ScriptFault::BadLine(number))),
+    }
+}
+
+/// What the lines of a text say.
+fn lines_of(
+    alloc: Global,
+    wired: &Wired,
+    text: &[u8],
+) -> Result<Vec<Line<TaskCall>>, OrMemory<ScriptFault>>
+    ensures { Reads (λ said. said.items) result (script_of wired.now.names text.now) }
+{
+    let mut said = Vec::new(alloc);
+    let mut rest = text;
+    let mut number = 1;
+    while !rest.is_empty() {
+        let (line, after) = first_line(rest);
+        if let Some(says) = line_of(alloc, wired, number, line)? {
+            said.push(Line { number, says })?;
+        }
+        number += 1;
+        rest = after;
+    }
+    Ok(said)
+}
+
+fn script_of(alloc: Global, wired: &Wired, text: &str) -> Result<Script, OrMemory<ScriptFault>>
+    ensures { Reads (λ script. script) result (script_of wired.now.names text.now) }
+{
+    let lines = lines_of(alloc, wired, text.as_bytes())?;
+    Ok(Script { lines })
+}
+
+/// Reads a script of a wiring's tasks, or tells its first line that is none of the grammar. A line
+/// is the name of a wired task, a call by Mach's name without `mach_port_`, and the call's
+/// parameters in order.
+pub fn read_script(
+    alloc: Global,
+    wired: &Wired,
+    text: &str,
+) -> Result<Script, OrMemory<ScriptFault>>
+    // What is read is said by a script of the wiring's tasks.
+    ensures found { IfOk result (λ script. IsScript wired.now.names text.now script) }
+    // What such a script says is read, unless memory runs out.
+    ensures only { (says : List (Line TaskCall)) → IsScript wired.now.names text.now says →
+        Reads (λ script. script) result (Ok says) }
+    // Which fault it is: the first.
+    ensures fault { Reads (λ script. script) result (script_of wired.now.names text.now) }
+{
+    script_of(alloc, wired, text)
+}
