@@ -1,5 +1,5 @@
 //! Reads cases from standard input, one a line, and prints a line for each: what the readers of MIG
-//! texts, of messages and of certificates say of it.
+//! texts, of messages, of certificates and of scripts say of it.
 //!
 //! A case is a word, `:` and a text. In the text `\n` is a line feed, `\r` a carriage return, `\0`
 //! the character 0, and `\` before any other character is that character.
@@ -13,6 +13,7 @@
 //! - `defs`: a list of MIG files, in hexadecimal digits with `,` between them: their names
 //! - `disposition`: what a number of MIG's port types needs of a sender and gives a receiver
 //! - `message`: in hexadecimal digits, what a message is written as that was read
+//! - `replay`: a wiring, `|` and a script: what is printed of its events, on one line
 //! - `certificate`: in hexadecimal digits, what a certificate is written as that was read
 //!
 //! Any other line is printed as it is.
@@ -23,6 +24,7 @@ mod escapes;
 mod forms;
 mod messages;
 mod numbers;
+mod replays;
 #[cfg(test)]
 mod tests;
 mod tokens;
@@ -46,6 +48,7 @@ fn said(alloc: Global, line: &str) -> Result<String> {
         "forms" => forms::forms(alloc, text.as_str().as_bytes()),
         "defs" => forms::defs(alloc, text.as_str()),
         "disposition" => numbers::disposition(alloc, text.as_str()),
+        "replay" => replays::events(alloc, text.as_str()),
         "message" => messages::written(alloc, text.as_str()),
         "certificate" => certificates::written(alloc, text.as_str()),
         _ => Ok(String::from_str(alloc, line)?),

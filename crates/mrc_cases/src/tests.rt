@@ -4,4 +4,5 @@ mod certificates;
 mod maps;
 mod messages;
 mod readers;
+mod spaces;
 mod words;

@@ -9,6 +9,3 @@ mod types;
 pub use listing::{Listing, NamedType};
 pub use space::Space;
 pub use types::PortType;
-
-#[cfg(test)]
-mod tests;
