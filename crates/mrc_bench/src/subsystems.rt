@@ -33,6 +33,69 @@ pub fn comments(alloc: Global) -> Result<String, AllocError> {
     Ok(text)
 }
 
+/// Puts this part behind a text as often as it is said.
+fn repeat(text: &mut String, part: &str, times: usize) -> Result<(), AllocError> {
+    for _ in 0..times {
+        text.push_str(part)?;
+    }
+    Ok(())
+}
+
+/// A file of this size, and a little more, that declares types.
+pub fn types(alloc: Global, size: usize) -> Result<String> {
+    let mut text = String::from_str(alloc, HEAD)?;
+    for number in 0..size {
+        if text.len() >= size {
+            break;
+        }
+        write!(text, "type t{number} = int;\n")?;
+    }
+    Ok(text)
+}
+
+/// A file of about this size, of 3,200 arguments, each with as many options.
+pub fn options(alloc: Global, size: usize) -> Result<String> {
+    let mut text = String::from_str(alloc, HEAD)?;
+    for routine in 0..limits::IDS {
+        write!(text, "routine r{routine}(server : mach_port_t")?;
+        for argument in 1..limits::ARGUMENTS {
+            write!(text, "; inout a{argument} : t = int")?;
+            repeat(&mut text, " ctype : c", size / 32_000)?;
+        }
+        text.push_str(");\n")?;
+    }
+    Ok(text)
+}
+
+/// A file of about this size, with one type in as many arrays.
+pub fn arrays(alloc: Global, size: usize) -> Result<String, AllocError> {
+    let mut text = String::from_str(alloc, HEAD)?;
+    text.push_str("type t = ")?;
+    repeat(&mut text, "array[1] of ", size / 12)?;
+    text.push_str("int;\n")?;
+    Ok(text)
+}
+
+/// A file of about this size, with one array whose count is a sum of as many parts.
+pub fn sums(alloc: Global, size: usize) -> Result<String, AllocError> {
+    let mut text = String::from_str(alloc, HEAD)?;
+    text.push_str("type t = array[1")?;
+    repeat(&mut text, "+0", size / 2)?;
+    text.push_str("] of int;\n")?;
+    Ok(text)
+}
+
+/// A file of about this size, with one array whose count stands in as many parentheses.
+pub fn parentheses(alloc: Global, size: usize) -> Result<String, AllocError> {
+    let mut text = String::from_str(alloc, HEAD)?;
+    text.push_str("type t = array[")?;
+    repeat(&mut text, "(", size / 2)?;
+    text.push_str("1")?;
+    repeat(&mut text, ")", size / 2)?;
+    text.push_str("] of int;\n")?;
+    Ok(text)
+}
+
 /// Reads a file up to its forms.
 fn once(text: &str, alloc: Global) -> Result<()> {
     let tokens = lex(alloc, text)?;

@@ -1,3 +1,4 @@
 mod Finding
+mod FitLemmas
 mod Slots
-mod ReadingLaws
+pub mod ReadingLaws

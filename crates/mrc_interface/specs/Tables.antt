@@ -67,3 +67,11 @@ request_form table id = option_and_then (λ row. row.request) (row_behind table 
 -- the form of the reply that has this id
 abbrev pub reply_form : Table → ℕ → Option Form
 reply_form table id = option_and_then (λ row. row.reply) (row_behind table id (table.base + 100))
+
+-- the form of the request of this place among the rows
+abbrev pub request_at : Table → ℕ → Option Form
+request_at table place = option_and_then (λ row. row.request) (slice_get table.rows place)
+
+-- the form of the reply of this place among the rows
+abbrev pub reply_at : Table → ℕ → Option Form
+reply_at table place = option_and_then (λ row. row.reply) (slice_get table.rows place)

@@ -1,6 +1,9 @@
 //! What the body of a message looks like.
 
-ghost use Rattle.std.specs.Prelude.{◌≡◌, ◌++◌, [], ◌∷◌, length, map, IfOk, OnOk};
+ghost use Rattle.std.specs.Prelude.{◌≡◌, ◌≤◌, ◌+◌, ◌++◌, [], ◌∷◌, length, map, IfOk, OnOk, IsTrue};
+ghost use Rattle.std.specs.List.{list_all};
+ghost use Rattle.mrc_base.specs.Limits.{limit_of_arguments};
+ghost use Rattle.mrc_mig_parse.specs.Bounds.{shape_fits, items_fit};
 ghost use Rattle.mrc_mig_parse.specs.Meanings.{item_of};
 ghost use Rattle.mrc_interface.specs.Forms.{is_in_body, slot_of_item, form_of};
 ghost use Rattle.mrc_interface.specs.View.{slot_of};
@@ -33,7 +36,7 @@ pub struct Slot {
 }
 
 /// What the body of a message looks like: its arguments, in order, and which of them carry port
-/// rights.
+/// rights. There are 32 at most and the return code, of sizes and counts that types can have.
 #[derive(Debug, Drop)]
 pub struct Form {
     id: u32,
@@ -43,7 +46,10 @@ pub struct Form {
 }
 
 impl Model for Form {
-    ghost use Rattle.std.specs.Prelude.{map};
+    ghost use Rattle.std.specs.Prelude.{◌≡◌, ◌≤◌, ◌+◌, length, map, true};
+    ghost use Rattle.std.specs.List.{list_all};
+    ghost use Rattle.mrc_base.specs.Limits.{limit_of_arguments};
+    ghost use Rattle.mrc_mig_parse.specs.Bounds.{shape_fits};
     ghost use Rattle.mrc_interface.specs.Forms as forms;
     ghost use Rattle.mrc_interface.specs.View.{slot_of};
 
@@ -55,6 +61,9 @@ impl Model for Form {
       arguments = f.arguments.items;
       slots = map slot_of f.slots.items;
     } };
+
+    ghost invariant = { λ f. (length f.arguments.items ≤ limit_of_arguments + 1)
+        × (list_all shape_fits f.arguments.items ≡ true) };
 }
 
 /// The return code of a reply.
@@ -97,7 +106,9 @@ impl Form {
     /// What the data of each argument of the body look like, in order. In a reply the return code
     /// is the first.
     pub fn arguments(&self) -> &[Shape]
-        ensures { result.now ≡ self.now.arguments }
+        ensures shown { result.now ≡ self.now.arguments }
+        ensures few { length result.now ≤ limit_of_arguments + 1 }
+        ensures kept { IsTrue (list_all shape_fits result.now) }
     {
         self.arguments.as_slice()
     }
@@ -127,6 +138,8 @@ impl Form {
 
     /// Puts an argument behind the others.
     fn push(&mut self, alloc: Global, argument: &Argument) -> Result<(), AllocError>
+        requires room { length self.old.arguments ≤ limit_of_arguments }
+        requires fits { IsTrue (shape_fits argument.now.shape) }
         ensures { OnOk result (self.new ≡ record self.old {
           arguments = self.old.arguments ++ argument.now.shape ∷ [];
           slots = self.old.slots ++ slot_of_item (length self.old.arguments) (item_of argument.now);
@@ -150,6 +163,7 @@ impl Form {
         kind: FormKind,
         arguments: &[Argument],
     ) -> Result<Form, AllocError>
+        requires { IsTrue (items_fit (map item_of arguments.now)) }
         ensures { IfOk result (λ form. form ≡ form_of id kind (map item_of arguments.now)) }
     {
         let mut form = Form::empty(alloc, id, kind)?;

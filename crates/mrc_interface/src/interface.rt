@@ -1,13 +1,15 @@
 //! The forms of a subsystem's messages by their ids.
 
-ghost use Rattle.std.specs.Prelude.{◌≡◌, ◌≤◌, length, map, None, IfOk, IfSome};
+ghost use Rattle.std.specs.Prelude.{◌≡◌, ◌≤◌, length, map, None, IfOk, IfSome, IsTrue};
+ghost use Rattle.std.specs.List.{list_all};
+ghost use Rattle.mrc_mig_parse.specs.Bounds.{items_fit, row_fits};
 ghost use Rattle.std.specs.Option.{option_map};
 ghost use Rattle.mrc_base.specs.Limits.{limit_of_ids};
 ghost use Rattle.mrc_base.specs.Reading.{Gives};
 ghost use Rattle.mrc_mig_parse.specs.Files.{Routine};
 ghost use Rattle.mrc_mig_parse.specs.Meanings.{item_of, row_of as statement_of};
 ghost use Rattle.mrc_interface.specs.Tables.{row_at, rows_at, table_of};
-ghost use Rattle.mrc_interface.specs.Tables.{request_form, reply_form};
+ghost use Rattle.mrc_interface.specs.Tables.{request_form, reply_form, request_at, reply_at};
 ghost use Rattle.mrc_interface.specs.View.{GivesOrReturns};
 
 use crate::fault::InterfaceFault;
@@ -66,6 +68,7 @@ fn routine_row(
     id: u32,
     arguments: &[Argument],
 ) -> Result<Row, OrMemory<InterfaceFault>>
+    requires { IsTrue (items_fit (map item_of arguments.now)) }
     ensures { Gives (λ row. row) result (row_at id (Routine (map item_of arguments.now))) }
 {
     if id > limits::NUMBER - REPLY {
@@ -80,6 +83,7 @@ fn routine_row(
 
 /// The row of what takes this id.
 fn row_at(alloc: Global, id: u32, entry: &Entry) -> Result<Row, OrMemory<InterfaceFault>>
+    requires { IsTrue (row_fits (statement_of entry.now)) }
     ensures { Gives (λ row. row) result (row_at id (statement_of entry.now)) }
 {
     if id > limits::NUMBER {
@@ -107,6 +111,7 @@ fn rows_at(
     first: u32,
     entries: &[Entry],
 ) -> Result<Vec<Row>, OrMemory<InterfaceFault>>
+    requires { IsTrue (list_all row_fits (map statement_of entries.now)) }
     ensures fault { Gives (λ rows. rows.items) result
         (rows_at first (map statement_of entries.now)) }
     ensures count { IfOk result (λ rows. length rows.items ≡ length entries.now) }
@@ -161,6 +166,22 @@ impl Interface {
         ensures within { result.1 ≤ limit_of_ids }
     {
         (self.base, self.rows.len())
+    }
+
+    /// The form of the request that has the id of this place among the ids, counted from 0.
+    pub fn request_at(&self, place: usize) -> Option<&Form>
+        ensures { option_map (λ form. form.now) result ≡ request_at self.now place }
+    {
+        let row = self.rows.get(place)?;
+        row.request.as_ref()
+    }
+
+    /// The form of the reply to the request that has the id of this place.
+    pub fn reply_at(&self, place: usize) -> Option<&Form>
+        ensures { option_map (λ form. form.now) result ≡ reply_at self.now place }
+    {
+        let row = self.rows.get(place)?;
+        row.reply.as_ref()
     }
 
     /// The form of the request that has this id. No id is that of a request and of a reply.

@@ -2,15 +2,12 @@
 use Rattle.std.proofs.Common.{◌≡◌, ℕ, ◌+◌, ◌<◌, ◌≤◌, true, false, List, [], ◌∷◌, ◌++◌, length, map}
 use Rattle.std.proofs.Common.{drop, get_or, Option, None, Some, Bool, cond, Bor, refl, ap, sym, ◌∙◌}
 use Rattle.std.proofs.Common.{add-one, drop-cons, arith}
-use Rattle.std.specs.Str.{bytes_eq}
 use Rattle.std.proofs.lemmas.List.{drop_all}
 use Rattle.mrc_mig_lex.specs.Tokens.{Lexeme}
 use Rattle.mrc_mig_parse.specs.declared.subsystem.Shape.{Shape}
-use Rattle.mrc_mig_symbols.specs.Tables.{plain, entry_of}
 use Rattle.mrc_mig_symbols.specs.Symbols.{◌>>=◌, first_of, tail_of}
 use Rattle.mrc_mig_parse.specs.Files.{after_sides, is_side, one, is_declared, declared_with}
 use Rattle.mrc_mig_parse.specs.Files.{declared_with_all}
-use Rattle.indexmap.specs.IndexMap.{insert_entry}
 
 -- one word further
 pub sides_go_on : (tokens : List Lexeme) → is_side (first_of tokens) ≡ true
@@ -51,26 +48,6 @@ pub declares_no_more : (types : List (List ℕ × Shape)) (table : List (Bor (Li
     → length table ≤ i → declared_with_all types (map row_of (drop i table)) ≡ Some types
 unfolding declared_with_all
 declares_no_more types table i le = rw (drop_all i table le) refl
-
-new_or_not : {X : Type 0} (b : Bool) (x : X) (o : Option X) (P : Bool → Type 0)
-    → cond b (Some x) o ≡ None → ((o ≡ None) → P false) → P b
-new_or_not true x o P h p = absurd cc
-new_or_not false x o P h p = p h
-
--- a name that a map lacks goes last
-pub inserts_last : {X : Type 0} (entries : List (Bor (List ℕ) × X)) (name : Bor (List ℕ)) (x : X)
-    → entry_of (plain entries) name.now ≡ None
-    → plain (insert_entry (λ a b. bytes_eq a.now b.now) entries name x) ≡ plain entries
-    ++ (name.now, x) ∷ []
-unfolding entry_of
-inserts_last [] name x h = refl
-inserts_last {X} (e ∷ es) name x h =
-    let P : Bool → Type 0 =
-    λ b. plain (cond b ((e.0, x) ∷ es)
-    (e ∷ insert_entry (λ a b. bytes_eq a.now b.now) es name x)) ≡ plain (e ∷ es)
-    ++ (name.now, x) ∷ [] in
-    new_or_not (bytes_eq name.now e.0.now) e.1 (entry_of (plain es) name.now) P h
-    (λ g. ap (λ (r : List (List ℕ × X)). (e.0.now, e.1) ∷ r) (inserts_last es name x g))
 
 -- a type that is not yet declared, and those behind it
 pub declares_on : (types more : List (List ℕ × Shape)) (table : List (Bor (List ℕ) × ℕ × ℕ)) (i : ℕ)

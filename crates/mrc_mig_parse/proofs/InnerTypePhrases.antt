@@ -18,7 +18,7 @@ use Rattle.mrc_mig_symbols.specs.ExpressionGrammar.{goes_on}
 use Rattle.mrc_mig_parse.specs.declared.subsystem.Shape.{Shape}
 use Rattle.mrc_mig_parse.specs.declared.types.Around.{Around}
 use Rattle.mrc_mig_parse.specs.declared.types.Use.{Use}
-use Rattle.mrc_mig_parse.specs.Types.{fits_use, items, is_layer, is_flag, flag_follows, is_bar}
+use Rattle.mrc_mig_parse.specs.Types.{fits_use, items, is_layer, flag_follows, is_bar}
 use Rattle.mrc_mig_parse.specs.Types.{basic_item, size_fits, size_at, basic_by, basic_at, sized_at}
 use Rattle.mrc_mig_parse.specs.Types.{plain_by, declared_by, declared_at, named_by, named_at}
 use Rattle.mrc_mig_parse.specs.Types.{string_at, shape_by}
@@ -27,7 +27,7 @@ use Rattle.mrc_mig_parse.specs.Grammar.{declared}
 use Rattle.mrc_mig_parse.proofs.PhraseLemmas.{in_two, goes_to, behind_guard, guarded, where_true}
 use Rattle.mrc_mig_parse.proofs.PhraseLemmas.{Front, front, first_is, tail_is, text_is}
 use Rattle.mrc_mig_parse.proofs.PhraseLemmas.{after_sign_is, after_sign_read}
-use Rattle.mrc_mig_parse.proofs.DimensionPhrases.{begins_operand, begins_expression, expression_is}
+use Rattle.mrc_mig_parse.proofs.DimensionPhrases.{expression_is}
 use Rattle.mrc_mig_parse.proofs.DimensionPhrases.{expression_read, variable_dimension_is}
 use Rattle.mrc_mig_parse.proofs.DimensionPhrases.{variable_dimension_read}
 
@@ -139,8 +139,7 @@ unfolding sized_at
 sized_steps wanted tokens number size rest e =
     option_and_then_some _ _ _ e (λ type named numbering.
     option_and_then_some _ _ _ numbering (λ numbers numbered barring.
-    let (no_bar, flagging) = behind_guard (not (is_bar (first_of (tail_of tokens)))) _ _ barring in
-    let (no_flag, separating) = behind_guard (not (flag_follows (tail_of tokens))) _ _ flagging in
+    let (no_bar, separating) = behind_guard (not (is_bar (first_of (tail_of tokens)))) _ _ barring in
     option_and_then_some _ _ _ separating (λ before separated sizing.
     option_and_then_some _ _ _ sizing (λ read sizes flagging_more.
     let (no_more_flag, closing) = behind_guard (not (flag_follows read.1)) _ _ flagging_more in
@@ -224,19 +223,6 @@ pub inner_type_is : (types : List (List ℕ × Shape)) (wanted : Use) (around : 
 inner_type_is types wanted around tokens shape rest e = inner_is_by (first_of tokens) types wanted
     around tokens shape rest refl e
 
-no_flag_symbol : (symbol : Symbol) → begins_operand symbol ≡ true → is_flag symbol ≡ false
-no_flag_symbol (Word words.Flag) e = absurd cc
-no_flag_symbol (Word words.Dealloc) e = absurd cc
-no_flag_symbol _ e = refl
-
--- a comma and an expression are no flag
-no_flag_at_comma : (comma : Lexeme) (tokens : List Lexeme) (read : ℕ × List Lexeme)
-    → Is (Sign Comma) comma → expression_at tokens ≡ Some read
-    → flag_follows (comma ∷ tokens) ≡ false
-unfolding flag_follows
-no_flag_at_comma comma tokens read is e = rw (first_is tokens is, tail_is comma tokens)
-    (no_flag_symbol (first_of tokens) (begins_expression tokens read e))
-
 no_flag_at_closing : (closes : Lexeme) (tokens : List Lexeme) → Is (Sign CloseParenthesis) closes
     → flag_follows (closes ∷ tokens) ≡ false
 unfolding flag_follows
@@ -269,12 +255,7 @@ sized_read wanted name comma closes expression type number usual size rest namin
     let is_comma = first_is inside separates in
     rw (first_is (comma ∷ inside) naming, text_is name (comma ∷ inside), found)
     (goes_to _ numbered
-    ∙ rw (
-      tail_is name (comma ∷ inside),
-      is_comma,
-      no_flag_at_comma comma inside
-          (size, closes ∷ rest) separates read,
-    )
+    ∙ rw (tail_is name (comma ∷ inside), is_comma)
     (goes_to _ (after_sign_read inside separates)
     ∙ goes_to _ (size_read number inside size (closes ∷ rest) read fits)
     ∙ rw (no_flag_at_closing closes rest closing) (goes_to _ (after_sign_read rest closing))))

@@ -16,4 +16,6 @@ pub mod StatementReadings
 pub mod StatementListPhrases
 pub mod FilePhrases
 pub mod FewIds
+pub mod FitLemmas
+pub mod PlaceLemmas
 pub mod ParseLaws

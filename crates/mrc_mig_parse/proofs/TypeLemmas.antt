@@ -1,24 +1,14 @@
--- Types that are looked up, and brackets with nothing in them.
-use Rattle.std.proofs.Common.{◌≡◌, true, List, [], ◌∷◌, None, Bor, ℕ, refl}
-use Rattle.std.specs.Str.{bytes_eq}
-use Rattle.std.specs.Map.{lookup}
+-- Brackets with nothing in them.
+use Rattle.std.proofs.Common.{◌≡◌, true, List, [], ◌∷◌, None, refl}
 use Rattle.mrc_mig_lex.specs.Tokens.{Lexeme}
 use Rattle.mrc_mig_lex.specs.declared.token.Sign.TheVariants as signs
 use Rattle.mrc_mig_symbols.specs.declared.symbol.Symbol.{Symbol}
 use Rattle.mrc_mig_symbols.specs.declared.symbol.Symbol.TheVariants as symbols
 use Rattle.mrc_mig_parse.specs.declared.types.Around.{Around}
-use Rattle.mrc_mig_symbols.specs.Tables.{plain, entry_of}
 use Rattle.mrc_mig_symbols.specs.Symbols.{first_of, tail_of, after_sign}
 use Rattle.mrc_mig_symbols.specs.Expressions.{value_from, expression_at, ends, step}
 use Rattle.mrc_mig_parse.specs.Types.{is_empty_brackets, dimension_at, variable_dimension_at}
 use Rattle.mrc_mig_parse.specs.Types.{array_at}
-
--- what a map has under a text is what the table of its names has
-pub entry_of-plain : {X : Type 0} (entries : List (Bor (List ℕ) × X)) (bytes : List ℕ)
-    → entry_of (plain entries) bytes ≡ lookup (λ k. bytes_eq bytes k.now) entries
-unfolding entry_of
-entry_of-plain [] bytes = refl
-entry_of-plain (e ∷ es) bytes = rw (entry_of-plain es bytes) refl
 
 brackets : (s t : Symbol) → is_empty_brackets s t ≡ true → (s ≡ symbols.Sign signs.OpenBracket)
     × (t ≡ symbols.Sign signs.CloseBracket)

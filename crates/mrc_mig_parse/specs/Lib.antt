@@ -1,6 +1,9 @@
 pub mod Types
+pub mod Places
 pub mod Arguments
 pub mod Files
+pub mod Bounds
+pub mod Stops
 pub mod Grammar
 pub mod Meanings
 pub mod Readers

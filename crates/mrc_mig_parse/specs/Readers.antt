@@ -3,7 +3,6 @@ use Rattle.std.specs.Prelude.{map}
 use Rattle.mrc_mig_parse.specs.declared.arguments.Written.{Written}
 use Rattle.mrc_mig_parse.specs.declared.file.File.{File}
 use Rattle.mrc_mig_parse.specs.Arguments.{Parameter}
-use Rattle.mrc_mig_symbols.specs.Tables.{plain}
 use Rattle.mrc_mig_parse.specs.Files.{State}
 use Rattle.mrc_mig_parse.specs.Meanings.{row_of}
 
@@ -19,7 +18,7 @@ parameter_of w = record {
 -- what the statements so far have declared
 abbrev pub state_of : File → State
 state_of file = record {
-  types = plain file.types.entries;
+  types = file.types;
   has_table = file.has_table;
   routines =
       map (λ name. name.now) file.routines.items;

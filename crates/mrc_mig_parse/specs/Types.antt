@@ -172,7 +172,6 @@ sized_at wanted tokens = do
   type ← basic_at tokens
   item ← basic_item type wanted
   _ ← guard (not (is_bar (first_of (tail_of tokens))))
-  _ ← guard (not (flag_follows (tail_of tokens)))
   before ← after_sign signs.Comma (tail_of tokens)
   size ← size_at item.0 before
   _ ← guard (not (flag_follows size.1))

@@ -4,7 +4,6 @@ ghost use Rattle.std.specs.Prelude.{IfOk};
 ghost use Rattle.std.specs.List.{list_all};
 ghost use Rattle.std.specs.Option.{option_map};
 ghost use Rattle.mrc_mig_symbols.specs.Symbols.{Means, MeansOrMemory, many, left};
-ghost use Rattle.mrc_mig_symbols.specs.Tables.{plain};
 ghost use Rattle.mrc_mig_parse.specs.Arguments.{Parameter, is_reply_port, is_marked, is_in, use_of};
 ghost use Rattle.mrc_mig_parse.specs.Arguments.{is_of_port_type, has_reply_port, has_name};
 ghost use Rattle.mrc_mig_parse.specs.Arguments.{direction_at, argument_name_at, argument_type_at};
@@ -13,13 +12,18 @@ ghost use Rattle.mrc_mig_parse.specs.Arguments.{next_argument, some_arguments_at
 ghost use Rattle.mrc_mig_parse.specs.Arguments.{as_written, items_of, unmarked_items};
 ghost use Rattle.mrc_mig_parse.specs.Meanings.{item_of};
 ghost use Rattle.mrc_mig_parse.specs.Readers.{parameter_of};
+ghost use Rattle.mrc_mig_parse.specs.Stops.{argument_name_stop, argument_stop, argument_type_stop};
+ghost use Rattle.mrc_mig_parse.specs.Stops.{arguments_stop, direction_stop, known_type_stop};
+ghost use Rattle.mrc_mig_parse.specs.Stops.{more_arguments_stop, own_type_stop};
+ghost use Rattle.mrc_mig_symbols.specs.Symbols.{StopsAt, StopsAtOrMemory};
 
 use crate::options::options;
 use crate::subsystem::{Argument, Shape};
-use crate::types::{Types, Use, declared, no_flag, shape};
+use crate::table::Types;
+use crate::types::{Use, declared, no_flag, shape};
 use mrc_base::{OrMemory, is_port_number, limits};
 use mrc_mig_lex::Sign;
-use mrc_mig_symbols::{Direction, Feature, ParseFault, Rest, Symbol, Word, name, sign};
+use mrc_mig_symbols::{Direction, Feature, Rest, Stop, Symbol, Why, Word, name, sign, stop_at};
 use std::alloc::{AllocError, Global};
 
 /// An argument as it is written.
@@ -60,64 +64,69 @@ fn has_name(name: &str, seen: &[Written<'_>]) -> bool
 }
 
 /// Reads the word in front of an argument, behind those that were seen.
-#[tactic(auto, unfolding(crate::specs::Arguments::direction_at))]
+#[tactic(auto, unfolding(crate::specs::Stops::direction_stop, crate::specs::Arguments::direction_at))]
 fn direction<'t>(
     seen: &[Written<'t>],
     is_simple: bool,
     rest: Rest<'t>,
-) -> Result<(Option<Direction>, Rest<'t>), ParseFault>
-    ensures { Means (λ x. (x.0, left x.1)) result
+) -> Result<(Option<Direction>, Rest<'t>), Stop>
+    ensures exact { Means (λ x. (x.0, left x.1)) result
         (direction_at (map parameter_of seen.now) is_simple (left rest.entry)) }
+    ensures fault { StopsAt result
+        (direction_stop (map parameter_of seen.now) is_simple (left rest.entry)) }
 {
     let Symbol::Word(Word::Direction(direction)) = rest.first() else {
         return Ok((None, rest));
     };
     if is_reply_port(Some(direction)) && (is_simple || has_reply_port(seen)) {
-        return Err(ParseFault::LeftOut(rest.at(), Feature::ReplyPort));
+        return Err(rest.stop(Why::LeftOut(Feature::ReplyPort)));
     }
     if seen.len() >= limits::ARGUMENTS {
-        return Err(ParseFault::TooMany(rest.at()));
+        return Err(rest.stop(Why::TooMany));
     }
     Ok((Some(direction), rest.next()))
 }
 
 /// Reads an argument's name.
-#[tactic(auto, unfolding(crate::specs::Arguments::argument_name_at, mrc_mig_symbols::specs::Symbols::name_at))]
+#[tactic(auto, unfolding(crate::specs::Stops::argument_name_stop, crate::specs::Arguments::argument_name_at, mrc_mig_symbols::specs::Symbols::name_at))]
 fn argument_name<'t>(
     seen: &[Written<'t>],
     direction: Option<Direction>,
     rest: Rest<'t>,
-) -> Result<(&'t str, Rest<'t>), ParseFault>
-    ensures { Means (λ x. (x.0.now, left x.1)) result
+) -> Result<(&'t str, Rest<'t>), Stop>
+    ensures exact { Means (λ x. (x.0.now, left x.1)) result
         (argument_name_at (map parameter_of seen.now) (left rest.entry)) }
+    ensures fault { StopsAt result
+        (argument_name_stop (map parameter_of seen.now) direction (left rest.entry)) }
 {
-    let at = rest.at();
+    let at = rest.len();
     match (direction, rest.first()) {
         (None, Symbol::Word(Word::Wait | Word::PortOption)) => {
-            return Err(ParseFault::LeftOut(at, Feature::Option));
+            return Err(stop_at(Why::LeftOut(Feature::Option), at));
         }
         _ => {}
     }
     let (name, rest) = name(rest)?;
     if has_name(name, seen) {
-        return Err(ParseFault::TwiceNamed(at));
+        return Err(stop_at(Why::TwiceNamed, at));
     }
     if seen.len() >= limits::ARGUMENTS {
-        return Err(ParseFault::TooMany(at));
+        return Err(stop_at(Why::TooMany, at));
     }
     Ok((name, rest))
 }
 
 /// Reads a name, `=` and a type.
-#[tactic(auto, unfolding(crate::specs::Arguments::own_type_at))]
+#[tactic(auto, unfolding(crate::specs::Stops::own_type_stop, crate::specs::Arguments::own_type_at))]
 fn own_type<'t>(
     alloc: Global,
     types: &Types<'t>,
     wanted: Use,
     rest: Rest<'t>,
-) -> Result<(&'t str, Shape, Rest<'t>), OrMemory<ParseFault>>
-    ensures { MeansOrMemory (λ x. ((x.0.now, x.1), left x.2)) result
-        (own_type_at (plain types.now.entries) wanted (left rest.entry)) }
+) -> Result<(&'t str, Shape, Rest<'t>), OrMemory<Stop>>
+    ensures exact { MeansOrMemory (λ x. ((x.0.now, x.1), left x.2)) result
+        (own_type_at types.now wanted (left rest.entry)) }
+    ensures fault { StopsAtOrMemory result (own_type_stop types.now wanted (left rest.entry)) }
 {
     let (type_name, rest) = name(rest)?;
     let (shape, rest) = shape(alloc, types, wanted, rest.next())?;
@@ -125,14 +134,15 @@ fn own_type<'t>(
 }
 
 /// Reads the name of a declared type.
-#[tactic(auto, unfolding(crate::specs::Arguments::known_type_at))]
+#[tactic(auto, unfolding(crate::specs::Stops::known_type_stop, crate::specs::Arguments::known_type_at))]
 fn known_type<'t>(
     types: &Types<'t>,
     wanted: Use,
     rest: Rest<'t>,
-) -> Result<(&'t str, Shape, Rest<'t>), ParseFault>
-    ensures { Means (λ x. ((x.0.now, x.1), left x.2)) result
-        (known_type_at (plain types.now.entries) wanted (left rest.entry)) }
+) -> Result<(&'t str, Shape, Rest<'t>), Stop>
+    ensures exact { Means (λ x. ((x.0.now, x.1), left x.2)) result
+        (known_type_at types.now wanted (left rest.entry)) }
+    ensures fault { StopsAt result (known_type_stop types.now wanted (left rest.entry)) }
 {
     let type_name = rest.text();
     let (shape, rest) = declared(types, wanted, rest)?;
@@ -141,21 +151,23 @@ fn known_type<'t>(
 }
 
 /// Reads an argument's type, which is declared or follows a `=`.
-#[tactic(auto, unfolding(crate::specs::Arguments::argument_type_at))]
+#[tactic(auto, unfolding(crate::specs::Stops::argument_type_stop, crate::specs::Arguments::argument_type_at))]
 fn argument_type<'t>(
     alloc: Global,
     types: &Types<'t>,
     wanted: Use,
     rest: Rest<'t>,
-) -> Result<(&'t str, Shape, Rest<'t>), OrMemory<ParseFault>>
-    ensures { MeansOrMemory (λ x. ((x.0.now, x.1), left x.2)) result
-        (argument_type_at (plain types.now.entries) wanted (left rest.entry)) }
+) -> Result<(&'t str, Shape, Rest<'t>), OrMemory<Stop>>
+    ensures exact { MeansOrMemory (λ x. ((x.0.now, x.1), left x.2)) result
+        (argument_type_at types.now wanted (left rest.entry)) }
+    ensures fault { StopsAtOrMemory result
+        (argument_type_stop types.now wanted (left rest.entry)) }
 {
     match (rest.first(), rest.next().first()) {
         (Symbol::Name, Symbol::Sign(Sign::Equals)) => own_type(alloc, types, wanted, rest),
         (Symbol::Name, _) => Ok(known_type(types, wanted, rest)?),
         (Symbol::Word(Word::Polymorphic), _) => {
-            Err(OrMemory::Fault(ParseFault::LeftOut(rest.at(), Feature::Polymorphic)))
+            Err(OrMemory::Fault(rest.stop(Why::LeftOut(Feature::Polymorphic))))
         }
         _ => Err(OrMemory::Fault(rest.unexpected())),
     }
@@ -171,17 +183,19 @@ fn use_of(direction: Option<Direction>) -> Use
 }
 
 /// Reads an argument and puts it behind those that were seen.
-#[tactic(auto, unfolding(crate::specs::Arguments::argument_at))]
+#[tactic(auto, unfolding(crate::specs::Stops::argument_stop, crate::specs::Arguments::argument_at))]
 fn argument<'t>(
     alloc: Global,
     types: &Types<'t>,
     is_simple: bool,
     seen: &mut Vec<Written<'t>>,
     rest: Rest<'t>,
-) -> Result<Rest<'t>, OrMemory<ParseFault>>
-    ensures { MeansOrMemory (λ x. (map parameter_of seen.new.items, left x)) result
-        (argument_at (plain types.now.entries) is_simple (map parameter_of seen.old.items)
+) -> Result<Rest<'t>, OrMemory<Stop>>
+    ensures exact { MeansOrMemory (λ x. (map parameter_of seen.new.items, left x)) result
+        (argument_at types.now is_simple (map parameter_of seen.old.items)
         (left rest.entry)) }
+    ensures fault { StopsAtOrMemory result
+        (argument_stop types.now is_simple (map parameter_of seen.old.items) (left rest.entry)) }
 {
     let (direction, rest) = direction(seen.as_slice(), is_simple, rest)?;
     let (name, rest) = argument_name(seen.as_slice(), direction, rest)?;
@@ -205,17 +219,19 @@ fn goes_on(rest: Rest<'_>) -> bool
 }
 
 /// Reads the arguments behind the first.
-#[tactic(auto, using(mrc_mig_symbols::proofs::LoopLemmas::many_ends, mrc_mig_symbols::proofs::LoopLemmas::many_goes_on, mrc_mig_symbols::proofs::LoopLemmas::many_done), unfolding(crate::specs::Arguments::next_argument))]
+#[tactic(auto, using(mrc_mig_symbols::proofs::LoopLemmas::many_ends, mrc_mig_symbols::proofs::LoopLemmas::many_goes_on, mrc_mig_symbols::proofs::LoopLemmas::many_stops_on, mrc_mig_symbols::proofs::LoopLemmas::many_done), unfolding(crate::specs::Stops::next_argument_stop, crate::specs::Arguments::next_argument))]
 fn more_arguments<'t>(
     alloc: Global,
     types: &Types<'t>,
     is_simple: bool,
     seen: &mut Vec<Written<'t>>,
     rest: Rest<'t>,
-) -> Result<Rest<'t>, OrMemory<ParseFault>>
-    ensures { MeansOrMemory (λ x. (map parameter_of seen.new.items, left x)) result
-        (many goes_on (next_argument (plain types.now.entries) is_simple)
+) -> Result<Rest<'t>, OrMemory<Stop>>
+    ensures exact { MeansOrMemory (λ x. (map parameter_of seen.new.items, left x)) result
+        (many goes_on (next_argument types.now is_simple)
         (length (left rest.entry)) (map parameter_of seen.old.items, left rest.entry)) }
+    ensures fault { StopsAtOrMemory result
+        (more_arguments_stop types.now is_simple (map parameter_of seen.old.items) (left rest.entry)) }
 {
     let mut rest = rest;
     let count = rest.tokens.len();
@@ -229,15 +245,17 @@ fn more_arguments<'t>(
 }
 
 /// Reads the first argument and those behind it.
-#[tactic(auto, unfolding(crate::specs::Arguments::some_arguments_at))]
+#[tactic(auto, unfolding(crate::specs::Stops::arguments_stop, crate::specs::Arguments::some_arguments_at))]
 fn some_arguments<'t>(
     alloc: Global,
     types: &Types<'t>,
     is_simple: bool,
     rest: Rest<'t>,
-) -> Result<(Vec<Written<'t>>, Rest<'t>), OrMemory<ParseFault>>
-    ensures { MeansOrMemory (λ x. (map parameter_of x.0.items, left x.1)) result
-        (some_arguments_at (plain types.now.entries) is_simple (left rest.entry)) }
+) -> Result<(Vec<Written<'t>>, Rest<'t>), OrMemory<Stop>>
+    ensures exact { MeansOrMemory (λ x. (map parameter_of x.0.items, left x.1)) result
+        (some_arguments_at types.now is_simple (left rest.entry)) }
+    ensures fault { StopsAtOrMemory result
+        (arguments_stop types.now is_simple (left rest.entry)) }
 {
     let mut seen = Vec::new(alloc);
     let rest = argument(alloc, types, is_simple, &mut seen, rest)?;
@@ -252,9 +270,11 @@ pub fn arguments<'t>(
     types: &Types<'t>,
     is_simple: bool,
     rest: Rest<'t>,
-) -> Result<(Vec<Written<'t>>, Rest<'t>), OrMemory<ParseFault>>
-    ensures { MeansOrMemory (λ x. (map parameter_of x.0.items, left x.1)) result
-        (arguments_at (plain types.now.entries) is_simple (left rest.entry)) }
+) -> Result<(Vec<Written<'t>>, Rest<'t>), OrMemory<Stop>>
+    ensures exact { MeansOrMemory (λ x. (map parameter_of x.0.items, left x.1)) result
+        (arguments_at types.now is_simple (left rest.entry)) }
+    ensures fault { StopsAtOrMemory result
+        (arguments_stop types.now is_simple (left rest.entry)) }
 {
     match rest.first() {
         Symbol::Sign(Sign::CloseParenthesis) => Ok((Vec::new(alloc), rest)),

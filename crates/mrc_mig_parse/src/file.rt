@@ -1,7 +1,8 @@
 //! The statements of a file.
 ghost use Rattle.std.specs.Prelude.{◌≡◌, ◌++◌, [], ◌∷◌, None, Some, map, length, IfOk, OnOk};
+ghost use Rattle.mrc_base.specs.Reading.{Gives};
+ghost use Rattle.mrc_mig_parse.specs.Stops.{meaning_or_fault};
 ghost use Rattle.mrc_mig_symbols.specs.Symbols.{Means, MeansOrMemory, many, left};
-ghost use Rattle.mrc_mig_symbols.specs.Tables.{plain, entry_of};
 ghost use Rattle.mrc_mig_parse.specs.Grammar.{IsFile};
 ghost use Rattle.mrc_mig_parse.specs.Files.{State, Meaning, one, table, is_declared};
 ghost use Rattle.mrc_mig_parse.specs.Files.{declared_with_all, include_by, directive_by};
@@ -12,15 +13,23 @@ ghost use Rattle.mrc_mig_parse.specs.Files.{has_more, import_at, rcsid_at, prefi
 ghost use Rattle.mrc_mig_parse.specs.Files.{statements_at, meaning_of};
 ghost use Rattle.mrc_mig_parse.specs.Meanings.{item_of};
 ghost use Rattle.mrc_mig_parse.specs.Readers.{state_of};
+ghost use Rattle.mrc_mig_parse.specs.Stops.{declaration_stop, directive_stop, each_statement_stop};
+ghost use Rattle.mrc_mig_parse.specs.Stops.{file_stop, heading_stop, import_stop, line_stop};
+ghost use Rattle.mrc_mig_parse.specs.Stops.{lines_stop, named_number_stop, prefix_stop, rcsid_stop};
+ghost use Rattle.mrc_mig_parse.specs.Stops.{routine_stop, row_stop, row_stop_by, statement_stop};
+ghost use Rattle.mrc_mig_parse.specs.Stops.{statements_stop, twice_named, worded_stop};
+ghost use Rattle.mrc_mig_symbols.specs.Symbols.{StopsAt, StopsAtOrMemory, unexpected};
 
 use crate::arguments::{arguments, resolved};
 use crate::options::options;
 use crate::subsystem::{Argument, Entry, Shape, Subsystem};
-use crate::types::{Types, Use, shape, type_of};
-use indexmap::IndexMap;
+use crate::table::Types;
+use crate::types::{Use, shape};
 use mrc_base::{OrMemory, limits};
 use mrc_mig_lex::{Sign, Token};
-use mrc_mig_symbols::{Directive, Feature, ParseFault, Rest, Symbol, Word, name, sign};
+use mrc_mig_symbols::{
+    Directive, Feature, ParseFault, Rest, Stop, Symbol, Why, Word, fault_of, name, sign, stop_at,
+};
 use std::alloc::{AllocError, Global};
 
 /// The types that the include line declares: names, type numbers and bits.
@@ -53,19 +62,9 @@ struct File<'t> {
 }
 
 fn is_declared(name: &str, types: &Types<'_>) -> bool
-    ensures { result ≡ is_declared name.now (plain types.now.entries) }
+    ensures { result ≡ is_declared name.now types.now }
 {
-    type_of(types, name).is_some()
-}
-
-/// Declares a type whose name no type has.
-fn declare<'t>(types: &mut Types<'t>, name: &'t str, shape: Shape) -> Result<(), AllocError>
-    requires { entry_of (plain types.old.entries) name.now ≡ None }
-    ensures { OnOk result (plain types.new.entries ≡
-        plain types.old.entries ++ (name.now, shape) ∷ []) }
-{
-    types.insert(name, shape)?;
-    Ok(())
+    types.get(name).is_some()
 }
 
 /// Declares each of these types, which the line at `at` stands for.
@@ -74,10 +73,11 @@ fn declare_each<'t>(
     types: &mut Types<'t>,
     table: &[(&'t str, u16, u16)],
     at: usize,
-) -> Result<(), OrMemory<ParseFault>>
-    ensures { MeansOrMemory (λ _. plain types.new.entries) result
-        (declared_with_all (plain types.old.entries)
+) -> Result<(), OrMemory<Stop>>
+    ensures exact { MeansOrMemory (λ _. types.new) result
+        (declared_with_all types.old
         (map (λ entry. (entry.0.now, one entry.1 entry.2)) table.now)) }
+    ensures fault { StopsAtOrMemory result (twice_named at) }
 {
     for (name, type_number, size) in table {
         let shape = Shape {
@@ -87,25 +87,27 @@ fn declare_each<'t>(
             is_bound: false,
         };
         if is_declared(name, types) {
-            return Err(OrMemory::Fault(ParseFault::TwiceNamed(at)));
+            return Err(OrMemory::Fault(stop_at(Why::TwiceNamed, at)));
         }
-        declare(types, name, shape)?;
+        types.declare(name, shape)?;
     }
     Ok(())
 }
 
 /// Declares the types of the include line, which is at `at`.
-fn declare_table(types: &mut Types<'_>, at: usize) -> Result<(), OrMemory<ParseFault>>
-    ensures { MeansOrMemory (λ _. plain types.new.entries) result
-        (declared_with_all (plain types.old.entries) table) }
+fn declare_table(types: &mut Types<'_>, at: usize) -> Result<(), OrMemory<Stop>>
+    ensures exact { MeansOrMemory (λ _. types.new) result
+        (declared_with_all types.old table) }
+    ensures fault { StopsAtOrMemory result (twice_named at) }
 {
     declare_each(types, &TABLE, at)
 }
 
 /// Reads the include line, which is at `at`.
-fn include(file: &mut File<'_>, at: usize) -> Result<(), OrMemory<ParseFault>>
-    ensures { MeansOrMemory (λ _. state_of file.new) result
+fn include(file: &mut File<'_>, at: usize) -> Result<(), OrMemory<Stop>>
+    ensures exact { MeansOrMemory (λ _. state_of file.new) result
         (include_by (state_of file.old).has_table (state_of file.old)) }
+    ensures fault { StopsAtOrMemory result (twice_named at) }
 {
     if file.has_table {
         return Ok(());
@@ -116,18 +118,15 @@ fn include(file: &mut File<'_>, at: usize) -> Result<(), OrMemory<ParseFault>>
 }
 
 /// Reads a line of the preprocessor, which is at `at`.
-fn directive(
-    file: &mut File<'_>,
-    directive: Directive,
-    at: usize,
-) -> Result<(), OrMemory<ParseFault>>
-    ensures { MeansOrMemory (λ _. state_of file.new) result
+fn directive(file: &mut File<'_>, directive: Directive, at: usize) -> Result<(), OrMemory<Stop>>
+    ensures exact { MeansOrMemory (λ _. state_of file.new) result
         (directive_by directive (state_of file.old)) }
+    ensures fault { StopsAtOrMemory result (directive_stop directive at) }
 {
     match directive {
         Directive::Marker => Ok(()),
         Directive::Include => include(file, at),
-        Directive::Other => Err(OrMemory::Fault(ParseFault::LeftOut(at, Feature::Preprocessor))),
+        Directive::Other => Err(OrMemory::Fault(stop_at(Why::LeftOut(Feature::Preprocessor), at))),
     }
 }
 
@@ -140,23 +139,25 @@ fn begins_line(rest: Rest<'_>) -> bool
 }
 
 /// Reads a line of the preprocessor.
-#[tactic(auto, unfolding(crate::specs::Files::line_at))]
-fn line<'t>(file: &mut File<'t>, rest: Rest<'t>) -> Result<Rest<'t>, OrMemory<ParseFault>>
-    ensures { MeansOrMemory (λ x. (state_of file.new, left x)) result
+#[tactic(auto, unfolding(crate::specs::Stops::line_stop, crate::specs::Files::line_at))]
+fn line<'t>(file: &mut File<'t>, rest: Rest<'t>) -> Result<Rest<'t>, OrMemory<Stop>>
+    ensures exact { MeansOrMemory (λ x. (state_of file.new, left x)) result
         (line_at (state_of file.old, left rest.entry)) }
+    ensures fault { StopsAtOrMemory result (line_stop (state_of file.old, left rest.entry)) }
 {
     let Symbol::Directive(line) = rest.first() else {
         return Err(OrMemory::Fault(rest.unexpected()));
     };
-    directive(file, line, rest.at())?;
+    directive(file, line, rest.len())?;
     Ok(rest.next())
 }
 
 /// Reads the lines of the preprocessor in front of the subsystem.
-#[tactic(auto, using(mrc_mig_symbols::proofs::LoopLemmas::many_ends, mrc_mig_symbols::proofs::LoopLemmas::many_goes_on, mrc_mig_symbols::proofs::LoopLemmas::many_done), unfolding(crate::specs::Files::lines_at))]
-fn lines<'t>(file: &mut File<'t>, rest: Rest<'t>) -> Result<Rest<'t>, OrMemory<ParseFault>>
-    ensures { MeansOrMemory (λ x. (state_of file.new, left x)) result
+#[tactic(auto, using(mrc_mig_symbols::proofs::LoopLemmas::many_ends, mrc_mig_symbols::proofs::LoopLemmas::many_goes_on, mrc_mig_symbols::proofs::LoopLemmas::many_stops_on, mrc_mig_symbols::proofs::LoopLemmas::many_done), unfolding(crate::specs::Stops::lines_stop, crate::specs::Files::lines_at))]
+fn lines<'t>(file: &mut File<'t>, rest: Rest<'t>) -> Result<Rest<'t>, OrMemory<Stop>>
+    ensures exact { MeansOrMemory (λ x. (state_of file.new, left x)) result
         (lines_at (state_of file.old) (left rest.entry)) }
+    ensures fault { StopsAtOrMemory result (lines_stop (state_of file.old) (left rest.entry)) }
 {
     let mut rest = rest;
     let count = rest.tokens.len();
@@ -188,8 +189,9 @@ fn sides(rest: Rest<'_>) -> Rest<'_>
 }
 
 #[tactic(auto, unfolding(crate::specs::Files::number_at))]
-fn number(rest: Rest<'_>) -> Result<(u32, Rest<'_>), ParseFault>
-    ensures { Means (λ x. (x.0, left x.1)) result (number_at (left rest.entry)) }
+fn number(rest: Rest<'_>) -> Result<(u32, Rest<'_>), Stop>
+    ensures exact { Means (λ x. (x.0, left x.1)) result (number_at (left rest.entry)) }
+    ensures fault { StopsAt result (unexpected (left rest.entry)) }
 {
     match rest.first() {
         Symbol::Number(number) => Ok((number, rest.next())),
@@ -198,9 +200,10 @@ fn number(rest: Rest<'_>) -> Result<(u32, Rest<'_>), ParseFault>
 }
 
 /// Reads `name number;`.
-#[tactic(auto, unfolding(crate::specs::Files::named_number_at))]
-fn named_number(rest: Rest<'_>) -> Result<(&str, u32, Rest<'_>), ParseFault>
-    ensures { Means (λ x. ((x.0.now, x.1), left x.2)) result (named_number_at (left rest.entry)) }
+#[tactic(auto, unfolding(crate::specs::Stops::named_number_stop, crate::specs::Files::named_number_at))]
+fn named_number(rest: Rest<'_>) -> Result<(&str, u32, Rest<'_>), Stop>
+    ensures exact { Means (λ x. ((x.0.now, x.1), left x.2)) result (named_number_at (left rest.entry)) }
+    ensures fault { StopsAt result (named_number_stop (left rest.entry)) }
 {
     let (name, rest) = name(rest)?;
     let (base, rest) = number(rest)?;
@@ -208,9 +211,10 @@ fn named_number(rest: Rest<'_>) -> Result<(&str, u32, Rest<'_>), ParseFault>
 }
 
 /// Reads `subsystem name number;`.
-#[tactic(auto, unfolding(crate::specs::Files::heading_at))]
-fn heading(rest: Rest<'_>) -> Result<(&str, u32, Rest<'_>), ParseFault>
-    ensures { Means (λ x. ((x.0.now, x.1), left x.2)) result (heading_at (left rest.entry)) }
+#[tactic(auto, unfolding(crate::specs::Stops::heading_stop, crate::specs::Files::heading_at))]
+fn heading(rest: Rest<'_>) -> Result<(&str, u32, Rest<'_>), Stop>
+    ensures exact { Means (λ x. ((x.0.now, x.1), left x.2)) result (heading_at (left rest.entry)) }
+    ensures fault { StopsAt result (heading_stop (left rest.entry)) }
 {
     match rest.first() {
         Symbol::Word(Word::Subsystem) => named_number(sides(rest.next())),
@@ -219,25 +223,27 @@ fn heading(rest: Rest<'_>) -> Result<(&str, u32, Rest<'_>), ParseFault>
 }
 
 /// Reads `name = type;`. The name is known after it.
-#[tactic(auto, unfolding(crate::specs::Files::declaration_at))]
+#[tactic(auto, unfolding(crate::specs::Stops::declaration_stop, crate::specs::Files::declaration_at))]
 fn declaration<'t>(
     alloc: Global,
     file: &mut File<'t>,
     rest: Rest<'t>,
-) -> Result<Rest<'t>, OrMemory<ParseFault>>
-    ensures { MeansOrMemory (λ x. (state_of file.new, left x)) result
+) -> Result<Rest<'t>, OrMemory<Stop>>
+    ensures exact { MeansOrMemory (λ x. (state_of file.new, left x)) result
         (declaration_at (state_of file.old) (left rest.entry)) }
+    ensures fault { StopsAtOrMemory result
+        (declaration_stop (state_of file.old) (left rest.entry)) }
 {
-    let at = rest.at();
+    let at = rest.len();
     let (name, rest) = name(rest)?;
     if is_declared(name, &file.types) {
-        return Err(OrMemory::Fault(ParseFault::TwiceNamed(at)));
+        return Err(OrMemory::Fault(stop_at(Why::TwiceNamed, at)));
     }
     let rest = sign(rest, Sign::Equals)?;
     let (shape, rest) = shape(alloc, &file.types, Use::Any, rest)?;
     let rest = options(rest)?;
     let rest = sign(rest, Sign::Semicolon)?;
-    declare(&mut file.types, name, shape)?;
+    file.types.declare(name, shape)?;
     Ok(rest)
 }
 
@@ -248,27 +254,29 @@ fn is_routine(name: &str, routines: &[&str]) -> bool
 }
 
 /// Reads `name (arguments);`.
-#[tactic(auto, unfolding(crate::specs::Files::routine_at))]
+#[tactic(auto, unfolding(crate::specs::Stops::routine_stop, crate::specs::Stops::closing_stop, crate::specs::Files::routine_at))]
 fn routine<'t>(
     alloc: Global,
     file: &File<'t>,
     is_simple: bool,
     rest: Rest<'t>,
-) -> Result<(&'t str, Vec<Argument>, Rest<'t>), OrMemory<ParseFault>>
-    ensures { MeansOrMemory (λ x. ((x.0.now, map item_of x.1.items), left x.2)) result
+) -> Result<(&'t str, Vec<Argument>, Rest<'t>), OrMemory<Stop>>
+    ensures exact { MeansOrMemory (λ x. ((x.0.now, map item_of x.1.items), left x.2)) result
         (routine_at is_simple (state_of file.now) (left rest.entry)) }
+    ensures fault { StopsAtOrMemory result
+        (routine_stop is_simple (state_of file.now) (left rest.entry)) }
 {
-    let at = rest.at();
+    let at = rest.len();
     let (name, rest) = name(rest)?;
     if is_routine(name, file.routines.as_slice()) {
-        return Err(OrMemory::Fault(ParseFault::TwiceNamed(at)));
+        return Err(OrMemory::Fault(stop_at(Why::TwiceNamed, at)));
     }
     let rest = sign(rest, Sign::OpenParenthesis)?;
     let (seen, rest) = arguments(alloc, &file.types, is_simple, rest)?;
-    let at = rest.at();
+    let at = rest.len();
     let rest = sign(rest, Sign::CloseParenthesis)?;
     let Some(arguments) = resolved(alloc, seen.as_slice())? else {
-        return Err(OrMemory::Fault(ParseFault::NoRequestPort(at)));
+        return Err(OrMemory::Fault(stop_at(Why::NoRequestPort, at)));
     };
     let rest = sign(rest, Sign::Semicolon)?;
     Ok((name, arguments, rest))
@@ -280,9 +288,11 @@ fn row<'t>(
     file: &mut File<'t>,
     word: Word,
     rest: Rest<'t>,
-) -> Result<Rest<'t>, OrMemory<ParseFault>>
-    ensures { MeansOrMemory (λ x. (state_of file.new, left x)) result
+) -> Result<Rest<'t>, OrMemory<Stop>>
+    ensures exact { MeansOrMemory (λ x. (state_of file.new, left x)) result
         (row_by word (state_of file.old) (left rest.entry)) }
+    ensures fault { StopsAtOrMemory result
+        (row_stop_by word (state_of file.old) (left rest.entry)) }
 {
     match word {
         Word::Routine => {
@@ -307,26 +317,28 @@ fn row<'t>(
 }
 
 /// Reads a statement that takes an id, whose word is the first token.
-#[tactic(auto, unfolding(crate::specs::Files::row_at))]
+#[tactic(auto, unfolding(crate::specs::Stops::row_stop, crate::specs::Files::row_at))]
 fn entry<'t>(
     alloc: Global,
     file: &mut File<'t>,
     word: Word,
     rest: Rest<'t>,
-) -> Result<Rest<'t>, OrMemory<ParseFault>>
-    ensures { MeansOrMemory (λ x. (state_of file.new, left x)) result
+) -> Result<Rest<'t>, OrMemory<Stop>>
+    ensures exact { MeansOrMemory (λ x. (state_of file.new, left x)) result
         (row_at word (state_of file.old) (left rest.entry)) }
+    ensures fault { StopsAtOrMemory result (row_stop word (state_of file.old) (left rest.entry)) }
 {
     if file.entries.len() >= limits::IDS {
-        return Err(OrMemory::Fault(ParseFault::TooMany(rest.at())));
+        return Err(OrMemory::Fault(rest.stop(Why::TooMany)));
     }
     row(alloc, file, word, rest.next())
 }
 
 /// Reads a string or a file's name, and `;`.
-#[tactic(auto, unfolding(crate::specs::Files::import_at))]
-fn import(rest: Rest<'_>) -> Result<Rest<'_>, ParseFault>
-    ensures { Means left result (import_at (left rest.entry)) }
+#[tactic(auto, unfolding(crate::specs::Stops::import_stop, crate::specs::Files::import_at))]
+fn import(rest: Rest<'_>) -> Result<Rest<'_>, Stop>
+    ensures exact { Means left result (import_at (left rest.entry)) }
+    ensures fault { StopsAt result (import_stop (left rest.entry)) }
 {
     match rest.first() {
         Symbol::Text | Symbol::Header => sign(rest.next(), Sign::Semicolon),
@@ -335,18 +347,20 @@ fn import(rest: Rest<'_>) -> Result<Rest<'_>, ParseFault>
 }
 
 /// Reads a name and `;`.
-#[tactic(auto, unfolding(crate::specs::Files::prefix_at))]
-fn prefix(rest: Rest<'_>) -> Result<Rest<'_>, ParseFault>
-    ensures { Means left result (prefix_at (left rest.entry)) }
+#[tactic(auto, unfolding(crate::specs::Stops::prefix_stop, crate::specs::Files::prefix_at))]
+fn prefix(rest: Rest<'_>) -> Result<Rest<'_>, Stop>
+    ensures exact { Means left result (prefix_at (left rest.entry)) }
+    ensures fault { StopsAt result (prefix_stop (left rest.entry)) }
 {
     let (_, rest) = name(rest)?;
     sign(rest, Sign::Semicolon)
 }
 
 /// Reads a string and `;`.
-#[tactic(auto, unfolding(crate::specs::Files::rcsid_at))]
-fn rcsid(rest: Rest<'_>) -> Result<Rest<'_>, ParseFault>
-    ensures { Means left result (rcsid_at (left rest.entry)) }
+#[tactic(auto, unfolding(crate::specs::Stops::rcsid_stop, crate::specs::Files::rcsid_at))]
+fn rcsid(rest: Rest<'_>) -> Result<Rest<'_>, Stop>
+    ensures exact { Means left result (rcsid_at (left rest.entry)) }
+    ensures fault { StopsAt result (rcsid_stop (left rest.entry)) }
 {
     match rest.first() {
         Symbol::Text => sign(rest.next(), Sign::Semicolon),
@@ -360,9 +374,11 @@ fn worded<'t>(
     file: &mut File<'t>,
     word: Word,
     rest: Rest<'t>,
-) -> Result<Rest<'t>, OrMemory<ParseFault>>
-    ensures { MeansOrMemory (λ x. (state_of file.new, left x)) result
+) -> Result<Rest<'t>, OrMemory<Stop>>
+    ensures exact { MeansOrMemory (λ x. (state_of file.new, left x)) result
         (worded_by word (state_of file.old) (left rest.entry)) }
+    ensures fault { StopsAtOrMemory result
+        (worded_stop word (state_of file.old) (left rest.entry)) }
 {
     match word {
         Word::Type => declaration(alloc, file, rest.next()),
@@ -370,25 +386,26 @@ fn worded<'t>(
         Word::Import => Ok(import(rest.next())?),
         Word::Prefix => Ok(prefix(rest.next())?),
         Word::Rcsid => Ok(rcsid(rest.next())?),
-        Word::OldForm => Err(OrMemory::Fault(ParseFault::LeftOut(rest.at(), Feature::OldForm))),
-        Word::Wait => Err(OrMemory::Fault(ParseFault::LeftOut(rest.at(), Feature::Option))),
+        Word::OldForm => Err(OrMemory::Fault(rest.stop(Why::LeftOut(Feature::OldForm)))),
+        Word::Wait => Err(OrMemory::Fault(rest.stop(Why::LeftOut(Feature::Option)))),
         _ => Err(OrMemory::Fault(rest.unexpected())),
     }
 }
 
 /// Reads a statement.
-#[tactic(auto, unfolding(crate::specs::Files::statement_at))]
+#[tactic(auto, unfolding(crate::specs::Stops::statement_stop, crate::specs::Files::statement_at))]
 fn statement<'t>(
     alloc: Global,
     file: &mut File<'t>,
     rest: Rest<'t>,
-) -> Result<Rest<'t>, OrMemory<ParseFault>>
-    ensures { MeansOrMemory (λ x. (state_of file.new, left x)) result
+) -> Result<Rest<'t>, OrMemory<Stop>>
+    ensures exact { MeansOrMemory (λ x. (state_of file.new, left x)) result
         (statement_at (state_of file.old, left rest.entry)) }
+    ensures fault { StopsAtOrMemory result (statement_stop (state_of file.old, left rest.entry)) }
 {
     match rest.first() {
         Symbol::Directive(line) => {
-            directive(file, line, rest.at())?;
+            directive(file, line, rest.len())?;
             Ok(rest.next())
         }
         Symbol::Word(word) => worded(alloc, file, word, rest),
@@ -405,15 +422,17 @@ fn has_more(rest: Rest<'_>) -> bool
 }
 
 /// Reads the statements, as many as there are.
-#[tactic(auto, using(mrc_mig_symbols::proofs::LoopLemmas::many_ends, mrc_mig_symbols::proofs::LoopLemmas::many_goes_on, mrc_mig_symbols::proofs::LoopLemmas::many_done))]
+#[tactic(auto, using(mrc_mig_symbols::proofs::LoopLemmas::many_ends, mrc_mig_symbols::proofs::LoopLemmas::many_goes_on, mrc_mig_symbols::proofs::LoopLemmas::many_stops_on, mrc_mig_symbols::proofs::LoopLemmas::many_done))]
 fn each_statement<'t>(
     alloc: Global,
     file: &mut File<'t>,
     rest: Rest<'t>,
-) -> Result<Rest<'t>, OrMemory<ParseFault>>
-    ensures { MeansOrMemory (λ x. (state_of file.new, left x)) result
+) -> Result<Rest<'t>, OrMemory<Stop>>
+    ensures exact { MeansOrMemory (λ x. (state_of file.new, left x)) result
         (many has_more statement_at (length (left rest.entry))
         (state_of file.old, left rest.entry)) }
+    ensures fault { StopsAtOrMemory result
+        (each_statement_stop (state_of file.old) (left rest.entry)) }
 {
     let mut rest = rest;
     let count = rest.tokens.len();
@@ -427,14 +446,12 @@ fn each_statement<'t>(
 }
 
 /// Reads the statements, up to the end.
-#[tactic(auto, unfolding(crate::specs::Files::statements_at))]
-fn statements<'t>(
-    alloc: Global,
-    file: &mut File<'t>,
-    rest: Rest<'t>,
-) -> Result<(), OrMemory<ParseFault>>
-    ensures { MeansOrMemory (λ _. state_of file.new) result
+#[tactic(auto, unfolding(crate::specs::Stops::statements_stop, crate::specs::Files::statements_at))]
+fn statements<'t>(alloc: Global, file: &mut File<'t>, rest: Rest<'t>) -> Result<(), OrMemory<Stop>>
+    ensures exact { MeansOrMemory (λ _. state_of file.new) result
         (statements_at (state_of file.old) (left rest.entry)) }
+    ensures fault { StopsAtOrMemory result
+        (statements_stop (state_of file.old) (left rest.entry)) }
 {
     let rest = each_statement(alloc, file, rest)?;
     if rest.is_empty() {
@@ -445,12 +462,13 @@ fn statements<'t>(
 }
 
 /// Reads a whole file.
-#[tactic(auto, unfolding(crate::specs::Files::meaning_of))]
-fn whole_file(alloc: Global, tokens: &[Token<'_>]) -> Result<Subsystem, OrMemory<ParseFault>>
-    ensures { MeansOrMemory (λ subsystem. subsystem) result (meaning_of tokens.now) }
+#[tactic(auto, unfolding(crate::specs::Stops::file_stop, crate::specs::Files::meaning_of))]
+fn whole_file(alloc: Global, tokens: &[Token<'_>]) -> Result<Subsystem, OrMemory<Stop>>
+    ensures exact { MeansOrMemory (λ subsystem. subsystem) result (meaning_of tokens.now) }
+    ensures fault { StopsAtOrMemory result (file_stop tokens.now) }
 {
     let mut file = File {
-        types: IndexMap::new(alloc),
+        types: Types::new(alloc),
         has_table: false,
         routines: Vec::new(alloc),
         entries: Vec::new(alloc),
@@ -482,6 +500,12 @@ pub fn parse(alloc: Global, tokens: &[Token<'_>]) -> Result<Subsystem, OrMemory<
         (Some m) }
     // So it is refused exactly where they are no file, unless memory runs out.
     ensures refused { MeansOrMemory (λ subsystem. subsystem) result (meaning_of tokens.now) }
+    // Which fault it is: the first.
+    ensures fault { Gives (λ subsystem. subsystem) result (meaning_or_fault tokens.now) }
 {
-    whole_file(alloc, tokens)
+    match whole_file(alloc, tokens) {
+        Ok(subsystem) => Ok(subsystem),
+        Err(OrMemory::Fault(stop)) => Err(OrMemory::Fault(fault_of(tokens, stop))),
+        Err(OrMemory::Memory) => Err(OrMemory::Memory),
+    }
 }

@@ -6,6 +6,7 @@ mod file;
 mod laws;
 mod options;
 mod subsystem;
+mod table;
 mod types;
 
 pub use file::parse;

@@ -3,15 +3,20 @@ ghost use Rattle.mrc_mig_symbols.specs.Symbols.{Means, many, left};
 ghost use Rattle.mrc_mig_parse.specs.Arguments.{c_type_at, call_at, translation_at, destructor_at};
 ghost use Rattle.mrc_mig_parse.specs.Arguments.{begins_option, option_at, options_at};
 ghost use Rattle.std.specs.Prelude.{◌≡◌, length};
+ghost use Rattle.mrc_mig_parse.specs.Stops.{c_type_stop, call_stop, destructor_stop};
+ghost use Rattle.mrc_mig_parse.specs.Stops.{each_option_stop, option_stop, options_stop};
+ghost use Rattle.mrc_mig_parse.specs.Stops.{translation_stop};
+ghost use Rattle.mrc_mig_symbols.specs.Symbols.{StopsAt};
 
 use crate::types::no_flag;
 use mrc_mig_lex::Sign;
-use mrc_mig_symbols::{ParseFault, Rest, Symbol, Word, name, sign};
+use mrc_mig_symbols::{Rest, Stop, Symbol, Word, name, sign};
 
 /// Reads `: name`.
-#[tactic(auto, unfolding(crate::specs::Arguments::c_type_at))]
-fn c_type(rest: Rest<'_>) -> Result<Rest<'_>, ParseFault>
-    ensures { Means left result (c_type_at (left rest.entry)) }
+#[tactic(auto, unfolding(crate::specs::Stops::c_type_stop, crate::specs::Arguments::c_type_at))]
+fn c_type(rest: Rest<'_>) -> Result<Rest<'_>, Stop>
+    ensures exact { Means left result (c_type_at (left rest.entry)) }
+    ensures fault { StopsAt result (c_type_stop (left rest.entry)) }
 {
     let rest = sign(rest, Sign::Colon)?;
     let (_, rest) = name(rest)?;
@@ -19,9 +24,10 @@ fn c_type(rest: Rest<'_>) -> Result<Rest<'_>, ParseFault>
 }
 
 /// Reads `name ( name )`.
-#[tactic(auto, unfolding(crate::specs::Arguments::call_at))]
-fn call(rest: Rest<'_>) -> Result<Rest<'_>, ParseFault>
-    ensures { Means left result (call_at (left rest.entry)) }
+#[tactic(auto, unfolding(crate::specs::Stops::call_stop, crate::specs::Arguments::call_at))]
+fn call(rest: Rest<'_>) -> Result<Rest<'_>, Stop>
+    ensures exact { Means left result (call_at (left rest.entry)) }
+    ensures fault { StopsAt result (call_stop (left rest.entry)) }
 {
     let (_, rest) = name(rest)?;
     let rest = sign(rest, Sign::OpenParenthesis)?;
@@ -30,9 +36,10 @@ fn call(rest: Rest<'_>) -> Result<Rest<'_>, ParseFault>
 }
 
 /// Reads `: name name ( name )`.
-#[tactic(auto, unfolding(crate::specs::Arguments::translation_at))]
-fn translation(rest: Rest<'_>) -> Result<Rest<'_>, ParseFault>
-    ensures { Means left result (translation_at (left rest.entry)) }
+#[tactic(auto, unfolding(crate::specs::Stops::translation_stop, crate::specs::Arguments::translation_at))]
+fn translation(rest: Rest<'_>) -> Result<Rest<'_>, Stop>
+    ensures exact { Means left result (translation_at (left rest.entry)) }
+    ensures fault { StopsAt result (translation_stop (left rest.entry)) }
 {
     let rest = sign(rest, Sign::Colon)?;
     let (_, rest) = name(rest)?;
@@ -40,9 +47,10 @@ fn translation(rest: Rest<'_>) -> Result<Rest<'_>, ParseFault>
 }
 
 /// Reads `: name ( name )`.
-#[tactic(auto, unfolding(crate::specs::Arguments::destructor_at))]
-fn destructor(rest: Rest<'_>) -> Result<Rest<'_>, ParseFault>
-    ensures { Means left result (destructor_at (left rest.entry)) }
+#[tactic(auto, unfolding(crate::specs::Stops::destructor_stop, crate::specs::Arguments::destructor_at))]
+fn destructor(rest: Rest<'_>) -> Result<Rest<'_>, Stop>
+    ensures exact { Means left result (destructor_at (left rest.entry)) }
+    ensures fault { StopsAt result (destructor_stop (left rest.entry)) }
 {
     let rest = sign(rest, Sign::Colon)?;
     call(rest)
@@ -60,9 +68,10 @@ fn begins_option(rest: Rest<'_>) -> bool
 }
 
 /// Reads an option.
-#[tactic(auto, unfolding(crate::specs::Arguments::option_at))]
-fn option(rest: Rest<'_>) -> Result<Rest<'_>, ParseFault>
-    ensures { Means left result (option_at (left rest.entry)) }
+#[tactic(auto, unfolding(crate::specs::Stops::option_stop, crate::specs::Arguments::option_at))]
+fn option(rest: Rest<'_>) -> Result<Rest<'_>, Stop>
+    ensures exact { Means left result (option_at (left rest.entry)) }
+    ensures fault { StopsAt result (option_stop (left rest.entry)) }
 {
     match rest.first() {
         Symbol::Word(Word::CType) => c_type(rest.next()),
@@ -73,10 +82,11 @@ fn option(rest: Rest<'_>) -> Result<Rest<'_>, ParseFault>
 }
 
 /// Reads the options that come next.
-#[tactic(auto, using(mrc_mig_symbols::proofs::LoopLemmas::many_ends, mrc_mig_symbols::proofs::LoopLemmas::many_goes_on, mrc_mig_symbols::proofs::LoopLemmas::many_done))]
-fn each_option(rest: Rest<'_>) -> Result<Rest<'_>, ParseFault>
-    ensures { Means left result
+#[tactic(auto, using(mrc_mig_symbols::proofs::LoopLemmas::many_ends, mrc_mig_symbols::proofs::LoopLemmas::many_goes_on, mrc_mig_symbols::proofs::LoopLemmas::many_stops_on, mrc_mig_symbols::proofs::LoopLemmas::many_done))]
+fn each_option(rest: Rest<'_>) -> Result<Rest<'_>, Stop>
+    ensures exact { Means left result
         (many begins_option option_at (length (left rest.entry)) (left rest.entry)) }
+    ensures fault { StopsAt result (each_option_stop (left rest.entry)) }
 {
     let mut rest = rest;
     let count = rest.tokens.len();
@@ -90,9 +100,10 @@ fn each_option(rest: Rest<'_>) -> Result<Rest<'_>, ParseFault>
 }
 
 /// Reads the options behind a type. They may repeat, and mean nothing for messages.
-#[tactic(auto, unfolding(crate::specs::Arguments::options_at))]
-pub fn options(rest: Rest<'_>) -> Result<Rest<'_>, ParseFault>
-    ensures { Means left result (options_at (left rest.entry)) }
+#[tactic(auto, unfolding(crate::specs::Stops::options_stop, crate::specs::Arguments::options_at))]
+pub fn options(rest: Rest<'_>) -> Result<Rest<'_>, Stop>
+    ensures exact { Means left result (options_at (left rest.entry)) }
+    ensures fault { StopsAt result (options_stop (left rest.entry)) }
 {
     let rest = each_option(rest)?;
     no_flag(rest)?;

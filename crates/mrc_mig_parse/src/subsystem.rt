@@ -1,7 +1,9 @@
 //! What a MIG subsystem means.
 
-ghost use Rattle.std.specs.Prelude.{◌≡◌, ◌≤◌, map, length};
+ghost use Rattle.std.specs.Prelude.{◌≡◌, ◌≤◌, map, length, IsTrue};
+ghost use Rattle.std.specs.List.{list_all};
 ghost use Rattle.mrc_base.specs.Limits.{limit_of_ids};
+ghost use Rattle.mrc_mig_parse.specs.Bounds.{row_fits};
 ghost use Rattle.mrc_mig_parse.specs.Meanings.{row_of};
 
 use mrc_mig_symbols::Direction;
@@ -43,7 +45,8 @@ pub enum Entry {
     Skip,
 }
 
-/// A subsystem. It has 100 ids at most; only [`crate::parse`] makes one.
+/// A subsystem. It has 100 ids at most, and a routine 32 arguments; sizes are multiples of 8 from 8
+/// to 65,528, and 32 for port rights; counts are 1 to 8,192. Only [`crate::parse`] makes one.
 #[derive(Debug, Drop)]
 pub struct Subsystem {
     pub(crate) name: String,
@@ -52,9 +55,11 @@ pub struct Subsystem {
 }
 
 impl Model for Subsystem {
-    ghost use Rattle.std.specs.Prelude.{◌≤◌, map, length, string_bytes};
+    ghost use Rattle.std.specs.Prelude.{◌≡◌, ◌≤◌, map, length, string_bytes, true};
+    ghost use Rattle.std.specs.List.{list_all};
     ghost use Rattle.mrc_base.specs.Limits.{limit_of_ids};
     ghost use Rattle.mrc_mig_parse.specs.Files.{Meaning};
+    ghost use Rattle.mrc_mig_parse.specs.Bounds.{row_fits};
     ghost use Rattle.mrc_mig_parse.specs.Meanings.{row_of};
 
     ghost Value = { Meaning };
@@ -65,7 +70,8 @@ impl Model for Subsystem {
       rows = map row_of s.entries.items;
     } };
 
-    ghost invariant = { λ s. length s.entries.items ≤ limit_of_ids };
+    ghost invariant = { λ s. (length s.entries.items ≤ limit_of_ids)
+        × (list_all row_fits (map row_of s.entries.items) ≡ true) };
 }
 
 impl Subsystem {
@@ -83,10 +89,12 @@ impl Subsystem {
         self.base
     }
 
-    /// Its routines, simpleroutines and skips, in order, 100 at most.
+    /// Its routines, simpleroutines and skips, in order, 100 at most, with few enough arguments, of
+    /// sizes and counts that types can have.
     pub fn entries(&self) -> &[Entry]
         ensures shown { map row_of result.now ≡ self.now.rows }
         ensures few { length result.now ≤ limit_of_ids }
+        ensures kept { IsTrue (list_all row_fits (map row_of result.now)) }
     {
         self.entries.as_slice()
     }

@@ -3,22 +3,27 @@
 ghost use Rattle.std.specs.Prelude.{◌≡◌, not};
 ghost use Rattle.mrc_mig_symbols.specs.Symbols.{Means, MeansOrMemory, guard, left, first_of};
 ghost use Rattle.mrc_mig_symbols.specs.Symbols.{tail_of};
-ghost use Rattle.mrc_mig_symbols.specs.Tables.{plain, entry_of};
 ghost use Rattle.mrc_mig_parse.specs.Types.{fits_use, times, dimension_at, variable_dimension_at};
 ghost use Rattle.mrc_mig_parse.specs.Types.{after_of, is_empty_brackets, array_at, structure_at};
 ghost use Rattle.mrc_mig_parse.specs.Types.{begins_layer, layer_at, layers_at, items, is_bar};
 ghost use Rattle.mrc_mig_parse.specs.Types.{flag_follows, basic_item, size_at, sized_at, plain_by};
 ghost use Rattle.mrc_mig_parse.specs.Types.{declared_at, nested, named_at, string_at, shape_at};
+ghost use Rattle.mrc_mig_parse.specs.Stops.{array_stop, basic_item_stop, declared_stop};
+ghost use Rattle.mrc_mig_parse.specs.Stops.{dimension_stop, flag_stop, layer_stop, layers_stop};
+ghost use Rattle.mrc_mig_parse.specs.Stops.{named_stop, nested_stop, pair_stop, plain_stop};
+ghost use Rattle.mrc_mig_parse.specs.Stops.{shape_stop, size_stop, sized_stop, string_stop};
+ghost use Rattle.mrc_mig_parse.specs.Stops.{structure_stop, too_many, use_stop};
+ghost use Rattle.mrc_mig_parse.specs.Stops.{variable_dimension_stop};
+ghost use Rattle.mrc_mig_symbols.specs.Symbols.{StopsAt, StopsAtOrMemory, unexpected};
 
 use crate::subsystem::Shape;
-use indexmap::IndexMap;
+use crate::table::Types;
 use mrc_base::{Disp, OrMemory, is_port_number, limits};
 use mrc_mig_lex::Sign;
-use mrc_mig_symbols::{Basic, Feature, ParseFault, Rest, Symbol, Word, basic_of, expression, sign};
+use mrc_mig_symbols::{
+    Basic, Feature, Rest, Stop, Symbol, Why, Word, basic_of, expression, sign, stop_at,
+};
 use std::alloc::Global;
-
-/// The declared types.
-pub type Types<'t> = IndexMap<&'t str, Shape>;
 
 /// The most bits of an item.
 const MOST_BITS: u32 = 65_528;
@@ -35,8 +40,9 @@ pub enum Use {
 }
 
 /// Refuses a type number that does not fit the use, at the token that gives the number.
-fn check_use(wanted: Use, name: u16, at: usize) -> Result<(), ParseFault>
-    ensures { Means (λ _. tt) result (guard (fits_use wanted name)) }
+fn check_use(wanted: Use, name: u16, at: usize) -> Result<(), Stop>
+    ensures exact { Means (λ _. tt) result (guard (fits_use wanted name)) }
+    ensures fault { StopsAt result (use_stop at) }
 {
     match wanted {
         Use::Any => Ok(()),
@@ -44,7 +50,7 @@ fn check_use(wanted: Use, name: u16, at: usize) -> Result<(), ParseFault>
             if name == Disp::MoveSendOnce.number() || name == Disp::MakeSendOnce.number() {
                 Ok(())
             } else {
-                Err(ParseFault::LeftOut(at, Feature::ReplyPort))
+                Err(stop_at(Why::LeftOut(Feature::ReplyPort), at))
             }
         }
     }
@@ -64,12 +70,13 @@ struct Around {
 impl Around {
     /// With so many items for each one, where that number begins at `at`.
     #[tactic(auto, unfolding(crate::specs::Types::times))]
-    fn times(self, number: u32, at: usize) -> Result<u32, ParseFault>
-        ensures { Means (λ n. n) result (times self number) }
+    fn times(self, number: u32, at: usize) -> Result<u32, Stop>
+        ensures exact { Means (λ n. n) result (times self number) }
+        ensures fault { StopsAt result (too_many at) }
     {
         let product = self.number as u64 * number as u64;
         if product == 0 || product > limits::ITEMS as u64 {
-            return Err(ParseFault::TooMany(at));
+            return Err(stop_at(Why::TooMany, at));
         }
         Ok(product as u32)
     }
@@ -77,17 +84,18 @@ impl Around {
 
 /// Reads `n]`, from behind the opening bracket, as a count among those around it. Answers the
 /// counts with it.
-#[tactic(auto, unfolding(crate::specs::Types::dimension_at))]
+#[tactic(auto, unfolding(crate::specs::Stops::dimension_stop, crate::specs::Types::dimension_at))]
 fn dimension(
     alloc: Global,
     around: Around,
     is_bound: bool,
     rest: Rest<'_>,
-) -> Result<(Around, Rest<'_>), OrMemory<ParseFault>>
-    ensures { MeansOrMemory (λ x. (x.0, left x.1)) result
+) -> Result<(Around, Rest<'_>), OrMemory<Stop>>
+    ensures exact { MeansOrMemory (λ x. (x.0, left x.1)) result
         (dimension_at around is_bound (left rest.entry)) }
+    ensures fault { StopsAtOrMemory result (dimension_stop around (left rest.entry)) }
 {
-    let at = rest.at();
+    let at = rest.len();
     let (number, rest) = expression(alloc, rest)?;
     let number = around.times(number, at)?;
     let rest = sign(rest, Sign::CloseBracket)?;
@@ -102,21 +110,22 @@ fn dimension(
 }
 
 /// Reads `[n]` or `[*:n]`, of an array or a string whose word is at `at`.
-#[tactic(auto, unfolding(crate::specs::Types::variable_dimension_at))]
+#[tactic(auto, unfolding(crate::specs::Stops::variable_dimension_stop, crate::specs::Types::variable_dimension_at))]
 fn variable_dimension(
     alloc: Global,
     around: Around,
     at: usize,
     rest: Rest<'_>,
-) -> Result<(Around, Rest<'_>), OrMemory<ParseFault>>
-    ensures { MeansOrMemory (λ x. (x.0, left x.1)) result
+) -> Result<(Around, Rest<'_>), OrMemory<Stop>>
+    ensures exact { MeansOrMemory (λ x. (x.0, left x.1)) result
         (variable_dimension_at around (left rest.entry)) }
+    ensures fault { StopsAtOrMemory result (variable_dimension_stop around at (left rest.entry)) }
 {
     let rest = sign(rest, Sign::OpenBracket)?;
     match rest.first() {
         Symbol::Sign(Sign::Star) => {
             if around.is_inside {
-                return Err(OrMemory::Fault(ParseFault::LeftOut(at, Feature::Nested)));
+                return Err(OrMemory::Fault(stop_at(Why::LeftOut(Feature::Nested), at)));
             }
             let rest = sign(rest.next(), Sign::Colon)?;
             dimension(alloc, around, true, rest)
@@ -126,8 +135,9 @@ fn variable_dimension(
 }
 
 #[tactic(auto, unfolding(crate::specs::Types::after_of))]
-fn of(rest: Rest<'_>) -> Result<Rest<'_>, ParseFault>
-    ensures { Means left result (after_of (left rest.entry)) }
+fn of(rest: Rest<'_>) -> Result<Rest<'_>, Stop>
+    ensures exact { Means left result (after_of (left rest.entry)) }
+    ensures fault { StopsAt result (unexpected (left rest.entry)) }
 {
     match rest.first() {
         Symbol::Word(Word::Of) => Ok(rest.next()),
@@ -147,30 +157,32 @@ fn is_empty_brackets(rest: Rest<'_>) -> bool
 }
 
 /// Reads an array's dimension, whose word is at `at`, and `of`.
-#[tactic(auto, using(crate::proofs::TypeLemmas::no_array), unfolding(crate::specs::Types::array_at))]
+#[tactic(auto, using(crate::proofs::TypeLemmas::no_array), unfolding(crate::specs::Stops::array_stop, crate::specs::Types::array_at))]
 fn array(
     alloc: Global,
     around: Around,
     at: usize,
     rest: Rest<'_>,
-) -> Result<(Around, Rest<'_>), OrMemory<ParseFault>>
-    ensures { MeansOrMemory (λ x. (x.0, left x.1)) result (array_at around (left rest.entry)) }
+) -> Result<(Around, Rest<'_>), OrMemory<Stop>>
+    ensures exact { MeansOrMemory (λ x. (x.0, left x.1)) result (array_at around (left rest.entry)) }
+    ensures fault { StopsAtOrMemory result (array_stop around at (left rest.entry)) }
 {
     if is_empty_brackets(rest) {
-        return Err(OrMemory::Fault(ParseFault::LeftOut(at, Feature::OutOfLine)));
+        return Err(OrMemory::Fault(stop_at(Why::LeftOut(Feature::OutOfLine), at)));
     }
     let (around, rest) = variable_dimension(alloc, around, at, rest)?;
     Ok((around, of(rest)?))
 }
 
 /// Reads a struct's dimension, and `of`.
-#[tactic(auto, unfolding(crate::specs::Types::structure_at))]
+#[tactic(auto, unfolding(crate::specs::Stops::structure_stop, crate::specs::Types::structure_at))]
 fn structure(
     alloc: Global,
     around: Around,
     rest: Rest<'_>,
-) -> Result<(Around, Rest<'_>), OrMemory<ParseFault>>
-    ensures { MeansOrMemory (λ x. (x.0, left x.1)) result (structure_at around (left rest.entry)) }
+) -> Result<(Around, Rest<'_>), OrMemory<Stop>>
+    ensures exact { MeansOrMemory (λ x. (x.0, left x.1)) result (structure_at around (left rest.entry)) }
+    ensures fault { StopsAtOrMemory result (structure_stop around (left rest.entry)) }
 {
     let rest = sign(rest, Sign::OpenBracket)?;
     let (around, rest) = dimension(alloc, around, false, rest)?;
@@ -189,25 +201,27 @@ fn begins_layer(rest: Rest<'_>) -> bool
 }
 
 /// Reads an array or a struct.
-#[tactic(auto, unfolding(crate::specs::Types::layer_at))]
+#[tactic(auto, unfolding(crate::specs::Stops::layer_stop, crate::specs::Types::layer_at))]
 fn layer(
     alloc: Global,
     around: Around,
     rest: Rest<'_>,
-) -> Result<(Around, Rest<'_>), OrMemory<ParseFault>>
-    ensures { MeansOrMemory (λ x. (x.0, left x.1)) result (layer_at (around, left rest.entry)) }
+) -> Result<(Around, Rest<'_>), OrMemory<Stop>>
+    ensures exact { MeansOrMemory (λ x. (x.0, left x.1)) result (layer_at (around, left rest.entry)) }
+    ensures fault { StopsAtOrMemory result (layer_stop (around, left rest.entry)) }
 {
     match rest.first() {
-        Symbol::Word(Word::Array) => array(alloc, around, rest.at(), rest.next()),
+        Symbol::Word(Word::Array) => array(alloc, around, rest.len(), rest.next()),
         Symbol::Word(Word::Struct) => structure(alloc, around, rest.next()),
         _ => Err(OrMemory::Fault(rest.unexpected())),
     }
 }
 
 /// Reads the arrays and structs in front of a type.
-#[tactic(auto, using(mrc_mig_symbols::proofs::LoopLemmas::many_ends, mrc_mig_symbols::proofs::LoopLemmas::many_goes_on, mrc_mig_symbols::proofs::LoopLemmas::many_done), unfolding(crate::specs::Types::layers_at))]
-fn arrays(alloc: Global, rest: Rest<'_>) -> Result<(Around, Rest<'_>), OrMemory<ParseFault>>
-    ensures { MeansOrMemory (λ x. (x.0, left x.1)) result (layers_at (left rest.entry)) }
+#[tactic(auto, using(mrc_mig_symbols::proofs::LoopLemmas::many_ends, mrc_mig_symbols::proofs::LoopLemmas::many_goes_on, mrc_mig_symbols::proofs::LoopLemmas::many_stops_on, mrc_mig_symbols::proofs::LoopLemmas::many_done), unfolding(crate::specs::Stops::layers_stop, crate::specs::Types::layers_at))]
+fn arrays(alloc: Global, rest: Rest<'_>) -> Result<(Around, Rest<'_>), OrMemory<Stop>>
+    ensures exact { MeansOrMemory (λ x. (x.0, left x.1)) result (layers_at (left rest.entry)) }
+    ensures fault { StopsAtOrMemory result (layers_stop (left rest.entry)) }
 {
     let mut around = Around {
         is_inside: false,
@@ -240,53 +254,54 @@ fn items(around: Around, name: u16, size: u16) -> Shape
 }
 
 /// Refuses a flag of an argument, with a comma before it or none.
-#[tactic(auto, unfolding(crate::specs::Types::flag_follows))]
-pub fn no_flag(rest: Rest<'_>) -> Result<(), ParseFault>
-    ensures { Means (λ _. tt) result (guard (not (flag_follows (left rest.entry)))) }
+#[tactic(auto, unfolding(crate::specs::Stops::flag_stop, crate::specs::Types::flag_follows))]
+pub fn no_flag(rest: Rest<'_>) -> Result<(), Stop>
+    ensures exact { Means (λ _. tt) result (guard (not (flag_follows (left rest.entry)))) }
+    ensures fault { StopsAt result (flag_stop (left rest.entry)) }
 {
     let (flag, at) = match rest.first() {
-        Symbol::Sign(Sign::Comma) => (rest.next().first(), rest.next().at()),
-        symbol => (symbol, rest.at()),
+        Symbol::Sign(Sign::Comma) => (rest.next().first(), rest.next().len()),
+        symbol => (symbol, rest.len()),
     };
     match flag {
-        Symbol::Word(Word::Flag) => Err(ParseFault::LeftOut(at, Feature::Option)),
-        Symbol::Word(Word::Dealloc) => Err(ParseFault::LeftOut(at, Feature::OutOfLine)),
+        Symbol::Word(Word::Flag) => Err(stop_at(Why::LeftOut(Feature::Option), at)),
+        Symbol::Word(Word::Dealloc) => Err(stop_at(Why::LeftOut(Feature::OutOfLine), at)),
         _ => Ok(()),
     }
 }
 
-fn no_pair(rest: Rest<'_>) -> Result<(), ParseFault>
-    ensures { Means (λ _. tt) result (guard (not (is_bar (first_of (left rest.entry))))) }
+fn no_pair(rest: Rest<'_>) -> Result<(), Stop>
+    ensures exact { Means (λ _. tt) result (guard (not (is_bar (first_of (left rest.entry))))) }
+    ensures fault { StopsAt result (pair_stop (left rest.entry)) }
 {
     match rest.first() {
-        Symbol::Sign(Sign::Bar) => Err(ParseFault::LeftOut(rest.at(), Feature::Pair)),
+        Symbol::Sign(Sign::Bar) => Err(rest.stop(Why::LeftOut(Feature::Pair))),
         _ => Ok(()),
     }
 }
 
 /// The type number of a basic type at `at`, and its size where it has one, else 0.
-fn basic_item(basic: Basic, wanted: Use, at: usize) -> Result<(u16, u16), ParseFault>
-    ensures { Means (λ x. x) result (basic_item basic wanted) }
+fn basic_item(basic: Basic, wanted: Use, at: usize) -> Result<(u16, u16), Stop>
+    ensures exact { Means (λ x. x) result (basic_item basic wanted) }
+    ensures fault { StopsAt result (basic_item_stop basic at) }
 {
     let (name, size) = match basic {
         Basic::Plain(name, size) => (name, size),
         Basic::Unsized(name) => (name, 0),
-        Basic::Polymorphic => return Err(ParseFault::LeftOut(at, Feature::Polymorphic)),
-        Basic::Real => return Err(ParseFault::LeftOut(at, Feature::Real)),
+        Basic::Polymorphic => return Err(stop_at(Why::LeftOut(Feature::Polymorphic), at)),
+        Basic::Real => return Err(stop_at(Why::LeftOut(Feature::Real), at)),
     };
     check_use(wanted, name, at)?;
     Ok((name, size))
 }
 
-/// Reads `name, size)` after the parenthesis.
-#[tactic(auto, unfolding(crate::specs::Types::sized_at, crate::specs::Types::basic_at))]
-fn sized(
-    alloc: Global,
-    wanted: Use,
-    rest: Rest<'_>,
-) -> Result<(u16, u16, Rest<'_>), OrMemory<ParseFault>>
-    ensures { MeansOrMemory (λ x. ((x.0, x.1), left x.2)) result
+/// Reads `name, size)` after the parenthesis. A flag may stand behind the size alone, to be refused
+/// as one.
+#[tactic(auto, unfolding(crate::specs::Stops::sized_stop, crate::specs::Stops::size_part_stop, crate::specs::Types::sized_at, crate::specs::Types::basic_at))]
+fn sized(alloc: Global, wanted: Use, rest: Rest<'_>) -> Result<(u16, u16, Rest<'_>), OrMemory<Stop>>
+    ensures exact { MeansOrMemory (λ x. ((x.0, x.1), left x.2)) result
         (sized_at wanted (left rest.entry)) }
+    ensures fault { StopsAtOrMemory result (sized_stop wanted (left rest.entry)) }
 {
     let basic = match rest.first() {
         Symbol::Name => basic_of(rest.text()),
@@ -296,23 +311,19 @@ fn sized(
     let Some(basic) = basic else {
         return Err(OrMemory::Fault(rest.unexpected()));
     };
-    let (name, _) = basic_item(basic, wanted, rest.at())?;
+    let (name, _) = basic_item(basic, wanted, rest.len())?;
     let rest = rest.next();
     no_pair(rest)?;
-    no_flag(rest)?;
     let rest = sign(rest, Sign::Comma)?;
     let (size, rest) = size_of(alloc, name, rest)?;
     no_flag(rest)?;
     Ok((name, size, sign(rest, Sign::CloseParenthesis)?))
 }
 
-#[tactic(auto, unfolding(crate::specs::Types::size_at))]
-fn size_of(
-    alloc: Global,
-    name: u16,
-    rest: Rest<'_>,
-) -> Result<(u16, Rest<'_>), OrMemory<ParseFault>>
-    ensures { MeansOrMemory (λ x. (x.0, left x.1)) result (size_at name (left rest.entry)) }
+#[tactic(auto, unfolding(crate::specs::Stops::size_stop, crate::specs::Types::size_at))]
+fn size_of(alloc: Global, name: u16, rest: Rest<'_>) -> Result<(u16, Rest<'_>), OrMemory<Stop>>
+    ensures exact { MeansOrMemory (λ x. (x.0, left x.1)) result (size_at name (left rest.entry)) }
+    ensures fault { StopsAtOrMemory result (size_stop (left rest.entry)) }
 {
     let (size, after) = expression(alloc, rest)?;
     if size == 0 || size > MOST_BITS || size % 8 != 0 || is_port_number(name) && size != 32 {
@@ -327,48 +338,44 @@ fn plain<'t>(
     around: Around,
     wanted: Use,
     rest: Rest<'t>,
-) -> Result<(Shape, Rest<'t>), ParseFault>
-    ensures { Means (λ x. (x.0, left x.1)) result (plain_by basic around wanted (left rest.entry)) }
+) -> Result<(Shape, Rest<'t>), Stop>
+    ensures exact { Means (λ x. (x.0, left x.1)) result (plain_by basic around wanted (left rest.entry)) }
+    ensures fault { StopsAt result (plain_stop basic wanted (left rest.entry)) }
 {
     let Basic::Unsized(_) = basic else {
-        let (name, size) = basic_item(basic, wanted, rest.at())?;
+        let (name, size) = basic_item(basic, wanted, rest.len())?;
         no_pair(rest.next())?;
         return Ok((items(around, name, size), rest.next()));
     };
     Err(rest.unexpected())
 }
 
-/// The type of this name, where there is one.
-pub fn type_of(types: &Types<'_>, name: &str) -> Option<Shape>
-    ensures { result ≡ entry_of (plain types.now.entries) name.now }
-{
-    types.get(name).copied()
-}
-
 /// Reads the name of a declared type.
-#[tactic(auto, unfolding(crate::specs::Types::declared_at))]
+#[tactic(auto, unfolding(crate::specs::Stops::declared_stop, crate::specs::Types::declared_at))]
 pub fn declared<'t>(
     types: &Types<'t>,
     wanted: Use,
     rest: Rest<'t>,
-) -> Result<(Shape, Rest<'t>), ParseFault>
-    ensures { Means (λ x. (x.0, left x.1)) result
-        (declared_at (plain types.now.entries) wanted (left rest.entry)) }
+) -> Result<(Shape, Rest<'t>), Stop>
+    ensures exact { Means (λ x. (x.0, left x.1)) result
+        (declared_at types.now wanted (left rest.entry)) }
+    ensures fault { StopsAt result (declared_stop types.now (left rest.entry)) }
 {
-    let Some(shape) = type_of(types, rest.text()) else {
-        return Err(ParseFault::UnknownType(rest.at()));
+    let Some(shape) = types.get(rest.text()) else {
+        return Err(rest.stop(Why::UnknownType));
     };
-    check_use(wanted, shape.name, rest.at())?;
+    check_use(wanted, shape.name, rest.len())?;
     Ok((shape, rest.next()))
 }
 
 /// The shape of a declared type at `at`, with what is around it.
-#[tactic(auto, unfolding(crate::specs::Types::nested))]
-fn nested(around: Around, shape: Shape, at: usize) -> Result<Shape, ParseFault>
-    ensures { Means (λ x. x) result (nested around shape) }
+#[tactic(auto, unfolding(crate::specs::Stops::nested_stop, crate::specs::Types::nested))]
+fn nested(around: Around, shape: Shape, at: usize) -> Result<Shape, Stop>
+    ensures exact { Means (λ x. x) result (nested around shape) }
+    ensures fault { StopsAt result (nested_stop around shape at) }
 {
     if around.is_inside && shape.is_bound {
-        return Err(ParseFault::LeftOut(at, Feature::Nested));
+        return Err(stop_at(Why::LeftOut(Feature::Nested), at));
     }
     Ok(Shape {
         number: around.times(shape.number, at)?,
@@ -378,36 +385,38 @@ fn nested(around: Around, shape: Shape, at: usize) -> Result<Shape, ParseFault>
 }
 
 /// Reads a name in the place of a type.
-#[tactic(auto, unfolding(crate::specs::Types::named_at))]
+#[tactic(auto, unfolding(crate::specs::Stops::named_stop, crate::specs::Types::named_at))]
 fn named<'t>(
     types: &Types<'t>,
     around: Around,
     wanted: Use,
     rest: Rest<'t>,
-) -> Result<(Shape, Rest<'t>), ParseFault>
-    ensures { Means (λ x. (x.0, left x.1)) result
-        (named_at (plain types.now.entries) around wanted (left rest.entry)) }
+) -> Result<(Shape, Rest<'t>), Stop>
+    ensures exact { Means (λ x. (x.0, left x.1)) result
+        (named_at types.now around wanted (left rest.entry)) }
+    ensures fault { StopsAt result (named_stop types.now around wanted (left rest.entry)) }
 {
     match basic_of(rest.text()) {
         Some(basic) => plain(basic, around, wanted, rest),
         None => {
             let (shape, after) = declared(types, wanted, rest)?;
-            Ok((nested(around, shape, rest.at())?, after))
+            Ok((nested(around, shape, rest.len())?, after))
         }
     }
 }
 
 /// Reads a string's dimension, whose word is at `at`.
-#[tactic(auto, unfolding(crate::specs::Types::string_at))]
+#[tactic(auto, unfolding(crate::specs::Stops::string_stop, crate::specs::Types::string_at))]
 fn string<'t>(
     alloc: Global,
     around: Around,
     wanted: Use,
     at: usize,
     rest: Rest<'t>,
-) -> Result<(Shape, Rest<'t>), OrMemory<ParseFault>>
-    ensures { MeansOrMemory (λ x. (x.0, left x.1)) result
+) -> Result<(Shape, Rest<'t>), OrMemory<Stop>>
+    ensures exact { MeansOrMemory (λ x. (x.0, left x.1)) result
         (string_at around wanted (left rest.entry)) }
+    ensures fault { StopsAtOrMemory result (string_stop around wanted at (left rest.entry)) }
 {
     check_use(wanted, STRING, at)?;
     let (around, rest) = variable_dimension(alloc, around, at, rest)?;
@@ -415,18 +424,19 @@ fn string<'t>(
 }
 
 /// Reads a type.
-#[tactic(auto, unfolding(crate::specs::Types::shape_at))]
+#[tactic(auto, unfolding(crate::specs::Stops::shape_stop, crate::specs::Types::shape_at))]
 pub fn shape<'t>(
     alloc: Global,
     types: &Types<'t>,
     wanted: Use,
     rest: Rest<'t>,
-) -> Result<(Shape, Rest<'t>), OrMemory<ParseFault>>
-    ensures { MeansOrMemory (λ x. (x.0, left x.1)) result
-        (shape_at (plain types.now.entries) wanted (left rest.entry)) }
+) -> Result<(Shape, Rest<'t>), OrMemory<Stop>>
+    ensures exact { MeansOrMemory (λ x. (x.0, left x.1)) result
+        (shape_at types.now wanted (left rest.entry)) }
+    ensures fault { StopsAtOrMemory result (shape_stop types.now wanted (left rest.entry)) }
 {
     let (around, rest) = arrays(alloc, rest)?;
-    let at = rest.at();
+    let at = rest.len();
     match rest.first() {
         Symbol::Name => Ok(named(types, around, wanted, rest)?),
         Symbol::Word(Word::CString) => string(alloc, around, wanted, at, rest.next()),
@@ -434,13 +444,13 @@ pub fn shape<'t>(
             let (name, size, rest) = sized(alloc, wanted, rest.next())?;
             Ok((items(around, name, size), rest))
         }
-        Symbol::Word(Word::Polymorphic) => Err(OrMemory::Fault(ParseFault::LeftOut(
+        Symbol::Word(Word::Polymorphic) => Err(OrMemory::Fault(stop_at(
+            Why::LeftOut(Feature::Polymorphic),
             at,
-            Feature::Polymorphic,
         ))),
-        Symbol::Sign(Sign::Caret) => Err(OrMemory::Fault(ParseFault::LeftOut(
+        Symbol::Sign(Sign::Caret) => Err(OrMemory::Fault(stop_at(
+            Why::LeftOut(Feature::OutOfLine),
             at,
-            Feature::OutOfLine,
         ))),
         _ => Err(OrMemory::Fault(rest.unexpected())),
     }

@@ -1,5 +1,6 @@
 pub mod TableLemmas
 pub mod ReadingLemmas
+pub mod PlacedLemmas
 pub mod LoopLemmas
 pub mod ExpressionRuns
 pub mod SpelledIsRead

@@ -1,7 +1,8 @@
 -- Steps that follow each other, as a loop makes them.
 use Rattle.std.proofs.Common.{◌≡◌, ℕ, zero, suc, ◌+◌, ◌-◌, ◌<◌, ◌≤◌, Bool, true, false, Option}
 use Rattle.std.proofs.Common.{Some, refl, arith}
-use Rattle.mrc_mig_symbols.specs.Symbols.{◌>>=◌, many}
+use Rattle.mrc_mig_symbols.specs.declared.fault.Stop.{Stop}
+use Rattle.mrc_mig_symbols.specs.Symbols.{◌>>=◌, many, first_stop, many_stop}
 
 -- no step is made where the test fails
 pub many_ends : {A : Type 0} (goes : A → Bool) (step : A → Option A) (n : ℕ) (a : A)
@@ -17,6 +18,15 @@ pub many_goes_on : {A : Type 0} (goes : A → Bool) (step : A → Option A) (cou
 unfolding many
 many_goes_on goes step count i a lt e = let k : count - i ≡ suc (count - (i + 1)) = omega arith in
     rw (k, e) refl
+
+-- where one of them stops
+pub many_stops_on : {A : Type 0} (goes : A → Bool) (step : A → Option A) (stop : A → Stop)
+    (count i : ℕ) (a : A) → i < count → goes a ≡ true
+    → many_stop goes step stop (count - i) a
+    ≡ first_stop (step a) (stop a) (λ b. many_stop goes step stop (count - (i + 1)) b)
+unfolding many_stop
+many_stops_on goes step stop count i a lt e =
+    let k : count - i ≡ suc (count - (i + 1)) = omega arith in rw (k, e) refl
 
 -- no step is left
 pub many_done : {A : Type 0} (goes : A → Bool) (step : A → Option A) (count i : ℕ) (a : A)

@@ -6,8 +6,11 @@ use Rattle.mrc_mig_lex.specs.declared.token.Sign.TheVariants.{OpenParenthesis, C
 use Rattle.mrc_mig_lex.specs.declared.token.Sign.TheVariants.{CloseBracket, Star, Plus, Minus}
 use Rattle.mrc_mig_lex.specs.declared.token.Sign.TheVariants.{Slash}
 use Rattle.mrc_mig_lex.specs.declared.token.TokenKind.TheVariants as kinds
-use Rattle.mrc_mig_symbols.specs.Symbols.{symbol_of}
+use Rattle.mrc_mig_symbols.specs.Symbols.{symbol_of, unexpected_at}
 use Rattle.mrc_mig_symbols.specs.Expressions.{with_operand, value_of, next_product, step, ends}
+use Rattle.mrc_mig_symbols.specs.ExpressionStops.{placed_with, placed_value, placed_product}
+use Rattle.mrc_mig_symbols.specs.ExpressionStops.{placed_step, placed_before, placed_from}
+use Rattle.mrc_mig_symbols.specs.ExpressionStops.{read_expression, expression_stop}
 use Rattle.mrc_mig_symbols.specs.Expressions.{whole_value, value_before, value_from, expression_at}
 
 -- a number, wherever it stands
@@ -40,6 +43,26 @@ pub product_first : expression_at
 unfolding with_operand value_of next_product step ends whole_value value_before value_from
     expression_at symbol_of
 product_first = refl
+
+-- `2*(3-4)]` stops at the part below 0, `7/0]` at the divisor, `2 *]` at the bracket
+pub stops_at_the_part : expression_stop
+    (number 2 ∷ sign Star ∷ sign OpenParenthesis ∷ number 3 ∷ sign Minus ∷ number 4 ∷ sign
+    CloseParenthesis ∷ sign CloseBracket ∷ []) ≡ unexpected_at 5
+unfolding with_operand value_of next_product step ends symbol_of placed_with placed_value
+    placed_product placed_step placed_before placed_from read_expression expression_stop
+stops_at_the_part = refl
+
+pub stops_at_the_divisor : expression_stop
+    (number 7 ∷ sign Slash ∷ number 0 ∷ sign CloseBracket ∷ []) ≡ unexpected_at 2
+unfolding with_operand value_of next_product step ends symbol_of placed_with placed_value
+    placed_product placed_step placed_before placed_from read_expression expression_stop
+stops_at_the_divisor = refl
+
+pub stops_at_the_bracket : expression_stop
+    (number 2 ∷ sign Star ∷ sign CloseBracket ∷ []) ≡ unexpected_at 1
+unfolding with_operand value_of next_product step ends symbol_of placed_with placed_value
+    placed_product placed_step placed_before placed_from read_expression expression_stop
+stops_at_the_bracket = refl
 
 -- `1-2+5]` has a part below 0
 pub part_below_zero : expression_at

@@ -2,7 +2,9 @@ pub mod Tables
 pub mod Words
 pub mod Directives
 pub mod Symbols
+pub mod Places
 pub mod Expressions
+pub mod ExpressionStops
 pub mod ExpressionGrammar
 pub mod Readers
 pub mod Examples

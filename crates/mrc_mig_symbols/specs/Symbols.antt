@@ -13,6 +13,9 @@ use Rattle.mrc_mig_lex.specs.declared.token.Sign.TheVariants as signs
 use Rattle.mrc_mig_symbols.specs.declared.symbol.Symbol.{Symbol}
 use Rattle.mrc_mig_symbols.specs.declared.symbol.Symbol.TheVariants as symbols
 use Rattle.mrc_mig_symbols.specs.declared.symbol.Rest.{Rest}
+use Rattle.mrc_mig_symbols.specs.declared.fault.Stop.{Stop}
+use Rattle.mrc_mig_symbols.specs.declared.fault.Why.{Why}
+use Rattle.mrc_mig_symbols.specs.declared.fault.Why.TheVariants as why
 use Rattle.mrc_mig_symbols.specs.declared.word.Word.{Word}
 use Rattle.mrc_mig_symbols.specs.Words.{word_of}
 use Rattle.mrc_mig_symbols.specs.Directives.{directive_of}
@@ -27,10 +30,37 @@ abbrev pub guard : Bool → Option (Unit {0})
 guard true = Some tt
 guard false = None
 
+-- reading stops where so many tokens are left
+abbrev pub stop_at : Why → ℕ → Stop
+stop_at why count = record { why = why; left = count }
+
+-- a token that cannot stand there, or a missing one
+abbrev pub unexpected_at : ℕ → Stop
+unexpected_at count = stop_at why.Unexpected count
+
+-- reading stops at the first of these tokens
+abbrev pub stop : Why → List Lexeme → Stop
+stop why tokens = stop_at why (length tokens)
+
+-- a token that cannot stand there, or a missing one
+abbrev pub unexpected : List Lexeme → Stop
+unexpected tokens = stop why.Unexpected tokens
+
+-- why and where a reading stops: where its first part does, or else where what follows does
+abbrev pub first_stop : {A : Type 0} → Option A → Stop → (A → Stop) → Stop
+first_stop None stop next = stop
+first_stop (Some a) stop next = next a
+
 -- one step after the other, as long as the test holds, and at most so many
 unfoldable pub many : {A : Type 0} → (A → Bool) → (A → Option A) → ℕ → A → Option A
 many goes step zero a = Some a
 many goes step (suc n) a = if goes a then (step a >>= λ b. many goes step n b) else Some a
+
+-- where one of these steps stops, each of which stops there where it does
+unfoldable pub many_stop : {A : Type 0} → (A → Bool) → (A → Option A) → (A → Stop) → ℕ → A → Stop
+many_stop goes step stop zero a = stop a
+many_stop goes step stop (suc n) a =
+    if goes a then first_stop (step a) (stop a) (λ b. many_stop goes step stop n b) else stop a
 
 -- what a function returned, seen by view, is what the tokens mean; with a fault they mean nothing
 abbrev pub Means : {X Y F : Type 0} → (X → Y) → Result X F → Option Y → Type 0
@@ -46,6 +76,22 @@ MeansNone Memory read = Unit {0}
 abbrev pub MeansOrMemory : {X Y F : Type 0} → (X → Y) → Result X (OrMemory F) → Option Y → Type 0
 MeansOrMemory view (Ok x) read = read ≡ Some (view x)
 MeansOrMemory view (Err refusal) read = MeansNone refusal read
+
+-- what a function answered, seen by view, is what the definition gives
+abbrev pub Answers : {X Y F : Type 0} → (X → Y) → Result X F → Result Y F → Type 0
+Answers view (Ok x) given = given ≡ Ok (view x)
+Answers view (Err fault) given = given ≡ Err fault
+
+-- what a function refused is this stop
+abbrev pub StopsAt : {X : Type 0} → Result X Stop → Stop → Type 0
+StopsAt (Ok x) stop = Unit {0}
+StopsAt (Err found) stop = found ≡ stop
+
+-- the same, unless memory ran out
+abbrev pub StopsAtOrMemory : {X : Type 0} → Result X (OrMemory Stop) → Stop → Type 0
+StopsAtOrMemory (Ok x) stop = Unit {0}
+StopsAtOrMemory (Err (Fault found)) stop = found ≡ stop
+StopsAtOrMemory (Err Memory) stop = Unit {0}
 
 -- a reserved word, or a name
 abbrev pub name_symbol : Option Word → Symbol
@@ -89,15 +135,6 @@ tail_of (token ∷ tokens) = tokens
 abbrev pub left : Rest → List Lexeme
 left rest = rest.tokens.now
 
--- where the first of these tokens begins, or this place where there is none
-abbrev pub place_in : List Lexeme → ℕ → ℕ
-place_in [] end = end
-place_in (token ∷ tokens) end = token.at
-
--- where the first token that is left begins, or the end of the last one
-abbrev pub place_of : Rest → ℕ
-place_of rest = place_in (left rest) rest.end
-
 -- the place of a sign among the signs
 abbrev pub sign_number : Sign → ℕ
 sign_number signs.Semicolon = 0
@@ -134,3 +171,12 @@ name_by _ tokens = None
 -- a name of few enough bytes that is no reserved word, and what follows it
 unfoldable pub name_at : List Lexeme → Option (List ℕ × List Lexeme)
 name_at tokens = name_by (first_of tokens) tokens
+
+-- where no such name stands
+abbrev pub name_stop_by : Symbol → List Lexeme → Stop
+name_stop_by symbols.Name tokens = stop why.TooMany tokens
+name_stop_by _ tokens = unexpected tokens
+
+-- the stop where no name is read: it is too long, or there is none
+unfoldable pub name_stop : List Lexeme → Stop
+name_stop tokens = name_stop_by (first_of tokens) tokens

@@ -1,13 +1,16 @@
 //! Whole-number expressions, without recursion.
 ghost use Rattle.std.specs.Prelude.{◌≡◌};
-ghost use Rattle.mrc_mig_symbols.specs.Symbols.{Means, MeansOrMemory, left};
-ghost use Rattle.mrc_mig_symbols.specs.Expressions.{nothing_read, with_operand, value_of};
-ghost use Rattle.mrc_mig_symbols.specs.Expressions.{next_product, operand_step, closed};
-ghost use Rattle.mrc_mig_symbols.specs.Expressions.{operator_step, step, ends, value_before};
-ghost use Rattle.mrc_mig_symbols.specs.Expressions.{expression_at};
-ghost use Rattle.mrc_mig_symbols.specs.Readers.{partial_of, unfinished_of};
+ghost use Rattle.mrc_base.specs.Reading.{Gives};
+ghost use Rattle.mrc_mig_symbols.specs.Symbols.{Answers, MeansOrMemory, StopsAtOrMemory, left};
+ghost use Rattle.mrc_mig_symbols.specs.Expressions.{ends, expression_at};
+ghost use Rattle.mrc_mig_symbols.specs.ExpressionStops.{nothing_placed, placed_with, placed_value};
+ghost use Rattle.mrc_mig_symbols.specs.ExpressionStops.{placed_product, placed_operand};
+ghost use Rattle.mrc_mig_symbols.specs.ExpressionStops.{placed_closed, placed_operator};
+ghost use Rattle.mrc_mig_symbols.specs.ExpressionStops.{placed_step, placed_before, unplaced};
+ghost use Rattle.mrc_mig_symbols.specs.ExpressionStops.{read_expression, expression_stop};
+ghost use Rattle.mrc_mig_symbols.specs.Readers.{placed_of, reading_of};
 
-use crate::fault::ParseFault;
+use crate::fault::{Stop, Why, stop_at};
 use crate::symbol::{Rest, Symbol};
 use mrc_base::{OrMemory, limits};
 use mrc_mig_lex::Sign;
@@ -16,17 +19,18 @@ use std::alloc::Global;
 /// The greatest value of a part.
 const MOST: u64 = limits::NUMBER as u64;
 
-/// A sum that is being read: the parts that are finished, and the product that is read now.
+/// A sum that is being read: the parts that are finished, and the product that is read now. Each
+/// place is how many tokens are left there.
 #[derive(Clone, Copy, Debug, PartialEq, Eq)]
 struct Sum {
     /// Where the operand begins that the sum is, with its parenthesis.
-    operand_at: usize,
+    operand_left: usize,
     /// Where the sum begins.
-    at: usize,
+    left: usize,
     total: u32,
     subtracts: bool,
     /// Where the product begins.
-    product_at: usize,
+    product_left: usize,
     product: u32,
     divides: bool,
 }
@@ -34,67 +38,67 @@ struct Sum {
 impl Sum {
     /// Nothing is read yet: the sum is 0 and the product is 1.
     fn new(operand_at: usize, at: usize) -> Sum
-        ensures { partial_of result ≡ nothing_read }
+        ensures { placed_of result ≡ nothing_placed operand_at at }
     {
         Sum {
-            operand_at,
-            at,
+            operand_left: operand_at,
+            left: at,
             total: 0,
             subtracts: false,
-            product_at: at,
+            product_left: at,
             product: 1,
             divides: false,
         }
     }
 
     /// With one more factor or divisor, which begins at `at`.
-    #[tactic(auto, unfolding(crate::specs::Expressions::with_operand))]
-    fn with_operand(self, operand: u32, at: usize) -> Result<Sum, ParseFault>
-        ensures { Means partial_of result (with_operand operand (partial_of self)) }
+    #[tactic(auto, unfolding(crate::specs::Expressions::with_operand, crate::specs::ExpressionStops::placed_with))]
+    fn with_operand(self, operand: u32, at: usize) -> Result<Sum, Stop>
+        ensures { Answers placed_of result (placed_with operand at (placed_of self)) }
     {
         if self.divides {
             if operand == 0 {
-                return Err(ParseFault::Unexpected(at));
+                return Err(stop_at(Why::Unexpected, at));
             }
             let product = self.product / operand;
             return Ok(Sum { product, ..self });
         }
         let product = self.product as u64 * operand as u64;
         if product > MOST {
-            return Err(ParseFault::Unexpected(self.product_at));
+            return Err(stop_at(Why::Unexpected, self.product_left));
         }
         let product = product as u32;
         Ok(Sum { product, ..self })
     }
 
     /// The value of the whole sum.
-    #[tactic(auto, unfolding(crate::specs::Expressions::value_of))]
-    fn value(self) -> Result<u32, ParseFault>
-        ensures { Means (λ n. n) result (value_of (partial_of self)) }
+    #[tactic(auto, unfolding(crate::specs::Expressions::value_of, crate::specs::ExpressionStops::placed_value))]
+    fn value(self) -> Result<u32, Stop>
+        ensures { Answers (λ n. n) result (placed_value (placed_of self)) }
     {
         if self.subtracts {
             if self.total < self.product {
-                return Err(ParseFault::Unexpected(self.at));
+                return Err(stop_at(Why::Unexpected, self.left));
             }
             return Ok(self.total - self.product);
         }
         let value = self.total as u64 + self.product as u64;
         if value > MOST {
-            return Err(ParseFault::Unexpected(self.at));
+            return Err(stop_at(Why::Unexpected, self.left));
         }
         Ok(value as u32)
     }
 
     /// Before the next product, which begins at `at`.
-    #[tactic(auto, unfolding(crate::specs::Expressions::next_product))]
-    fn next_product(self, subtracts: bool, at: usize) -> Result<Sum, ParseFault>
-        ensures { Means partial_of result (next_product subtracts (partial_of self)) }
+    #[tactic(auto, unfolding(crate::specs::Expressions::next_product, crate::specs::ExpressionStops::placed_product))]
+    fn next_product(self, subtracts: bool, at: usize) -> Result<Sum, Stop>
+        ensures { Answers placed_of result (placed_product subtracts at (placed_of self)) }
     {
         let total = self.value()?;
         Ok(Sum {
             total,
             subtracts,
-            product_at: at,
+            product_left: at,
             product: 1,
             divides: false,
             ..self
@@ -113,14 +117,9 @@ struct Reader {
 
 impl Reader {
     /// Reads the symbol at `at`, where an operand is wanted. The next one is at `next`.
-    fn read_operand(
-        &mut self,
-        symbol: Symbol,
-        at: usize,
-        next: usize,
-    ) -> Result<(), OrMemory<ParseFault>>
-        ensures { MeansOrMemory (λ _. unfinished_of self.new) result
-            (operand_step symbol (unfinished_of self.old).outer (unfinished_of self.old).sum) }
+    fn read_operand(&mut self, symbol: Symbol, at: usize, next: usize) -> Result<(), OrMemory<Stop>>
+        ensures { Gives (λ _. reading_of self.new) result (placed_operand symbol at next
+            (reading_of self.old).outer (reading_of self.old).sum) }
     {
         match symbol {
             Symbol::Number(number) => {
@@ -134,28 +133,28 @@ impl Reader {
                 self.wants_operand = true;
                 Ok(())
             }
-            _ => Err(ParseFault::Unexpected(at).into()),
+            _ => Err(stop_at(Why::Unexpected, at).into()),
         }
     }
 
     /// Closes a parenthesis, at `at`.
-    fn close(&mut self, at: usize) -> Result<(), ParseFault>
-        ensures { Means (λ _. unfinished_of self.new) result
-            (closed (unfinished_of self.old).outer (unfinished_of self.old).sum) }
+    fn close(&mut self, at: usize) -> Result<(), Stop>
+        ensures { Answers (λ _. reading_of self.new) result
+            (placed_closed at (reading_of self.old).outer (reading_of self.old).sum) }
     {
         let Some(around) = self.outer.pop() else {
-            return Err(ParseFault::Unexpected(at));
+            return Err(stop_at(Why::Unexpected, at));
         };
         let value = self.sum.value()?;
-        self.sum = around.with_operand(value, self.sum.operand_at)?;
+        self.sum = around.with_operand(value, self.sum.operand_left)?;
         self.wants_operand = false;
         Ok(())
     }
 
     /// Reads the symbol at `at` behind an operand. The next one is at `next`.
-    fn read_operator(&mut self, symbol: Symbol, at: usize, next: usize) -> Result<(), ParseFault>
-        ensures { Means (λ _. unfinished_of self.new) result
-            (operator_step symbol (unfinished_of self.old).outer (unfinished_of self.old).sum) }
+    fn read_operator(&mut self, symbol: Symbol, at: usize, next: usize) -> Result<(), Stop>
+        ensures { Answers (λ _. reading_of self.new) result (placed_operator symbol at next
+            (reading_of self.old).outer (reading_of self.old).sum) }
     {
         match symbol {
             Symbol::Sign(Sign::Star) => self.sum.divides = false,
@@ -163,17 +162,17 @@ impl Reader {
             Symbol::Sign(Sign::Plus) => self.sum = self.sum.next_product(false, next)?,
             Symbol::Sign(Sign::Minus) => self.sum = self.sum.next_product(true, next)?,
             Symbol::Sign(Sign::CloseParenthesis) => return self.close(at),
-            _ => return Err(ParseFault::Unexpected(at)),
+            _ => return Err(stop_at(Why::Unexpected, at)),
         }
         self.wants_operand = true;
         Ok(())
     }
 
     /// Reads the symbol at `at`. The next one is at `next`.
-    #[tactic(auto, unfolding(crate::specs::Expressions::step))]
-    fn read(&mut self, symbol: Symbol, at: usize, next: usize) -> Result<(), OrMemory<ParseFault>>
-        ensures { MeansOrMemory (λ _. unfinished_of self.new) result
-            (step symbol (unfinished_of self.old)) }
+    #[tactic(auto, unfolding(crate::specs::ExpressionStops::placed_step))]
+    fn read(&mut self, symbol: Symbol, at: usize, next: usize) -> Result<(), OrMemory<Stop>>
+        ensures { Gives (λ _. reading_of self.new) result
+            (placed_step symbol at next (reading_of self.old)) }
     {
         if self.wants_operand {
             self.read_operand(symbol, at, next)?;
@@ -186,7 +185,7 @@ impl Reader {
     /// Whether the symbol belongs to the expression no more.
     #[tactic(auto, unfolding(crate::specs::Expressions::ends))]
     fn ends(&self, symbol: Symbol) -> bool
-        ensures { result ≡ ends (unfinished_of self.now) symbol }
+        ensures { result ≡ ends (unplaced (reading_of self.now)) symbol }
     {
         if self.wants_operand {
             return false;
@@ -199,10 +198,10 @@ impl Reader {
     }
 
     /// The value of the expression, which ends before `rest`.
-    #[tactic(auto, unfolding(crate::specs::Expressions::whole_value, crate::specs::Expressions::value_before))]
-    fn value(self, rest: Rest<'_>) -> Result<(u32, Rest<'_>), ParseFault>
-        ensures { Means (λ x. (x.0, left x.1)) result
-            (value_before (left rest.entry) (unfinished_of self)) }
+    #[tactic(auto, unfolding(crate::specs::ExpressionStops::placed_before))]
+    fn value(self, rest: Rest<'_>) -> Result<(u32, Rest<'_>), Stop>
+        ensures { Answers (λ x. (x.0, left x.1)) result
+            (placed_before (left rest.entry) (reading_of self)) }
     {
         if self.wants_operand {
             return Err(rest.unexpected());
@@ -215,14 +214,14 @@ impl Reader {
     }
 }
 
-/// Reads an expression and gives its value, at most 2,147,483,647.
-#[tactic(auto, using(crate::proofs::ReadingLemmas::value_at_end, crate::proofs::ReadingLemmas::value_at_last, crate::proofs::ReadingLemmas::value_goes_on, crate::proofs::ReadingLemmas::tail_is_shorter), unfolding(crate::specs::Expressions::expression_at))]
-pub fn expression(alloc: Global, rest: Rest<'_>) -> Result<(u32, Rest<'_>), OrMemory<ParseFault>>
-    ensures { MeansOrMemory (λ x. (x.0, left x.1)) result (expression_at (left rest.entry)) }
+/// Reads an expression symbol by symbol.
+#[tactic(auto, using(crate::proofs::ReadingLemmas::value_at_end, crate::proofs::ReadingLemmas::value_at_last, crate::proofs::ReadingLemmas::value_goes_on, crate::proofs::ReadingLemmas::tail_is_shorter), unfolding(crate::specs::ExpressionStops::read_expression))]
+fn read_expression(alloc: Global, rest: Rest<'_>) -> Result<(u32, Rest<'_>), OrMemory<Stop>>
+    ensures { Gives (λ x. (x.0, left x.1)) result (read_expression (left rest.entry)) }
 {
     let mut reader = Reader {
         outer: Vec::new(alloc),
-        sum: Sum::new(rest.at(), rest.at()),
+        sum: Sum::new(rest.len(), rest.len()),
         wants_operand: true,
     };
     let mut rest = rest;
@@ -232,8 +231,16 @@ pub fn expression(alloc: Global, rest: Rest<'_>) -> Result<(u32, Rest<'_>), OrMe
             return Ok(reader.value(rest)?);
         }
         let next = rest.next();
-        reader.read(symbol, rest.at(), next.at())?;
+        reader.read(symbol, rest.len(), next.len())?;
         rest = next;
     }
     Ok(reader.value(rest)?)
+}
+
+/// Reads an expression and gives its value, at most 2,147,483,647.
+pub fn expression(alloc: Global, rest: Rest<'_>) -> Result<(u32, Rest<'_>), OrMemory<Stop>>
+    ensures exact { MeansOrMemory (λ x. (x.0, left x.1)) result (expression_at (left rest.entry)) }
+    ensures fault { StopsAtOrMemory result (expression_stop (left rest.entry)) }
+{
+    read_expression(alloc, rest)
 }

@@ -1,8 +1,11 @@
 //! Why tokens are no subsystem.
 ghost use Rattle.std.specs.Prelude.{◌≡◌};
+ghost use Rattle.mrc_mig_symbols.specs.Symbols.{stop_at};
+ghost use Rattle.mrc_mig_symbols.specs.Places.{place_of, last_end, fault_of};
 ghost use Rattle.mrc_base.specs.declared.memory.OrMemory.TheVariants.{Fault};
 
 use mrc_base::OrMemory;
+use mrc_mig_lex::Token;
 use std::fmt;
 use thiserror::Error;
 
@@ -72,10 +75,79 @@ pub enum ParseFault {
     TooMany(usize),
 }
 
-impl From<ParseFault> for OrMemory<ParseFault> {
-    ghost from_gives = { λ fault refusal. refusal ≡ Fault fault };
+/// Why reading stops: a fault without its place.
+#[derive(Clone, Copy, Debug, PartialEq, Eq)]
+pub enum Why {
+    /// A token that cannot stand there, or a missing one.
+    Unexpected,
+    /// A form of MIG that is left out.
+    LeftOut(Feature),
+    /// A type that was not declared before.
+    UnknownType,
+    /// A second type, routine or argument of one name.
+    TwiceNamed,
+    /// No request port, or two.
+    NoRequestPort,
+    /// A long name, a count out of its range, the 33rd argument or the 101st id.
+    TooMany,
+}
 
-    fn from(fault: ParseFault) -> OrMemory<ParseFault> {
-        OrMemory::Fault(fault)
+/// Why reading stops, and where: at the first of so many tokens that are left.
+#[derive(Clone, Copy, Debug, PartialEq, Eq)]
+pub struct Stop {
+    /// Why.
+    pub why: Why,
+    /// How many tokens are left.
+    pub left: usize,
+}
+
+/// Reading stops where so many tokens are left.
+pub fn stop_at(why: Why, count: usize) -> Stop
+    ensures { result ≡ stop_at why count }
+{
+    Stop { why, left: count }
+}
+
+impl From<Stop> for OrMemory<Stop> {
+    ghost from_gives = { λ stop refusal. refusal ≡ Fault stop };
+
+    fn from(stop: Stop) -> OrMemory<Stop> {
+        OrMemory::Fault(stop)
+    }
+}
+
+/// Where the last token ends.
+fn last_end(tokens: &[Token<'_>]) -> usize
+    ensures { result ≡ last_end tokens.now }
+{
+    match tokens.last() {
+        Some(token) => token.end(),
+        None => 0,
+    }
+}
+
+/// Where the first of so many tokens that are left begins, or the end of the last one where none
+/// is left.
+pub fn place_of(tokens: &[Token<'_>], count: usize) -> usize
+    ensures { result ≡ place_of tokens.now count }
+{
+    match tokens.get(tokens.len().saturating_sub(count)) {
+        Some(token) => token.at(),
+        None => last_end(tokens),
+    }
+}
+
+/// The fault of these tokens for which reading stops.
+pub fn fault_of(tokens: &[Token<'_>], stop: Stop) -> ParseFault
+    ensures { result ≡ fault_of tokens.now stop }
+{
+    let at = place_of(tokens, stop.left);
+    match stop.why {
+        Why::Unexpected => ParseFault::Unexpected(at),
+        Why::LeftOut(feature) => ParseFault::LeftOut(at, feature),
+        Why::UnknownType => ParseFault::UnknownType(at),
+        Why::TwiceNamed => ParseFault::TwiceNamed(at),
+        Why::NoRequestPort => ParseFault::NoRequestPort(at),
+        Why::TooMany => ParseFault::TooMany(at),
     }
 }

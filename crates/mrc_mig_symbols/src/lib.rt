@@ -11,7 +11,7 @@ mod word;
 
 pub use directive::Directive;
 pub use expressions::expression;
-pub use fault::{Feature, ParseFault};
+pub use fault::{Feature, ParseFault, Stop, Why, fault_of, place_of, stop_at};
 pub use laws::expressions_by_grammar;
 pub use symbol::{Rest, Symbol, name, sign};
 pub use word::{Basic, Direction, Word, basic_of};

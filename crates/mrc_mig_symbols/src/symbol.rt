@@ -1,11 +1,12 @@
 //! What the grammar sees of a token, and what is left to read.
 
-ghost use Rattle.std.specs.Prelude.{◌≡◌};
-ghost use Rattle.mrc_mig_symbols.specs.Symbols.{Means, symbol_of, no_tokens, first_of, text_of};
-ghost use Rattle.mrc_mig_symbols.specs.Symbols.{tail_of, after_sign, name_at, left, place_of};
+ghost use Rattle.std.specs.Prelude.{◌≡◌, length};
+ghost use Rattle.mrc_mig_symbols.specs.Symbols.{Means, StopsAt, symbol_of, no_tokens, first_of};
+ghost use Rattle.mrc_mig_symbols.specs.Symbols.{text_of, tail_of, after_sign, name_at, left, stop};
+ghost use Rattle.mrc_mig_symbols.specs.Symbols.{unexpected, name_stop};
 
 use crate::directive::{Directive, directive_of};
-use crate::fault::ParseFault;
+use crate::fault::{Stop, Why};
 use crate::word::{Word, word_of};
 use mrc_base::limits;
 use mrc_mig_lex::{Sign, Token, TokenKind};
@@ -54,8 +55,6 @@ fn symbol_of(token: &Token<'_>) -> Symbol
 pub struct Rest<'t> {
     /// The tokens.
     pub tokens: &'t [Token<'t>],
-    /// The end of the last token of all.
-    pub end: usize,
 }
 
 impl<'t> Rest<'t> {
@@ -63,11 +62,7 @@ impl<'t> Rest<'t> {
     pub fn new(tokens: &'t [Token<'t>]) -> Rest<'t>
         ensures { left result ≡ tokens.now }
     {
-        let end = match tokens.last() {
-            Some(token) => token.end(),
-            None => 0,
-        };
-        Rest { tokens, end }
+        Self { tokens }
     }
 
     /// Whether nothing is left.
@@ -91,14 +86,11 @@ impl<'t> Rest<'t> {
         }
     }
 
-    /// Where the first token begins, or the end.
-    pub fn at(self) -> usize
-        ensures { result ≡ place_of self.entry }
+    /// How many tokens are left.
+    pub fn len(self) -> usize
+        ensures { result ≡ length (left self.entry) }
     {
-        match self.tokens {
-            [] => self.end,
-            [token, ..] => token.at(),
-        }
+        self.tokens.len()
     }
 
     /// The first token's text.
@@ -119,25 +111,33 @@ impl<'t> Rest<'t> {
     {
         match self.tokens {
             [] => self,
-            [_, tokens @ ..] => Rest {
-                tokens,
-                end: self.end,
-            },
+            [_, tokens @ ..] => Rest { tokens },
         }
     }
 
-    /// The fault of a first token that cannot stand there, or of a missing one.
-    pub fn unexpected(self) -> ParseFault
-        ensures { result ≡ ParseFault.Unexpected (place_of self.entry) }
+    /// Reading stops at the first token.
+    pub fn stop(self, why: Why) -> Stop
+        ensures { result ≡ stop why (left self.entry) }
     {
-        ParseFault::Unexpected(self.at())
+        Stop {
+            why,
+            left: self.len(),
+        }
+    }
+
+    /// Reading stops at a first token that cannot stand there, or at a missing one.
+    pub fn unexpected(self) -> Stop
+        ensures { result ≡ unexpected (left self.entry) }
+    {
+        self.stop(Why::Unexpected)
     }
 }
 
 /// Takes the sign. Anything else is Unexpected.
 #[tactic(auto, unfolding(crate::specs::Symbols::after_sign))]
-pub fn sign<'t>(rest: Rest<'t>, wanted: Sign) -> Result<Rest<'t>, ParseFault>
-    ensures { Means left result (after_sign wanted (left rest.entry)) }
+pub fn sign<'t>(rest: Rest<'t>, wanted: Sign) -> Result<Rest<'t>, Stop>
+    ensures exact { Means left result (after_sign wanted (left rest.entry)) }
+    ensures fault { StopsAt result (unexpected (left rest.entry)) }
 {
     match rest.first() {
         Symbol::Sign(found) if found == wanted => Ok(rest.next()),
@@ -147,13 +147,14 @@ pub fn sign<'t>(rest: Rest<'t>, wanted: Sign) -> Result<Rest<'t>, ParseFault>
 
 /// Takes a name that is not used but made, or stands for something outside of the text. One above
 /// 64 bytes is TooMany; a reserved word, and anything else, is Unexpected.
-#[tactic(auto, unfolding(crate::specs::Symbols::name_at))]
-pub fn name(rest: Rest<'_>) -> Result<(&str, Rest<'_>), ParseFault>
-    ensures { Means (λ x. (x.0.now, left x.1)) result (name_at (left rest.entry)) }
+#[tactic(auto, unfolding(crate::specs::Symbols::name_at, crate::specs::Symbols::name_stop))]
+pub fn name(rest: Rest<'_>) -> Result<(&str, Rest<'_>), Stop>
+    ensures exact { Means (λ x. (x.0.now, left x.1)) result (name_at (left rest.entry)) }
+    ensures fault { StopsAt result (name_stop (left rest.entry)) }
 {
     match rest.first() {
         Symbol::Name if rest.text().len() <= limits::NAME => Ok((rest.text(), rest.next())),
-        Symbol::Name => Err(ParseFault::TooMany(rest.at())),
+        Symbol::Name => Err(rest.stop(Why::TooMany)),
         _ => Err(rest.unexpected()),
     }
 }

@@ -1,15 +1,16 @@
-use Rattle.std.proofs.Common.{◌≡◌, ◌++◌, map, drop, length}
+use Rattle.std.proofs.Common.{◌≡◌, ◌≤◌, ◌+◌, ◌++◌, map, drop, length}
 use Rattle.mrc_mig_parse.specs.Meanings.{item_of}
 use Rattle.mrc_interface.specs.Forms.{form_of, body, slots_from}
 use Rattle.mrc_interface.proofs.form.Form.of.Given as goal
 
 abbrev pub invariant-loop-argument : goal.invariant-loop-argument
 invariant-loop-argument l =
-    record l.form {
+    (length l.form.arguments ≤ l.argument-index + 1)
+    × (record l.form {
       arguments = l.form.arguments
           ++ map (λ item. item.shape)
           (body l.kind (map item_of (drop l.argument-index l.arguments)));
       slots = l.form.slots
           ++ slots_from (length l.form.arguments)
           (body l.kind (map item_of (drop l.argument-index l.arguments)));
-    } ≡ form_of l.id l.kind (map item_of l.arguments)
+    } ≡ form_of l.id l.kind (map item_of l.arguments))
