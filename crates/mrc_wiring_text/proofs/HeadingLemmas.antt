@@ -1,6 +1,7 @@
 -- Looking for the first line with words, as a loop does.
 use Rattle.std.proofs.Common.{◌≡◌, ℕ, ◌+◌, Bool, true, false, eqb, List, [], ◌∷◌, length, Result}
 use Rattle.std.proofs.Common.{Ok, Err, refl, sym, ap, ◌∙◌}
+use Rattle.std.specs.List.{before_first}
 use Rattle.std.proofs.lemmas.Bool.{eqb-true}
 use Rattle.std.proofs.lemmas.List.{nil_from_length}
 use Rattle.mrc_base.specs.declared.memory.OrMemory.{OrMemory}
@@ -8,7 +9,7 @@ use Rattle.mrc_base.specs.Reading.{◌>>=◌, Refuses}
 use Rattle.mrc_base.proofs.Steps.{refuses_then, refuses_same}
 use Rattle.mrc_wiring_text.specs.declared.faults.TextFault.{TextFault}
 use Rattle.mrc_wiring_text.specs.declared.faults.TextFault.TheVariants.{BadLine}
-use Rattle.mrc_wiring_text.specs.Lexis.{words}
+use Rattle.mrc_wiring_text.specs.Lexis.{is_hash, spaced, between_blanks, words}
 use Rattle.mrc_wiring_text.specs.Reading.{after_heading, heading}
 
 -- what a test of a count says of the count itself
@@ -18,6 +19,14 @@ pub tells : (test : Bool) (count n : ℕ) (b : Bool)
     → test ≡ b
     → eqb n 0 ≡ b
 tells test count n b is same said = sym (is ∙ ap (λ k. eqb k 0) same) ∙ said
+
+-- the words of a line, of the spaced text that was made of it
+pub said_words : (line text view : List ℕ)
+    → view ≡ text
+    → text ≡ spaced (before_first is_hash line)
+    → between_blanks view ≡ words line
+unfolding words
+said_words line text view seen made = ap between_blanks (seen ∙ made)
 
 -- a list of no elements
 pub is_nil : {X : Type 0} (xs : List X) (test : Bool)

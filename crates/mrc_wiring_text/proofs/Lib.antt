@@ -1,3 +1,7 @@
+pub mod ItemLemmas
+pub mod ItemLaws
+pub mod SlotLaws
+pub mod LineLaws
 pub mod LineLemmas
 pub mod NameLemmas
 pub mod BodyLemmas
@@ -6,3 +10,4 @@ pub mod HeadingLaws
 pub mod TextLaws
 pub mod OtherLaws
 mod Examples
+mod LineExamples

@@ -1,40 +1,115 @@
--- What the lines of a wiring say: the tasks of a system, and what they hold at first. The grammar
--- is this profile's own choice.
+-- What the lines of a wiring say: the tasks of a system and its wired ports, what a class accepts,
+-- what the tasks hold at first, and which classes a slot admits. The grammar is this profile's own
+-- choice.
 use Rattle.std.specs.Prelude.{ℕ, ◌&&◌, bytes_eq, codes, List, [], ◌∷◌, Option, Some, None, Result}
 use Rattle.std.specs.Prelude.{if◌then◌else◌}
+use Rattle.std.specs.List.{before_first, after_first}
+use Rattle.std.specs.Option.{option_map}
 use Rattle.mrc_wiring_text.specs.declared.faults.TextFault.{TextFault}
+use Rattle.mrc_wiring_text.specs.declared.items.Item.{Item}
+use Rattle.mrc_wiring_text.specs.declared.policy.ClassName.{ClassName}
 use Rattle.mrc_wiring_text.specs.declared.reading.Line.{Line}
+use Rattle.mrc_wiring_text.specs.declared.wiring.HeldRight.{HeldRight}
+use Rattle.mrc_wiring_text.specs.declared.wiring.HeldRight.TheVariants.{Send, SendOnce}
 use Rattle.mrc_wiring_text.specs.declared.wiring.WiringSays.{WiringSays}
-use Rattle.mrc_wiring_text.specs.declared.wiring.WiringSays.TheVariants.{Task, HoldTask}
+use Rattle.mrc_wiring_text.specs.declared.wiring.WiringSays.TheVariants.{Task, Port, Births}
+use Rattle.mrc_wiring_text.specs.declared.wiring.WiringSays.TheVariants.{HoldPort, HoldTask, Admit}
+use Rattle.mrc_wiring_text.specs.Lexis.{is_dot}
 use Rattle.mrc_wiring_text.specs.Names.{name_of}
+use Rattle.mrc_wiring_text.specs.Items.{items_of}
+use Rattle.mrc_wiring_text.specs.Policy.{class_of}
 use Rattle.mrc_wiring_text.specs.Reading.{text_of}
 
--- there is a task, where there is a name
-abbrev pub task_named : Option (List ℕ) → Option WiringSays
-task_named (Some task) = Some (Task task)
-task_named None = None
+-- the words after `task` in `task T`
+unfoldable pub task_line : List (List ℕ) → Option WiringSays
+task_line (task ∷ []) = option_map Task (name_of task)
+task_line words = None
 
--- `task T`
-unfoldable pub task_line : List ℕ → List ℕ → Option WiringSays
-task_line key task = if bytes_eq key (codes "task") then task_named (name_of task) else None
+-- a port, where there are both names and what it accepts
+abbrev pub port_named : Option (List ℕ) → Option (List ℕ) → Option (List Item) → Option WiringSays
+port_named (Some port) (Some receiver) (Some accepts) = Some (Port port receiver accepts)
+port_named _ _ _ = None
 
--- a task holds a send right to the kernel port of another, where both have a name
+-- the words after `port` in `port P receiver T accepts ITEMS`
+unfoldable pub port_line : List (List ℕ) → Option WiringSays
+port_line (port ∷ receiver ∷ task ∷ accepts ∷ items) =
+    if bytes_eq receiver (codes "receiver") && bytes_eq accepts (codes "accepts")
+    then port_named (name_of port) (name_of task) (items_of items)
+    else None
+port_line words = None
+
+-- the births of a task, where there is its name and what they accept
+abbrev pub births_named : Option (List ℕ) → Option (List Item) → Option WiringSays
+births_named (Some task) (Some accepts) = Some (Births task accepts)
+births_named _ _ = None
+
+-- the words after `births` in `births T accepts ITEMS`
+unfoldable pub births_line : List (List ℕ) → Option WiringSays
+births_line (task ∷ accepts ∷ items) =
+    if bytes_eq accepts (codes "accepts") then births_named (name_of task) (items_of items)
+    else None
+births_line words = None
+
+-- the right on a port that a word names
+unfoldable pub held_right : List ℕ → Option HeldRight
+held_right word =
+    if bytes_eq word (codes "send") then Some Send
+    else (if bytes_eq word (codes "once") then Some SendOnce else None)
+
+-- a task holds a right on a port, where there are both names and the right
+abbrev pub hold_port_named : Option (List ℕ) → Option HeldRight → Option (List ℕ)
+    → Option WiringSays
+hold_port_named (Some holder) (Some right) (Some port) = Some (HoldPort holder right port)
+hold_port_named _ _ _ = None
+
+-- a task holds a send right to the kernel port of another, where there are both names
 abbrev pub hold_task_named : Option (List ℕ) → Option (List ℕ) → Option WiringSays
 hold_task_named (Some holder) (Some task) = Some (HoldTask holder task)
 hold_task_named _ _ = None
 
--- `hold T send task U`
-unfoldable pub hold_line : List ℕ → List ℕ → List ℕ → List ℕ → List ℕ → Option WiringSays
-hold_line key holder right kind held =
-    if bytes_eq key (codes "hold") && bytes_eq right (codes "send") && bytes_eq kind (codes "task")
-    then hold_task_named (name_of holder) (name_of held)
-    else None
+-- what a task holds: `T send port P`, `T once port P` or `T send task U`
+unfoldable pub held : List ℕ → List ℕ → List ℕ → List ℕ → Option WiringSays
+held holder right kind name =
+    if bytes_eq kind (codes "port")
+    then hold_port_named (name_of holder) (held_right right) (name_of name)
+    else (if bytes_eq kind (codes "task") && bytes_eq right (codes "send")
+    then hold_task_named (name_of holder) (name_of name)
+    else None)
 
--- what the words of a line say
+-- the words after `hold`: four
+unfoldable pub hold_line : List (List ℕ) → Option WiringSays
+hold_line (holder ∷ right ∷ kind ∷ name ∷ []) = held holder right kind name
+hold_line words = None
+
+-- what words say that a slot admits: no class of this line, by `none`, or the class that they name
+unfoldable pub admitted : List (List ℕ) → Option (Option ClassName)
+admitted (word ∷ []) = if bytes_eq word (codes "none") then Some None else None
+admitted (kind ∷ name ∷ []) = option_map Some (class_of kind name)
+admitted words = None
+
+-- what a type's slots admit, where there are both names of the type and what is admitted
+abbrev pub admit_named : Option (List ℕ) → Option (List ℕ) → Option (Option ClassName)
+    → Option WiringSays
+admit_named (Some subsystem) (Some type) (Some class) = Some (Admit subsystem type class)
+admit_named _ _ _ = None
+
+-- the words after `admit` in `admit S.type CLASS` and `admit S.type none`: one word that has a name
+-- before its first dot and a name after it, and the class
+unfoldable pub admit_line : List (List ℕ) → Option WiringSays
+admit_line (slot ∷ class) =
+    admit_named (name_of (before_first is_dot slot)) (name_of (after_first is_dot slot))
+    (admitted class)
+admit_line [] = None
+
+-- what the words of a line say, by the first of them
 unfoldable pub wiring_says : List (List ℕ) → Option WiringSays
-wiring_says (key ∷ task ∷ []) = task_line key task
-wiring_says (key ∷ holder ∷ right ∷ kind ∷ held ∷ []) = hold_line key holder right kind held
-wiring_says words = None
+wiring_says (key ∷ words) =
+    if bytes_eq key (codes "task") then task_line words
+    else (if bytes_eq key (codes "port") then port_line words
+    else (if bytes_eq key (codes "births") then births_line words
+    else (if bytes_eq key (codes "hold") then hold_line words
+    else (if bytes_eq key (codes "admit") then admit_line words else None))))
+wiring_says [] = None
 
 -- what a wiring says
 abbrev pub wiring_of : List ℕ → Result (List (Line WiringSays)) TextFault

@@ -1,8 +1,10 @@
 //! Lines and words.
 
-ghost use Rattle.std.specs.Prelude.{◌≡◌, ◌<◌, ◌==◌, ◌∷◌, length, map, bytes_eq, vec_len, IfOk};
-ghost use Rattle.std.specs.List.{position_or_len, before_first};
-ghost use Rattle.mrc_wiring_text.specs.Lexis.{lines, is_blank, is_hash, words};
+ghost use Rattle.std.specs.Prelude.{◌≡◌, ◌<◌, ◌==◌, ◌∷◌, ◌++◌, length, map, bytes_eq, vec_len};
+ghost use Rattle.std.specs.Prelude.{IfOk, OnOk};
+ghost use Rattle.std.specs.List.{position_or_len, before_first, after_first};
+ghost use Rattle.mrc_wiring_text.specs.Lexis.{lines, is_blank, is_hash, spaced_byte, spaced};
+ghost use Rattle.mrc_wiring_text.specs.Lexis.{between_blanks, is_dot};
 
 use std::alloc::{AllocError, Global};
 
@@ -43,15 +45,52 @@ fn before_comment(line: &[u8]) -> &[u8]
     &line[..place_of(line, b'#')]
 }
 
-/// The words of a line.
-pub fn words(alloc: Global, line: &[u8]) -> Result<Vec<&[u8]>, AllocError>
-    ensures exact { IfOk result (λ found. map (λ word. word.now) found.items ≡ words line.now) }
-    ensures count { IfOk result (λ found. vec_len found ≡ length (words line.now)) }
+/// Adds a byte, with a space on each side if it is a comma.
+fn push_spaced(text: &mut Vec<u8>, byte: u8) -> Result<(), AllocError>
+    ensures ok { OnOk result (text.new.items ≡ text.old.items ++ spaced_byte byte) }
 {
-    before_comment(line)
-        .split(|byte| is_blank(*byte))
+    if byte == b',' {
+        text.extend_from_slice(b" , ")?;
+    } else {
+        text.push(byte)?;
+    }
+    Ok(())
+}
+
+/// A line up to its comment, with a space on each side of each comma.
+pub fn spaced(alloc: Global, line: &[u8]) -> Result<Vec<u8>, AllocError>
+    ensures { IfOk result (λ text. text.items ≡ spaced (before_first is_hash line.now)) }
+{
+    let said = before_comment(line);
+    let mut text = Vec::new(alloc);
+    for byte in said {
+        push_spaced(&mut text, *byte)?;
+    }
+    Ok(text)
+}
+
+/// What stands between blanks.
+pub fn between_blanks(alloc: Global, text: &[u8]) -> Result<Vec<&[u8]>, AllocError>
+    ensures exact { IfOk result (λ found.
+        map (λ word. word.now) found.items ≡ between_blanks text.now) }
+    ensures count { IfOk result (λ found. vec_len found ≡ length (between_blanks text.now)) }
+{
+    text.split(|byte| is_blank(*byte))
         .filter(|word| !word.is_empty())
         .collect(alloc)
+}
+
+/// What stands before a word's first dot, and what stands after it.
+pub(crate) fn around_dot(word: &[u8]) -> (&[u8], &[u8])
+    ensures before { result.0.now ≡ before_first is_dot word.now }
+    ensures after { result.1.now ≡ after_first is_dot word.now }
+{
+    let dot = place_of(word, b'.');
+    if dot < word.len() {
+        (&word[..dot], &word[dot + 1..])
+    } else {
+        (word, &[])
+    }
 }
 
 /// Whether a word is the given one.

@@ -3,6 +3,8 @@
 #![tactic(auto)]
 
 mod faults;
+mod items;
+pub mod laws;
 mod lexis;
 mod names;
 mod policy;
@@ -10,11 +12,9 @@ mod reading;
 mod wiring;
 
 pub use faults::TextFault;
-pub use lexis::{first_line, is_word, words};
+pub use items::{Item, Items};
+pub use lexis::{between_blanks, first_line, is_word, spaced};
 pub use names::Name;
 pub use policy::{ClassName, Forbid, PolicyLine, read_policy};
 pub use reading::{Line, is_number};
-pub use wiring::{WiringLine, WiringSays, read_wiring};
-
-#[cfg(test)]
-mod tests;
+pub use wiring::{HeldRight, WiringLine, WiringSays, read_wiring};

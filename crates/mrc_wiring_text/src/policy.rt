@@ -27,8 +27,8 @@ pub enum ClassName {
     Births(Name),
 }
 
-/// What a line of a policy says, `forbid T RIGHT CLASS`: neither T nor a task that it counts as must
-/// ever hold the right on a port of the class.
+/// What a line of a policy says, `forbid T RIGHT CLASS`: neither T nor a task that it counts as
+/// must ever hold the right on a port of the class.
 #[derive(Debug, Drop)]
 pub struct Forbid {
     /// T.
@@ -58,7 +58,11 @@ fn right_of(word: &[u8]) -> Option<PortRight>
 }
 
 #[tactic(auto, unfolding(crate::specs::Policy::class_of))]
-fn class_of(alloc: Global, kind: &[u8], name: &[u8]) -> Result<Option<ClassName>, AllocError>
+pub(crate) fn class_of(
+    alloc: Global,
+    kind: &[u8],
+    name: &[u8],
+) -> Result<Option<ClassName>, AllocError>
     ensures { IfOk result (λ class. class ≡ class_of kind.now name.now) }
 {
     if is_word(kind, "port") {

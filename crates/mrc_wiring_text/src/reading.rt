@@ -7,12 +7,12 @@ ghost use Rattle.std.specs.Char.{is_ascii_digit};
 ghost use Rattle.std.specs.Option.{option_map};
 ghost use Rattle.mrc_base.specs.Limits.{limit_of_lines};
 ghost use Rattle.mrc_base.specs.Reading.{Gives};
-ghost use Rattle.mrc_wiring_text.specs.Lexis.{lines, words, decimal};
+ghost use Rattle.mrc_wiring_text.specs.Lexis.{lines, decimal};
 ghost use Rattle.mrc_wiring_text.specs.Reading.{is_number, version_of, after_heading, heading};
 ghost use Rattle.mrc_wiring_text.specs.Reading.{line_of, body, utf8_text, text_of};
 
 use crate::faults::TextFault;
-use crate::lexis::{first_line, is_word, words};
+use crate::lexis::{between_blanks, first_line, is_word, spaced};
 use mrc_base::OrMemory;
 use mrc_base::limits::LINES;
 use std::alloc::{AllocError, Global};
@@ -105,7 +105,8 @@ fn heading<'a>(
     let mut before = 0usize;
     while !rest.is_empty() {
         let (line, after) = first_line(rest);
-        let said = words(alloc, line)?;
+        let text = spaced(alloc, line)?;
+        let said = between_blanks(alloc, &text)?;
         if !said.is_empty() {
             let next = after_heading(kind, before + 1, &said)?;
             return Ok((next, after));
@@ -117,7 +118,7 @@ fn heading<'a>(
 }
 
 /// What a line says, if it has words.
-#[tactic(auto, unfolding(crate::specs::Reading::line_of))]
+#[tactic(auto, unfolding(crate::specs::Reading::line_of, crate::specs::Lexis::words))]
 fn line_of<S: Statement>(
     alloc: Global,
     number: u32,
@@ -129,7 +130,8 @@ fn line_of<S: Statement>(
     if number > LINES {
         return Err(OrMemory::Fault(TextFault::BadLine(LINES + 1)));
     }
-    let said = words(alloc, line)?;
+    let text = spaced(alloc, line)?;
+    let said = between_blanks(alloc, &text)?;
     if said.is_empty() {
         return Ok(None);
     }

@@ -1,26 +1,65 @@
 //! Wirings.
 
-ghost use Rattle.std.specs.Prelude.{◌≡◌, ◌≢◌, List, IfOk, Ok, Err};
+ghost use Rattle.std.specs.Prelude.{◌≡◌, ◌≢◌, List, map, IfOk, Ok, Err};
 ghost use Rattle.std.specs.Str.{IsUtf8};
 ghost use Rattle.mrc_wiring_text.specs.declared.reading.Line.{Line};
 ghost use Rattle.mrc_wiring_text.specs.declared.wiring.WiringSays.{WiringSays};
 ghost use Rattle.mrc_base.specs.Reading.{Gives};
 ghost use Rattle.mrc_wiring_text.specs.Texts.{IsWiring};
-ghost use Rattle.mrc_wiring_text.specs.Wiring.{task_line, hold_task_named, hold_line, wiring_says};
-ghost use Rattle.mrc_wiring_text.specs.Wiring.{wiring_of};
+ghost use Rattle.mrc_wiring_text.specs.Wiring.{task_line, port_named, port_line, births_named};
+ghost use Rattle.mrc_wiring_text.specs.Wiring.{births_line, held_right, hold_port_named, held};
+ghost use Rattle.mrc_wiring_text.specs.Wiring.{hold_task_named, hold_line, admitted, admit_named};
+ghost use Rattle.mrc_wiring_text.specs.Wiring.{admit_line, wiring_says, wiring_of};
 
 use crate::faults::TextFault;
-use crate::lexis::is_word;
+use crate::items::{Items, items_of};
+use crate::lexis::{around_dot, is_word};
 use crate::names::Name;
+use crate::policy::{ClassName, class_of};
 use crate::reading::{Line, Statement, text_of};
 use mrc_base::OrMemory;
 use std::alloc::{AllocError, Global};
+
+/// The rights that a wiring can give on a port.
+#[derive(Clone, Copy, Debug, PartialEq, Eq)]
+pub enum HeldRight {
+    /// `send`.
+    Send,
+    /// `once`: send-once.
+    SendOnce,
+}
 
 /// What a line of a wiring says.
 #[derive(Debug, Drop)]
 pub enum WiringSays {
     /// `task T`: there is a task of this name.
     Task(Name),
+    /// `port P receiver T accepts ITEMS`: there is a wired port P, T holds its receive right, and
+    /// its class accepts the items.
+    Port {
+        /// P.
+        port: Name,
+        /// T, which holds the receive right.
+        receiver: Name,
+        /// What the port's class accepts.
+        accepts: Items,
+    },
+    /// `births T accepts ITEMS`: the ports that T's space is the first to hold accept the items.
+    Births {
+        /// T.
+        task: Name,
+        /// What the class of T's births accepts.
+        accepts: Items,
+    },
+    /// `hold T send port P` or `hold T once port P`: T holds the right on P.
+    HoldPort {
+        /// T, which holds the right.
+        holder: Name,
+        /// The right.
+        right: HeldRight,
+        /// P.
+        port: Name,
+    },
     /// `hold T send task U`: T holds a send right to the kernel port of U.
     HoldTask {
         /// T, which holds the right.
@@ -28,21 +67,121 @@ pub enum WiringSays {
         /// U, whose kernel port it is.
         task: Name,
     },
+    /// `admit S.type CLASS` or `admit S.type none`: slots of the type admit ports of the class.
+    Admit {
+        /// S, the subsystem.
+        subsystem: Name,
+        /// The name of the type in S.
+        type_name: Name,
+        /// The class, or none of this line.
+        class: Option<ClassName>,
+    },
 }
 
 /// A line of a wiring that says something.
 pub type WiringLine = Line<WiringSays>;
 
-/// `task T`
+/// `task T`, after its first word.
 #[tactic(auto, unfolding(crate::specs::Wiring::task_line))]
-fn task_line(alloc: Global, key: &[u8], task: &[u8]) -> Result<Option<WiringSays>, AllocError>
-    ensures { IfOk result (λ says. says ≡ task_line key.now task.now) }
+fn task_line(alloc: Global, words: &[&[u8]]) -> Result<Option<WiringSays>, AllocError>
+    ensures { IfOk result (λ says. says ≡ task_line (map (λ word. word.now) words.now)) }
 {
-    if !is_word(key, "task") {
-        return Ok(None);
+    match *words {
+        [task] => Ok(Name::new(alloc, task)?.map(|task| WiringSays::Task(task))),
+        _ => Ok(None),
     }
-    let task = Name::new(alloc, task)?;
-    Ok(task.map(|task| WiringSays::Task(task)))
+}
+
+fn port_named(
+    port: Option<Name>,
+    receiver: Option<Name>,
+    accepts: Option<Items>,
+) -> Option<WiringSays>
+    ensures { result ≡ port_named port receiver accepts }
+{
+    match (port, receiver, accepts) {
+        (Some(port), Some(receiver), Some(accepts)) => {
+            Some(WiringSays::Port {
+                port,
+                receiver,
+                accepts,
+            })
+        }
+        _ => None,
+    }
+}
+
+/// `port P receiver T accepts ITEMS`, after its first word.
+#[tactic(auto, unfolding(crate::specs::Wiring::port_line))]
+fn port_line(alloc: Global, words: &[&[u8]]) -> Result<Option<WiringSays>, AllocError>
+    ensures { IfOk result (λ says. says ≡ port_line (map (λ word. word.now) words.now)) }
+{
+    match words {
+        [port, receiver, task, accepts, items @ ..]
+            if is_word(receiver, "receiver") && is_word(accepts, "accepts") => {
+            let port = Name::new(alloc, port)?;
+            let receiver = Name::new(alloc, task)?;
+            let accepts = items_of(alloc, items)?;
+            Ok(port_named(port, receiver, accepts))
+        }
+        _ => Ok(None),
+    }
+}
+
+fn births_named(task: Option<Name>, accepts: Option<Items>) -> Option<WiringSays>
+    ensures { result ≡ births_named task accepts }
+{
+    match (task, accepts) {
+        (Some(task), Some(accepts)) => Some(WiringSays::Births { task, accepts }),
+        _ => None,
+    }
+}
+
+/// `births T accepts ITEMS`, after its first word.
+#[tactic(auto, unfolding(crate::specs::Wiring::births_line))]
+fn births_line(alloc: Global, words: &[&[u8]]) -> Result<Option<WiringSays>, AllocError>
+    ensures { IfOk result (λ says. says ≡ births_line (map (λ word. word.now) words.now)) }
+{
+    match words {
+        [task, accepts, items @ ..] if is_word(accepts, "accepts") => {
+            let task = Name::new(alloc, task)?;
+            let accepts = items_of(alloc, items)?;
+            Ok(births_named(task, accepts))
+        }
+        _ => Ok(None),
+    }
+}
+
+#[tactic(auto, unfolding(crate::specs::Wiring::held_right))]
+fn held_right(word: &[u8]) -> Option<HeldRight>
+    ensures { result ≡ held_right word.now }
+{
+    if is_word(word, "send") {
+        Some(HeldRight::Send)
+    } else if is_word(word, "once") {
+        Some(HeldRight::SendOnce)
+    } else {
+        None
+    }
+}
+
+fn hold_port_named(
+    holder: Option<Name>,
+    right: Option<HeldRight>,
+    port: Option<Name>,
+) -> Option<WiringSays>
+    ensures { result ≡ hold_port_named holder right port }
+{
+    match (holder, right, port) {
+        (Some(holder), Some(right), Some(port)) => {
+            Some(WiringSays::HoldPort {
+                holder,
+                right,
+                port,
+            })
+        }
+        _ => None,
+    }
 }
 
 fn hold_task_named(holder: Option<Name>, task: Option<Name>) -> Option<WiringSays>
@@ -54,25 +193,85 @@ fn hold_task_named(holder: Option<Name>, task: Option<Name>) -> Option<WiringSay
     }
 }
 
-/// `hold T send task U`
-#[tactic(auto, unfolding(crate::specs::Wiring::hold_line))]
-fn hold_line(
+/// What a task holds: `T send port P`, `T once port P` or `T send task U`.
+#[tactic(auto, unfolding(crate::specs::Wiring::held))]
+fn held(
     alloc: Global,
-    key: &[u8],
     holder: &[u8],
     right: &[u8],
     kind: &[u8],
-    held: &[u8],
+    name: &[u8],
 ) -> Result<Option<WiringSays>, AllocError>
-    ensures { IfOk result (λ says.
-        says ≡ hold_line key.now holder.now right.now kind.now held.now) }
+    ensures { IfOk result (λ says. says ≡ held holder.now right.now kind.now name.now) }
 {
-    if !(is_word(key, "hold") && is_word(right, "send") && is_word(kind, "task")) {
-        return Ok(None);
-    }
     let holder = Name::new(alloc, holder)?;
-    let held = Name::new(alloc, held)?;
-    Ok(hold_task_named(holder, held))
+    let name = Name::new(alloc, name)?;
+    if is_word(kind, "port") {
+        Ok(hold_port_named(holder, held_right(right), name))
+    } else if is_word(kind, "task") && is_word(right, "send") {
+        Ok(hold_task_named(holder, name))
+    } else {
+        Ok(None)
+    }
+}
+
+/// `hold T send port P`, `hold T once port P` and `hold T send task U`, after the first word.
+#[tactic(auto, unfolding(crate::specs::Wiring::hold_line))]
+fn hold_line(alloc: Global, words: &[&[u8]]) -> Result<Option<WiringSays>, AllocError>
+    ensures { IfOk result (λ says. says ≡ hold_line (map (λ word. word.now) words.now)) }
+{
+    match *words {
+        [holder, right, kind, name] => held(alloc, holder, right, kind, name),
+        _ => Ok(None),
+    }
+}
+
+/// What words say that a slot admits.
+#[tactic(auto, unfolding(crate::specs::Wiring::admitted))]
+fn admitted(alloc: Global, words: &[&[u8]]) -> Result<Option<Option<ClassName>>, AllocError>
+    ensures { IfOk result (λ class. class ≡ admitted (map (λ word. word.now) words.now)) }
+{
+    match *words {
+        [word] if is_word(word, "none") => Ok(Some(None)),
+        [kind, name] => Ok(class_of(alloc, kind, name)?.map(|class| Some(class))),
+        _ => Ok(None),
+    }
+}
+
+fn admit_named(
+    subsystem: Option<Name>,
+    type_name: Option<Name>,
+    class: Option<Option<ClassName>>,
+) -> Option<WiringSays>
+    ensures { result ≡ admit_named subsystem type_name class }
+{
+    match (subsystem, type_name, class) {
+        (Some(subsystem), Some(type_name), Some(class)) => {
+            Some(WiringSays::Admit {
+                subsystem,
+                type_name,
+                class,
+            })
+        }
+        _ => None,
+    }
+}
+
+/// `admit S.type CLASS` and `admit S.type none`, after the first word.
+#[tactic(auto, unfolding(crate::specs::Wiring::admit_line))]
+fn admit_line(alloc: Global, words: &[&[u8]]) -> Result<Option<WiringSays>, AllocError>
+    ensures { IfOk result (λ says. says ≡ admit_line (map (λ word. word.now) words.now)) }
+{
+    match words {
+        [slot, class @ ..] => {
+            let (subsystem, type_name) = around_dot(slot);
+            let subsystem = Name::new(alloc, subsystem)?;
+            let type_name = Name::new(alloc, type_name)?;
+            let class = admitted(alloc, class)?;
+            Ok(admit_named(subsystem, type_name, class))
+        }
+        _ => Ok(None),
+    }
 }
 
 impl Statement for WiringSays {
@@ -80,9 +279,12 @@ impl Statement for WiringSays {
 
     #[tactic(auto, unfolding(crate::specs::Wiring::wiring_says))]
     fn read(alloc: Global, words: &[&[u8]]) -> Result<Option<WiringSays>, AllocError> {
-        match *words {
-            [key, task] => task_line(alloc, key, task),
-            [key, holder, right, kind, held] => { hold_line(alloc, key, holder, right, kind, held) }
+        match words {
+            [key, words @ ..] if is_word(key, "task") => task_line(alloc, words),
+            [key, words @ ..] if is_word(key, "port") => port_line(alloc, words),
+            [key, words @ ..] if is_word(key, "births") => births_line(alloc, words),
+            [key, words @ ..] if is_word(key, "hold") => hold_line(alloc, words),
+            [key, words @ ..] if is_word(key, "admit") => admit_line(alloc, words),
             _ => Ok(None),
         }
     }

@@ -1,10 +1,11 @@
 -- What each exit of the loop knows of the heading.
-use Rattle.std.proofs.Common.{◌≡◌, ◌+◌, ◌∙◌, ap, subst, sym, map, List, ℕ, Bor, Ok, arith}
+use Rattle.std.proofs.Common.{◌≡◌, ◌+◌, ◌∙◌, ap, subst, sym, map, List, ℕ, Bor, Ok, arith, length}
 use Rattle.std.proofs.lemmas.Result.{err_from_is_err_and}
 use Rattle.mrc_base.specs.Reading.{Refuses}
 use Rattle.mrc_wiring_text.specs.Lexis.{words, lines}
 use Rattle.mrc_wiring_text.specs.Reading.{after_heading, heading}
-use Rattle.mrc_wiring_text.proofs.HeadingLemmas.{tells, is_nil, heading_passes, heading_starts}
+use Rattle.mrc_wiring_text.proofs.HeadingLemmas.{tells, said_words, is_nil, heading_passes}
+use Rattle.mrc_wiring_text.proofs.HeadingLemmas.{heading_starts}
 use Rattle.mrc_wiring_text.proofs.HeadingLemmas.{heading_fails, heading_ends}
 use Rattle.mrc_wiring_text.proofs.reading.heading.Goals as goal
 
@@ -16,12 +17,15 @@ returns-in_err-next-clause-fault c =
     let kind = c.args.kind.now in
     let n = c.loop-rest.before + 1 in
     let e = c.in_err-next.field-0.0 in
-    let said : map (λ (w : Bor (List ℕ)). w.now) c.deref.result.now ≡ words line = ap
-    (map (λ (w : Bor (List ℕ)). w.now)) c.deref.ensures.value ∙ c.in_ok-said.ensures.exact in
+    let same = said_words line _ _ c.deref.ensures.value c.in_ok-text.ensures in
+    let passed = c.deref-then-not-is_empty in
+    let said : map (λ (w : Bor (List ℕ)). w.now) passed.result.now ≡ words line = ap
+    (map (λ (w : Bor (List ℕ)). w.now)) passed.ensures.value ∙ c.in_ok-said.ensures.exact ∙ same
+    in
     let fails : Refuses e (after_heading kind n (words line)) = subst
     (λ ws. Refuses e (after_heading kind n ws)) said c.in_err-next.ensures.fault in
-    let filled = tells _ _ _ _ c.is_empty-in-loop-rest.ensures c.in_ok-said.ensures.count
-    c.if-not-is_empty.true in
+    let filled = tells _ _ _ _ c.is_empty-in-loop-rest.ensures
+    (c.in_ok-said.ensures.count ∙ ap length same) c.if-not-is_empty.true in
     rw (p.1, p.2) (heading_fails e kind n _ line _ _ c.loop-rest.invariant.same
     c.first_line.ensures.cut filled fails)
 
@@ -30,18 +34,23 @@ returns-then-not-is_empty-clause-fault c =
     let line = c.first_line.result.0.now in
     let kind = c.args.kind.now in
     let n = c.loop-rest.before + 1 in
-    let said : map (λ (w : Bor (List ℕ)). w.now) c.deref.result.now ≡ words line = ap
-    (map (λ (w : Bor (List ℕ)). w.now)) c.deref.ensures.value ∙ c.in_ok-said.ensures.exact in
+    let same = said_words line _ _ c.deref.ensures.value c.in_ok-text.ensures in
+    let passed = c.deref-then-not-is_empty in
+    let said : map (λ (w : Bor (List ℕ)). w.now) passed.result.now ≡ words line = ap
+    (map (λ (w : Bor (List ℕ)). w.now)) passed.ensures.value ∙ c.in_ok-said.ensures.exact ∙ same
+    in
     let is : after_heading kind n (words line) ≡ Ok c.in_ok-next.next = ap (after_heading kind n)
     (sym said) ∙ c.in_ok-next.ensures.fault in
-    let filled = tells _ _ _ _ c.is_empty-in-loop-rest.ensures c.in_ok-said.ensures.count
-    c.if-not-is_empty.true in
+    let filled = tells _ _ _ _ c.is_empty-in-loop-rest.ensures
+    (c.in_ok-said.ensures.count ∙ ap length same) c.if-not-is_empty.true in
     heading_starts kind n _ line _ _ _ c.loop-rest.invariant.same c.first_line.ensures.cut filled is
 
 pub loop-rest-preserved : goal.loop-rest-preserved
 loop-rest-preserved c =
-    let filled = tells _ _ _ _ c.is_empty-in-loop-rest.ensures c.in_ok-said.ensures.count
-    c.if-not-is_empty.false in
+    let same = said_words c.first_line.result.0.now _ _ c.deref.ensures.value c.in_ok-text.ensures
+    in
+    let filled = tells _ _ _ _ c.is_empty-in-loop-rest.ensures
+    (c.in_ok-said.ensures.count ∙ ap length same) c.if-not-is_empty.false in
     record {
       same = heading_passes _ _ _ _ _ _ c.loop-rest.invariant.same c.first_line.ensures.cut filled;
       room = omega arith;
