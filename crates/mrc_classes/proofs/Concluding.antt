@@ -21,7 +21,7 @@ use Rattle.mrc_model.specs.Rules.{k3_once, k4, k5, k6, k7_up, k7_down, k8, k9, k
 use Rattle.mrc_model.specs.Conclusions.{same_right, can_send}
 use Rattle.mrc_model.proofs.Concluding.{same_right_is, same_right_self}
 use Rattle.mrc_wiring.specs.Slots.{takes}
-use Rattle.mrc_wiring.proofs.Slots.{IsTaker, taken, taker}
+use Rattle.mrc_wiring.proofs.Takers.{IsTaker, taken, taker}
 use Rattle.mrc_classes.specs.Growing.{Only, Below}
 use Rattle.mrc_classes.specs.Parts.{EachRight, BySlot, BySlots, ByReply, ByRequest, ByPair}
 use Rattle.mrc_classes.specs.Parts.{PairedBy}

@@ -18,7 +18,7 @@ use Rattle.mrc_model.specs.Rules.{Has, InRange, Closed, Follows, CanSendBy, by_s
 use Rattle.mrc_model.specs.Rules.{k1, k2, k3_send, k3_once, k4, k5, k6, k7_up, k7_down, k8, k9, k10}
 use Rattle.mrc_model.specs.Conclusions.{same_right}
 use Rattle.mrc_model.proofs.Concluding.{same_right_is}
-use Rattle.mrc_wiring.proofs.Slots.{IsTaker, taken, taker}
+use Rattle.mrc_wiring.proofs.Takers.{IsTaker, taken, taker}
 use Rattle.mrc_classes.specs.Order.{is_before, right_number}
 use Rattle.mrc_classes.specs.declared.rule_names.RuleName.{RuleName}
 use Rattle.mrc_classes.specs.declared.rule_names.RuleName.TheVariants.{First, Births, Weaker, Slot}

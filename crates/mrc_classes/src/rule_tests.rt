@@ -64,7 +64,11 @@ fn backup(class: u16, notify: u16) -> Fact
 }
 
 fn wired(alloc: Global, text: &str) -> Result<Wired, Fail> {
-    Ok(Wired::resolve(alloc, &read_wiring(alloc, text.as_bytes())?)?)
+    let lines = read_wiring(alloc, text.as_bytes())?;
+    match Wired::resolve(alloc, &lines, Vec::new(alloc)) {
+        Ok(wired) => Ok(wired),
+        Err(refused) => Err(refused.why.into()),
+    }
 }
 
 fn set_of(alloc: Global, facts: &[Fact]) -> Result<Facts, AllocError> {

@@ -33,7 +33,11 @@ fn hold(task: u16, class: u16, right: PortRight) -> Fact
 }
 
 fn wired(alloc: Global, text: &str) -> Result<Wired, Fail> {
-    Ok(Wired::resolve(alloc, &read_wiring(alloc, text.as_bytes())?)?)
+    let lines = read_wiring(alloc, text.as_bytes())?;
+    match Wired::resolve(alloc, &lines, Vec::new(alloc)) {
+        Ok(wired) => Ok(wired),
+        Err(refused) => Err(refused.why.into()),
+    }
 }
 
 fn made(alloc: Global, text: &str) -> Result<Draft, Fail> {

@@ -1,7 +1,9 @@
 -- The class of a task's births, where each task has births of kind 0 alone.
-use Rattle.std.proofs.Common.{◌≡◌, ℕ, zero, suc, ◌+◌, ◌<◌, ◌≤◌, true, false, length, Some, None, refl}
-use Rattle.std.proofs.Common.{arith, ap, ◌==◌, ◌&&◌, if◌then◌else◌, sym, ◌∙◌}
-use Rattle.std.proofs.lemmas.Bool.{eqb-true, eqb-false, and_parts, ne_eqb}
+use Rattle.std.proofs.Common.{◌≡◌, ℕ, zero, suc, ◌+◌, ◌<◌, ◌≤◌, true, false, length, Some, refl}
+use Rattle.std.proofs.Common.{arith, ap, ◌==◌, ◌&&◌, if◌then◌else◌}
+use Rattle.std.proofs.lemmas.Bool.{eqb-true, eqb-false, and_parts, and_from, eq-eqb, lt-ltb}
+use Rattle.std.proofs.lemmas.Bool.{ltb-true}
+use Rattle.std.proofs.Common.{None, nat_lt, ◌∙◌}
 use Rattle.mrc_model.specs.Wiring.{births_from, births_class}
 use Rattle.mrc_wiring.specs.Table.{Table, births_after, wiring_of}
 
@@ -27,63 +29,57 @@ births_found c t (suc n) u d low high at =
 -- and no other births are there
 pub births_are : (c t n u kind d : ℕ)
     → births_from c u kind (births_after t n) ≡ Some d
-    → d + t ≡ c + u
+    → (d + t ≡ c + u) × (u < t + n) × (kind ≡ 0)
 births_are c t zero u kind d e = cc
 births_are c t (suc n) u kind d e =
     elim (t == u && 0 == kind) as (λ b. (t == u && 0 == kind) ≡ b
     → (if b then Some c else births_from (c + 1) u kind (births_after (t + 1) n)) ≡ Some d
-    → d + t ≡ c + u) [
+    → (d + t ≡ c + u) × (u < t + suc n) × (kind ≡ 0)) [
       | true ↦ λ is found. let same : t ≡ u = eqb-true t u (and_parts (t == u) (0 == kind) is).0 in
-          let at : c ≡ d = cc in omega arith
-      | false ↦ λ is found. let rest = births_are (c + 1) (t + 1) n u kind d found in omega arith
+          let zeroth : 0 ≡ kind = eqb-true 0 kind (and_parts (t == u) (0 == kind) is).1 in
+          let at : c ≡ d = cc in (omega arith, omega arith, omega arith)
+      | false ↦ λ is found. let rest = births_are (c + 1) (t + 1) n u kind d found in
+          let one = rest.0 in let two = rest.1 in (omega arith, omega arith, rest.2)
     ] refl e
 
--- births are of kind 0, and of a task that is there
-pub birth_within : (c t n u kind d : ℕ)
-    → births_from c u kind (births_after t n) ≡ Some d
-    → (c ≤ d) × (d < c + n)
-birth_within c t zero u kind d e = cc
-birth_within c t (suc n) u kind d e =
-    elim (t == u && 0 == kind) as (λ b. (t == u && 0 == kind) ≡ b
-    → (if b then Some c else births_from (c + 1) u kind (births_after (t + 1) n)) ≡ Some d
-    → (c ≤ d) × (d < c + suc n)) [
-      | true ↦ λ is found. let at : c ≡ d = cc in (omega arith, omega arith)
-      | false ↦ λ is found. let rest = birth_within (c + 1) (t + 1) n u kind d found in
-          (omega (arith, rest.0), omega (arith, rest.1))
-    ] refl e
+-- by the table: the task is one of the tasks, and the kind is 0
+pub births_class_is : (table : Table) (u kind d : ℕ)
+    → births_class (wiring_of table) u kind ≡ Some d
+    → (d ≡ length table.ports + length table.names + u) × (u < length table.names) × (kind ≡ 0)
+births_class_is table u kind d e =
+    let is = births_are (length table.ports + length table.names) 0 (length table.names) u kind d e
+    in
+    let one = is.0 in let two = is.1 in (omega arith, omega arith, is.2)
 
--- no other kind is there
-pub no_kind : (c t n u kind : ℕ)
-    → (0 ≡ kind → ⊥)
-    → births_from c u kind (births_after t n) ≡ None
-no_kind c t zero u kind other = refl
-no_kind c t (suc n) u kind other =
-    let rest = no_kind (c + 1) (t + 1) n u kind other in
-    elim (t == u) as (λ b. (if b && (0 == kind) then Some c else births_from (c + 1) u kind
-    (births_after (t + 1) n)) ≡ None) [ true ↦ rw (ne_eqb 0 kind other) rest | false ↦ rest ]
+pub births_class_there : (table : Table) (u d : ℕ)
+    → u < length table.names
+    → d ≡ length table.ports + length table.names + u
+    → births_class (wiring_of table) u 0 ≡ Some d
+births_class_there table u d less e =
+    births_found (length table.ports + length table.names) 0 (length table.names) u d (omega arith)
+    (omega arith) (omega arith)
 
--- and no task beyond
-pub no_task : (c t n u kind : ℕ) → t + n ≤ u → births_from c u kind (births_after t n) ≡ None
-no_task c t zero u kind beyond = refl
-no_task c t (suc n) u kind beyond =
-    rw (ne_eqb t u (λ e. omega arith)) (no_task (c + 1) (t + 1) n u kind (omega arith))
+pub births_class_not : (table : Table) (u kind : ℕ)
+    → (kind == 0 && nat_lt u (length table.names)) ≡ false
+    → births_class (wiring_of table) u kind ≡ None
+births_class_not table u kind denied =
+    elim (births_class (wiring_of table) u kind) as (λ o. births_class (wiring_of table) u kind ≡ o
+    → births_class (wiring_of table) u kind ≡ None) [
+      | None ↦ λ e. e
+      | Some d ↦ λ e.
+          let is = births_class_is table u kind d e in
+          let one : (kind == 0) ≡ true = eq-eqb kind 0 is.2 in
+          let two : nat_lt u (length table.names) ≡ true = lt-ltb u (length table.names) is.1 in
+          let both : (kind == 0 && nat_lt u (length table.names)) ≡ true = and_from _ _ one two in
+          cc
+    ] refl
 
--- the births of a table's wiring, from what code knows
-module _ (table : Table) (u kind : ℕ) where
-  pub births_there : (d : ℕ)
-      → kind ≡ 0
-      → u < length table.names
-      → d ≡ length table.names + u
-      → Some d ≡ births_class (wiring_of table) u kind
-  births_there d zeroth task class =
-      let found = births_found (0 + length table.names) 0 (length table.names) u d (omega arith)
-      (omega arith) (omega arith) in
-      sym found ∙ ap (births_class (wiring_of table) u) (sym zeroth)
-
-  pub births_no_kind : (kind ≡ 0 → ⊥) → None ≡ births_class (wiring_of table) u kind
-  births_no_kind other =
-      sym (no_kind (0 + length table.names) 0 (length table.names) u kind (λ e. other (sym e)))
-
-  pub births_no_task : length table.names ≤ u → None ≡ births_class (wiring_of table) u kind
-  births_no_task beyond =
-      sym (no_task (0 + length table.names) 0 (length table.names) u kind (omega arith))
+pub births_class_yes : (table : Table) (u kind d : ℕ)
+    → (kind == 0 && nat_lt u (length table.names)) ≡ true
+    → d ≡ length table.ports + length table.names + u
+    → births_class (wiring_of table) u kind ≡ Some d
+births_class_yes table u kind d yes_it_is e =
+    let parts = and_parts (kind == 0) (nat_lt u (length table.names)) yes_it_is in
+    let zeroth : kind ≡ 0 = eqb-true kind 0 parts.0 in
+    ap (births_class (wiring_of table) u) zeroth
+    ∙ births_class_there table u d (ltb-true u (length table.names) parts.1) e

@@ -1,9 +1,9 @@
 -- Tasks by their names: where each has a name and no two have the same, a name's number has that
 -- name.
-use Rattle.std.proofs.Common.{◌≡◌, ◌⊎◌, ℕ, zero, suc, ◌+◌, ◌<◌, ◌≤◌, Bool, true, false, List, []}
+use Rattle.std.proofs.Common.{◌≡◌, ◌⊎◌, ℕ, zero, suc, ◌<◌, ◌≤◌, true, false, List, []}
 use Rattle.std.proofs.Common.{◌∷◌, ◌++◌, length}
 use Rattle.std.proofs.Common.{Option, Some, None, refl, sym, subst, ap, ◌∙◌, inl, inr, arith}
-use Rattle.std.proofs.Common.{nat_lt, if◌then◌else◌, get_or, not}
+use Rattle.std.proofs.Common.{nat_lt, if◌then◌else◌, get_or}
 use Rattle.std.specs.Prelude.{bytes_eq, is_some, slice_get, IsTrue}
 use Rattle.std.specs.List.{position_or_len}
 use Rattle.std.proofs.lemmas.Bool.{ltb-false}
@@ -40,7 +40,8 @@ stops_by (x ∷ xs) zero name e =
     let equal : bytes_eq name x ≡ true = (bytes_eq-Decides name x).1 same in
     rw equal omega arith
 stops_by (x ∷ xs) (suc t) name e =
-    elim (bytes_eq name x) as (λ b. bytes_eq name x ≡ b → position_or_len (bytes_eq name) (x ∷ xs) ≤ suc t) [
+    elim (bytes_eq name x) as (λ b. bytes_eq name x ≡ b → position_or_len (bytes_eq name) (x ∷ xs)
+    ≤ suc t) [
       | true ↦ λ is. rw is omega arith
       | false ↦ λ is. let rest = stops_by xs t name e in rw is omega arith
     ] refl
@@ -60,7 +61,8 @@ found_at names name t e =
     let p = position_or_len (bytes_eq name) names in
     let low : p ≤ t = stops_by names t name e in
     let high : t < length names = read_within names t name e in
-    elim (nat_lt p (length names)) as (λ b. nat_lt p (length names) ≡ b → (if b then Some p else None) ≡ Some p) [
+    elim (nat_lt p (length names)) as (λ b. nat_lt p (length names) ≡ b → (if b then Some p else
+    None) ≡ Some p) [
       | true ↦ λ is. refl
       | false ↦ λ is. let bad = ltb-false p (length names) is in absurd (omega arith)
     ] refl

@@ -1,7 +1,6 @@
 -- What the lines of a policy mean over a wiring: the forbidden holdings, or the first fault. This
 -- profile's own choice.
-use Rattle.std.specs.Prelude.{◌≡◌, ℕ, ◌+◌, List, [], ◌∷◌, length, map, Option, None, Result}
-use Rattle.std.specs.Prelude.{Ok, Err}
+use Rattle.std.specs.Prelude.{◌≡◌, ℕ, List, [], ◌∷◌, map, Option, Result, Ok, Err}
 use Rattle.std.specs.Option.{option_map, ok_or}
 use Rattle.mrc_base.specs.declared.memory.OrMemory.{OrMemory}
 use Rattle.mrc_base.specs.Reading.{◌>>=◌, Refuses}
@@ -9,38 +8,36 @@ use Rattle.mrc_model.specs.Breach.{Forbid}
 use Rattle.mrc_wiring_text.specs.declared.reading.Line.{Line}
 use Rattle.mrc_wiring_text.specs.declared.policy.Forbid.{Forbid as ForbidText}
 use Rattle.mrc_wiring_text.specs.declared.policy.ClassName.{ClassName}
-use Rattle.mrc_wiring_text.specs.declared.policy.ClassName.TheVariants.{Port, Task, Births}
 use Rattle.mrc_wiring.specs.declared.claim.ForbiddenLine.{ForbiddenLine}
 use Rattle.mrc_wiring.specs.declared.faults.ClaimFault.{ClaimFault}
 use Rattle.mrc_wiring.specs.declared.faults.ClaimFault.TheVariants.{UnknownName}
-use Rattle.mrc_wiring.specs.Table.{Table}
-use Rattle.mrc_wiring.specs.Names.{number_of}
+use Rattle.mrc_wiring.specs.Table.{Table, class_of}
+use Rattle.mrc_wiring.specs.Names.{number_of, class_said}
 
 -- a wiring, and what a policy forbids in it
 pub record Claimed : Type 0 where
   pub table : Table
   pub lines : List ForbiddenLine
 
--- the class of a name, where there are no wired ports: kernel ports come first, then births
-abbrev pub class_number : List (List ℕ) → ClassName → Option ℕ
-class_number names (Port name) = None
-class_number names (Task name) = number_of names name
-class_number names (Births name) = option_map (λ u. length names + u) (number_of names name)
+-- the class of a name
+abbrev pub class_number : Table → ClassName → Option ℕ
+class_number table name =
+    option_map (class_of table) (class_said table.names table.ports name)
 
 -- what a line forbids
-unfoldable pub forbidden : List (List ℕ) → ℕ → ForbidText → Result ForbiddenLine ClaimFault
-forbidden names n says = do
-  t ← ok_or (number_of names says.task) (UnknownName n)
-  c ← ok_or (class_number names says.class) (UnknownName n)
+unfoldable pub forbidden : Table → ℕ → ForbidText → Result ForbiddenLine ClaimFault
+forbidden table n says = do
+  t ← ok_or (number_of table.names says.task) (UnknownName n)
+  c ← ok_or (class_number table says.class) (UnknownName n)
   Ok (record { line = n; task = t; right = says.right; class = c })
 
 -- what the lines forbid, in order
-abbrev pub forbidden_lines : List (List ℕ) → List (Line ForbidText)
+abbrev pub forbidden_lines : Table → List (Line ForbidText)
     → Result (List ForbiddenLine) ClaimFault
-forbidden_lines names [] = Ok []
-forbidden_lines names (line ∷ lines) = do
-  first ← forbidden names line.number line.says
-  others ← forbidden_lines names lines
+forbidden_lines table [] = Ok []
+forbidden_lines table (line ∷ lines) = do
+  first ← forbidden table line.number line.says
+  others ← forbidden_lines table lines
   Ok (first ∷ others)
 
 -- the claim has the wiring and the lines that are said, or the wiring comes back with the fault

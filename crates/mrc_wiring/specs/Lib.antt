@@ -1,6 +1,14 @@
+pub mod Sorts
+pub mod ModelForms
 pub mod Table
 pub mod FirstState
-pub mod Resolving
 pub mod Names
-pub mod Claims
+pub mod Labels
+pub mod ClashLaw
+pub mod Resolving
+pub mod State
 pub mod Slots
+pub mod Finding
+pub mod Told
+pub mod Claims
+pub mod Examples

@@ -1,35 +1,79 @@
 -- The table that the lines of a wiring mean, and the model's wiring of it. This profile's own
 -- choice.
-use Rattle.std.specs.Prelude.{◌≡◌, ℕ, zero, suc, ◌+◌, ◌<◌, ◌≤◌, List, [], ◌∷◌, length}
-use Rattle.mrc_base.specs.Limits.{limit_of_tasks}
-use Rattle.mrc_base.specs.declared.Fact.{Fact}
-use Rattle.mrc_base.specs.declared.Fact.TheVariants.{Hold}
-use Rattle.mrc_base.specs.declared.PortRight.TheVariants.{Send}
+use Rattle.std.specs.Prelude.{◌≡◌, ℕ, zero, suc, ◌+◌, ◌<◌, ◌≤◌, ◌++◌, false, List, [], ◌∷◌, length}
+use Rattle.std.specs.Prelude.{map, Option, unwrap_or}
+use Rattle.std.specs.Option.{option_map}
+use Rattle.mrc_base.specs.Limits.{limit_of_tasks, limit_of_wired_ports, limit_of_names}
+use Rattle.mrc_model.specs.declared.LabelItem.{LabelItem}
 use Rattle.mrc_model.specs.declared.FirstLine.{FirstLine}
 use Rattle.mrc_model.specs.declared.FirstLine.TheVariants.{Task as TaskLine, Port as PortLine}
 use Rattle.mrc_model.specs.declared.FirstLine.TheVariants.{Hold as HoldLine}
+use Rattle.mrc_model.specs.Rights.{is_receive}
 use Rattle.mrc_model.specs.Wiring.{Wiring}
+use Rattle.mrc_model.specs.FirstHoldings.{first_names}
+use Rattle.mrc_interface.specs.Tables.{Table as Interface}
+use Rattle.mrc_wiring.specs.declared.names.ClassKind.{ClassKind}
+use Rattle.mrc_wiring.specs.declared.names.ClassKind.TheVariants as kinds
+use Rattle.mrc_wiring.specs.declared.names.NumberedClass.{NumberedClass}
+use Rattle.mrc_wiring.specs.declared.table.AdmitLine.{AdmitLine}
+use Rattle.mrc_wiring.specs.Sorts.{sorts_of}
+use Rattle.mrc_wiring.specs.ModelForms.{interfaces_from}
 
--- the tasks' names in the order of their lines, and what makes the first state, line by line
+-- The tasks' names in the order of their lines, and what each task's births accept, if a line says
+-- it; the wired ports' names in the order of their lines, and what each accepts; what makes the
+-- first state, line by line; the admit lines; and the interfaces.
 pub record Table : Type 0 where
   pub names : List (List ℕ)
+  pub births : List (Option (List LabelItem))
+  pub ports : List (List ℕ)
+  pub accepts : List (List LabelItem)
   pub lines : List FirstLine
+  pub admits : List AdmitLine
+  pub interfaces : List Interface
+
+-- the class of this kind that has the number among those of its kind: wired ports come first, then
+-- kernel ports, then births
+abbrev pub kind_class : ℕ → ℕ → ClassKind → ℕ → ℕ
+kind_class ports tasks kinds.Port n = n
+kind_class ports tasks kinds.Task n = ports + n
+kind_class ports tasks kinds.Births n = ports + tasks + n
+
+-- the same where so many ports and tasks are those of the table
+abbrev pub class_of : Table → NumberedClass → ℕ
+class_of table class =
+    kind_class (length table.ports) (length table.names) class.kind class.number
+
+-- an admit line: the number of its type, and its class, or none
+abbrev pub admitted_by : Table → AdmitLine → ℕ × Option ℕ
+admitted_by table line = (line.sort, option_map (class_of table) line.class)
 
 -- the births of kind 0 of n tasks from t on
 abbrev pub births_after : ℕ → ℕ → List (ℕ × ℕ)
 births_after t zero = []
 births_after t (suc n) = (t, 0) ∷ births_after (t + 1) n
 
--- no wired ports, no interfaces, no labels; each task has births of kind 0
+-- what a kernel port accepts: nothing
+abbrev pub of_kernel : List ℕ → List LabelItem
+of_kernel name = []
+
+-- what births accept: nothing where no line says it
+abbrev pub of_births : Option (List LabelItem) → List LabelItem
+of_births births = unwrap_or births []
+
+-- what each class accepts, in the order of the classes
+abbrev pub labels_of : Table → List (List LabelItem)
+labels_of table = table.accepts ++ (map of_kernel table.names ++ map of_births table.births)
+
+-- each task has births of kind 0
 abbrev pub wiring_of : Table → Wiring
 wiring_of table = record {
   lines = table.lines;
   tasks = length table.names;
-  ports = 0;
+  ports = length table.ports;
   births = births_after 0 (length table.names);
-  interfaces = [];
-  labels = [];
-  admitted = [];
+  interfaces = interfaces_from (sorts_of table.interfaces) 0 table.interfaces;
+  labels = labels_of table;
+  admitted = map (admitted_by table) table.admits;
 }
 
 -- how many task lines there are
@@ -39,24 +83,46 @@ task_lines (TaskLine ∷ lines) = task_lines lines + 1
 task_lines (PortLine t ∷ lines) = task_lines lines
 task_lines (HoldLine t p r ∷ lines) = task_lines lines
 
--- each line is a task line, or a hold of a kernel port by a send right, where n tasks and the tasks
--- of earlier lines are there. A kernel port has the number of its task
-abbrev pub AreEarlier : ℕ → List FirstLine → Type 0
-AreEarlier n [] = Unit {0}
-AreEarlier n (TaskLine ∷ lines) = AreEarlier (n + 1) lines
-AreEarlier n (PortLine t ∷ lines) = ⊥
-AreEarlier n (HoldLine t p r ∷ lines) = (t < n) × (p < n) × (r ≡ Send) × AreEarlier n lines
+-- how many port lines there are
+abbrev pub port_lines : List FirstLine → ℕ
+port_lines [] = 0
+port_lines (TaskLine ∷ lines) = port_lines lines
+port_lines (PortLine t ∷ lines) = port_lines lines + 1
+port_lines (HoldLine t p r ∷ lines) = port_lines lines
+
+-- the birth numbers of the kernel ports, in the order of the tasks, where the next birth has this
+-- number
+abbrev pub kernel_births : ℕ → List FirstLine → List ℕ
+kernel_births b [] = []
+kernel_births b (TaskLine ∷ lines) = b ∷ kernel_births (b + 1) lines
+kernel_births b (PortLine t ∷ lines) = kernel_births (b + 1) lines
+kernel_births b (HoldLine t p r ∷ lines) = kernel_births b lines
+
+-- the birth numbers of the wired ports, in their order, where the next birth has this number
+abbrev pub port_births : ℕ → List FirstLine → List ℕ
+port_births b [] = []
+port_births b (TaskLine ∷ lines) = port_births (b + 1) lines
+port_births b (PortLine t ∷ lines) = b ∷ port_births (b + 1) lines
+port_births b (HoldLine t p r ∷ lines) = port_births b lines
+
+-- each line is of tasks and ports of earlier lines, where so many tasks, and ports of both kinds,
+-- are there before; no hold is of a receive right
+abbrev pub AreEarlier : ℕ → ℕ → List FirstLine → Type 0
+AreEarlier tasks births [] = Unit {0}
+AreEarlier tasks births (TaskLine ∷ lines) = AreEarlier (tasks + 1) (births + 1) lines
+AreEarlier tasks births (PortLine t ∷ lines) =
+    (t < tasks) × AreEarlier tasks (births + 1) lines
+AreEarlier tasks births (HoldLine t p r ∷ lines) =
+    (t < tasks) × (p < births) × (is_receive r ≡ false) × AreEarlier tasks births lines
 
 -- what the lines of a wiring can mean
 pub record IsTable (table : Table) : Type 0 where
-  pub few : length table.names ≤ limit_of_tasks
+  pub few_tasks : length table.names ≤ limit_of_tasks
+  pub few_ports : length table.ports ≤ limit_of_wired_ports
+  pub births : length table.births ≡ length table.names
+  pub accepts : length table.accepts ≡ length table.ports
   pub tasks : task_lines table.lines ≡ length table.names
-  pub earlier : AreEarlier 0 table.lines
-
--- the holds that the lines give, where n tasks stand on earlier lines: class p is that of the
--- kernel port of task p
-abbrev pub line_holds : ℕ → List FirstLine → List Fact
-line_holds n [] = []
-line_holds n (TaskLine ∷ lines) = Hold n n Send ∷ line_holds (n + 1) lines
-line_holds n (PortLine t ∷ lines) = line_holds n lines
-line_holds n (HoldLine t p r ∷ lines) = Hold t p r ∷ line_holds n lines
+  pub ports : port_lines table.lines ≡ length table.ports
+  pub earlier : AreEarlier 0 0 table.lines
+  pub few_names : (t : ℕ) → t < length table.names
+      → first_names (wiring_of table) t ≤ limit_of_names

@@ -2,12 +2,12 @@
 
 ghost use Rattle.std.specs.Prelude.{◌≡◌};
 ghost use Rattle.mrc_base.specs.Reading.{Gives};
-ghost use Rattle.mrc_wiring.specs.Claims.{ClaimTold, class_number, forbidden, forbidden_lines};
+ghost use Rattle.mrc_wiring.specs.Claims.{ClaimTold, forbidden, forbidden_lines};
 
 use crate::faults::ClaimFault;
 use crate::wired::Wired;
 use mrc_base::{ClassId, OrMemory, PortRight};
-use mrc_wiring_text::{ClassName, Forbid, PolicyLine};
+use mrc_wiring_text::{Forbid, PolicyLine};
 use std::alloc::Global;
 use std::marker::Model;
 
@@ -39,33 +39,16 @@ impl Model for Claim {
     ghost view = { λ c. record { table = c.wired; lines = c.lines.items } };
 }
 
-/// The class of a name. There are no wired ports.
-fn class_number(wired: &Wired, class: &ClassName) -> Option<ClassId>
-    ensures { result ≡ class_number wired.now.names class.now }
-{
-    match class {
-        ClassName::Port(_) => None,
-        ClassName::Task(name) => {
-            let task = wired.task_named(name.as_str())?;
-            Some(ClassId(task.0 as u16))
-        }
-        ClassName::Births(name) => {
-            let task = wired.task_named(name.as_str())?;
-            Some(ClassId(wired.tasks() + task.0 as u16))
-        }
-    }
-}
-
 #[tactic(auto, unfolding(crate::specs::Claims::forbidden))]
 fn forbidden(wired: &Wired, line: u32, says: &Forbid) -> Result<ForbiddenLine, OrMemory<ClaimFault>>
-    ensures { Gives (λ forbids. forbids) result (forbidden wired.now.names line says.now) }
+    ensures { Gives (λ forbids. forbids) result (forbidden wired.now line says.now) }
 {
     let task = wired
         .task_named(says.task.as_str())
         .ok_or(OrMemory::Fault(ClaimFault::UnknownName(line)))?;
-    let class = class_number(wired, &says.class).ok_or(OrMemory::Fault(ClaimFault::UnknownName(
-        line,
-    )))?;
+    let class = wired
+        .class_said(&says.class)
+        .ok_or(OrMemory::Fault(ClaimFault::UnknownName(line)))?;
     Ok(ForbiddenLine {
         line,
         task: task.0 as u16,
@@ -80,7 +63,7 @@ fn forbidden_lines(
     lines: &[PolicyLine],
 ) -> Result<Vec<ForbiddenLine>, OrMemory<ClaimFault>>
     ensures { Gives (λ forbidden. forbidden.items) result
-        (forbidden_lines wired.now.names lines.now) }
+        (forbidden_lines wired.now lines.now) }
 {
     let mut forbidden_so_far = Vec::new(alloc);
     for line in lines {
@@ -99,7 +82,7 @@ impl Claim {
         wired: Wired,
         lines: &[PolicyLine],
     ) -> Result<Claim, (Wired, OrMemory<ClaimFault>)>
-        ensures { ClaimTold wired result (forbidden_lines wired.names lines.now) }
+        ensures { ClaimTold wired result (forbidden_lines wired lines.now) }
     {
         match forbidden_lines(alloc, &wired, lines) {
             Ok(lines) => Ok(Claim { wired, lines }),

@@ -1,17 +1,24 @@
-//! The table that a wiring means: tasks, classes and first rights, by numbers and by names; and
-//! what a policy forbids in it.
+//! The table that a wiring means: tasks, classes and what they accept, what slots admit, and first
+//! rights, by numbers and by names; and what a policy forbids in it.
 #![tactic(auto)]
 
 mod claim;
 mod faults;
+mod finding;
+mod first_names;
+mod holdings;
+mod labels;
+mod laws;
 mod names;
 mod resolving;
+mod slots;
+mod sorts;
+mod table;
 mod wired;
 
 pub use claim::{Claim, ForbiddenLine};
 pub use faults::{ClaimFault, ResolveFault};
+pub use laws::{clashes_are_two_items, sorts_are_types};
 pub use names::{ClassKind, ClassLabel};
+pub use resolving::NotResolved;
 pub use wired::Wired;
-
-#[cfg(test)]
-mod tests;

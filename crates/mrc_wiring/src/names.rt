@@ -1,30 +1,40 @@
-//! The names of tasks and of classes.
+//! The names of tasks, wired ports and classes.
 
-ghost use Rattle.std.specs.Prelude.{◌≡◌, ◌<◌, length, IfSome, IfOk};
-ghost use Rattle.mrc_wiring.specs.Names.{number_of};
+ghost use Rattle.std.specs.Prelude.{◌≡◌, ◌<◌, ◌≤◌, length, IfSome};
+ghost use Rattle.mrc_base.specs.Limits.{limit_of_tasks, limit_of_wired_ports};
+ghost use Rattle.mrc_wiring.specs.Names.{number_of, class_said};
 
-use mrc_wiring_text::Name;
-use std::alloc::{AllocError, Global};
+use mrc_wiring_text::{ClassName, Name};
 
-/// The two kinds of classes of ports. Each task has one class of either kind.
+/// The kinds of classes of ports. Each wired port is a class of its own, each task has one class of
+/// either of the other kinds.
 #[derive(Clone, Copy, Debug, PartialEq, Eq)]
 pub enum ClassKind {
+    /// A wired port, alone.
+    Port,
     /// The kernel port of the task, alone.
     Task,
     /// The ports that the task is the first to hold.
     Births,
 }
 
-/// A class of ports by its kind and its task's name.
+/// A class of ports by its kind and the name of its port or task.
 #[derive(Clone, Copy, Debug)]
 pub struct ClassLabel<'a> {
-    /// Which of the task's two classes it is.
+    /// Which kind of class it is.
     pub kind: ClassKind,
-    /// U, the task's name.
-    pub task: &'a str,
+    /// The name of the wired port, or of the task.
+    pub name: &'a str,
 }
 
-/// The number of the task of a name.
+/// A class of ports by its kind and the number of its port or task.
+#[derive(Clone, Copy, Debug, PartialEq, Eq)]
+pub(crate) struct NumberedClass {
+    pub(crate) kind: ClassKind,
+    pub(crate) number: u16,
+}
+
+/// The number of the task, or of the wired port, of a name.
 pub(crate) fn number_of(names: &[Name], name: &str) -> Option<usize>
     ensures exact { result ≡ number_of names.now name.now }
     ensures within { IfSome result (λ i. i < length names.now) }
@@ -32,10 +42,34 @@ pub(crate) fn number_of(names: &[Name], name: &str) -> Option<usize>
     names.iter().position(|known| name == known.as_str())
 }
 
-/// The same name once more.
-pub(crate) fn copy_name(alloc: Global, name: &Name) -> Result<Name, AllocError>
-    ensures { IfOk result (λ copy. copy ≡ name.now) }
+/// The class that a line names, by the names of tasks and wired ports.
+pub(crate) fn class_said(tasks: &[Name], ports: &[Name], class: &ClassName) -> Option<NumberedClass>
+    requires tasks { length tasks.now ≤ limit_of_tasks }
+    requires ports { length ports.now ≤ limit_of_wired_ports }
+    ensures exact { result ≡ class_said tasks.now ports.now class.now }
+    ensures within { IfSome result (λ class. class.number < limit_of_wired_ports) }
 {
-    let copy = Name::new(alloc, name.as_str().as_bytes())?;
-    Ok(copy.unwrap())
+    match class {
+        ClassName::Port(name) => {
+            let number = number_of(ports, name.as_str())?;
+            Some(NumberedClass {
+                kind: ClassKind::Port,
+                number: number as u16,
+            })
+        }
+        ClassName::Task(name) => {
+            let number = number_of(tasks, name.as_str())?;
+            Some(NumberedClass {
+                kind: ClassKind::Task,
+                number: number as u16,
+            })
+        }
+        ClassName::Births(name) => {
+            let number = number_of(tasks, name.as_str())?;
+            Some(NumberedClass {
+                kind: ClassKind::Births,
+                number: number as u16,
+            })
+        }
+    }
 }

@@ -1,40 +1,137 @@
 //! From the lines of a wiring to its table.
 
-ghost use Rattle.std.specs.Prelude.{◌≤◌, length};
-ghost use Rattle.mrc_base.specs.Limits.{limit_of_tasks};
+ghost use Rattle.std.specs.Prelude.{◌≡◌, ◌<◌, ◌≤◌, [], false, length, slice_index, IfOk};
+ghost use Rattle.std.specs.Prelude.{OnOk};
+ghost use Rattle.std.specs.List.{list_any};
+ghost use Rattle.std.specs.Option.{ok_or};
+ghost use Rattle.mrc_base.specs.Limits.{limit_of_tasks, limit_of_wired_ports, limit_of_names};
 ghost use Rattle.mrc_base.specs.Reading.{Gives};
-ghost use Rattle.mrc_wiring.specs.Resolving.{Adds, resolved, add_task, add_hold, add_line};
+ghost use Rattle.mrc_model.specs.Rights.{is_receive};
+ghost use Rattle.mrc_wiring.specs.declared.faults.ResolveFault.TheVariants.{UnknownName};
+ghost use Rattle.mrc_wiring.specs.Sorts.{sorts_of};
+ghost use Rattle.mrc_wiring.specs.Names.{number_of};
+ghost use Rattle.mrc_wiring.specs.State.{IsState, IsGiven, GivesMore, limit_of_first_ports};
+ghost use Rattle.mrc_wiring.specs.State.{next_birth, state_with_task, state_with_port};
+ghost use Rattle.mrc_wiring.specs.State.{state_with_hold};
+ghost use Rattle.mrc_wiring.specs.Resolving.{Adds, resolved, started, add_line, add_task, add_port};
+ghost use Rattle.mrc_wiring.specs.Resolving.{place_port, add_births, place_births, place_hold};
+ghost use Rattle.mrc_wiring.specs.Resolving.{add_hold_port, add_hold_task, add_admit, right_held};
+ghost use Rattle.mrc_wiring.specs.Resolving.{port_birth, kernel_birth, has_births, admitted_said};
+ghost use Rattle.mrc_wiring.specs.Resolving.{has_twice, is_named};
+ghost use Rattle.mrc_wiring.specs.Told.{StateTold, FaultOrStarts};
 
 use crate::faults::ResolveFault;
-use crate::names::{copy_name, number_of};
-use mrc_base::limits::TASKS;
+use crate::first_names::NamesGiven;
+use crate::labels::{Label, has_clash, interface_number, label_said};
+use crate::names::{NumberedClass, class_said, number_of};
+use crate::sorts::{Sort, sort_place, sorts_of};
+use crate::table::AdmitLine;
+use mrc_base::limits::{INTERFACES, NAMES, TASKS, WIRED_PORTS};
 use mrc_base::{OrMemory, PortId, PortRight, TaskId};
+use mrc_interface::Interface;
 use mrc_model::FirstLine;
-use mrc_wiring_text::{Name, WiringLine, WiringSays};
-use std::alloc::Global;
+use mrc_wiring_text::{ClassName, HeldRight, Items, Name, WiringLine, WiringSays};
+use std::alloc::{AllocError, Global};
 use std::marker::Model;
 
-/// The table of the lines so far.
+/// The table of the lines so far, and what is kept beside it.
 #[derive(Drop)]
 pub(crate) struct Resolving {
     pub(crate) names: Vec<Name>,
+    pub(crate) births: Vec<Option<Label>>,
+    pub(crate) ports: Vec<Name>,
+    pub(crate) accepts: Vec<Label>,
     pub(crate) lines: Vec<FirstLine>,
+    pub(crate) admits: Vec<AdmitLine>,
+    pub(crate) interfaces: Vec<Interface>,
+    pub(crate) sorts: Vec<Sort>,
+    pub(crate) kernels: Vec<PortId>,
+    pub(crate) wired: Vec<PortId>,
+    pub(crate) given: NamesGiven,
 }
 
 impl Model for Resolving {
-    ghost use Rattle.std.specs.Prelude.{◌≤◌, length};
-    ghost use Rattle.mrc_base.specs.Limits.{limit_of_tasks};
-    ghost use Rattle.mrc_wiring.specs.Names.{AreNames};
-    ghost use Rattle.mrc_wiring.specs.Table.{Table};
+    ghost use Rattle.mrc_wiring.specs.State as definitions;
 
-    ghost Value = { Table };
+    ghost Value = { definitions.State };
 
-    ghost view = { λ r. record { names = r.names.items; lines = r.lines.items } };
+    ghost view = { λ r. record {
+      table = record {
+        names = r.names.items;
+        births = r.births.items;
+        ports = r.ports.items;
+        accepts = r.accepts.items;
+        lines = r.lines.items;
+        admits = r.admits.items;
+        interfaces = r.interfaces.items;
+      };
+      sorts = r.sorts.items;
+      kernels = r.kernels.items;
+      wired = r.wired.items;
+      given = r.given;
+    } };
+}
 
-    ghost invariant = { λ r. (length r.names.items ≤ limit_of_tasks) × AreNames r.names.items };
+fn right_held(right: HeldRight) -> PortRight
+    ensures { result ≡ right_held right }
+{
+    match right {
+        HeldRight::Send => PortRight::Send,
+        HeldRight::SendOnce => PortRight::SendOnce,
+    }
 }
 
 impl Resolving {
+    /// The birth number of the next port.
+    fn next(&self) -> usize
+        requires { IsState self.now }
+        ensures exact { result ≡ next_birth self.now.table }
+        ensures within { length self.now.table.names < limit_of_tasks
+            → result < limit_of_first_ports }
+        ensures room { length self.now.table.ports < limit_of_wired_ports
+            → result < limit_of_first_ports }
+    {
+        self.names.len() + self.ports.len()
+    }
+
+    /// A task by its name in a line.
+    fn task_said(&self, line: u32, name: &Name) -> Result<usize, OrMemory<ResolveFault>>
+        requires { IsState self.now }
+        ensures exact { Gives (λ task. task) result
+            (ok_or (number_of self.now.table.names name.now) (UnknownName line)) }
+        ensures there { IfOk result (λ task. task < length self.now.table.names) }
+        ensures within { IfOk result (λ task. task < limit_of_tasks) }
+        ensures few { IfOk result (λ task.
+            slice_index self.now.given.counts task ≤ limit_of_names) }
+    {
+        number_of(self.names.as_slice(), name.as_str()).ok_or(OrMemory::Fault(
+            ResolveFault::UnknownName(line),
+        ))
+    }
+
+    /// Adds a task.
+    fn put_task(&mut self, alloc: Global, name: &Name) -> Result<(), AllocError>
+        requires state { IsState self.old }
+        requires room { length self.old.table.names < limit_of_tasks }
+        requires few { slice_index self.old.given.counts (length self.old.table.names)
+            ≤ limit_of_names }
+        ensures exact { OnOk result
+            (self.new ≡ state_with_task self.old name.now self.new.given) }
+        ensures given { OnOk result
+            (GivesMore self.old.given (length self.old.table.names)
+            (next_birth self.old.table) PortRight.Send self.new.given) }
+        ensures same { self.new.table.interfaces ≡ self.old.table.interfaces }
+    {
+        let task = self.names.len();
+        let port = self.next();
+        self.names.push(name.copy(alloc)?)?;
+        self.births.push(None)?;
+        self.lines.push(FirstLine::Task)?;
+        self.kernels.push(PortId(port as u64))?;
+        self.given.give(task, port, PortRight::Send);
+        Ok(())
+    }
+
     #[tactic(auto, unfolding(crate::specs::Resolving::add_task))]
     fn add_task(
         &mut self,
@@ -42,7 +139,10 @@ impl Resolving {
         line: u32,
         name: &Name,
     ) -> Result<(), OrMemory<ResolveFault>>
-        ensures { Adds result self.new (add_task self.old line name.now) }
+        requires { IsState self.old }
+        ensures exact { Adds result self.new.table (add_task self.old.table line name.now) }
+        ensures kept { OnOk result (IsState self.new) }
+        ensures same { self.new.table.interfaces ≡ self.old.table.interfaces }
     {
         if number_of(self.names.as_slice(), name.as_str()).is_some() {
             return Err(OrMemory::Fault(ResolveFault::TwiceNamed(line)));
@@ -50,41 +150,420 @@ impl Resolving {
         if self.names.len() >= TASKS {
             return Err(OrMemory::Fault(ResolveFault::TooMany(line)));
         }
-        self.names.push(copy_name(alloc, name)?)?;
-        self.lines.push(FirstLine::Task)?;
+        self.put_task(alloc, name)?;
         Ok(())
     }
 
-    #[tactic(auto, unfolding(crate::specs::Resolving::add_hold))]
-    fn add_hold(
+    /// Adds a wired port.
+    fn put_port(
+        &mut self,
+        alloc: Global,
+        name: &Name,
+        receiver: usize,
+        label: Label,
+    ) -> Result<(), AllocError>
+        requires state { IsState self.old }
+        requires room { length self.old.table.ports < limit_of_wired_ports }
+        requires there { receiver < limit_of_tasks }
+        requires few { slice_index self.old.given.counts receiver ≤ limit_of_names }
+        ensures exact { OnOk result
+            (self.new ≡ state_with_port self.old name.now receiver label self.new.given) }
+        ensures given { OnOk result
+            (GivesMore self.old.given receiver (next_birth self.old.table) PortRight.Receive
+            self.new.given) }
+        ensures same { self.new.table.interfaces ≡ self.old.table.interfaces }
+    {
+        let port = self.next();
+        self.ports.push(name.copy(alloc)?)?;
+        self.accepts.push(label)?;
+        self.lines.push(FirstLine::Port {
+            receiver: TaskId(receiver as u32),
+        })?;
+        self.wired.push(PortId(port as u64))?;
+        self.given.give(receiver, port, PortRight::Receive);
+        Ok(())
+    }
+
+    #[tactic(auto, unfolding(crate::specs::Resolving::place_port))]
+    fn place_port(
+        &mut self,
+        alloc: Global,
+        line: u32,
+        name: &Name,
+        receiver: usize,
+        label: Label,
+    ) -> Result<(), OrMemory<ResolveFault>>
+        requires state { IsState self.old }
+        requires there { receiver < length self.old.table.names }
+        requires within { receiver < limit_of_tasks }
+        requires few { slice_index self.old.given.counts receiver ≤ limit_of_names }
+        ensures exact { Adds result self.new.table
+            (place_port self.old.table line name.now receiver label) }
+        ensures kept { OnOk result (IsState self.new) }
+        ensures same { self.new.table.interfaces ≡ self.old.table.interfaces }
+    {
+        if number_of(self.ports.as_slice(), name.as_str()).is_some() {
+            return Err(OrMemory::Fault(ResolveFault::TwiceNamed(line)));
+        }
+        if self.ports.len() >= WIRED_PORTS {
+            return Err(OrMemory::Fault(ResolveFault::TooMany(line)));
+        }
+        let port = self.next();
+        let names = self.given.count_with(receiver, port, PortRight::Receive);
+        if names > NAMES {
+            return Err(OrMemory::Fault(ResolveFault::TooManyNames(receiver as u32)));
+        }
+        if has_clash(alloc, self.interfaces.as_slice(), label.as_slice())? {
+            return Err(OrMemory::Fault(ResolveFault::IdClash(line)));
+        }
+        self.put_port(alloc, name, receiver, label)?;
+        Ok(())
+    }
+
+    #[tactic(auto, unfolding(crate::specs::Resolving::add_port))]
+    fn add_port(
+        &mut self,
+        alloc: Global,
+        line: u32,
+        name: &Name,
+        receiver: &Name,
+        accepts: &Items,
+    ) -> Result<(), OrMemory<ResolveFault>>
+        requires { IsState self.old }
+        ensures exact { Adds result self.new.table
+            (add_port self.old.table line name.now receiver.now accepts.now) }
+        ensures kept { OnOk result (IsState self.new) }
+        ensures same { self.new.table.interfaces ≡ self.old.table.interfaces }
+    {
+        let receiver = self.task_said(line, receiver)?;
+        let label = label_said(alloc, self.interfaces.as_slice(), line, accepts)?;
+        self.place_port(alloc, line, name, receiver, label)?;
+        Ok(())
+    }
+
+    /// Whether a line has said what the births of the task accept.
+    fn has_births(&self, task: usize) -> bool
+        ensures { result ≡ has_births self.now.table task }
+    {
+        match self.births.get(task) {
+            Some(births) => births.is_some(),
+            None => false,
+        }
+    }
+
+    #[tactic(auto, unfolding(crate::specs::Resolving::place_births))]
+    fn place_births(
+        &mut self,
+        alloc: Global,
+        line: u32,
+        task: usize,
+        label: Label,
+    ) -> Result<(), OrMemory<ResolveFault>>
+        requires state { IsState self.old }
+        requires there { task < length self.old.table.names }
+        ensures exact { Adds result self.new.table
+            (place_births self.old.table line task label) }
+        ensures kept { OnOk result (IsState self.new) }
+        ensures same { self.new.table.interfaces ≡ self.old.table.interfaces }
+    {
+        if self.has_births(task) {
+            return Err(OrMemory::Fault(ResolveFault::TwiceNamed(line)));
+        }
+        if has_clash(alloc, self.interfaces.as_slice(), label.as_slice())? {
+            return Err(OrMemory::Fault(ResolveFault::IdClash(line)));
+        }
+        self.births[task] = Some(label);
+        Ok(())
+    }
+
+    #[tactic(auto, unfolding(crate::specs::Resolving::add_births))]
+    fn add_births(
+        &mut self,
+        alloc: Global,
+        line: u32,
+        task: &Name,
+        accepts: &Items,
+    ) -> Result<(), OrMemory<ResolveFault>>
+        requires { IsState self.old }
+        ensures exact { Adds result self.new.table
+            (add_births self.old.table line task.now accepts.now) }
+        ensures kept { OnOk result (IsState self.new) }
+        ensures same { self.new.table.interfaces ≡ self.old.table.interfaces }
+    {
+        let task = self.task_said(line, task)?;
+        let label = label_said(alloc, self.interfaces.as_slice(), line, accepts)?;
+        self.place_births(alloc, line, task, label)?;
+        Ok(())
+    }
+
+    /// Adds a right.
+    fn put_hold(&mut self, task: usize, port: PortId, right: PortRight) -> Result<(), AllocError>
+        requires within { task < limit_of_tasks }
+        requires port { port < limit_of_first_ports }
+        requires few { slice_index self.old.given.counts task ≤ limit_of_names }
+        ensures exact { OnOk result
+            (self.new ≡ state_with_hold self.old task port right self.new.given) }
+        ensures given { OnOk result
+            (GivesMore self.old.given task port right self.new.given) }
+        ensures same { self.new.table.interfaces ≡ self.old.table.interfaces }
+    {
+        self.lines.push(FirstLine::Hold {
+            task: TaskId(task as u32),
+            port,
+            right,
+        })?;
+        self.given.give(task, port.0 as usize, right);
+        Ok(())
+    }
+
+    #[tactic(auto, unfolding(crate::specs::Resolving::place_hold))]
+    fn place_hold(
+        &mut self,
+        task: usize,
+        port: PortId,
+        right: PortRight,
+    ) -> Result<(), OrMemory<ResolveFault>>
+        requires state { IsState self.old }
+        requires there { task < length self.old.table.names }
+        requires within { task < limit_of_tasks }
+        requires few { slice_index self.old.given.counts task ≤ limit_of_names }
+        requires port { port < next_birth self.old.table }
+        requires near { port < limit_of_first_ports }
+        requires plain { is_receive right ≡ false }
+        ensures exact { Adds result self.new.table
+            (place_hold self.old.table task port right) }
+        ensures kept { OnOk result (IsState self.new) }
+        ensures same { self.new.table.interfaces ≡ self.old.table.interfaces }
+    {
+        let names = self.given.count_with(task, port.0 as usize, right);
+        if names > NAMES {
+            return Err(OrMemory::Fault(ResolveFault::TooManyNames(task as u32)));
+        }
+        self.put_hold(task, port, right)?;
+        Ok(())
+    }
+
+    /// The birth number of the wired port of a name.
+    fn port_birth(&self, name: &str) -> Option<PortId>
+        requires { IsState self.now }
+        ensures { result ≡ port_birth self.now.table name.now }
+    {
+        let number = number_of(self.ports.as_slice(), name)?;
+        self.wired.get(number).copied()
+    }
+
+    /// The birth number of the kernel port of the task of a name.
+    fn kernel_birth(&self, name: &str) -> Option<PortId>
+        requires { IsState self.now }
+        ensures { result ≡ kernel_birth self.now.table name.now }
+    {
+        let number = number_of(self.names.as_slice(), name)?;
+        self.kernels.get(number).copied()
+    }
+
+    #[tactic(auto, unfolding(crate::specs::Resolving::add_hold_port))]
+    fn add_hold_port(
+        &mut self,
+        line: u32,
+        holder: &Name,
+        right: HeldRight,
+        port: &Name,
+    ) -> Result<(), OrMemory<ResolveFault>>
+        requires { IsState self.old }
+        ensures exact { Adds result self.new.table
+            (add_hold_port self.old.table line holder.now right port.now) }
+        ensures kept { OnOk result (IsState self.new) }
+        ensures same { self.new.table.interfaces ≡ self.old.table.interfaces }
+    {
+        let holder = self.task_said(line, holder)?;
+        let port = self
+            .port_birth(port.as_str())
+            .ok_or(OrMemory::Fault(ResolveFault::UnknownName(line)))?;
+        self.place_hold(holder, port, right_held(right))?;
+        Ok(())
+    }
+
+    #[tactic(auto, unfolding(crate::specs::Resolving::add_hold_task))]
+    fn add_hold_task(
         &mut self,
         line: u32,
         holder: &Name,
         task: &Name,
     ) -> Result<(), OrMemory<ResolveFault>>
-        ensures { Adds result self.new (add_hold self.old line holder.now task.now) }
+        requires { IsState self.old }
+        ensures exact { Adds result self.new.table
+            (add_hold_task self.old.table line holder.now task.now) }
+        ensures kept { OnOk result (IsState self.new) }
+        ensures same { self.new.table.interfaces ≡ self.old.table.interfaces }
     {
-        let holder = number_of(self.names.as_slice(), holder.as_str()).ok_or(OrMemory::Fault(
-            ResolveFault::UnknownName(line),
-        ))?;
-        let task = number_of(self.names.as_slice(), task.as_str()).ok_or(OrMemory::Fault(
-            ResolveFault::UnknownName(line),
-        ))?;
-        self.lines.push(FirstLine::Hold {
-            task: TaskId(holder as u32),
-            port: PortId(task as u64),
-            right: PortRight::Send,
-        })?;
+        let holder = self.task_said(line, holder)?;
+        let port = self
+            .kernel_birth(task.as_str())
+            .ok_or(OrMemory::Fault(ResolveFault::UnknownName(line)))?;
+        self.place_hold(holder, port, PortRight::Send)?;
         Ok(())
     }
 
-    fn add_line(&mut self, alloc: Global, line: &WiringLine) -> Result<(), OrMemory<ResolveFault>>
-        ensures { Adds result self.new (add_line self.old line.now.number line.now.says) }
+    /// The class of an admit line.
+    fn admitted_said(
+        &self,
+        line: u32,
+        class: &Option<ClassName>,
+    ) -> Result<Option<NumberedClass>, OrMemory<ResolveFault>>
+        requires { IsState self.now }
+        ensures { Gives (λ class. class) result
+            (admitted_said self.now.table line class.now) }
     {
+        let Some(name) = class else {
+            return Ok(None);
+        };
+        let class = class_said(self.names.as_slice(), self.ports.as_slice(), name).ok_or(
+            OrMemory::Fault(ResolveFault::UnknownName(line)),
+        )?;
+        Ok(Some(class))
+    }
+
+    #[tactic(auto, unfolding(crate::specs::Resolving::add_admit))]
+    fn add_admit(
+        &mut self,
+        line: u32,
+        subsystem: &Name,
+        type_name: &Name,
+        class: &Option<ClassName>,
+    ) -> Result<(), OrMemory<ResolveFault>>
+        requires { IsState self.old }
+        ensures exact { Adds result self.new.table
+            (add_admit self.old.table line subsystem.now type_name.now class.now) }
+        ensures kept { OnOk result (IsState self.new) }
+        ensures same { self.new.table.interfaces ≡ self.old.table.interfaces }
+    {
+        let interface = interface_number(self.interfaces.as_slice(), subsystem.as_str()).ok_or(
+            OrMemory::Fault(ResolveFault::UnknownName(line)),
+        )?;
+        let sort = sort_place(self.sorts.as_slice(), interface, type_name.as_str()).ok_or(
+            OrMemory::Fault(ResolveFault::UnknownName(line)),
+        )?;
+        let class = self.admitted_said(line, class)?;
+        self.admits.push(AdmitLine { sort, class })?;
+        Ok(())
+    }
+
+    /// Adds what a line says.
+    fn add_line(&mut self, alloc: Global, line: &WiringLine) -> Result<(), OrMemory<ResolveFault>>
+        requires { IsState self.old }
+        ensures exact { Adds result self.new.table
+            (add_line self.old.table line.now.number line.now.says) }
+        ensures kept { OnOk result (IsState self.new) }
+        ensures same { self.new.table.interfaces ≡ self.old.table.interfaces }
+    {
+        let number = line.number;
         match &line.says {
-            WiringSays::Task(name) => self.add_task(alloc, line.number, name),
-            WiringSays::HoldTask { holder, task } => self.add_hold(line.number, holder, task),
+            WiringSays::Task(name) => self.add_task(alloc, number, name),
+            WiringSays::Port {
+                port,
+                receiver,
+                accepts,
+            } => self.add_port(alloc, number, port, receiver, accepts),
+            WiringSays::Births { task, accepts } => self.add_births(alloc, number, task, accepts),
+            WiringSays::HoldPort {
+                holder,
+                right,
+                port,
+            } => self.add_hold_port(number, holder, *right, port),
+            WiringSays::HoldTask { holder, task } => self.add_hold_task(number, holder, task),
+            WiringSays::Admit {
+                subsystem,
+                type_name,
+                class,
+            } => self.add_admit(number, subsystem, type_name, class),
         }
+    }
+}
+
+/// Whether one of the interfaces has the name.
+fn is_one_named(interfaces: &[Interface], name: &str) -> bool
+    ensures { result ≡ list_any (is_named name.now) interfaces.now }
+{
+    interfaces.iter().any(|other| name == other.name())
+}
+
+/// Whether two of the interfaces have one name.
+fn has_twice(interfaces: &[Interface]) -> bool
+    ensures { result ≡ has_twice interfaces.now }
+{
+    for (number, interface) in interfaces.iter().enumerate() {
+        if is_one_named(&interfaces[number + 1..], interface.name()) {
+            return true;
+        }
+    }
+    false
+}
+
+/// Why a wiring cannot have these interfaces.
+fn fault_of_interfaces(interfaces: &[Interface]) -> Option<ResolveFault>
+    ensures { FaultOrStarts result interfaces.now }
+{
+    if has_twice(interfaces) {
+        return Some(ResolveFault::TwiceNamed(0));
+    }
+    if interfaces.len() > INTERFACES {
+        return Some(ResolveFault::TooMany(0));
+    }
+    None
+}
+
+/// Lines that have no meaning: the interfaces, as they were handed in, and why.
+#[derive(Debug, Drop)]
+pub struct NotResolved {
+    /// The interfaces.
+    pub interfaces: Vec<Interface>,
+    /// The first fault, or want of memory.
+    pub why: OrMemory<ResolveFault>,
+}
+
+/// What is kept beside a table of no line.
+fn kept_beside(
+    alloc: Global,
+    interfaces: &[Interface],
+) -> Result<(Vec<Sort>, NamesGiven), AllocError>
+    ensures sorts { IfOk result (λ kept. kept.0.items ≡ sorts_of interfaces.now) }
+    ensures given { IfOk result (λ kept. IsGiven [] kept.1) }
+{
+    let sorts = sorts_of(alloc, interfaces)?;
+    let given = NamesGiven::new(alloc)?;
+    Ok((sorts, given))
+}
+
+/// No line yet.
+fn started(alloc: Global, interfaces: Vec<Interface>) -> Result<Resolving, NotResolved>
+    ensures exact { StateTold interfaces.items result (started interfaces.items) }
+    ensures kept { IfOk result (λ state. IsState state) }
+    ensures same { IfOk result (λ state. state.table.interfaces ≡ interfaces.items) }
+{
+    if let Some(fault) = fault_of_interfaces(interfaces.as_slice()) {
+        return Err(NotResolved {
+            interfaces,
+            why: OrMemory::Fault(fault),
+        });
+    }
+    match kept_beside(alloc, interfaces.as_slice()) {
+        Ok((sorts, given)) => Ok(Resolving {
+            names: Vec::new(alloc),
+            births: Vec::new(alloc),
+            ports: Vec::new(alloc),
+            accepts: Vec::new(alloc),
+            lines: Vec::new(alloc),
+            admits: Vec::new(alloc),
+            interfaces,
+            sorts,
+            kernels: Vec::new(alloc),
+            wired: Vec::new(alloc),
+            given,
+        }),
+        Err(error) => Err(NotResolved {
+            interfaces,
+            why: OrMemory::from(error),
+        }),
     }
 }
 
@@ -92,15 +571,19 @@ impl Resolving {
 pub(crate) fn resolved(
     alloc: Global,
     lines: &[WiringLine],
-) -> Result<Resolving, OrMemory<ResolveFault>>
-    ensures { Gives (λ table. table) result (resolved lines.now) }
+    interfaces: Vec<Interface>,
+) -> Result<Resolving, NotResolved>
+    ensures exact { StateTold interfaces.items result (resolved interfaces.items lines.now) }
+    ensures kept { IfOk result (λ state. IsState state) }
 {
-    let mut resolving = Resolving {
-        names: Vec::new(alloc),
-        lines: Vec::new(alloc),
-    };
+    let mut resolving = started(alloc, interfaces)?;
     for line in lines {
-        resolving.add_line(alloc, line)?;
+        if let Err(why) = resolving.add_line(alloc, line) {
+            return Err(NotResolved {
+                interfaces: resolving.interfaces,
+                why,
+            });
+        }
     }
     Ok(resolving)
 }

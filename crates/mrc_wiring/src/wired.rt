@@ -1,63 +1,104 @@
 //! Wirings, resolved to numbers.
 
-ghost use Rattle.std.specs.Prelude.{◌≡◌, ◌≤◌, ◌<◌, ◌^◌, ℕ, Some, length, slice_get, IfOk, IfSome};
-ghost use Rattle.std.specs.Prelude.{IfNone, IsTrue};
-ghost use Rattle.std.specs.Option.{option_map};
+ghost use Rattle.std.specs.Prelude.{◌≡◌, ◌≤◌, ◌<◌, ◌+◌, ◌*◌, ◌==◌, ◌&&◌, ℕ, length, nat_lt};
+ghost use Rattle.std.specs.Prelude.{slice_get, Some, None, IfSome, IsTrue, unwrap_or};
+ghost use Rattle.std.specs.List.{list_any};
+ghost use Rattle.std.specs.Option.{option_map, IfNone};
 ghost use Rattle.mrc_base.specs.Limits.{limit_of_tasks, limit_of_wired_ports};
-ghost use Rattle.mrc_base.specs.Reading.{Gives};
 ghost use Rattle.mrc_model.specs.First.{is_sound};
-ghost use Rattle.mrc_model.specs.Wiring.{classes, births_class, accepts_routine};
-ghost use Rattle.mrc_model.specs.Wiring.{accepts_destroyed};
-ghost use Rattle.mrc_wiring.specs.Table.{IsTable, AreEarlier, task_lines, wiring_of, line_holds};
-ghost use Rattle.mrc_wiring.specs.FirstState.{HasFirstHolds};
-ghost use Rattle.mrc_wiring.specs.Slots.{takes};
+ghost use Rattle.mrc_model.specs.Wiring.{classes, births_class, label, admits, is_line_of};
+ghost use Rattle.mrc_model.specs.Wiring.{admits_by};
+ghost use Rattle.mrc_wiring.specs.Table.{IsTable, wiring_of, class_of, admitted_by, of_births};
+ghost use Rattle.mrc_wiring.specs.Sorts.{sorts_of, sort_number};
 ghost use Rattle.mrc_wiring.specs.Resolving.{resolved};
+ghost use Rattle.mrc_wiring.specs.Told.{ResolveTold};
 ghost use Rattle.mrc_wiring.specs.Names.{AreNames, number_of, class_label, shown_label};
 ghost use Rattle.mrc_wiring.specs.Names.{class_named};
+ghost use Rattle.mrc_wiring.specs.Claims.{class_number};
 
-use crate::faults::ResolveFault;
-use crate::names::{ClassKind, ClassLabel, number_of};
-use crate::resolving::resolved;
-use mrc_base::{ClassId, Disp, Fact, OrMemory, PortRight, TaskId};
-use mrc_model::FirstLine;
-use mrc_wiring_text::{Name, WiringLine};
-use std::alloc::{AllocError, Global};
+use crate::labels::Label;
+use crate::names::{ClassKind, ClassLabel, NumberedClass, class_said, number_of};
+use crate::resolving::{NotResolved, resolved};
+use crate::sorts::{Sort, sort_number};
+use crate::table::AdmitLine;
+use mrc_base::{ClassId, TaskId};
+use mrc_interface::Interface;
+use mrc_model::{FirstLine, LabelItem};
+use mrc_wiring_text::{ClassName, Name, WiringLine};
+use std::alloc::Global;
 use std::marker::Model;
 
-/// A wiring by numbers: its tasks, its classes, and what makes its first state. It keeps the names.
+/// A wiring by numbers: its tasks and wired ports, its classes and what they accept, what slots
+/// admit, and what makes its first state. It keeps the names and the interfaces.
 #[derive(Debug, Drop)]
 pub struct Wired {
     names: Vec<Name>,
-    lines: Vec<FirstLine>,
+    births: Vec<Option<Label>>,
+    ports: Vec<Name>,
+    accepts: Vec<Label>,
+    pub(crate) lines: Vec<FirstLine>,
+    admits: Vec<AdmitLine>,
+    interfaces: Vec<Interface>,
+    pub(crate) sorts: Vec<Sort>,
 }
 
 impl Model for Wired {
+    ghost use Rattle.std.specs.Prelude.{◌≡◌};
     ghost use Rattle.mrc_wiring.specs.Names.{AreNames};
+    ghost use Rattle.mrc_wiring.specs.Sorts.{sorts_of};
     ghost use Rattle.mrc_wiring.specs.Table.{Table, IsTable};
 
     ghost Value = { Table };
 
-    ghost view = { λ w. record { names = w.names.items; lines = w.lines.items } };
+    ghost view = { λ w. record {
+      names = w.names.items;
+      births = w.births.items;
+      ports = w.ports.items;
+      accepts = w.accepts.items;
+      lines = w.lines.items;
+      admits = w.admits.items;
+      interfaces = w.interfaces.items;
+    } };
 
-    ghost invariant = { λ w. IsTable record { names = w.names.items; lines = w.lines.items }
-        × AreNames w.names.items };
+    ghost invariant = { λ w. IsTable record {
+      names = w.names.items;
+      births = w.births.items;
+      ports = w.ports.items;
+      accepts = w.accepts.items;
+      lines = w.lines.items;
+      admits = w.admits.items;
+      interfaces = w.interfaces.items;
+    } × AreNames w.names.items × AreNames w.ports.items
+        × (w.sorts.items ≡ sorts_of w.interfaces.items) };
 }
 
 impl Wired {
-    /// The wiring that lines mean, or the first fault, by lines.
-    pub fn resolve(alloc: Global, lines: &[WiringLine]) -> Result<Wired, OrMemory<ResolveFault>>
-        ensures { Gives (λ table. table) result (resolved lines.now) }
+    /// The wiring that lines mean over interfaces, or the first fault, by lines; line 0 stands for
+    /// the list of interfaces. With a refusal the interfaces come back, as they were.
+    pub fn resolve(
+        alloc: Global,
+        lines: &[WiringLine],
+        interfaces: Vec<Interface>,
+    ) -> Result<Wired, NotResolved>
+        ensures { ResolveTold interfaces.items result (resolved interfaces.items lines.now) }
     {
-        let table = resolved(alloc, lines)?;
+        let table = resolved(alloc, lines, interfaces)?;
         Ok(Wired {
             names: table.names,
+            births: table.births,
+            ports: table.ports,
+            accepts: table.accepts,
             lines: table.lines,
+            admits: table.admits,
+            interfaces: table.interfaces,
+            sorts: table.sorts,
         })
     }
 
     /// How many tasks there are: no more than a wiring may have.
     pub fn tasks(&self) -> u16
-        ensures exact { result ≡ length self.now.names }
+        ensures exact { result ≡ (wiring_of self.now).tasks }
+        ensures within { result ≤ limit_of_tasks }
         ensures kept { IsTable self.now }
         ensures named { AreNames self.now.names }
         ensures sound { IsTrue (is_sound (wiring_of self.now)) }
@@ -65,12 +106,22 @@ impl Wired {
         self.names.len() as u16
     }
 
-    /// How many wired ports there are.
+    /// How many wired ports there are: no more than a wiring may have.
     pub fn ports(&self) -> u16
         ensures exact { result ≡ (wiring_of self.now).ports }
         ensures within { result ≤ limit_of_wired_ports }
+        ensures named { AreNames self.now.ports }
     {
-        0
+        self.ports.len() as u16
+    }
+
+    /// How many classes of ports there are: wired ports, the kernel port of each task, and then the
+    /// births of each.
+    pub fn classes(&self) -> u16
+        ensures exact { result ≡ classes (wiring_of self.now) }
+        ensures within { result ≤ limit_of_wired_ports + 2 * limit_of_tasks }
+    {
+        self.ports() + self.tasks() * 2
     }
 
     /// What makes the first state, line by line.
@@ -80,70 +131,158 @@ impl Wired {
         self.lines.as_slice()
     }
 
-    /// The class of the ports that a task is the first to hold, by their kind: today each task has
-    /// kind 0 alone.
+    /// Whether the task has births of the kind: each task has them of kind 0 alone.
+    fn has_kind(&self, task: TaskId, kind: u32) -> bool
+        ensures { result ≡ (kind == 0 && nat_lt task (length self.now.names)) }
+    {
+        kind == 0 && task.0 < u32::from(self.tasks())
+    }
+
+    /// The class of the births of a task, by their kind: there is one kind, 0.
     pub fn births_class(&self, task: TaskId, kind: u32) -> Option<ClassId>
         ensures { result ≡ births_class (wiring_of self.now) task kind }
     {
-        if kind != 0 {
-            return None;
+        if self.has_kind(task, kind) {
+            let first = self.ports() + self.tasks();
+            Some(ClassId(first + task.0 as u16))
+        } else {
+            None
         }
-        let tasks = self.tasks();
-        if u32::from(tasks) <= task.0 {
-            return None;
-        }
-        Some(ClassId(tasks + task.0 as u16))
     }
 
-    /// How many classes of ports there are: the kernel port of each task, and then the births of
-    /// each.
-    pub fn classes(&self) -> u16
-        ensures exact { result ≡ classes (wiring_of self.now) }
-        ensures within { result < 2 ^ 14 }
-    {
-        self.tasks() * 2
-    }
-
-    /// The task that is the first to hold the ports of a class, where there is one.
+    /// The task of whose births the class is.
     pub fn born_to(&self, class: ClassId) -> Option<TaskId>
-        ensures some { IfSome result (λ t. (t < (wiring_of self.now).tasks)
-            × ((kind : ℕ) × (births_class (wiring_of self.now) t kind ≡ Some class))) }
-        ensures only { IfSome result (λ t. (u kind : ℕ) →
-            births_class (wiring_of self.now) u kind ≡ Some class → u ≡ t) }
-        ensures none { IfNone result ((u kind : ℕ) →
-            births_class (wiring_of self.now) u kind ≡ Some class → ⊥) }
+        ensures some { IfSome result (λ task. (task < (wiring_of self.now).tasks)
+            × ((kind : ℕ) × (births_class (wiring_of self.now) task kind ≡ Some class))) }
+        ensures only { IfSome result (λ task. (other kind : ℕ)
+            → births_class (wiring_of self.now) other kind ≡ Some class
+            → other ≡ task) }
+        ensures none { IfNone result ((task kind : ℕ)
+            → births_class (wiring_of self.now) task kind ≡ Some class
+            → ⊥) }
     {
         let tasks = self.tasks();
-        if class.0 < tasks {
-            return None;
+        let first = self.ports() + tasks;
+        let number = class.0.checked_sub(first)?;
+        if number < tasks {
+            Some(TaskId(u32::from(number)))
+        } else {
+            None
         }
-        let task = class.0 - tasks;
-        if task >= tasks {
-            return None;
+    }
+
+    /// What the births of a task accept.
+    fn births_label(&self, task: usize) -> &[LabelItem]
+        ensures { result.now ≡ of_births (unwrap_or (slice_get self.now.births task) None) }
+    {
+        match self.births.get(task) {
+            Some(Some(label)) => label.as_slice(),
+            Some(None) => &[],
+            None => &[],
         }
-        Some(TaskId(task as u32))
     }
 
-    /// Whether a slot of this disposition, in a form of the one class's label, admits the other
-    /// class.
-    pub fn takes(&self, to: ClassId, disp: Disp, carried: ClassId) -> bool
-        ensures { result ≡ takes (wiring_of self.now) to disp carried }
+    /// What a class accepts; nothing where there is no class of the number.
+    pub fn label(&self, class: ClassId) -> &[LabelItem]
+        ensures { result.now ≡ label (wiring_of self.now) class }
     {
+        let ports = self.ports();
+        let births = ports + self.tasks();
+        if class.0 < ports {
+            self.accepts[class.0 as usize].as_slice()
+        } else if class.0 < births {
+            &[]
+        } else {
+            self.births_label((class.0 - births) as usize)
+        }
+    }
+
+    /// The class of a port or a task.
+    fn class_of(&self, class: NumberedClass) -> usize
+        ensures { result ≡ class_of self.now class }
+    {
+        let ports = self.ports.len();
+        let number = usize::from(class.number);
+        match class.kind {
+            ClassKind::Port => number,
+            ClassKind::Task => ports + number,
+            ClassKind::Births => ports + self.names.len() + number,
+        }
+    }
+
+    /// Whether an admit line is for the type.
+    fn has_admit_line(&self, sort: usize) -> bool
+        ensures { result ≡ list_any (is_line_of sort) (wiring_of self.now).admitted }
+    {
+        for line in &self.admits {
+            if line.sort == sort {
+                return true;
+            }
+        }
         false
     }
 
-    /// Whether the class accepts requests of an interface that has a routine.
-    pub fn accepts_routine(&self, class: ClassId) -> bool
-        ensures { result ≡ accepts_routine (wiring_of self.now) class }
+    /// Whether the admit line is for the type and the class.
+    fn is_admitted_by(&self, line: &AdmitLine, sort: usize, class: usize) -> bool
+        ensures { result ≡ admits_by sort class (admitted_by self.now line.now) }
     {
+        if line.sort != sort {
+            return false;
+        }
+        match line.class {
+            Some(admitted) => self.class_of(admitted) == class,
+            None => false,
+        }
+    }
+
+    /// Whether an admit line is for the type and the class.
+    fn has_admitted(&self, sort: usize, class: usize) -> bool
+        ensures { result ≡ list_any (admits_by sort class) (wiring_of self.now).admitted }
+    {
+        for line in &self.admits {
+            if self.is_admitted_by(line, sort, class) {
+                return true;
+            }
+        }
         false
     }
 
-    /// Whether a port of the class may be named in a port-destroyed request.
-    pub fn accepts_destroyed(&self, class: ClassId) -> bool
-        ensures { result ≡ accepts_destroyed (wiring_of self.now) class }
+    /// Whether the type of this number admits the class: a type with no admit line admits every
+    /// class, and what is no class is admitted by no type.
+    #[tactic(auto, unfolding(mrc_model::specs::Wiring::admits))]
+    pub fn admits(&self, sort: usize, class: ClassId) -> bool
+        ensures { result ≡ admits (wiring_of self.now) sort class }
     {
-        false
+        if class.0 >= self.classes() {
+            false
+        } else if self.has_admit_line(sort) {
+            self.has_admitted(sort, class.0 as usize)
+        } else {
+            true
+        }
+    }
+
+    /// The interfaces, in the order of their numbers.
+    pub fn interfaces(&self) -> &[Interface]
+        ensures { result.now ≡ self.now.interfaces }
+    {
+        self.interfaces.as_slice()
+    }
+
+    /// The interface of a number.
+    pub fn interface(&self, number: usize) -> Option<&Interface>
+        ensures { option_map (λ interface. interface.now) result
+            ≡ slice_get self.now.interfaces number }
+    {
+        self.interfaces.get(number)
+    }
+
+    /// The number of the type of this name in the interface of this number; the number of no type
+    /// where no port argument of the interface has the type.
+    pub fn sort(&self, interface: usize, type_name: &str) -> usize
+        ensures { result ≡ sort_number (sorts_of self.now.interfaces) interface type_name.now }
+    {
+        sort_number(self.sorts.as_slice(), interface, type_name)
     }
 
     /// The name of a task.
@@ -166,79 +305,55 @@ impl Wired {
 
     /// The name of a class.
     pub fn class_name(&self, class: ClassId) -> Option<ClassLabel<'_>>
-        ensures { option_map shown_label result ≡ class_label self.now.names class }
+        ensures { option_map shown_label result ≡ class_label self.now class }
     {
-        let tasks = self.tasks();
-        if class.0 < tasks {
-            let name = self.names.get(class.0 as usize)?;
+        let ports = self.ports();
+        let births = ports + self.tasks();
+        if class.0 < ports {
+            let name = self.ports.get(class.0 as usize)?;
+            Some(ClassLabel {
+                kind: ClassKind::Port,
+                name: name.as_str(),
+            })
+        } else if class.0 < births {
+            let name = self.names.get((class.0 - ports) as usize)?;
             Some(ClassLabel {
                 kind: ClassKind::Task,
-                task: name.as_str(),
+                name: name.as_str(),
             })
         } else {
-            let name = self.names.get((class.0 - tasks) as usize)?;
+            let name = self.names.get((class.0 - births) as usize)?;
             Some(ClassLabel {
                 kind: ClassKind::Births,
-                task: name.as_str(),
+                name: name.as_str(),
             })
         }
     }
 
-    /// The class of a name as it is printed: `task:U` or `births:U`.
+    /// The class of a name as it is printed: `port:P`, `task:U` or `births:U`.
     #[tactic(auto, unfolding(crate::specs::Names::class_named))]
     pub fn class_named(&self, text: &str) -> Option<ClassId>
-        ensures { result ≡ class_named self.now.names text.now }
+        ensures { result ≡ class_named self.now text.now }
     {
-        if let Some(name) = text.strip_prefix("task:") {
-            let number = number_of(self.names.as_slice(), name)?;
+        if let Some(name) = text.strip_prefix("port:") {
+            let number = number_of(self.ports.as_slice(), name)?;
             Some(ClassId(number as u16))
+        } else if let Some(name) = text.strip_prefix("task:") {
+            let number = number_of(self.names.as_slice(), name)?;
+            Some(ClassId(self.ports() + number as u16))
         } else if let Some(name) = text.strip_prefix("births:") {
             let number = number_of(self.names.as_slice(), name)?;
-            Some(ClassId(self.tasks() + number as u16))
+            Some(ClassId(self.ports() + self.tasks() + number as u16))
         } else {
             None
         }
     }
 
-    /// What tasks hold in the first state, by class: in any order, and perhaps more than once.
-    pub fn first_holdings(&self, alloc: Global) -> Result<Vec<Fact>, AllocError>
-        ensures { IfOk result (λ holds. HasFirstHolds (wiring_of self.now) holds.items) }
+    /// The class of a name in a line.
+    pub(crate) fn class_said(&self, class: &ClassName) -> Option<ClassId>
+        ensures { result ≡ class_number self.now class.now }
     {
-        let _kept = self.tasks();
-        line_holds(alloc, self.lines.as_slice())
+        let said = class_said(self.names.as_slice(), self.ports.as_slice(), class)?;
+        Some(ClassId(self.class_of(said) as u16))
     }
-}
-
-fn hold(task: u16, class: u16, right: PortRight) -> Fact
-    ensures { result ≡ Fact.Hold task class right }
-{
-    Fact::Hold {
-        task,
-        class: ClassId(class),
-        right,
-    }
-}
-
-/// What the lines give. Task and port have one number where the port is the task's kernel port, and
-/// so has its class.
-fn line_holds(alloc: Global, lines: &[FirstLine]) -> Result<Vec<Fact>, AllocError>
-    requires earlier { AreEarlier 0 lines.now }
-    requires few { task_lines lines.now ≤ limit_of_tasks }
-    ensures { IfOk result (λ holds. holds.items ≡ line_holds 0 lines.now) }
-{
-    let mut holds = Vec::new(alloc);
-    let mut tasks = 0u16;
-    for line in lines {
-        match line {
-            FirstLine::Task => {
-                holds.push(hold(tasks, tasks, PortRight::Send))?;
-                tasks += 1;
-            }
-            FirstLine::Hold { task, port, right } => {
-                holds.push(hold(task.0 as u16, port.0 as u16, *right))?;
-            }
-            FirstLine::Port { .. } => {}
-        }
-    }
-    Ok(holds)
 }

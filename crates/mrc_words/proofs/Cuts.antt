@@ -1,11 +1,11 @@
 -- A text is cut at its first blank into the words that were joined.
-use Rattle.std.proofs.Common.{◌≡◌, ℕ, zero, suc, ◌+◌, ◌<◌, ◌≤◌, Bool, true, false, List, [], ◌∷◌}
-use Rattle.std.proofs.Common.{◌++◌, length, take, drop}
+use Rattle.std.proofs.Common.{◌≡◌, ℕ, ◌+◌, Bool, true, false, List, [], ◌∷◌}
+use Rattle.std.proofs.Common.{◌++◌, length, drop}
 use Rattle.std.proofs.Common.{Option, Some, None, refl, sym, subst, ap, ap₂, ◌∙◌, arith, nat_lt}
-use Rattle.std.proofs.Common.{if◌then◌else◌, get_or, codes}
-use Rattle.std.proofs.Common.{◌==◌, ◌&&◌, ◌||◌, length-append, append_assoc}
+use Rattle.std.proofs.Common.{if◌then◌else◌, get_or}
+use Rattle.std.proofs.Common.{◌&&◌, length-append, append_assoc}
 use Rattle.std.specs.List.{position_or_len, before_first, after_first, list_all, list_any}
-use Rattle.std.proofs.lemmas.Bool.{ltb-true, ltb-false, lt-ltb, eqb-true, and_parts, or_parts}
+use Rattle.std.proofs.lemmas.Bool.{ltb-true, lt-ltb, eqb-true, and_parts, or_parts}
 use Rattle.std.proofs.lemmas.List.{take_at, drop_at}
 use Rattle.std.proofs.lemmas.List.Sums.{split_at_first, passes_at_first}
 use Rattle.mrc_wiring_text.specs.Names.{is_name, is_letter, is_name_byte}

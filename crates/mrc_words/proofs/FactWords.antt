@@ -1,6 +1,6 @@
 -- What is printed of a fact in range is read as the fact, and what is read prints as the text.
-use Rattle.std.proofs.Common.{◌≡◌, ◌<◌, ℕ, List, [], ◌∷◌, ◌++◌, Option, Some, None, refl, sym}
-use Rattle.std.proofs.Common.{subst, ap, ap₂, ◌∙◌, true, false, codes, if◌then◌else◌, Bool}
+use Rattle.std.proofs.Common.{◌≡◌, ◌<◌, ℕ, List, Option, Some, None, refl, sym}
+use Rattle.std.proofs.Common.{subst, ap, ap₂, ◌∙◌, true, false, codes, if◌then◌else◌}
 use Rattle.std.specs.Prelude.{slice_get, bytes_eq, unwrap_or, IfSome}
 use Rattle.std.proofs.lemmas.Slice.Eq.{bytes_eq-Decides}
 use Rattle.mrc_base.specs.declared.PortRight.{PortRight}
@@ -10,14 +10,14 @@ use Rattle.mrc_base.specs.declared.Fact.TheVariants.{Hold, Carry, Backup}
 use Rattle.mrc_model.specs.Wiring.{classes}
 use Rattle.mrc_model.specs.Rules.{InRange}
 use Rattle.mrc_wiring.specs.Table.{Table, wiring_of}
-use Rattle.mrc_wiring.specs.Names.{AreNames, number_of, class_named}
+use Rattle.mrc_wiring.specs.Names.{number_of, class_named}
 use Rattle.mrc_wiring.proofs.NameLemmas.{number_at, named_at, read_within}
 use Rattle.mrc_words.specs.Words.{◌␣◌, right_word, class_word, task_word, fact_text}
 use Rattle.mrc_words.specs.Reading.{◌>>=◌, cut, right_named, hold_named, carry_named, backup_named}
 use Rattle.mrc_words.specs.Reading.{fact_of_kind, fact_named}
 use Rattle.mrc_words.specs.Laws.{PrintedIsRead, ReadIsPrinted, NamesOneFact}
 use Rattle.mrc_words.proofs.Cuts.{HasNoBlank, no_blanks, no_blank_name, cut_joined, cut_back}
-use Rattle.mrc_words.proofs.ClassWords.{element, class_word_read, class_word_no_blank}
+use Rattle.mrc_words.proofs.ClassWords.{AreNamed, element, class_word_read, class_word_no_blank}
 use Rattle.mrc_words.proofs.ClassWords.{class_word_back}
 
 right_read : (right : PortRight) → right_named (right_word right) ≡ Some right
@@ -36,13 +36,13 @@ then_is : {A B : Type 0} (o : Option A) (x : A) (f : A → Option B) (y : B) →
     → f x ≡ Some y → (o >>= f) ≡ Some y
 then_is o x f y e g = ap (λ p. p >>= f) e ∙ g
 
-task_read : (table : Table) (t : ℕ) (name : List ℕ) → AreNames table.names
+task_read : (table : Table) (t : ℕ) (name : List ℕ) → AreNamed table
     → slice_get table.names t ≡ Some name
     → (task_word table t ≡ name) × (number_of table.names name ≡ Some t) × HasNoBlank name
 task_read table t name are e =
-    (ap (λ o. unwrap_or o (codes "?")) e, number_at table.names name t are e, no_blank_name name (are.each t name e))
+    (ap (λ o. unwrap_or o (codes "?")) e, number_at table.names name t are.0 e, no_blank_name name (are.0.each t name e))
 
-hold_read : (table : Table) (t c : ℕ) (right : PortRight) (name : List ℕ) → AreNames table.names
+hold_read : (table : Table) (t c : ℕ) (right : PortRight) (name : List ℕ) → AreNamed table
     → slice_get table.names t ≡ Some name
     → c < classes (wiring_of table) → hold_named table
     (name ␣ class_word table c ␣ right_word right) ≡ Some (Hold t c right)
@@ -54,7 +54,7 @@ hold_read table t c right name are e h =
     (then_is _ _ _ _ (class_word_read table c are h)
     (then_is _ _ _ _ (right_read right) refl))))
 
-carry_read : (table : Table) (d c : ℕ) (right : PortRight) → AreNames table.names
+carry_read : (table : Table) (d c : ℕ) (right : PortRight) → AreNamed table
     → d < classes (wiring_of table) → c < classes (wiring_of table)
     → carry_named table (class_word table d ␣ class_word table c ␣ right_word right) ≡ Some
     (Carry d c right)
@@ -65,7 +65,7 @@ carry_read table d c right are g h =
     (then_is _ _ _ _ (class_word_read table c are h)
     (then_is _ _ _ _ (right_read right) refl))))
 
-backup_read : (table : Table) (c d : ℕ) → AreNames table.names
+backup_read : (table : Table) (c d : ℕ) → AreNamed table
     → c < classes (wiring_of table) → d < classes (wiring_of table)
     → backup_named table (class_word table c ␣ class_word table d) ≡ Some (Backup c d)
 backup_read table c d are g h =
@@ -74,24 +74,27 @@ backup_read table c d are g h =
     (then_is _ _ _ _ (class_word_read table d are h) refl))
 
 pub printed_is_read : PrintedIsRead
-printed_is_read table are (Hold t c right) range =
+printed_is_read table tasks ports (Hold t c right) range =
+    let are : AreNamed table = (tasks, ports) in
     let found = element table.names t range.0 in
     let task = task_read table t found.0 are found.1 in
     then_is _ _ _ _ (cut_joined (codes "hold") (task_word table t ␣ class_word table c ␣ right_word right) (no_blanks (codes "hold") refl))
     (ap (λ name. hold_named table (name ␣ class_word table c ␣ right_word right)) task.0
     ∙ hold_read table t c right found.0 are found.1 range.1)
-printed_is_read table are (Carry d c right) range =
+printed_is_read table tasks ports (Carry d c right) range =
+    let are : AreNamed table = (tasks, ports) in
     then_is _ _ _ _ (cut_joined (codes "carry") (class_word table d ␣ class_word table c ␣ right_word right) (no_blanks (codes "carry") refl))
     (carry_read table d c right are range.0 range.1)
-printed_is_read table are (Backup c d) range =
+printed_is_read table tasks ports (Backup c d) range =
+    let are : AreNamed table = (tasks, ports) in
     then_is _ _ _ _ (cut_joined (codes "backup") (class_word table c ␣ class_word table d) (no_blanks (codes "backup") refl))
     (backup_read table c d are range.0 range.1)
 
 -- no text names two facts
 pub names_one_fact : NamesOneFact
-names_one_fact table are one other r s e =
-    let first = printed_is_read table are one r in
-    let second = printed_is_read table are other s in
+names_one_fact table tasks ports one other r s e =
+    let first = printed_is_read table tasks ports one r in
+    let second = printed_is_read table tasks ports other s in
     let same : Some one ≡ Some other = sym first ∙ ap (fact_named table) e ∙ second in
     cc
 
@@ -126,7 +129,7 @@ hold_back table text fact e =
     let first = bound (cut text) _ fact e in
     let second = bound (cut first.0.1) _ fact first.2 in
     let task = bound (number_of table.names first.0.0) _ fact second.2 in
-    let class = bound (class_named table.names second.0.0) _ fact task.2 in
+    let class = bound (class_named table second.0.0) _ fact task.2 in
     let right = bound (right_named second.0.1) _ fact class.2 in
     let here = named_at table.names first.0.0 task.0 task.1 in
     let holder : task_word table task.0 ≡ first.0.0 = ap (λ o. unwrap_or o (codes "?")) here in
@@ -145,8 +148,8 @@ carry_back : (table : Table) (text : List ℕ) (fact : Fact) → carry_named tab
 carry_back table text fact e =
     let first = bound (cut text) _ fact e in
     let second = bound (cut first.0.1) _ fact first.2 in
-    let destination = bound (class_named table.names first.0.0) _ fact second.2 in
-    let class = bound (class_named table.names second.0.0) _ fact destination.2 in
+    let destination = bound (class_named table first.0.0) _ fact second.2 in
+    let class = bound (class_named table second.0.0) _ fact destination.2 in
     let right = bound (right_named second.0.1) _ fact class.2 in
     let of_first = class_word_back table first.0.0 destination.0 destination.1 in
     let of_second = class_word_back table second.0.0 class.0 class.1 in
@@ -163,8 +166,8 @@ backup_back : (table : Table) (text : List ℕ) (fact : Fact) → backup_named t
     → Says table (codes "backup") text fact
 backup_back table text fact e =
     let first = bound (cut text) _ fact e in
-    let class = bound (class_named table.names first.0.0) _ fact first.2 in
-    let notify = bound (class_named table.names first.0.1) _ fact class.2 in
+    let class = bound (class_named table first.0.0) _ fact first.2 in
+    let notify = bound (class_named table first.0.1) _ fact class.2 in
     let of_first = class_word_back table first.0.0 class.0 class.1 in
     let of_second = class_word_back table first.0.1 notify.0 notify.1 in
     let text_is : class_word table class.0 ␣ class_word table notify.0 ≡ text =

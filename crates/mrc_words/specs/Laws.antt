@@ -9,7 +9,9 @@ use Rattle.mrc_words.specs.Reading.{fact_named}
 
 -- what is printed of a fact in range is read as the same fact
 abbrev pub PrintedIsRead : Type 0
-PrintedIsRead = (table : Table) → AreNames table.names
+PrintedIsRead = (table : Table)
+    → AreNames table.names
+    → AreNames table.ports
     → (fact : Fact) → InRange (wiring_of table) fact
     → fact_named table (fact_text table fact) ≡ Some fact
 
@@ -21,6 +23,8 @@ ReadIsPrinted = (table : Table) (text : List ℕ) (fact : Fact)
 
 -- no text names two facts
 abbrev pub NamesOneFact : Type 0
-NamesOneFact = (table : Table) → AreNames table.names
+NamesOneFact = (table : Table)
+    → AreNames table.names
+    → AreNames table.ports
     → (one other : Fact) → InRange (wiring_of table) one → InRange (wiring_of table) other
     → fact_text table one ≡ fact_text table other → one ≡ other

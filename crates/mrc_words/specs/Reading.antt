@@ -41,7 +41,7 @@ hold_named table text = do
   first ← cut text
   second ← cut first.1
   task ← number_of table.names first.0
-  class ← class_named table.names second.0
+  class ← class_named table second.0
   right ← right_named second.1
   Some (Hold task class right)
 
@@ -51,8 +51,8 @@ abbrev pub carry_named : Table → List ℕ → Option Fact
 carry_named table text = do
   first ← cut text
   second ← cut first.1
-  destination ← class_named table.names first.0
-  class ← class_named table.names second.0
+  destination ← class_named table first.0
+  class ← class_named table second.0
   right ← right_named second.1
   Some (Carry destination class right)
 
@@ -60,8 +60,8 @@ carry_named table text = do
 abbrev pub backup_named : Table → List ℕ → Option Fact
 backup_named table text = do
   first ← cut text
-  class ← class_named table.names first.0
-  notify ← class_named table.names first.1
+  class ← class_named table first.0
+  notify ← class_named table first.1
   Some (Backup class notify)
 
 -- the fact of a kind and of the words after it

@@ -7,7 +7,7 @@ use Rattle.mrc_base.specs.declared.PortRight.TheVariants.{Send, Receive, SendOnc
 use Rattle.mrc_base.specs.declared.Fact.{Fact}
 use Rattle.mrc_base.specs.declared.Fact.TheVariants.{Hold, Carry, Backup}
 use Rattle.mrc_wiring.specs.declared.names.ClassKind.{ClassKind}
-use Rattle.mrc_wiring.specs.declared.names.ClassKind.TheVariants.{Task, Births}
+use Rattle.mrc_wiring.specs.declared.names.ClassKind.TheVariants.{Port, Task, Births}
 use Rattle.mrc_wiring.specs.Names.{class_label}
 use Rattle.mrc_wiring.specs.Table.{Table}
 
@@ -22,8 +22,9 @@ right_word Send = codes "send"
 right_word Receive = codes "receive"
 right_word SendOnce = codes "once"
 
--- the class of a task, as `task:U` or `births:U`
+-- a class by the name of its port or task: `port:P`, `task:U` or `births:U`
 abbrev pub label_word : ClassKind × List ℕ → List ℕ
+label_word (Port, name) = codes "port:" ++ name
 label_word (Task, name) = codes "task:" ++ name
 label_word (Births, name) = codes "births:" ++ name
 
@@ -34,7 +35,7 @@ class_text class (Some label) = label_word label
 
 -- a class by the names of a wiring
 abbrev pub class_word : Table → ℕ → List ℕ
-class_word table class = class_text class (class_label table.names class)
+class_word table class = class_text class (class_label table class)
 
 -- a task by its name, or `?` where the wiring has no task of the number
 abbrev pub task_word : Table → ℕ → List ℕ

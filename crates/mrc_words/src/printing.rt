@@ -29,14 +29,16 @@ pub fn task_word(wired: &Wired, task: TaskId) -> &str
 fn label_word(alloc: Global, label: ClassLabel<'_>) -> Result<String, AllocError>
     ensures { IfOk result (λ text. string_bytes text ≡ label_word (shown_label label.entry)) }
 {
-    let task = label.task;
+    let name = label.name;
     match label.kind {
-        ClassKind::Task => format!(in alloc; "task:{task}"),
-        ClassKind::Births => format!(in alloc; "births:{task}"),
+        ClassKind::Port => format!(in alloc; "port:{name}"),
+        ClassKind::Task => format!(in alloc; "task:{name}"),
+        ClassKind::Births => format!(in alloc; "births:{name}"),
     }
 }
 
-/// A class as `task:U` or `births:U`, or by its number where the wiring has no class of the number.
+/// A class as `port:P`, `task:U` or `births:U`, or by its number where the wiring has no class of
+/// the number.
 pub fn class_word(alloc: Global, wired: &Wired, class: ClassId) -> Result<String, AllocError>
     ensures { IfOk result (λ text. string_bytes text ≡ class_word wired.now class) }
 {

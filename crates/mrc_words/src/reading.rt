@@ -98,5 +98,6 @@ pub fn fact_named(wired: &Wired, text: &str) -> Option<Fact>
         → fact_text wired.now fact ≡ text.now → result ≡ Some fact }
 {
     let _tasks = wired.tasks();
+    let _ports = wired.ports();
     named(wired, text)
 }

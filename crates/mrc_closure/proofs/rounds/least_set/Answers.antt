@@ -1,4 +1,4 @@
-use Rattle.std.proofs.Common.{◌≡◌, ℕ, ◌<◌, ◌^◌, List, [], ap, ◌∙◌, ◌==◌, subst}
+use Rattle.std.proofs.Common.{◌≡◌, ℕ, ◌<◌, ◌^◌, List, [], ap, ◌∙◌, ◌==◌, subst, arith}
 use Rattle.mrc_base.specs.declared.Fact.{Fact}
 use Rattle.mrc_model.specs.Wiring.{classes}
 use Rattle.mrc_wiring.specs.Table.{Table, wiring_of}
@@ -38,7 +38,7 @@ pub loop-alloc-smaller : goal.loop-alloc-smaller
 loop-alloc-smaller c =
     let W = wiring_of c.args.wired.now in
     fewer W (small c.args.wired.now c.classes-classes.result c.classes-classes.ensures.exact
-    c.classes-classes.ensures.within) c.loop-alloc.facts
+    (omega (arith, c.classes-classes.ensures.within))) c.loop-alloc.facts
     c.loop-alloc.new.items c.in_ok-found.found c.merge-in-loop-alloc.new.facts
     c.in_ok-new-2.new.items
     (some_there c.loop-alloc.new.items c.is_empty.result
@@ -57,5 +57,5 @@ pub returns-clause-few : goal.returns-clause-few
 returns-clause-few c =
     let W = wiring_of c.args.wired.now in
     few W (small c.args.wired.now c.classes-classes.result c.classes-classes.ensures.exact
-    c.classes-classes.ensures.within) c.loop-alloc.facts c.loop-alloc.invariant.ascending
+    (omega (arith, c.classes-classes.ensures.within))) c.loop-alloc.facts c.loop-alloc.invariant.ascending
     (λ g h. (c.loop-alloc.invariant.derived g h).0)

@@ -1,4 +1,4 @@
-use Rattle.std.proofs.Common.{◌≡◌, ◌∙◌, sym, ap}
+use Rattle.std.proofs.Common.{◌∙◌, sym, ap}
 use Rattle.mrc_words.specs.Reading.{fact_named}
 use Rattle.mrc_words.proofs.FactWords.{found_facts, printed_is_read}
 use Rattle.mrc_words.proofs.reading.fact_named.Goals as goal
@@ -9,4 +9,5 @@ returns-clause-found c = found_facts c.args.wired.now c.args.text.now c.named.re
 pub returns-clause-only : goal.returns-clause-only
 returns-clause-only c fact range text_is =
     c.named.ensures ∙ ap (fact_named c.args.wired.now) (sym text_is)
-    ∙ printed_is_read c.args.wired.now c.tasks-tasks.ensures.named fact range
+    ∙ printed_is_read c.args.wired.now c.tasks-tasks.ensures.named c.ports-ports.ensures.named fact
+    range

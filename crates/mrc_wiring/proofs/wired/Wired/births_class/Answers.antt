@@ -1,32 +1,16 @@
-use Rattle.std.proofs.Common.{◌≡◌, ap, sym, ◌∙◌, arith, length}
-use Rattle.mrc_wiring.specs.Table.{Table}
-use Rattle.mrc_wiring.proofs.Births.{births_there, births_no_kind, births_no_task}
+use Rattle.std.proofs.Common.{◌≡◌, sym, ◌∙◌, arith}
+use Rattle.mrc_wiring.proofs.Births.{births_class_yes, births_class_not}
 use Rattle.mrc_wiring.proofs.wired.Wired.births_class.Goals as goal
 
-pub returns-then-kind-ne0 : goal.returns-then-kind-ne0
-returns-then-kind-ne0 c =
-    births_no_kind c.args.self.now c.args.task c.args.kind c.if-kind-ne0.true
+pub returns-then-has_kind : goal.returns-then-has_kind
+returns-then-has_kind c =
+    let task : c.task.inside.0 ≡ c.args.task = c.task.view_is in
+    let ports = c.ports.ensures.exact in
+    let tasks = c.tasks.ensures.exact in
+    sym (births_class_yes c.args.self.now c.args.task c.args.kind _
+    (sym c.has_kind.ensures ∙ c.if-has_kind.true) (omega arith))
 
-pub returns-then-from-task : goal.returns-then-from-task
-returns-then-from-task c =
-    births_no_task c.args.self.now c.args.task c.args.kind
-    (omega (
-      arith,
-      c.if-from-task.true,
-      c.from.ensures,
-      c.tasks-tasks.ensures.exact,
-      c.task.view_is,
-    ))
-
-pub returns : goal.returns
-returns c =
-    births_there c.args.self.now c.args.task c.args.kind _
-    (c.if-kind-ne0.false)
-    (omega (
-      arith,
-      c.if-from-task.false,
-      c.from.ensures,
-      c.tasks-tasks.ensures.exact,
-      c.task.view_is,
-    ))
-    (omega (arith, c.tasks-tasks.ensures.exact, c.task.view_is))
+pub returns-else-has_kind : goal.returns-else-has_kind
+returns-else-has_kind c =
+    sym (births_class_not c.args.self.now c.args.task c.args.kind
+    (sym c.has_kind.ensures ∙ c.if-has_kind.false))

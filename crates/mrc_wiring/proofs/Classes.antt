@@ -1,0 +1,98 @@
+-- What a class accepts and what a type admits, by the table.
+use Rattle.std.proofs.Common.{◌≡◌, ℕ, zero, suc, ◌+◌, ◌-◌, ◌<◌, ◌≤◌, Bool, true, false, List, []}
+use Rattle.std.proofs.Common.{◌∷◌}
+use Rattle.std.proofs.Common.{◌++◌, length, map, Option, None, refl, ap, sym, ◌∙◌, arith}
+use Rattle.std.proofs.Common.{◌||◌}
+use Rattle.std.proofs.Common.{get_or, nat_lt, if◌then◌else◌}
+use Rattle.std.proofs.lemmas.List.{length-map}
+use Rattle.std.specs.Prelude.{slice_get, unwrap_or}
+use Rattle.std.specs.List.{list_any}
+use Rattle.std.proofs.lemmas.Bool.{lt-ltb, le-ltb, ltb-true, ltb-false}
+use Rattle.std.proofs.lemmas.Option.{unwrap_or-slice_get, slice_get_past}
+use Rattle.std.proofs.lemmas.List.{get_or_append_left}
+use Rattle.mrc_model.specs.declared.LabelItem.{LabelItem}
+use Rattle.mrc_model.specs.Wiring.{label, classes}
+use Rattle.mrc_wiring.specs.Table.{Table, IsTable, wiring_of, labels_of, of_births, of_kernel}
+use Rattle.mrc_wiring.proofs.Births.{length-births}
+
+-- a test of what is made of the elements
+pub any_of_map : {X Y : Type 0} (p : Y → Bool) (f : X → Y) (xs : List X)
+    → list_any p (map f xs) ≡ list_any (λ x. p (f x)) xs
+any_of_map p f [] = refl
+any_of_map p f (x ∷ xs) = ap (λ b. p (f x) || b) (any_of_map p f xs)
+
+-- what is read behind a first part
+pub behind : {X : Type 0} (xs ys : List X) (i j : ℕ) (d : X)
+    → i ≡ length xs + j
+    → get_or (xs ++ ys) i d ≡ get_or ys j d
+behind [] ys i j d e = let same : i ≡ j = omega arith in ap (λ k. get_or ys k d) same
+behind (x ∷ xs) ys zero j d e = absurd (omega arith)
+behind (x ∷ xs) ys (suc i) j d e = behind xs ys i j d (omega arith)
+
+nothing_of_kernels : (names : List (List ℕ)) (i : ℕ) → get_or (map of_kernel names) i [] ≡ []
+nothing_of_kernels [] i = refl
+nothing_of_kernels (name ∷ names) zero = refl
+nothing_of_kernels (name ∷ names) (suc i) = nothing_of_kernels names i
+
+births_read : (births : List (Option (List LabelItem))) (i : ℕ)
+    → get_or (map of_births births) i [] ≡ of_births (unwrap_or (slice_get births i) None)
+births_read [] i = refl
+births_read (b ∷ bs) zero = refl
+births_read (b ∷ bs) (suc i) = births_read bs i
+
+-- the label of a class that is there
+there : (table : Table) (c : ℕ)
+    → c < classes (wiring_of table)
+    → label (wiring_of table) c ≡ get_or (labels_of table) c []
+there table c less =
+    ap (λ b. if b then unwrap_or (slice_get (labels_of table) c) [] else [])
+    (lt-ltb c (classes (wiring_of table)) less)
+    ∙ unwrap_or-slice_get (labels_of table) c []
+
+-- of a wired port
+pub port_label : (table : Table) (c : ℕ)
+    → IsTable table
+    → c < length table.ports
+    → label (wiring_of table) c ≡ get_or table.accepts c []
+port_label table c is less =
+    there table c (omega arith)
+    ∙ get_or_append_left table.accepts _ [] c (omega (arith, is.accepts))
+
+-- of a kernel port
+pub kernel_label : (table : Table) (c : ℕ)
+    → IsTable table
+    → length table.ports ≤ c
+    → c < length table.ports + length table.names
+    → label (wiring_of table) c ≡ []
+kernel_label table c is high less =
+    there table c (omega arith)
+    ∙ behind table.accepts _ c (c - length table.ports) [] (omega (arith, is.accepts))
+    ∙ get_or_append_left (map of_kernel table.names) (map of_births table.births) []
+    (c - length table.ports) (omega (arith, length-map table.names of_kernel))
+    ∙ nothing_of_kernels table.names (c - length table.ports)
+
+-- of births, or of no class
+pub births_label : (table : Table) (c k : ℕ)
+    → IsTable table
+    → c ≡ length table.ports + length table.names + k
+    → label (wiring_of table) c ≡ of_births (unwrap_or (slice_get table.births k) None)
+births_label table c k is e =
+    elim (nat_lt k (length table.names)) as (λ b. nat_lt k (length table.names) ≡ b
+    → label (wiring_of table) c ≡ of_births (unwrap_or (slice_get table.births k) None)) [
+      | true ↦ λ low.
+          let less = ltb-true k (length table.names) low in
+          let many = length-births 0 (length table.names) in
+          there table c (omega arith)
+          ∙ behind table.accepts _ c (length table.names + k) [] (omega (arith, is.accepts))
+          ∙ behind (map of_kernel table.names) (map of_births table.births) (length table.names +
+          k) k []
+          (omega (arith, length-map table.names of_kernel))
+          ∙ births_read table.births k
+      | false ↦ λ low.
+          let past = ltb-false k (length table.names) low in
+          let many = length-births 0 (length table.names) in
+          ap (λ b. if b then unwrap_or (slice_get (labels_of table) c) [] else [])
+          (le-ltb c (classes (wiring_of table)) (omega arith))
+          ∙ sym (ap (λ o. of_births (unwrap_or o None)) (slice_get_past table.births k (omega
+          (arith, is.births))))
+    ] refl

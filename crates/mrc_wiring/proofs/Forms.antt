@@ -1,0 +1,127 @@
+-- Tests of the forms of interfaces, row by row, and the model's interface of a number.
+use Rattle.std.proofs.Common.{◌≡◌, ℕ, zero, suc, ◌+◌, ◌<◌, Bool, true, false, ◌||◌, List, [], ◌∷◌}
+use Rattle.std.proofs.Common.{length, get_or, drop, Option, Some, None, refl, ap, sym, ◌∙◌}
+use Rattle.std.proofs.Common.{arith}
+use Rattle.std.specs.Prelude.{slice_get, flat_map, option_and_then, unwrap_or}
+use Rattle.std.specs.List.{list_any}
+use Rattle.std.proofs.lemmas.List.Folds.{list_any-append}
+use Rattle.mrc_base.specs.declared.Disp.{Disp}
+use Rattle.mrc_interface.specs.Forms.{Form as TextForm}
+use Rattle.mrc_interface.specs.Tables.{Row, Table as Text}
+use Rattle.mrc_model.specs.Wiring.{Wiring, Interface, RequestForm, ReplyForm, OfRequest, OfReply}
+use Rattle.mrc_model.specs.Wiring.{interface}
+use Rattle.mrc_wiring.specs.Sorts.{Sort, sorts_of}
+use Rattle.mrc_wiring.specs.ModelForms.{interface_of, interfaces_from}
+use Rattle.mrc_wiring.specs.Table.{Table, wiring_of}
+use Rattle.mrc_wiring.specs.Slots.{form_takes, requests_take, replies_take}
+use Rattle.mrc_wiring.proofs.Steps.{next_is, row_next}
+use Rattle.mrc_wiring.proofs.Classes.{any_of_map}
+
+-- a turn that finds, and one that does not
+pub hit : (all x found rest : Bool) → all ≡ x → x ≡ (found || rest) → found ≡ true → true ≡ all
+hit all x found rest e f g = sym (e ∙ f ∙ ap (λ b. b || rest) g)
+
+pub miss : (all x found rest : Bool) → all ≡ x → x ≡ (found || rest) → found ≡ false → all ≡ rest
+miss all x found rest e f g = e ∙ f ∙ ap (λ b. b || rest) g
+
+-- one turn over a list
+pub any_turn : {X : Type 0} (p : X → Bool) (xs : List X) (i : ℕ) (x : X) (found : Bool)
+    → i < length xs
+    → x ≡ get_or xs i x
+    → found ≡ p x
+    → list_any p (drop i xs) ≡ (found || list_any p (drop (i + 1) xs))
+any_turn p xs i x found less is e =
+    ap (list_any p) (next_is xs i x less)
+    ∙ ap (λ b. b || list_any p (drop (i + 1) xs)) (ap p (sym is) ∙ sym e)
+
+-- one turn over rows
+pub rows_turn : {Y : Type 0} (p : Y → Bool) (g : Row → Option TextForm)
+    (h : Option TextForm → List Y) (rows : List Row) (i : ℕ) (o : Option TextForm) (found : Bool)
+    → i < length rows
+    → o ≡ option_and_then g (slice_get rows i)
+    → found ≡ list_any p (h o)
+    → list_any p (flat_map (λ row. h (g row)) (drop i rows))
+    ≡ (found || list_any p (flat_map (λ row. h (g row)) (drop (i + 1) rows)))
+rows_turn p g h rows i o found less e told =
+    let rest = flat_map (λ row. h (g row)) (drop (i + 1) rows) in
+    ap (list_any p) (row_next g h rows i less)
+    ∙ list_any-append p (h (option_and_then g (slice_get rows i))) rest
+    ∙ ap (λ b. b || list_any p rest) (ap (λ x. list_any p (h x)) (sym e) ∙ sym told)
+
+pub requests_turn : (W : Wiring) (x : Disp) (c : ℕ) (g : Row → Option TextForm)
+    (h : Option TextForm → List RequestForm) (rows : List Row) (i : ℕ) (o : Option TextForm)
+    (found : Bool)
+    → i < length rows
+    → o ≡ option_and_then g (slice_get rows i)
+    → found ≡ requests_take W x c (h o)
+    → requests_take W x c (flat_map (λ row. h (g row)) (drop i rows))
+    ≡ (found || requests_take W x c (flat_map (λ row. h (g row)) (drop (i + 1) rows)))
+requests_turn W x c g h rows i o found less e told =
+    any_of_map (form_takes W x c) OfRequest (flat_map (λ row. h (g row)) (drop i rows))
+    ∙ rows_turn (λ f. form_takes W x c (OfRequest f)) g h rows i o found less e
+    (told ∙ any_of_map (form_takes W x c) OfRequest (h o))
+    ∙ ap (λ b. found || b)
+    (sym (any_of_map (form_takes W x c) OfRequest (flat_map (λ row. h (g row)) (drop (i + 1)
+    rows))))
+
+pub replies_turn : (W : Wiring) (x : Disp) (c : ℕ) (g : Row → Option TextForm)
+    (h : Option TextForm → List ReplyForm) (rows : List Row) (i : ℕ) (o : Option TextForm)
+    (found : Bool)
+    → i < length rows
+    → o ≡ option_and_then g (slice_get rows i)
+    → found ≡ replies_take W x c (h o)
+    → replies_take W x c (flat_map (λ row. h (g row)) (drop i rows))
+    ≡ (found || replies_take W x c (flat_map (λ row. h (g row)) (drop (i + 1) rows)))
+replies_turn W x c g h rows i o found less e told =
+    any_of_map (form_takes W x c) OfReply (flat_map (λ row. h (g row)) (drop i rows))
+    ∙ rows_turn (λ f. form_takes W x c (OfReply f)) g h rows i o found less e
+    (told ∙ any_of_map (form_takes W x c) OfReply (h o))
+    ∙ ap (λ b. found || b)
+    (sym (any_of_map (form_takes W x c) OfReply (flat_map (λ row. h (g row)) (drop (i + 1) rows))))
+
+-- one turn over a label's items
+pub items_turn : {X Y : Type 0} (p : Y → Bool) (f : X → List Y) (xs : List X) (i : ℕ) (x : X)
+    (found : Bool)
+    → i < length xs
+    → x ≡ get_or xs i x
+    → found ≡ list_any p (f x)
+    → list_any p (flat_map f (drop i xs)) ≡ (found || list_any p (flat_map f (drop (i + 1) xs)))
+items_turn p f xs i x found less is e =
+    ap (λ ys. list_any p (flat_map f ys)) (next_is xs i x less)
+    ∙ list_any-append p (f (get_or xs i x)) (flat_map f (drop (i + 1) xs))
+    ∙ ap (λ b. b || list_any p (flat_map f (drop (i + 1) xs)))
+    (ap (λ y. list_any p (f y)) (sym is) ∙ sym e)
+
+abbrev pub no_interface : Interface
+no_interface = record { requests = []; replies = [] }
+
+at_number : (sorts : List Sort) (k s n : ℕ) (is : List Text) (i : Text)
+    → slice_get is s ≡ Some i
+    → n ≡ k + s
+    → unwrap_or (slice_get (interfaces_from sorts k is) s) no_interface ≡ interface_of sorts n i
+at_number sorts k s n [] i e f = cc
+at_number sorts k zero n (t ∷ ts) i e f =
+    let same : t ≡ i = cc in
+    let number : k ≡ n = omega arith in
+    ap (interface_of sorts k) same ∙ ap (λ m. interface_of sorts m i) number
+at_number sorts k (suc s) n (t ∷ ts) i e f =
+    at_number sorts (k + 1) s n ts i e (omega arith)
+
+at_none : (sorts : List Sort) (k s : ℕ) (is : List Text)
+    → slice_get is s ≡ None
+    → unwrap_or (slice_get (interfaces_from sorts k is) s) no_interface ≡ no_interface
+at_none sorts k s [] e = refl
+at_none sorts k zero (t ∷ ts) e = cc
+at_none sorts k (suc s) (t ∷ ts) e = at_none sorts (k + 1) s ts e
+
+-- the model's interface of a number is that of the table's
+pub interface_there : (table : Table) (s : ℕ) (i : Text)
+    → slice_get table.interfaces s ≡ Some i
+    → interface (wiring_of table) s ≡ interface_of (sorts_of table.interfaces) s i
+interface_there table s i e =
+    at_number (sorts_of table.interfaces) 0 s s table.interfaces i e (omega arith)
+
+pub interface_not : (table : Table) (s : ℕ)
+    → slice_get table.interfaces s ≡ None
+    → interface (wiring_of table) s ≡ no_interface
+interface_not table s e = at_none (sorts_of table.interfaces) 0 s table.interfaces e

@@ -1,0 +1,108 @@
+-- A worked wiring: a file server and its client, over one interface.
+use Rattle.std.specs.Prelude.{◌≡◌, ℕ, false, List, [], ◌∷◌, Option, Some, None, Result, Ok, Err}
+use Rattle.std.specs.Prelude.{refl}
+use Rattle.std.specs.Prelude.{codes}
+use Rattle.mrc_base.specs.declared.PortRight.TheVariants.{Send}
+use Rattle.mrc_mig_symbols.specs.declared.word.Direction.{Direction}
+use Rattle.mrc_mig_symbols.specs.declared.word.Direction.TheVariants.{In, Out, RequestPort}
+use Rattle.mrc_mig_parse.specs.declared.subsystem.Shape.{Shape as TextShape}
+use Rattle.mrc_mig_parse.specs.Arguments.{Item as Argument}
+use Rattle.mrc_mig_parse.specs.Files.{Routine, one}
+use Rattle.mrc_interface.specs.Tables.{Table as Interface, row_of}
+use Rattle.mrc_model.specs.declared.RequestKind.TheVariants as requests
+use Rattle.mrc_model.specs.declared.LabelItem.TheVariants as label
+use Rattle.mrc_model.specs.declared.FirstLine.TheVariants.{Task as TaskLine, Port as PortLine}
+use Rattle.mrc_model.specs.declared.FirstLine.TheVariants.{Hold as HoldLine}
+use Rattle.mrc_model.specs.Wiring.{Wiring}
+use Rattle.mrc_wiring_text.specs.declared.reading.Line.{Line}
+use Rattle.mrc_wiring_text.specs.declared.policy.ClassName.TheVariants as class
+use Rattle.mrc_wiring_text.specs.declared.items.Item.TheVariants as item
+use Rattle.mrc_wiring_text.specs.declared.wiring.HeldRight.TheVariants as held
+use Rattle.mrc_wiring_text.specs.declared.wiring.WiringSays.{WiringSays}
+use Rattle.mrc_wiring_text.specs.declared.wiring.WiringSays.TheVariants as says
+use Rattle.mrc_wiring.specs.declared.faults.ResolveFault.{ResolveFault}
+use Rattle.mrc_wiring.specs.declared.faults.ResolveFault.TheVariants.{UnknownName, TwiceNamed}
+use Rattle.mrc_wiring.specs.declared.faults.ResolveFault.TheVariants.{IdClash}
+use Rattle.mrc_wiring.specs.Table.{Table, wiring_of}
+use Rattle.mrc_wiring.specs.Resolving.{resolved, add_task, add_port, place_port, add_births}
+use Rattle.mrc_wiring.specs.Resolving.{place_births, add_hold_port, place_hold}
+use Rattle.mrc_wiring.specs.Resolving.{add_admit}
+
+-- one argument
+abbrev argument : Direction → TextShape → List ℕ → Argument
+argument direction shape name =
+    record { direction = direction; shape = shape; type_name = name }
+
+-- subsystem fsys 3000; type file_t = MACH_MSG_TYPE_COPY_SEND; type path_t = c_string[64];
+-- routine open(root : mach_port_t; in path : path_t; out file : file_t);
+abbrev fsys : Interface
+fsys = record {
+  name = codes "fsys";
+  base = 3000;
+  rows = row_of 3000 (Routine (argument RequestPort (one 19 32) (codes "mach_port_t")
+      ∷ argument In (record { name = 12; size = 8; number = 64; is_bound = false }) (codes "path_t")
+      ∷ argument Out (one 19 32) (codes "file_t") ∷ [])) ∷ [];
+}
+
+-- a line of this number
+abbrev line : ℕ → WiringSays → Line WiringSays
+line n what = record { number = n; says = what }
+
+-- task app; task fs; port root receiver fs accepts request fsys; births app accepts reply fsys;
+-- hold app send port root; admit fsys.file_t births fs
+abbrev filing : List (Line WiringSays)
+filing =
+    line 2 (says.Task (codes "app"))
+    ∷ line 3 (says.Task (codes "fs"))
+    ∷ line 4 (says.Port (codes "root") (codes "fs") (item.Request (codes "fsys") ∷ []))
+    ∷ line 5 (says.Births (codes "app") (item.Reply (codes "fsys") ∷ []))
+    ∷ line 6 (says.HoldPort (codes "app") held.Send (codes "root"))
+    ∷ line 7 (says.Admit (codes "fsys") (codes "file_t") (Some (class.Births (codes "fs")))) ∷ []
+
+-- the wiring that lines mean, where they mean one
+abbrev wiring_said : Result Table ResolveFault → Option Wiring
+wiring_said (Ok table) = Some (wiring_of table)
+wiring_said (Err fault) = None
+
+-- Two tasks and a port; class 0 is the port, 1 and 2 are kernel ports, 3 and 4 births. A file is
+-- the one type of a port argument, number 0, and admits class 4.
+pub files_are_wired : wiring_said (resolved (fsys ∷ []) filing) ≡ Some record {
+  lines = TaskLine ∷ TaskLine ∷ PortLine 1 ∷ HoldLine 0 2 Send ∷ [];
+  tasks = 2;
+  ports = 1;
+  births = (0, 0) ∷ (1, 0) ∷ [];
+  interfaces = record {
+    requests = record {
+      id = 3000;
+      kind = requests.Routine;
+      shapes = record { name = 12; size = 8; number = 64; is_bound = false; sort = 1 } ∷ [];
+    } ∷ [];
+    replies = record {
+      id = 3100;
+      shapes = record { name = 2; size = 32; number = 1; is_bound = false; sort = 1 }
+          ∷ record { name = 19; size = 32; number = 1; is_bound = false; sort = 0 } ∷ [];
+    } ∷ [];
+  } ∷ [];
+  labels = (label.Request 0 ∷ []) ∷ [] ∷ [] ∷ (label.Reply 0 ∷ []) ∷ [] ∷ [];
+  admitted = (0, Some 4) ∷ [];
+}
+unfolding add_task add_port place_port add_births place_births add_hold_port place_hold add_admit
+files_are_wired = refl
+
+-- without its interface the port line names what is not there
+pub no_interface : resolved [] filing ≡ Err (UnknownName 4)
+unfolding add_task add_port place_port
+no_interface = refl
+
+-- two interfaces of one name are told before any line
+pub interface_twice : resolved (fsys ∷ fsys ∷ []) filing ≡ Err (TwiceNamed 0)
+interface_twice = refl
+
+-- a label that has one item twice
+pub item_twice :
+    resolved (fsys ∷ []) (line 2 (says.Task (codes "a"))
+    ∷ line 3 (says.Births (codes "a") (item.Reply (codes "fsys") ∷ item.Destroyed
+    ∷ item.Reply (codes "fsys") ∷ [])) ∷ [])
+    ≡ Err (IdClash 3)
+unfolding add_task add_births place_births
+item_twice = refl
