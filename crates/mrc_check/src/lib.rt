@@ -7,7 +7,7 @@ mod verdict;
 
 pub use confined::{Confined, Refused, check};
 pub use mrc_classes::RuleName;
-pub use texts::{PolicyFault, TextsFault, WiringFault, check_texts, table_of};
+pub use texts::{PolicyFault, SystemFault, TextsFault, WiringFault, check_texts, table_of};
 pub use verdict::Why;
 
 #[cfg(test)]

@@ -101,8 +101,9 @@ fn answer(
     policy: &[u8],
     certificate: &[u8],
 ) -> Result<String, AllocError> {
-    match check_texts(alloc, wiring, policy, certificate) {
+    match check_texts(alloc, &[], wiring, policy, certificate) {
         Ok(_) => String::from_str(alloc, "accepted"),
+        Err(OrMemory::Fault(TextsFault::Defs(fault))) => format!(in alloc; "defs {}", fault.fault),
         Err(OrMemory::Fault(TextsFault::Wiring(fault))) => format!(in alloc; "wiring {fault}"),
         Err(OrMemory::Fault(TextsFault::Policy(fault))) => format!(in alloc; "policy {fault}"),
         Err(OrMemory::Fault(TextsFault::Certificate(fault))) => format!(in alloc;
@@ -122,6 +123,7 @@ fn reason_of(
 ) -> Why {
     match check_texts(
         rt.alloc(),
+        &[],
         wiring.as_bytes(),
         policy.as_bytes(),
         certificate,
@@ -134,7 +136,7 @@ fn reason_of(
 
 /// The claim of two texts.
 fn claim_of(alloc: Global, wiring: &str, policy: &str) -> Result<Claim, Fail> {
-    let wired = Wired::resolve(alloc, &read_wiring(alloc, wiring.as_bytes())?)?;
+    let wired = table_of(alloc, &[], wiring.as_bytes())?;
     let lines = read_policy(alloc, policy.as_bytes())?;
     match Claim::new(alloc, wired, &lines) {
         Ok(claim) => Ok(claim),
@@ -359,7 +361,7 @@ fn rules_have_numbers(rt: HostRuntime) {
 #[test]
 fn memory_that_runs_out_is_told(rt: HostRuntime) {
     let policy = "policy 1\nforbid a once task a\n";
-    let told = check_texts(rt.alloc(), ONE.as_bytes(), policy.as_bytes(), &ALONE);
+    let told = check_texts(rt.alloc(), &[], ONE.as_bytes(), policy.as_bytes(), &ALONE);
     match told {
         Ok(confined) => assert_eq!(rt; confined.wired().tasks(), 1),
         Err(refusal) => assert!(rt; matches!(refusal, OrMemory::Memory)),

@@ -1,14 +1,17 @@
 //! From the bytes of the files to the verdict.
 
-ghost use Rattle.std.specs.Prelude.{◌≡◌, IfOk, IfErr};
+ghost use Rattle.std.specs.Prelude.{◌≡◌, IfOk, IfErr, map};
 ghost use Rattle.mrc_base.specs.Reading.{Gives};
+ghost use Rattle.mrc_interface.specs.Reading.{GivesAs};
 ghost use Rattle.mrc_check.specs.Verdict.{Case};
-ghost use Rattle.mrc_check.specs.Texts.{SayYes, answered_by, table_of, claim_of, case_of, Tells};
+ghost use Rattle.mrc_check.specs.Texts.{SayYes, table_over, table_of, no_table_of, claim_of};
+ghost use Rattle.mrc_check.specs.Texts.{answered_by, case_over, case_of, Tells};
 
 use crate::confined::{Confined, Refused, check};
 use crate::verdict::Why;
 use mrc_base::OrMemory;
 use mrc_certificate::{DraftFault, read_draft};
+use mrc_interface::{FileFault, Interface, read_interfaces};
 use mrc_wiring::{Claim, ClaimFault, ResolveFault, Wired};
 use mrc_wiring_text::{TextFault, read_policy, read_wiring};
 use std::alloc::Global;
@@ -36,9 +39,20 @@ pub enum PolicyFault {
     Lines(ClaimFault),
 }
 
-/// The first step at which three texts are refused.
+/// Why the bytes of MIG files and a wiring mean no wiring: the first that is refused.
+#[derive(Clone, Copy, Debug, PartialEq, Eq)]
+pub enum SystemFault {
+    /// A MIG file has no meaning.
+    Defs(FileFault),
+    /// The wiring has no meaning over the files' interfaces.
+    Wiring(WiringFault),
+}
+
+/// The first step at which MIG files and three texts are refused.
 #[derive(Debug, Drop)]
 pub enum TextsFault {
+    /// A MIG file has no meaning.
+    Defs(FileFault),
     /// The wiring has no meaning.
     Wiring(WiringFault),
     /// The policy has no meaning.
@@ -49,17 +63,44 @@ pub enum TextsFault {
     Check(Refused<Why>),
 }
 
-/// The wiring that bytes mean.
-pub fn table_of(alloc: Global, wiring: &[u8]) -> Result<Wired, OrMemory<WiringFault>>
-    ensures { Gives (λ table. table) result (table_of wiring.now) }
+/// The wiring that bytes mean over interfaces.
+fn table_over(
+    alloc: Global,
+    interfaces: Vec<Interface>,
+    wiring: &[u8],
+) -> Result<Wired, OrMemory<WiringFault>>
+    ensures { Gives (λ table. table) result (table_over interfaces.items wiring.now) }
 {
     match read_wiring(alloc, wiring) {
-        Ok(lines) => match Wired::resolve(alloc, lines.as_slice()) {
+        Ok(lines) => match Wired::resolve(alloc, lines.as_slice(), interfaces) {
             Ok(wired) => Ok(wired),
-            Err(OrMemory::Fault(fault)) => Err(OrMemory::Fault(WiringFault::Lines(fault))),
-            Err(OrMemory::Memory) => Err(OrMemory::Memory),
+            Err(refused) => match refused.why {
+                OrMemory::Fault(fault) => Err(OrMemory::Fault(WiringFault::Lines(fault))),
+                OrMemory::Memory => Err(OrMemory::Memory),
+            },
         },
         Err(OrMemory::Fault(fault)) => Err(OrMemory::Fault(WiringFault::Text(fault))),
+        Err(OrMemory::Memory) => Err(OrMemory::Memory),
+    }
+}
+
+/// The wiring that the bytes of MIG files and of a wiring mean together; or the first file that is
+/// refused, else why the wiring is.
+pub fn table_of(
+    alloc: Global,
+    defs: &[Vec<u8>],
+    wiring: &[u8],
+) -> Result<Wired, OrMemory<SystemFault>>
+    ensures { GivesAs (λ table. table) no_table_of result
+        (table_of (map (λ bytes. bytes.items) defs.now) wiring.now) }
+{
+    match read_interfaces(alloc, defs) {
+        Ok(interfaces) => match table_over(alloc, interfaces, wiring) {
+            Ok(wired) => Ok(wired),
+            Err(OrMemory::Fault(fault)) => Err(OrMemory::Fault(SystemFault::Wiring(fault))),
+            Err(OrMemory::Memory) => Err(OrMemory::Memory),
+        },
+        Err(OrMemory::Fault(fault)) => Err(OrMemory::Fault(SystemFault::Defs(fault))),
         Err(OrMemory::Memory) => Err(OrMemory::Memory),
     }
 }
@@ -102,43 +143,68 @@ fn answered_by(
     }
 }
 
-/// What the texts say, step by step.
-fn checked(
+/// What a wiring's policy and certificate say, step by step.
+fn checked_over(
     alloc: Global,
-    wiring: &[u8],
+    wired: Wired,
     policy: &[u8],
     certificate: &[u8],
 ) -> Result<Confined, OrMemory<TextsFault>>
-    ensures { Tells result (case_of wiring.now policy.now certificate.now) }
+    ensures { Tells result (case_over wired policy.now certificate.now) }
 {
-    match table_of(alloc, wiring) {
-        Ok(wired) => match claim_of(alloc, wired, policy) {
-            Ok(claim) => answered_by(alloc, claim, certificate),
-            Err(OrMemory::Fault(fault)) => Err(OrMemory::Fault(TextsFault::Policy(fault))),
-            Err(OrMemory::Memory) => Err(OrMemory::Memory),
-        },
-        Err(OrMemory::Fault(fault)) => Err(OrMemory::Fault(TextsFault::Wiring(fault))),
+    match claim_of(alloc, wired, policy) {
+        Ok(claim) => answered_by(alloc, claim, certificate),
+        Err(OrMemory::Fault(fault)) => Err(OrMemory::Fault(TextsFault::Policy(fault))),
         Err(OrMemory::Memory) => Err(OrMemory::Memory),
     }
 }
 
-/// Checks a certificate for a wiring and a policy, all from their bytes. Accepted exactly where the
-/// wiring and the policy have meanings, the certificate spells a draft with the wiring's counts
-/// whose facts are closed, and none of them is forbidden. Else the first step that refuses is told,
-/// in the order of the arguments, or that memory ran out.
+/// What the files say, step by step.
+fn checked(
+    alloc: Global,
+    defs: &[Vec<u8>],
+    wiring: &[u8],
+    policy: &[u8],
+    certificate: &[u8],
+) -> Result<Confined, OrMemory<TextsFault>>
+    ensures { Tells result (case_of (map (λ bytes. bytes.items) defs.now) wiring.now policy.now
+        certificate.now) }
+{
+    match table_of(alloc, defs, wiring) {
+        Ok(wired) => checked_over(alloc, wired, policy, certificate),
+        Err(OrMemory::Fault(SystemFault::Defs(fault))) => {
+            Err(OrMemory::Fault(TextsFault::Defs(fault)))
+        }
+        Err(OrMemory::Fault(SystemFault::Wiring(fault))) => {
+            Err(OrMemory::Fault(TextsFault::Wiring(fault)))
+        }
+        Err(OrMemory::Memory) => Err(OrMemory::Memory),
+    }
+}
+
+/// Checks a certificate for a wiring and a policy over MIG files, all from their bytes. Accepted
+/// exactly where each file is a MIG file, the wiring over their interfaces and the policy have
+/// meanings, the certificate spells a draft with the wiring's counts whose facts are closed, and
+/// none of them is forbidden. Else the first step that refuses is told, in the order of the
+/// arguments, or that memory ran out; of a MIG file that the grammar refuses, that it is so, and of
+/// the tokens or ids also where and why.
 pub fn check_texts(
     alloc: Global,
+    defs: &[Vec<u8>],
     wiring: &[u8],
     policy: &[u8],
     certificate: &[u8],
 ) -> Result<Confined, OrMemory<TextsFault>>
     // A yes is right.
-    ensures found { IfOk result (SayYes wiring.now policy.now certificate.now) }
+    ensures found { IfOk result (SayYes (map (λ bytes. bytes.items) defs.now) wiring.now policy.now
+        certificate.now) }
     // Where the answer is yes it is given, unless memory runs out.
-    ensures only { (case : Case) → SayYes wiring.now policy.now certificate.now case →
-        IfErr result (λ refusal. refusal ≡ OrMemory.Memory) }
+    ensures only { (case : Case)
+        → SayYes (map (λ bytes. bytes.items) defs.now) wiring.now policy.now certificate.now case
+        → IfErr result (λ refusal. refusal ≡ OrMemory.Memory) }
     // Which refusal it is: that of the first step.
-    ensures fault { Tells result (case_of wiring.now policy.now certificate.now) }
+    ensures fault { Tells result (case_of (map (λ bytes. bytes.items) defs.now) wiring.now
+        policy.now certificate.now) }
 {
-    checked(alloc, wiring, policy, certificate)
+    checked(alloc, defs, wiring, policy, certificate)
 }

@@ -15,7 +15,8 @@ accepted_safe claim draft sound accepted events w run =
 
 -- a wiring that its text means has a first state
 pub yes_safe : YesIsSafe
-yes_safe wiring policy certificate case says =
+yes_safe defs wiring policy certificate case says =
     let table = case.claim.table in
-    let sound = table_is_sound table (resolved_is_table says.wiring_lines table says.is_table) in
+    let is = resolved_is_table says.interfaces says.wiring_lines table says.is_table in
+    let sound = table_is_sound table is in
     accepted_safe case.claim case.draft sound says.accepted

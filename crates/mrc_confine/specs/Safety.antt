@@ -30,8 +30,8 @@ AcceptedIsSafe =
     (claim : Claimed) (draft : Content) → IsTrue (is_sound (wiring_of claim.table))
     → IsAccepted claim draft → IsSafe record { claim = claim; draft = draft }
 
--- And it is so where the bytes of a wiring, a policy and a certificate say yes.
+-- And it is so where the bytes of MIG files, a wiring, a policy and a certificate say yes.
 abbrev pub YesIsSafe : Type 0
 YesIsSafe =
-    (wiring policy certificate : List ℕ) (case : Case)
-    → SayYes wiring policy certificate case → IsSafe case
+    (defs : List (List ℕ)) (wiring policy certificate : List ℕ) (case : Case)
+    → SayYes defs wiring policy certificate case → IsSafe case

@@ -27,7 +27,13 @@ fn laws_are_calls_that_do_nothing() {
 
 #[test]
 fn what_was_checked_is_safe(rt: HostRuntime) -> Result<(), Fail> {
-    let answer = check_texts(rt.alloc(), WIRING.as_bytes(), POLICY.as_bytes(), &ALONE);
+    let answer = check_texts(
+        rt.alloc(),
+        &[],
+        WIRING.as_bytes(),
+        POLICY.as_bytes(),
+        &ALONE,
+    );
     let Ok(confined) = answer else {
         panic!(rt; "the certificate of a task alone is accepted");
     };
