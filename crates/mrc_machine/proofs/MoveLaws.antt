@@ -1,9 +1,9 @@
 -- What moving a right between two tasks comes to, from what each step of code tells.
-use Rattle.std.proofs.Common.{◌≡◌, ℕ, ◌+◌, ◌≤◌, Bool, true, false, Option}
+use Rattle.std.proofs.Common.{◌≡◌, ℕ, ◌+◌, ◌≤◌, Bool, true, false, Option, Result}
 use Rattle.std.proofs.Common.{Some, None, Ok, Err, refl}
-use Rattle.std.proofs.Common.{sym, ◌∙◌, ap, arith, ◌==◌, if◌then◌else◌}
-use Rattle.std.specs.Prelude.{◌||◌}
-use Rattle.std.proofs.lemmas.Bool.{leb-false, le-ltb}
+use Rattle.std.proofs.Common.{sym, ◌∙◌, ap, subst, arith, ◌==◌, if◌then◌else◌}
+use Rattle.std.specs.Prelude.{◌||◌, IsOk}
+use Rattle.std.proofs.lemmas.Bool.{leb-false, le-ltb, eq-eqb, ne_eqb}
 use Rattle.mrc_base.specs.declared.memory.OrMemory.{OrMemory}
 use Rattle.mrc_base.specs.declared.memory.OrMemory.TheVariants.{Fault, Memory}
 use Rattle.mrc_base.specs.declared.PortRight.{PortRight}
@@ -27,14 +27,15 @@ use Rattle.mrc_model.specs.Space.{unused, new_entry, joined}
 use Rattle.mrc_model.specs.Target.{is_reserved, with_store, bad_name, wrong_right}
 use Rattle.mrc_model.specs.CallSend.{dead_taken, is_dead_taken}
 use Rattle.mrc_model.specs.CallInsertRight.{call_insert_right, call_extract_right}
-use Rattle.mrc_model.proofs.Maps.{len-insert}
-use Rattle.mrc_names.specs.Takes.{take_right, give_right}
-use Rattle.mrc_names.specs.Refusals.{IsRefusal}
+use Rattle.mrc_model.proofs.Maps.{len-insert, if_true, if_false}
+use Rattle.mrc_names.specs.Takes.{take_right, taken_port, move_right, give_right}
+use Rattle.mrc_names.specs.Refusals.{IsRefusal, Foretells}
 use Rattle.mrc_machine.specs.Housing.{target_of}
-use Rattle.mrc_machine.specs.Moves.{moved}
+use Rattle.mrc_machine.specs.Moves.{moved, space_beside, second_space}
 use Rattle.mrc_machine.proofs.StoreLaws.{space_moved}
 use Rattle.mrc_machine.proofs.TargetLaws.{target_none, target_some}
 use Rattle.mrc_machine.proofs.Trying.{bind_bind, ok_bind, err_bind, same_Ok, not_Err}
+use Rattle.mrc_machine.proofs.Trying.{ok_goes, ok_after, err_after}
 
 -- taking from a store is taking from a space
 
@@ -51,6 +52,69 @@ take_by_space s t n x =
     sym (bind_bind (or_refuse (get (space s t) n) bad_name) parts (on_taken s t x)
     ∙ ap (λ (f : Entry → Try (Store × ℕ)). or_refuse (get (space s t) n) bad_name >>= f)
     (λ i e. bind_bind (or_refuse (take_from e x) wrong_right) put (on_taken s t x) i))
+
+-- a right whose port is told can be taken
+pub port_of_taken : (x : Space) (n p : ℕ) (d : Disp)
+    → taken_port x n d ≡ Ok p
+    → (y : Space) × (take_right x n d ≡ Ok (y, p))
+unfolding taken_port ◌>>=◌
+port_of_taken x n p d told = go (take_right x n d) told
+  where
+    go : (m : Try (Space × ℕ)) → (m >>= λ (y, q). Ok q) ≡ Ok p → (y : Space) × (m ≡ Ok (y, p))
+    go (Ok got) is = (got.0, ap (λ q. Ok (got.0, q)) (same_Ok _ _ is))
+    go (Err e) is = absurd (not_Err _ _ (sym is))
+
+-- what is told of the second space
+
+-- where it is the first one
+pub second_same : {U : Type 0} (r : Result U Code) (s : Store) (t u n name : ℕ) (x : Disp)
+    (y : Space)
+    → u ≡ t
+    → y ≡ space s t
+    → Foretells r (move_right y n x name)
+    → Foretells r (second_space s t u n x name)
+unfolding second_space move_right ◌>>=◌
+second_same r s t u n name x y same is told =
+    subst (Foretells r) (ap (λ z. move_right z n x name) is ∙ sym (go (take_right (space s t) n x)))
+    told
+  where
+    go : (m : Try (Space × ℕ))
+        → (m >>= λ got. insert_at (space_beside s t u got.0) name got.1 (given x))
+        ≡ (m >>= λ got. insert_at got.0 name got.1 (given x))
+    go (Ok got) =
+        ap (λ z. insert_at z name got.1 (given x))
+        (if_true (u == t) got.0 (space s u) (eq-eqb u t same))
+    go (Err e) = refl
+
+-- where it is another one
+pub second_other : {U : Type 0} (r : Result U Code) (s : Store) (t u n name p : ℕ) (x : Disp)
+    (y z : Space) (g : PortRight)
+    → (u ≡ t → ⊥)
+    → y ≡ space s t
+    → taken_port y n x ≡ Ok p
+    → z ≡ space s u
+    → g ≡ given x
+    → Foretells r (insert_at z name p g)
+    → Foretells r (second_space s t u n x name)
+unfolding second_space ◌>>=◌
+second_other r s t u n name p x y z g other is port there right told =
+    let (k, took) = port_of_taken y n p x port in
+    let took' : take_right (space s t) n x ≡ Ok (k, p) =
+    ap (λ v. take_right v n x) (sym is) ∙ took in
+    let at = if_false (u == t) k (space s u) (ne_eqb u t other) in
+    rw (took', at) (subst (Foretells r)
+    (ap (λ v. insert_at v name p g) there ∙ ap (insert_at (space s u) name p) right) told)
+
+-- where no right is taken
+pub second_refused : (s : Store) (t u n name : ℕ) (x : Disp) (y : Space) (code : Code)
+    → y ≡ space s t
+    → take_right y n x ≡ Err (Refused code)
+    → second_space s t u n x name ≡ Err (Refused code)
+unfolding second_space ◌>>=◌
+second_refused s t u n name x y code is refused =
+    let refused' : take_right (space s t) n x ≡ Err (Refused code) =
+    ap (λ v. take_right v n x) (sym is) ∙ refused in
+    rw refused' refl
 
 -- inserting a right
 
@@ -98,6 +162,25 @@ module _ (w : World) (t task name right : ℕ) (x : Disp) where
             got.1 (given x)
             >>= λ y. Ok (with_store w (moved w.store t got.0 got.1 (given x) u y), Done)))
 
+        -- what is told of the second space is told of the call
+        pub insert_foretold : (e : Reply)
+            → second_space w.store t u right x name ≡ Err e
+            → call_insert_right w t task name right x ≡ Err e
+        unfolding second_space
+        insert_foretold e told =
+            insert_by_spaces ∙ err_after (take_right (space w.store t) right x)
+            (λ got. insert_at (space_beside w.store t u got.0) name got.1 (given x))
+            (λ got y. Ok (with_store w (moved w.store t got.0 got.1 (given x) u y), Done)) e told
+
+        pub insert_allowed : IsOk (second_space w.store t u right x name)
+            → IsOk (call_insert_right w t task name right x)
+        unfolding second_space
+        insert_allowed ok =
+            subst IsOk (sym insert_by_spaces) (ok_after (take_right (space w.store t) right x)
+            (λ got. insert_at (space_beside w.store t u got.0) name got.1 (given x))
+            (λ got y. Ok (with_store w (moved w.store t got.0 got.1 (given x) u y), Done))
+            (λ got y. refl) ok)
+
         module _ (g : Space) (copy : g ≡ space w.store t) where
           pub insert_not_taken : (e : Reply)
               → take_right g right x ≡ Err e
@@ -125,7 +208,9 @@ module _ (w : World) (t task name right : ℕ) (x : Disp) where
                 → IsRefusal e (call_insert_right w t task name right x)
             insert_not_given (Fault code) refused =
                 insert_taken ∙ err_bind _ _ (Refused code) (at_second ∙ refused)
-            insert_not_given Memory refused = tt
+            insert_not_given Memory refused =
+                subst IsOk (sym insert_taken)
+                (ok_goes _ _ (λ z. refl) (subst IsOk (sym at_second) refused))
 
             pub insert_given : (z : Space) (q : PortRight) (v : World)
                 → insert_at y name p r ≡ Ok z
@@ -239,13 +324,20 @@ module _ (w : World) (t task name : ℕ) (x : Disp) where
             ap is_full (sym second) ∙ full in
             extract_taken ∙ rw at refl
 
+        pub extract_room : is_full y ≡ false → IsOk (call_extract_right w t task name x)
+        unfolding ◌>>◌ refuse_if
+        extract_room room =
+            let at : is_full (if t == u then h else space w.store t) ≡ false =
+            ap is_full (sym second) ∙ room in
+            subst IsOk (sym extract_taken) (rw at refl)
+
         module _ (room : is_full y ≡ false) (r : PortRight) (r_is : r ≡ given x) where
           pub extract_not_given : (e : OrMemory Code)
               → IsRefusal e (give_right y p r)
               → IsRefusal e (call_extract_right w t task name x)
           extract_not_given (Fault code) refused =
               absurd (not_given y p r (Refused code) room refused)
-          extract_not_given Memory refused = tt
+          extract_not_given Memory refused = extract_room room
 
           pub extract_given : (z : Space) (n : ℕ) (q : PortRight) (v : World)
               → give_right y p r ≡ Ok (z, n)

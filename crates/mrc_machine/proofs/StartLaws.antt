@@ -1,7 +1,7 @@
 -- What the lines of a wiring come to, from what each step of code tells.
 use Rattle.std.proofs.Common.{◌≡◌, ℕ, ◌+◌, ◌<◌, ◌≤◌, Bool, true, false, Option, Some, None, Ok, Err}
 use Rattle.std.proofs.Common.{inl, inr, refl, sym, ◌∙◌, ap, subst, arith}
-use Rattle.std.specs.Prelude.{IsSome, is_some, unwrap_or, ◌^◌, nat_le}
+use Rattle.std.specs.Prelude.{IsSome, is_some, unwrap_or, ◌^◌, nat_le, IsOk}
 use Rattle.std.proofs.lemmas.Bool.{lt-ltb, le-ltb, lt-leb, cases_eq}
 use Rattle.mrc_base.specs.Limits.{limit_of_tasks, limit_of_wired_ports}
 use Rattle.mrc_base.specs.declared.memory.OrMemory.{OrMemory}
@@ -33,7 +33,7 @@ use Rattle.mrc_names.proofs.GivingLaws.{over_full}
 use Rattle.mrc_ports.specs.Tables.{table_of, is_short}
 use Rattle.mrc_machine.specs.Starts.{IsStart, with_task, with_right}
 use Rattle.mrc_machine.proofs.HousingLaws.{kept_there}
-use Rattle.mrc_machine.proofs.Trying.{same_Ok, not_Err, ok_bind, err_bind}
+use Rattle.mrc_machine.proofs.Trying.{same_Ok, not_Err, ok_bind, err_bind, ok_goes}
 
 -- before the first line
 pub start_none : (w : World) → w ≡ no_world → IsStart record { world = w; tasks = 0; ports = 0 }
@@ -286,7 +286,8 @@ module _ (w : World) (t p : ℕ) (r : PortRight) (x : Space) (copy : x ≡ space
       → IsRefusal e (give_right x p r)
       → IsRefusal e (with_right w t p r)
   right_refused (Fault code) refused = given_by_space ∙ err_bind _ _ (Refused code) refused
-  right_refused Memory refused = tt
+  right_refused Memory refused =
+      subst IsOk (sym given_by_space) (ok_goes _ _ (λ got. refl) refused)
 
   pub right_given : (y : Space) (n : ℕ) (z : World)
       → give_right x p r ≡ Ok (y, n)

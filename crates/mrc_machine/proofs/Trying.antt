@@ -1,12 +1,13 @@
 -- Steps that may be refused, one after the other: in whichever way they stand together.
-use Rattle.std.proofs.Common.{◌≡◌, Result, Ok, Err, refl, ap, ◌∙◌}
-use Rattle.std.specs.Prelude.{IfOk, IfErr, OnErr}
+use Rattle.std.proofs.Common.{◌≡◌, Result, Ok, Err, refl, sym, ap, ◌∙◌, subst}
+use Rattle.std.specs.Prelude.{IsOk, IfOk, IfErr, OnErr}
 use Rattle.std.specs.Result.{result_unwrap_or}
 use Rattle.mrc_base.specs.declared.memory.OrMemory.{OrMemory}
 use Rattle.mrc_base.specs.declared.memory.OrMemory.TheVariants.{Fault, Memory}
 use Rattle.mrc_model.specs.declared.Code.{Code}
 use Rattle.mrc_names.specs.Refusals.{IsRefusal}
-use Rattle.mrc_model.specs.Reply.{Reply, Refused, Try, ◌>>=◌, ◌>>◌}
+use Rattle.mrc_machine.specs.Starts.{IsFaultOf}
+use Rattle.mrc_model.specs.Reply.{Reply, Done, Refused, Try, ◌>>=◌, ◌>>◌}
 
 -- three steps, each with what the one before gives
 pub bind_bind : {A B C : Type 0} (m : Try A) (f : A → Try B) (g : B → Try C)
@@ -33,6 +34,37 @@ pub err_bind : {A B : Type 0} (m : Try A) (f : A → Try B) (e : Reply) → m �
 unfolding ◌>>=◌
 err_bind m f e is = rw is refl
 
+-- a step that is not refused, and then one that never is
+pub ok_goes : {A B : Type 0} (m : Try A) (f : A → Try B)
+    → ((a : A) → IsOk (f a))
+    → IsOk m
+    → IsOk (m >>= f)
+unfolding ◌>>=◌
+ok_goes (Ok a) f total ok = total a
+ok_goes (Err e) f total ok = ok
+
+-- the same behind another step
+pub ok_after : {A B C : Type 0} (m : Try A) (f : A → Try B) (k : A → B → Try C)
+    → ((a : A) (b : B) → IsOk (k a b))
+    → IsOk (m >>= f)
+    → IsOk (m >>= λ a. f a >>= k a)
+unfolding ◌>>=◌
+ok_after (Ok a) f k total ok = ok_goes (f a) (k a) (total a) ok
+ok_after (Err e) f k total ok = ok
+
+-- why a step is refused
+abbrev why : {A : Type 0} → Try A → Reply
+why (Ok a) = Done
+why (Err e) = e
+
+-- what is refused is refused whatever comes behind it
+pub err_after : {A B C : Type 0} (m : Try A) (f : A → Try B) (k : A → B → Try C) (e : Reply)
+    → (m >>= f) ≡ Err e
+    → (m >>= λ a. f a >>= k a) ≡ Err e
+unfolding ◌>>=◌
+err_after (Ok a) f k e is = err_bind (f a) (k a) e is
+err_after (Err d) f k e is = ap Err (ap why is)
+
 -- what code answers for a call of which a step is the definition's
 
 -- the call goes on with what the step gives
@@ -47,12 +79,28 @@ goes_on (Err e) call step k f is done = tt
 -- and is refused where the step is
 pub is_refused : {A B C : Type 0} (r : Result A (OrMemory Code)) (call : Try C) (step : Try B)
     (k : B → Try C)
+    → ((b : B) → IsOk (k b))
     → call ≡ (step >>= k)
     → IfErr r (λ e. IsRefusal e step)
     → IfErr r (λ e. IsRefusal e call)
-is_refused (Ok a) call step k is refuses = tt
-is_refused (Err (Fault code)) call step k is refuses = is ∙ err_bind step k (Refused code) refuses
-is_refused (Err Memory) call step k is refuses = tt
+is_refused (Ok a) call step k total is refuses = tt
+is_refused (Err (Fault code)) call step k total is refuses =
+    is ∙ err_bind step k (Refused code) refuses
+is_refused (Err Memory) call step k total is refuses =
+    subst IsOk (sym is) (ok_goes step k total refuses)
+
+-- the same where of memory nothing is said
+pub is_fault : {B C : Type 0} (e : OrMemory Code) (call : Try C) (step : Try B) (k : B → Try C)
+    → call ≡ (step >>= k)
+    → IsFaultOf e step
+    → IsFaultOf e call
+is_fault (Fault code) call step k is refuses = is ∙ err_bind step k (Refused code) refuses
+is_fault Memory call step k is refuses = tt
+
+-- which is less
+pub faulty : {A : Type 0} (e : OrMemory Code) (m : Try A) → IsRefusal e m → IsFaultOf e m
+faulty (Fault code) m refuses = refuses
+faulty Memory m refuses = tt
 
 -- so where memory has no part in it
 pub is_refused_by : {A B C : Type 0} (r : Result A Code) (call : Try C) (step : Try B)

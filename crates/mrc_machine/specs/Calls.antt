@@ -1,4 +1,11 @@
--- Calls and replies of code, read as the definitions'. This profile's own choice.
+-- Calls and replies of code, read as the definitions'; and what it is that a call is not refused.
+-- This profile's own choice.
+use Rattle.std.specs.Prelude.{ℕ, IsTrue, IsOk}
+use Rattle.mrc_model.specs.Map.{get}
+use Rattle.mrc_model.specs.Wiring.{Wiring}
+use Rattle.mrc_model.specs.World.{World}
+use Rattle.mrc_model.specs.Target.{is_alive}
+use Rattle.mrc_model.specs.Step.{try_call}
 use Rattle.mrc_machine.specs.declared.call.Call.{Call}
 use Rattle.mrc_machine.specs.declared.call.Call.TheVariants.{Allocate, GetRefs, InsertRight}
 use Rattle.mrc_machine.specs.declared.call.Call.TheVariants.{ExtractRight, SetQlimit, PortType}
@@ -37,3 +44,7 @@ IsRefused (told.Mask mask) = ⊥
 IsRefused (told.Names names) = ⊥
 IsRefused (told.Refused code) = Unit {0}
 IsRefused told.DeadTask = Unit {0}
+
+-- the call is not refused: its task is alive, and no refusal comes
+abbrev pub IsGranted : Wiring → World → ℕ → model.Call → Type 0
+IsGranted W w t call = IsTrue (is_alive (get w.tasks t)) × IsOk (try_call W w t call)

@@ -1,12 +1,15 @@
 -- What a right that moves leaves in the store. From Mach 3 Kernel Interfaces, "Port rights".
-use Rattle.std.specs.Prelude.{ℕ, Ok}
+use Rattle.std.specs.Prelude.{ℕ, Ok, ◌==◌, if◌then◌else◌}
+use Rattle.mrc_base.specs.declared.Disp.{Disp}
+use Rattle.mrc_base.specs.Disposition.{given}
 use Rattle.mrc_base.specs.declared.PortRight.{PortRight}
 use Rattle.mrc_model.specs.Rights.{is_receive}
 use Rattle.mrc_model.specs.Map.{get}
-use Rattle.mrc_model.specs.World.{Space, Store, World, set_space, set_port}
+use Rattle.mrc_model.specs.World.{Space, Store, World, space, set_space, set_port}
 use Rattle.mrc_model.specs.Reply.{Try, ◌>>=◌, or_refuse}
 use Rattle.mrc_model.specs.Target.{with_store, bad_name}
-use Rattle.mrc_model.specs.Space.{restart_if}
+use Rattle.mrc_model.specs.Space.{restart_if, insert_at}
+use Rattle.mrc_names.specs.Takes.{take_right}
 
 -- the store after a right on p went from t, which keeps x, to u, which then has y: t and u may be
 -- one task, and y is the space that it has in the end
@@ -18,3 +21,14 @@ unfoldable pub limited : World → ℕ → ℕ → Try World
 limited w p limit = do
   x ← or_refuse (get w.store.ports p) bad_name
   Ok (with_store w (set_port w.store p (record x { limit = limit })))
+
+-- the space of u, once t's is x
+abbrev pub space_beside : Store → ℕ → ℕ → Space → Space
+space_beside s t u x = if u == t then x else space s u
+
+-- the space of u in the end, where a right of t's name n is put under a name of u: t and u may be
+-- one task
+unfoldable pub second_space : Store → ℕ → ℕ → ℕ → Disp → ℕ → Try Space
+second_space s t u n x name = do
+  got ← take_right (space s t) n x
+  insert_at (space_beside s t u got.0) name got.1 (given x)

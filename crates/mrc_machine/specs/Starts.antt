@@ -1,12 +1,15 @@
 -- What is kept while the first state of a wiring is made, line by line, and the changes that lines
 -- make. This profile's own choice.
-use Rattle.std.specs.Prelude.{◌≡◌, ℕ, ◌+◌, ◌<◌, ◌≤◌, true, IsSome, Ok}
+use Rattle.std.specs.Prelude.{◌≡◌, ℕ, ◌+◌, ◌<◌, ◌≤◌, true, IsSome, Ok, Err}
+use Rattle.mrc_base.specs.declared.memory.OrMemory.{OrMemory}
+use Rattle.mrc_base.specs.declared.memory.OrMemory.TheVariants.{Fault, Memory}
+use Rattle.mrc_model.specs.declared.Code.{Code}
 use Rattle.mrc_base.specs.Limits.{limit_of_tasks, limit_of_wired_ports}
 use Rattle.mrc_base.specs.declared.PortRight.{PortRight}
 use Rattle.mrc_model.specs.declared.Entry.TheVariants.{Send as SendEntry}
 use Rattle.mrc_model.specs.Map.{empty, get, insert, len}
 use Rattle.mrc_model.specs.World.{Task, World, space}
-use Rattle.mrc_model.specs.Reply.{Try, ◌>>=◌}
+use Rattle.mrc_model.specs.Reply.{Try, Refused, ◌>>=◌}
 use Rattle.mrc_model.specs.Target.{with_space}
 use Rattle.mrc_model.specs.CallAllocate.{new_port}
 use Rattle.mrc_model.specs.First.{First}
@@ -41,3 +44,9 @@ unfoldable pub with_right : World → ℕ → ℕ → PortRight → Try World
 with_right w t p right = do
   got ← give_right (space w.store t) p right
   Ok (with_space w t got.0)
+
+-- a fault of code is the definition's refusal; of want of memory nothing is said, since of the
+-- lines that are left one might be refused
+abbrev pub IsFaultOf : {A : Type 0} → OrMemory Code → Try A → Type 0
+IsFaultOf (Fault code) m = m ≡ Err (Refused code)
+IsFaultOf Memory m = Unit {0}

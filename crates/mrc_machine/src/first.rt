@@ -4,7 +4,7 @@ ghost use Rattle.std.specs.Prelude.{◌≡◌, Ok, IfOk, IfErr};
 ghost use Rattle.mrc_model.specs.First.{no_world, add_line, built};
 ghost use Rattle.mrc_model.specs.declared.FirstLine.TheVariants.{Task as TaskLine, Port, Hold};
 ghost use Rattle.mrc_wiring.specs.Table.{wiring_of};
-ghost use Rattle.mrc_names.specs.Refusals.{IsRefusal};
+ghost use Rattle.mrc_machine.specs.Starts.{IsFaultOf};
 
 use crate::state::State;
 use mrc_base::{ClassId, OrMemory, PortId, PortRight, TaskId};
@@ -52,7 +52,7 @@ impl Start {
     fn add_task(self, wired: &Wired) -> Result<Start, OrMemory<Code>>
         ensures ok { IfOk result (λ next. add_line (wiring_of wired.now) self TaskLine ≡ Ok next) }
         ensures refused { IfErr result
-            (λ e. IsRefusal e (add_line (wiring_of wired.now) self TaskLine)) }
+            (λ e. IsFaultOf e (add_line (wiring_of wired.now) self TaskLine)) }
     {
         if wired.tasks() <= self.tasks {
             return Err(OrMemory::Fault(Code::KernInvalidTask));
@@ -71,7 +71,7 @@ impl Start {
         ensures ok { IfOk result
             (λ next. add_line (wiring_of wired.now) self (Port receiver) ≡ Ok next) }
         ensures refused { IfErr result
-            (λ e. IsRefusal e (add_line (wiring_of wired.now) self (Port receiver))) }
+            (λ e. IsFaultOf e (add_line (wiring_of wired.now) self (Port receiver))) }
     {
         if u32::from(self.tasks) <= receiver.0 {
             return Err(OrMemory::Fault(Code::KernInvalidTask));
@@ -102,7 +102,7 @@ impl Start {
         ensures ok { IfOk result
             (λ next. add_line (wiring_of wired.now) self (Hold task port right) ≡ Ok next) }
         ensures refused { IfErr result
-            (λ e. IsRefusal e (add_line (wiring_of wired.now) self (Hold task port right))) }
+            (λ e. IsFaultOf e (add_line (wiring_of wired.now) self (Hold task port right))) }
     {
         if let PortRight::Receive = right {
             return Err(OrMemory::Fault(Code::KernInvalidName));
@@ -126,7 +126,7 @@ impl Start {
     fn add_line(self, wired: &Wired, line: &FirstLine) -> Result<Start, OrMemory<Code>>
         ensures ok { IfOk result (λ next. add_line (wiring_of wired.now) self line.now ≡ Ok next) }
         ensures refused { IfErr result
-            (λ e. IsRefusal e (add_line (wiring_of wired.now) self line.now)) }
+            (λ e. IsFaultOf e (add_line (wiring_of wired.now) self line.now)) }
     {
         match *line {
             FirstLine::Task => self.add_task(wired),
@@ -146,7 +146,7 @@ impl Start {
 /// All lines of the wiring.
 pub(crate) fn built(alloc: Global, wired: &Wired) -> Result<Start, OrMemory<Code>>
     ensures ok { IfOk result (λ start. built (wiring_of wired.now) ≡ Ok start) }
-    ensures refused { IfErr result (λ e. IsRefusal e (built (wiring_of wired.now))) }
+    ensures refused { IfErr result (λ e. IsFaultOf e (built (wiring_of wired.now))) }
 {
     let mut start = Start::new(alloc);
     for line in wired.first_lines() {

@@ -1,14 +1,14 @@
 //! Putting a right of the caller under a name of a task.
 
-ghost use Rattle.std.specs.Prelude.{◌≡◌, ◌==◌, ◌||◌, Ok, OnOk, OnErr, IfOk, IfErr, IsSome};
-ghost use Rattle.std.specs.Prelude.{if◌then◌else◌};
+ghost use Rattle.std.specs.Prelude.{◌≡◌, ◌||◌, Ok, OnOk, OnErr, IfOk, IfErr, IsSome};
 ghost use Rattle.mrc_model.specs.Map.{get};
 ghost use Rattle.mrc_model.specs.World.{space};
 ghost use Rattle.mrc_model.specs.Reply.{Done};
 ghost use Rattle.mrc_model.specs.Target.{is_reserved};
 ghost use Rattle.mrc_model.specs.CallSend.{dead_taken, is_dead_taken};
 ghost use Rattle.mrc_model.specs.CallInsertRight.{call_insert_right};
-ghost use Rattle.mrc_names.specs.Refusals.{IsRefusal};
+ghost use Rattle.mrc_names.specs.Refusals.{IsRefusal, Foretells};
+ghost use Rattle.mrc_machine.specs.Moves.{space_beside, second_space};
 
 use crate::state::State;
 use mrc_base::{Disp, OrMemory, TaskId, give};
@@ -47,6 +47,27 @@ impl State {
         is_reserved(name) || gives_dead(self.space(task).get(name), disp)
     }
 
+    /// Whether the right that a task takes from a name can be put under a name of the second task,
+    /// which may be the same, or how it is refused.
+    fn foretell_second(
+        &self,
+        first: TaskId,
+        from: u32,
+        disp: Disp,
+        second: TaskId,
+        name: u32,
+    ) -> Result<(), Code>
+        requires first { IsSome (get self.now.tasks first) }
+        requires second { IsSome (get self.now.tasks second) }
+        ensures { Foretells result (second_space self.now.store first second from disp name) }
+    {
+        if second.0 == first.0 {
+            return self.space(first).foretell_move(from, disp, name);
+        }
+        let port = self.space(first).peek(from, disp)?;
+        self.space(second).foretell_insert(name, port, give(disp))
+    }
+
     /// A copy of the second task's space, where the first one's is this from here on.
     pub(crate) fn copy_second(
         &self,
@@ -56,7 +77,7 @@ impl State {
     ) -> Result<Space, AllocError>
         requires { IsSome (get self.now.tasks second) }
         ensures { IfOk result (λ copy.
-            copy ≡ (if second == first then changed.now else space self.now.store second)) }
+            copy ≡ space_beside self.now.store first second changed.now) }
     {
         if second.0 == first.0 {
             self.copy_of(changed)
@@ -90,7 +111,7 @@ impl State {
         if self.gives_none(caller, right, disp) {
             return Err(OrMemory::Fault(Code::KernInvalidCapability));
         }
-        if let Err(code) = self.space(caller).peek(right, disp) {
+        if let Err(code) = self.foretell_second(caller, right, disp, target, name) {
             return Err(OrMemory::Fault(code));
         }
         let mut giver = self.copy_space(caller)?;

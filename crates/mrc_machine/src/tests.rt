@@ -21,15 +21,20 @@ struct Machine {
     world: World,
 }
 
-/// The machine in the first state of a wiring.
+/// The machine in the first state of a wiring; None where memory ran out.
+fn tried(alloc: Global, text: &str) -> Option<Machine> {
+    let lines = read_wiring(alloc, text.as_bytes()).ok()?;
+    let wired = Wired::resolve(alloc, &lines, Vec::new(alloc)).ok()?;
+    let world = World::first(alloc, &wired).ok()?;
+    Some(Machine { wired, world })
+}
+
+/// The machine in the first state of a wiring, made once more where memory ran out.
 fn started(alloc: Global, text: &str) -> Result<Machine, Fail> {
-    let lines = read_wiring(alloc, text.as_bytes())?;
-    let wired = Wired::resolve(alloc, &lines)?;
-    let world = match World::first(alloc, &wired) {
-        Ok(world) => world,
-        Err(_) => World::first(alloc, &wired)?,
-    };
-    Ok(Machine { wired, world })
+    match tried(alloc, text) {
+        Some(machine) => Ok(machine),
+        None => Ok(tried(alloc, text).ok_or("no machine")?),
+    }
 }
 
 /// The names of a listing, as they are printed.
@@ -133,6 +138,14 @@ fn read(line: &str) -> Call {
     call(verb, task, [first, second, third])
 }
 
+/// A reply, as it is printed, once more where memory ran out.
+fn surely_told(alloc: Global, reply: &Reply) -> Result<String, AllocError> {
+    match told(alloc, reply) {
+        Ok(text) => Ok(text),
+        Err(_) => told(alloc, reply),
+    }
+}
+
 impl Machine {
     /// One call, made once more where memory ran out: the reply, as it is printed.
     fn step(&mut self, alloc: Global, caller: u32, line: &str) -> Result<String, AllocError> {
@@ -141,10 +154,69 @@ impl Machine {
             Ok(reply) => reply,
             Err(_) => self.world.step(&self.wired, TaskId(caller), &call)?,
         };
-        match told(alloc, &reply) {
-            Ok(text) => Ok(text),
-            Err(_) => told(alloc, &reply),
+        surely_told(alloc, &reply)
+    }
+}
+
+/// What a machine of two tasks shows: what they hold, the live ports, and all names.
+#[derive(Drop)]
+struct Shown {
+    held: Vec<Holding>,
+    ports: usize,
+    names: [String; 2],
+}
+
+impl Shown {
+    /// Whether this machine shows the same.
+    fn is_that_of(&self, other: &Shown) -> bool {
+        self.held.as_slice() == other.held.as_slice()
+            && self.ports == other.ports
+            && self.names[0].as_str() == other.names[0].as_str()
+            && self.names[1].as_str() == other.names[1].as_str()
+    }
+}
+
+impl Machine {
+    /// The names of a task that has its own kernel port under name 1.
+    fn names(&mut self, alloc: Global, task: u32) -> Result<String, AllocError> {
+        let reply = self
+            .world
+            .step(&self.wired, TaskId(task), &Call::Names { task: 1 })?;
+        told(alloc, &reply)
+    }
+
+    fn try_shown(&mut self, alloc: Global) -> Result<Shown, AllocError> {
+        Ok(Shown {
+            held: self.world.holdings()?,
+            ports: self.world.live_ports(),
+            names: [self.names(alloc, 0)?, self.names(alloc, 1)?],
+        })
+    }
+
+    /// What the machine shows, asked once more where memory ran out.
+    fn shown(&mut self, alloc: Global) -> Result<Shown, AllocError> {
+        match self.try_shown(alloc) {
+            Ok(shown) => Ok(shown),
+            Err(_) => self.try_shown(alloc),
         }
+    }
+
+    /// One call, whose want of memory leaves the machine as it was; made once more after it.
+    fn step_or_stay(
+        &mut self,
+        rt: &(impl Abort + AllocGlobal),
+        caller: u32,
+        line: &str,
+    ) -> Result<String, AllocError> {
+        let call = read(line);
+        let before = self.shown(rt.alloc())?;
+        if let Ok(reply) = self.world.step(&self.wired, TaskId(caller), &call) {
+            return surely_told(rt.alloc(), &reply);
+        }
+        let after = self.shown(rt.alloc())?;
+        assert!(rt; before.is_that_of(&after), "{line}");
+        let reply = self.world.step(&self.wired, TaskId(caller), &call)?;
+        surely_told(rt.alloc(), &reply)
     }
 }
 
@@ -222,7 +294,10 @@ fn what_tasks_hold(rt: HostRuntime) -> Result<(), Fail> {
             (1, "insert_right 1 3 2 21", "done"),
         ],
     )?;
-    let held = machine.world.holdings()?;
+    let held = match machine.world.holdings() {
+        Ok(held) => held,
+        Err(_) => machine.world.holdings()?,
+    };
     let want = [
         holding(0, 0, PortRight::Send),
         holding(0, 1, PortRight::Send),
@@ -280,7 +355,10 @@ fn assert_each(
     reply: &str,
 ) -> Result<(), AllocError> {
     for wrong in WRONG {
-        let text = format!(in rt.alloc(); "{} {task} {}", wrong.0, wrong.1)?;
+        let text = match format!(in rt.alloc(); "{} {task} {}", wrong.0, wrong.1) {
+            Ok(text) => text,
+            Err(_) => format!(in rt.alloc(); "{} {task} {}", wrong.0, wrong.1)?,
+        };
         let told = machine.step(rt.alloc(), caller, text.as_str())?;
         assert_eq!(rt; told.as_str(), reply, "{text}");
     }
@@ -595,5 +673,81 @@ fn too_many_references(rt: HostRuntime) -> Result<(), Fail> {
             (0, "get_refs 1 1 send", "refs 65535"),
         ],
     )?;
+    Ok(())
+}
+
+// Each call that can answer want of memory leaves the machine as it was, and answers the same as
+// with memory when it is made once more: to be run with each allocation refused in turn.
+#[test]
+fn memory_runs_out(rt: HostRuntime) -> Result<(), Fail> {
+    let mut machine = started(rt.alloc(), TWO)?;
+    for line in [
+        (0, "allocate 2 receive 0", "name 2"),
+        (0, "allocate 1 set 0", "name 3"),
+        (0, "allocate 1 dead 0", "name 4"),
+        (1, "insert_right 1 5 2 21", "done"),
+        (0, "extract_right 2 2 20", "name 5"),
+        (0, "insert_right 2 6 5 17", "KERN_RIGHT_EXISTS"),
+        (0, "insert_right 2 2 5 17", "done"),
+        (0, "insert_right 1 7 2 19", "KERN_RIGHT_EXISTS"),
+        (1, "extract_right 1 5 18", "name 3"),
+        (1, "rename 1 3 9", "done"),
+        (0, "rename 1 3 3", "KERN_NAME_EXISTS"),
+        (0, "names 2", "names 1:65536 2:196608 9:262144"),
+        (0, "names 1", "names 1:65536 2:65536 3:524288 4:1048576"),
+    ] {
+        let text = machine.step_or_stay(&rt, line.0, line.1)?;
+        assert_eq!(rt; text.as_str(), line.2, "{}", line.1);
+    }
+    Ok(())
+}
+
+/// A wiring of 64 tasks.
+fn many_tasks(alloc: Global) -> Result<String, Fail> {
+    let mut text = String::from_str(alloc, "wiring 1")?;
+    for number in 0..64u32 {
+        write!(text, "\ntask t{number}")?;
+    }
+    Ok(text)
+}
+
+/// One call of a task so many times.
+fn repeat(
+    alloc: Global,
+    machine: &mut Machine,
+    task: u32,
+    line: &str,
+    count: u32,
+) -> Result<(), AllocError> {
+    for _ in 0..count {
+        let _ = machine.step(alloc, task, line)?;
+    }
+    Ok(())
+}
+
+// 65,536 ports live at most, the kernel ports among them. A full space is told first, and what is
+// no port can still be made.
+#[test]
+fn as_many_ports_as_there_may_be(rt: HostRuntime) -> Result<(), Fail> {
+    let alloc = rt.alloc();
+    let mut machine = started(alloc, many_tasks(alloc)?.as_str())?;
+    for task in 0..63u32 {
+        repeat(alloc, &mut machine, task, "allocate 1 receive 0", 1023)?;
+    }
+    repeat(alloc, &mut machine, 63, "allocate 1 receive 0", 1022)?;
+    repeat(alloc, &mut machine, 0, "allocate 1 dead 0", 3072)?;
+    assert_eq!(rt; machine.world.live_ports(), 65_535);
+    run(
+        &rt,
+        &mut machine,
+        &[
+            (63, "allocate 1 receive 0", "name 1024"),
+            (63, "allocate 1 receive 0", "KERN_RESOURCE_SHORTAGE"),
+            (63, "allocate 1 receive 1", "KERN_INVALID_VALUE"),
+            (0, "allocate 1 receive 0", "KERN_NO_SPACE"),
+            (63, "allocate 1 set 0", "name 1025"),
+        ],
+    )?;
+    assert_eq!(rt; machine.world.live_ports(), 65_536);
     Ok(())
 }

@@ -1,6 +1,6 @@
 -- Changing the entries of a list one after the other.
 use Rattle.std.proofs.Common.{◌≡◌, ℕ, suc, ◌+◌, ◌<◌, ◌≤◌, List, [], ◌∷◌, ◌++◌, length, take, drop}
-use Rattle.std.proofs.Common.{Option, Some, None, T, refl, sym, ◌∙◌, ap, arith}
+use Rattle.std.proofs.Common.{Option, Some, T, refl, sym, ◌∙◌, ap, arith}
 use Prim.Native.Nat.{zero}
 use Rattle.std.specs.List.{slice_index_or, slice_set}
 use Rattle.mrc_model.specs.Rising.{is_rising, right_holds, cons_some, alter_list, find_key}

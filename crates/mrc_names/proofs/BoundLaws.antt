@@ -3,8 +3,10 @@ use Rattle.std.proofs.Common.{◌≡◌, ℕ, ◌+◌, ◌<◌, ◌≤◌, ◌^�
 use Rattle.std.proofs.Common.{refl, sym, ◌∙◌, ap, subst, arith}
 use Rattle.std.specs.Prelude.{IsSome, IfSome}
 use Rattle.std.proofs.lemmas.Bool.{leb-false}
+use Rattle.mrc_base.specs.declared.Disp.{Disp}
 use Rattle.mrc_model.specs.declared.Entry.{Entry}
-use Rattle.mrc_model.specs.Map.{Map, empty, get, insert, remove, alter_all, all_but, len, Each}
+use Rattle.mrc_model.specs.CallSend.{dead_taken}
+use Rattle.mrc_model.specs.Map.{empty, get, insert, remove, alter_all, all_but, len}
 use Rattle.mrc_model.specs.World.{Space}
 use Rattle.mrc_model.specs.Space.{is_full, entry_of}
 use Rattle.mrc_model.proofs.Maps.{at_or_0, get-empty, Each-insert, Each-alter_all, len-insert}
@@ -118,3 +120,10 @@ unused_bound x es n b is within =
     let few = b.few in
     let same : length es ≡ length x.list = ap length is in
     omega arith
+
+-- what gives a dead right is there
+pub dead_used : (o : Option Entry) (d : Disp) (rest : Option Entry)
+    → dead_taken o d ≡ Some rest
+    → IsSome o
+dead_used None d rest is = absurd (not_None rest (sym is))
+dead_used (Some e) d rest is = refl

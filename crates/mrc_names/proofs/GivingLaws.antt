@@ -1,5 +1,5 @@
 -- What giving a right to a space comes to, exit by exit.
-use Rattle.std.proofs.Common.{◌≡◌, ℕ, ◌+◌, ◌<◌, ◌≤◌, Bool, true, false, Option, Some, None, Ok, Err}
+use Rattle.std.proofs.Common.{◌≡◌, ℕ, ◌+◌, Bool, true, false, Option, Some, None, Ok, Err}
 use Rattle.std.proofs.Common.{inl, inr, refl, sym, ◌∙◌, ap, arith}
 use Rattle.std.proofs.lemmas.Bool.{leb-true, leb-false, lt-ltb, le-ltb, cases_Bool}
 use Rattle.mrc_base.specs.declared.PortRight.{PortRight}
@@ -12,7 +12,7 @@ use Rattle.mrc_model.specs.Reply.{Try, Refused, ◌>>◌, refuse_if}
 use Rattle.mrc_model.specs.Space.{is_full, is_over_full, unused, new_entry, joined, entry_of}
 use Rattle.mrc_model.specs.Space.{place_at, place_new, Placed}
 use Rattle.mrc_model.proofs.Maps.{at_or_0, len-insert}
-use Rattle.mrc_model.proofs.Spaces.{get-unused, entry_of-some}
+use Rattle.mrc_model.proofs.Spaces.{get-unused}
 use Rattle.mrc_names.specs.Bounds.{IsBounded}
 use Rattle.mrc_names.specs.Takes.{add_entry, give_new, give_right}
 use Rattle.mrc_names.proofs.BoundLaws.{same_len, found_used}

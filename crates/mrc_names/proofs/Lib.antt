@@ -1,3 +1,4 @@
+pub mod Granting
 pub mod SpaceExits
 pub mod BoundLaws
 pub mod GivingLaws
@@ -5,3 +6,4 @@ pub mod Altering
 pub mod RenamingLaws
 pub mod RenamingSets
 pub mod ListingLaws
+pub mod ForetellingLaws

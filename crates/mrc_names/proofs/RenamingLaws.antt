@@ -4,7 +4,7 @@ use Rattle.std.proofs.Common.{sym, ◌∙◌, ap, subst, arith}
 use Rattle.std.specs.Option.{is_some}
 use Rattle.mrc_model.specs.declared.Entry.{Entry}
 use Rattle.mrc_model.specs.declared.Code.TheVariants.{KernInvalidValue, KernNameExists}
-use Rattle.mrc_model.specs.Map.{get, insert, remove, alter_all, len}
+use Rattle.mrc_model.specs.Map.{get, insert, remove, len}
 use Rattle.mrc_model.specs.World.{Space}
 use Rattle.mrc_model.specs.Reply.{Refused, ◌>>=◌, ◌>>◌, or_refuse, refuse_if}
 use Rattle.mrc_model.specs.CallRename.{is_used}

@@ -1,5 +1,5 @@
 -- The entries after a set got another name, one after the other.
-use Rattle.std.proofs.Common.{◌≡◌, ℕ, ◌+◌, ◌<◌, ◌≤◌, List, length, Option, Some, None, refl, sym}
+use Rattle.std.proofs.Common.{◌≡◌, ℕ, ◌+◌, ◌<◌, ◌≤◌, List, length, Some, refl, sym}
 use Rattle.std.proofs.Common.{◌∙◌, ap, subst, add-one}
 use Rattle.std.specs.List.{slice_index_or, slice_set}
 use Rattle.mrc_model.specs.declared.Entry.{Entry}

@@ -185,14 +185,19 @@ take_spends x inside y n m p q d e o rest has what is port none view name gone =
     done ∙ ap (λ r. Ok (put_entry x n r, q)) none ∙ ap (λ z. Ok (z, q)) (sym (gone ∙ kept))
     ∙ ap (λ z. Ok (y, z)) port
 
--- the port of a taking, from what each step of code tells
-pub port_taken : (x : Space) (n p q : ℕ) (d : Disp) (e : Entry) (o : Option (ℕ × Option Entry))
+-- a right and what is left of its entry, from what each step of code tells
+pub parted : (x : Space) (n q : ℕ) (d : Disp) (e : Entry) (o : Option (ℕ × Option Entry))
     (left : Option Entry)
     → get x n ≡ Some e
     → option_map (λ (t : ℕ × Option Entry). taken t.0 t.1) o ≡ take_from e d
     → o ≡ Some (q, left)
-    → q ≡ p
+    → take_right x n d ≡ Ok (put_entry x n left, q)
+parted x n q d e o left has what is =
+    take_done x n d e (taken q left) has (taken_some o _ q left what is)
+
+-- its port alone
+pub port_parted : (x : Space) (n : ℕ) (d : Disp) (y : Space) (p : ℕ)
+    → take_right x n d ≡ Ok (y, p)
     → taken_port x n d ≡ Ok p
 unfolding taken_port ◌>>=◌
-port_taken x n p q d e o left has what is port =
-    rw (take_done x n d e (taken q left) has (taken_some o _ q left what is)) (ap Ok port)
+port_parted x n d y p is = rw is refl

@@ -1,5 +1,5 @@
 -- How large a space is. This profile's own choice.
-use Rattle.std.specs.Prelude.{ℕ, ◌<◌, ◌≤◌, ◌^◌}
+use Rattle.std.specs.Prelude.{◌<◌, ◌≤◌, ◌^◌}
 use Rattle.mrc_base.specs.Limits.{limit_of_names}
 use Rattle.mrc_model.specs.Map.{len, Each}
 use Rattle.mrc_model.specs.World.{Space}

@@ -1,15 +1,16 @@
 -- Taking a right from a name, and giving one, for a space alone.
 -- From Mach 3 Kernel Interfaces, "Port rights" and mach_port_rename.
-use Rattle.std.specs.Prelude.{ℕ, Ok}
+use Rattle.std.specs.Prelude.{ℕ, Bool, true, false, Ok, Option, Some, None, ◌==◌, if◌then◌else◌}
 use Rattle.mrc_base.specs.declared.Disp.{Disp}
 use Rattle.mrc_base.specs.declared.PortRight.{PortRight}
+use Rattle.mrc_base.specs.Disposition.{given}
 use Rattle.mrc_model.specs.declared.Entry.{Entry}
 use Rattle.mrc_model.specs.declared.Code.TheVariants.{KernInvalidValue, KernNameExists, KernNoSpace}
 use Rattle.mrc_model.specs.Map.{get, insert, remove}
 use Rattle.mrc_model.specs.World.{Space}
 use Rattle.mrc_model.specs.Reply.{Try, Refused, ◌>>=◌, ◌>>◌, or_refuse, refuse_if}
 use Rattle.mrc_model.specs.Space.{take_from, put_entry, place, place_new, is_full, is_over_full}
-use Rattle.mrc_model.specs.Space.{unused}
+use Rattle.mrc_model.specs.Space.{unused, insert_at}
 use Rattle.mrc_model.specs.Space.{is_set, members_follow}
 use Rattle.mrc_model.specs.CallRename.{is_used}
 use Rattle.mrc_model.specs.Target.{is_reserved, bad_name, wrong_right}
@@ -26,6 +27,22 @@ unfoldable pub taken_port : Space → ℕ → Disp → Try ℕ
 taken_port x n d = do
   (y, p) ← take_right x n d
   Ok p
+
+-- whether a dead name gives a dead right, and the space after that: where it does, this is left of
+-- the name's entry
+abbrev pub dead_left : Space → ℕ → Option (Option Entry) → Bool × Space
+dead_left x n None = (false, x)
+dead_left x n (Some rest) = (true, put_entry x n rest)
+
+-- the space after a right was taken from a name and put under another one
+unfoldable pub move_right : Space → ℕ → Disp → ℕ → Try Space
+move_right x from d to = do
+  got ← take_right x from d
+  insert_at got.0 to got.1 (given d)
+
+-- an entry of the space, once the name n has no more than the rest
+abbrev pub left_at : ℕ → Option Entry → ℕ → Entry → Option Entry
+left_at n rest k e = if k == n then rest else Some e
 
 -- the space after an entry was put under the least unused name, and that name; refused where the
 -- space is full

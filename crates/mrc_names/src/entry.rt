@@ -1,7 +1,8 @@
 //! Entries: what each disposition takes of one, how a right joins it, and what it shows.
 ghost use Rattle.std.specs.Prelude.{◌≡◌, ℕ, Some, option_map};
 ghost use Rattle.mrc_model.specs.Space.{send_entry, taken, take_from, is_entry_of, new_entry};
-ghost use Rattle.mrc_model.specs.Space.{joined, overflows, one_more};
+ghost use Rattle.mrc_model.specs.Space.{joined, overflows, one_more, dead_entry};
+ghost use Rattle.mrc_model.specs.CallSend.{dead_taken};
 ghost use Rattle.mrc_model.specs.declared.Entry.TheVariants.{Receive, Send};
 ghost use Rattle.mrc_model.specs.CallNames.{refs_of};
 ghost use Rattle.mrc_model.specs.Space.{in_renamed};
@@ -77,6 +78,32 @@ pub(crate) fn take_from(entry: Entry, disp: Disp) -> Option<(PortId, Option<Entr
             _ => None,
         },
         Entry::PortSet | Entry::DeadName { .. } => None,
+    }
+}
+
+/// So many references of a dead name: nothing where there are none.
+fn dead_entry(refs: u16) -> Option<Entry>
+    ensures { result ≡ dead_entry refs }
+{
+    if 0 < refs {
+        Some(Entry::DeadName { refs })
+    } else {
+        None
+    }
+}
+
+/// What is left of an entry that gives a dead right: a dead name of which a right is moved or
+/// copied.
+pub(crate) fn dead_taken(entry: Option<Entry>, disp: Disp) -> Option<Option<Entry>>
+    ensures { result ≡ dead_taken entry disp }
+{
+    match entry? {
+        Entry::DeadName { refs } => match disp {
+            Disp::MoveSend | Disp::MoveSendOnce => Some(dead_entry(refs.saturating_sub(1))),
+            Disp::CopySend => Some(Some(Entry::DeadName { refs })),
+            Disp::MoveReceive | Disp::MakeSend | Disp::MakeSendOnce => None,
+        },
+        _ => None,
     }
 }
 

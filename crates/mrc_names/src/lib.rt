@@ -2,6 +2,7 @@
 #![tactic(auto)]
 
 mod entry;
+mod foretelling;
 mod listing;
 mod space;
 mod types;

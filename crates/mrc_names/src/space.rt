@@ -2,9 +2,11 @@
 
 ghost use Rattle.std.specs.Prelude.{◌≡◌, ◌≤◌, ◌<◌, ◌+◌, ◌^◌, length, Ok, Err, Some, IfOk, OnOk};
 ghost use Rattle.std.specs.Prelude.{OnErr, IfErr, IfSome, IsSome, false, option_map, map};
+ghost use Rattle.std.specs.Prelude.{is_some, ◌&&◌};
 ghost use Rattle.mrc_model.specs.Map.{empty, get, insert, len, alter_all};
 ghost use Rattle.mrc_model.specs.Space.{first_entry, entry_of, is_full, insert_at, insert_new};
 ghost use Rattle.mrc_model.specs.Space.{insert_joined, is_other, least_from, unused, place_new};
+ghost use Rattle.mrc_model.specs.Space.{put_entry};
 ghost use Rattle.mrc_model.specs.Reply.{Refused};
 ghost use Rattle.mrc_model.specs.Target.{is_reserved};
 ghost use Rattle.mrc_model.specs.CallNames.{refs_of, mask_of};
@@ -12,7 +14,8 @@ ghost use Rattle.mrc_model.specs.Space.{in_renamed, is_set, members_follow};
 ghost use Rattle.mrc_names.specs.Listings.{entry_name};
 ghost use Rattle.mrc_names.specs.Refusals.{IsRefusal};
 ghost use Rattle.mrc_names.specs.Takes.{take_right, taken_port, give_right, give_new, add_entry};
-ghost use Rattle.mrc_names.specs.Takes.{rename_entry};
+ghost use Rattle.mrc_names.specs.Takes.{rename_entry, dead_left};
+ghost use Rattle.mrc_model.specs.CallSend.{dead_taken};
 
 use crate::entry;
 use crate::listing::{Listing, NamedType};
@@ -70,7 +73,7 @@ fn least_unused(entries: &[(u64, Entry)]) -> u64
 }
 
 /// Whether the entry has another name.
-fn is_other(name: u32, found: Option<(u64, Entry)>) -> bool
+pub(crate) fn is_other(name: u32, found: Option<(u64, Entry)>) -> bool
     ensures { result ≡ is_other name found }
 {
     match found {
@@ -130,7 +133,7 @@ impl Space {
     }
 
     /// The port's receive or send entry, with its name.
-    fn find_entry(&self, port: PortId) -> Option<(u64, Entry)>
+    pub(crate) fn find_entry(&self, port: PortId) -> Option<(u64, Entry)>
         ensures found { result ≡ entry_of self.now port }
         ensures short { IfSome result (λ held. held.0 < 2 ^ 32) }
     {
@@ -170,20 +173,34 @@ impl Space {
         })
     }
 
-    /// The port of the right that `take` takes, or its refusal.
-    pub fn peek(&self, name: u32, disp: Disp) -> Result<PortId, Code>
-        ensures found { IfOk result (λ port. taken_port self.now name disp ≡ Ok port) }
+    /// The port of the right that `take` takes, and what is left of the entry; or its refusal.
+    pub(crate) fn parting(&self, name: u32, disp: Disp) -> Result<(PortId, Option<Entry>), Code>
+        ensures found { IfOk result (λ t.
+            take_right self.now name disp ≡ Ok (put_entry self.now name t.1, t.0)) }
+        ensures there { OnOk result (IsSome (get self.now name)) }
+        ensures full { IfOk result (λ t.
+            is_full (put_entry self.now name t.1) ≡ (is_some t.1 && is_full self.now)) }
         ensures refused { IfErr result
             (λ code. take_right self.now name disp ≡ Err (Refused code)) }
     {
+        let _ = &self.entries;
         let Some(held) = self.get(name) else {
             return Err(Code::KernInvalidName);
         };
         let Some(taken) = entry::take_from(held, disp) else {
             return Err(Code::KernInvalidRight);
         };
-        let (port, _) = taken;
-        Ok(port)
+        Ok(taken)
+    }
+
+    /// The port of the right that `take` takes, or its refusal.
+    pub fn peek(&self, name: u32, disp: Disp) -> Result<PortId, Code>
+        ensures found { IfOk result (λ port. taken_port self.now name disp ≡ Ok port) }
+        ensures refused { IfErr result
+            (λ code. take_right self.now name disp ≡ Err (Refused code)) }
+    {
+        let taken = self.parting(name, disp)?;
+        Ok(taken.0)
     }
 
     /// Takes a right from a name: its port. Refused are a name without an entry (KERN_INVALID_NAME)
@@ -209,6 +226,27 @@ impl Space {
             None => {
                 self.entries.remove(u64::from(name));
                 Ok(port)
+            }
+        }
+    }
+
+    /// Takes a dead right from a dead name, by a disposition that moves or copies what it stands
+    /// for: a move takes one reference, a copy none. False where the name gives no dead right.
+    pub fn take_dead(&mut self, name: u32, disp: Disp) -> bool
+        ensures { dead_left self.old name (dead_taken (get self.old name) disp)
+            ≡ (result, self.new) }
+    {
+        let Some(rest) = entry::dead_taken(self.get(name), disp) else {
+            return false;
+        };
+        match rest {
+            Some(left) => {
+                self.entries.set(u64::from(name), left);
+                true
+            }
+            None => {
+                self.entries.remove(u64::from(name));
+                true
             }
         }
     }

@@ -1,3 +1,4 @@
 pub mod Faults
 pub mod Parcels
+pub mod Queues
 pub mod Tables

@@ -6,10 +6,10 @@ mod port;
 mod store;
 mod table;
 
-pub use parcel::{Items, Parcel, Queue, QueuedArgument};
+pub use parcel::{Items, Parcel, Queue, QueuedArgument, Ready};
 pub use port::Port;
 pub use store::Store;
-pub use table::{NoSuchPort, PortTable, Shortage};
+pub use table::{NoSuchPort, NotQueued, PortTable, Shortage};
 
 #[cfg(test)]
 mod tests;

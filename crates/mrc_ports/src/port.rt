@@ -1,13 +1,18 @@
 //! Ports.
 
-ghost use Rattle.std.specs.Prelude.{◌≡◌};
+ghost use Rattle.std.specs.Prelude.{◌≡◌, ◌<◌, ◌∷◌, length};
+ghost use Rattle.mrc_ports.specs.Queues.{limit_of_waiting, is_full_for, with_message};
+ghost use Rattle.mrc_ports.specs.Queues.{after_receipt};
 ghost use Rattle.mrc_model.specs.CallAllocate.{new_port};
 
-use crate::parcel::Queue;
+use crate::parcel::{Parcel, Queue, Ready};
 use mrc_base::{ClassId, limits};
 use mrc_model::Backup;
 use std::alloc::Global;
 use std::marker::Model;
+
+/// How many messages can not wait at a port: memory has no room for them.
+const WAITING: usize = 1 << 62;
 
 /// A live port.
 #[derive(Debug, Drop)]
@@ -105,6 +110,53 @@ impl Port {
             backup: self.backup,
             limit: self.limit,
             receipts: 0,
+        }
+    }
+
+    /// Whether the port takes no message now that was sent through such a right: its queue is at or
+    /// above its limit and the right is no send-once right, or 2^62 messages wait.
+    pub fn is_full_for(&self, by_once: bool) -> bool
+        ensures { result ≡ is_full_for self.now by_once }
+    {
+        let waiting = self.queue.len();
+        !by_once && self.limit as usize <= waiting || WAITING <= waiting
+    }
+
+    /// The same port with one message more.
+    pub(crate) fn with_message(self, ready: Ready) -> Port
+        requires { length self.queue < limit_of_waiting }
+        ensures { result ≡ with_message self ready }
+    {
+        let mut queue = self.queue;
+        queue.add(ready);
+        Port {
+            class: self.class,
+            queue,
+            backup: self.backup,
+            limit: self.limit,
+            receipts: self.receipts,
+        }
+    }
+
+    /// The first message, and the port after it was received.
+    pub(crate) fn received(self) -> (Parcel, Port)
+        requires { 0 < length self.queue }
+        ensures first { self.queue ≡ result.0 ∷ result.1.queue }
+        ensures left { result.1 ≡ after_receipt self result.1.queue }
+    {
+        let mut queue = self.queue;
+        match queue.take_first() {
+            Some(parcel) => (
+                parcel,
+                Port {
+                    class: self.class,
+                    queue,
+                    backup: self.backup,
+                    limit: self.limit,
+                    receipts: self.receipts.wrapping_add(1),
+                },
+            ),
+            None => unreachable!(),
         }
     }
 }

@@ -1,15 +1,18 @@
 //! All spaces and all ports.
 
 ghost use Rattle.std.specs.Prelude.{◌≡◌, ◌↔◌, Some, None, IfOk, OnOk, OnErr, IsSome, IsOk, IsErr};
-ghost use Rattle.std.specs.Prelude.{IsErrAnd, IsTrue};
+ghost use Rattle.std.specs.Prelude.{IsErrAnd, IsTrue, Err, true, false};
 ghost use Rattle.std.specs.Option.{option_copied};
 ghost use Rattle.mrc_model.specs.Map.{get, insert};
 ghost use Rattle.mrc_model.specs.World.{set_space, set_port, Port as TPort};
 ghost use Rattle.mrc_model.specs.Space.{restart};
+ghost use Rattle.mrc_ports.specs.declared.table.NotQueued.TheVariants.{Absent, Full};
 ghost use Rattle.mrc_ports.specs.Faults.{IsFault};
+ghost use Rattle.mrc_ports.specs.Queues.{is_full_for, with_message, received_by};
 ghost use Rattle.mrc_ports.specs.Tables.{table_of, store_of, with_birth, is_short, no_store};
 
-use crate::table::{NoSuchPort, PortTable, Shortage};
+use crate::parcel::{Parcel, Ready};
+use crate::table::{NoSuchPort, NotQueued, PortTable, Shortage};
 use mrc_base::{ClassId, OrMemory, PortId, TaskId};
 use mrc_map::Map;
 use mrc_names::Space;
@@ -115,5 +118,35 @@ impl Store {
         ensures { self.new ≡ restart self.old port }
     {
         self.table.restart(port);
+    }
+
+    /// A message with its own room on a queue.
+    pub fn ready(&self, parcel: Parcel) -> Result<Ready, AllocError>
+        ensures { IfOk result (λ ready. ready ≡ parcel) }
+    {
+        self.table.ready(parcel)
+    }
+
+    /// Puts a message at the end of a port's queue. Refused where no live port has this number, or
+    /// it is full for the message. It takes no memory.
+    pub fn enqueue(&mut self, port: PortId, ready: Ready) -> Result<(), NotQueued>
+        ensures queued { (x : TPort) → get self.old.ports port ≡ Some x
+            → is_full_for x ready.by_once ≡ false
+            → IsOk result × (self.new ≡ set_port self.old port (with_message x ready)) }
+        ensures full { (x : TPort) → get self.old.ports port ≡ Some x
+            → is_full_for x ready.by_once ≡ true
+            → (result ≡ Err (Full ready)) × (self.new ≡ self.old) }
+        ensures absent { get self.old.ports port ≡ None
+            → (result ≡ Err (Absent ready)) × (self.new ≡ self.old) }
+    {
+        self.table.enqueue(port, ready)
+    }
+
+    /// Takes the first message off a port's queue, which counts as a receipt. None where no live
+    /// port has this number, or no message waits.
+    pub fn dequeue(&mut self, port: PortId) -> Option<Parcel>
+        ensures { received_by self.old port ≡ (result, self.new) }
+    {
+        self.table.dequeue(port)
     }
 }

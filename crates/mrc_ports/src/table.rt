@@ -1,17 +1,20 @@
 //! All live ports.
 
 ghost use Rattle.std.specs.Prelude.{◌≡◌, ◌↔◌, Some, IfOk, OnOk, OnErr, None, IsSome, IsOk, IsErr};
-ghost use Rattle.std.specs.Prelude.{IsErrAnd, IsTrue};
+ghost use Rattle.std.specs.Prelude.{IsErrAnd, IsTrue, Err, true, false};
 ghost use Rattle.std.specs.Option.{option_copied};
 ghost use Rattle.mrc_model.specs.Map.{empty, get, len};
 ghost use Rattle.mrc_ports.specs.Tables.{with_birth, is_short, with_port, restarted};
 ghost use Rattle.mrc_model.specs.World.{Port as TPort};
+ghost use Rattle.mrc_ports.specs.declared.table.NotQueued.TheVariants.{Absent, Full};
 ghost use Rattle.mrc_ports.specs.Faults.{IsFault};
+ghost use Rattle.mrc_ports.specs.Queues.{is_full_for, with_message, received_from};
 
+use crate::parcel::{Parcel, Ready};
 use crate::port::Port;
 use mrc_base::{ClassId, OrMemory, PortId, limits};
 use mrc_map::Map;
-use std::alloc::Global;
+use std::alloc::{AllocError, Global};
 use std::marker::Model;
 use thiserror::Error;
 
@@ -24,6 +27,16 @@ pub struct Shortage;
 #[derive(Clone, Copy, Debug, PartialEq, Eq, Error)]
 #[error("NoSuchPort")]
 pub struct NoSuchPort;
+
+/// Why a message was not queued; it comes back.
+#[derive(Debug, Drop)]
+pub enum NotQueued {
+    /// No live port has this number.
+    Absent(Ready),
+    /// The port's queue is at or above its limit, and the message was not sent through a send-once
+    /// right; or 2^62 messages wait.
+    Full(Ready),
+}
 
 /// All live ports, by the numbers of their births. It keeps the allocator that it is made with.
 #[derive(Debug, Drop)]
@@ -135,5 +148,50 @@ impl PortTable {
         }
         let found = self.taken(port);
         self.ports.set(port.0, found.restarted());
+    }
+
+    /// A message with its own room on a queue.
+    pub fn ready(&self, parcel: Parcel) -> Result<Ready, AllocError>
+        ensures { IfOk result (λ ready. ready ≡ parcel) }
+    {
+        Ready::new(self.alloc, parcel)
+    }
+
+    /// Puts a message at the end of a port's queue. Refused where no live port has this number, or
+    /// it is full for the message. It takes no memory.
+    pub fn enqueue(&mut self, port: PortId, ready: Ready) -> Result<(), NotQueued>
+        ensures queued { (x : TPort) → get self.old.ports port ≡ Some x
+            → is_full_for x ready.by_once ≡ false
+            → IsOk result × (self.new ≡ with_port self.old port (with_message x ready)) }
+        ensures full { (x : TPort) → get self.old.ports port ≡ Some x
+            → is_full_for x ready.by_once ≡ true
+            → (result ≡ Err (Full ready)) × (self.new ≡ self.old) }
+        ensures absent { get self.old.ports port ≡ None
+            → (result ≡ Err (Absent ready)) × (self.new ≡ self.old) }
+    {
+        let full = match self.ports.get(port.0) {
+            None => return Err(NotQueued::Absent(ready)),
+            Some(found) => found.is_full_for(ready.by_once()),
+        };
+        if full {
+            return Err(NotQueued::Full(ready));
+        }
+        let found = self.taken(port);
+        self.ports.set(port.0, found.with_message(ready));
+        Ok(())
+    }
+
+    /// Takes the first message off a port's queue, which counts as a receipt. None where no live
+    /// port has this number, or no message waits.
+    pub fn dequeue(&mut self, port: PortId) -> Option<Parcel>
+        ensures { received_from self.old port (get self.old.ports port) ≡ (result, self.new) }
+    {
+        if self.ports.get(port.0)?.queue().len() == 0 {
+            return None;
+        }
+        let found = self.taken(port);
+        let (parcel, left) = found.received();
+        self.ports.set(port.0, left);
+        Some(parcel)
     }
 }

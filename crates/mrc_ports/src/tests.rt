@@ -1,6 +1,6 @@
 use super::*;
 use mrc_base::{ClassId, Disp, OrMemory, PortId, PortRight, TaskId};
-use mrc_model::{Backup, Entry};
+use mrc_model::{Backup, Entry, Item};
 use mrc_names::Space;
 use std::alloc::{AllocError, Global};
 use std::test::Fail;
@@ -179,5 +179,53 @@ fn ports_of_a_store_are_those_of_its_table(rt: HostRuntime) -> Result<(), Fail> 
     store.restart(PortId(0));
     assert_eq!(rt; limit_of(store.ports(), 0), Some(3));
     assert!(rt; store.set_limit(PortId(1), 3) == Err(NoSuchPort));
+    Ok(())
+}
+
+/// A message with an id alone.
+fn message(alloc: Global, id: u32, by_once: bool) -> Parcel {
+    Parcel::new(by_once, id, Item::Null, Vec::new(alloc))
+}
+
+/// A table with one port of limit 5, on which so many messages wait, with the ids 0, 1 and so on.
+fn after_messages(alloc: Global, count: u32) -> Result<PortTable, OrMemory<Shortage>> {
+    let mut table = after_births(alloc, 1)?;
+    for id in 0..count {
+        let ready = table.ready(message(alloc, id, false))?;
+        let _ = table.enqueue(PortId(0), ready);
+    }
+    Ok(table)
+}
+
+fn waiting(table: &PortTable) -> Option<usize> {
+    Some(table.get(PortId(0))?.queue().len())
+}
+
+#[test]
+fn messages_wait(rt: HostRuntime) -> Result<(), Fail> {
+    let mut table = after_messages(rt.alloc(), 6)?;
+    assert_eq!(rt; waiting(&table), Some(5));
+    let once = table.ready(message(rt.alloc(), 9, true))?;
+    assert!(rt; once.by_once());
+    assert!(rt; table.enqueue(PortId(0), once).is_ok());
+    assert_eq!(rt; waiting(&table), Some(6));
+    let stray = table.ready(message(rt.alloc(), 9, true))?;
+    assert!(rt; matches!(table.enqueue(PortId(1), stray), Err(NotQueued::Absent(_))));
+    Ok(())
+}
+
+fn received_id(table: &mut PortTable) -> Option<u32> {
+    Some(table.dequeue(PortId(0))?.id())
+}
+
+#[test]
+fn messages_are_received_in_order(rt: HostRuntime) -> Result<(), Fail> {
+    let mut table = after_messages(rt.alloc(), 3)?;
+    assert_eq!(rt; received_id(&mut table), Some(0));
+    assert_eq!(rt; received_id(&mut table), Some(1));
+    assert_eq!(rt; received_id(&mut table), Some(2));
+    assert_eq!(rt; received_id(&mut table), None);
+    assert!(rt; table.dequeue(PortId(7)).is_none());
+    assert!(rt; table.get(PortId(0)).map(|port| port.receipts()) == Some(3));
     Ok(())
 }

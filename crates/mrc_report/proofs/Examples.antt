@@ -9,7 +9,7 @@ use Rattle.mrc_model.specs.declared.Denied.TheVariants.{NoSuchId, NotAdmitted}
 use Rattle.mrc_model.specs.Reply.{Done, Names, Bytes, TooLarge, Refused, DeniedBy}
 use Rattle.mrc_wiring_text.specs.declared.faults.TextFault.TheVariants.{BadLine}
 use Rattle.mrc_wiring_text.specs.declared.reading.Line.{Line}
-use Rattle.mrc_wiring_text.specs.Lexis.{is_blank, words}
+use Rattle.mrc_wiring_text.specs.Lexis.{is_blank, words, between_blanks}
 use Rattle.mrc_wiring_text.specs.Reading.{line_of, body}
 use Rattle.mrc_wiring.specs.Table.{Table}
 use Rattle.mrc_machine.specs.declared.call.Call.{Call}
@@ -35,18 +35,18 @@ at n task call = record { number = n; says = record { task = task; call = call }
 two_calls : script_of tasks (text (
     codes "l insert_right 2 009 1 19" ∷ [] ∷ codes "f names 1 #" ∷ []))
     ≡ Ok (at 1 0 (call.InsertRight 2 9 1 CopySend) ∷ at 3 1 (call.Names 1) ∷ [])
-unfolding body line_of words is_blank script_says call_named insert_right names number_of_word
+unfolding body line_of words between_blanks is_blank script_says call_named insert_right names number_of_word
 two_calls = refl
 
 -- a text without words
 nothing : script_of tasks (codes "  # nothing") ≡ Ok []
-unfolding body line_of words is_blank
+unfolding body line_of words between_blanks is_blank
 nothing = refl
 
 -- the first wrong line is told
 another_task : script_of tasks (text (codes "f names 1" ∷ codes "g names 1" ∷ codes "f" ∷ []))
     ≡ Err (BadLine 2)
-unfolding body line_of words is_blank script_says call_named names number_of_word
+unfolding body line_of words between_blanks is_blank script_says call_named names number_of_word
 another_task = refl
 
 -- a number of more than 32 bits, and the last that has no more
@@ -59,7 +59,15 @@ unfolding number_of_word
 largest = refl
 
 abbrev table : Table
-table = record { names = tasks; lines = [] }
+table = record {
+  names = tasks;
+  births = [];
+  ports = [];
+  accepts = [];
+  lines = [];
+  admits = [];
+  interfaces = [];
+}
 
 -- the line of an event
 listed : event_line table 1 1 (Names ((1, 65536) ∷ (9, 65536) ∷ []))

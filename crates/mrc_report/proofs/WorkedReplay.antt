@@ -1,7 +1,7 @@
 -- A whole replay, from the texts to what is printed, by computation: a loader puts its own kernel
 -- port into the space of the task that it loads.
 use Rattle.std.proofs.Common.{◌≡◌, ℕ, List, [], ◌∷◌, ◌++◌, Ok, refl}
-use Rattle.std.specs.Prelude.{codes}
+use Rattle.std.specs.Prelude.{codes, None}
 use Rattle.std.specs.Fmt.{digits}
 use Rattle.mrc_base.specs.declared.PortRight.TheVariants.{Send}
 use Rattle.mrc_base.specs.declared.Disp.TheVariants.{CopySend}
@@ -29,7 +29,12 @@ use Rattle.mrc_report.specs.Replay.{IsReplay}
 abbrev loader : Table
 loader = record {
   names = codes "l" ∷ codes "f" ∷ [];
+  births = None ∷ None ∷ [];
+  ports = [];
+  accepts = [];
   lines = Task ∷ Task ∷ Hold 0 1 Send ∷ [];
+  admits = [];
+  interfaces = [];
 }
 
 -- `l insert_right 2 9 1 19`, `f names 1`

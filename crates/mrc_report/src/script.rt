@@ -14,7 +14,7 @@ use mrc_base::limits::LINES;
 use mrc_base::{OrMemory, TaskId};
 use mrc_machine::Call;
 use mrc_wiring::Wired;
-use mrc_wiring_text::{Line, first_line, words};
+use mrc_wiring_text::{Line, between_blanks, first_line, spaced};
 use std::alloc::Global;
 use std::marker::Model;
 use thiserror::Error;
@@ -62,7 +62,7 @@ impl Script {
 }
 
 /// What a line says, if it has words.
-#[tactic(auto, unfolding(mrc_wiring_text::specs::Reading::line_of))]
+#[tactic(auto, unfolding(mrc_wiring_text::specs::Reading::line_of, mrc_wiring_text::specs::Lexis::words))]
 fn line_of(
     alloc: Global,
     wired: &Wired,
@@ -76,7 +76,8 @@ fn line_of(
     if number > LINES {
         return Err(OrMemory::Fault(ScriptFault::BadLine(LINES + 1)));
     }
-    let said = words(alloc, line)?;
+    let text = spaced(alloc, line)?;
+    let said = between_blanks(alloc, &text)?;
     if said.is_empty() {
         return Ok(None);
     }

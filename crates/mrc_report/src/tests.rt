@@ -15,7 +15,7 @@ use std::test::Fail;
 fn two_tasks(alloc: Global) -> Result<Wired, Fail> {
     let text = b"wiring 1\ntask l\ntask f\nhold l send task f\n";
     let lines = read_wiring(alloc, text).map_err(|_| "no lines")?;
-    Ok(Wired::resolve(alloc, lines.as_slice()).map_err(|_| "no table")?)
+    Ok(Wired::resolve(alloc, lines.as_slice(), Vec::new(alloc)).map_err(|_| "no table")?)
 }
 
 /// A script of these tasks, or the number of its first wrong line.

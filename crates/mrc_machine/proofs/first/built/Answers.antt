@@ -1,8 +1,8 @@
-use Rattle.std.proofs.Common.{Err, ◌∙◌}
+use Rattle.std.proofs.Common.{◌∙◌}
 use Rattle.std.proofs.lemmas.Result.{err_from_is_err_and}
 use Rattle.mrc_wiring.specs.Table.{wiring_of}
 use Rattle.mrc_machine.proofs.StartLaws.{next_lines}
-use Rattle.mrc_machine.proofs.Trying.{is_refused, ok_bind}
+use Rattle.mrc_machine.proofs.Trying.{is_fault, ok_bind}
 use Rattle.mrc_machine.proofs.first.built.Goals as goal
 
 pub returns-in_err-start-clause-refused : goal.returns-in_err-start-clause-refused
@@ -11,8 +11,7 @@ returns-in_err-start-clause-refused c =
     let lines = c.loop-line.invariant
     ∙ next_lines (wiring_of c.args.wired.now) c.loop-line.start _ c.loop-line.line-index
     c.line-item.result c.loop-line-test.true c.line-item.is in
-    rw (p.1, p.2) (is_refused {A = Unit {0}} (Err c.in_err-start.field-0.0) _ _ _ lines
-    c.in_err-start.ensures.refused)
+    rw (p.1, p.2) (is_fault c.in_err-start.field-0.0 _ _ _ lines c.in_err-start.ensures.refused)
 
 pub loop-line-preserved : goal.loop-line-preserved
 loop-line-preserved c =

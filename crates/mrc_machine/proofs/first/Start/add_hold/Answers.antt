@@ -1,9 +1,9 @@
-use Rattle.std.proofs.Common.{Err, sym, ap, ◌∙◌, arith}
+use Rattle.std.proofs.Common.{sym, ap, ◌∙◌, arith}
 use Rattle.std.proofs.lemmas.Result.{err_from_is_err_and}
 use Rattle.mrc_model.specs.declared.FirstLine.TheVariants.{Hold as HoldLine}
 use Rattle.mrc_model.specs.First.{First, add_line}
 use Rattle.mrc_wiring.specs.Table.{wiring_of}
-use Rattle.mrc_machine.proofs.Trying.{is_refused, ok_bind}
+use Rattle.mrc_machine.proofs.Trying.{is_fault, faulty, ok_bind}
 use Rattle.mrc_machine.proofs.StartLaws.{hold_receive, hold_no_task, hold_no_port, hold_given}
 use Rattle.mrc_machine.proofs.StartLaws.{start_hold, on_world}
 use Rattle.mrc_machine.proofs.first.Start.add_hold.Goals as goal
@@ -72,8 +72,8 @@ returns-in_err-give c =
     (sym c.is_live.ensures ∙ c.if-not-is_live.false) in
     rw (p.1, p.2) record {
       ok = tt;
-      refused = is_refused {A = Unit {0}} (Err c.in_err-give.field-0.0) _ _ (on_world was) line
-          c.in_err-give.ensures.refused;
+      refused = is_fault c.in_err-give.field-0.0 _ _ (on_world was) line
+          (faulty c.in_err-give.field-0.0 _ c.in_err-give.ensures.refused);
     }
 
 pub invariant_of-result : goal.invariant_of-result

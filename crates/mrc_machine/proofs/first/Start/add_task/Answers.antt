@@ -24,7 +24,7 @@ invariant_of-result c =
       ports = c.self.inside.ports;
     } in
     start_task (wiring_of c.args.wired.now) was _ _ _ c.self.invariant
-    (omega (arith, c.tasks.ensures.exact, c.if-tasks-self.false, c.tasks.ensures.kept.few))
+    (omega (arith, c.tasks.ensures.exact, c.if-tasks-self.false, c.tasks.ensures.within))
     c.from.ensures c.in_ok-state.ensures
 
 pub returns-clause-ok : goal.returns-clause-ok

@@ -1,4 +1,4 @@
-use Rattle.std.proofs.Common.{◌≡◌, sym, ap, ◌∙◌}
+use Rattle.std.proofs.Common.{refl, ◌≡◌, sym, ap, ◌∙◌}
 use Rattle.mrc_model.specs.World.{World}
 use Rattle.mrc_model.specs.Reply.{Name, ◌>>=◌}
 use Rattle.mrc_model.specs.Target.{with_space}
@@ -35,7 +35,7 @@ returns-clause-refused c =
     entry_as_added w c.args.task c.args.kind c.args.entry c.if-kind-ne0.false
     ∙ ap (λ z. add_entry z c.args.entry >>= on_entry w c.args.task)
     (sym c.take_space-space.ensures.out) in
-    is_refused c.add-added.result _ _ _ call c.add-added.ensures.refused
+    is_refused c.add-added.result _ _ _ (λ y. refl) call c.add-added.ensures.refused
 
 pub returns-clause-err : goal.returns-clause-err
 returns-clause-err c =

@@ -1,8 +1,9 @@
-use Rattle.std.proofs.Common.{◌≡◌, ℕ, Option, sym, ap, ◌∙◌}
+use Rattle.std.proofs.Common.{refl, ◌≡◌, ℕ, Option, sym, ap, ◌∙◌}
 use Rattle.mrc_model.specs.Wiring.{births_class}
 use Rattle.mrc_model.specs.World.{World, task_class}
 use Rattle.mrc_model.specs.Space.{is_full}
 use Rattle.mrc_wiring.specs.Table.{Table, wiring_of}
+use Rattle.mrc_names.proofs.Granting.{granted, wanting}
 use Rattle.mrc_machine.proofs.AllocateLaws.{port_no_class, port_full, port_short, port_born}
 use Rattle.mrc_machine.proofs.state.State.allocate_port.Goals as goal
 
@@ -43,3 +44,12 @@ returns-clause-ok c =
     c.births_class.ensures c.in-Some.is)
     (ap is_full (sym c.space.ensures) ∙ sym c.is_full.ensures ∙ c.if-is_full.false)
     (sym c.is_short.ensures ∙ c.if-is_short.false) c.in_ok-name.ensures.ok c.in_ok-name.ensures.name
+
+pub returns-in_err-name-clause-refused : goal.returns-in_err-name-clause-refused
+returns-in_err-name-clause-refused c =
+    wanting c.from_residual.result _ c.from_residual.ensures.1
+    (granted _ _ (port_born c.args.self.now c.args.task _ c.in-Some.class _ _
+    (class_is c.args.wired.now c.args.self.now c.args.task c.args.kind _ _ _ c.task_class.ensures
+    c.births_class.ensures c.in-Some.is)
+    (ap is_full (sym c.space.ensures) ∙ sym c.is_full.ensures ∙ c.if-is_full.false)
+    (sym c.is_short.ensures ∙ c.if-is_short.false) refl refl))

@@ -3,6 +3,8 @@ use Rattle.std.proofs.lemmas.Result.{err_from_is_err_and}
 use Rattle.mrc_model.specs.Reply.{Refused}
 use Rattle.mrc_machine.proofs.MoveLaws.{insert_no_task, insert_bad_name, insert_gives_none}
 use Rattle.mrc_machine.proofs.MoveLaws.{insert_not_taken, insert_not_given, insert_given}
+use Rattle.mrc_machine.proofs.MoveLaws.{insert_foretold, insert_allowed}
+use Rattle.mrc_names.proofs.Granting.{wanting}
 use Rattle.mrc_machine.proofs.state.State.insert_right.Goals as goal
 
 pub returns-in_default-clause-refused : goal.returns-in_default-clause-refused
@@ -25,11 +27,26 @@ returns-then-gives_none-clause-refused c =
 
 pub returns-in-Err-clause-refused : goal.returns-in-Err-clause-refused
 returns-in-Err-clause-refused c =
-    insert_not_taken c.args.self.now c.args.caller c.args.task c.args.name c.args.right c.args.disp
+    insert_foretold c.args.self.now c.args.caller c.args.task c.args.name c.args.right c.args.disp
     c.in-Some.target (sym c.target.ensures.exact ∙ c.in-Some.is) (sym c.is_reserved.ensures
     ∙ c.if-is_reserved.false)
-    (sym c.gives_none.ensures ∙ c.if-gives_none.false) _ c.space.ensures (Refused c.in-Err.code)
-    c.in-Err.ensures.refused
+    (sym c.gives_none.ensures ∙ c.if-gives_none.false) (Refused c.in-Err.code) c.in-Err.ensures
+
+pub returns-in_err-giver-clause-refused : goal.returns-in_err-giver-clause-refused
+returns-in_err-giver-clause-refused c =
+    wanting c.from_residual.result _ c.from_residual.ensures.1
+    (insert_allowed c.args.self.now c.args.caller c.args.task c.args.name c.args.right c.args.disp
+    c.in-Some.target (sym c.target.ensures.exact ∙ c.in-Some.is) (sym c.is_reserved.ensures
+    ∙ c.if-is_reserved.false)
+    (sym c.gives_none.ensures ∙ c.if-gives_none.false) c.in_default-foretell_second.ensures)
+
+pub returns-in_err-taker-clause-refused : goal.returns-in_err-taker-clause-refused
+returns-in_err-taker-clause-refused c =
+    wanting c.from_residual-in_err-taker.result _ c.from_residual-in_err-taker.ensures.1
+    (insert_allowed c.args.self.now c.args.caller c.args.task c.args.name c.args.right c.args.disp
+    c.in-Some.target (sym c.target.ensures.exact ∙ c.in-Some.is) (sym c.is_reserved.ensures
+    ∙ c.if-is_reserved.false)
+    (sym c.gives_none.ensures ∙ c.if-gives_none.false) c.in_default-foretell_second.ensures)
 
 pub returns-in-Err-take-clause-refused : goal.returns-in-Err-take-clause-refused
 returns-in-Err-take-clause-refused c =

@@ -1,4 +1,4 @@
-use Rattle.std.proofs.Common.{sym, ap, ◌∙◌}
+use Rattle.std.proofs.Common.{refl, sym, ap, ◌∙◌}
 use Rattle.mrc_model.specs.World.{World, Space}
 use Rattle.mrc_model.specs.Reply.{Done, ◌>>=◌}
 use Rattle.mrc_model.specs.Target.{with_space}
@@ -34,7 +34,7 @@ returns-clause-refused c =
     (sym c.target.ensures.exact ∙ c.in-Some.is)
     ∙ ap (λ (x : Space). rename_entry x c.args.old c.args.new >>= on_renamed w u)
     (sym c.take_space-space.ensures.out) in
-    is_refused c.rename-renamed.result _ _ _ call c.rename-renamed.ensures.refused
+    is_refused c.rename-renamed.result _ _ _ (λ y. refl) call c.rename-renamed.ensures.refused
 
 pub returns-clause-err : goal.returns-clause-err
 returns-clause-err c =

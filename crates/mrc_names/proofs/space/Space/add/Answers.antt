@@ -1,5 +1,6 @@
-use Rattle.std.proofs.Common.{sym, ◌∙◌}
+use Rattle.std.proofs.Common.{refl, sym, ◌∙◌}
 use Rattle.mrc_names.proofs.GivingLaws.{add_refused, added}
+use Rattle.mrc_names.proofs.Granting.{granted, wanting}
 use Rattle.mrc_names.proofs.space.Space.add.Goals as goal
 
 pub returns-then-is_full-clause-refused : goal.returns-then-is_full-clause-refused
@@ -10,3 +11,9 @@ pub returns-clause-ok : goal.returns-clause-ok
 returns-clause-ok c =
     added c.args.self.now c.put.new.self c.unused-name.result c.args.entry
     (sym c.is_full.ensures ∙ c.if-is_full.false) c.unused-name.ensures c.in_ok-put.ensures.ok
+
+pub returns-in_err-put-clause-refused : goal.returns-in_err-put-clause-refused
+returns-in_err-put-clause-refused c =
+    wanting c.from_residual.result _ c.from_residual.ensures.1
+    (granted _ _ (added c.args.self.now _ _ c.args.entry
+    (sym c.is_full.ensures ∙ c.if-is_full.false) refl refl))

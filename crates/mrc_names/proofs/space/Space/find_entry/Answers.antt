@@ -1,5 +1,4 @@
-use Rattle.std.proofs.Common.{◌<◌, ◌^◌, sym, ap, ◌∙◌, subst}
-use Rattle.std.specs.Prelude.{IfSome}
+use Rattle.std.proofs.Common.{ap, ◌∙◌}
 use Rattle.mrc_model.specs.Space.{entry_of, first_entry}
 use Rattle.mrc_names.proofs.BoundLaws.{found_bound}
 use Rattle.mrc_names.proofs.space.Space.find_entry.Goals as goal

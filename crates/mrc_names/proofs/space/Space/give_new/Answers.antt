@@ -1,5 +1,6 @@
 use Rattle.std.proofs.Common.{sym, ◌∙◌}
-use Rattle.mrc_names.proofs.GivingLaws.{new_refused, given_as_new}
+use Rattle.mrc_names.proofs.GivingLaws.{new_refused, new_given, given_as_new}
+use Rattle.mrc_names.proofs.Granting.{granted, wanting}
 use Rattle.mrc_names.proofs.space.Space.give_new.Goals as goal
 
 pub returns-then-is_full-clause-refused : goal.returns-then-is_full-clause-refused
@@ -11,3 +12,9 @@ returns-clause-ok c =
     given_as_new c.args.self.now c.put.new.self c.args.port c.args.right c.unused-name.result
     c.new_entry.result (sym c.is_full.ensures ∙ c.if-is_full.false) c.unused-name.ensures
     c.new_entry.ensures c.in_ok-put.ensures.ok
+
+pub returns-in_err-put-clause-refused : goal.returns-in_err-put-clause-refused
+returns-in_err-put-clause-refused c =
+    wanting c.from_residual.result _ c.from_residual.ensures.1
+    (granted _ _ (new_given c.args.self.now c.args.port c.args.right
+    (sym c.is_full.ensures ∙ c.if-is_full.false)))

@@ -1,19 +1,7 @@
-use Rattle.std.proofs.Common.{refl, sym, ◌∙◌}
-use Rattle.mrc_names.proofs.SpaceExits.{take_no_name, take_no_right, taken_none, port_taken}
+use Rattle.std.proofs.Common.{}
+use Rattle.mrc_names.proofs.SpaceExits.{port_parted}
 use Rattle.mrc_names.proofs.space.Space.peek.Goals as goal
-
-pub returns-in_default-clause-refused : goal.returns-in_default-clause-refused
-returns-in_default-clause-refused c =
-    take_no_name c.args.self.now c.args.name c.args.disp (sym c.get.ensures ∙ c.in_default.is)
-
-pub returns-in_default-take_from-clause-refused : goal.returns-in_default-take_from-clause-refused
-returns-in_default-take_from-clause-refused c =
-    let none = taken_none _ _ c.take_from.ensures c.in_default-take_from.is in
-    take_no_right c.args.self.now c.args.name c.args.disp c.in-Some.held
-    (sym c.get.ensures ∙ c.in-Some.is) none
 
 pub returns-clause-found : goal.returns-clause-found
 returns-clause-found c =
-    port_taken c.args.self.now _ _ _ c.args.disp c.in-Some.held c.take_from.result
-    c.in-Some-take_from.taken.1
-    (sym c.get.ensures ∙ c.in-Some.is) c.take_from.ensures c.in-Some-take_from.is refl
+    port_parted c.args.self.now c.args.name c.args.disp _ _ c.in_ok-taken.ensures.found

@@ -1,7 +1,8 @@
-use Rattle.std.proofs.Common.{sym, ap, ◌∙◌}
+use Rattle.std.proofs.Common.{refl, sym, ap, ◌∙◌}
 use Rattle.std.specs.Option.{is_some}
 use Rattle.mrc_names.proofs.RenamingLaws.{no_new_name, no_old_name, new_name_used, renamed}
 use Rattle.mrc_names.proofs.RenamingLaws.{renamed_bound}
+use Rattle.mrc_names.proofs.Granting.{granted, wanting}
 use Rattle.mrc_names.proofs.space.Space.rename.Goals as goal
 
 pub returns-then-is_reserved-clause-refused : goal.returns-then-is_reserved-clause-refused
@@ -37,3 +38,11 @@ returns-clause-ok c =
     (sym c.is_reserved.ensures ∙ c.if-is_reserved.false) (sym c.get.ensures ∙ c.in-Some.is)
     unused c.self.view_is c.from.ensures c.from-2.ensures c.in_ok-insert.ensures.ok
     c.remove.ensures c.move_members.ensures
+
+pub returns-in_err-insert-clause-refused : goal.returns-in_err-insert-clause-refused
+returns-in_err-insert-clause-refused c =
+    let unused = ap is_some (sym c.get-2.ensures) ∙ sym c.is_some.ensures ∙ c.if-is_some.false in
+    wanting c.from_residual.result _ c.from_residual.ensures.1
+    (granted _ _ (renamed c.args.self.now _ _ _ _ c.args.old c.args.new _ _ c.in-Some.held
+    (sym c.is_reserved.ensures ∙ c.if-is_reserved.false) (sym c.get.ensures ∙ c.in-Some.is)
+    unused refl refl refl refl refl refl))

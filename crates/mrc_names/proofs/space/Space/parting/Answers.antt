@@ -1,0 +1,28 @@
+use Rattle.std.proofs.Common.{refl, sym, ◌∙◌, subst}
+use Rattle.std.specs.Prelude.{IsSome}
+use Rattle.mrc_names.specs.Bounds.{IsBounded}
+use Rattle.mrc_names.proofs.SpaceExits.{take_no_name, take_no_right, taken_none, parted}
+use Rattle.mrc_names.proofs.ForetellingLaws.{full_left}
+use Rattle.mrc_names.proofs.space.Space.parting.Goals as goal
+
+pub returns-in_default-clause-refused : goal.returns-in_default-clause-refused
+returns-in_default-clause-refused c =
+    take_no_name c.args.self.now c.args.name c.args.disp (sym c.get.ensures ∙ c.in_default.is)
+
+pub returns-in_default-take_from-clause-refused : goal.returns-in_default-take_from-clause-refused
+returns-in_default-take_from-clause-refused c =
+    let none = taken_none _ _ c.take_from.ensures c.in_default-take_from.is in
+    take_no_right c.args.self.now c.args.name c.args.disp c.in-Some.held
+    (sym c.get.ensures ∙ c.in-Some.is) none
+
+pub returns-clause-found : goal.returns-clause-found
+returns-clause-found c =
+    parted c.args.self.now c.args.name _ c.args.disp c.in-Some.held c.take_from.result
+    c.in-Some-take_from.taken.1 (sym c.get.ensures ∙ c.in-Some.is) c.take_from.ensures
+    c.in-Some-take_from.is
+
+pub returns-clause-full : goal.returns-clause-full
+returns-clause-full c =
+    full_left c.args.self.now c.args.name
+    (subst IsSome (sym (sym c.get.ensures ∙ c.in-Some.is)) refl)
+    c.in-Some-take_from.taken.1 (subst IsBounded c.self.view_is c.self.invariant)
