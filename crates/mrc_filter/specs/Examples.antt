@@ -1,0 +1,100 @@
+-- A class that accepts requests and replies of one interface, worked out.
+use Rattle.std.specs.Prelude.{◌≡◌, ℕ, false, List, [], ◌∷◌, Some, None, Ok, Err, refl}
+use Rattle.mrc_model.specs.declared.Denied.TheVariants.{NoSuchId, WrongShape, WrongDisposition}
+use Rattle.mrc_model.specs.declared.Denied.TheVariants.{NotAdmitted}
+use Rattle.mrc_model.specs.declared.LabelItem.TheVariants as label
+use Rattle.mrc_model.specs.declared.RequestKind.TheVariants.{Simple}
+use Rattle.mrc_model.specs.Filter.{judge}
+use Rattle.mrc_model.specs.Message.{Message, Arg, Data, Ports}
+use Rattle.mrc_model.specs.Wiring.{Wiring, Shape, RequestForm, ReplyForm}
+use Rattle.mrc_model.specs.Wiring.{OfRequest, OfReply, forms, admits}
+use Rattle.mrc_filter.specs.declared.form.Form.{Form}
+use Rattle.mrc_filter.specs.Places.{form_at, shapes_at, IsJudged, admitted}
+
+-- a simpleroutine that hands over a receive right
+abbrev hand : RequestForm
+hand = record {
+  id = 2000;
+  kind = Simple;
+  shapes = record { name = 16; size = 32; number = 1; is_bound = false; sort = 0 } ∷ [];
+}
+
+-- a reply of a return code and an integer
+abbrev number : ReplyForm
+number =
+    let one : Shape = record { name = 2; size = 32; number = 1; is_bound = false; sort = 1 } in
+    record { id = 1100; shapes = one ∷ one ∷ [] }
+
+-- One wired port, of class 0, accepts both; class 1 is the kernel port of its receiver. The slot
+-- admits class 0 alone.
+abbrev filing : Wiring
+filing = record {
+  lines = [];
+  tasks = 1;
+  ports = 1;
+  births = [];
+  interfaces = record { requests = hand ∷ []; replies = number ∷ [] } ∷ [];
+  labels = (label.Reply 0 ∷ label.Request 0 ∷ []) ∷ [] ∷ [];
+  admitted = (0, Some 0) ∷ [];
+}
+
+abbrev message : ℕ → List Arg → Message
+message id args = record {
+  remote_disp = 19;
+  local_disp = 0;
+  remote = 3;
+  local = 0;
+  seqno = 0;
+  id = id;
+  args = args;
+}
+
+-- the second item has the request, the first has none of the id
+abbrev place : ℕ → Form
+place item = record { class = 0; item = item; id = 2000 }
+
+second : form_at filing (place 1) ≡ Some (OfRequest hand)
+second = refl
+
+first : form_at filing (place 0) ≡ None
+first = refl
+
+behind : form_at filing (place 2) ≡ None
+behind = refl
+
+-- a message that meets the request, and the answer that tells it by its place
+met : IsJudged filing (Ok (place 1)) (judge filing 0 (message 2000 (Ports 16 (4 ∷ []) ∷ [])))
+unfolding judge forms
+met = (OfRequest hand, refl, refl)
+
+-- another disposition, another id, a class that accepts nothing
+other : judge filing 0 (message 2000 (Ports 19 (4 ∷ []) ∷ [])) ≡ Err (WrongDisposition 0)
+unfolding judge forms
+other = refl
+
+unknown : judge filing 0 (message 2001 []) ≡ Err NoSuchId
+unfolding judge forms
+unknown = refl
+
+kernel : judge filing 1 (message 2000 (Ports 16 (4 ∷ []) ∷ [])) ≡ Err NoSuchId
+unfolding judge forms
+kernel = refl
+
+-- a code that is not 0 stands alone, success does not
+failed : judge filing 0 (message 1100 (Data 2 32 1 (209 ∷ 254 ∷ 255 ∷ 255 ∷ []) ∷ []))
+    ≡ Ok (OfReply number)
+unfolding judge forms
+failed = refl
+
+done : judge filing 0 (message 1100 (Data 2 32 1 (0 ∷ 0 ∷ 0 ∷ 0 ∷ []) ∷ [])) ≡ Err (WrongShape 1)
+unfolding judge forms
+done = refl
+
+-- the slot admits ports of its own class
+own : admitted filing (shapes_at filing (place 1)) 0 0 ≡ Ok tt
+unfolding admits
+own = refl
+
+kernel_port : admitted filing (shapes_at filing (place 1)) 0 1 ≡ Err (NotAdmitted 0)
+unfolding admits
+kernel_port = refl

@@ -1,0 +1,4 @@
+pub mod Places
+pub mod Meeting
+pub mod Laws
+pub mod Examples

@@ -1,0 +1,34 @@
+//! Judging messages.
+
+ghost use Rattle.mrc_model.specs.Filter.{judge};
+ghost use Rattle.mrc_wiring.specs.Table.{wiring_of};
+ghost use Rattle.mrc_filter.specs.Places.{IsJudged};
+
+use crate::form::Form;
+use crate::meeting::meet;
+use mrc_base::ClassId;
+use mrc_desc::Message;
+use mrc_model::Denied;
+use mrc_wiring::Wired;
+
+/// The form that the message meets, of those that the class accepts; or why there is none: no form
+/// of the class has the message's id (`NoSuchId`), an argument is the first that differs from the
+/// form that has it (`WrongShape`, `WrongDisposition`), or all arguments fit and the disposition of
+/// the reply port does not (`ReplySlot`). Which ports the form's slots admit is not asked here.
+pub fn judge(wired: &Wired, class: ClassId, message: &Message) -> Result<Form, Denied>
+    ensures exact { IsJudged (wiring_of wired.now) result
+        (judge (wiring_of wired.now) class message.now) }
+{
+    let id = message.header().id;
+    for (place, item) in wired.label(class).iter().enumerate() {
+        if let Some(form) = wired.item_form(*item, id) {
+            meet(form, message)?;
+            return Ok(Form {
+                class,
+                item: place,
+                id,
+            });
+        }
+    }
+    Err(Denied::NoSuchId)
+}

@@ -1,0 +1,149 @@
+//! How a message meets a form.
+
+ghost use Rattle.std.specs.Prelude.{◌≡◌, ◌<◌, ◌==◌, ◌+◌, ◌^◌, ℕ, List, ◌∷◌, length, Some, Ok, Err};
+ghost use Rattle.std.specs.Prelude.{MatchResult};
+ghost use Rattle.std.specs.List.{list_all};
+ghost use Rattle.std.specs.Option.{option_or};
+ghost use Rattle.mrc_model.specs.Message.{Arg};
+ghost use Rattle.mrc_model.specs.Wiring as model;
+ghost use Rattle.mrc_model.specs.Filter.{has_size, first_difference, is_zero_data, expected};
+ghost use Rattle.mrc_model.specs.Filter.{fits_reply, judge_found};
+ghost use Rattle.mrc_desc.specs.View.{argument_of, arguments_of};
+ghost use Rattle.mrc_interface.specs.Forms as forms;
+ghost use Rattle.mrc_wiring.specs.Sorts.{Sort};
+ghost use Rattle.mrc_wiring.specs.ModelForms.{shape_of, shapes_from};
+ghost use Rattle.mrc_wiring.specs.Finding.{form_by, model_form};
+
+use mrc_base::{Disp, is_port_number};
+use mrc_desc::{Argument, Message};
+use mrc_interface::{Form, FormKind, RequestKind, Shape};
+use mrc_model::Denied;
+
+/// Whether the items are as large and as many as the form says.
+fn has_size(shape: &Shape, argument: &Argument) -> bool
+    ensures { (sorts : List Sort) (s : ℕ) (slots : List forms.Slot) (i : ℕ)
+        → result ≡ has_size (shape_of sorts s slots i shape.now) (argument_of argument.now) }
+{
+    let number = shape.number as usize;
+    shape.size == argument.size()
+        && if shape.is_bound {
+            argument.number() <= number
+        } else {
+            argument.number() == number
+        }
+}
+
+/// How the argument, which has this number, differs from what the form says of it.
+fn difference(number: u32, shape: &Shape, argument: &Argument) -> Option<Denied>
+    ensures { (sorts : List Sort) (s : ℕ) (slots : List forms.Slot) (i : ℕ)
+        (shapes : List model.Shape) (args : List Arg)
+        → first_difference number (shape_of sorts s slots i shape.now ∷ shapes)
+        (argument_of argument.now ∷ args)
+        ≡ option_or result (first_difference (number + 1) shapes args) }
+{
+    if !has_size(shape, argument) {
+        Some(Denied::WrongShape(number))
+    } else if shape.name == argument.name() {
+        None
+    } else if is_port_number(shape.name) && is_port_number(argument.name()) {
+        Some(Denied::WrongDisposition(number))
+    } else {
+        Some(Denied::WrongShape(number))
+    }
+}
+
+/// The first difference between arguments and what a form says of them, a missing or an extra one
+/// included.
+fn first_difference(shapes: &[Shape], args: &[Argument]) -> Option<Denied>
+    requires { length args.now < 2 ^ 32 }
+    ensures { (sorts : List Sort) (s : ℕ) (slots : List forms.Slot)
+        → result ≡ first_difference 0 (shapes_from sorts s slots 0 shapes.now)
+        (arguments_of args.now) }
+{
+    for (i, argument) in args.iter().enumerate() {
+        let number = i as u32;
+        let Some(shape) = shapes.get(i) else {
+            return Some(Denied::WrongShape(number));
+        };
+        if let Some(denied) = difference(number, shape, argument) {
+            return Some(denied);
+        }
+    }
+    if args.len() < shapes.len() {
+        Some(Denied::WrongShape(args.len() as u32))
+    } else {
+        None
+    }
+}
+
+/// Whether each byte is 0.
+fn are_zero(bytes: &[u8]) -> bool
+    ensures { result ≡ list_all (λ byte. byte == 0) bytes.now }
+{
+    bytes.iter().all(|byte| *byte == 0)
+}
+
+/// Whether the return code is 0, as far as the first argument has one.
+fn is_zero_data(args: &[Argument]) -> bool
+    ensures { result ≡ is_zero_data (arguments_of args.now) }
+{
+    match args.first() {
+        Some(Argument::Data { desc: _, bytes }) => are_zero(bytes.as_slice()),
+        Some(Argument::Ports { .. }) => true,
+        None => true,
+    }
+}
+
+/// What the form wants of these arguments: a reply whose code is not 0 has the code alone.
+fn expected<'a>(form: &'a Form, args: &[Argument]) -> &'a [Shape]
+    ensures { (sorts : List Sort) (s : ℕ)
+        → shapes_from sorts s form.entry.now.slots 0 result.now
+        ≡ expected (model_form sorts s form.entry.now) (arguments_of args.now) }
+{
+    let shapes = form.arguments();
+    match form.kind() {
+        FormKind::Request(_) => shapes,
+        FormKind::Reply => {
+            if is_zero_data(args) || shapes.is_empty() {
+                shapes
+            } else {
+                &shapes[..1]
+            }
+        }
+    }
+}
+
+/// Whether the form goes with the disposition of the reply port.
+fn fits_reply(kind: FormKind, disp: u8) -> bool
+    ensures { (id : ℕ) (shapes : List model.Shape)
+        → result ≡ fits_reply (form_by kind id shapes) disp }
+{
+    match kind {
+        FormKind::Request(RequestKind::Routine) => {
+            let number = u16::from(disp);
+            number == 0
+                || number == Disp::MoveSendOnce.number()
+                || number == Disp::MakeSendOnce.number()
+        }
+        FormKind::Request(RequestKind::Simple) => disp == 0,
+        FormKind::Reply => disp == 0,
+    }
+}
+
+/// Whether the message, which has the form's id, meets the form, or why it does not.
+pub(crate) fn meet(form: &Form, message: &Message) -> Result<(), Denied>
+    ensures { (sorts : List Sort) (s : ℕ) → MatchResult result
+        (λ _. judge_found message.now (Some (model_form sorts s form.now))
+        ≡ Ok (model_form sorts s form.now))
+        (λ denied. judge_found message.now (Some (model_form sorts s form.now)) ≡ Err denied) }
+{
+    let args = message.args();
+    if let Some(denied) = first_difference(expected(form, args), args) {
+        return Err(denied);
+    }
+    if fits_reply(form.kind(), message.header().local_disp) {
+        Ok(())
+    } else {
+        Err(Denied::ReplySlot)
+    }
+}
