@@ -9,7 +9,7 @@ use Rattle.mrc_wiring_text.specs.declared.faults.TextFault.TheVariants.{NotUtf8}
 use Rattle.mrc_wiring_text.specs.declared.reading.Line.{Line}
 use Rattle.mrc_wiring_text.specs.Reading.{utf8_text}
 use Rattle.mrc_wiring.specs.Table.{Table}
-use Rattle.mrc_check.specs.Texts.{step}
+use Rattle.mrc_interface.specs.Reading.{step}
 use Rattle.mrc_report.specs.declared.script.ScriptFault.{ScriptFault}
 use Rattle.mrc_report.specs.declared.script.ScriptFault.TheVariants.{BadLine}
 use Rattle.mrc_report.specs.declared.script.TaskCall.{TaskCall}

@@ -1,24 +1,25 @@
--- From the checker's answer, and what is told of it, to what the three texts say.
+-- From the checker's answer, and what is told of it, to what the texts say.
 use Rattle.std.proofs.Common.{◌≡◌, ◌⊎◌, ℕ, List, Result, Ok, Err, refl, sym, ◌∙◌, inl, inr}
-use Rattle.std.proofs.Common.{string_bytes, arith, codes}
-use Rattle.std.specs.Prelude.{IfOk, IfErr}
+use Rattle.std.proofs.Common.{string_bytes, arith, codes, map, subst, Vec, Global}
+use Rattle.std.specs.Prelude.{IfOk, IfErr, Option}
+use Rattle.std.specs.Io.KnownBytes.{Appends}
 use Rattle.mrc_base.specs.declared.memory.OrMemory.{OrMemory}
 use Rattle.mrc_base.specs.declared.memory.OrMemory.TheVariants.{Fault, Memory}
 use Rattle.mrc_check.specs.declared.texts.TextsFault.{TextsFault}
-use Rattle.mrc_check.specs.declared.texts.TextsFault.TheVariants.{Wiring, Policy, Certificate}
-use Rattle.mrc_check.specs.declared.texts.TextsFault.TheVariants.{Check}
+use Rattle.mrc_check.specs.declared.texts.TextsFault.TheVariants.{Defs, Wiring, Policy}
+use Rattle.mrc_check.specs.declared.texts.TextsFault.TheVariants.{Certificate, Check}
+use Rattle.mrc_interface.specs.Reading.{refused_of}
 use Rattle.mrc_check.specs.Verdict.{Case}
-use Rattle.mrc_check.specs.Texts.{InWiring, InPolicy, InCertificate, Tells}
+use Rattle.mrc_check.specs.Texts.{InSystem, InDefs, InWiring, InPolicy, InCertificate, Tells, SayYes}
 use Rattle.machcheck.specs.declared.told.Told.{Told}
 use Rattle.machcheck.specs.declared.command.CheckFiles.{CheckFiles}
 use Rattle.mrc_report.specs.declared.files.ReadFault.{ReadFault}
 use Rattle.mrc_report.specs.declared.files.ReadFault.TheVariants.{ReadFailed, TooBig}
 use Rattle.mrc_report.specs.declared.files.ReadFault.TheVariants.{Memory as NoMemory}
-use Rattle.machcheck.specs.declared.command.ReplayFiles.{ReplayFiles}
-use Rattle.machcheck.specs.Files.{Held, IsFirstUnread, IsFirstOfBothUnread}
-use Rattle.machcheck.specs.Texts.{ThreeTexts, said_by}
+use Rattle.machcheck.specs.Files.{Held, IsFirstUnread}
+use Rattle.machcheck.specs.Texts.{CheckTexts, AreAccepted, said_by}
 use Rattle.machcheck.specs.Told.{status_of, out_of, IsError, ToldMemory, ToldFault, UnreadTold}
-use Rattle.machcheck.specs.Told.{FaultOfFiles, FaultOfReplay}
+use Rattle.machcheck.specs.Told.{ToldUnread, SomeFiles, WentOut}
 
 -- what is told of an answer, where there is memory for it
 pub record Verdict {E : Type 0} (files : CheckFiles) (answer : Result Case (OrMemory TextsFault))
@@ -27,19 +28,32 @@ pub record Verdict {E : Type 0} (files : CheckFiles) (answer : Result Case (OrMe
   pub out : IfOk result (λ told. string_bytes told.out ≡ out_of answer)
   pub err : IfOk result (λ told. IsError files answer (string_bytes told.err))
 
-fault_of : {E : Type 0} (files : CheckFiles) (texts : ThreeTexts)
+fault_of : {E : Type 0} (files : CheckFiles) (texts : CheckTexts)
     (answer : Result Case (OrMemory TextsFault)) (told : Told)
     → Verdict {E = E} files answer (Ok told) → Tells answer (said_by texts) → told.status ≡ 2
     → ToldMemory told ⊎ ToldFault files texts told
-fault_of files texts (Ok case) told v says two = let zero_is : told.status ≡ 0 = v.status in absurd (omega arith)
-fault_of files texts (Err Memory) told v says two = inl record { status = two; out = v.out; err = v.err }
-fault_of files texts (Err (Fault (Wiring f))) told v says two = inr record { fault = InWiring f; says = says; out = v.out; err = v.err }
-fault_of files texts (Err (Fault (Policy f))) told v says two = inr record { fault = InPolicy f; says = says; out = v.out; err = v.err }
-fault_of files texts (Err (Fault (Certificate f))) told v says two = inr record { fault = InCertificate f; says = says; out = v.out; err = v.err }
-fault_of files texts (Err (Fault (Check r))) told v says two = let one_is : told.status ≡ 1 = v.status in absurd (omega arith)
+fault_of files texts (Ok case) told v says two =
+    let zero_is : told.status ≡ 0 = v.status in absurd (omega arith)
+fault_of files texts (Err Memory) told v says two =
+    inl record { status = two; out = v.out; err = v.err }
+fault_of files texts (Err (Fault (Defs f))) told v says two =
+    inr record {
+      fault = InSystem (InDefs (refused_of f));
+      says = says;
+      out = v.out;
+      err = v.err;
+    }
+fault_of files texts (Err (Fault (Wiring f))) told v says two =
+    inr record { fault = InSystem (InWiring f); says = says; out = v.out; err = v.err }
+fault_of files texts (Err (Fault (Policy f))) told v says two =
+    inr record { fault = InPolicy f; says = says; out = v.out; err = v.err }
+fault_of files texts (Err (Fault (Certificate f))) told v says two =
+    inr record { fault = InCertificate f; says = says; out = v.out; err = v.err }
+fault_of files texts (Err (Fault (Check r))) told v says two =
+    let one_is : told.status ≡ 1 = v.status in absurd (omega arith)
 
 -- status 2 tells want of memory or a fault of the texts
-pub fault_told : {E : Type 0} (files : CheckFiles) (texts : ThreeTexts)
+pub fault_told : {E : Type 0} (files : CheckFiles) (texts : CheckTexts)
     (answer : Result Case (OrMemory TextsFault)) (result : Result Told E)
     → Verdict files answer result → Tells answer (said_by texts)
     → IfOk result (λ told. told.status ≡ 2 → ToldMemory told ⊎ ToldFault files texts told)
@@ -56,36 +70,52 @@ only_told files (Err Memory) (Ok told) v memory = inr record { status = v.status
 only_told files (Err (Fault f)) (Ok told) v memory = cc
 only_told files answer (Err e) v memory = tt
 
--- what is told of a file that can't be read is a fault of the files
-pub unread_fault : {E : Type 0} (held : Held) (files : CheckFiles) (file : List ℕ)
-    (fault : ReadFault) (result : Result Told E)
-    → IsFirstUnread held files file → IfOk result (UnreadTold file fault)
-    → IfOk result (λ told. told.status ≡ 2 → FaultOfFiles held files told)
-unread_fault held files file fault (Err e) first h = tt
-unread_fault held files file NoMemory (Ok told) first h = λ two. inl h
-unread_fault held files file TooBig (Ok told) first h =
-    λ two. inr (inl record { file = file; first = first; out = h.0; err = (codes "TooBig", h.1) })
-unread_fault held files file ReadFailed (Ok told) first h =
-    λ two. inr (inl record { file = file; first = first; out = h.0; err = (codes "ReadFailed", h.1) })
+-- what is told of the first file that can't be read: it is named, unless memory ran out
+pub unread_told : (held : Held) (files : List (List ℕ)) (file : List ℕ) (fault : ReadFault)
+    (told : Told)
+    → IsFirstUnread held files file
+    → UnreadTold file fault told
+    → ToldMemory told ⊎ ToldUnread held files told
+unread_told held files file NoMemory told first h = inl h
+unread_told held files file TooBig told first h =
+    inr record { file = file; first = first; out = h.0; err = (codes "TooBig", h.1) }
+unread_told held files file ReadFailed told first h =
+    inr record { file = file; first = first; out = h.0; err = (codes "ReadFailed", h.1) }
 
--- the same of the files of a replay
-pub both_unread_fault : {E : Type 0} (held : Held) (files : ReplayFiles) (file : List ℕ)
-    (fault : ReadFault) (result : Result Told E)
-    → IsFirstOfBothUnread held files file → IfOk result (UnreadTold file fault)
-    → IfOk result (λ told. told.status ≡ 2 → FaultOfReplay held files told)
-both_unread_fault held files file fault (Err e) first h = tt
-both_unread_fault held files file NoMemory (Ok told) first h = λ two. inl h
-both_unread_fault held files file TooBig (Ok told) first h =
-    λ two. inr (inl record {
-      file = file;
-      first = first;
-      out = h.0;
-      err = (codes "TooBig", h.1);
-    })
-both_unread_fault held files file ReadFailed (Ok told) first h =
-    λ two. inr (inl record {
-      file = file;
-      first = first;
-      out = h.0;
-      err = (codes "ReadFailed", h.1);
-    })
+-- the same, whatever else may be told
+pub unread_fault : {E : Type 0} (held : Held) (files : List (List ℕ)) (file : List ℕ)
+    (fault : ReadFault) (result : Result Told E) (Other : Told → Type 0)
+    → IsFirstUnread held files file
+    → IfOk result (UnreadTold file fault)
+    → IfOk result (λ told. told.status ≡ 2
+    → ToldMemory told ⊎ (ToldUnread held files told ⊎ Other told))
+unread_fault held files file fault (Err e) Other first h = tt
+unread_fault held files file fault (Ok told) Other first h =
+    λ two. elim (unread_told held files file fault told first h) [
+      | inl memory ↦ inl memory
+      | inr unread ↦ inr (inl unread)
+    ]
+
+-- what is told of some files goes out
+pub went_out : {F : Type 0} (Tells : F → Told → Type 0) (told : Told) (old new : Option (List ℕ))
+    → SomeFiles Tells told
+    → Appends old new (string_bytes told.out)
+    → WentOut Tells old new
+went_out Tells told old new said out =
+    record { files = said.0; told = told; tells = said.1; out = out }
+
+-- what is accepted, by its parts
+pub accepted_by_parts : (texts : CheckTexts) (case : Case) (defs : List (Vec ℕ Global))
+    (wiring policy certificate : List ℕ)
+    → texts.system.defs ≡ map (λ (text : Vec ℕ Global). text.items) defs
+    → texts.system.wiring ≡ wiring
+    → texts.policy ≡ policy
+    → texts.certificate ≡ certificate
+    → AreAccepted texts case
+    → SayYes (map (λ (text : Vec ℕ Global). text.items) defs) wiring policy certificate case
+accepted_by_parts texts case defs wiring policy certificate d w p c says =
+    let items = map (λ (text : Vec ℕ Global). text.items) defs in
+    let one = subst (λ x. SayYes x texts.system.wiring texts.policy texts.certificate case) d says in
+    let two = subst (λ x. SayYes items x texts.policy texts.certificate case) w one in
+    let three = subst (λ x. SayYes items wiring x texts.certificate case) p two in
+    subst (λ x. SayYes items wiring policy x case) c three

@@ -1,13 +1,17 @@
 -- The command line that `clap` reads, and the words that it comes in. This profile's own choice.
-use Rattle.std.specs.Prelude.{◌≡◌, ◌⊎◌, ℕ, List, [], Some, true, codes, string_bytes, false}
+use Rattle.std.specs.Prelude.{◌≡◌, ◌⊎◌, ℕ, List, [], ◌∷◌, Some, true, codes, string_bytes, false}
+use Rattle.std.specs.Prelude.{unwrap_or}
+use Rattle.std.specs.Option.{option_map}
 use Rattle.std.specs.declared.io.ErrorKind.{ErrorKind}
 use Rattle.std.specs.declared.io.ErrorKind.TheVariants.{InvalidData}
 use Rattle.clap.specs.Words.{App, Rule, Text, new_app, new_rule, with_rule, with_subcommand}
 use Rattle.clap.specs.Words.{fault_of, IsAmong}
 use Rattle.clap.specs.Simple.{on_top}
+use Rattle.clap.specs.declared.parser.matches.Found.{Found}
+use Rattle.clap.specs.Matches.{matched_of, raw_values}
 use Rattle.clap.specs.declared.builder.command.Command.{Command}
 use Rattle.clap.specs.declared.builder.command.Command.TheViews.{out-Command}
-use Rattle.clap.specs.declared.builder.action.ArgAction.TheVariants.{Set}
+use Rattle.clap.specs.declared.builder.action.ArgAction.TheVariants.{Set, Append}
 use Rattle.clap.specs.declared.error.kind.ErrorKind.{ErrorKind as ClapKind}
 use Rattle.clap.specs.declared.error.kind.ErrorKind.TheVariants.{DisplayHelp, DisplayVersion}
 use Rattle.machcheck.specs.declared.words.WordsFault.{WordsFault}
@@ -32,18 +36,36 @@ abbrev pub file_rule : Text → Rule
 file_rule name = record
     (new_rule name) { long = Some name; value_names = 1; action = Some Set; required = true }
 
--- `check --wiring FILE --policy FILE --cert FILE`
-abbrev pub check_app : App
-check_app =
-    with_rule (with_rule (with_rule (new_app (codes "check")) (file_rule (codes "wiring")))
-    (file_rule (codes "policy")))
-    (file_rule (codes "cert"))
+-- the MIG files: arguments without an option's name, as many as there are
+abbrev pub defs_rule : Rule
+defs_rule = record (new_rule (codes "defs")) { value_names = 1; action = Some Append }
 
--- `replay --wiring FILE --script FILE`
+-- a command of this name, with these options that name files, and MIG files
+abbrev pub with_files : App → List Text → App
+with_files app [] = with_rule app defs_rule
+with_files app (name ∷ names) = with_files (with_rule app (file_rule name)) names
+
+-- `check` with its first two options
+abbrev pub check_options : App
+check_options =
+    with_rule (with_rule (new_app (codes "check")) (file_rule (codes "wiring")))
+    (file_rule (codes "policy"))
+
+-- `check --wiring FILE --policy FILE --cert FILE [DEFS]...`
+abbrev pub check_app : App
+check_app = with_files check_options (codes "cert" ∷ [])
+
+-- `make --wiring FILE --out FILE [DEFS]...`
+abbrev pub make_app : App
+make_app = with_files (new_app (codes "make")) (codes "wiring" ∷ codes "out" ∷ [])
+
+-- `replay --wiring FILE --script FILE [DEFS]...`
 abbrev pub replay_app : App
-replay_app =
-    with_rule (with_rule (new_app (codes "replay")) (file_rule (codes "wiring")))
-    (file_rule (codes "script"))
+replay_app = with_files (new_app (codes "replay")) (codes "wiring" ∷ codes "script" ∷ [])
+
+-- all values that are given to an argument, none where it is not given
+abbrev pub all_values : Found → Text → List Text
+all_values found id = unwrap_or (option_map raw_values (matched_of found id)) []
 
 -- no option of the command holds for its subcommands too
 abbrev pub HasNoGlobals : Command → Type 0
@@ -59,9 +81,13 @@ bare_app =
     })
     (new_app (codes "machcheck"))
 
+-- the program with the commands that speak of certificates
+abbrev pub certificate_app : App
+certificate_app = with_subcommand (with_subcommand bare_app check_app.top) make_app.top
+
 -- the program and its commands
 abbrev pub machcheck_app : App
-machcheck_app = with_subcommand (with_subcommand bare_app check_app.top) replay_app.top
+machcheck_app = with_subcommand certificate_app replay_app.top
 
 -- the words ask for help or for the version, as `clap` reads them; then they are no command
 abbrev pub AsksHelp : List Text → Type 0

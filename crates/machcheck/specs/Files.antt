@@ -1,9 +1,10 @@
--- What is read of files. This profile's own choice.
-use Rattle.std.specs.Prelude.{◌≡◌, ◌≤◌, ◌<◌, ◌⊎◌, ℕ, List, Option, length, IfSome}
+-- What is read of files, and what is written. This profile's own choice.
+use Rattle.std.specs.Prelude.{◌≡◌, ◌≤◌, ◌<◌, ℕ, List, [], ◌∷◌, ◌++◌, map, Option, length, IfSome}
+use Rattle.std.specs.List.{All, AllZip}
 use Rattle.mrc_base.specs.Limits.{limit_of_file}
+use Rattle.machcheck.specs.declared.command.SystemFiles.{SystemFiles}
 use Rattle.machcheck.specs.declared.command.CheckFiles.{CheckFiles}
 use Rattle.machcheck.specs.declared.command.ReplayFiles.{ReplayFiles}
-use Rattle.machcheck.specs.Texts.{ThreeTexts, TwoTexts}
 
 -- the bytes of each file by its name, where they are known
 abbrev pub Held : Type 0
@@ -21,26 +22,29 @@ Fits held file = IfSome (held file) (λ known. length known ≤ limit_of_file)
 abbrev pub Exceeds : Held → List ℕ → Type 0
 Exceeds held file = IfSome (held file) (λ known. limit_of_file < length known)
 
--- the three texts are the bytes of the three files
-pub record AreHeld (held : Held) (files : CheckFiles) (texts : ThreeTexts) : Type 0 where
-  pub wiring : HasBytes held files.wiring.now texts.wiring
-  pub policy : HasBytes held files.policy.now texts.policy
-  pub certificate : HasBytes held files.certificate.now texts.certificate
+-- the texts are the bytes of the files, one for each, in their order
+abbrev pub AreHeld : Held → List (List ℕ) → List (List ℕ) → Type 0
+AreHeld held files texts = AllZip (HasBytes held) files texts
 
--- the file is the first that could not be read, in the order wiring, policy, certificate: those
--- before it were read, so they fit
-abbrev pub IsFirstUnread : Held → CheckFiles → List ℕ → Type 0
-IsFirstUnread held files file =
-    (file ≡ files.wiring.now)
-    ⊎ (((file ≡ files.policy.now) × Fits held files.wiring.now)
-    ⊎ ((file ≡ files.certificate.now) × Fits held files.wiring.now × Fits held files.policy.now))
+-- the file is the first of these that could not be read: those before it were, so they fit
+pub record IsFirstUnread (held : Held) (files : List (List ℕ)) (file : List ℕ) : Type 0 where
+  pub before : List (List ℕ)
+  pub after : List (List ℕ)
+  pub parts : files ≡ before ++ file ∷ after
+  pub fit : All (Fits held) before
 
--- the two texts are the bytes of the two files
-pub record AreBothHeld (held : Held) (files : ReplayFiles) (texts : TwoTexts) : Type 0 where
-  pub wiring : HasBytes held files.wiring.now texts.wiring
-  pub script : HasBytes held files.script.now texts.script
+-- the MIG files of a system, by their names
+abbrev pub defs_names : SystemFiles → List (List ℕ)
+defs_names files = map (λ file. file.now) files.defs.items
 
--- the file is the first that could not be read, in the order wiring, script
-abbrev pub IsFirstOfBothUnread : Held → ReplayFiles → List ℕ → Type 0
-IsFirstOfBothUnread held files file =
-    (file ≡ files.wiring.now) ⊎ ((file ≡ files.script.now) × Fits held files.wiring.now)
+-- the files of a system, in the order in which they are read
+abbrev pub system_names : SystemFiles → List (List ℕ)
+system_names files = defs_names files ++ files.wiring.now ∷ []
+
+-- the files of a `check`, in the order in which they are read
+abbrev pub check_names : CheckFiles → List (List ℕ)
+check_names files = system_names files.system ++ files.policy.now ∷ files.certificate.now ∷ []
+
+-- the files of a `replay`, in the order in which they are read
+abbrev pub replay_names : ReplayFiles → List (List ℕ)
+replay_names files = system_names files.system ++ files.script.now ∷ []

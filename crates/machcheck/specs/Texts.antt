@@ -1,16 +1,16 @@
--- The three texts that are judged together: of a wiring, of a policy, and of a certificate; and the
--- two that are replayed: of a wiring and of a script. This profile's own choice.
-use Rattle.std.specs.Prelude.{◌≡◌, ℕ, List, Result, Ok, Err}
+-- The texts that are judged together: those of MIG files and of a wiring, with those of a policy and
+-- a certificate, or with that of a script. This profile's own choice.
+use Rattle.std.specs.Prelude.{◌≡◌, ℕ, List, [], ◌∷◌, ◌++◌, Result, Ok, Err}
 use Rattle.mrc_base.specs.declared.memory.OrMemory.{OrMemory}
 use Rattle.mrc_base.specs.Reading.{◌>>=◌, UnlessMemory}
 use Rattle.mrc_wiring_text.specs.declared.faults.TextFault.{TextFault}
 use Rattle.mrc_wiring_text.specs.declared.faults.TextFault.TheVariants.{NotUtf8, BadLine}
 use Rattle.mrc_wiring_text.specs.declared.reading.Line.{Line}
 use Rattle.mrc_wiring_text.specs.Reading.{utf8_text}
+use Rattle.mrc_interface.specs.Reading.{step}
 use Rattle.mrc_wiring.specs.Table.{Table}
-use Rattle.mrc_check.specs.declared.texts.WiringFault.{WiringFault}
 use Rattle.mrc_check.specs.Verdict.{Case}
-use Rattle.mrc_check.specs.Texts.{SayYes, Meaningless, case_of, step, table_of}
+use Rattle.mrc_check.specs.Texts.{SayYes, NoSystem, Meaningless, case_of, table_of, no_table_of}
 use Rattle.mrc_report.specs.declared.script.ScriptFault.TheVariants as script_fault
 use Rattle.mrc_report.specs.declared.script.TaskCall.{TaskCall}
 use Rattle.mrc_report.specs.Scripts.{script_of}
@@ -18,28 +18,50 @@ use Rattle.machcheck.specs.declared.replay.WiredScript.{WiredScript}
 use Rattle.machcheck.specs.declared.replay.ReplayFault.{ReplayFault}
 use Rattle.machcheck.specs.declared.replay.ReplayFault.TheVariants as fault
 
--- the bytes of a wiring, of a policy and of a certificate
-pub record ThreeTexts : Type 0 where
+-- the bytes of MIG files and of a wiring
+pub record SystemTexts : Type 0 where
+  pub defs : List (List ℕ)
   pub wiring : List ℕ
+
+-- one after the other
+abbrev pub system_list : SystemTexts → List (List ℕ)
+system_list texts = texts.defs ++ texts.wiring ∷ []
+
+-- the wiring that they mean, or the first that has no meaning
+abbrev pub wired_by : SystemTexts → Result Table NoSystem
+wired_by texts = table_of texts.defs texts.wiring
+
+-- with them the bytes of a policy and of a certificate
+pub record CheckTexts : Type 0 where
+  pub system : SystemTexts
   pub policy : List ℕ
   pub certificate : List ℕ
 
+-- one after the other
+abbrev pub check_list : CheckTexts → List (List ℕ)
+check_list texts = system_list texts.system ++ texts.policy ∷ texts.certificate ∷ []
+
 -- the checker's yes to them
-abbrev pub AreAccepted : ThreeTexts → Case → Type 0
-AreAccepted texts case = SayYes texts.wiring texts.policy texts.certificate case
+abbrev pub AreAccepted : CheckTexts → Case → Type 0
+AreAccepted texts case =
+    SayYes texts.system.defs texts.system.wiring texts.policy texts.certificate case
 
 -- what they say, or the first that has no meaning
-abbrev pub said_by : ThreeTexts → Result Case Meaningless
-said_by texts = case_of texts.wiring texts.policy texts.certificate
+abbrev pub said_by : CheckTexts → Result Case Meaningless
+said_by texts = case_of texts.system.defs texts.system.wiring texts.policy texts.certificate
 
--- the bytes of a wiring and of a script
-pub record TwoTexts : Type 0 where
-  pub wiring : List ℕ
+-- the bytes of MIG files and of a wiring, and those of a script
+pub record ReplayTexts : Type 0 where
+  pub system : SystemTexts
   pub script : List ℕ
 
--- the one of two texts that has no meaning, and its first fault
+-- one after the other
+abbrev pub replay_list : ReplayTexts → List (List ℕ)
+replay_list texts = system_list texts.system ++ texts.script ∷ []
+
+-- the one of these texts that has no meaning, and its first fault
 pub data Unscripted : Type 0 where
-  InWiring : WiringFault → Unscripted
+  InSystem : NoSystem → Unscripted
   InScript : TextFault → Unscripted
 
 -- what a script's bytes say to the tasks of a wiring
@@ -48,16 +70,16 @@ script_said table script = do
   text ← utf8_text script
   script_of table.names text
 
--- what the two say, or the first that has no meaning
-abbrev pub scripted : TwoTexts → Result WiredScript Unscripted
+-- what they say together, or the first that has no meaning
+abbrev pub scripted : ReplayTexts → Result WiredScript Unscripted
 scripted texts = do
-  table ← step InWiring (table_of texts.wiring)
+  table ← step InSystem (wired_by texts.system)
   script ← step InScript (script_said table texts.script)
   Ok (record { wired = table; script = script })
 
 -- a fault of code, among these
 abbrev pub unscripted : ReplayFault → Unscripted
-unscripted (fault.Wiring f) = InWiring f
+unscripted (fault.System f) = InSystem (no_table_of f)
 unscripted fault.NotUtf8 = InScript NotUtf8
 unscripted (fault.Script (script_fault.BadLine n)) = InScript (BadLine n)
 

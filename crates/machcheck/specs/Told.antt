@@ -1,7 +1,8 @@
--- What the program tells of an answer of the checker, and of a replay: the status, and the texts on
--- standard output and on standard error. This profile's own choice.
+-- What the program tells of an answer of the checker, of a certificate that it makes, and of a
+-- replay: the status, and the texts on standard output and on standard error. This profile's own
+-- choice.
 use Rattle.std.specs.Prelude.{◌≡◌, ◌⊎◌, ℕ, List, [], ◌++◌, Option, Result, Ok, Err, codes, decimal}
-use Rattle.std.specs.Prelude.{string_bytes}
+use Rattle.std.specs.Prelude.{string_bytes, get_or, length}
 use Rattle.std.specs.Io.KnownBytes.{Appends}
 use Rattle.mrc_wiring.specs.Table.{Table}
 use Rattle.mrc_check.specs.declared.verdict.Why.{Why}
@@ -10,29 +11,42 @@ use Rattle.mrc_base.specs.declared.memory.OrMemory.TheVariants.{Fault, Memory}
 use Rattle.mrc_check.specs.declared.verdict.Why.TheVariants.{Counts, MissingFirst, NotClosed}
 use Rattle.mrc_check.specs.declared.verdict.Why.TheVariants.{Forbidden}
 use Rattle.mrc_check.specs.declared.texts.TextsFault.{TextsFault}
-use Rattle.mrc_check.specs.declared.texts.TextsFault.TheVariants.{Wiring, Policy, Certificate}
-use Rattle.mrc_check.specs.declared.texts.TextsFault.TheVariants.{Check}
+use Rattle.mrc_check.specs.declared.texts.TextsFault.TheVariants.{Defs, Wiring, Policy}
+use Rattle.mrc_check.specs.declared.texts.TextsFault.TheVariants.{Certificate, Check}
 use Rattle.mrc_classes.specs.Missing.{rule_number}
+use Rattle.mrc_classes.specs.Sets.{has}
+use Rattle.mrc_certificate.specs.Drafts.{Content}
+use Rattle.mrc_certificate.specs.Spelling.{Spells}
+use Rattle.mrc_model.specs.Wiring.{classes}
+use Rattle.mrc_model.specs.Rules.{IsLeast}
+use Rattle.mrc_wiring.specs.Table.{wiring_of}
 use Rattle.mrc_check.specs.Verdict.{Case, IsWhy}
-use Rattle.mrc_check.specs.Texts.{Meaningless, InWiring, InPolicy, InCertificate}
+use Rattle.mrc_check.specs.Texts.{NoSystem, InDefs, InWiring}
+use Rattle.mrc_check.specs.Texts.{Meaningless, InSystem, InPolicy, InCertificate}
 use Rattle.machcheck.specs.declared.told.Told.{Told}
+use Rattle.machcheck.specs.declared.command.SystemFiles.{SystemFiles}
 use Rattle.machcheck.specs.declared.command.CheckFiles.{CheckFiles}
+use Rattle.machcheck.specs.declared.command.MakeFiles.{MakeFiles}
 use Rattle.machcheck.specs.declared.command.ReplayFiles.{ReplayFiles}
 use Rattle.machcheck.specs.declared.replay.WiredScript.{WiredScript}
 use Rattle.mrc_report.specs.declared.files.ReadFault.{ReadFault}
 use Rattle.mrc_report.specs.declared.files.ReadFault.TheVariants.{ReadFailed, TooBig}
 use Rattle.mrc_report.specs.declared.files.ReadFault.TheVariants.{Memory as NoMemory}
+use Rattle.mrc_report.specs.declared.files.WriteFault.{WriteFault}
 use Rattle.mrc_report.specs.Replay.{IsReplay}
 use Rattle.mrc_words.specs.Words.{◌␣◌, fact_text}
-use Rattle.machcheck.specs.Texts.{ThreeTexts, AreAccepted, said_by, TwoTexts, scripted}
-use Rattle.machcheck.specs.Texts.{Unscripted, InScript}
+use Rattle.machcheck.specs.Texts.{SystemTexts, system_list, wired_by}
+use Rattle.machcheck.specs.Texts.{CheckTexts, check_list, AreAccepted, said_by}
+use Rattle.machcheck.specs.Texts.{ReplayTexts, replay_list, scripted, Unscripted, InScript}
 use Rattle.machcheck.specs.Texts as texts
-use Rattle.machcheck.specs.Files.{Held, AreHeld, IsFirstUnread, AreBothHeld, IsFirstOfBothUnread}
+use Rattle.machcheck.specs.Files.{Held, HasBytes, AreHeld, IsFirstUnread}
+use Rattle.machcheck.specs.Files.{defs_names, system_names, check_names, replay_names}
 
 -- the status of an answer: 0 for a yes, 1 for a refusal, 2 for a fault and for want of memory
 abbrev pub status_of : Result Case (OrMemory TextsFault) → ℕ
 status_of (Ok case) = 0
 status_of (Err (Fault (Check refused))) = 1
+status_of (Err (Fault (Defs fault))) = 2
 status_of (Err (Fault (Wiring fault))) = 2
 status_of (Err (Fault (Policy fault))) = 2
 status_of (Err (Fault (Certificate fault))) = 2
@@ -50,6 +64,7 @@ why_line table (Forbidden number) = codes "NO forbidden line " ++ (decimal numbe
 abbrev pub out_of : Result Case (OrMemory TextsFault) → List ℕ
 out_of (Ok case) = codes "YES\n"
 out_of (Err (Fault (Check refused))) = why_line refused.claim.table refused.why
+out_of (Err (Fault (Defs fault))) = []
 out_of (Err (Fault (Wiring fault))) = []
 out_of (Err (Fault (Policy fault))) = []
 out_of (Err (Fault (Certificate fault))) = []
@@ -67,11 +82,16 @@ fault_line file fault = codes "machcheck: " ++ (file ++ (codes ": " ++ (fault ++
 abbrev pub IsFaultOf : List ℕ → List ℕ → Type 0
 IsFaultOf file text = (fault : List ℕ) × (text ≡ fault_line file fault)
 
+-- the MIG file of this number, by its name
+abbrev pub defs_name : SystemFiles → ℕ → List ℕ
+defs_name files n = get_or (defs_names files) n []
+
 -- the text is what an answer gives to standard error
 abbrev pub IsError : CheckFiles → Result Case (OrMemory TextsFault) → List ℕ → Type 0
 IsError files (Ok case) text = text ≡ []
 IsError files (Err (Fault (Check refused))) text = text ≡ []
-IsError files (Err (Fault (Wiring fault))) text = IsFaultOf files.wiring.now text
+IsError files (Err (Fault (Defs fault))) text = IsFaultOf (defs_name files.system fault.file) text
+IsError files (Err (Fault (Wiring fault))) text = IsFaultOf files.system.wiring.now text
 IsError files (Err (Fault (Policy fault))) text = IsFaultOf files.policy.now text
 IsError files (Err (Fault (Certificate fault))) text = IsFaultOf files.certificate.now text
 IsError files (Err Memory) text = text ≡ memory_line
@@ -82,55 +102,12 @@ pub record ToldMemory (told : Told) : Type 0 where
   pub out : string_bytes told.out ≡ []
   pub err : string_bytes told.err ≡ memory_line
 
--- `YES` is told of three texts, and it is right: the checker accepts them
-pub record ToldYes (texts : ThreeTexts) (told : Told) : Type 0 where
-  pub case : Case
-  pub says : AreAccepted texts case
-  pub out : string_bytes told.out ≡ codes "YES\n"
-  pub err : string_bytes told.err ≡ []
-
--- `NO` is told of three texts, and it is right: each of them has a meaning, together they are a
--- case for the checker, and the reason that is told is the one by which the checker refuses the
--- case
-pub record ToldNo (texts : ThreeTexts) (told : Told) : Type 0 where
-  pub case : Case
-  pub says : said_by texts ≡ Ok case
-  pub why : Why
-  pub is_why : IsWhy case.claim case.draft why
-  pub out : string_bytes told.out ≡ why_line case.claim.table why
-  pub err : string_bytes told.err ≡ []
-
--- the file of a text that has no meaning
-abbrev pub file_of : CheckFiles → Meaningless → List ℕ
-file_of files (InWiring fault) = files.wiring.now
-file_of files (InPolicy fault) = files.policy.now
-file_of files (InCertificate fault) = files.certificate.now
-
--- a fault is told of three texts, and it is right: one of them has no meaning, and the file of the
--- first such is named
-pub record ToldFault (files : CheckFiles) (texts : ThreeTexts) (told : Told) : Type 0 where
-  pub fault : Meaningless
-  pub says : said_by texts ≡ Err fault
-  pub out : string_bytes told.out ≡ []
-  pub err : IsFaultOf (file_of files fault) (string_bytes told.err)
-
--- `YES` is told of what the files hold
-pub record YesOfFiles (held : Held) (files : CheckFiles) (told : Told) : Type 0 where
-  pub texts : ThreeTexts
-  pub are_held : AreHeld held files texts
-  pub yes : ToldYes texts told
-
--- `NO` is told of what the files hold
-pub record NoOfFiles (held : Held) (files : CheckFiles) (told : Told) : Type 0 where
-  pub texts : ThreeTexts
-  pub are_held : AreHeld held files texts
-  pub no : ToldNo texts told
-
--- a fault is told of what the files hold
-pub record FaultOfTexts (held : Held) (files : CheckFiles) (told : Told) : Type 0 where
-  pub texts : ThreeTexts
-  pub are_held : AreHeld held files texts
-  pub fault : ToldFault files texts told
+-- what is told of the texts that files hold, so far as that is known
+pub record OfFiles {T : Type 0} (list : T → List (List ℕ)) (Tells : T → Told → Type 0) (held : Held)
+    (files : List (List ℕ)) (told : Told) : Type 0 where
+  pub texts : T
+  pub are_held : AreHeld held files (list texts)
+  pub tells : Tells texts told
 
 -- what is told of a file that can't be read, and why
 abbrev pub UnreadTold : List ℕ → ReadFault → Told → Type 0
@@ -140,21 +117,124 @@ UnreadTold file TooBig told = (string_bytes told.out ≡ [])
 UnreadTold file ReadFailed told = (string_bytes told.out ≡ [])
     × (string_bytes told.err ≡ fault_line file (codes "ReadFailed"))
 
--- the first file that can't be read is named
-pub record ToldUnread (held : Held) (files : CheckFiles) (told : Told) : Type 0 where
+-- the first of the files that can't be read is named
+pub record ToldUnread (held : Held) (files : List (List ℕ)) (told : Told) : Type 0 where
   pub file : List ℕ
   pub first : IsFirstUnread held files file
   pub out : string_bytes told.out ≡ []
   pub err : IsFaultOf file (string_bytes told.err)
 
+-- `YES` is told of texts, and it is right: the checker accepts them
+pub record ToldYes (texts : CheckTexts) (told : Told) : Type 0 where
+  pub case : Case
+  pub says : AreAccepted texts case
+  pub out : string_bytes told.out ≡ codes "YES\n"
+  pub err : string_bytes told.err ≡ []
+
+-- `NO` is told of texts, and it is right: each of them has a meaning, together they are a case for
+-- the checker, and the reason that is told is the one by which the checker refuses the case
+pub record ToldNo (texts : CheckTexts) (told : Told) : Type 0 where
+  pub case : Case
+  pub says : said_by texts ≡ Ok case
+  pub why : Why
+  pub is_why : IsWhy case.claim case.draft why
+  pub out : string_bytes told.out ≡ why_line case.claim.table why
+  pub err : string_bytes told.err ≡ []
+
+-- the file of a MIG text or a wiring that has no meaning
+abbrev pub system_file : SystemFiles → NoSystem → List ℕ
+system_file files (InDefs refused) = defs_name files refused.file
+system_file files (InWiring fault) = files.wiring.now
+
+-- the file of a text that has no meaning
+abbrev pub file_of : CheckFiles → Meaningless → List ℕ
+file_of files (InSystem fault) = system_file files.system fault
+file_of files (InPolicy fault) = files.policy.now
+file_of files (InCertificate fault) = files.certificate.now
+
+-- a fault is told of texts, and it is right: one of them has no meaning, and the file of the first
+-- such is named
+pub record ToldFault (files : CheckFiles) (texts : CheckTexts) (told : Told) : Type 0 where
+  pub fault : Meaningless
+  pub says : said_by texts ≡ Err fault
+  pub out : string_bytes told.out ≡ []
+  pub err : IsFaultOf (file_of files fault) (string_bytes told.err)
+
+-- `YES` is told of what the files hold
+abbrev pub YesOfFiles : Held → CheckFiles → Told → Type 0
+YesOfFiles held files told = OfFiles check_list ToldYes held (check_names files) told
+
+-- `NO` is told of what the files hold
+abbrev pub NoOfFiles : Held → CheckFiles → Told → Type 0
+NoOfFiles held files told = OfFiles check_list ToldNo held (check_names files) told
+
 -- why status 2 is told of files: memory ran out, a file can't be read, or a text has no meaning
 abbrev pub FaultOfFiles : Held → CheckFiles → Told → Type 0
 FaultOfFiles held files told = ToldMemory told
-    ⊎ (ToldUnread held files told ⊎ FaultOfTexts held files told)
+    ⊎ (ToldUnread held (check_names files) told
+    ⊎ OfFiles check_list (ToldFault files) held (check_names files) told)
 
--- A replay is told of two texts, and it is right: each of them has a meaning, and what is printed
--- is the run of the script's calls from the first state of the wiring.
-pub record ToldReplay (texts : TwoTexts) (told : Told) : Type 0 where
+-- it is told how many facts a draft has, and the file for it has the draft's bytes
+pub record ToldWritten (files : MakeFiles) (draft : Content) (after : Held) (told : Told)
+    : Type 0 where
+  pub bytes : List ℕ
+  pub spells : Spells bytes draft
+  pub written : HasBytes after files.out.now bytes
+  pub out : string_bytes told.out ≡ codes "facts " ++ (decimal (length draft.facts) ++ codes "\n")
+  pub err : string_bytes told.err ≡ []
+
+-- the draft that was written has the wiring's numbers, and its facts are the least set that is
+-- closed under the ten rules
+pub record ToldLeast (files : MakeFiles) (table : Table) (after : Held) (told : Told)
+    : Type 0 where
+  pub draft : Content
+  pub tasks : draft.tasks ≡ (wiring_of table).tasks
+  pub class_count : draft.classes ≡ classes (wiring_of table)
+  pub least : IsLeast (wiring_of table) (has draft.facts)
+  pub written : ToldWritten files draft after told
+
+-- a certificate was made of texts, and it is right: they mean a wiring, and it is the least one of
+-- that wiring
+pub record ToldMade (files : MakeFiles) (after : Held) (texts : SystemTexts) (told : Told)
+    : Type 0 where
+  pub table : Table
+  pub says : wired_by texts ≡ Ok table
+  pub made : ToldLeast files table after told
+
+-- a fault is told of texts that mean no wiring, and it is right: the file of the first that has no
+-- meaning is named
+pub record ToldNoSystem (files : SystemFiles) (texts : SystemTexts) (told : Told) : Type 0 where
+  pub fault : NoSystem
+  pub says : wired_by texts ≡ Err fault
+  pub out : string_bytes told.out ≡ []
+  pub err : IsFaultOf (system_file files fault) (string_bytes told.err)
+
+-- it is told that the certificate was not taken
+pub record ToldUnwritten (files : MakeFiles) (told : Told) : Type 0 where
+  pub out : string_bytes told.out ≡ []
+  pub err : IsFaultOf files.out.now (string_bytes told.err)
+
+-- what is told where the certificate was not taken. Want of memory is no file's fault
+abbrev pub UnwrittenTold : MakeFiles → OrMemory WriteFault → Told → Type 0
+UnwrittenTold files (Fault fault) told = ToldUnwritten files told
+UnwrittenTold files Memory told = ToldMemory told
+
+-- a certificate was made of what the files hold
+abbrev pub MadeOfFiles : Held → Held → MakeFiles → Told → Type 0
+MadeOfFiles before after files told =
+    OfFiles system_list (ToldMade files after) before (system_names files.system) told
+
+-- why status 2 is told of the files of a `make`: memory ran out, a file can't be read, a text has
+-- no meaning, or the certificate was not taken
+abbrev pub FaultOfMake : Held → MakeFiles → Told → Type 0
+FaultOfMake held files told = ToldMemory told
+    ⊎ (ToldUnread held (system_names files.system) told
+    ⊎ (OfFiles system_list (ToldNoSystem files.system) held (system_names files.system) told
+    ⊎ ToldUnwritten files told))
+
+-- A replay is told of texts, and it is right: each of them has a meaning, and what is printed is
+-- the run of the script's calls from the first state of the wiring.
+pub record ToldReplay (texts : ReplayTexts) (told : Told) : Type 0 where
   pub both : WiredScript
   pub says : scripted texts ≡ Ok both
   pub out : IsReplay both.wired both.script (string_bytes told.out)
@@ -162,41 +242,27 @@ pub record ToldReplay (texts : TwoTexts) (told : Told) : Type 0 where
 
 -- the file of the text that has no meaning
 abbrev pub unscripted_file : ReplayFiles → Unscripted → List ℕ
-unscripted_file files (texts.InWiring fault) = files.wiring.now
+unscripted_file files (texts.InSystem fault) = system_file files.system fault
 unscripted_file files (InScript fault) = files.script.now
 
--- a fault is told of two texts, and it is right: one of them has no meaning, and the file of the
--- first such is named
-pub record ToldUnscripted (files : ReplayFiles) (texts : TwoTexts) (told : Told) : Type 0 where
+-- a fault is told of texts, and it is right: one of them has no meaning, and the file of the first
+-- such is named
+pub record ToldUnscripted (files : ReplayFiles) (texts : ReplayTexts) (told : Told) : Type 0 where
   pub fault : Unscripted
   pub says : scripted texts ≡ Err fault
   pub out : string_bytes told.out ≡ []
   pub err : IsFaultOf (unscripted_file files fault) (string_bytes told.err)
 
 -- a replay is told of what the files hold
-pub record ReplayOfFiles (held : Held) (files : ReplayFiles) (told : Told) : Type 0 where
-  pub texts : TwoTexts
-  pub are_held : AreBothHeld held files texts
-  pub replay : ToldReplay texts told
-
--- a fault is told of what the files of a replay hold
-pub record FaultOfBoth (held : Held) (files : ReplayFiles) (told : Told) : Type 0 where
-  pub texts : TwoTexts
-  pub are_held : AreBothHeld held files texts
-  pub fault : ToldUnscripted files texts told
-
--- the first file of a replay that can't be read is named
-pub record ToldBothUnread (held : Held) (files : ReplayFiles) (told : Told) : Type 0 where
-  pub file : List ℕ
-  pub first : IsFirstOfBothUnread held files file
-  pub out : string_bytes told.out ≡ []
-  pub err : IsFaultOf file (string_bytes told.err)
+abbrev pub ReplayOfFiles : Held → ReplayFiles → Told → Type 0
+ReplayOfFiles held files told = OfFiles replay_list ToldReplay held (replay_names files) told
 
 -- why status 2 is told of the files of a replay: memory ran out, a file can't be read, or a text
 -- has no meaning
 abbrev pub FaultOfReplay : Held → ReplayFiles → Told → Type 0
 FaultOfReplay held files told = ToldMemory told
-    ⊎ (ToldBothUnread held files told ⊎ FaultOfBoth held files told)
+    ⊎ (ToldUnread held (replay_names files) told
+    ⊎ OfFiles replay_list (ToldUnscripted files) held (replay_names files) told)
 
 -- it is told of some files
 abbrev pub SomeFiles : {F : Type 0} → (F → Told → Type 0) → Told → Type 0

@@ -1,14 +1,14 @@
 //! The command line, read by `clap`.
 
-ghost use Rattle.std.specs.Prelude.{◌≡◌, codes, true, false, map, string_bytes, IfErr, IfOk};
-ghost use Rattle.std.specs.Prelude.{IfSome};
+ghost use Rattle.std.specs.Prelude.{◌≡◌, codes, Some, true, false, map, string_bytes, IfErr, IfOk};
 ghost use Rattle.clap.specs.Words.{app_of, rule_of, kind_of};
 ghost use Rattle.clap.specs.Matches.{found_of, first_value};
 ghost use Rattle.clap.specs.declared.error.kind.ErrorKind.TheVariants.{OutOfMemory, DisplayHelp};
 ghost use Rattle.clap.specs.declared.error.kind.ErrorKind.TheVariants.{DisplayVersion};
 ghost use Rattle.machcheck.specs.CommandLine.{IsNoCommand, TellsError, file_rule, check_app};
-ghost use Rattle.machcheck.specs.CommandLine.{replay_app};
-ghost use Rattle.machcheck.specs.CommandLine.{machcheck_app, HasNoGlobals};
+ghost use Rattle.machcheck.specs.CommandLine.{check_options, certificate_app};
+ghost use Rattle.machcheck.specs.CommandLine.{defs_rule, make_app, replay_app, machcheck_app};
+ghost use Rattle.machcheck.specs.CommandLine.{HasNoGlobals, all_values};
 
 use crate::told::Told;
 use clap::error::ErrorKind;
@@ -16,16 +16,18 @@ use clap::{Arg, ArgAction, ArgMatches, Error};
 use std::alloc::{AllocError, AllocFailed, Global};
 
 const PROGRAM_HELP: &str = "Exit status of each command:
-  0  YES was printed, or the replay of a script, or help or the version
+  0  YES was printed, a certificate was made, a script was replayed, or help or the
+     version was printed
   1  NO was printed, with the first reason
   2  a fault was told on standard error: a file can't be read or has no meaning,
      the command line is wrong, the output was not taken, or memory ran out
 
-`machcheck check --help` and `machcheck replay --help` tell of the files. Read on in
-README.md, which starts with a worked example, and in docs/ARCHITECTURE.md.";
+`machcheck check --help`, and the same of the other commands, tells of the files. Read on
+in README.md, which starts with a worked example, and in docs/ARCHITECTURE.md.";
 
 const CHECK_HELP: &str = "Files, as README.md describes them:
-  a wiring has the tasks and the rights that they hold at first,
+  MIG files have the messages of the interfaces that the wiring names,
+  a wiring has the tasks and ports, what they accept, and the rights that are held at first,
   a policy has who must never hold what,
   a certificate has who may come to hold what. It is not trusted.
 
@@ -38,8 +40,24 @@ Exit status:
 
 Read on in README.md, and in docs/ARCHITECTURE.md.";
 
+const MAKE_HELP: &str = "Files, as README.md describes them:
+  MIG files have the messages of the interfaces that the wiring names,
+  a wiring has the tasks and ports, what they accept, and the rights that are held at first.
+
+The least certificate of the wiring is made: who may come to hold what, and nothing else. It
+is written beside the file that --out names, as FILE.part, and then takes its place, so that
+the file is never half written. How many facts it has is printed.
+
+Exit status:
+  0  the certificate was made
+  2  a fault on standard error, as `machcheck: FILE: FAULT`: a file can't be read or has
+     no meaning or was not taken, the command line is wrong, or memory ran out
+
+Read on in README.md, and in docs/ARCHITECTURE.md.";
+
 const REPLAY_HELP: &str = "Files, as docs/FORMATS.md describes them:
-  a wiring has the tasks and the rights that they hold at first,
+  MIG files have the messages of the interfaces that the wiring names,
+  a wiring has the tasks and ports, what they accept, and the rights that are held at first,
   a script has a call of a task on each line.
 
 Each call is made, one after the other, from the wiring's first state on. A line is printed
@@ -58,22 +76,38 @@ Read on in README.md, and in docs/ARCHITECTURE.md.";
 pub enum Command<'a> {
     /// Is the certificate accepted for the wiring and the policy?
     Check(CheckFiles<'a>),
+    /// What may the tasks of the wiring come to hold?
+    Make(MakeFiles<'a>),
     /// What do the calls of the script answer?
     Replay(ReplayFiles<'a>),
+}
+
+/// The files of a system: the MIG files of its interfaces, and its wiring.
+#[derive(Drop)]
+pub struct SystemFiles<'a> {
+    pub defs: Vec<&'a str>,
+    pub wiring: &'a str,
 }
 
 /// The files of a `check`.
 #[derive(Drop)]
 pub struct CheckFiles<'a> {
-    pub wiring: &'a str,
+    pub system: SystemFiles<'a>,
     pub policy: &'a str,
     pub certificate: &'a str,
+}
+
+/// The files of a `make`. The last one is written.
+#[derive(Drop)]
+pub struct MakeFiles<'a> {
+    pub system: SystemFiles<'a>,
+    pub out: &'a str,
 }
 
 /// The files of a `replay`.
 #[derive(Drop)]
 pub struct ReplayFiles<'a> {
-    pub wiring: &'a str,
+    pub system: SystemFiles<'a>,
     pub script: &'a str,
 }
 
@@ -109,16 +143,54 @@ fn file_option<'a>(alloc: Global, name: &'a str, help: &'a str) -> Arg<'a>
         .action(ArgAction::Set)
 }
 
-fn check_command<'a>(alloc: Global) -> Result<clap::Command<'a>, AllocError>
-    ensures app { IfOk result (λ command. app_of command ≡ check_app) }
+fn wiring_option<'a>(alloc: Global) -> Arg<'a>
+    ensures rule { rule_of result ≡ file_rule (codes "wiring") }
+    ensures local { result.global ≡ false }
+{
+    file_option(alloc, "wiring", "Tasks, ports and their first rights")
+}
+
+fn defs_arguments<'a>(alloc: Global) -> Arg<'a>
+    ensures rule { rule_of result ≡ defs_rule }
+    ensures local { result.global ≡ false }
+{
+    Arg::new(alloc, "defs")
+        .value_name("DEFS")
+        .help("The MIG files of the interfaces")
+        .action(ArgAction::Append)
+}
+
+/// The command with its first two options.
+fn check_options<'a>(alloc: Global) -> Result<clap::Command<'a>, AllocError>
+    ensures app { IfOk result (λ command. app_of command ≡ check_options) }
     ensures local { IfOk result HasNoGlobals }
 {
     clap::Command::new(alloc, "check")
         .about("Says whether a certificate shows that no forbidden right can be obtained")
         .after_help(CHECK_HELP)
-        .arg(file_option(alloc, "wiring", "Tasks and their first rights"))?
-        .arg(file_option(alloc, "policy", "The forbidden holdings"))?
-        .arg(file_option(alloc, "cert", "The certificate: who may come to hold what"))
+        .arg(wiring_option(alloc))?
+        .arg(file_option(alloc, "policy", "The forbidden holdings"))
+}
+
+fn check_command<'a>(alloc: Global) -> Result<clap::Command<'a>, AllocError>
+    ensures app { IfOk result (λ command. app_of command ≡ check_app) }
+    ensures local { IfOk result HasNoGlobals }
+{
+    check_options(alloc)?
+        .arg(file_option(alloc, "cert", "The certificate: who may come to hold what"))?
+        .arg(defs_arguments(alloc))
+}
+
+fn make_command<'a>(alloc: Global) -> Result<clap::Command<'a>, AllocError>
+    ensures app { IfOk result (λ command. app_of command ≡ make_app) }
+    ensures local { IfOk result HasNoGlobals }
+{
+    clap::Command::new(alloc, "make")
+        .about("Makes the least certificate of a wiring")
+        .after_help(MAKE_HELP)
+        .arg(wiring_option(alloc))?
+        .arg(file_option(alloc, "out", "The certificate that is written"))?
+        .arg(defs_arguments(alloc))
 }
 
 fn replay_command<'a>(alloc: Global) -> Result<clap::Command<'a>, AllocError>
@@ -128,15 +200,17 @@ fn replay_command<'a>(alloc: Global) -> Result<clap::Command<'a>, AllocError>
     clap::Command::new(alloc, "replay")
         .about("Runs a script of calls, and prints the reply to each")
         .after_help(REPLAY_HELP)
-        .arg(file_option(alloc, "wiring", "Tasks and their first rights"))?
-        .arg(file_option(alloc, "script", "The calls, one a line"))
+        .arg(wiring_option(alloc))?
+        .arg(file_option(alloc, "script", "The calls, one a line"))?
+        .arg(defs_arguments(alloc))
 }
 
-fn whole_command<'a>(alloc: Global) -> Result<clap::Command<'a>, AllocError>
-    ensures { IfOk result (λ command. app_of command ≡ machcheck_app) }
+/// The program with the commands that speak of certificates.
+fn certificate_commands<'a>(alloc: Global) -> Result<clap::Command<'a>, AllocError>
+    ensures { IfOk result (λ command. app_of command ≡ certificate_app) }
 {
     let check = check_command(alloc)?;
-    let replay = replay_command(alloc)?;
+    let make = make_command(alloc)?;
     clap::Command::new(alloc, "machcheck")
         .version("0.1.0")
         .about(
@@ -146,7 +220,15 @@ fn whole_command<'a>(alloc: Global) -> Result<clap::Command<'a>, AllocError>
         .subcommand_required(true)
         .arg_required_else_help(true)
         .subcommand(check)?
-        .subcommand(replay)
+        .subcommand(make)
+}
+
+fn whole_command<'a>(alloc: Global) -> Result<clap::Command<'a>, AllocError>
+    ensures { IfOk result (λ command. app_of command ≡ machcheck_app) }
+{
+    let commands = certificate_commands(alloc)?;
+    let replay = replay_command(alloc)?;
+    commands.subcommand(replay)
 }
 
 /// The text of clap: help and version go to standard output, all else to standard error.
@@ -175,39 +257,103 @@ fn clap_text(alloc: Global, error: Error) -> NoCommand
     })
 }
 
-fn check_files<'a>(matches: &ArgMatches<'a>) -> Option<CheckFiles<'a>>
-    ensures wiring { IfSome result
-        (λ files. first_value (found_of matches.now) (codes "wiring") ≡ Some files.wiring.now) }
-    ensures policy { IfSome result
-        (λ files. first_value (found_of matches.now) (codes "policy") ≡ Some files.policy.now) }
-    ensures certificate { IfSome result
-        (λ files. first_value (found_of matches.now) (codes "cert") ≡ Some files.certificate.now) }
+/// The file that an option names. Each of these options has to be given.
+fn file_given<'a>(matches: &ArgMatches<'a>, option: &str) -> Result<&'a str, NoCommand>
+    ensures given { IfOk result
+        (λ file. first_value (found_of matches.now) option.now ≡ Some file.now) }
+    ensures none { IfErr result (λ none. none ≡ NoCommand.Memory) }
 {
-    Some(CheckFiles {
-        wiring: matches.get_str("wiring")?,
-        policy: matches.get_str("policy")?,
-        certificate: matches.get_str("cert")?,
-    })
-}
-
-fn replay_files<'a>(matches: &ArgMatches<'a>) -> Option<ReplayFiles<'a>>
-    ensures wiring { IfSome result
-        (λ files. first_value (found_of matches.now) (codes "wiring") ≡ Some files.wiring.now) }
-    ensures script { IfSome result
-        (λ files. first_value (found_of matches.now) (codes "script") ≡ Some files.script.now) }
-{
-    Some(ReplayFiles {
-        wiring: matches.get_str("wiring")?,
-        script: matches.get_str("script")?,
-    })
-}
-
-fn command_of<'a>(matches: &ArgMatches<'a>) -> Option<Command<'a>> {
-    if let Some(matches) = matches.subcommand_matches("check") {
-        return Some(Command::Check(check_files(matches)?));
+    match matches.get_str(option) {
+        Some(file) => Ok(file),
+        None => Err(NoCommand::Memory),
     }
-    let matches = matches.subcommand_matches("replay")?;
-    Some(Command::Replay(replay_files(matches)?))
+}
+
+/// The MIG files that are given.
+fn defs_given<'a>(alloc: Global, matches: &ArgMatches<'a>) -> Result<Vec<&'a str>, AllocError>
+    ensures { IfOk result (λ files.
+        map (λ file. file.now) files.items ≡ all_values (found_of matches.now) (codes "defs")) }
+{
+    match matches.get_strs("defs") {
+        Some(files) => Vec::from_slice(alloc, files),
+        None => Ok(Vec::new(alloc)),
+    }
+}
+
+fn system_files<'a>(alloc: Global, matches: &ArgMatches<'a>) -> Result<SystemFiles<'a>, NoCommand>
+    ensures defs { IfOk result (λ files. map (λ file. file.now) files.defs.items
+        ≡ all_values (found_of matches.now) (codes "defs")) }
+    ensures wiring { IfOk result
+        (λ files. first_value (found_of matches.now) (codes "wiring") ≡ Some files.wiring.now) }
+    ensures none { IfErr result (λ none. none ≡ NoCommand.Memory) }
+{
+    let defs = defs_given(alloc, matches)?;
+    let wiring = file_given(matches, "wiring")?;
+    Ok(SystemFiles { defs, wiring })
+}
+
+fn check_files<'a>(alloc: Global, matches: &ArgMatches<'a>) -> Result<CheckFiles<'a>, NoCommand>
+    ensures defs { IfOk result (λ files. map (λ file. file.now) files.system.defs.items
+        ≡ all_values (found_of matches.now) (codes "defs")) }
+    ensures wiring { IfOk result (λ files.
+        first_value (found_of matches.now) (codes "wiring") ≡ Some files.system.wiring.now) }
+    ensures policy { IfOk result
+        (λ files. first_value (found_of matches.now) (codes "policy") ≡ Some files.policy.now) }
+    ensures certificate { IfOk result
+        (λ files. first_value (found_of matches.now) (codes "cert") ≡ Some files.certificate.now) }
+    ensures none { IfErr result (λ none. none ≡ NoCommand.Memory) }
+{
+    let system = system_files(alloc, matches)?;
+    let policy = file_given(matches, "policy")?;
+    let certificate = file_given(matches, "cert")?;
+    Ok(CheckFiles {
+        system,
+        policy,
+        certificate,
+    })
+}
+
+fn make_files<'a>(alloc: Global, matches: &ArgMatches<'a>) -> Result<MakeFiles<'a>, NoCommand>
+    ensures defs { IfOk result (λ files. map (λ file. file.now) files.system.defs.items
+        ≡ all_values (found_of matches.now) (codes "defs")) }
+    ensures wiring { IfOk result (λ files.
+        first_value (found_of matches.now) (codes "wiring") ≡ Some files.system.wiring.now) }
+    ensures out { IfOk result
+        (λ files. first_value (found_of matches.now) (codes "out") ≡ Some files.out.now) }
+    ensures none { IfErr result (λ none. none ≡ NoCommand.Memory) }
+{
+    let system = system_files(alloc, matches)?;
+    let out = file_given(matches, "out")?;
+    Ok(MakeFiles { system, out })
+}
+
+fn replay_files<'a>(alloc: Global, matches: &ArgMatches<'a>) -> Result<ReplayFiles<'a>, NoCommand>
+    ensures defs { IfOk result (λ files. map (λ file. file.now) files.system.defs.items
+        ≡ all_values (found_of matches.now) (codes "defs")) }
+    ensures wiring { IfOk result (λ files.
+        first_value (found_of matches.now) (codes "wiring") ≡ Some files.system.wiring.now) }
+    ensures script { IfOk result
+        (λ files. first_value (found_of matches.now) (codes "script") ≡ Some files.script.now) }
+    ensures none { IfErr result (λ none. none ≡ NoCommand.Memory) }
+{
+    let system = system_files(alloc, matches)?;
+    let script = file_given(matches, "script")?;
+    Ok(ReplayFiles { system, script })
+}
+
+fn command_of<'a>(alloc: Global, matches: &ArgMatches<'a>) -> Result<Command<'a>, NoCommand>
+    ensures none { IfErr result (λ none. none ≡ NoCommand.Memory) }
+{
+    if let Some(matches) = matches.subcommand_matches("check") {
+        return Ok(Command::Check(check_files(alloc, matches)?));
+    }
+    if let Some(matches) = matches.subcommand_matches("make") {
+        return Ok(Command::Make(make_files(alloc, matches)?));
+    }
+    match matches.subcommand_matches("replay") {
+        Some(matches) => Ok(Command::Replay(replay_files(alloc, matches)?)),
+        None => Err(NoCommand::Memory),
+    }
 }
 
 /// Reads the words of a command line, the program's own name first.
@@ -219,8 +365,5 @@ pub fn read(alloc: Global, words: &[String]) -> Result<Command<'_>, NoCommand>
         Ok(matches) => matches,
         Err(error) => return Err(clap_text(alloc, error)),
     };
-    match command_of(&matches) {
-        Some(command) => Ok(command),
-        None => Err(NoCommand::Memory),
-    }
+    command_of(alloc, &matches)
 }

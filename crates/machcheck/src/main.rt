@@ -4,8 +4,10 @@
 
 mod command;
 mod files;
+mod make;
 mod replay;
 mod run;
+mod system;
 mod tell;
 #[cfg(test)]
 mod tests;
@@ -18,7 +20,7 @@ fn main(rt: HostRuntime) -> ExitCode {
     let mut out = rt.stdout();
     let mut err = rt.stderr();
     let status = run::start(
-        &files::Disk(&rt),
+        &mut files::Disk(&rt),
         rt.alloc(),
         words::words_of(&rt),
         &mut out,

@@ -1,19 +1,21 @@
 //! What the program tells of a wiring and a script.
 
 ghost use Rattle.std.specs.Prelude.{◌≡◌, ◌⊎◌, [], Ok, IfOk, IfErr, string_bytes};
-ghost use Rattle.mrc_check.specs.Texts.{step};
+ghost use Rattle.mrc_interface.specs.Reading.{step};
 ghost use Rattle.mrc_report.specs.Replay.{IsReplay};
 ghost use Rattle.machcheck.specs.declared.replay.WiredScript.{WiredScript};
 ghost use Rattle.machcheck.specs.Texts.{InScript, Plays, script_said, scripted, unscripted};
-ghost use Rattle.machcheck.specs.Files.{AreBothHeld, Exceeds, IsFirstOfBothUnread};
+ghost use Rattle.machcheck.specs.Texts.{replay_list};
+ghost use Rattle.machcheck.specs.Files.{AreHeld, Exceeds, IsFirstUnread, replay_names};
 ghost use Rattle.machcheck.specs.Told.{ToldReplay, ToldUnscripted, ToldMemory, IsFaultOf};
 ghost use Rattle.machcheck.specs.Told.{unscripted_file, ReplayOfFiles, FaultOfReplay};
 
 use crate::command::ReplayFiles;
 use crate::files::{Folder, Unread, bytes_of, unread_told};
+use crate::system::{SystemBytes, system_bytes, system_fault_told, wired_by};
 use crate::told::{Told, fault_of, memory, said};
 use mrc_base::OrMemory;
-use mrc_check::{WiringFault, table_of};
+use mrc_check::SystemFault;
 use mrc_report::{ReadFault, Script, ScriptFault, read_script, replay};
 use mrc_wiring::Wired;
 use std::alloc::{AllocError, Global};
@@ -23,16 +25,16 @@ use std::str;
 /// The bytes of the files of a `replay`.
 #[derive(Drop)]
 struct ReplayBytes {
-    wiring: Vec<u8>,
+    system: SystemBytes,
     script: Vec<u8>,
 }
 
 impl Model for ReplayBytes {
-    ghost use Rattle.machcheck.specs.Texts.{TwoTexts};
+    ghost use Rattle.machcheck.specs.Texts.{ReplayTexts};
 
-    ghost Value = { TwoTexts };
+    ghost Value = { ReplayTexts };
 
-    ghost view = { λ b. record { wiring = b.wiring.items; script = b.script.items } };
+    ghost view = { λ b. record { system = b.system; script = b.script.items } };
 }
 
 /// A wiring, and a script of its tasks.
@@ -42,32 +44,33 @@ pub struct WiredScript {
     pub script: Script,
 }
 
-/// Why the bytes of a wiring and a script are none.
+/// Why the bytes of a system and a script are none.
 #[derive(Clone, Copy, Debug, PartialEq, Eq)]
 pub enum ReplayFault {
-    /// The wiring has no meaning.
-    Wiring(WiringFault),
+    /// A MIG file or the wiring has no meaning.
+    System(SystemFault),
     /// The script's bytes are no UTF-8 text.
     NotUtf8,
     /// The script has no meaning.
     Script(ScriptFault),
 }
 
-/// All files are read before any is judged, in the order wiring, script.
+/// All files are read before any is judged, those of the system first.
 fn replay_bytes<'a, F: Folder>(
     folder: &F,
     alloc: Global,
     files: &ReplayFiles<'a>,
 ) -> Result<ReplayBytes, Unread<'a>>
-    ensures held { IfOk result (AreBothHeld (F.held folder.now) files.now) }
-    ensures first { IfErr result
-        (λ unread. IsFirstOfBothUnread (F.held folder.now) files.now unread.file.now) }
+    ensures held { IfOk result
+        (λ bytes. AreHeld (F.held folder.now) (replay_names files.now) (replay_list bytes)) }
+    ensures first { IfErr result (λ unread.
+        IsFirstUnread (F.held folder.now) (replay_names files.now) unread.file.now) }
     ensures too_big { IfErr result (λ unread. unread.fault ≡ ReadFault.TooBig
         → Exceeds (F.held folder.now) unread.file.now) }
 {
-    let wiring = bytes_of(folder, alloc, files.wiring)?;
+    let system = system_bytes(folder, alloc, &files.system)?;
     let script = bytes_of(folder, alloc, files.script)?;
-    Ok(ReplayBytes { wiring, script })
+    Ok(ReplayBytes { system, script })
 }
 
 /// What a script's bytes say to the tasks of a wiring.
@@ -84,24 +87,25 @@ fn script_said(alloc: Global, wired: &Wired, bytes: &[u8]) -> Result<Script, OrM
     }
 }
 
-/// What the bytes of a wiring and a script say together.
+/// What the bytes of a system and a script say together.
 fn scripted(alloc: Global, bytes: &ReplayBytes) -> Result<WiredScript, OrMemory<ReplayFault>>
     ensures { Plays (λ both. both) result (scripted bytes.now) }
 {
-    match table_of(alloc, bytes.wiring.as_slice()) {
+    match wired_by(alloc, &bytes.system) {
         Ok(wired) => {
             let script = script_said(alloc, &wired, bytes.script.as_slice())?;
             Ok(WiredScript { wired, script })
         }
-        Err(OrMemory::Fault(fault)) => Err(OrMemory::Fault(ReplayFault::Wiring(fault))),
+        Err(OrMemory::Fault(fault)) => Err(OrMemory::Fault(ReplayFault::System(fault))),
         Err(OrMemory::Memory) => Err(OrMemory::Memory),
     }
 }
 
-/// A fault of a wiring or a script, with its file.
+/// A fault of a system or a script, with its file.
 fn fault_told(
     alloc: Global,
     files: &ReplayFiles<'_>,
+    system: &SystemBytes,
     fault: ReplayFault,
 ) -> Result<Told, AllocError>
     ensures status { IfOk result (λ told. told.status ≡ 2) }
@@ -110,10 +114,7 @@ fn fault_told(
         IsFaultOf (unscripted_file files.now (unscripted fault)) (string_bytes told.err)) }
 {
     match fault {
-        ReplayFault::Wiring(fault) => {
-            let text = fault.to_string(alloc)?;
-            fault_of(alloc, files.wiring, text.as_str())
-        }
+        ReplayFault::System(fault) => system_fault_told(alloc, &files.system, system, fault),
         ReplayFault::NotUtf8 => fault_of(alloc, files.script, "NotUtf8"),
         ReplayFault::Script(fault) => {
             let text = fault.to_string(alloc)?;
@@ -133,7 +134,7 @@ fn replay_said(alloc: Global, both: &WiredScript) -> Result<Told, AllocError>
     Ok(said(alloc, text, 0))
 }
 
-/// What is told of the bytes of a wiring and a script.
+/// What is told of the bytes of a system and a script.
 fn replay_told(
     alloc: Global,
     files: &ReplayFiles<'_>,
@@ -142,7 +143,7 @@ fn replay_told(
     ensures status { IfOk result (λ told. (told.status ≡ 0) ⊎ (told.status ≡ 2)) }
     // What is told with status 0 is the replay.
     ensures replay { IfOk result (λ told. told.status ≡ 0 → ToldReplay bytes.now told) }
-    // Where both texts have a meaning the replay is told, unless memory runs out.
+    // Where all texts have a meaning the replay is told, unless memory runs out.
     ensures only { (both : WiredScript) → scripted bytes.now ≡ Ok both
         → IfOk result (λ told. (told.status ≡ 0) ⊎ ToldMemory told) }
     // A fault is one of the first file that has one, unless memory ran out.
@@ -151,7 +152,7 @@ fn replay_told(
 {
     match scripted(alloc, bytes) {
         Ok(both) => replay_said(alloc, &both),
-        Err(OrMemory::Fault(fault)) => fault_told(alloc, files, fault),
+        Err(OrMemory::Fault(fault)) => fault_told(alloc, files, &bytes.system, fault),
         Err(OrMemory::Memory) => memory(alloc),
     }
 }

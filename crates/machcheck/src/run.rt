@@ -5,15 +5,18 @@ ghost use Rattle.std.specs.Prelude.{string_bytes};
 ghost use Rattle.std.specs.Io.KnownBytes.{Appends};
 ghost use Rattle.mrc_check.specs.Verdict.{Case};
 ghost use Rattle.mrc_check.specs.Texts.{Tells};
-ghost use Rattle.machcheck.specs.Texts.{AreAccepted, said_by};
-ghost use Rattle.machcheck.specs.Files.{AreHeld, Exceeds, IsFirstUnread};
+ghost use Rattle.machcheck.specs.Texts.{AreAccepted, said_by, check_list};
+ghost use Rattle.machcheck.specs.Files.{AreHeld, Exceeds, IsFirstUnread, check_names};
 ghost use Rattle.machcheck.specs.Told.{ToldYes, ToldNo, ToldMemory, ToldFault, YesOfFiles};
-ghost use Rattle.machcheck.specs.Told.{NoOfFiles, FaultOfFiles, ReplayOfFiles, SomeFiles, WentOut};
+ghost use Rattle.machcheck.specs.Told.{NoOfFiles, FaultOfFiles, MadeOfFiles, ReplayOfFiles};
+ghost use Rattle.machcheck.specs.Told.{SomeFiles, WentOut};
 ghost use Rattle.machcheck.specs.CommandLine.{AsksHelp};
 
 use crate::command::{CheckFiles, Command, NoCommand, read};
 use crate::files::{Folder, Unread, bytes_of, unread_told};
+use crate::make::make_files;
 use crate::replay::replay_files;
+use crate::system::{SystemBytes, system_bytes};
 use crate::tell::verdict;
 use crate::told::{Told, memory};
 use crate::words::{WordsFault, words_line};
@@ -27,46 +30,48 @@ use std::marker::Model;
 /// The bytes of the files of a `check`.
 #[derive(Drop)]
 struct CheckBytes {
-    wiring: Vec<u8>,
+    system: SystemBytes,
     policy: Vec<u8>,
     certificate: Vec<u8>,
 }
 
 impl Model for CheckBytes {
-    ghost use Rattle.machcheck.specs.Texts.{ThreeTexts};
+    ghost use Rattle.machcheck.specs.Texts.{CheckTexts};
 
-    ghost Value = { ThreeTexts };
+    ghost Value = { CheckTexts };
 
     ghost view = { λ b. record {
-      wiring = b.wiring.items;
+      system = b.system;
       policy = b.policy.items;
       certificate = b.certificate.items;
     } };
 }
 
-/// All files are read before any is judged, in the order wiring, policy, certificate.
+/// All files are read before any is judged, those of the system first, and then the policy and the
+/// certificate.
 fn check_bytes<'a, F: Folder>(
     folder: &F,
     alloc: Global,
     files: &CheckFiles<'a>,
 ) -> Result<CheckBytes, Unread<'a>>
-    ensures held { IfOk result (AreHeld (F.held folder.now) files.now) }
-    ensures first { IfErr result
-        (λ unread. IsFirstUnread (F.held folder.now) files.now unread.file.now) }
+    ensures held { IfOk result
+        (λ bytes. AreHeld (F.held folder.now) (check_names files.now) (check_list bytes)) }
+    ensures first { IfErr result (λ unread.
+        IsFirstUnread (F.held folder.now) (check_names files.now) unread.file.now) }
     ensures too_big { IfErr result (λ unread. unread.fault ≡ ReadFault.TooBig
         → Exceeds (F.held folder.now) unread.file.now) }
 {
-    let wiring = bytes_of(folder, alloc, files.wiring)?;
+    let system = system_bytes(folder, alloc, &files.system)?;
     let policy = bytes_of(folder, alloc, files.policy)?;
     let certificate = bytes_of(folder, alloc, files.certificate)?;
     Ok(CheckBytes {
-        wiring,
+        system,
         policy,
         certificate,
     })
 }
 
-/// The checker's answer to the bytes of three files.
+/// The checker's answer to the bytes of the files.
 fn answer_of(alloc: Global, bytes: &CheckBytes) -> Result<Confined, OrMemory<TextsFault>>
     ensures yes { IfOk result (AreAccepted bytes.now) }
     ensures only { (case : Case) → AreAccepted bytes.now case
@@ -75,13 +80,14 @@ fn answer_of(alloc: Global, bytes: &CheckBytes) -> Result<Confined, OrMemory<Tex
 {
     check_texts(
         alloc,
-        bytes.wiring.as_slice(),
+        bytes.system.defs.as_slice(),
+        bytes.system.wiring.as_slice(),
         bytes.policy.as_slice(),
         bytes.certificate.as_slice(),
     )
 }
 
-/// What is told of the bytes of three files.
+/// What is told of the bytes of the files.
 fn told_of(alloc: Global, files: &CheckFiles<'_>, bytes: &CheckBytes) -> Result<Told, AllocError>
     ensures status { IfOk result (λ told. told.status ≤ 2) }
     // A yes is right.
@@ -96,7 +102,7 @@ fn told_of(alloc: Global, files: &CheckFiles<'_>, bytes: &CheckBytes) -> Result<
         → ToldMemory told ⊎ ToldFault files.now bytes.now told) }
 {
     let answer = answer_of(alloc, bytes);
-    verdict(alloc, files, &answer)
+    verdict(alloc, files, bytes.system.wiring.as_slice(), &answer)
 }
 
 /// What is told of the files of a `check`.
@@ -121,19 +127,22 @@ fn check_files<F: Folder>(
 }
 
 /// What is told of the words of a command line.
-fn told<F: Folder>(folder: &F, alloc: Global, words: &[String]) -> Result<Told, AllocError>
+fn told<F: Folder>(folder: &mut F, alloc: Global, words: &[String]) -> Result<Told, AllocError>
     ensures status { IfOk result (λ told. told.status ≤ 2) }
-    // Status 0 is that of a yes or of a replay, unless the words ask for help or the version.
+    // Status 0 is that of a yes, of a certificate that was made or of a replay, unless the words ask
+    // for help or the version.
     ensures yes { IfOk result (λ told. told.status ≡ 0
-        → SomeFiles (YesOfFiles (F.held folder.now)) told
-        ⊎ (SomeFiles (ReplayOfFiles (F.held folder.now)) told
-        ⊎ AsksHelp (map string_bytes words.now))) }
+        → SomeFiles (YesOfFiles (F.held folder.old)) told
+        ⊎ (SomeFiles (MadeOfFiles (F.held folder.old) (F.held folder.new)) told
+        ⊎ (SomeFiles (ReplayOfFiles (F.held folder.old)) told
+        ⊎ AsksHelp (map string_bytes words.now)))) }
     ensures no { IfOk result (λ told. told.status ≡ 1
-        → SomeFiles (NoOfFiles (F.held folder.now)) told) }
+        → SomeFiles (NoOfFiles (F.held folder.old)) told) }
     ensures fault { IfOk result (λ told. told.status ≡ 2 → string_bytes told.out ≡ []) }
 {
     match read(alloc, words) {
         Ok(Command::Check(files)) => check_files(folder, alloc, &files),
+        Ok(Command::Make(files)) => make_files(folder, alloc, &files),
         Ok(Command::Replay(files)) => replay_files(folder, alloc, &files),
         Err(NoCommand::Told(told)) => Ok(told),
         Err(NoCommand::Memory) => memory(alloc),
@@ -166,25 +175,27 @@ fn write_told<O: Write, E: Write>(alloc: Global, told: &Told, out: &mut O, err: 
 }
 
 /// Runs the program on the words of a command line, its own name first, and on the files of a
-/// folder. The status is 0 for `YES`, for a replay and for help and the version, 1 for `NO`, and 2
-/// for a fault.
+/// folder. The status is 0 for `YES`, for a certificate that is made, for a replay and for help and
+/// the version, 1 for `NO`, and 2 for a fault.
 pub fn run<F: Folder, O: Write, E: Write>(
-    folder: &F,
+    folder: &mut F,
     alloc: Global,
     words: &[String],
     out: &mut O,
     err: &mut E,
 ) -> u8
     ensures status { result ≤ 2 }
-    // With status 0 a yes or a replay went out that is right of what the files hold, unless the
-    // words ask for help or the version.
+    // With status 0 a yes, the making of a certificate or a replay went out that is right of what
+    // the files held, unless the words ask for help or the version.
     ensures yes { result ≡ 0
-        → WentOut (YesOfFiles (F.held folder.now)) (O.contents out.old) (O.contents out.new)
-        ⊎ (WentOut (ReplayOfFiles (F.held folder.now)) (O.contents out.old) (O.contents out.new)
-        ⊎ AsksHelp (map string_bytes words.now)) }
+        → WentOut (YesOfFiles (F.held folder.old)) (O.contents out.old) (O.contents out.new)
+        ⊎ (WentOut (MadeOfFiles (F.held folder.old) (F.held folder.new)) (O.contents out.old)
+        (O.contents out.new)
+        ⊎ (WentOut (ReplayOfFiles (F.held folder.old)) (O.contents out.old) (O.contents out.new)
+        ⊎ AsksHelp (map string_bytes words.now))) }
     // With status 1 a no went out that is right of what the files hold.
     ensures no { result ≡ 1
-        → WentOut (NoOfFiles (F.held folder.now)) (O.contents out.old) (O.contents out.new) }
+        → WentOut (NoOfFiles (F.held folder.old)) (O.contents out.old) (O.contents out.new) }
 {
     match told(folder, alloc, words) {
         Ok(told) => write_told(alloc, &told, out, err),
@@ -198,7 +209,7 @@ pub fn run<F: Folder, O: Write, E: Write>(
 /// Runs the program on the words of a command line, or tells why they can't be had. The status is
 /// that of [`run`], or 2.
 pub fn start<F: Folder, O: Write, E: Write>(
-    folder: &F,
+    folder: &mut F,
     alloc: Global,
     words: Result<Vec<String>, WordsFault>,
     out: &mut O,
@@ -206,15 +217,17 @@ pub fn start<F: Folder, O: Write, E: Write>(
 ) -> u8
     ensures status { result ≤ 2 }
     ensures fault { IfErr words (λ _. result ≡ 2) }
-    // With status 0 a yes or a replay went out that is right of what the files hold, unless the
-    // words ask for help or the version.
+    // With status 0 a yes, the making of a certificate or a replay went out that is right of what
+    // the files held, unless the words ask for help or the version.
     ensures yes { result ≡ 0
-        → WentOut (YesOfFiles (F.held folder.now)) (O.contents out.old) (O.contents out.new)
-        ⊎ (WentOut (ReplayOfFiles (F.held folder.now)) (O.contents out.old) (O.contents out.new)
-        ⊎ IsOkAnd words (λ given. AsksHelp (map string_bytes given.items))) }
+        → WentOut (YesOfFiles (F.held folder.old)) (O.contents out.old) (O.contents out.new)
+        ⊎ (WentOut (MadeOfFiles (F.held folder.old) (F.held folder.new)) (O.contents out.old)
+        (O.contents out.new)
+        ⊎ (WentOut (ReplayOfFiles (F.held folder.old)) (O.contents out.old) (O.contents out.new)
+        ⊎ IsOkAnd words (λ given. AsksHelp (map string_bytes given.items)))) }
     // With status 1 a no went out that is right of what the files hold.
     ensures no { result ≡ 1
-        → WentOut (NoOfFiles (F.held folder.now)) (O.contents out.old) (O.contents out.new) }
+        → WentOut (NoOfFiles (F.held folder.old)) (O.contents out.old) (O.contents out.new) }
 {
     match words {
         Ok(words) => run(folder, alloc, words.as_slice(), out, err),

@@ -5,6 +5,7 @@ ghost use Rattle.mrc_base.specs.declared.memory.OrMemory.TheVariants.{Fault};
 ghost use Rattle.machcheck.specs.Told.{why_line, status_of, out_of, IsError};
 
 use crate::command::CheckFiles;
+use crate::system::{defs_fault_told, wiring_fault_told};
 use crate::told::{Told, fault_of, memory, said};
 use mrc_base::OrMemory;
 use mrc_check::{Confined, Refused, TextsFault, Why};
@@ -35,9 +36,14 @@ fn refusal(alloc: Global, refused: &Refused<Why>) -> Result<Told, AllocError>
     Ok(said(alloc, line, 1))
 }
 
-/// What is told of three texts that are not accepted: the file that has no meaning with its fault,
+/// What is told of texts that are not accepted: the file that has no meaning with its fault,
 /// or the reason of a refusal.
-fn fault_told(alloc: Global, files: &CheckFiles<'_>, fault: &TextsFault) -> Result<Told, AllocError>
+fn fault_told(
+    alloc: Global,
+    files: &CheckFiles<'_>,
+    wiring: &[u8],
+    fault: &TextsFault,
+) -> Result<Told, AllocError>
     ensures status { IfOk result (λ told. told.status ≡ status_of (Err (Fault fault.now))) }
     ensures out { IfOk result (λ told. string_bytes told.out ≡ out_of (Err (Fault fault.now))) }
     ensures err { IfOk result
@@ -45,10 +51,8 @@ fn fault_told(alloc: Global, files: &CheckFiles<'_>, fault: &TextsFault) -> Resu
 {
     match fault {
         TextsFault::Check(refused) => refusal(alloc, refused),
-        TextsFault::Wiring(fault) => {
-            let text = fault.to_string(alloc)?;
-            fault_of(alloc, files.wiring, text.as_str())
-        }
+        TextsFault::Defs(fault) => defs_fault_told(alloc, &files.system, *fault),
+        TextsFault::Wiring(fault) => wiring_fault_told(alloc, &files.system, wiring, *fault),
         TextsFault::Policy(fault) => {
             let text = fault.to_string(alloc)?;
             fault_of(alloc, files.policy, text.as_str())
@@ -60,10 +64,11 @@ fn fault_told(alloc: Global, files: &CheckFiles<'_>, fault: &TextsFault) -> Resu
     }
 }
 
-/// What is told of the checker's answer to three texts. Want of memory is no file's fault.
+/// What is told of the checker's answer, over the bytes of a wiring. Want of memory is no file's fault.
 pub fn verdict(
     alloc: Global,
     files: &CheckFiles<'_>,
+    wiring: &[u8],
     answer: &Result<Confined, OrMemory<TextsFault>>,
 ) -> Result<Told, AllocError>
     ensures status { IfOk result (λ told. told.status ≡ status_of answer.now) }
@@ -72,7 +77,7 @@ pub fn verdict(
 {
     match answer {
         Ok(_) => Ok(said(alloc, String::from_str(alloc, "YES\n")?, 0)),
-        Err(OrMemory::Fault(fault)) => fault_told(alloc, files, fault),
+        Err(OrMemory::Fault(fault)) => fault_told(alloc, files, wiring, fault),
         Err(OrMemory::Memory) => memory(alloc),
     }
 }

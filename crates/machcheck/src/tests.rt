@@ -3,6 +3,8 @@
 use crate::files::{Disk, Folder};
 use crate::run::{run, start};
 use crate::words::{WordsFault, words_of};
+use mrc_base::OrMemory;
+use mrc_report::WriteFault;
 use std::alloc::Global;
 use std::cell::Cell;
 use std::env::{Env, FillError};
@@ -77,7 +79,7 @@ fn run_words(rt: &HostRuntime, words: &[String]) -> Outcome {
     let alloc = rt.alloc();
     let mut out = Vec::new(alloc);
     let mut err = Vec::new(alloc);
-    let status = run(&Disk(rt), alloc, words, &mut out, &mut err);
+    let status = run(&mut Disk(rt), alloc, words, &mut out, &mut err);
     Outcome { out, err, status }
 }
 
@@ -285,7 +287,7 @@ fn standard_output_that_fails(rt: HostRuntime) -> Result<(), Fail> {
     let mut out = Failing { left: 2 };
     let mut err = Vec::new(alloc);
     let status = run(
-        &Disk(&rt),
+        &mut Disk(&rt),
         alloc,
         words(alloc, folder)?.as_slice(),
         &mut out,
@@ -359,7 +361,8 @@ fn help(rt: HostRuntime) -> Result<(), Fail> {
             "--wiring <FILE>",
             "--policy <FILE>",
             "--cert <FILE>",
-            "a wiring has the tasks and the rights that they hold at first",
+            "a wiring has the tasks and ports, what they accept, and the rights that are held at first",
+            "[DEFS]...",
             "a policy has who must never hold what",
             "a certificate has who may come to hold what",
             "  0  YES",
@@ -389,13 +392,28 @@ fn help_of_replays(rt: HostRuntime) -> Result<(), Fail> {
     )
 }
 
-/// Three files, each named by its first letter, and the order in which they were opened.
+/// Files, each named by its first letter, the order in which they were opened, and what was written.
 #[derive(Drop)]
 struct Shelf<'a> {
+    defs: Result<&'a [u8], ErrorKind>,
     wiring: Result<&'a [u8], ErrorKind>,
     policy: Result<&'a [u8], ErrorKind>,
     certificate: Result<&'a [u8], ErrorKind>,
     opened: Cell<u32>,
+    written: Vec<u8>,
+}
+
+/// A shelf without files.
+fn no_files<'a>(alloc: Global) -> Shelf<'a> {
+    let none = Err(ErrorKind::NotFound);
+    Shelf {
+        defs: none,
+        wiring: none,
+        policy: none,
+        certificate: none,
+        opened: Cell::new(0),
+        written: Vec::new(alloc),
+    }
 }
 
 impl<'a> Folder for Shelf<'a> {
@@ -407,6 +425,7 @@ impl<'a> Folder for Shelf<'a> {
 
     fn open(&self, name: &str) -> io::Result<&'a [u8]> {
         let (place, file) = match name {
+            "d" => (4, self.defs),
             "w" => (1, self.wiring),
             "p" => (2, self.policy),
             "c" => (3, self.certificate),
@@ -415,6 +434,20 @@ impl<'a> Folder for Shelf<'a> {
         self.opened
             .set(self.opened.get().wrapping_mul(10).wrapping_add(place));
         file.map_err(io::Error::from)
+    }
+
+    // A file `full` takes three bytes.
+    fn replace(
+        &mut self,
+        _alloc: Global,
+        name: &str,
+        bytes: &[u8],
+    ) -> Result<(), OrMemory<WriteFault>> {
+        if name == "full" {
+            return Err(OrMemory::Fault(WriteFault { written: 3 }));
+        }
+        self.written.extend_from_slice(bytes)?;
+        Ok(())
     }
 }
 
@@ -430,7 +463,7 @@ const CHECK: [&str; 8] = [
 ];
 
 /// What is told of the files of a shelf, and the order in which they were opened.
-fn of_shelf(alloc: Global, shelf: &Shelf<'_>, words: &[&str]) -> Result<(Outcome, u32), Fail> {
+fn of_shelf(alloc: Global, shelf: &mut Shelf<'_>, words: &[&str]) -> Result<(Outcome, u32), Fail> {
     let mut out = Vec::new(alloc);
     let mut err = Vec::new(alloc);
     let words = line(alloc, words)?;
@@ -483,13 +516,11 @@ fn files_are_read_in_order(rt: HostRuntime) -> Result<(), Fail> {
             12,
         ),
     ] {
-        let shelf = Shelf {
-            wiring,
-            policy,
-            certificate,
-            opened: Cell::new(0),
-        };
-        let (told, opened) = of_shelf(alloc, &shelf, &CHECK)?;
+        let mut shelf = no_files(alloc);
+        shelf.wiring = wiring;
+        shelf.policy = policy;
+        shelf.certificate = certificate;
+        let (told, opened) = of_shelf(alloc, &mut shelf, &CHECK)?;
         assert_eq!(rt; told.err.as_slice(), want);
         assert_eq!(rt; opened, order);
         assert_eq!(rt; told.status, if want.is_empty() { 0 } else { 2 });
@@ -506,13 +537,113 @@ fn replayed<'a>(
     wiring: Result<&'a [u8], ErrorKind>,
     script: Result<&'a [u8], ErrorKind>,
 ) -> Result<(Outcome, u32), Fail> {
-    let shelf = Shelf {
-        wiring,
-        policy: script,
-        certificate: Err(ErrorKind::NotFound),
-        opened: Cell::new(0),
-    };
-    of_shelf(alloc, &shelf, &REPLAY)
+    let mut shelf = no_files(alloc);
+    shelf.wiring = wiring;
+    shelf.policy = script;
+    of_shelf(alloc, &mut shelf, &REPLAY)
+}
+
+const FILE_SERVER: &[u8] = b"subsystem fsys 3000;
+#include <mach/std_types.defs>
+type file_t = MACH_MSG_TYPE_COPY_SEND;
+type path_t = c_string[64];
+routine open(root : mach_port_t; in path : path_t; out file : file_t);
+";
+
+/// The file server answers with nothing but ports of its own births.
+const CAREFUL: &[u8] = b"wiring 1
+task app
+task fs
+port root receiver fs accepts request fsys
+births app accepts reply fsys
+hold app send port root
+admit fsys.file_t births fs
+";
+
+/// The 18 facts of the file server that is careful, as they were worked out by hand.
+const OF_CAREFUL: [u8; 122] = [
+    0x4d, 0x52, 0x43, 0x43, 0, 1, 0, 2, 0, 5, 0, 0, 0, 0x12, // header
+    1, 0, 0, 0, 0, 0, 1, 0, 0, 0, 1, 0, 1, 0, 0, 0, 3, 0, // app: root, app, its births
+    1, 0, 0, 0, 3, 1, 1, 0, 0, 0, 3, 2, 1, 0, 0, 0, 4, 0, // and files
+    1, 0, 1, 0, 0, 0, 1, 0, 1, 0, 0, 1, 1, 0, 1, 0, 0, 2, // fs: root
+    1, 0, 1, 0, 2, 0, 1, 0, 1, 0, 3, 2, // itself, and reply ports
+    1, 0, 1, 0, 4, 0, 1, 0, 1, 0, 4, 1, 1, 0, 1, 0, 4, 2, // its births
+    2, 0, 0, 0, 0, 2, 2, 0, 0, 0, 3, 2, 2, 0, 0, 0, 4, 2, // what root carries
+    2, 0, 3, 0, 4, 0, // and what reply ports carry
+];
+
+/// What a `make` of these files tells, and the bytes that were written.
+fn made<'a>(
+    alloc: Global,
+    defs: &'a [u8],
+    wiring: &'a [u8],
+    out: &str,
+) -> Result<(Outcome, Vec<u8>), Fail> {
+    let mut shelf = no_files(alloc);
+    shelf.defs = Ok(defs);
+    shelf.wiring = Ok(wiring);
+    let words = ["machcheck", "make", "--wiring", "w", "--out", out, "d"];
+    let (told, _) = of_shelf(alloc, &mut shelf, &words)?;
+    Ok((told, shelf.written))
+}
+
+#[test]
+fn makes(rt: HostRuntime) -> Result<(), Fail> {
+    let (told, written) = made(rt.alloc(), FILE_SERVER, CAREFUL, "made")?;
+    assert_eq!(rt; told.out.as_slice(), b"facts 18\n".as_slice());
+    assert_eq!(rt; told.err.as_slice(), b"".as_slice());
+    assert_eq!(rt; told.status, 0);
+    assert_eq!(rt; written.as_slice(), OF_CAREFUL.as_slice());
+    Ok(())
+}
+
+#[test]
+fn faults_of_makes(rt: HostRuntime) -> Result<(), Fail> {
+    let alloc = rt.alloc();
+    for (defs, wiring, out, want) in [
+        (
+            FILE_SERVER,
+            CAREFUL,
+            "full",
+            "machcheck: full: WriteFailed 3\n",
+        ),
+        (
+            FILE_SERVER,
+            b"wiring 1\ntask".as_slice(),
+            "made",
+            "machcheck: w: BadLine 2\n",
+        ),
+        (
+            b"subsystem s ?;".as_slice(),
+            CAREFUL,
+            "made",
+            "machcheck: d: BadCharacter 12\n",
+        ),
+    ] {
+        let (told, written) = made(alloc, defs, wiring, out)?;
+        assert_eq!(rt; told.err.as_slice(), want.as_bytes());
+        assert_eq!(rt; told.out.as_slice(), b"".as_slice());
+        assert_eq!(rt; told.status, 2);
+        assert_eq!(rt; written.as_slice(), b"".as_slice());
+    }
+    Ok(())
+}
+
+// MIG files are read first, and judged first.
+#[test]
+fn checks_with_interfaces(rt: HostRuntime) -> Result<(), Fail> {
+    let alloc = rt.alloc();
+    let mut shelf = no_files(alloc);
+    shelf.defs = Ok(FILE_SERVER);
+    shelf.wiring = Ok(CAREFUL);
+    shelf.policy = Ok(b"policy 1\nforbid app send task fs\n".as_slice());
+    shelf.certificate = Ok(OF_CAREFUL.as_slice());
+    let mut words = Vec::from_slice(alloc, &CHECK)?;
+    words.push("d")?;
+    let (told, opened) = of_shelf(alloc, &mut shelf, words.as_slice())?;
+    assert_eq!(rt; told.out.as_slice(), b"YES\n".as_slice());
+    assert_eq!(rt; (told.status, opened), (0, 4123));
+    Ok(())
 }
 
 // A loader puts its own kernel port into the space of the task that it loads.
@@ -626,7 +757,7 @@ fn words_that_cannot_be_had(rt: HostRuntime) -> Result<(), Fail> {
     ] {
         let mut out = Vec::new(alloc);
         let mut err = Vec::new(alloc);
-        let status = start(&Disk(&rt), alloc, Err(fault), &mut out, &mut err);
+        let status = start(&mut Disk(&rt), alloc, Err(fault), &mut out, &mut err);
         assert_eq!(rt; err.as_slice(), want);
         assert_eq!(rt; out.as_slice(), b"".as_slice());
         assert_eq!(rt; status, 2);

@@ -5,5 +5,5 @@ use Rattle.machcheck.proofs.replay.fault_told.Goals as goal
 
 pub returns-in-NotUtf8-clause-err : goal.returns-in-NotUtf8-clause-err
 returns-in-NotUtf8-clause-err c =
-    rw c.in-NotUtf8.is (IfOk-weaker c.fault_of-in-NotUtf8.result _ _
-    (λ told e. (codes "NotUtf8", e)) c.fault_of-in-NotUtf8.ensures.err)
+    rw c.in-NotUtf8.is (IfOk-weaker c.fault_of.result _ _
+    (λ told e. (codes "NotUtf8", e)) c.fault_of.ensures.err)

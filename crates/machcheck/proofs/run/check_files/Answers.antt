@@ -1,7 +1,13 @@
+use Rattle.machcheck.specs.Files.{check_names}
+use Rattle.machcheck.specs.Texts.{check_list}
+use Rattle.machcheck.specs.Told.{OfFiles, ToldFault}
 use Rattle.machcheck.proofs.ToldLaws.{unread_fault}
 use Rattle.machcheck.proofs.run.check_files.Goals as goal
 
 pub returns-in-Err-clause-fault : goal.returns-in-Err-clause-fault
 returns-in-Err-clause-fault g c =
-    unread_fault (g.F.Folder.held c.args.folder.now) c.args.files.now _ _ c.unread_told.result
+    let files = c.args.files.now in
+    let held = g.F.Folder.held c.args.folder.now in
+    unread_fault held (check_names files) _ _ c.unread_told.result
+    (OfFiles check_list (ToldFault files) held (check_names files))
     c.in-Err.ensures.first c.unread_told.ensures.told

@@ -1,0 +1,24 @@
+use Rattle.std.proofs.Common.{◌≡◌, inl, inr}
+use Rattle.std.proofs.lemmas.Result.{IfOk-weaker}
+use Rattle.machcheck.proofs.run.told.Goals as goal
+
+pub returns-in-Ok-Check-clause-yes : goal.returns-in-Ok-Check-clause-yes
+returns-in-Ok-Check-clause-yes g c =
+    IfOk-weaker c.check_files.result _ _
+    (λ told h zero_is. inl (c.in-Ok-Check.files, h zero_is)) c.check_files.ensures.yes
+
+pub returns-in-Ok-Check-clause-no : goal.returns-in-Ok-Check-clause-no
+returns-in-Ok-Check-clause-no g c =
+    IfOk-weaker c.check_files.result _ _
+    (λ told h one_is. (c.in-Ok-Check.files, h one_is)) c.check_files.ensures.no
+
+pub returns-in-Ok-Make-clause-yes : goal.returns-in-Ok-Make-clause-yes
+returns-in-Ok-Make-clause-yes g c =
+    IfOk-weaker c.make_files.result _ _
+    (λ told h zero_is. inr (inl (c.in-Ok-Make.files, h zero_is))) c.make_files.ensures.made
+
+pub returns-in-Ok-Replay-clause-yes : goal.returns-in-Ok-Replay-clause-yes
+returns-in-Ok-Replay-clause-yes g c =
+    IfOk-weaker c.replay_files.result _ _
+    (λ told h zero_is. inr (inr (inl (c.in-Ok-Replay.files, h zero_is))))
+    c.replay_files.ensures.replay
