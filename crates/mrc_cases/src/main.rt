@@ -1,8 +1,9 @@
 //! Reads cases from standard input, one a line, and prints a line for each: what the readers of MIG
-//! texts, of messages, of certificates and of scripts say of it.
+//! texts, of messages, of certificates, of scripts and of wirings say of it.
 //!
 //! A case is a word, `:` and a text. In the text `\n` is a line feed, `\r` a carriage return, `\0`
-//! the character 0, and `\` before any other character is that character.
+//! the character 0, and `\` before any other character is that character. `\{N:text}` is N times the
+//! text, and an `@` in it is the number of the time, from 0.
 //!
 //! - `marks`: a character for each token of a MIG text
 //! - `tokens`: each token of a MIG text, with its bytes from and to
@@ -13,23 +14,39 @@
 //! - `defs`: a list of MIG files, in hexadecimal digits with `,` between them: their names
 //! - `disposition`: what a number of MIG's port types needs of a sender and gives a receiver
 //! - `message`: in hexadecimal digits, what a message is written as that was read
+//! - `judge`: a class, a message, ports for its slots, a wiring and MIG files, with `|` between
+//!   them: the form that the message meets, and whether its slots admit the ports
 //! - `replay`: a wiring, `|` and a script: what is printed of its events, on one line
 //! - `certificate`: in hexadecimal digits, what a certificate is written as that was read
+//! - `wiring`, `policy`: each line by its number and what it says; `wiring_bytes`, `policy_bytes`:
+//!   the same, of hexadecimal digits
+//! - `name`: the name that a word spells, and its copy
+//! - `resolved`: a question, MIG texts with `&` between them, a wiring, and of what it is asked, with
+//!   `|` between them: the answer
 //!
 //! Any other line is printed as it is.
 #![tactic(auto)]
 
+mod answers;
 mod certificates;
+mod claims;
 mod escapes;
 mod forms;
+mod judging;
 mod messages;
 mod numbers;
+mod policies;
+mod repeats;
 mod replays;
+mod resolved;
+mod samples;
 #[cfg(test)]
 mod tests;
 mod tokens;
+mod wirings;
 
 use anyhow::Result;
+use messages::bytes_of;
 use std::alloc::Global;
 use std::io;
 
@@ -38,7 +55,8 @@ fn said(alloc: Global, line: &str) -> Result<String> {
     let Some((kind, text)) = line.split_once(':') else {
         return Ok(String::from_str(alloc, line)?);
     };
-    let text = escapes::unescaped(alloc, text)?;
+    let text = repeats::expanded(alloc, text)?;
+    let text = escapes::unescaped(alloc, text.as_str())?;
     match kind {
         "marks" => tokens::marks(alloc, text.as_str()),
         "tokens" => tokens::tokens(alloc, text.as_str()),
@@ -48,9 +66,16 @@ fn said(alloc: Global, line: &str) -> Result<String> {
         "forms" => forms::forms(alloc, text.as_str().as_bytes()),
         "defs" => forms::defs(alloc, text.as_str()),
         "disposition" => numbers::disposition(alloc, text.as_str()),
+        "judge" => judging::judged(alloc, text.as_str()),
         "replay" => replays::events(alloc, text.as_str()),
         "message" => messages::written(alloc, text.as_str()),
         "certificate" => certificates::written(alloc, text.as_str()),
+        "wiring" => wirings::wiring(alloc, text.as_str().as_bytes()),
+        "wiring_bytes" => wirings::wiring(alloc, bytes_of(alloc, text.as_str())?.as_slice()),
+        "policy" => policies::policy(alloc, text.as_str().as_bytes()),
+        "policy_bytes" => policies::policy(alloc, bytes_of(alloc, text.as_str())?.as_slice()),
+        "name" => policies::name(alloc, text.as_str()),
+        "resolved" => resolved::resolved(alloc, text.as_str()),
         _ => Ok(String::from_str(alloc, line)?),
     }
 }

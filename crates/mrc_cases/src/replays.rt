@@ -1,7 +1,8 @@
 //! Replays of scripts.
 
 use anyhow::Result;
-use mrc_check::table_of;
+use mrc_base::OrMemory;
+use mrc_check::{SystemFault, table_of};
 use mrc_report::{read_script, replay};
 use std::alloc::{AllocError, Global};
 
@@ -20,9 +21,11 @@ fn on_one_line(alloc: Global, lines: &str) -> Result<String, AllocError> {
 /// What is printed of the events of a script on a wiring: the two texts have a `|` between them.
 pub fn events(alloc: Global, text: &str) -> Result<String> {
     let (wiring, script) = text.split_once('|').unwrap_or((text, ""));
-    let wired = match table_of(alloc, wiring.as_bytes()) {
+    let wired = match table_of(alloc, &[], wiring.as_bytes()) {
         Ok(wired) => wired,
-        Err(fault) => return Ok(fault.to_string(alloc)?),
+        Err(OrMemory::Fault(SystemFault::Defs(fault))) => return Ok(fault.fault.to_string(alloc)?),
+        Err(OrMemory::Fault(SystemFault::Wiring(fault))) => return Ok(fault.to_string(alloc)?),
+        Err(OrMemory::Memory) => return Ok(String::from_str(alloc, "Memory")?),
     };
     let script = match read_script(alloc, &wired, script) {
         Ok(script) => script,

@@ -5,4 +5,5 @@ mod maps;
 mod messages;
 mod readers;
 mod spaces;
+mod wirings;
 mod words;

@@ -1,8 +1,9 @@
 //! Tokens, symbols and expressions of MIG texts.
 
 use anyhow::Result;
+use mrc_base::OrMemory;
 use mrc_mig_lex::{Sign, Token, TokenKind, lex};
-use mrc_mig_symbols::{Rest, basic_of, expression};
+use mrc_mig_symbols::{Rest, basic_of, expression, fault_of, place_of};
 use std::alloc::{AllocError, Global};
 
 fn sign_mark(sign: Sign) -> char {
@@ -98,9 +99,14 @@ pub fn value(alloc: Global, text: &str) -> Result<String> {
         Ok(tokens) => tokens,
         Err(fault) => return Ok(fault.to_string(alloc)?),
     };
-    let line = match expression(alloc, Rest::new(tokens.as_slice())) {
-        Ok((value, rest)) => format!(in alloc; "{value} to {}", rest.at())?,
-        Err(fault) => fault.to_string(alloc)?,
+    let tokens = tokens.as_slice();
+    let line = match expression(alloc, Rest::new(tokens)) {
+        Ok((value, rest)) => {
+            let end = place_of(tokens, rest.len());
+            format!(in alloc; "{value} to {end}")?
+        }
+        Err(OrMemory::Fault(stop)) => fault_of(tokens, stop).to_string(alloc)?,
+        Err(OrMemory::Memory) => String::from_str(alloc, "Memory")?,
     };
     Ok(line)
 }
