@@ -1,5 +1,5 @@
--- The texts that are judged together: those of MIG files and of a wiring, with those of a policy and
--- a certificate, or with that of a script. This profile's own choice.
+-- The texts that are judged together: those of MIG files and of a wiring, with those of a policy
+-- and a certificate, or with that of a script. This profile's own choice.
 use Rattle.std.specs.Prelude.{◌≡◌, ℕ, List, [], ◌∷◌, ◌++◌, Result, Ok, Err}
 use Rattle.mrc_base.specs.declared.memory.OrMemory.{OrMemory}
 use Rattle.mrc_base.specs.Reading.{◌>>=◌, UnlessMemory}

@@ -129,8 +129,8 @@ fn check_files<F: Folder>(
 /// What is told of the words of a command line.
 fn told<F: Folder>(folder: &mut F, alloc: Global, words: &[String]) -> Result<Told, AllocError>
     ensures status { IfOk result (λ told. told.status ≤ 2) }
-    // Status 0 is that of a yes, of a certificate that was made or of a replay, unless the words ask
-    // for help or the version.
+    // Status 0 is that of a yes, of a certificate that was made or of a replay, unless the words
+    // ask for help or the version.
     ensures yes { IfOk result (λ told. told.status ≡ 0
         → SomeFiles (YesOfFiles (F.held folder.old)) told
         ⊎ (SomeFiles (MadeOfFiles (F.held folder.old) (F.held folder.new)) told

@@ -64,7 +64,8 @@ fn fault_told(
     }
 }
 
-/// What is told of the checker's answer, over the bytes of a wiring. Want of memory is no file's fault.
+/// What is told of the checker's answer, over the bytes of a wiring. Want of memory is no file's
+/// fault.
 pub fn verdict(
     alloc: Global,
     files: &CheckFiles<'_>,

@@ -392,7 +392,8 @@ fn help_of_replays(rt: HostRuntime) -> Result<(), Fail> {
     )
 }
 
-/// Files, each named by its first letter, the order in which they were opened, and what was written.
+/// Files, each named by its first letter, the order in which they were opened, and what was
+/// written.
 #[derive(Drop)]
 struct Shelf<'a> {
     defs: Result<&'a [u8], ErrorKind>,

@@ -1,5 +1,5 @@
--- What MIG files, a wiring, a policy and a certificate say together, from their bytes, and the first
--- reason where they say no. This profile's own choice.
+-- What MIG files, a wiring, a policy and a certificate say together, from their bytes, and the
+-- first reason where they say no. This profile's own choice.
 use Rattle.std.specs.Prelude.{◌≡◌, ℕ, List, Result, Ok, Err}
 use Rattle.mrc_base.specs.declared.memory.OrMemory.{OrMemory}
 use Rattle.mrc_base.specs.Reading.{◌>>=◌, UnlessMemory}

@@ -45,8 +45,8 @@ pub fn confined_is_safe(confined: &Confined)
     let _tasks = confined.wired().tasks();
 }
 
-/// Where the bytes of MIG files, a wiring, a policy and a certificate say yes, no list of calls from
-/// the first state of that wiring ends in a breach of that policy.
+/// Where the bytes of MIG files, a wiring, a policy and a certificate say yes, no list of calls
+/// from the first state of that wiring ends in a breach of that policy.
 pub fn yes_is_safe()
     ensures safe { YesIsSafe }
 {}
