@@ -8,9 +8,11 @@ ghost use Rattle.mrc_base.specs.Disposition.{is_port_number};
 ghost use Rattle.mrc_base.specs.Disposition.{NumbersAreDispositions, PortNumbersAreDispositions};
 ghost use Rattle.mrc_base.specs.NameRight.{name_right};
 
+mod copies;
 pub mod limits;
 mod memory;
 
+pub use copies::{Copies, copy_all, same_all};
 pub use memory::OrMemory;
 use std::marker::Model;
 

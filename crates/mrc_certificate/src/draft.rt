@@ -1,11 +1,12 @@
 //! What a certificate claims.
 
-ghost use Rattle.std.specs.Prelude.{◌≡◌, ◌^◌, ◌<◌, ◌↔◌, length, IsSome, IfSome};
+ghost use Rattle.std.specs.Prelude.{◌≡◌, ◌^◌, ◌<◌, ◌↔◌, length, IsSome, IfSome, IfOk, IsTrue};
 ghost use Rattle.std.specs.List.{list_all};
 ghost use Rattle.mrc_classes.specs.Sets.{IsAscending};
 ghost use Rattle.mrc_certificate.specs.Drafts.{is_within, AreWithin};
 
 use mrc_classes::{Fact, Facts};
+use std::alloc::AllocError;
 
 /// What a certificate claims of a wired system: how many tasks and classes it has, and what may
 /// come about in it. Its facts are of those tasks and classes, fewer than 2^32 of them.
@@ -63,5 +64,23 @@ impl Draft {
             classes,
             facts,
         })
+    }
+
+    /// An equal draft.
+    pub fn copy(&self) -> Result<Draft, AllocError>
+        ensures { IfOk result (λ copy. content copy ≡ content self.now) }
+    {
+        Ok(Draft {
+            tasks: self.tasks,
+            classes: self.classes,
+            facts: self.facts.copy()?,
+        })
+    }
+
+    /// Whether the drafts are equal.
+    pub fn same(&self, other: &Draft) -> bool
+        ensures { IsTrue result ↔ (content self.now ≡ content other.now) }
+    {
+        self.tasks == other.tasks && self.classes == other.classes && self.facts.same(&other.facts)
     }
 }

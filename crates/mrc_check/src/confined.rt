@@ -1,6 +1,6 @@
 //! Claims that were checked.
 
-ghost use Rattle.std.specs.Prelude.{◌≡◌, IfOk, IfErr};
+ghost use Rattle.std.specs.Prelude.{◌≡◌, ◌↔◌, IfOk, IfErr, IsTrue};
 ghost use Rattle.mrc_base.specs.Reading.{UnlessMemory};
 ghost use Rattle.mrc_certificate.specs.Spelling.{content};
 ghost use Rattle.mrc_check.specs.Verdict.{IsAccepted, IsWhy};
@@ -9,11 +9,11 @@ use crate::verdict::{Why, judge};
 use mrc_base::OrMemory;
 use mrc_certificate::Draft;
 use mrc_wiring::{Claim, Wired};
-use std::alloc::Global;
+use std::alloc::{AllocError, Global};
 use std::marker::Model;
 
 /// A claim with a certificate that was accepted for it: its facts are closed under the ten rules,
-/// and none of them is forbidden. Only [`check`] makes one.
+/// and none of them is forbidden. Only [`check`] and [`Confined::copy`] make one.
 #[derive(Debug, Drop)]
 pub struct Confined {
     claim: Claim,
@@ -68,5 +68,22 @@ impl Confined {
         ensures kept { IsAccepted self.now.claim self.now.draft }
     {
         self.claim.wired()
+    }
+
+    /// An equal claim, checked as this one was.
+    pub fn copy(&self, alloc: Global) -> Result<Confined, AllocError>
+        ensures { IfOk result (λ copy. copy ≡ self.now) }
+    {
+        Ok(Confined {
+            claim: self.claim.copy(alloc)?,
+            draft: self.draft.copy()?,
+        })
+    }
+
+    /// Whether claim and certificate are equal.
+    pub fn same(&self, other: &Confined) -> bool
+        ensures { IsTrue result ↔ (self.now ≡ other.now) }
+    {
+        self.claim.same(&other.claim) && self.draft.same(&other.draft)
     }
 }

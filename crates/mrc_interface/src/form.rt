@@ -1,6 +1,7 @@
 //! What the body of a message looks like.
 
-ghost use Rattle.std.specs.Prelude.{◌≡◌, ◌≤◌, ◌+◌, ◌++◌, [], ◌∷◌, length, map, IfOk, OnOk, IsTrue};
+ghost use Rattle.std.specs.Prelude.{◌≡◌, ◌≤◌, ◌+◌, ◌++◌, ◌↔◌, [], ◌∷◌, length, map, IfOk, OnOk};
+ghost use Rattle.std.specs.Prelude.{IsTrue};
 ghost use Rattle.std.specs.List.{list_all};
 ghost use Rattle.mrc_base.specs.Limits.{limit_of_arguments};
 ghost use Rattle.mrc_mig_parse.specs.Bounds.{shape_fits, items_fit};
@@ -8,7 +9,7 @@ ghost use Rattle.mrc_mig_parse.specs.Meanings.{item_of};
 ghost use Rattle.mrc_interface.specs.Forms.{is_in_body, slot_of_item, form_of};
 ghost use Rattle.mrc_interface.specs.View.{slot_of};
 
-use mrc_base::Disp;
+use mrc_base::{Copies, Disp, copy_all, same_all};
 use mrc_mig_parse::{Argument, Direction, Shape};
 use mrc_model::RequestKind;
 use std::alloc::{AllocError, Global};
@@ -173,5 +174,71 @@ impl Form {
             }
         }
         Ok(form)
+    }
+}
+
+impl Slot {
+    /// An equal slot.
+    fn copy(&self, alloc: Global) -> Result<Slot, AllocError>
+        ensures { IfOk result (λ copy. slot_of copy ≡ slot_of self.now) }
+    {
+        Ok(Slot {
+            argument: self.argument,
+            disposition: self.disposition,
+            type_name: String::from_str(alloc, self.type_name.as_str())?,
+        })
+    }
+
+    /// Whether the slots are equal.
+    fn same(&self, other: &Slot) -> bool
+        ensures { IsTrue result ↔ (slot_of self.now ≡ slot_of other.now) }
+    {
+        self.argument == other.argument
+            && self.disposition == other.disposition
+            && self.type_name == other.type_name
+    }
+}
+
+/// Equal slots, in the same order.
+fn copy_slots(alloc: Global, slots: &[Slot]) -> Result<Vec<Slot>, AllocError>
+    ensures { IfOk result (λ copies. map slot_of copies.items ≡ map slot_of slots.now) }
+{
+    let mut copies = Vec::with_capacity(alloc, slots.len())?;
+    for slot in slots {
+        copies.push(slot.copy(alloc)?)?;
+    }
+    Ok(copies)
+}
+
+/// Whether the slots are equal, in the same order.
+fn same_slots(slots: &[Slot], others: &[Slot]) -> bool
+    ensures { IsTrue result ↔ (map slot_of slots.now ≡ map slot_of others.now) }
+{
+    if slots.len() != others.len() {
+        return false;
+    }
+    for i in 0..slots.len() {
+        if !slots[i].same(&others[i]) {
+            return false;
+        }
+    }
+    true
+}
+
+impl Copies for Form {
+    fn copy(&self, alloc: Global) -> Result<Form, AllocError> {
+        Ok(Form {
+            id: self.id,
+            kind: self.kind,
+            arguments: copy_all(alloc, &self.arguments)?,
+            slots: copy_slots(alloc, &self.slots)?,
+        })
+    }
+
+    fn same(&self, other: &Form) -> bool {
+        self.id == other.id
+            && self.kind == other.kind
+            && same_all(&self.arguments, &other.arguments)
+            && same_slots(&self.slots, &other.slots)
     }
 }

@@ -1,6 +1,6 @@
 //! The forms of a subsystem's messages by their ids.
 
-ghost use Rattle.std.specs.Prelude.{◌≡◌, ◌≤◌, length, map, None, IfOk, IfSome, IsTrue};
+ghost use Rattle.std.specs.Prelude.{◌≡◌, ◌≤◌, ◌↔◌, length, map, None, IfOk, IfSome, IsTrue};
 ghost use Rattle.std.specs.List.{list_all};
 ghost use Rattle.mrc_mig_parse.specs.Bounds.{items_fit, row_fits};
 ghost use Rattle.std.specs.Option.{option_map};
@@ -14,10 +14,10 @@ ghost use Rattle.mrc_interface.specs.View.{GivesOrReturns};
 
 use crate::fault::InterfaceFault;
 use crate::form::{Form, FormKind};
-use mrc_base::{OrMemory, limits};
+use mrc_base::{Copies, OrMemory, copy_all, limits, same_all};
 use mrc_mig_parse::{Argument, Entry, Subsystem};
 use mrc_model::RequestKind;
-use std::alloc::Global;
+use std::alloc::{AllocError, Global};
 use std::marker::Model;
 
 /// How far the id of a reply is above that of its request.
@@ -36,6 +36,19 @@ impl Model for Row {
     ghost Value = { tables.Row };
 
     ghost view = { λ r. record { request = r.request; reply = r.reply } };
+}
+
+impl Copies for Row {
+    fn copy(&self, alloc: Global) -> Result<Row, AllocError> {
+        Ok(Row {
+            request: self.request.copy(alloc)?,
+            reply: self.reply.copy(alloc)?,
+        })
+    }
+
+    fn same(&self, other: &Row) -> bool {
+        self.request.same(&other.request) && self.reply.same(&other.reply)
+    }
 }
 
 /// The forms of a subsystem's messages by their ids.
@@ -200,5 +213,33 @@ impl Interface {
         let row_id = id.checked_sub(REPLY)?;
         let row = self.rows.get(row_id.checked_sub(self.base)? as usize)?;
         row.reply.as_ref()
+    }
+
+    /// An equal interface.
+    pub fn copy(&self, alloc: Global) -> Result<Interface, AllocError>
+        ensures { IfOk result (λ copy. copy ≡ self.now) }
+    {
+        Ok(Interface {
+            name: String::from_str(alloc, self.name())?,
+            base: self.base,
+            rows: copy_all(alloc, &self.rows)?,
+        })
+    }
+
+    /// Whether the interfaces are equal.
+    pub fn same(&self, other: &Interface) -> bool
+        ensures { IsTrue result ↔ (self.now ≡ other.now) }
+    {
+        self.name == other.name && self.base == other.base && same_all(&self.rows, &other.rows)
+    }
+}
+
+impl Copies for Interface {
+    fn copy(&self, alloc: Global) -> Result<Interface, AllocError> {
+        Interface::copy(self, alloc)
+    }
+
+    fn same(&self, other: &Interface) -> bool {
+        Interface::same(self, other)
     }
 }

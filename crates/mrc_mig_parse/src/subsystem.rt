@@ -6,7 +6,9 @@ ghost use Rattle.mrc_base.specs.Limits.{limit_of_ids};
 ghost use Rattle.mrc_mig_parse.specs.Bounds.{row_fits};
 ghost use Rattle.mrc_mig_parse.specs.Meanings.{row_of};
 
+use mrc_base::Copies;
 use mrc_mig_symbols::Direction;
+use std::alloc::{AllocError, Global};
 use std::marker::Model;
 
 /// What an argument's data look like, as its descriptor says it: the words are those of
@@ -21,6 +23,16 @@ pub struct Shape {
     pub number: u32,
     /// The number is the most that there may be, and not the exact one.
     pub is_bound: bool,
+}
+
+impl Copies for Shape {
+    fn copy(&self, _: Global) -> Result<Shape, AllocError> {
+        Ok(*self)
+    }
+
+    fn same(&self, other: &Shape) -> bool {
+        *self == *other
+    }
 }
 
 /// An argument of a routine.

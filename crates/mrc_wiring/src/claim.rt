@@ -1,14 +1,14 @@
 //! A wiring and what a policy forbids in it.
 
-ghost use Rattle.std.specs.Prelude.{◌≡◌};
+ghost use Rattle.std.specs.Prelude.{◌≡◌, ◌↔◌, IfOk, IsTrue};
 ghost use Rattle.mrc_base.specs.Reading.{Gives};
 ghost use Rattle.mrc_wiring.specs.Claims.{ClaimTold, forbidden, forbidden_lines};
 
 use crate::faults::ClaimFault;
 use crate::wired::Wired;
-use mrc_base::{ClassId, OrMemory, PortRight};
+use mrc_base::{ClassId, Copies, OrMemory, PortRight, copy_all, same_all};
 use mrc_wiring_text::{Forbid, PolicyLine};
-use std::alloc::Global;
+use std::alloc::{AllocError, Global};
 use std::marker::Model;
 
 /// What a line of a policy forbids: that the task holds the right on a port of the class.
@@ -22,6 +22,16 @@ pub struct ForbiddenLine {
     pub right: PortRight,
     /// The class of ports.
     pub class: ClassId,
+}
+
+impl Copies for ForbiddenLine {
+    fn copy(&self, _: Global) -> Result<ForbiddenLine, AllocError> {
+        Ok(*self)
+    }
+
+    fn same(&self, other: &ForbiddenLine) -> bool {
+        *self == *other
+    }
 }
 
 /// A wiring, and what a policy forbids in it: what a certificate has to show.
@@ -102,5 +112,22 @@ impl Claim {
         ensures { result.now ≡ self.now.lines }
     {
         self.lines.as_slice()
+    }
+
+    /// An equal claim.
+    pub fn copy(&self, alloc: Global) -> Result<Claim, AllocError>
+        ensures { IfOk result (λ copy. copy ≡ self.now) }
+    {
+        Ok(Claim {
+            wired: self.wired.copy(alloc)?,
+            lines: copy_all(alloc, &self.lines)?,
+        })
+    }
+
+    /// Whether the claims are equal.
+    pub fn same(&self, other: &Claim) -> bool
+        ensures { IsTrue result ↔ (self.now ≡ other.now) }
+    {
+        self.wired.same(&other.wired) && same_all(&self.lines, &other.lines)
     }
 }

@@ -9,7 +9,7 @@ ghost use Rattle.mrc_wiring.specs.Labels.{request_id, reply_id, request_ids, rep
 ghost use Rattle.mrc_wiring.specs.Labels.{clash_among};
 
 use crate::faults::ResolveFault;
-use mrc_base::OrMemory;
+use mrc_base::{Copies, OrMemory, copy_all, same_all};
 use mrc_interface::{Form, FormKind, Interface};
 use mrc_model::LabelItem;
 use mrc_wiring_text::{Item, Items};
@@ -37,6 +37,18 @@ impl Label {
         ensures { result.now ≡ self.now }
     {
         self.items.as_slice()
+    }
+}
+
+impl Copies for Label {
+    fn copy(&self, alloc: Global) -> Result<Label, AllocError> {
+        Ok(Label {
+            items: copy_all(alloc, &self.items)?,
+        })
+    }
+
+    fn same(&self, other: &Label) -> bool {
+        same_all(&self.items, &other.items)
     }
 }
 

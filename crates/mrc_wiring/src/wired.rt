@@ -1,7 +1,7 @@
 //! Wirings, resolved to numbers.
 
 ghost use Rattle.std.specs.Prelude.{◌≡◌, ◌≤◌, ◌<◌, ◌+◌, ◌*◌, ◌==◌, ◌&&◌, ℕ, length, nat_lt};
-ghost use Rattle.std.specs.Prelude.{slice_get, Some, None, IfSome, IsTrue, unwrap_or};
+ghost use Rattle.std.specs.Prelude.{◌↔◌, slice_get, Some, None, IfOk, IfSome, IsTrue, unwrap_or};
 ghost use Rattle.std.specs.List.{list_any};
 ghost use Rattle.std.specs.Option.{option_map, IfNone};
 ghost use Rattle.mrc_base.specs.Limits.{limit_of_tasks, limit_of_wired_ports};
@@ -19,13 +19,13 @@ ghost use Rattle.mrc_wiring.specs.Claims.{class_number};
 use crate::labels::Label;
 use crate::names::{ClassKind, ClassLabel, NumberedClass, class_said, number_of};
 use crate::resolving::{NotResolved, resolved};
-use crate::sorts::{Sort, sort_number};
+use crate::sorts::{Sort, sort_number, sorts_of};
 use crate::table::AdmitLine;
-use mrc_base::{ClassId, TaskId};
+use mrc_base::{ClassId, TaskId, copy_all, same_all};
 use mrc_interface::Interface;
 use mrc_model::{FirstLine, LabelItem};
 use mrc_wiring_text::{ClassName, Name, WiringLine};
-use std::alloc::Global;
+use std::alloc::{AllocError, Global};
 use std::marker::Model;
 
 /// A wiring by numbers: its tasks and wired ports, its classes and what they accept, what slots
@@ -355,5 +355,34 @@ impl Wired {
     {
         let said = class_said(self.names.as_slice(), self.ports.as_slice(), class)?;
         Some(ClassId(self.class_of(said) as u16))
+    }
+
+    /// An equal wiring.
+    pub fn copy(&self, alloc: Global) -> Result<Wired, AllocError>
+        ensures { IfOk result (λ copy. copy ≡ self.now) }
+    {
+        Ok(Wired {
+            names: copy_all(alloc, &self.names)?,
+            births: copy_all(alloc, &self.births)?,
+            ports: copy_all(alloc, &self.ports)?,
+            accepts: copy_all(alloc, &self.accepts)?,
+            lines: copy_all(alloc, &self.lines)?,
+            admits: copy_all(alloc, &self.admits)?,
+            interfaces: copy_all(alloc, &self.interfaces)?,
+            sorts: sorts_of(alloc, self.interfaces())?,
+        })
+    }
+
+    /// Whether the wirings are equal.
+    pub fn same(&self, other: &Wired) -> bool
+        ensures { IsTrue result ↔ (self.now ≡ other.now) }
+    {
+        same_all(&self.names, &other.names)
+            && same_all(&self.births, &other.births)
+            && same_all(&self.ports, &other.ports)
+            && same_all(&self.accepts, &other.accepts)
+            && same_all(&self.lines, &other.lines)
+            && same_all(&self.admits, &other.admits)
+            && same_all(&self.interfaces, &other.interfaces)
     }
 }

@@ -1,9 +1,10 @@
 //! Names of tasks and ports.
 
-ghost use Rattle.std.specs.Prelude.{◌≡◌, ℕ, List, IsTrue, IfOk};
+ghost use Rattle.std.specs.Prelude.{◌≡◌, ◌↔◌, ℕ, List, IsTrue, IfOk};
 ghost use Rattle.std.specs.List.{list_all};
 ghost use Rattle.mrc_wiring_text.specs.Names.{is_letter, is_name_byte, is_name, name_of};
 
+use mrc_base::Copies;
 use mrc_base::limits::NAME;
 use std::alloc::{AllocError, Global};
 use std::marker::Model;
@@ -86,5 +87,22 @@ impl Name {
         Ok(Name {
             text: String::from_str(alloc, self.as_str())?,
         })
+    }
+
+    /// Whether the names are equal.
+    pub fn same(&self, other: &Name) -> bool
+        ensures { IsTrue result ↔ (self.now ≡ other.now) }
+    {
+        self.text == other.text
+    }
+}
+
+impl Copies for Name {
+    fn copy(&self, alloc: Global) -> Result<Name, AllocError> {
+        Name::copy(self, alloc)
+    }
+
+    fn same(&self, other: &Name) -> bool {
+        Name::same(self, other)
     }
 }
