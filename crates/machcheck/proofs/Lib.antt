@@ -1,3 +1,4 @@
 pub mod FileLaws
 pub mod ToldLaws
 pub mod ReplayLaws
+pub mod ChainLaws

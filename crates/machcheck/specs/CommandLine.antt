@@ -31,7 +31,7 @@ abbrev pub words_line : WordsFault → List ℕ
 words_line NotUtf8 = codes "machcheck: arguments: NotUtf8\n"
 words_line Memory = memory_line
 
--- an option that names a file, and has to be given
+-- an option that names a file or a fact, and has to be given
 abbrev pub file_rule : Text → Rule
 file_rule name = record
     (new_rule name) { long = Some name; value_names = 1; action = Some Set; required = true }
@@ -40,7 +40,7 @@ file_rule name = record
 abbrev pub defs_rule : Rule
 defs_rule = record (new_rule (codes "defs")) { value_names = 1; action = Some Append }
 
--- a command of this name, with these options that name files, and MIG files
+-- a command of this name, with these options, and MIG files
 abbrev pub with_files : App → List Text → App
 with_files app [] = with_rule app defs_rule
 with_files app (name ∷ names) = with_files (with_rule app (file_rule name)) names
@@ -58,6 +58,10 @@ check_app = with_files check_options (codes "cert" ∷ [])
 -- `make --wiring FILE --out FILE [DEFS]...`
 abbrev pub make_app : App
 make_app = with_files (new_app (codes "make")) (codes "wiring" ∷ codes "out" ∷ [])
+
+-- `explain --wiring FILE --fact FACT [DEFS]...`
+abbrev pub explain_app : App
+explain_app = with_files (new_app (codes "explain")) (codes "wiring" ∷ codes "fact" ∷ [])
 
 -- `replay --wiring FILE --script FILE [DEFS]...`
 abbrev pub replay_app : App
@@ -85,9 +89,13 @@ bare_app =
 abbrev pub certificate_app : App
 certificate_app = with_subcommand (with_subcommand bare_app check_app.top) make_app.top
 
+-- the same, and what explains a fact
+abbrev pub fact_app : App
+fact_app = with_subcommand certificate_app explain_app.top
+
 -- the program and its commands
 abbrev pub machcheck_app : App
-machcheck_app = with_subcommand certificate_app replay_app.top
+machcheck_app = with_subcommand fact_app replay_app.top
 
 -- the words ask for help or for the version, as `clap` reads them; then they are no command
 abbrev pub AsksHelp : List Text → Type 0

@@ -2,3 +2,4 @@ pub mod Files
 pub mod Texts
 pub mod Told
 pub mod CommandLine
+pub mod Explained

@@ -6,7 +6,7 @@ ghost use Rattle.clap.specs.Matches.{found_of, first_value};
 ghost use Rattle.clap.specs.declared.error.kind.ErrorKind.TheVariants.{OutOfMemory, DisplayHelp};
 ghost use Rattle.clap.specs.declared.error.kind.ErrorKind.TheVariants.{DisplayVersion};
 ghost use Rattle.machcheck.specs.CommandLine.{IsNoCommand, TellsError, file_rule, check_app};
-ghost use Rattle.machcheck.specs.CommandLine.{check_options, certificate_app};
+ghost use Rattle.machcheck.specs.CommandLine.{check_options, certificate_app, explain_app, fact_app};
 ghost use Rattle.machcheck.specs.CommandLine.{defs_rule, make_app, replay_app, machcheck_app};
 ghost use Rattle.machcheck.specs.CommandLine.{HasNoGlobals, all_values};
 
@@ -16,9 +16,9 @@ use clap::{Arg, ArgAction, ArgMatches, Error};
 use std::alloc::{AllocError, AllocFailed, Global};
 
 const PROGRAM_HELP: &str = "Exit status of each command:
-  0  YES was printed, a certificate was made, a script was replayed, or help or the
-     version was printed
-  1  NO was printed, with the first reason
+  0  YES was printed, a certificate was made, a chain was printed, a script was replayed,
+     or help or the version was printed
+  1  NO was printed, with the first reason, or none, where no chain leads to a fact
   2  a fault was told on standard error: a file can't be read or has no meaning,
      the command line is wrong, the output was not taken, or memory ran out
 
@@ -55,6 +55,24 @@ Exit status:
 
 Read on in README.md, and in docs/ARCHITECTURE.md.";
 
+const EXPLAIN_HELP: &str = "Files, as README.md describes them:
+  MIG files have the messages of the interfaces that the wiring names,
+  a wiring has the tasks and ports, what they accept, and the rights that are held at first.
+
+A fact is printed as in a NO: `hold TASK CLASS RIGHT`, `carry CLASS CLASS RIGHT` or
+`backup CLASS CLASS`. Where it is in the least certificate, a chain of rules is printed that
+derives it: a line for each step, with its number from 0, the rule, what it concludes, and the
+numbers of the steps that it follows from. The last step concludes the fact.
+
+Exit status:
+  0  a chain was printed
+  1  `none` was printed: the fact is not in the least certificate
+  2  a fault on standard error, as `machcheck: FILE: FAULT`: a file can't be read or has no
+     meaning, the text of the fact names none of the wiring (BadFact), the command line is
+     wrong, the output was not taken, or memory ran out
+
+Read on in README.md, and in docs/ARCHITECTURE.md.";
+
 const REPLAY_HELP: &str = "Files, as docs/FORMATS.md describes them:
   MIG files have the messages of the interfaces that the wiring names,
   a wiring has the tasks and ports, what they accept, and the rights that are held at first,
@@ -78,6 +96,8 @@ pub enum Command<'a> {
     Check(CheckFiles<'a>),
     /// What may the tasks of the wiring come to hold?
     Make(MakeFiles<'a>),
+    /// How may a fact come about?
+    Explain(ExplainFiles<'a>),
     /// What do the calls of the script answer?
     Replay(ReplayFiles<'a>),
 }
@@ -102,6 +122,13 @@ pub struct CheckFiles<'a> {
 pub struct MakeFiles<'a> {
     pub system: SystemFiles<'a>,
     pub out: &'a str,
+}
+
+/// The files of an `explain`, and the text of the fact.
+#[derive(Drop)]
+pub struct ExplainFiles<'a> {
+    pub system: SystemFiles<'a>,
+    pub fact: &'a str,
 }
 
 /// The files of a `replay`.
@@ -131,16 +158,24 @@ impl From<AllocError> for NoCommand {
     }
 }
 
-fn file_option<'a>(alloc: Global, name: &'a str, help: &'a str) -> Arg<'a>
+/// An option that has to be given, with one value.
+fn value_option<'a>(alloc: Global, name: &'a str, value: &'a str, help: &'a str) -> Arg<'a>
     ensures rule { rule_of result ≡ file_rule name.entry.now }
     ensures local { result.global ≡ false }
 {
     Arg::new(alloc, name)
         .long(name)
-        .value_name("FILE")
+        .value_name(value)
         .help(help)
         .required(true)
         .action(ArgAction::Set)
+}
+
+fn file_option<'a>(alloc: Global, name: &'a str, help: &'a str) -> Arg<'a>
+    ensures rule { rule_of result ≡ file_rule name.entry.now }
+    ensures local { result.global ≡ false }
+{
+    value_option(alloc, name, "FILE", help)
 }
 
 fn wiring_option<'a>(alloc: Global) -> Arg<'a>
@@ -193,6 +228,18 @@ fn make_command<'a>(alloc: Global) -> Result<clap::Command<'a>, AllocError>
         .arg(defs_arguments(alloc))
 }
 
+fn explain_command<'a>(alloc: Global) -> Result<clap::Command<'a>, AllocError>
+    ensures app { IfOk result (λ command. app_of command ≡ explain_app) }
+    ensures local { IfOk result HasNoGlobals }
+{
+    clap::Command::new(alloc, "explain")
+        .about("Shows how a fact comes to be in the least certificate of a wiring")
+        .after_help(EXPLAIN_HELP)
+        .arg(wiring_option(alloc))?
+        .arg(value_option(alloc, "fact", "FACT", "The fact, as it is printed in a NO"))?
+        .arg(defs_arguments(alloc))
+}
+
 fn replay_command<'a>(alloc: Global) -> Result<clap::Command<'a>, AllocError>
     ensures app { IfOk result (λ command. app_of command ≡ replay_app) }
     ensures local { IfOk result HasNoGlobals }
@@ -223,10 +270,19 @@ fn certificate_commands<'a>(alloc: Global) -> Result<clap::Command<'a>, AllocErr
         .subcommand(make)
 }
 
+/// The same with the command that explains a fact.
+fn fact_commands<'a>(alloc: Global) -> Result<clap::Command<'a>, AllocError>
+    ensures { IfOk result (λ command. app_of command ≡ fact_app) }
+{
+    let commands = certificate_commands(alloc)?;
+    let explain = explain_command(alloc)?;
+    commands.subcommand(explain)
+}
+
 fn whole_command<'a>(alloc: Global) -> Result<clap::Command<'a>, AllocError>
     ensures { IfOk result (λ command. app_of command ≡ machcheck_app) }
 {
-    let commands = certificate_commands(alloc)?;
+    let commands = fact_commands(alloc)?;
     let replay = replay_command(alloc)?;
     commands.subcommand(replay)
 }
@@ -327,6 +383,20 @@ fn make_files<'a>(alloc: Global, matches: &ArgMatches<'a>) -> Result<MakeFiles<'
     Ok(MakeFiles { system, out })
 }
 
+fn explain_files<'a>(alloc: Global, matches: &ArgMatches<'a>) -> Result<ExplainFiles<'a>, NoCommand>
+    ensures defs { IfOk result (λ files. map (λ file. file.now) files.system.defs.items
+        ≡ all_values (found_of matches.now) (codes "defs")) }
+    ensures wiring { IfOk result (λ files.
+        first_value (found_of matches.now) (codes "wiring") ≡ Some files.system.wiring.now) }
+    ensures fact { IfOk result
+        (λ files. first_value (found_of matches.now) (codes "fact") ≡ Some files.fact.now) }
+    ensures none { IfErr result (λ none. none ≡ NoCommand.Memory) }
+{
+    let system = system_files(alloc, matches)?;
+    let fact = file_given(matches, "fact")?;
+    Ok(ExplainFiles { system, fact })
+}
+
 fn replay_files<'a>(alloc: Global, matches: &ArgMatches<'a>) -> Result<ReplayFiles<'a>, NoCommand>
     ensures defs { IfOk result (λ files. map (λ file. file.now) files.system.defs.items
         ≡ all_values (found_of matches.now) (codes "defs")) }
@@ -349,6 +419,9 @@ fn command_of<'a>(alloc: Global, matches: &ArgMatches<'a>) -> Result<Command<'a>
     }
     if let Some(matches) = matches.subcommand_matches("make") {
         return Ok(Command::Make(make_files(alloc, matches)?));
+    }
+    if let Some(matches) = matches.subcommand_matches("explain") {
+        return Ok(Command::Explain(explain_files(alloc, matches)?));
     }
     match matches.subcommand_matches("replay") {
         Some(matches) => Ok(Command::Replay(replay_files(alloc, matches)?)),

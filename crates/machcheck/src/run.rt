@@ -10,9 +10,11 @@ ghost use Rattle.machcheck.specs.Files.{AreHeld, Exceeds, IsFirstUnread, check_n
 ghost use Rattle.machcheck.specs.Told.{ToldYes, ToldNo, ToldMemory, ToldFault, YesOfFiles};
 ghost use Rattle.machcheck.specs.Told.{NoOfFiles, FaultOfFiles, MadeOfFiles, ReplayOfFiles};
 ghost use Rattle.machcheck.specs.Told.{SomeFiles, WentOut};
+ghost use Rattle.machcheck.specs.Explained.{ChainOfFiles, NoneOfFiles};
 ghost use Rattle.machcheck.specs.CommandLine.{AsksHelp};
 
 use crate::command::{CheckFiles, Command, NoCommand, read};
+use crate::explain::explain_files;
 use crate::files::{Folder, Unread, bytes_of, unread_told};
 use crate::make::make_files;
 use crate::replay::replay_files;
@@ -129,20 +131,23 @@ fn check_files<F: Folder>(
 /// What is told of the words of a command line.
 fn told<F: Folder>(folder: &mut F, alloc: Global, words: &[String]) -> Result<Told, AllocError>
     ensures status { IfOk result (λ told. told.status ≤ 2) }
-    // Status 0 is that of a yes, of a certificate that was made or of a replay, unless the words
-    // ask for help or the version.
+    // Status 0 is that of a yes, of a certificate that was made, of a replay or of a chain, unless
+    // the words ask for help or the version.
     ensures yes { IfOk result (λ told. told.status ≡ 0
         → SomeFiles (YesOfFiles (F.held folder.old)) told
         ⊎ (SomeFiles (MadeOfFiles (F.held folder.old) (F.held folder.new)) told
         ⊎ (SomeFiles (ReplayOfFiles (F.held folder.old)) told
-        ⊎ AsksHelp (map string_bytes words.now)))) }
+        ⊎ (SomeFiles (ChainOfFiles (F.held folder.old)) told
+        ⊎ AsksHelp (map string_bytes words.now))))) }
     ensures no { IfOk result (λ told. told.status ≡ 1
-        → SomeFiles (NoOfFiles (F.held folder.old)) told) }
+        → SomeFiles (NoOfFiles (F.held folder.old)) told
+        ⊎ SomeFiles (NoneOfFiles (F.held folder.old)) told) }
     ensures fault { IfOk result (λ told. told.status ≡ 2 → string_bytes told.out ≡ []) }
 {
     match read(alloc, words) {
         Ok(Command::Check(files)) => check_files(folder, alloc, &files),
         Ok(Command::Make(files)) => make_files(folder, alloc, &files),
+        Ok(Command::Explain(files)) => explain_files(folder, alloc, &files),
         Ok(Command::Replay(files)) => replay_files(folder, alloc, &files),
         Err(NoCommand::Told(told)) => Ok(told),
         Err(NoCommand::Memory) => memory(alloc),
@@ -175,8 +180,8 @@ fn write_told<O: Write, E: Write>(alloc: Global, told: &Told, out: &mut O, err: 
 }
 
 /// Runs the program on the words of a command line, its own name first, and on the files of a
-/// folder. The status is 0 for `YES`, for a certificate that is made, for a replay and for help and
-/// the version, 1 for `NO`, and 2 for a fault.
+/// folder. The status is 0 for `YES`, for a certificate that is made, for a chain, for a replay and
+/// for help and the version, 1 for `NO` and for `none`, and 2 for a fault.
 pub fn run<F: Folder, O: Write, E: Write>(
     folder: &mut F,
     alloc: Global,
@@ -185,17 +190,20 @@ pub fn run<F: Folder, O: Write, E: Write>(
     err: &mut E,
 ) -> u8
     ensures status { result ≤ 2 }
-    // With status 0 a yes, the making of a certificate or a replay went out that is right of what
-    // the files held, unless the words ask for help or the version.
+    // With status 0 a yes, the making of a certificate, a replay or a chain went out that is right
+    // of what the files held, unless the words ask for help or the version.
     ensures yes { result ≡ 0
         → WentOut (YesOfFiles (F.held folder.old)) (O.contents out.old) (O.contents out.new)
         ⊎ (WentOut (MadeOfFiles (F.held folder.old) (F.held folder.new)) (O.contents out.old)
         (O.contents out.new)
         ⊎ (WentOut (ReplayOfFiles (F.held folder.old)) (O.contents out.old) (O.contents out.new)
-        ⊎ AsksHelp (map string_bytes words.now))) }
-    // With status 1 a no went out that is right of what the files hold.
+        ⊎ (WentOut (ChainOfFiles (F.held folder.old)) (O.contents out.old) (O.contents out.new)
+        ⊎ AsksHelp (map string_bytes words.now)))) }
+    // With status 1 a no went out, or that no chain leads to a fact, that is right of what the
+    // files hold.
     ensures no { result ≡ 1
-        → WentOut (NoOfFiles (F.held folder.old)) (O.contents out.old) (O.contents out.new) }
+        → WentOut (NoOfFiles (F.held folder.old)) (O.contents out.old) (O.contents out.new)
+        ⊎ WentOut (NoneOfFiles (F.held folder.old)) (O.contents out.old) (O.contents out.new) }
 {
     match told(folder, alloc, words) {
         Ok(told) => write_told(alloc, &told, out, err),
@@ -217,17 +225,20 @@ pub fn start<F: Folder, O: Write, E: Write>(
 ) -> u8
     ensures status { result ≤ 2 }
     ensures fault { IfErr words (λ _. result ≡ 2) }
-    // With status 0 a yes, the making of a certificate or a replay went out that is right of what
-    // the files held, unless the words ask for help or the version.
+    // With status 0 a yes, the making of a certificate, a replay or a chain went out that is right
+    // of what the files held, unless the words ask for help or the version.
     ensures yes { result ≡ 0
         → WentOut (YesOfFiles (F.held folder.old)) (O.contents out.old) (O.contents out.new)
         ⊎ (WentOut (MadeOfFiles (F.held folder.old) (F.held folder.new)) (O.contents out.old)
         (O.contents out.new)
         ⊎ (WentOut (ReplayOfFiles (F.held folder.old)) (O.contents out.old) (O.contents out.new)
-        ⊎ IsOkAnd words (λ given. AsksHelp (map string_bytes given.items)))) }
-    // With status 1 a no went out that is right of what the files hold.
+        ⊎ (WentOut (ChainOfFiles (F.held folder.old)) (O.contents out.old) (O.contents out.new)
+        ⊎ IsOkAnd words (λ given. AsksHelp (map string_bytes given.items))))) }
+    // With status 1 a no went out, or that no chain leads to a fact, that is right of what the
+    // files hold.
     ensures no { result ≡ 1
-        → WentOut (NoOfFiles (F.held folder.old)) (O.contents out.old) (O.contents out.new) }
+        → WentOut (NoOfFiles (F.held folder.old)) (O.contents out.old) (O.contents out.new)
+        ⊎ WentOut (NoneOfFiles (F.held folder.old)) (O.contents out.old) (O.contents out.new) }
 {
     match words {
         Ok(words) => run(folder, alloc, words.as_slice(), out, err),

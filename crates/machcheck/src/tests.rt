@@ -342,6 +342,7 @@ fn help(rt: HostRuntime) -> Result<(), Fail> {
     let program = [
         "Checks that no task of a wired Mach 3 system can ever obtain a forbidden port right",
         "check",
+        "explain",
         "replay",
         "Exit status of each command:",
         "  0  YES was printed",
@@ -369,6 +370,25 @@ fn help(rt: HostRuntime) -> Result<(), Fail> {
             "  1  NO",
             "  2  a fault on standard error",
             "README.md",
+            "docs/ARCHITECTURE.md",
+        ],
+    )
+}
+
+#[test]
+fn help_of_explanations(rt: HostRuntime) -> Result<(), Fail> {
+    tells_help(
+        &rt,
+        &rt,
+        &["machcheck", "explain", "--help"],
+        &[
+            "Shows how a fact comes to be in the least certificate of a wiring",
+            "--wiring <FILE>",
+            "--fact <FACT>",
+            "`hold TASK CLASS RIGHT`",
+            "  0  a chain was printed",
+            "  1  `none` was printed",
+            "  2  a fault on standard error",
             "docs/ARCHITECTURE.md",
         ],
     )
@@ -644,6 +664,47 @@ fn checks_with_interfaces(rt: HostRuntime) -> Result<(), Fail> {
     let (told, opened) = of_shelf(alloc, &mut shelf, words.as_slice())?;
     assert_eq!(rt; told.out.as_slice(), b"YES\n".as_slice());
     assert_eq!(rt; (told.status, opened), (0, 4123));
+    Ok(())
+}
+
+/// What is told of a fact, of a wiring over the file server's interface.
+fn explained(alloc: Global, wiring: &[u8], fact: &str) -> Result<Outcome, Fail> {
+    let mut shelf = no_files(alloc);
+    shelf.defs = Ok(FILE_SERVER);
+    shelf.wiring = Ok(wiring);
+    let words = ["machcheck", "explain", "--wiring", "w", "--fact", fact, "d"];
+    let (told, _) = of_shelf(alloc, &mut shelf, &words)?;
+    Ok(told)
+}
+
+#[test]
+fn explains(rt: HostRuntime) -> Result<(), Fail> {
+    let alloc = rt.alloc();
+    let told = explained(alloc, CAREFUL, "hold fs births:app once")?;
+    let want = b"0 K1 hold app port:root send
+1 K2 hold app births:app receive
+2 K1 hold fs port:root receive
+3 K3 hold app births:app once from 1
+4 K5 carry port:root births:app once from 0 3
+5 K6 hold fs births:app once from 2 4
+";
+    assert_eq!(rt; told.out.as_slice(), want.as_slice());
+    assert_eq!(rt; told.status, 0);
+    let told = explained(alloc, CAREFUL, "hold app task:fs send")?;
+    assert_eq!(rt; told.out.as_slice(), b"none\n".as_slice());
+    assert_eq!(rt; told.status, 1);
+    for fact in [
+        "hold app task:fs",
+        "hold app  task:fs send",
+        "hold app births:fs:0 send",
+    ] {
+        let told = explained(alloc, CAREFUL, fact)?;
+        assert_eq!(rt;
+            told.err.as_slice(),
+            b"machcheck: --fact: BadFact\n".as_slice()
+        );
+        assert_eq!(rt; told.status, 2);
+    }
     Ok(())
 }
 

@@ -102,10 +102,10 @@ first_hold_is W g x =
     (λ t. Rule W 1 [] (Hold t x.class x.right)) x.held.task_class_is rule in
     subst (λ y. Rule W 1 [] y) (sym x.is) at
 
-abbrev FirstOrBirth : Wiring → Fact → Type 0
+abbrev pub FirstOrBirth : Wiring → Fact → Type 0
 FirstOrBirth W g = IsHeldAtFirst W g ⊎ Below (classes W) (IsBirth W) g
 
-begins : (W : Wiring) (k : ℕ) (g : Fact) → Rule W k [] g → InRange W g → FirstOrBirth W g
+pub begins : (W : Wiring) (k : ℕ) (g : Fact) → Rule W k [] g → InRange W g → FirstOrBirth W g
 begins W k g (k1 t p {c} {r} held is) within = inl (record {
   task = task_class (first W) t;
   class = c;

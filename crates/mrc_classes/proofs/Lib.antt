@@ -9,3 +9,4 @@ pub mod Premises
 pub mod Beginning
 pub mod Comparing
 pub mod Missed
+pub mod Justified

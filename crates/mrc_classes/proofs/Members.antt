@@ -1,14 +1,15 @@
 -- What holds of the members of an ascending list of facts.
 use Rattle.std.proofs.Common.{Bor, ◌≡◌, Bool, true, false, cond, List, [], ◌∷◌, Option, Some, None}
 use Rattle.std.proofs.Common.{refl, sym, ap, ◌∙◌, subst, inl, inr}
-use Rattle.std.specs.Prelude.{IsTrue, ◌||◌, IfSome, IfNone}
+use Rattle.std.specs.Prelude.{IsTrue, not, ◌&&◌, ◌||◌, IfSome, IfNone}
+use Rattle.std.specs.BTreeMap.{is_at}
 use Rattle.std.specs.List.{AllByRecursion, find}
 use Rattle.std.specs.List.Sorted.{IsStrictlySortedBy}
 use Rattle.std.specs.BTreeSet.{BTreeSet, contains, IsLowerBound}
 use Rattle.std.specs.Option.{option_copied}
 use Rattle.std.specs.declared.cmp.Ordering.{Ordering}
 use Rattle.std.specs.declared.cmp.Ordering.TheVariants.{Less, Equal, Greater}
-use Rattle.std.specs.Ordering.{match_ordering, ordering_reverse, is_lt, is_gt}
+use Rattle.std.specs.Ordering.{match_ordering, ordering_reverse, is_lt, is_eq, is_gt}
 use Rattle.std.proofs.lemmas.Bool.{and_parts, or_cases, or_left, or_right}
 use Rattle.std.proofs.lemmas.Map.Lookups.{btree_set_from_contains}
 use Rattle.mrc_base.specs.declared.Fact.{Fact}
@@ -195,3 +196,28 @@ first_answers set o =
     subst (λ (R : Fact → Fact → Ordering). IfSome o (λ f. IsTrue (contains R set f.now))
     → IfSome o (λ f. IsLowerBound R set f.now) → IfSome (option_copied o) (IsLeast set.keys))
     (sym derived) (least_by set o)
+
+same_turned : (f g : Fact) → is_same f g ≡ is_same g f
+same_turned f g = sym (ap is_eq (fact_total.antisymm g f) ∙ is_eq-reverse (fact_cmp f g))
+  where
+    is_eq-reverse : (o : Ordering) → is_eq (ordering_reverse o) ≡ is_eq o
+    is_eq-reverse Less = refl
+    is_eq-reverse Equal = refl
+    is_eq-reverse Greater = refl
+
+without : (a b x : Bool) → a ≡ b → cond a false x ≡ (not b && x)
+without true true x e = refl
+without true false x e = absurd cc
+without false true x e = absurd cc
+without false false x e = refl
+
+-- what `remove` of a `BTreeSet` leaves
+pub removed : (after_it before : BTreeSet Fact) (f : Fact)
+    → ((q : Fact) → contains (facts.cmp-value).it after_it q
+    ≡ cond (is_at ((facts.cmp-value).it f) q) false (contains (facts.cmp-value).it before q))
+    → (g : Fact)
+    → has after_it.keys g ≡ (not (is_same g f) && has before.keys g)
+removed after_it before f h g =
+    subst (λ (R : Fact → Fact → Ordering). (q : Fact) → contains R after_it q
+    ≡ cond (is_at (R f) q) false (contains R before q)) derived h g
+    ∙ without (is_same f g) (is_same g f) (has before.keys g) (same_turned f g)

@@ -52,7 +52,7 @@ module _ (W : Wiring) (S : Fact → Bool) where
   can_send t d SendOnce can h = or_right (S (Hold t d Send)) (S (Hold t d SendOnce)) h
 
   -- what a rule concludes, its test concludes
-  tested : (k : ℕ) (premises : List Fact) (g : Fact)
+  pub tested : (k : ℕ) (premises : List Fact) (g : Fact)
       → Rule W k premises g
       → AllByRecursion (λ p. InRange W p × Has S p) premises
       → InRange W g

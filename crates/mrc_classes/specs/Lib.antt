@@ -7,3 +7,4 @@ pub mod Growing
 pub mod Parts
 pub mod Missing
 pub mod Lacks
+pub mod Instances

@@ -1,4 +1,4 @@
-ghost use Rattle.std.specs.Prelude.{◌≡◌, ◌+◌, ◌↔◌, [], length, not, ◌||◌, if◌then◌else◌, IsTrue};
+ghost use Rattle.std.specs.Prelude.{◌≡◌, ◌+◌, ◌↔◌, [], length, not, ◌&&◌, ◌||◌, if◌then◌else◌, IsTrue};
 ghost use Rattle.std.specs.Prelude.{IsNone, IfOk, OnOk, OnErr, IfSome, IfNone};
 ghost use Rattle.std.specs.Map.Iter.{ShowsInOrder, deref};
 ghost use Rattle.mrc_base.specs.declared.Fact.{Fact};
@@ -76,6 +76,15 @@ impl Facts {
         Ok(self.facts.insert(fact)?)
     }
 
+    /// Takes the fact out of the set, where it is there.
+    pub fn remove(&mut self, fact: &Fact)
+        ensures members { (g : Fact) →
+            has self.new g ≡ (not (is_same g fact.now) && has self.old g) }
+        ensures ascending { IsAscending self.new }
+    {
+        let _there = self.facts.remove(fact);
+    }
+
     /// The least fact.
     pub fn first(&self) -> Option<Fact>
         ensures exact { result ≡ first self.now }
@@ -104,5 +113,21 @@ impl Facts {
         ensures ascending { IsAscending self.now }
     {
         self.facts.iter()
+    }
+
+    /// An equal set.
+    pub fn copy(&self) -> Result<Facts, AllocError>
+        ensures { IfOk result (λ copy. copy ≡ self.now) }
+    {
+        Ok(Facts {
+            facts: self.facts.clone()?,
+        })
+    }
+
+    /// Whether the sets are equal.
+    pub fn same(&self, other: &Facts) -> bool
+        ensures { IsTrue result ↔ (self.now ≡ other.now) }
+    {
+        self.facts == other.facts
     }
 }

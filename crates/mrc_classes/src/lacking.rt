@@ -23,6 +23,7 @@ ghost use Rattle.mrc_classes.specs.declared.rule_names.RuleName.{RuleName};
 
 use crate::facts::Facts;
 use crate::first_facts::held_at_first;
+use crate::instances::{received_at, receiver, returned_at, sender, shared_by};
 use crate::rights::{backup, carry, hold, kernel_port, same_right};
 use crate::rule_names::{RuleName, rule_of};
 use mrc_base::{ClassId, Disp, Fact, PortRight, need};
@@ -38,7 +39,7 @@ pub struct Missing {
     pub fact: Fact,
 }
 
-fn can_send_to(facts: &Facts, task: u16, to: u16) -> bool
+pub(crate) fn can_send_to(facts: &Facts, task: u16, to: u16) -> bool
     ensures { result ≡ can_send_to (has facts.now) task to }
 {
     facts.has(&hold(task, to, PortRight::Send)) || facts.has(&hold(task, to, PortRight::SendOnce))
@@ -48,12 +49,7 @@ fn can_send_to(facts: &Facts, task: u16, to: u16) -> bool
 fn is_sent(wired: &Wired, facts: &Facts, to: u16, class: u16, held: PortRight) -> bool
     ensures { IsTrue result ↔ IsSender (wiring_of wired.now) (has facts.now) to class held }
 {
-    for task in 0..wired.tasks() {
-        if can_send_to(facts, task, to) && facts.has(&hold(task, class, held)) {
-            return true;
-        }
-    }
-    false
+    sender(wired, facts, to, class, held).is_some()
 }
 
 fn is_carried_by(wired: &Wired, facts: &Facts, to: u16, class: u16, disp: Disp) -> bool
@@ -86,29 +82,17 @@ fn is_requested(wired: &Wired, facts: &Facts, class: u16, notify: u16) -> bool
     ensures { IsTrue result ↔
         IsReceiver (wiring_of wired.now) (has facts.now) class notify PortRight.SendOnce }
 {
-    for task in 0..wired.tasks() {
-        if facts.has(&hold(task, class, PortRight::Receive))
-            && facts.has(&hold(task, notify, PortRight::SendOnce))
-        {
-            return true;
-        }
-    }
-    false
+    receiver(wired, facts, class, notify).is_some()
 }
 
 /// Whether the task receives at some class to which the right on the class is carried.
 fn is_received(wired: &Wired, facts: &Facts, task: u16, class: u16, right: PortRight) -> bool
     ensures { IsTrue result ↔ IsReceived (wiring_of wired.now) (has facts.now) task class right }
 {
-    for to in 0..wired.classes() {
-        if facts.has(&hold(task, to, PortRight::Receive)) && facts.has(&carry(to, class, right)) {
-            return true;
-        }
-    }
-    false
+    received_at(wired, facts, task, class, right).is_some()
 }
 
-fn are_linked(wired: &Wired, facts: &Facts, one: u16, other: u16) -> bool
+pub(crate) fn are_linked(wired: &Wired, facts: &Facts, one: u16, other: u16) -> bool
     requires one { one < (wiring_of wired.now).tasks }
     requires other { other < (wiring_of wired.now).tasks }
     ensures { result ≡ are_linked (wiring_of wired.now) (has facts.now) one other }
@@ -122,24 +106,14 @@ fn is_shared(wired: &Wired, facts: &Facts, task: u16, class: u16, right: PortRig
     requires { task < (wiring_of wired.now).tasks }
     ensures { IsTrue result ↔ IsShared (wiring_of wired.now) (has facts.now) task class right }
 {
-    for other in 0..wired.tasks() {
-        if are_linked(wired, facts, task, other) && facts.has(&hold(other, class, right)) {
-            return true;
-        }
-    }
-    false
+    shared_by(wired, facts, task, class, right).is_some()
 }
 
 /// Whether the task receives at some class, for a port of which class `notify` is to be notified.
 fn is_returned(wired: &Wired, facts: &Facts, task: u16, notify: u16) -> bool
     ensures { IsTrue result ↔ IsReturned (wiring_of wired.now) (has facts.now) task notify }
 {
-    for class in 0..wired.classes() {
-        if facts.has(&hold(task, class, PortRight::Receive)) && facts.has(&backup(class, notify)) {
-            return true;
-        }
-    }
-    false
+    returned_at(wired, facts, task, notify).is_some()
 }
 
 /// Whether the class is that of the task's births.
@@ -150,6 +124,14 @@ fn is_birth_class(wired: &Wired, task: u16, class: u16) -> bool
         Some(born) => born.0 == task as u32,
         None => false,
     }
+}
+
+/// Whether the right is a receive right, and the class that of the task's births.
+pub(crate) fn is_birth(wired: &Wired, task: u16, class: u16, right: PortRight) -> bool
+    ensures { IsTrue result ↔
+        (IsTrue (same_right right PortRight.Receive) × IsBirthClass (wiring_of wired.now) task class) }
+{
+    same_right(right, PortRight::Receive) && is_birth_class(wired, task, class)
 }
 
 /// Whether the rule concludes the fact of this row, class and right.
@@ -169,9 +151,7 @@ fn concludes(
 {
     match rule {
         RuleName::First => first.has(&hold(row, class, right)),
-        RuleName::Births => {
-            same_right(right, PortRight::Receive) && is_birth_class(wired, row, class)
-        }
+        RuleName::Births => is_birth(wired, row, class, right),
         RuleName::Weaker => {
             !same_right(right, PortRight::Receive)
                 && facts.has(&hold(row, class, PortRight::Receive))

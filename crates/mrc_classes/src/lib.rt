@@ -4,6 +4,7 @@
 mod conclude;
 mod facts;
 mod first_facts;
+mod instances;
 mod lacking;
 pub mod laws;
 mod rights;
@@ -12,6 +13,7 @@ mod rule_names;
 pub use conclude::{consequences, with_consequences};
 pub use facts::Facts;
 pub use first_facts::first_rules;
+pub use instances::{FewFacts, Instance, instance_of};
 pub use lacking::{Missing, violation};
 pub use mrc_base::Fact;
 pub use rule_names::RuleName;

@@ -20,6 +20,7 @@ use Rattle.mrc_classes.specs.Following.{IsConsequence, IsFirstFact, IsListOf}
 use Rattle.mrc_classes.proofs.Total.{equal_from_same, same_itself}
 use Rattle.mrc_classes.proofs.Premises.{all_as}
 use Rattle.mrc_closure.specs.Merging.{FromOne, Merged}
+use Rattle.mrc_closure.proofs.Cuts.{cut_none, IsCutLeft, cut_push, in_of_has}
 
 -- lists
 
@@ -29,7 +30,7 @@ in_push g x xs at = elim (in_append g xs (x ∷ []) at) [
   | inr new ↦ inr (in_one g x new)
 ]
 
-decide : (b : Bool) → (b ≡ true) ⊎ (b ≡ false)
+pub decide : (b : Bool) → (b ≡ true) ⊎ (b ≡ false)
 decide true = inl refl
 decide false = inr refl
 
@@ -73,7 +74,11 @@ from_not_false a false e t = absurd cc
 pub merged_none : (before : List Fact) → Merged before [] before []
 merged_none before = record {
   members = λ g. sym (or_false (has before g));
-  new_ones = record { there = λ g at. elim at [ ]; all = λ g found lacked. absurd cc };
+  new_ones = record {
+    there = λ g at. elim at [ ];
+    all = λ g found lacked. absurd cc;
+    once = λ earlier g behind e. absurd (cut_none earlier g behind e);
+  };
   len = omega arith;
 }
 
@@ -110,10 +115,22 @@ module _ (before done after new : List Fact) (m : Merged before done after new)
             | inr same ↦ subst (λ x. IsIn x (new ++ f ∷ [])) (sym (equal_from_same g f same))
                 (in_right f new (f ∷ []) here)
           ];
+      once = λ earlier g behind e h. elim (cut_push new f earlier g behind e) [
+        | inl at ↦ m.new_ones.once earlier g at.rest at.is h
+        | inr at ↦ lacking g at.1 (subst (λ fs. IsTrue (has fs g)) at.0 h)
+      ];
     };
     len = longer ∙ (ap (λ n. n + 1) m.len ∙ (omega (arith, length_push new)));
   }
     where
+      lacking : (g : Fact) → g ≡ f → IsTrue (has new g) → ⊥
+      lacking g e h =
+          let there = subst IsTrue (sym (m.members g))
+          (or_right (has before g) (has done g)
+          (m.new_ones.there g (in_of_has g new h)).0) in
+          let here_f : IsTrue (has after f) = subst (λ x. IsTrue (has after x)) e there in
+          absurd cc
+
       before_lacks : has before f ≡ false
       before_lacks = left_false (has before f) (has done f) (sym (m.members f) ∙ lacked)
 
@@ -133,6 +150,7 @@ module _ (before done after new : List Fact) (m : Merged before done after new)
             | inl old ↦ m.new_ones.all g old none
             | inr same ↦ there_before g same none
           ];
+      once = m.new_ones.once;
     };
     len = as_long ∙ m.len;
   }

@@ -1,4 +1,7 @@
+pub mod Cuts
 pub mod Walking
 pub mod Keeping
 pub mod Counting
 pub mod Within
+pub mod Deriving
+pub mod Placing

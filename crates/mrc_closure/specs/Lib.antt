@@ -1,2 +1,4 @@
 pub mod Merging
 pub mod Laws
+pub mod Chains
+pub mod Orders

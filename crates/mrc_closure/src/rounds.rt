@@ -16,7 +16,12 @@ use mrc_wiring::Wired;
 use std::alloc::{AllocError, Global};
 
 /// What follows from one of the new facts, with those of the set.
-fn round(alloc: Global, wired: &Wired, facts: &Facts, new: &[Fact]) -> Result<Facts, AllocError>
+pub(crate) fn round(
+    alloc: Global,
+    wired: &Wired,
+    facts: &Facts,
+    new: &[Fact],
+) -> Result<Facts, AllocError>
     ensures { IfOk result (IsListOf (FromOne (wiring_of wired.now) facts.now new.now)) }
 {
     let mut found = Facts::new(alloc);
@@ -63,7 +68,11 @@ fn put_all(alloc: Global, facts: &mut Facts, list: &[Fact]) -> Result<Vec<Fact>,
 }
 
 /// Puts the found facts into the set, and answers those that are new there.
-fn merge(alloc: Global, facts: &mut Facts, found: &Facts) -> Result<Vec<Fact>, AllocError>
+pub(crate) fn merge(
+    alloc: Global,
+    facts: &mut Facts,
+    found: &Facts,
+) -> Result<Vec<Fact>, AllocError>
     ensures merged { IfOk result (λ new. Merged facts.old found.now facts.new new.items) }
     ensures ascending { IsAscending facts.new }
 {

@@ -93,12 +93,47 @@ fn the_most_tasks(rt: HostRuntime) -> Result<(), Fail> {
     Ok(())
 }
 
+/// Whether each step has its premises before it.
+fn are_placed(chain: &Chain) -> bool {
+    chain.steps().iter().enumerate().all(|(place, step)| match step.premises {
+        Places::Empty => true,
+        Places::One(one) => one < place,
+        Places::Two(one, other) => one < place && other < place,
+    })
+}
+
+#[test]
+fn a_chain_ends_in_its_fact(rt: HostRuntime) -> Result<(), Fail> {
+    let alloc = rt.alloc();
+    let wired = wired(alloc, TWO)?;
+    let fact = hold(1, 2, PortRight::SendOnce);
+    let Some(chain) = explain(alloc, &wired, fact)? else {
+        return Err("there is a chain".into());
+    };
+    assert!(rt; chain.steps().last().is_some_and(|step| step.fact == fact));
+    assert!(rt; are_placed(&chain));
+    Ok(())
+}
+
+#[test]
+fn no_chain_leads_outside(rt: HostRuntime) -> Result<(), Fail> {
+    let alloc = rt.alloc();
+    let wired = wired(alloc, TWO)?;
+    for fact in [hold(0, 1, PortRight::Receive), hold(9, 9, PortRight::Send)] {
+        assert!(rt; explain(alloc, &wired, fact)?.is_none());
+    }
+    Ok(())
+}
+
 // Where an allocation of the call is refused, it says so.
 #[test]
 fn memory_that_runs_out_is_told(rt: HostRuntime) -> Result<(), Fail> {
     let wired = wired(rt.alloc(), TWO)?;
     if let Ok(draft) = make_alone(rt.alloc(), &wired) {
         assert_eq!(rt; draft.facts.len(), 16);
+    }
+    if let Ok(chain) = explain(rt.alloc(), &wired, hold(1, 2, PortRight::Send)) {
+        assert!(rt; chain.is_some());
     }
     Ok(())
 }

@@ -17,7 +17,10 @@ returns-in-Ok-clause-yes g c zero_is =
         | inl said ↦ inl (went_out _ c.in-Ok.told _ _ said out)
         | inr fewer ↦ inr (elim fewer [
           | inl said ↦ inl (went_out _ c.in-Ok.told _ _ said out)
-          | inr help ↦ inr help
+          | inr last ↦ inr (elim last [
+            | inl said ↦ inl (went_out _ c.in-Ok.told _ _ said out)
+            | inr help ↦ inr help
+          ])
         ])
       ])
     ]
@@ -26,4 +29,8 @@ pub returns-in-Ok-clause-no : goal.returns-in-Ok-clause-no
 returns-in-Ok-clause-no g c one_is =
     let no = c.in-Ok.ensures.no (is_told c.write_told.result c.in-Ok.told.status 1
     c.write_told.ensures.status one_is (omega arith)) in
-    went_out _ c.in-Ok.told _ _ no (c.write_told.ensures.out (λ two. absurd (omega arith)))
+    let out = c.write_told.ensures.out (λ two. absurd (omega arith)) in
+    elim no [
+      | inl said ↦ inl (went_out _ c.in-Ok.told _ _ said out)
+      | inr none ↦ inr (went_out _ c.in-Ok.told _ _ none out)
+    ]

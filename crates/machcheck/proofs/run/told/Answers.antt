@@ -10,7 +10,7 @@ returns-in-Ok-Check-clause-yes g c =
 pub returns-in-Ok-Check-clause-no : goal.returns-in-Ok-Check-clause-no
 returns-in-Ok-Check-clause-no g c =
     IfOk-weaker c.check_files.result _ _
-    (λ told h one_is. (c.in-Ok-Check.files, h one_is)) c.check_files.ensures.no
+    (λ told h one_is. inl (c.in-Ok-Check.files, h one_is)) c.check_files.ensures.no
 
 pub returns-in-Ok-Make-clause-yes : goal.returns-in-Ok-Make-clause-yes
 returns-in-Ok-Make-clause-yes g c =
@@ -22,3 +22,14 @@ returns-in-Ok-Replay-clause-yes g c =
     IfOk-weaker c.replay_files.result _ _
     (λ told h zero_is. inr (inr (inl (c.in-Ok-Replay.files, h zero_is))))
     c.replay_files.ensures.replay
+
+pub returns-in-Ok-Explain-clause-yes : goal.returns-in-Ok-Explain-clause-yes
+returns-in-Ok-Explain-clause-yes g c =
+    IfOk-weaker c.explain_files.result _ _
+    (λ told h zero_is. inr (inr (inr (inl (c.in-Ok-Explain.files, h zero_is)))))
+    c.explain_files.ensures.chain
+
+pub returns-in-Ok-Explain-clause-no : goal.returns-in-Ok-Explain-clause-no
+returns-in-Ok-Explain-clause-no g c =
+    IfOk-weaker c.explain_files.result _ _
+    (λ told h one_is. inr (c.in-Ok-Explain.files, h one_is)) c.explain_files.ensures.none

@@ -2,7 +2,7 @@ use Rattle.std.proofs.Common.{ℕ, ◌<◌, IsTrue}
 use Rattle.mrc_base.specs.declared.Fact.TheVariants.{Hold, Carry}
 use Rattle.mrc_base.specs.declared.PortRight.TheVariants.{Receive}
 use Rattle.mrc_classes.specs.Sets.{has}
-use Rattle.mrc_classes.proofs.lacking.is_received.Given as goal
+use Rattle.mrc_classes.proofs.instances.received_at.Given as goal
 
 -- at no class so far the right is received
 abbrev pub invariant-loop-to : goal.invariant-loop-to

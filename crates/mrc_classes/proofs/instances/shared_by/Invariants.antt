@@ -3,7 +3,7 @@ use Rattle.mrc_base.specs.declared.Fact.TheVariants.{Hold}
 use Rattle.mrc_wiring.specs.Table.{wiring_of}
 use Rattle.mrc_classes.specs.Sets.{has}
 use Rattle.mrc_classes.specs.Parts.{are_linked}
-use Rattle.mrc_classes.proofs.lacking.is_shared.Given as goal
+use Rattle.mrc_classes.proofs.instances.shared_by.Given as goal
 
 -- no task so far shares the right
 abbrev pub invariant-loop-other : goal.invariant-loop-other
