@@ -2,3 +2,5 @@ pub mod EntryLaws
 pub mod SameMaps
 pub mod Places
 pub mod Values
+pub mod Filtered
+pub mod MemberLaws

@@ -9,7 +9,7 @@ use Rattle.mrc_map.specs.Entries.{map_of, IsRising}
 use Rattle.mrc_map.proofs.EntryLaws.{list-map_of, view_list}
 
 -- what stands at an index does not hang on what is told past the end
-same_entry : {X : Type 0} (es : List X) (i : ℕ) (d e : X)
+pub same_entry : {X : Type 0} (es : List X) (i : ℕ) (d e : X)
     → i < length es
     → slice_index_or es i d ≡ slice_index_or es i e
 same_entry [] i d e h = absurd (omega arith)

@@ -1,7 +1,9 @@
 //! Maps from numbers, whose value is the definitions' map: spaces, tables of ports and tasks are
-//! such maps.
+//! such maps. And sets of ports.
 #![tactic(auto)]
 
 mod map;
+mod ports;
 
 pub use map::Map;
+pub use ports::Ports;

@@ -1,7 +1,9 @@
 //! A map from numbers, as a list of its entries in the order of their keys.
 
-ghost use Rattle.std.specs.Prelude.{◌≡◌, ℕ, IfOk, IfErr, OnOk, OnErr, IsSome, Some};
+ghost use Rattle.std.specs.Prelude.{◌≡◌, ◌<◌, ℕ, length, IfOk, IfErr, OnOk, OnErr, IsSome, Some};
 ghost use Rattle.std.specs.Option.{option_copied};
+ghost use Rattle.std.specs.Fn.{CalledAt};
+ghost use Rattle.std.specs.List.Retain.{IsFiltered};
 ghost use Rattle.std.specs.List.{slice_set, slice_index_or};
 ghost use Rattle.mrc_model.specs.Map.{empty, get, insert, remove, len};
 ghost use Rattle.mrc_map.specs.Entries.{IsRising, place, IsAt, IsMissingAt};
@@ -57,6 +59,11 @@ impl<X> Map<X> {
         Map {
             entries: Vec::new(alloc),
         }
+    }
+
+    /// The allocator that it was made with.
+    pub fn alloc(&self) -> Global {
+        *self.entries.allocator()
     }
 
     /// How many entries there are.
@@ -135,6 +142,29 @@ impl<X> Map<X> {
         if index < self.entries.as_slice().len() {
             self.entries[index].1 = value;
         }
+    }
+
+    /// Puts another value at the key that stands at this index, and gives back the one that stood
+    /// there. It takes no memory.
+    pub fn replace_at(&mut self, index: usize, value: X) -> X
+    where
+        X: Drop,
+        requires { index < length self.old.list }
+        ensures out { (d : ℕ × X) → result ≡ (slice_index_or self.old.list index d).1 }
+        ensures changed { (d : ℕ × X) → self.new.list
+            ≡ slice_set self.old.list index ((slice_index_or self.old.list index d).0, value) }
+    {
+        mem::replace(&mut self.entries[index].1, value)
+    }
+
+    /// Drops each entry of which the test says false. It takes no memory.
+    pub fn retain<F: FnMut(&(u64, X)) -> bool>(&mut self, test: F)
+    where
+        X: Drop,
+        requires { F.IsAlwaysCallable test }
+        ensures { IsFiltered (CalledAt F.FnMut) test self.old.list self.new.list }
+    {
+        self.entries.retain(test);
     }
 
     /// Takes the key out, with its value, if it has one.

@@ -12,14 +12,14 @@ use Rattle.mrc_model.specs.World.{Port, Store, Held, queue_rights}
 use Rattle.mrc_model.specs.Death.{has, is_receive_of, has_receive, queued_on, queued_rights}
 use Rattle.mrc_model.specs.Death.{is_lost, backup_of, Doomed, is_kernel_of, dies, rounds, dying}
 
-or_left : (a b : Bool) → a ≡ true → (a || b) ≡ true
+pub or_left : (a b : Bool) → a ≡ true → (a || b) ≡ true
 or_left a b e = rw e
 
-or_right : (a b : Bool) → b ≡ true → (a || b) ≡ true
+pub or_right : (a b : Bool) → b ≡ true → (a || b) ≡ true
 or_right true b e = refl
 or_right false b e = e
 
-any_append : (p : ℕ) (xs ys : List Held)
+pub any_append : (p : ℕ) (xs ys : List Held)
     → has_receive p (xs ++ ys) ≡ (has_receive p xs || has_receive p ys)
 any_append p [] ys = refl
 any_append p (x ∷ xs) ys =
@@ -30,7 +30,7 @@ any_append p (x ∷ xs) ys =
 abbrev pub Within : List ℕ → List ℕ → Type 0
 Within xs ys = (p : ℕ) → has xs p ≡ true → has ys p ≡ true
 
-queued_more : (p : ℕ) (xs ys : List ℕ) (es : List (ℕ × Port)) → Within xs ys
+pub queued_more : (p : ℕ) (xs ys : List ℕ) (es : List (ℕ × Port)) → Within xs ys
     → has_receive p (queued_on xs es) ≡ true → has_receive p (queued_on ys es) ≡ true
 queued_more p xs ys [] w h = h
 queued_more p xs ys (e ∷ es) w h =
@@ -58,12 +58,12 @@ queued_more p xs ys (e ∷ es) w h =
     ] in
     go (has xs e.0) (has ys e.0) refl refl h
 
-lost_more : (xs ys : List ℕ) (b : Backup) → Within xs ys → is_lost xs b ≡ true → is_lost ys b ≡ true
+pub lost_more : (xs ys : List ℕ) (b : Backup) → Within xs ys → is_lost xs b ≡ true → is_lost ys b ≡ true
 lost_more xs ys NoBackup w h = refl
 lost_more xs ys DeadBackup w h = refl
 lost_more xs ys (BackupPort q) w h = w q h
 
-dies_more : (s : Store) (d : Doomed) (xs ys : List ℕ) (p : ℕ) → Within xs ys → dies s d xs p ≡ true
+pub dies_more : (s : Store) (d : Doomed) (xs ys : List ℕ) (p : ℕ) → Within xs ys → dies s d xs p ≡ true
     → dies s d ys p ≡ true
 dies_more s d xs ys p w h =
     elim (or_cases (is_kernel_of d.kernel p)
@@ -86,7 +86,7 @@ dies_more s d xs ys p w h =
           (lost_more xs ys (backup_of (get s.ports p)) w b))
     ]
 
-has-filter : (t : ℕ → Bool) (ks : List ℕ) (p : ℕ) → has (filter t ks) p ≡ true
+pub has-filter : (t : ℕ → Bool) (ks : List ℕ) (p : ℕ) → has (filter t ks) p ≡ true
     → (t p ≡ true) × (has ks p ≡ true)
 has-filter t [] p h = cc
 has-filter t (k ∷ ks) p h =
@@ -100,7 +100,7 @@ has-filter t (k ∷ ks) p h =
     ] in
     go (t k) refl h
 
-filter-has : (t : ℕ → Bool) (ks : List ℕ) (p : ℕ) → t p ≡ true → has ks p ≡ true
+pub filter-has : (t : ℕ → Bool) (ks : List ℕ) (p : ℕ) → t p ≡ true → has ks p ≡ true
     → has (filter t ks) p ≡ true
 filter-has t [] p a h = cc
 filter-has t (k ∷ ks) p a h =
@@ -120,7 +120,7 @@ filter-has t (k ∷ ks) p a h =
     ] in
     go (t k) refl
 
-length_filter : (t : ℕ → Bool) (ks : List ℕ) → length (filter t ks) ≤ length ks
+pub length_filter : (t : ℕ → Bool) (ks : List ℕ) → length (filter t ks) ≤ length ks
 length_filter t [] = omega arith
 length_filter t (k ∷ ks) =
     let r = length_filter t ks in elim (t k) as (λ b. length
@@ -128,7 +128,7 @@ length_filter t (k ∷ ks) =
     (length ks)) [ true ↦ omega arith | false ↦ omega arith ]
 
 -- of two tests, one within the other, the second passes more, or no other
-more_or_same : (t u : ℕ → Bool) (ks : List ℕ) → ((p : ℕ) → t p ≡ true → u p ≡ true)
+pub more_or_same : (t u : ℕ → Bool) (ks : List ℕ) → ((p : ℕ) → t p ≡ true → u p ≡ true)
     → (length (filter t ks) < length (filter u ks)) ⊎ ((length (filter t ks) ≡ length (filter u ks))
     × ((p : ℕ) → has ks p ≡ true → u p ≡ true → t p ≡ true))
 more_or_same t u [] w = inr (refl, λ p h. cc)

@@ -29,7 +29,7 @@ other_key : {A : Type 0} (q k : ℕ) (x y : A) → (q ≡ k → ⊥) → (if q =
 other_key q k x y e = rw (ne_eqb q k e)
 
 -- the rest of a rising list rises
-rest_rises : {X : Type 0} (low : ℕ) (e : ℕ × X) (es : List (ℕ × X)) → T (is_rising low (e ∷ es))
+pub rest_rises : {X : Type 0} (low : ℕ) (e : ℕ × X) (es : List (ℕ × X)) → T (is_rising low (e ∷ es))
     → T (is_rising (e.0 + 1) es)
 rest_rises low e es r = right_holds _ _ r
 

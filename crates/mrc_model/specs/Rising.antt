@@ -62,7 +62,7 @@ pub is_at_least : (a b : ℕ) → a ≤ b → T (nat_le a b)
 is_at_least a b h = subst T (sym (le-leb a b h)) tt
 
 -- keys that rise from a number rise from each lesser one
-rising_from : {X : Type 0} (low high : ℕ) (es : List (ℕ × X)) → low ≤ high → T (is_rising high es)
+pub rising_from : {X : Type 0} (low high : ℕ) (es : List (ℕ × X)) → low ≤ high → T (is_rising high es)
     → T (is_rising low es)
 rising_from low high [] h r = tt
 rising_from low high (e ∷ es) h r =

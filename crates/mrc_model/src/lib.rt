@@ -10,7 +10,8 @@ ghost use Rattle.mrc_model.specs.FirstHoldings.{FirstHoldingsAreGiven, SoundIfFe
 ghost use Rattle.mrc_model.specs.Headline.{DyingIsLeast, FirstHasSpaces, SpacesAreKept};
 ghost use Rattle.mrc_model.specs.Rules.{DerivationsAreLeast};
 
-use mrc_base::{PortId, PortRight, TaskId};
+use mrc_base::{Copies, PortId, PortRight, TaskId};
+use std::alloc::{AllocError, Global};
 use thiserror::Error;
 
 /// What a name of a space stands for (Mach 3 Kernel Interfaces, "Port rights").
@@ -83,6 +84,16 @@ pub enum LabelItem {
     Destroyed,
 }
 
+impl Copies for LabelItem {
+    fn copy(&self, _: Global) -> Result<LabelItem, AllocError> {
+        Ok(*self)
+    }
+
+    fn same(&self, other: &LabelItem) -> bool {
+        *self == *other
+    }
+}
+
 /// A line of a wiring that makes a part of the first state. Ports and kernel ports stand by their
 /// birth numbers.
 #[derive(Clone, Copy, Debug, PartialEq, Eq)]
@@ -99,6 +110,16 @@ pub enum FirstLine {
         port: PortId,
         right: PortRight,
     },
+}
+
+impl Copies for FirstLine {
+    fn copy(&self, _: Global) -> Result<FirstLine, AllocError> {
+        Ok(*self)
+    }
+
+    fn same(&self, other: &FirstLine) -> bool {
+        *self == *other
+    }
 }
 
 /// Why a call was refused, by Mach's names (Mach 3 Kernel Interfaces, `kern_return_t` and

@@ -1,5 +1,6 @@
 -- Changes of a space keep its bounds.
-use Rattle.std.proofs.Common.{◌≡◌, ℕ, ◌+◌, ◌<◌, ◌≤◌, ◌^◌, false, Option, Some, None, List, length}
+use Rattle.std.proofs.Common.{◌≡◌, ℕ, ◌+◌, ◌<◌, ◌≤◌, ◌^◌, Bool, true, false, Option, Some, None}
+use Rattle.std.proofs.Common.{List, length}
 use Rattle.std.proofs.Common.{refl, sym, ◌∙◌, ap, subst, arith}
 use Rattle.std.specs.Prelude.{IsSome, IfSome}
 use Rattle.std.proofs.lemmas.Bool.{leb-false}
@@ -8,7 +9,7 @@ use Rattle.mrc_model.specs.declared.Entry.{Entry}
 use Rattle.mrc_model.specs.CallSend.{dead_taken}
 use Rattle.mrc_model.specs.Map.{empty, get, insert, remove, alter_all, all_but, len}
 use Rattle.mrc_model.specs.World.{Space}
-use Rattle.mrc_model.specs.Space.{is_full, entry_of}
+use Rattle.mrc_model.specs.Space.{is_full, entry_of, outside, members_leave}
 use Rattle.mrc_model.proofs.Maps.{at_or_0, get-empty, Each-insert, Each-alter_all, len-insert}
 use Rattle.mrc_model.proofs.Maps.{len-alter_all, len-empty, not_None}
 use Rattle.mrc_model.proofs.Spaces.{entry_of-some}
@@ -78,6 +79,11 @@ bounded_altered x g b = record {
 -- so does a removal
 pub bounded_less : (x : Space) (n : ℕ) → IsBounded x → IsBounded (remove x n)
 bounded_less x n b = bounded_altered x (all_but n) b
+
+-- so does the going of a set's members
+pub bounded_left : (x : Space) (b : Bool) (n : ℕ) → IsBounded x → IsBounded (members_leave b n x)
+bounded_left x true n bounds = bounded_altered x (outside n) bounds
+bounded_left x false n bounds = bounds
 
 -- the name of a port's entry is short
 pub found_short : (x : Space) (p : ℕ) (f : ℕ × Entry)

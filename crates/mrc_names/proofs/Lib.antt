@@ -7,3 +7,6 @@ pub mod RenamingLaws
 pub mod RenamingSets
 pub mod ListingLaws
 pub mod ForetellingLaws
+pub mod DroppingLaws
+pub mod ChangingLaws
+pub mod TurningLaws

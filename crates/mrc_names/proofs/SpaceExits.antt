@@ -1,6 +1,7 @@
 -- What the model's steps on a space give, exit by exit.
 use Rattle.std.proofs.Common.{◌≡◌, ℕ, true, false, Option, Some, None, Ok, Err, refl, sym, ap, ◌∙◌}
 use Rattle.std.specs.Option.{is_some, option_map}
+use Rattle.std.specs.Result.{result_unwrap_or}
 use Rattle.mrc_base.specs.declared.PortRight.{PortRight}
 use Rattle.mrc_base.specs.declared.PortRight.TheVariants.{Send, Receive, SendOnce}
 use Rattle.mrc_base.specs.declared.Disp.{Disp}
@@ -9,7 +10,7 @@ use Rattle.mrc_model.specs.declared.Code.TheVariants.{KernNameExists, KernRightE
 use Rattle.mrc_model.specs.declared.Code.TheVariants.{KernUrefsOverflow, KernNoSpace}
 use Rattle.mrc_model.specs.Map.{get, insert, remove}
 use Rattle.mrc_model.specs.World.{Space}
-use Rattle.mrc_model.specs.Reply.{Refused, ◌>>=◌, ◌>>◌, check, refuse_if, or_refuse}
+use Rattle.mrc_model.specs.Reply.{Try, Refused, ◌>>=◌, ◌>>◌, check, refuse_if, or_refuse}
 use Rattle.mrc_model.specs.Space.{Taken, taken, take_from, put_entry, insert_new, insert_joined}
 use Rattle.mrc_model.specs.Space.{insert_known, insert_at, is_full, is_other, is_entry_of}
 use Rattle.mrc_model.specs.Space.{overflows, joined, new_entry, entry_of}
@@ -201,3 +202,22 @@ pub port_parted : (x : Space) (n : ℕ) (d : Disp) (y : Space) (p : ℕ)
     → taken_port x n d ≡ Ok p
 unfolding taken_port ◌>>=◌
 port_parted x n d y p is = rw is refl
+
+-- a right whose port is told can be taken
+pub port_of_taken : (x : Space) (n p : ℕ) (d : Disp)
+    → taken_port x n d ≡ Ok p
+    → (y : Space) × (take_right x n d ≡ Ok (y, p))
+unfolding taken_port ◌>>=◌
+port_of_taken x n p d told = go (take_right x n d) told
+  where
+    go : (m : Try (Space × ℕ)) → (m >>= λ (y, q). Ok q) ≡ Ok p → (y : Space) × (m ≡ Ok (y, p))
+    go (Ok got) is = (got.0, ap (λ r. Ok (got.0, result_unwrap_or r 0)) is)
+    go (Err e) is = cc
+
+-- it is the port of the right that is taken
+pub same_port : (x y : Space) (n p q : ℕ) (d : Disp)
+    → taken_port x n d ≡ Ok p
+    → take_right x n d ≡ Ok (y, q)
+    → take_right x n d ≡ Ok (y, p)
+same_port x y n p q d told took =
+    took ∙ ap (λ r. Ok (y, result_unwrap_or r 0)) (sym (port_parted x n d y q took) ∙ told)

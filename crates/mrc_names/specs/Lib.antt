@@ -1,4 +1,6 @@
 pub mod Bounds
+pub mod Changes
 pub mod Listings
+pub mod Perished
 pub mod Refusals
 pub mod Takes

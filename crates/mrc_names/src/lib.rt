@@ -1,12 +1,16 @@
 //! What a task has under its names: taking a right from a name, giving one, and what names show.
 #![tactic(auto)]
 
+mod changing;
+mod dropping;
 mod entry;
 mod foretelling;
 mod listing;
+mod perishing;
 mod space;
 mod types;
 
-pub use listing::{Listing, NamedType};
+pub use dropping::Dropped;
+pub use listing::{Listing, NamedType, NamesRoom};
 pub use space::Space;
 pub use types::PortType;

@@ -1,9 +1,11 @@
 //! The names of a space, with what each stands for.
 
-ghost use Rattle.std.specs.Prelude.{◌≡◌, ◌≤◌, length};
+ghost use Rattle.std.specs.Prelude.{◌≡◌, ◌≤◌, ◌↔◌, [], length, vec_capacity, IsTrue};
 ghost use Rattle.mrc_base.specs.Limits.{limit_of_names};
 
 use crate::types::PortType;
+use mrc_base::limits::NAMES;
+use std::alloc::{AllocError, Global};
 use std::marker::Model;
 
 /// A name, and the rights that it has.
@@ -49,5 +51,68 @@ impl Listing {
         ensures { result ≡ names_of names.items }
     {
         Listing { names }
+    }
+
+    /// An equal list, in a room that was made for it. It takes no memory; what is left of the room
+    /// goes back.
+    pub fn fill(&self, room: NamesRoom) -> Listing
+        ensures { result ≡ self.now }
+    {
+        let NamesRoom { names: mut copy } = room;
+        for name in &self.names {
+            copy.push_reserved(*name);
+        }
+        copy.shrink_to_fit();
+        Listing { names: copy }
+    }
+
+    /// Whether the lists are equal.
+    pub fn same(&self, other: &Listing) -> bool
+        ensures { IsTrue result ↔ (self.now ≡ other.now) }
+    {
+        Listing::same_names(&self.names, &other.names)
+    }
+
+    /// Whether names and rights are equal, in the same order.
+    fn same_names(names: &[NamedType], others: &[NamedType]) -> bool
+        ensures { IsTrue result ↔ (names_of names.now ≡ names_of others.now) }
+    {
+        if names.len() != others.len() {
+            return false;
+        }
+        for i in 0..names.len() {
+            if !names[i].same(&others[i]) {
+                return false;
+            }
+        }
+        true
+    }
+}
+
+impl NamedType {
+    ghost use Rattle.std.specs.Prelude.{◌≡◌, ◌↔◌, IsTrue};
+    ghost use Rattle.mrc_names.specs.Listings.{name_of};
+
+    /// Whether name and rights are equal.
+    fn same(&self, other: &NamedType) -> bool
+        ensures { IsTrue result ↔ (name_of self.now ≡ name_of other.now) }
+    {
+        self.name == other.name && self.rights.mask() == other.rights.mask()
+    }
+}
+
+/// Room for the names of any space.
+#[derive(Debug, Drop)]
+pub struct NamesRoom {
+    names: Vec<NamedType>,
+    ghost empty: { names.items ≡ [] },
+    ghost roomy: { vec_capacity names ≡ limit_of_names },
+}
+
+impl NamesRoom {
+    /// Makes the room.
+    pub fn new(alloc: Global) -> Result<NamesRoom, AllocError> {
+        let names = Vec::with_capacity(alloc, NAMES)?;
+        Ok(NamesRoom { names })
     }
 }

@@ -11,6 +11,7 @@ ghost use Rattle.mrc_model.specs.Reply.{Refused};
 ghost use Rattle.mrc_model.specs.Target.{is_reserved};
 ghost use Rattle.mrc_model.specs.CallNames.{refs_of, mask_of};
 ghost use Rattle.mrc_model.specs.Space.{in_renamed, is_set, members_follow};
+ghost use Rattle.mrc_names.specs.Bounds.{IsBounded};
 ghost use Rattle.mrc_names.specs.Listings.{entry_name};
 ghost use Rattle.mrc_names.specs.Refusals.{IsRefusal};
 ghost use Rattle.mrc_names.specs.Takes.{take_right, taken_port, give_right, give_new, add_entry};
@@ -30,7 +31,7 @@ use std::marker::Model;
 /// with.
 #[derive(Debug, Drop)]
 pub struct Space {
-    entries: Map<Entry>,
+    pub(crate) entries: Map<Entry>,
 }
 
 impl Model for Space {
@@ -123,6 +124,13 @@ impl Space {
         ensures { result.now ≡ self.now.list }
     {
         self.entries.entries()
+    }
+
+    /// What the type keeps: there are at most 4,096 entries, under names of 32 bits.
+    pub fn bounds(&self)
+        ensures kept { IsBounded self.now }
+    {
+        let _ = &self.entries;
     }
 
     /// The entry of a name.

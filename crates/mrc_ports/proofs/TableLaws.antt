@@ -1,12 +1,14 @@
 -- A port that is replaced twice is the last one.
-use Rattle.std.proofs.Common.{◌≡◌, ℕ, inl, inr, Option, Some, None, refl, sym, ◌∙◌, ap, subst}
+use Rattle.std.proofs.Common.{◌≡◌, ℕ, List, inl, inr, Option, Some, None, refl, sym, ◌∙◌, ap, subst}
 use Rattle.std.specs.Prelude.{IsSome}
 use Rattle.std.proofs.lemmas.Bool.{cases_eq}
-use Rattle.mrc_model.specs.Map.{Map, get, insert}
+use Rattle.mrc_model.specs.Map.{Map, get, insert, alter_all}
+use Rattle.mrc_model.specs.Death.{perished_entry, bury}
 use Rattle.mrc_model.specs.World.{Space, Port, Store, set_port}
 use Rattle.mrc_model.specs.Space.{restart, restart_port}
 use Rattle.mrc_model.proofs.Maps.{get-insert_same, get-insert_other}
 use Rattle.mrc_map.proofs.SameMaps.{same_map}
+use Rattle.mrc_ports.specs.Burials.{buried}
 use Rattle.mrc_ports.specs.Tables.{Table, with_port, restarted, store_of}
 
 -- the last value put at a key stands there
@@ -60,3 +62,16 @@ pub set_as : (spaces : Map Space) (t u : Table) (s : Store) (p : ℕ) (x : Port)
     → store_of spaces u ≡ set_port s p x
 set_as spaces t u s p x view is =
     ap (store_of spaces) is ∙ ap (λ (z : Store). set_port z p x) view
+
+-- the burial in spaces and in the table is the store's
+pub bury_as : (dead : List ℕ) (spaces turned : Map Space) (t u : Table) (s : Store)
+    → store_of spaces t ≡ s
+    → turned ≡ alter_all (λ k x. Some (alter_all (λ n e. perished_entry dead e) x)) spaces
+    → u ≡ buried dead t
+    → store_of turned u ≡ bury s dead
+unfolding bury
+bury_as dead spaces turned t u s view names ports =
+    ap (λ (x : Map Space). store_of x u) names
+    ∙ ap (store_of (alter_all (λ k x. Some (alter_all (λ n e. perished_entry dead e) x)) spaces))
+    ports
+    ∙ ap (λ (z : Store). bury z dead) view

@@ -1,3 +1,4 @@
+pub mod Burials
 pub mod Faults
 pub mod Parcels
 pub mod Queues

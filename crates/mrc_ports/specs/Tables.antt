@@ -3,7 +3,7 @@
 -- choice.
 use Rattle.std.specs.Prelude.{ℕ, ◌+◌, Bool, ◌||◌, Option, Some, None, nat_le}
 use Rattle.mrc_base.specs.Limits.{limit_of_ports, limit_of_births}
-use Rattle.mrc_model.specs.Map.{Map, empty, get, insert, len}
+use Rattle.mrc_model.specs.Map.{Map, empty, insert, len}
 use Rattle.mrc_model.specs.World.{Space, Port, Store}
 use Rattle.mrc_model.specs.CallAllocate.{new_port}
 

@@ -1,12 +1,13 @@
 //! The ports of the machine, the spaces of its tasks, and both together.
 #![tactic(auto)]
 
+mod burying;
 mod parcel;
 mod port;
 mod store;
 mod table;
 
-pub use parcel::{Items, Parcel, Queue, QueuedArgument, Ready};
+pub use parcel::{Items, Parcel, Queue, QueuedArgument, Ready, moving};
 pub use port::Port;
 pub use store::Store;
 pub use table::{NoSuchPort, NotQueued, PortTable, Shortage};

@@ -4,9 +4,12 @@ ghost use Rattle.std.specs.Prelude.{◌≡◌, ◌<◌, ◌∷◌, length};
 ghost use Rattle.mrc_ports.specs.Queues.{limit_of_waiting, is_full_for, with_message};
 ghost use Rattle.mrc_ports.specs.Queues.{after_receipt};
 ghost use Rattle.mrc_model.specs.CallAllocate.{new_port};
+ghost use Rattle.mrc_model.specs.Death.{perished_backup};
+ghost use Rattle.mrc_ports.specs.Burials.{left_of};
 
 use crate::parcel::{Parcel, Queue, Ready};
 use mrc_base::{ClassId, limits};
+use mrc_map::Ports;
 use mrc_model::Backup;
 use std::alloc::Global;
 use std::marker::Model;
@@ -36,6 +39,23 @@ impl Model for Port {
       limit = a.limit;
       receipts = a.receipts;
     } };
+}
+
+/// A request, where these ports are dead.
+fn perish_backup(backup: Backup, dead: &Ports) -> Backup
+    ensures { result ≡ perished_backup dead.now backup }
+{
+    match backup {
+        Backup::Absent => Backup::Absent,
+        Backup::Dead => Backup::Dead,
+        Backup::Port(port) => {
+            if dead.has(port) {
+                Backup::Dead
+            } else {
+                Backup::Port(port)
+            }
+        }
+    }
 }
 
 impl Port {
@@ -157,6 +177,32 @@ impl Port {
                 },
             ),
             None => unreachable!(),
+        }
+    }
+
+    /// The same port with another port-destroyed request.
+    pub(crate) fn with_backup(self, backup: Backup) -> Port
+        ensures { result ≡ record self { backup = backup } }
+    {
+        Port {
+            class: self.class,
+            queue: self.queue,
+            backup,
+            limit: self.limit,
+            receipts: self.receipts,
+        }
+    }
+
+    /// The same port as the death of others leaves it.
+    pub(crate) fn perished(self, dead: &Ports) -> Port
+        ensures { result ≡ left_of dead.now self }
+    {
+        Port {
+            class: self.class,
+            queue: self.queue.perished(dead),
+            backup: perish_backup(self.backup, dead),
+            limit: self.limit,
+            receipts: self.receipts,
         }
     }
 }

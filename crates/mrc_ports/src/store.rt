@@ -6,15 +6,19 @@ ghost use Rattle.std.specs.Option.{option_copied};
 ghost use Rattle.mrc_model.specs.Map.{get, insert};
 ghost use Rattle.mrc_model.specs.World.{set_space, set_port, Port as TPort};
 ghost use Rattle.mrc_model.specs.Space.{restart};
+ghost use Rattle.mrc_model.specs.Death.{bury};
+ghost use Rattle.mrc_ports.specs.Burials.{bury_port};
 ghost use Rattle.mrc_ports.specs.declared.table.NotQueued.TheVariants.{Absent, Full};
 ghost use Rattle.mrc_ports.specs.Faults.{IsFault};
 ghost use Rattle.mrc_ports.specs.Queues.{is_full_for, with_message, received_by};
 ghost use Rattle.mrc_ports.specs.Tables.{table_of, store_of, with_birth, is_short, no_store};
 
+use crate::burying::bury_spaces;
 use crate::parcel::{Parcel, Ready};
 use crate::table::{NoSuchPort, NotQueued, PortTable, Shortage};
 use mrc_base::{ClassId, OrMemory, PortId, TaskId};
-use mrc_map::Map;
+use mrc_map::{Map, Ports};
+use mrc_model::Backup;
 use mrc_names::Space;
 use std::alloc::{AllocError, Global};
 use std::marker::Model;
@@ -110,6 +114,37 @@ impl Store {
         ensures absent { get self.old.ports port ≡ None → IsErr result × (self.new ≡ self.old) }
     {
         self.table.set_limit(port, limit)
+    }
+
+    /// Replaces the port-destroyed request of a port. Refused exactly where no live port has this
+    /// number.
+    pub fn set_backup(&mut self, port: PortId, backup: Backup) -> Result<(), NoSuchPort>
+        ensures backup { (x : TPort) → get self.old.ports port ≡ Some x
+            → IsOk result × (self.new ≡ set_port self.old port (record x { backup = backup })) }
+        ensures absent { get self.old.ports port ≡ None → IsErr result × (self.new ≡ self.old) }
+    {
+        self.table.set_backup(port, backup)
+    }
+
+    /// All ports of a set leave with their queues; names, requests and rights in transit on them
+    /// turn dead. It takes no memory.
+    pub fn bury_all(&mut self, dead: &Ports)
+        ensures { self.new ≡ bury self.old dead.now }
+    {
+        bury_spaces(&mut self.spaces, dead);
+        self.table.bury_all(dead);
+    }
+
+    /// A port leaves with its queue; names, requests and rights in transit on it turn dead. Nothing
+    /// where no live port has this number. It takes no memory.
+    pub fn bury(&mut self, port: PortId)
+        ensures { self.new ≡ bury_port self.old port (get self.old.ports port) }
+    {
+        if self.table.get(port).is_none() {
+            return;
+        }
+        let dead = Ports::one(self.spaces.alloc(), port);
+        self.bury_all(&dead);
     }
 
     /// The receipts of a port are 0 again, as its receive right has moved. Nothing where no live

@@ -4,16 +4,19 @@ ghost use Rattle.std.specs.Prelude.{◌≡◌, ◌↔◌, Some, IfOk, OnOk, OnEr
 ghost use Rattle.std.specs.Prelude.{IsErrAnd, IsTrue, Err, true, false};
 ghost use Rattle.std.specs.Option.{option_copied};
 ghost use Rattle.mrc_model.specs.Map.{empty, get, len};
+ghost use Rattle.mrc_ports.specs.Burials.{buried, buried_port};
 ghost use Rattle.mrc_ports.specs.Tables.{with_birth, is_short, with_port, restarted};
 ghost use Rattle.mrc_model.specs.World.{Port as TPort};
 ghost use Rattle.mrc_ports.specs.declared.table.NotQueued.TheVariants.{Absent, Full};
 ghost use Rattle.mrc_ports.specs.Faults.{IsFault};
 ghost use Rattle.mrc_ports.specs.Queues.{is_full_for, with_message, received_from};
 
+use crate::burying::bury_ports;
 use crate::parcel::{Parcel, Ready};
 use crate::port::Port;
 use mrc_base::{ClassId, OrMemory, PortId, limits};
-use mrc_map::Map;
+use mrc_map::{Map, Ports};
+use mrc_model::Backup;
 use std::alloc::{AllocError, Global};
 use std::marker::Model;
 use thiserror::Error;
@@ -136,6 +139,42 @@ impl PortTable {
         let found = self.taken(port);
         self.ports.set(port.0, found.limited(limit));
         Ok(())
+    }
+
+    /// Replaces the port-destroyed request of a port. Refused exactly where no live port has this
+    /// number.
+    pub fn set_backup(&mut self, port: PortId, backup: Backup) -> Result<(), NoSuchPort>
+        ensures backup { (x : TPort) → get self.old.ports port ≡ Some x
+            → IsOk result × (self.new ≡ with_port self.old port (record x { backup = backup })) }
+        ensures absent { get self.old.ports port ≡ None
+            → IsErr result × (self.new ≡ self.old) }
+    {
+        if self.ports.get(port.0).is_none() {
+            return Err(NoSuchPort);
+        }
+        let found = self.taken(port);
+        self.ports.set(port.0, found.with_backup(backup));
+        Ok(())
+    }
+
+    /// All ports of a set leave with their queues; requests and rights in transit on them read as
+    /// dead. It takes no memory.
+    pub fn bury_all(&mut self, dead: &Ports)
+        ensures { self.new ≡ buried dead.now self.old }
+    {
+        bury_ports(&mut self.ports, dead);
+    }
+
+    /// A port leaves with its queue; requests and rights in transit on it read as dead. Nothing
+    /// where no live port has this number. It takes no memory.
+    pub fn bury(&mut self, port: PortId)
+        ensures { self.new ≡ buried_port self.old port (get self.old.ports port) }
+    {
+        if self.ports.get(port.0).is_none() {
+            return;
+        }
+        let dead = Ports::one(self.alloc, port);
+        self.bury_all(&dead);
     }
 
     /// The receipts of a port are 0 again, as its receive right has moved. Nothing where no live

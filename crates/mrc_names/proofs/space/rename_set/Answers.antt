@@ -1,6 +1,7 @@
 use Rattle.std.proofs.Common.{refl, ◌∙◌, arith}
 use Rattle.mrc_model.specs.Map.{len}
-use Rattle.mrc_names.proofs.RenamingSets.{inside_part, next_part, all_parts}
+use Rattle.mrc_model.specs.Space.{in_renamed}
+use Rattle.mrc_names.proofs.RenamingSets.{renamed_total, inside_part, next_part, all_parts}
 use Rattle.mrc_names.proofs.space.rename_set.Goals as goal
 
 pub loop-index-init : goal.loop-index-init
@@ -9,7 +10,8 @@ loop-index-init c = (refl, c.len-index-end.ensures)
 
 pub offset_bounds-entries-index : goal.offset_bounds-entries-index
 offset_bounds-entries-index c =
-    let inside = inside_part c.args.old c.args.new c.loop-index.index c.args.entries.now.list
+    let inside = inside_part (in_renamed c.args.old c.args.new)
+    (renamed_total c.args.old c.args.new) c.loop-index.index c.args.entries.now.list
     c.entries.result.now c.len-index-end.result
     (c.entries.ensures ∙ c.loop-index.invariant.0) c.loop-index.invariant.1
     c.loop-index-test.true in
@@ -17,14 +19,16 @@ offset_bounds-entries-index c =
 
 pub bounds-entries-index : goal.bounds-entries-index
 bounds-entries-index c =
-    inside_part c.args.old c.args.new c.loop-index.index c.args.entries.now.list
+    inside_part (in_renamed c.args.old c.args.new)
+    (renamed_total c.args.old c.args.new) c.loop-index.index c.args.entries.now.list
     c.entries.result.now c.len-index-end.result
     (c.entries.ensures ∙ c.loop-index.invariant.0) c.loop-index.invariant.1
     c.loop-index-test.true
 
 pub bounds-entries-index-in-loop-index : goal.bounds-entries-index-in-loop-index
 bounds-entries-index-in-loop-index c =
-    inside_part c.args.old c.args.new c.loop-index.index c.args.entries.now.list
+    inside_part (in_renamed c.args.old c.args.new)
+    (renamed_total c.args.old c.args.new) c.loop-index.index c.args.entries.now.list
     c.entries.result.now c.len-index-end.result
     (c.entries.ensures ∙ c.loop-index.invariant.0) c.loop-index.invariant.1
     c.loop-index-test.true
@@ -32,7 +36,8 @@ bounds-entries-index-in-loop-index c =
 pub loop-index-preserved : goal.loop-index-preserved
 loop-index-preserved c =
     let d = c.index-entries-index.result in
-    let next = next_part c.args.old c.args.new c.loop-index.index c.args.entries.now.list
+    let next = next_part (in_renamed c.args.old c.args.new)
+    (renamed_total c.args.old c.args.new) c.loop-index.index c.args.entries.now.list
     c.loop-index.entries.list c.entries.result.now c.set_at.new.self.list
     c.len-index-end.result d c.in_renamed.result c.loop-index.invariant.0 c.entries.ensures
     c.loop-index.invariant.1 c.loop-index-test.true c.index-entries-index.is
@@ -41,6 +46,7 @@ loop-index-preserved c =
 
 pub returns : goal.returns
 returns c =
-    all_parts c.args.old c.args.new c.loop-index.index c.args.entries.now c.loop-index.entries
+    all_parts (in_renamed c.args.old c.args.new)
+    (renamed_total c.args.old c.args.new) c.loop-index.index c.args.entries.now c.loop-index.entries
     c.len-index-end.result c.loop-index.invariant.0 c.loop-index.invariant.1
     c.loop-index-test.false

@@ -1,0 +1,7 @@
+use Rattle.mrc_ports.proofs.TableLaws.{bury_as}
+use Rattle.mrc_ports.proofs.store.Store.bury_all.Goals as goal
+
+pub returns : goal.returns
+returns c =
+    bury_as c.args.dead.now c.self.inside.spaces c.bury_spaces.new.spaces c.self.inside.table
+    c.bury_all.new.self c.args.self.now c.self.view_is c.bury_spaces.ensures c.bury_all.ensures
