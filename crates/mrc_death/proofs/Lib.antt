@@ -1,0 +1,5 @@
+pub mod Words
+pub mod Keeping
+pub mod Following
+pub mod Absent
+pub mod TakenLaws

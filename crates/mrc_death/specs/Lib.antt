@@ -1,0 +1,5 @@
+pub mod Heads
+pub mod Losing
+pub mod Rights
+pub mod Search
+pub mod Taking

@@ -1,0 +1,155 @@
+//! What a call destroys: where it stands, and the rights that go.
+
+ghost use Rattle.std.specs.Prelude.{◌≡◌, ◌++◌, IfOk, OnOk, Some, option_map};
+ghost use Rattle.mrc_model.specs.Map.{get};
+ghost use Rattle.mrc_model.specs.World.{space, entry_rights, if_sends};
+ghost use Rattle.mrc_model.specs.Destroyed.{all_rights, taken_out};
+ghost use Rattle.mrc_death.specs.Taking.{destroyed_of, receive_rights, doomed_of, AreDeaths};
+
+use crate::doomed::{Doomed, Held};
+use crate::search::{Deaths, find_deaths};
+use mrc_base::{PortId, PortRight, TaskId};
+use mrc_model::Entry;
+use mrc_ports::Store;
+use std::alloc::{AllocError, Global};
+
+/// What a call destroys.
+#[derive(Clone, Copy, Debug, PartialEq, Eq)]
+pub enum Destroyed {
+    /// The receive right under a name of a task.
+    Receive { task: TaskId, name: u32 },
+    /// All that stands under a name of a task.
+    Entry { task: TaskId, name: u32 },
+    /// All that a task has, with its kernel port.
+    Task { task: TaskId, kernel: PortId },
+}
+
+/// The entry of a name of a task.
+fn entry_at(store: &Store, task: TaskId, name: u32) -> Option<Entry>
+    ensures { result ≡ get (space store.now task) name }
+{
+    match store.space(task) {
+        Some(found) => found.get(name),
+        None => None,
+    }
+}
+
+/// A send right, where there are references.
+fn add_sends(rights: &mut Vec<Held>, port: PortId, sends: u16) -> Result<(), AllocError>
+    ensures { OnOk result (rights.new.items ≡ rights.old.items ++ if_sends sends port) }
+{
+    if 0 < sends {
+        rights.push(Held::new(port, PortRight::Send))?;
+    }
+    Ok(())
+}
+
+/// The rights that an entry shows.
+fn add_rights(rights: &mut Vec<Held>, entry: &Entry) -> Result<(), AllocError>
+    ensures { OnOk result (rights.new.items ≡ rights.old.items ++ entry_rights entry.now) }
+{
+    match *entry {
+        Entry::Receive { port, sends, .. } => {
+            rights.push(Held::new(port, PortRight::Receive))?;
+            add_sends(rights, port, sends)?;
+            Ok(())
+        }
+        Entry::Send { port, .. } => {
+            rights.push(Held::new(port, PortRight::Send))?;
+            Ok(())
+        }
+        Entry::SendOnce { port } => {
+            rights.push(Held::new(port, PortRight::SendOnce))?;
+            Ok(())
+        }
+        Entry::PortSet => Ok(()),
+        Entry::DeadName { .. } => Ok(()),
+    }
+}
+
+/// The rights of all these entries.
+fn all_rights(alloc: Global, entries: &[(u64, Entry)]) -> Result<Vec<Held>, AllocError>
+    ensures { IfOk result (λ rights. rights.items ≡ all_rights entries.now) }
+{
+    let mut rights = Vec::new(alloc);
+    for entry in entries {
+        add_rights(&mut rights, &entry.1)?;
+    }
+    Ok(rights)
+}
+
+/// The rights of a task's whole space.
+fn space_rights(alloc: Global, store: &Store, task: TaskId) -> Result<Vec<Held>, AllocError>
+    ensures { IfOk result (λ rights. rights.items ≡ all_rights (space store.now task).list) }
+{
+    match store.space(task) {
+        Some(found) => all_rights(alloc, found.entries()),
+        None => Ok(Vec::new(alloc)),
+    }
+}
+
+/// The rights that an entry shows.
+fn rights_of(alloc: Global, entry: &Entry) -> Result<Vec<Held>, AllocError>
+    ensures { IfOk result (λ rights. rights.items ≡ entry_rights entry.now) }
+{
+    let mut rights = Vec::new(alloc);
+    add_rights(&mut rights, entry)?;
+    Ok(rights)
+}
+
+/// What goes with the receive right of an entry, if it has one.
+fn doomed_receive(alloc: Global, entry: &Entry) -> Result<Option<Doomed>, AllocError>
+    ensures { IfOk result (λ found. found ≡ receive_rights (Some entry.now)) }
+{
+    match *entry {
+        Entry::Receive { port, .. } => {
+            let mut rights = Vec::new(alloc);
+            rights.push(Held::new(port, PortRight::Receive))?;
+            Ok(Some(Doomed::new(rights, None)))
+        }
+        _ => Ok(None),
+    }
+}
+
+/// What goes with what a call destroys: rights, and the kernel port of a task that it ends. None
+/// where it is not there.
+pub fn doomed_by(
+    alloc: Global,
+    store: &Store,
+    what: Destroyed,
+) -> Result<Option<Doomed>, AllocError>
+    ensures { IfOk result (λ found. found ≡ doomed_of (taken_out store.now (destroyed_of what))) }
+{
+    match what {
+        Destroyed::Receive { task, name } => match entry_at(store, task, name) {
+            Some(entry) => doomed_receive(alloc, &entry),
+            None => Ok(None),
+        },
+        Destroyed::Entry { task, name } => match entry_at(store, task, name) {
+            Some(entry) => Ok(Some(Doomed::new(rights_of(alloc, &entry)?, None))),
+            None => Ok(None),
+        },
+        Destroyed::Task { task, kernel } => {
+            let rights = space_rights(alloc, store, task)?;
+            Ok(Some(Doomed::new(rights, Some(kernel))))
+        }
+    }
+}
+
+/// The ports that die with what a call destroys, and those that lose their receive rights. None
+/// where it is not there.
+pub fn deaths_by(
+    alloc: Global,
+    store: &Store,
+    what: Destroyed,
+) -> Result<Option<Deaths>, AllocError>
+    ensures { IfOk result (λ found. AreDeaths found (taken_out store.now (destroyed_of what))) }
+{
+    match doomed_by(alloc, store, what)? {
+        Some(doomed) => {
+            let deaths = find_deaths(alloc, store, &doomed)?;
+            Ok(Some(deaths))
+        }
+        None => Ok(None),
+    }
+}
