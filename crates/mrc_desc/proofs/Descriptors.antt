@@ -64,6 +64,18 @@ length-arg_bytes (Ports name names) h =
       length-descriptor name 32 (length names),
     )
 
+-- from what code counts
+pub sized : (desc : Desc) (a : Arg)
+    → IsLawfulArg a
+    → desc_of a ≡ desc
+    → (len form pad : ℕ)
+    → len ≡ data_len desc
+    → form ≡ cond (is_short desc) 4 12
+    → pad ≡ padding_len len
+    → form + len + pad ≡ length (arg_bytes a)
+sized desc a lawful is len form pad l f p =
+    rw (f, p, l, sym is) (sym (length-arg_bytes a lawful))
+
 -- ---- the first word
 
 -- a word of the short form is the sum of its parts

@@ -2,7 +2,7 @@
 
 ghost use Rattle.std.specs.Prelude.{◌≡◌, ◌↔◌, IfOk, IsTrue, length, if◌then◌else◌};
 ghost use Rattle.mrc_base.specs.Disposition.{disp_number};
-ghost use Rattle.mrc_model.specs.Message.{arg_bytes, is_port_arg};
+ghost use Rattle.mrc_model.specs.Message.{Arg, arg_bytes, is_port_arg};
 ghost use Rattle.mrc_desc.specs.Descriptor.{is_lawful_desc, is_short, data_len, padding_len};
 ghost use Rattle.mrc_desc.specs.Descriptor.{first_word};
 ghost use Rattle.mrc_desc.specs.Lawful.{IsLawfulArg, IsLawfulData, IsLawfulPorts};
@@ -56,6 +56,16 @@ impl Desc {
         ensures { result ≡ data_len self }
     {
         usize::try_from(self.number).unwrap() * usize::from(self.size) / 8
+    }
+
+    /// How many bytes a lawful argument is written as that has this descriptor: the descriptor, the
+    /// data and their padding.
+    pub fn argument_size(self) -> usize
+        ensures { (argument : Arg) → IsLawfulArg argument → desc_of argument ≡ self
+            → result ≡ length (arg_bytes argument) }
+    {
+        let len = self.data_len();
+        self.written_size() + len + padding_len(len)
     }
 }
 
@@ -179,9 +189,7 @@ impl Argument {
         requires { IsLawfulArg (argument_of self.now) }
         ensures { result ≡ length (arg_bytes (argument_of self.now)) }
     {
-        let desc = self.desc();
-        let len = desc.data_len();
-        desc.written_size() + len + padding_len(len)
+        self.desc().argument_size()
     }
 
     /// The same argument once more.

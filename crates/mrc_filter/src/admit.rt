@@ -10,8 +10,9 @@ use mrc_base::ClassId;
 use mrc_model::Denied;
 use mrc_wiring::Wired;
 
-/// The number of the type of an argument of the form.
-fn sort_of(wired: &Wired, form: &Form, argument: usize) -> usize
+/// The number of the type of an argument of the form, in the wiring by which a message was judged:
+/// what `Wired::admits` asks for a port that the argument carries.
+pub fn sort_of(wired: &Wired, form: &Form, argument: usize) -> usize
     ensures { result ≡ sort_at (shapes_at (wiring_of wired.now) form.now) argument }
 {
     let Some(item) = wired.label(form.class).get(form.item) else {

@@ -1,0 +1,13 @@
+pub mod StagingLaws
+pub mod ItemLaws
+pub mod AdmitLaws
+pub mod GiveLaws
+pub mod ArgumentLaws
+pub mod SendLaws
+pub mod PlanLaws
+pub mod ApplyLaws
+pub mod ReceiveGrowth
+pub mod ReceiveSizes
+pub mod ReceiveWalks
+pub mod ReceiveCalls
+pub mod CarriedLaws

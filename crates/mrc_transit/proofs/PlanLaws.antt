@@ -1,0 +1,296 @@
+-- What the plan of a message is to sending it, from what each step of code tells.
+use Rattle.std.proofs.Common.{◌≡◌, ℕ, Bool, true, false, List, [], Option, Some, None, Ok, Err}
+use Rattle.std.proofs.Common.{refl, inl, inr, sym, ◌∙◌, ap, subst}
+use Rattle.std.specs.Prelude.{not, ◌&&◌, ◌||◌, nat_le, length, unwrap_or, is_some}
+use Rattle.std.proofs.lemmas.Bool.{cases_eq}
+use Rattle.mrc_base.specs.declared.Disp.{Disp}
+use Rattle.mrc_base.specs.declared.Disp.TheVariants.{MoveReceive, MoveSend, MoveSendOnce, CopySend}
+use Rattle.mrc_base.specs.declared.Disp.TheVariants.{MakeSend, MakeSendOnce}
+use Rattle.mrc_base.specs.declared.memory.OrMemory.{OrMemory}
+use Rattle.mrc_base.specs.declared.memory.OrMemory.TheVariants.{Fault, Memory}
+use Rattle.mrc_base.specs.Disposition.{given, disp_of_number}
+use Rattle.mrc_model.specs.declared.Item.{Item}
+use Rattle.mrc_model.specs.declared.Entry.{Entry}
+use Rattle.mrc_model.specs.declared.Denied.{Denied}
+use Rattle.mrc_model.specs.declared.Code.TheVariants.{MachSendInvalidDest, MachSendInvalidReply}
+use Rattle.mrc_model.specs.Rights.{is_once, is_receive}
+use Rattle.mrc_model.specs.Map.{Map, get, insert, empty}
+use Rattle.mrc_model.specs.Message.{Message, Arg}
+use Rattle.mrc_model.specs.Wiring.{Wiring, form_shapes}
+use Rattle.mrc_model.specs.Filter.{judge}
+use Rattle.mrc_model.specs.World.{Space, QueuedArg, Port, Store, World, space, set_space}
+use Rattle.mrc_model.specs.Reply.{Reply, Refused, Done, Try, ◌>>=◌, or_refuse}
+use Rattle.mrc_model.specs.Death.{append}
+use Rattle.mrc_model.specs.Space.{take, take_from, Taken, put_entry, restart_if}
+use Rattle.mrc_model.specs.Target.{with_store}
+use Rattle.mrc_model.specs.CallSend.{not_receive, take_reply_by, take_args}
+use Rattle.mrc_model.proofs.Maps.{get-insert_same, get-insert_other, get-empty}
+use Rattle.mrc_map.proofs.SameMaps.{same_map}
+use Rattle.mrc_desc.specs.declared.message.Header.{Header}
+use Rattle.mrc_desc.specs.View.{HasHeader}
+use Rattle.mrc_ports.specs.Queues.{is_full_for}
+use Rattle.mrc_filter.specs.declared.form.Form.{Form}
+use Rattle.mrc_filter.specs.Places.{shapes_at, shapes_in, IsJudged}
+use Rattle.mrc_transit.specs.declared.taking.NotHeld.{NotHeld}
+use Rattle.mrc_transit.specs.declared.sending.SendFault.{SendFault}
+use Rattle.mrc_transit.specs.declared.sending.SendFault.TheVariants as faults
+use Rattle.mrc_transit.specs.Staging.{Taking, staged, IsRefusedBy}
+use Rattle.mrc_transit.specs.Sending.{IsSendRefusal, refused_by, fault_reply}
+use Rattle.mrc_transit.specs.SendPlans.{SendPlan, sent, IsReady, IsPlanOf, IsNotSent, IsNoRoom}
+use Rattle.mrc_transit.specs.SendPlans.{destination_disp}
+use Rattle.mrc_transit.proofs.SendLaws.{bad_destination, plain, send_no_disp, send_no_right}
+use Rattle.mrc_transit.proofs.SendLaws.{send_no_port, send_denied, send_no_reply, send_no_args}
+use Rattle.mrc_transit.proofs.SendLaws.{send_full, send_done}
+
+-- a space that is there already
+put_same : (s : Store) (t : ℕ) (x : Space) → get s.spaces t ≡ Some x → set_space s t x ≡ s
+put_same s t x at =
+    let same : insert s.spaces t x ≡ s.spaces = same_map _ _ (λ q. elim (cases_eq q t) [
+      | inl k ↦
+          ap (get (insert s.spaces t x)) k ∙ get-insert_same s.spaces t x ∙ sym at
+          ∙ ap (get s.spaces) (sym k)
+      | inr n ↦ get-insert_other s.spaces t x q n
+    ]) in
+    ap (λ (m : Map Space). record s { spaces = m }) same
+
+-- nothing was taken yet
+begun : (s : Store) (t : ℕ) (x : Space) (g : Taking)
+    → get s.spaces t ≡ Some x
+    → g ≡ record { space = x; moved = [] }
+    → staged s t g ≡ s
+unfolding staged
+begun s t x g at is = ap (staged s t) is ∙ put_same s t x at
+
+-- a right that is no receive right changes no port
+
+moves_none : (x : Disp) → not_receive x ≡ true → is_receive (given x) ≡ false
+moves_none MoveReceive is = cc
+moves_none MoveSend is = refl
+moves_none MoveSendOnce is = refl
+moves_none CopySend is = refl
+moves_none MakeSend is = refl
+moves_none MakeSendOnce is = refl
+
+module _ (s : Store) (t n : ℕ) (x : Disp) (plain : not_receive x ≡ true) (e : Reply) where
+  left : Entry → Try (Store × ℕ)
+  left h = or_refuse (take_from h x) e
+      >>= λ got. Ok (
+        restart_if (is_receive (given x))
+            (set_space s t (put_entry (space s t) n got.rest)) got.port,
+        got.port,
+      )
+
+  -- no port changes where it is done
+  KeepsPorts : Try (Store × ℕ) → Type 0
+  KeepsPorts (Ok got) = got.0.ports ≡ s.ports
+  KeepsPorts (Err d) = Unit {0}
+
+  by_rest : (o : Option Taken) → KeepsPorts (or_refuse o e
+      >>= λ got. Ok (
+        restart_if (is_receive (given x))
+            (set_space s t (put_entry (space s t) n got.rest)) got.port,
+        got.port,
+      ))
+  unfolding KeepsPorts ◌>>=◌ or_refuse
+  by_rest None = tt
+  by_rest (Some got) =
+      ap (λ b. (restart_if b (set_space s t (put_entry (space s t) n got.rest)) got.port).ports)
+      (moves_none x plain)
+
+  by_entry : (o : Option Entry) → KeepsPorts (or_refuse o e >>= left)
+  unfolding KeepsPorts left ◌>>=◌ or_refuse
+  by_entry None = tt
+  by_entry (Some h) = by_rest (take_from h x)
+
+  keeps_ports : KeepsPorts (take s t n x e e)
+  unfolding take left
+  keeps_ports = by_entry (get (space s t) n)
+
+  same_ports : (z : Store) (p : ℕ) → take s t n x e e ≡ Ok (z, p) → z.ports ≡ s.ports
+  unfolding KeepsPorts
+  same_ports z p is = subst KeepsPorts is keeps_ports
+
+-- a task without a space gives none
+take_none : (s : Store) (t n : ℕ) (x : Disp) (e : Reply)
+    → get s.spaces t ≡ None
+    → take s t n x e e ≡ Err e
+unfolding take ◌>>=◌ or_refuse
+take_none s t n x e none =
+    let at : get (space s t) n ≡ None = ap (λ o. get (unwrap_or o empty) n) none ∙ get-empty n in
+    rw at refl
+
+-- a port that is not full is below its limit, or the message comes through a send-once right
+either_fails : (a b : Bool) → (a || b) ≡ false → a ≡ false
+either_fails true b is = is
+either_fails false b is = refl
+
+-- each exit
+
+module _ (W : Wiring) (s : Store) (t : ℕ) (m : Message) (h : Header) (has : HasHeader m h) where
+  pub plan_no_disp : destination_disp h.remote_disp ≡ None
+      → IsNotSent (Fault (faults.Refused MachSendInvalidDest)) W s t m
+  plan_no_disp none = λ w.
+      send_no_disp W (with_store w s) t m (ap destination_disp (sym has.remote_disp) ∙ none)
+
+  module _ (x : Disp) (disp : destination_disp h.remote_disp ≡ Some x) where
+    disp_of : destination_disp m.remote_disp ≡ Some x
+    disp_of = ap destination_disp (sym has.remote_disp) ∙ disp
+
+    pub plan_no_space : get s.spaces t ≡ None
+        → IsNotSent (Fault (faults.Refused MachSendInvalidDest)) W s t m
+    plan_no_space none = λ w.
+        send_no_right W (with_store w s) t m x disp_of
+        (take_none s t m.remote x bad_destination none)
+
+    module _ (y : Space) (there : get s.spaces t ≡ Some y) (g : Taking)
+        (g_is : g ≡ record { space = y; moved = [] }) where
+      from_start : (e : Reply) (r : Try (Store × ℕ))
+          → take (staged s t g) t h.remote_port x e e ≡ r
+          → take s t m.remote x e e ≡ r
+      from_start e r is =
+          ap (λ z. take z t m.remote x e e) (sym (begun s t y g there g_is))
+          ∙ ap (λ n. take (staged s t g) t n x e e) (sym has.remote_port) ∙ is
+
+      pub plan_no_right : (fault : OrMemory NotHeld)
+          → IsRefusedBy fault (λ e. take (staged s t g) t h.remote_port x e e)
+          → IsNotSent (refused_by MachSendInvalidDest fault) W s t m
+      plan_no_right (Fault held) refused = λ w.
+          send_no_right W (with_store w s) t m x disp_of
+          (from_start bad_destination _ (refused bad_destination))
+      plan_no_right Memory refused = λ w. tt
+
+      module _ (g1 : Taking) (d : ℕ)
+          (given_up : (e : Reply)
+          → take (staged s t g) t h.remote_port x e e ≡ Ok (staged s t g1, d)) where
+        took : take s t m.remote x bad_destination bad_destination ≡ Ok (staged s t g1, d)
+        took = from_start bad_destination _ (given_up bad_destination)
+
+        at_port : (w : World) (o : Option Port)
+            → get s.ports d ≡ o
+            → get (staged s t g1).ports d ≡ o
+        at_port w o is =
+            ap (λ (ps : Map Port). get ps d) (same_ports s t m.remote x
+            (plain W (with_store w s) t m x disp_of) bad_destination (staged s t g1) d took) ∙ is
+
+        pub plan_no_port : get s.ports d ≡ None
+            → IsNotSent (Fault (faults.Refused MachSendInvalidDest)) W s t m
+        plan_no_port none = λ w.
+            send_no_port W (with_store w s) t m x disp_of (staged s t g1) d took
+            (at_port w None none)
+
+        module _ (dest : Port) (live : get s.ports d ≡ Some dest) (class : ℕ)
+            (class_is : class ≡ dest.class) where
+          pub plan_denied : (denied : Denied)
+              → IsJudged W (Err denied) (judge W class m)
+              → IsNotSent (Fault (faults.Denied denied)) W s t m
+          plan_denied denied judged = λ w.
+              send_denied W (with_store w s) t m x disp_of (staged s t g1) d took dest
+              (at_port w (Some dest) live) denied
+              (ap (λ c. judge W c m) (sym class_is) ∙ judged)
+
+          module _ (place : Form) (judged : IsJudged W (Ok place) (judge W class m)) where
+            form_is : judge W dest.class m ≡ Ok judged.0
+            form_is = ap (λ c. judge W c m) (sym class_is) ∙ judged.2
+
+            module _ (o : Option Disp) (o_is : o ≡ disp_of_number h.local_disp) where
+              of_reply : (e : Reply) (r : Try (Store × Item))
+                  → take_reply_by (staged s t g1) t h.local_port o e ≡ r
+                  → take_reply_by (staged s t g1) t m.local (disp_of_number m.local_disp) e ≡ r
+              of_reply e r is =
+                  ap (λ n. take_reply_by (staged s t g1) t m.local (disp_of_number n) e)
+                  (sym has.local_disp)
+                  ∙ ap (λ k. take_reply_by (staged s t g1) t m.local k e) (sym o_is)
+                  ∙ ap (λ n. take_reply_by (staged s t g1) t n o e) (sym has.local_port) ∙ is
+
+              pub plan_no_reply : (fault : OrMemory NotHeld)
+                  → IsRefusedBy fault (λ e. take_reply_by (staged s t g1) t h.local_port o e)
+                  → IsNotSent (refused_by MachSendInvalidReply fault) W s t m
+              plan_no_reply (Fault held) refused = λ w.
+                  send_no_reply W (with_store w s) t m x disp_of (staged s t g1) d took dest
+                  (at_port w (Some dest) live) judged.0 form_is
+                  (of_reply (Refused MachSendInvalidReply) _
+                  (refused (Refused MachSendInvalidReply)))
+              plan_no_reply Memory refused = λ w. tt
+
+              module _ (g2 : Taking) (reply : Item)
+                  (answered : (e : Reply)
+                  → take_reply_by (staged s t g1) t h.local_port o e
+                  ≡ Ok (staged s t g2, reply)) (args : List Arg) (args_are : args ≡ m.args) where
+                replied : take_reply_by (staged s t g1) t m.local (disp_of_number m.local_disp)
+                    (Refused MachSendInvalidReply) ≡ Ok (staged s t g2, reply)
+                replied =
+                    of_reply (Refused MachSendInvalidReply) _
+                    (answered (Refused MachSendInvalidReply))
+
+                of_args : (r : Try (Store × List QueuedArg))
+                    → take_args W t 0 (shapes_at W place) (staged s t g2) args ≡ r
+                    → take_args W t 0 (form_shapes judged.0) (staged s t g2) m.args ≡ r
+                of_args r is =
+                    ap (take_args W t 0 (form_shapes judged.0) (staged s t g2)) (sym args_are)
+                    ∙ ap (λ f. take_args W t 0 (shapes_in f) (staged s t g2) args) (sym judged.1)
+                    ∙ is
+
+                pub plan_no_args : (fault : OrMemory SendFault)
+                    → IsSendRefusal fault
+                    (take_args W t 0 (shapes_at W place) (staged s t g2) args)
+                    → IsNotSent fault W s t m
+                plan_no_args (Fault fault) refused = λ w.
+                    send_no_args W (with_store w s) t m x disp_of (staged s t g1) d took dest
+                    (at_port w (Some dest) live) judged.0 form_is (staged s t g2) reply replied
+                    (fault_reply fault) (of_args _ refused)
+                plan_no_args Memory refused = λ w. tt
+
+                module _ (g3 : Taking) (queued : List QueuedArg)
+                    (taken : take_args W t 0 (shapes_at W place) (staged s t g2) args
+                    ≡ Ok (staged s t g3, queued)) (b : Bool) (once : b ≡ is_once (given x)) where
+                  pub plan_no_room : (fault : OrMemory SendFault)
+                      → IsNoRoom fault dest b
+                      → IsNotSent fault W s t m
+                  plan_no_room (Fault fault) full = λ w.
+                      send_full W (with_store w s) t m x disp_of (staged s t g1) d took dest
+                      (at_port w (Some dest) live) judged.0 form_is (staged s t g2) reply replied
+                      (staged s t g3) queued (of_args _ taken)
+                      (ap (λ k. not k && nat_le dest.limit (length dest.queue)) (sym once)
+                      ∙ full.1)
+                      ∙ ap (λ f. Err (fault_reply f)) (sym full.0)
+                  plan_no_room Memory full = λ w. tt
+
+                  module _ (room : is_full_for dest b ≡ false) (plan : SendPlan)
+                      (plan_is : plan ≡ record {
+                        sender = t;
+                        taking = g3;
+                        destination = d;
+                        parcel = record {
+                          by_once = b;
+                          id = h.id;
+                          reply = reply;
+                          args = queued;
+                        };
+                      }) where
+                    pub plan_done : IsPlanOf W s t m plan
+                    unfolding sent
+                    plan_done w =
+                        send_done W (with_store w s) t m x disp_of (staged s t g1) d took dest
+                        (at_port w (Some dest) live) judged.0 form_is (staged s t g2) reply replied
+                        (staged s t g3) queued (of_args _ taken)
+                        (ap (λ k. not k && nat_le dest.limit (length dest.queue)) (sym once)
+                        ∙ either_fails _ _ room)
+                        ∙ (λ i. Ok (
+                          with_store w (append (staged s t g3) d record {
+                            by_once = sym once i;
+                            id = sym has.id i;
+                            reply = reply;
+                            args = queued;
+                          }),
+                          Done,
+                        ))
+                        ∙ ap (λ p. Ok (with_store w (sent s p), Done)) (sym plan_is)
+
+                    pub plan_ready : IsReady s plan
+                    plan_ready =
+                        subst (IsReady s) (sym plan_is) record {
+                          has_space = ap is_some there;
+                          port = dest;
+                          live = live;
+                          room = room;
+                        }

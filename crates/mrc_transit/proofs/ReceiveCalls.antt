@@ -1,0 +1,336 @@
+-- What receiving comes to, from what each step of code tells.
+use Rattle.std.proofs.Common.{◌≡◌, ℕ, ◌<◌, ◌^◌, ◌+◌, Bool, true, false, List, [], ◌∷◌, Option, Some}
+use Rattle.std.proofs.Common.{None, Result, Ok, Err, T, refl, sym, ◌∙◌, ap, subst, inl, inr, nat_lt}
+use Rattle.std.proofs.Common.{◌≤◌}
+use Rattle.std.specs.Prelude.{unwrap_or, IfOk, IfErr, IsErrAnd}
+use Rattle.std.specs.Option.{option_map}
+use Rattle.std.proofs.lemmas.Bool.{cases_eq, lt-ltb, le-ltb}
+use Rattle.mrc_base.specs.declared.memory.OrMemory.{OrMemory}
+use Rattle.mrc_base.specs.declared.memory.OrMemory.TheVariants.{Fault, Memory}
+use Rattle.mrc_model.specs.declared.Entry.{Entry}
+use Rattle.mrc_model.specs.declared.Entry.TheVariants.{PortSet as SetEntry}
+use Rattle.mrc_model.specs.declared.Code.{Code}
+use Rattle.mrc_model.specs.declared.Code.TheVariants.{MachRcvInvalidName, MachRcvTimedOut}
+use Rattle.mrc_model.specs.declared.Code.TheVariants.{ProfileNoSpace}
+use Rattle.mrc_model.specs.Rising.{is_rising, find_key, right_holds}
+use Rattle.mrc_model.specs.Map.{Map, empty, get, insert, len}
+use Rattle.mrc_model.specs.Message.{Message, written, written_size}
+use Rattle.mrc_model.specs.World.{Space, Parcel, Port, Store, Task, World, space, set_space}
+use Rattle.mrc_model.specs.World.{set_port}
+use Rattle.mrc_model.specs.Reply.{Reply, Refused, TooLarge, Bytes, Try, ◌>>=◌, ◌>>◌, refuse_if}
+use Rattle.mrc_model.specs.Reply.{or_refuse}
+use Rattle.mrc_model.specs.Space.{is_over_full}
+use Rattle.mrc_model.specs.Target.{with_store}
+use Rattle.mrc_model.specs.CallReceive.{Source, source_at, first_ready, ready_member, or_source}
+use Rattle.mrc_model.specs.CallReceive.{first_parcel, received, call_receive}
+use Rattle.mrc_model.proofs.Maps.{get-empty, get-insert_same, get-insert_other, not_None, find_here}
+use Rattle.mrc_model.proofs.Maps.{Each-rest, same_Some}
+use Rattle.mrc_map.proofs.SameMaps.{same_map}
+use Rattle.mrc_names.specs.Bounds.{IsBounded}
+use Rattle.mrc_ports.specs.Parcels.{carried_size}
+use Rattle.mrc_ports.specs.Queues.{after_receipt}
+use Rattle.mrc_ports.specs.Tables.{Table, table_of}
+use Rattle.mrc_transit.specs.declared.receiving.ReceiveFault.{ReceiveFault}
+use Rattle.mrc_transit.specs.Receiving.{carried_out, found_source, IsGrantedOrFull}
+use Rattle.mrc_transit.specs.Receiving.{IsReceiveRefusal, IsOverFilled}
+use Rattle.mrc_transit.proofs.GiveLaws.{space_put}
+use Rattle.mrc_transit.proofs.ReceiveSizes.{received_size}
+
+-- where a message comes from
+
+-- the first one, or a later one
+first_or_later : (n : ℕ) (o : Option ℕ) (rest : Option Source) (got : Source)
+    → or_source n o rest ≡ Some got
+    → n < 2 ^ 32
+    → (rest ≡ Some got → got.name < 2 ^ 32)
+    → got.name < 2 ^ 32
+first_or_later n None rest got is here later = later is
+first_or_later n (Some p) rest got is here later =
+    subst (λ (k : Source). k.name < 2 ^ 32) (same_Some _ got is) here
+
+-- the name of a member is short
+first_short_in : (s : Store) (n low : ℕ) (es : List (ℕ × Entry)) (got : Source)
+    → T (is_rising low es)
+    → ((k : ℕ) (v : Entry) → find_key k es ≡ Some v → k < 2 ^ 32)
+    → first_ready s n es ≡ Some got
+    → got.name < 2 ^ 32
+first_short_in s n low [] got rises all is = absurd (not_None got (sym is))
+first_short_in s n low (e ∷ es) got rises all is =
+    first_or_later e.0 (ready_member s n e.1) (first_ready s n es) got is
+    (all e.0 e.1 (find_here e es))
+    (first_short_in s n (e.0 + 1) es got (right_holds _ _ rises)
+    (Each-rest (λ k v. k < 2 ^ 32) low e es rises all))
+
+pub first_short : (s : Store) (n : ℕ) (x : Space) (got : Source)
+    → IsBounded x
+    → first_ready s n x.list ≡ Some got
+    → got.name < 2 ^ 32
+unfolding get
+first_short s n x got b is = first_short_in s n 0 x.list got x.rising b.short is
+
+-- where a set receives from
+module _ (s : Store) (t n : ℕ) (x : Space) (e : Entry)
+    (there : get s.spaces t ≡ Some x)
+    (held : get x n ≡ Some e)
+    (is : e ≡ SetEntry) where
+  by_set : (o : Option Source)
+      → first_ready s n x.list ≡ o
+      → source_at s t n (get (space s t) n) ≡ or_refuse o (Refused MachRcvTimedOut)
+  by_set o first =
+      let at : space s t ≡ x = ap (λ z. unwrap_or z empty) there in
+      ap (source_at s t n) (ap (λ y. get y n) at ∙ held ∙ ap (λ k. Some k) is)
+      ∙ ap (λ (y : Space). or_refuse (first_ready s n y.list) (Refused MachRcvTimedOut)) at
+      ∙ ap (λ z. or_refuse z (Refused MachRcvTimedOut)) first
+
+  pub set_found : (r : Result (ℕ × ℕ) Code)
+      → IfOk r (λ found. first_ready s n x.list ≡ Some (found_source found))
+      → IfOk r (λ found. source_at s t n (get (space s t) n) ≡ Ok (found_source found))
+  unfolding or_refuse
+  set_found (Ok found) first = by_set (Some (found_source found)) first
+  set_found (Err code) first = tt
+
+  pub set_refused : (r : Result (ℕ × ℕ) Code)
+      → IfErr r (λ code. (code ≡ MachRcvTimedOut) × (first_ready s n x.list ≡ None))
+      → IfErr r (λ code. source_at s t n (get (space s t) n) ≡ Err (Refused code))
+  unfolding or_refuse
+  set_refused (Ok found) none = tt
+  set_refused (Err code) none =
+      by_set None none.1 ∙ ap (λ k. Err (Refused k)) (sym none.0)
+
+-- a space that is put where it stands already
+pub put_same : (s : Store) (t : ℕ) (x : Space) → get s.spaces t ≡ Some x → set_space s t x ≡ s
+put_same s t x at =
+    ap (λ (m : Map Space). record s { spaces = m })
+    (same_map (insert s.spaces t x) s.spaces (λ q. elim (cases_eq q t) [
+      | inl same ↦
+          ap (get (insert s.spaces t x)) same ∙ get-insert_same s.spaces t x ∙ sym at
+          ∙ ap (get s.spaces) (sym same)
+      | inr other ↦ get-insert_other s.spaces t x q other
+    ]))
+
+-- the messages behind the first one
+pub behind : List Parcel → List Parcel
+behind [] = []
+behind (m ∷ ms) = ms
+
+pub first_waits : (ms : List Parcel) (m : Parcel)
+    → Some m ≡ option_map (λ (got : Parcel × List Parcel). got.0) (first_parcel ms)
+    → first_parcel ms ≡ Some (m, behind ms)
+unfolding behind
+first_waits [] m is = absurd (not_None m is)
+first_waits (x ∷ ms) m is = ap (λ k. Some (k, ms)) (sym (same_Some m x is))
+
+pub none_waits : (ms : List Parcel)
+    → None ≡ option_map (λ (got : Parcel × List Parcel). got.0) (first_parcel ms)
+    → first_parcel ms ≡ None
+none_waits [] is = refl
+none_waits (x ∷ ms) is = absurd (not_None x (sym is))
+
+-- the end of the call, once all is given
+finished : World → ℕ → ℕ → Store × Message → Try (World × Reply)
+finished w t limit got = do
+  refuse_if (nat_lt limit (written_size got.1)) (TooLarge (written_size got.1))
+  refuse_if (is_over_full (space got.0 t)) (Refused ProfileNoSpace)
+  Ok (with_store w got.0, Bytes (written got.1))
+
+module _ (w : World) (t limit : ℕ) (got : Store × Message) where
+  ends_large : nat_lt limit (written_size got.1) ≡ true
+      → finished w t limit got ≡ Err (TooLarge (written_size got.1))
+  unfolding finished ◌>>◌ refuse_if
+  ends_large large = rw large refl
+
+  module _ (fits : nat_lt limit (written_size got.1) ≡ false) where
+    ends_full : is_over_full (space got.0 t) ≡ true
+        → finished w t limit got ≡ Err (Refused ProfileNoSpace)
+    unfolding finished ◌>>◌ refuse_if
+    ends_full full = rw (fits, full) refl
+
+    ends_done : is_over_full (space got.0 t) ≡ false
+        → finished w t limit got ≡ Ok (with_store w got.0, Bytes (written got.1))
+    unfolding finished ◌>>◌ refuse_if
+    ends_done room = rw (fits, room) refl
+
+    ends_somehow : IsGrantedOrFull (finished w t limit got)
+    unfolding finished ◌>>◌ refuse_if
+    ends_somehow = rw fits (go (is_over_full (space got.0 t)))
+      where
+        go : (b : Bool) → IsGrantedOrFull {A = World × Reply}
+            (refuse_if b (Refused ProfileNoSpace) >> Ok (with_store w got.0, Bytes (written got.1)))
+        go true = refl
+        go false = tt
+
+module _ (tasks : Map Task) (s : Store) (t n limit : ℕ) where
+  world : World
+  world = record { tasks = tasks; store = s }
+
+  call : Try (World × Reply)
+  call = call_receive (record { tasks = tasks; store = s }) t n limit
+
+  pub no_space : get s.spaces t ≡ None
+      → call_receive (record { tasks = tasks; store = s }) t n limit
+      ≡ Err (Refused MachRcvInvalidName)
+  unfolding call_receive ◌>>=◌
+  no_space none =
+      let absent : get (space s t) n ≡ None = ap (λ o. get (unwrap_or o empty) n) none
+      ∙ get-empty n in rw absent refl
+
+  pub not_found : (e : Reply)
+      → source_at s t n (get (space s t) n) ≡ Err e
+      → call_receive (record { tasks = tasks; store = s }) t n limit ≡ Err e
+  unfolding call_receive ◌>>=◌
+  not_found e is = rw is refl
+
+  module _ (found : ℕ × ℕ)
+      (from : source_at s t n (get (space s t) n) ≡ Ok (found_source found)) where
+    pub no_port : get s.ports found.1 ≡ None
+        → call_receive (record { tasks = tasks; store = s }) t n limit
+        ≡ Err (Refused MachRcvInvalidName)
+    unfolding call_receive ◌>>=◌ or_refuse
+    no_port none = rw (from, none) refl
+
+    module _ (x : Port) (port : get s.ports found.1 ≡ Some x) where
+      pub no_message : first_parcel x.queue ≡ None
+          → call_receive (record { tasks = tasks; store = s }) t n limit
+          ≡ Err (Refused MachRcvTimedOut)
+      unfolding call_receive ◌>>=◌ or_refuse
+      no_message none = rw (from, port, none) refl
+
+      module _ (m : Parcel) (ms : List Parcel) (first : first_parcel x.queue ≡ Some (m, ms)) where
+        -- the store without the message
+        left : Store
+        left = set_port s found.1 (after_receipt x ms)
+
+        got : Store × Message
+        got = received (set_port s found.1 (after_receipt x ms)) t found.0 x.receipts m
+
+        ends : call_receive (record { tasks = tasks; store = s }) t n limit
+            ≡ finished (record { tasks = tasks; store = s }) t limit
+            (received (set_port s found.1 (after_receipt x ms)) t found.0 x.receipts m)
+        unfolding call_receive ◌>>=◌ or_refuse finished
+        ends = rw (from, port, first) refl
+
+        size : written_size
+            (received (set_port s found.1 (after_receipt x ms)) t found.0 x.receipts m).1
+            ≡ carried_size m.args
+        size = received_size _ t found.0 x.receipts m
+
+        pub too_large : nat_lt limit (carried_size m.args) ≡ true
+            → call_receive (record { tasks = tasks; store = s }) t n limit
+            ≡ Err (TooLarge (carried_size m.args))
+        too_large large =
+            ends ∙ ends_large _ t limit _ (ap (nat_lt limit) size ∙ large)
+            ∙ ap (λ k. Err (TooLarge k)) size
+
+        module _ (fits : nat_lt limit (carried_size m.args) ≡ false) where
+          pub may_end : IsGrantedOrFull
+              (call_receive (record { tasks = tasks; store = s }) t n limit)
+          may_end =
+              subst IsGrantedOrFull (sym ends)
+              (ends_somehow _ t limit _ (ap (nat_lt limit) size ∙ fits))
+
+          module _ (old : Space) (there : get s.spaces t ≡ Some old) where
+            -- what is given to the space is given to the task
+            given_to : received (set_port s found.1 (after_receipt x ms)) t found.0 x.receipts m
+                ≡ received (set_space (set_port s found.1 (after_receipt x ms)) t old) t found.0
+                x.receipts m
+            given_to =
+                ap (λ (z : Store). received z t found.0 x.receipts m)
+                (sym (put_same (set_port s found.1 (after_receipt x ms)) t old there))
+
+            pub full : is_over_full (space
+                (received (set_space (set_port s found.1 (after_receipt x ms)) t old) t found.0
+                x.receipts m).0 t) ≡ true
+                → call_receive (record { tasks = tasks; store = s }) t n limit
+                ≡ Err (Refused ProfileNoSpace)
+            full over =
+                ends ∙ ends_full _ t limit _ (ap (nat_lt limit) size ∙ fits)
+                (ap (λ (z : Store × Message). is_over_full (space z.0 t)) given_to ∙ over)
+
+            -- the store that is left
+            carried : (y : Space) (bytes : List ℕ)
+                → carried_out s (record { task = t; space = y; port = found.1; bytes = bytes })
+                ≡ set_space (set_port s found.1 (after_receipt x ms)) t y
+            carried y bytes = rw (port, first, there) refl
+
+            pub done : (y : Space) (message : Message)
+                → received (set_space (set_port s found.1 (after_receipt x ms)) t old) t found.0
+                x.receipts m
+                ≡ (set_space (set_port s found.1 (after_receipt x ms)) t y, message)
+                → is_over_full y ≡ false
+                → call_receive (record { tasks = tasks; store = s }) t n limit
+                ≡ Ok (
+                  record {
+                    tasks = tasks;
+                    store = carried_out s
+                        (record { task = t; space = y; port = found.1; bytes = written message });
+                  },
+                  Bytes (written message),
+                )
+            done y message given room =
+                ends ∙ ap (finished _ t limit) (given_to ∙ given)
+                ∙ ends_done _ t limit _
+                (ap (λ (z : Store × Message). nat_lt limit (written_size z.1))
+                (sym (given_to ∙ given)) ∙ ap (nat_lt limit) size ∙ fits)
+                (ap is_over_full
+                (space_put (set_port s found.1 (after_receipt x ms)) t y) ∙ room)
+                ∙ ap (λ z. Ok (record { tasks = tasks; store = z }, Bytes (written message)))
+                (sym (carried y (written message)))
+
+-- what code tells of each step
+
+-- memory may run out where nothing was refused yet
+pub may_want : {A B T : Type 0} (r : Result T (OrMemory ReceiveFault)) (call : A → Try B)
+    → IsErrAnd r (λ e. e ≡ Memory)
+    → ((a : A) → IsGrantedOrFull (call a))
+    → IfErr r (λ e. (a : A) → IsReceiveRefusal e (call a))
+may_want (Ok t) call is all = tt
+may_want (Err e) call is all = λ a. subst (λ k. IsReceiveRefusal k (call a)) (sym is) (all a)
+
+-- the port of a store, as its table has it
+pub port_at : (s : Store) (z : Table) (p : ℕ) (o : Option Port)
+    → z ≡ table_of s
+    → o ≡ get z.ports p
+    → get s.ports p ≡ o
+port_at s z p o is at = ap (λ (u : Table). get u.ports p) (sym is) ∙ sym at
+
+-- the first message of a port
+pub waits_at : (x : Port) (queue : List Parcel) (m : Parcel)
+    → queue ≡ x.queue
+    → Some m ≡ option_map (λ (got : Parcel × List Parcel). got.0) (first_parcel queue)
+    → first_parcel x.queue ≡ Some (m, behind x.queue)
+waits_at x queue m is first =
+    first_waits x.queue m (first
+    ∙ ap (λ q. option_map (λ (got : Parcel × List Parcel). got.0) (first_parcel q)) is)
+
+pub none_at : (x : Port) (queue : List Parcel)
+    → queue ≡ x.queue
+    → None ≡ option_map (λ (got : Parcel × List Parcel). got.0) (first_parcel queue)
+    → first_parcel x.queue ≡ None
+none_at x queue is first =
+    none_waits x.queue (first
+    ∙ ap (λ q. option_map (λ (got : Parcel × List Parcel). got.0) (first_parcel q)) is)
+
+-- sizes against the limit
+pub is_large : (limit k n : ℕ) → k ≡ n → limit < k → nat_lt limit n ≡ true
+is_large limit k n is large = ap (nat_lt limit) (sym is) ∙ lt-ltb limit k large
+
+pub is_small : (limit k n : ℕ) → k ≡ n → k ≤ limit → nat_lt limit n ≡ false
+is_small limit k n is small = ap (nat_lt limit) (sym is) ∙ le-ltb limit k small
+
+-- a space in its bounds is not over-full
+pub has_room : (y : Space) → IsBounded y → is_over_full y ≡ false
+has_room y b = le-ltb 4096 (len y) b.few
+
+-- too much was given
+pub told_over : (e : OrMemory Code) (code : Code) (copy : Space) (name receipts : ℕ) (x : Port)
+    (m : Parcel)
+    → e ≡ Fault code
+    → receipts ≡ x.receipts
+    → ((s : Store) (t : ℕ)
+    → IsOverFilled e (space (received (set_space s t copy) t name receipts m).0 t))
+    → (s : Store) (t : ℕ)
+    → is_over_full (space (received (set_space s t copy) t name x.receipts m).0 t) ≡ true
+told_over e code copy name receipts x m is count over s t =
+    ap (λ k. is_over_full (space (received (set_space s t copy) t name k m).0 t)) (sym count)
+    ∙ subst (λ k. IsOverFilled k (space (received (set_space s t copy) t name receipts m).0 t)) is
+    (over s t)

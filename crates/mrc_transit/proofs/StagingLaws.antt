@@ -1,0 +1,136 @@
+-- The store after what a task has given: how a taking changes it.
+use Rattle.std.proofs.Common.{◌≡◌, ℕ, List, [], ◌∷◌, ◌++◌, Option, Some, None}
+use Rattle.std.proofs.Common.{Ok, Err, refl, sym, ◌∙◌, ap}
+use Rattle.std.specs.Prelude.{unwrap_or}
+use Rattle.mrc_base.specs.declared.PortRight.{PortRight}
+use Rattle.mrc_base.specs.declared.PortRight.TheVariants.{Send, Receive, SendOnce}
+use Rattle.mrc_base.specs.declared.Disp.{Disp}
+use Rattle.mrc_base.specs.Disposition.{given}
+use Rattle.mrc_model.specs.declared.Entry.{Entry}
+use Rattle.mrc_model.specs.Rights.{is_receive}
+use Rattle.mrc_model.specs.Map.{Map, empty, get}
+use Rattle.mrc_model.specs.World.{Space, Port, Store, space, set_space}
+use Rattle.mrc_model.specs.Reply.{Reply, Try, ◌>>=◌, or_refuse}
+use Rattle.mrc_model.specs.Space.{Taken, take_from, put_entry, take, restart, restart_port}
+use Rattle.mrc_model.specs.Space.{restart_if}
+use Rattle.mrc_model.specs.Target.{bad_name, wrong_right}
+use Rattle.mrc_model.proofs.Maps.{get-insert_same}
+use Rattle.mrc_names.specs.Takes.{take_right}
+use Rattle.mrc_ports.proofs.TableLaws.{insert_twice}
+use Rattle.mrc_transit.specs.Staging.{Taking, restart_each, staged, moved_by}
+
+-- a space is put before or after a port's receipts become 0
+restart_set_at : (s : Store) (t p : ℕ) (x : Space) (o : Option Port)
+    → restart_port (set_space s t x) p o ≡ set_space (restart_port s p o) t x
+restart_set_at s t p x None = refl
+restart_set_at s t p x (Some y) = refl
+
+restart_set : (s : Store) (t p : ℕ) (x : Space)
+    → restart (set_space s t x) p ≡ set_space (restart s p) t x
+unfolding restart
+restart_set s t p x = restart_set_at s t p x (get s.ports p)
+
+each_set : (ps : List ℕ) (s : Store) (t : ℕ) (x : Space)
+    → restart_each (set_space s t x) ps ≡ set_space (restart_each s ps) t x
+each_set [] s t x = refl
+each_set (p ∷ ps) s t x =
+    ap (λ z. restart_each z ps) (restart_set s t p x) ∙ each_set ps (restart s p) t x
+
+-- one port more
+each_more : (ps : List ℕ) (s : Store) (p : ℕ)
+    → restart_each s (ps ++ p ∷ []) ≡ restart (restart_each s ps) p
+each_more [] s p = refl
+each_more (q ∷ ps) s p = each_more ps (restart s q) p
+
+-- the sender's space
+pub space_staged : (s : Store) (t : ℕ) (g : Taking) → space (staged s t g) t ≡ g.space
+unfolding staged
+space_staged s t g =
+    ap (λ z. space z t) (each_set g.moved s t g.space)
+    ∙ ap (λ o. unwrap_or o empty) (get-insert_same (restart_each s g.moved).spaces t g.space)
+
+-- another one in its place
+pub set_staged : (s : Store) (t : ℕ) (g : Taking) (y : Space)
+    → set_space (staged s t g) t y ≡ staged s t (record g { space = y })
+unfolding staged
+set_staged s t g y =
+    let r = restart_each s g.moved in
+    ap (λ z. set_space z t y) (each_set g.moved s t g.space)
+    ∙ ap (λ (m : Map Space). record r { spaces = m }) (insert_twice r.spaces t g.space y)
+    ∙ sym (each_set g.moved s t y)
+
+-- a right that is given
+pub note_staged : (s : Store) (t p : ℕ) (g : Taking) (r : PortRight)
+    → restart_if (is_receive r) (staged s t g) p
+    ≡ staged s t (record g { moved = moved_by r g.moved p })
+unfolding staged
+note_staged s t p g Send = refl
+note_staged s t p g Receive = sym (each_more g.moved (set_space s t g.space) p)
+note_staged s t p g SendOnce = refl
+
+-- taking from a store by taking from a space
+
+-- what is left after the taking
+abbrev after_take : Store → ℕ → Disp → Space × ℕ → Store × ℕ
+after_take s t d got = (restart_if (is_receive (given d)) (set_space s t got.0) got.1, got.1)
+
+-- a step by its answer, where each refusal is this one
+abbrev by_answer : {A B : Type 0} → (A → B) → Reply → Try A → Try B
+by_answer f e (Ok a) = Ok (f a)
+by_answer f e (Err d) = Err e
+
+take_by_right : (s : Store) (t n : ℕ) (d : Disp) (e : Reply)
+    → take s t n d e e ≡ by_answer (after_take s t d) e (take_right (space s t) n d)
+unfolding take take_right ◌>>=◌ or_refuse
+take_by_right s t n d e = go (get (space s t) n)
+  where
+    last : (h : Entry) (o : Option Taken)
+        → (or_refuse o e >>= λ got. Ok (
+          restart_if (is_receive (given d))
+              (set_space s t (put_entry (space s t) n got.rest)) got.port,
+          got.port,
+        ))
+        ≡ by_answer (after_take s t d) e
+        (or_refuse o wrong_right >>= λ got. Ok (put_entry (space s t) n got.rest, got.port))
+    last h None = refl
+    last h (Some got) = refl
+
+    go : (o : Option Entry)
+        → (or_refuse o e >>= λ h. or_refuse (take_from h d) e
+        >>= λ got. Ok (
+          restart_if (is_receive (given d))
+              (set_space s t (put_entry (space s t) n got.rest)) got.port,
+          got.port,
+        ))
+        ≡ by_answer (after_take s t d) e
+        (or_refuse o bad_name >>= λ h. or_refuse (take_from h d) wrong_right
+        >>= λ got. Ok (put_entry (space s t) n got.rest, got.port))
+    go None = refl
+    go (Some h) = last h (take_from h d)
+
+module _ (s : Store) (t n : ℕ) (d : Disp) (g : Taking) where
+  take_at : (e : Reply) (m : Try (Space × ℕ))
+      → take_right g.space n d ≡ m
+      → take (staged s t g) t n d e e ≡ by_answer (after_take (staged s t g) t d) e m
+  take_at e m is =
+      take_by_right (staged s t g) t n d e
+      ∙ ap (λ x. by_answer (after_take (staged s t g) t d) e (take_right x n d))
+      (space_staged s t g)
+      ∙ ap (by_answer (after_take (staged s t g) t d) e) is
+
+  pub staged_taken : (e : Reply) (y : Space) (p : ℕ) (r : PortRight) (h : Taking)
+      → take_right g.space n d ≡ Ok (y, p)
+      → r ≡ given d
+      → h ≡ record { space = y; moved = moved_by r g.moved p }
+      → take (staged s t g) t n d e e ≡ Ok (staged s t h, p)
+  staged_taken e y p r h is right left =
+      take_at e (Ok (y, p)) is
+      ∙ ap (λ z. Ok (restart_if (is_receive (given d)) z p, p)) (set_staged s t g y)
+      ∙ ap (λ z. Ok (z, p)) (note_staged s t p (record g { space = y }) (given d)
+      ∙ ap (λ q. staged s t (record { space = y; moved = moved_by q g.moved p })) (sym right)
+      ∙ ap (staged s t) (sym left))
+
+  pub staged_refused : (e d' : Reply)
+      → take_right g.space n d ≡ Err d'
+      → take (staged s t g) t n d e e ≡ Err e
+  staged_refused e d' is = take_at e (Err d') is

@@ -1,0 +1,73 @@
+-- Plans of messages that are sent, and what carrying one out does. From Mach 3 Kernel Interfaces,
+-- mach_msg (MACH_SEND_MSG). That a plan is made first is this profile's own choice.
+use Rattle.std.specs.Prelude.{◌≡◌, ℕ, Bool, true, false, not, ◌&&◌, nat_le, length, Option, Some}
+use Rattle.std.specs.Prelude.{None, Ok, IsSome, option_and_then}
+use Rattle.mrc_base.specs.declared.Disp.{Disp}
+use Rattle.mrc_base.specs.declared.Disp.TheVariants.{MoveReceive, MoveSend, MoveSendOnce, CopySend}
+use Rattle.mrc_base.specs.declared.Disp.TheVariants.{MakeSend, MakeSendOnce}
+use Rattle.mrc_base.specs.Disposition.{disp_of_number}
+use Rattle.mrc_base.specs.declared.memory.OrMemory.{OrMemory}
+use Rattle.mrc_base.specs.declared.memory.OrMemory.TheVariants.{Fault, Memory}
+use Rattle.mrc_model.specs.declared.Code.TheVariants.{MachSendTimedOut}
+use Rattle.mrc_model.specs.Map.{get}
+use Rattle.mrc_model.specs.Message.{Message}
+use Rattle.mrc_model.specs.Wiring.{Wiring}
+use Rattle.mrc_model.specs.World.{Parcel, Port, Store, World}
+use Rattle.mrc_model.specs.Reply.{Done}
+use Rattle.mrc_model.specs.Death.{append}
+use Rattle.mrc_model.specs.Target.{with_store}
+use Rattle.mrc_model.specs.CallSend.{call_send}
+use Rattle.mrc_ports.specs.Queues.{is_full_for}
+use Rattle.mrc_transit.specs.declared.sending.SendFault.{SendFault}
+use Rattle.mrc_transit.specs.declared.sending.SendFault.TheVariants as faults
+use Rattle.mrc_transit.specs.Staging.{Taking, staged}
+use Rattle.mrc_transit.specs.Sending.{IsSendRefusal}
+
+-- who sends, what was taken, where the message goes, and the message
+pub record SendPlan : Type 0 where
+  pub sender : ℕ
+  pub taking : Taking
+  pub destination : ℕ
+  pub parcel : Parcel
+
+-- the store after the plan was carried out: the message stands at the end of its queue
+unfoldable pub sent : Store → SendPlan → Store
+sent s plan = append (staged s plan.sender plan.taking) plan.destination plan.parcel
+
+-- the plan can be carried out on the store: the sender has a space, and the destination is a live
+-- port that takes the message
+pub record IsReady (s : Store) (plan : SendPlan) : Type 0 where
+  pub has_space : IsSome (get s.spaces plan.sender)
+  pub port : Port
+  pub live : get s.ports plan.destination ≡ Some port
+  pub room : is_full_for port plan.parcel.by_once ≡ false
+
+-- in each world with this store, sending the message is done, and leaves what the plan leaves
+abbrev pub IsPlanOf : Wiring → Store → ℕ → Message → SendPlan → Type 0
+IsPlanOf W s t m plan = (w : World) →
+    call_send W (with_store w s) t m ≡ Ok (with_store w (sent s plan), Done)
+
+-- in each world with this store, sending the message is refused so
+abbrev pub IsNotSent : OrMemory SendFault → Wiring → Store → ℕ → Message → Type 0
+IsNotSent fault W s t m = (w : World) → IsSendRefusal fault (call_send W (with_store w s) t m)
+
+-- a disposition but that which moves a receive right
+abbrev pub but_receive : Disp → Option Disp
+but_receive MoveReceive = None
+but_receive MoveSend = Some MoveSend
+but_receive MoveSendOnce = Some MoveSendOnce
+but_receive CopySend = Some CopySend
+but_receive MakeSend = Some MakeSend
+but_receive MakeSendOnce = Some MakeSendOnce
+
+-- how a destination's right is taken, by the number in the header
+abbrev pub destination_disp : ℕ → Option Disp
+destination_disp number = option_and_then but_receive (disp_of_number number)
+
+-- a queue at or above its limit takes no message but through a send-once right; of want of room
+-- nothing is said
+abbrev pub IsNoRoom : OrMemory SendFault → Port → Bool → Type 0
+IsNoRoom (Fault fault) x by_once =
+    (fault ≡ faults.Refused MachSendTimedOut)
+    × ((not by_once && nat_le x.limit (length x.queue)) ≡ true)
+IsNoRoom Memory x by_once = Unit {0}

@@ -1,0 +1,341 @@
+//! Receiving a message: where it comes from, what the receiver is given, and the plan of it.
+
+ghost use Rattle.std.specs.Prelude.{◌≡◌, ◌≤◌, ◌<◌, ◌^◌, ℕ, map, length, Some, Ok, Err, IfOk, IfErr};
+ghost use Rattle.std.specs.Prelude.{option_map, None, if◌then◌else◌};
+ghost use Rattle.std.specs.List.{AllByRecursion};
+ghost use Rattle.mrc_base.specs.declared.PortRight.TheVariants.{Send, SendOnce};
+ghost use Rattle.mrc_base.specs.Limits.{limit_of_message};
+ghost use Rattle.mrc_model.specs.declared.Code.TheVariants.{MachRcvTimedOut};
+ghost use Rattle.mrc_model.specs.Map.{Map, get};
+ghost use Rattle.mrc_model.specs.Rights.{given_number};
+ghost use Rattle.mrc_model.specs.Message.{written};
+ghost use Rattle.mrc_model.specs.World.{Store as TStore, Task as TTask, set_space};
+ghost use Rattle.mrc_model.specs.World.{space as space_of};
+ghost use Rattle.mrc_model.specs.Reply.{Refused, Bytes};
+ghost use Rattle.mrc_model.specs.CallReceive.{give_items, give_arg, give_args, received};
+ghost use Rattle.mrc_model.specs.CallReceive.{reply_disp, source_at, first_ready};
+ghost use Rattle.mrc_model.specs.CallReceive.{ready_member, is_empty_queue, call_receive};
+ghost use Rattle.mrc_desc.specs.View.{argument_of, arguments_of};
+ghost use Rattle.mrc_desc.specs.Laws.{OtherArg, OtherArgs};
+ghost use Rattle.mrc_ports.specs.Parcels.{queued_of, unnamed};
+ghost use Rattle.mrc_transit.specs.Receiving.{carried_out, found_source, IsOverFilled};
+ghost use Rattle.mrc_transit.specs.Receiving.{IsReceiveRefusal};
+
+use crate::giving::give_item;
+use crate::written::Written;
+use mrc_base::{OrMemory, PortId, TaskId};
+use mrc_desc::{Argument, Arguments, Header, Message, Names};
+use mrc_model::{Code, Entry, Item};
+use mrc_names::Space;
+use mrc_ports::{Parcel, QueuedArgument, Store, moving};
+use std::alloc::{AllocError, Global};
+use std::marker::Model;
+
+/// The number that tells a send right, MACH_MSG_TYPE_PORT_SEND.
+const SEND: u8 = 17;
+/// The number that tells a send-once right, MACH_MSG_TYPE_PORT_SEND_ONCE.
+const SEND_ONCE: u8 = 18;
+
+/// Why no message is received. Nothing has changed.
+#[derive(Clone, Copy, Debug, Drop, PartialEq, Eq)]
+pub enum ReceiveFault {
+    /// In this order: the name is neither a receive right nor a port set (MACH_RCV_INVALID_NAME);
+    /// it is a member of a set (MACH_RCV_IN_SET); no message waits (MACH_RCV_TIMED_OUT); and, after
+    /// `TooLarge`, the space would have more than 4,096 entries (PROFILE_NO_SPACE).
+    Refused(Code),
+    /// The message is larger than the limit. It has so many bytes, and stays queued.
+    TooLarge(u32),
+}
+
+/// Whether no message waits at a port.
+fn is_empty_queue(store: &Store, port: PortId) -> bool
+    ensures { result ≡ is_empty_queue (get store.now.ports port) }
+{
+    match store.ports().get(port) {
+        None => true,
+        Some(found) => found.queue().len() == 0,
+    }
+}
+
+/// The port of the entry, where it is a member of the set with a message.
+fn ready_member(store: &Store, set: u32, entry: &Entry) -> Option<PortId>
+    ensures { result ≡ ready_member store.now set entry.now }
+{
+    match *entry {
+        Entry::Receive {
+            port,
+            sends: _,
+            in_set,
+        } => {
+            if in_set == Some(set) && !is_empty_queue(store, port) {
+                Some(port)
+            } else {
+                None
+            }
+        }
+        _ => None,
+    }
+}
+
+/// The first of these entries that is a member of the set with a message: its name and its port.
+fn first_ready(store: &Store, set: u32, entries: &[(u64, Entry)]) -> Option<(u64, PortId)>
+    ensures { option_map found_source result ≡ first_ready store.now set entries.now }
+{
+    for held in entries {
+        if let Some(port) = ready_member(store, set, &held.1) {
+            return Some((held.0, port));
+        }
+    }
+    None
+}
+
+/// The name and the port of the first member of a set, by ascending name, that has a message.
+fn member_source(store: &Store, space: &Space, set: u32) -> Result<(u32, PortId), Code>
+    ensures ok { IfOk result (λ found.
+        first_ready store.now set space.now.list ≡ Some (found_source found)) }
+    ensures refused { IfErr result (λ code. (code ≡ MachRcvTimedOut)
+        × (first_ready store.now set space.now.list ≡ None)) }
+{
+    space.bounds();
+    match first_ready(store, set, space.entries()) {
+        None => Err(Code::MachRcvTimedOut),
+        Some(found) => Ok((found.0 as u32, found.1)),
+    }
+}
+
+/// Where a name receives from: the name and the port of a receive right. Of a set it is the first
+/// member, by ascending name, that has a message. Refused are, in this order, a name that is
+/// neither a receive right nor a set (MACH_RCV_INVALID_NAME), a member of a set (MACH_RCV_IN_SET),
+/// and a set without a message (MACH_RCV_TIMED_OUT).
+fn source_at(store: &Store, task: TaskId, space: &Space, name: u32) -> Result<(u32, PortId), Code>
+    requires { get store.now.spaces task ≡ Some space.now }
+    ensures ok { IfOk result (λ found.
+        source_at store.now task name (get (space_of store.now task) name)
+        ≡ Ok (found_source found)) }
+    ensures refused { IfErr result (λ code.
+        source_at store.now task name (get (space_of store.now task) name)
+        ≡ Err (Refused code)) }
+{
+    let Some(entry) = space.get(name) else {
+        return Err(Code::MachRcvInvalidName);
+    };
+    match entry {
+        Entry::Receive {
+            port,
+            sends: _,
+            in_set,
+        } => {
+            if in_set.is_some() {
+                return Err(Code::MachRcvInSet);
+            }
+            Ok((name, port))
+        }
+        Entry::PortSet => member_source(store, space, name),
+        _ => Err(Code::MachRcvInvalidName),
+    }
+}
+
+/// Gives a space what an argument carries, in order: their names. Refused where the space would
+/// have more than 4,096 entries.
+fn give_items(alloc: Global, space: &mut Space, items: &[Item]) -> Result<Names, OrMemory<Code>>
+    ensures given { IfOk result (λ names. (s : TStore) (t : ℕ)
+        → give_items t (set_space s t space.old) items.now ≡ (set_space s t space.new, names)) }
+    ensures fit { IfOk result (λ names. AllByRecursion (λ name. name < 2 ^ 32) names) }
+    ensures refused { IfErr result (λ e. (s : TStore) (t : ℕ)
+        → IsOverFilled e (space_of (give_items t (set_space s t space.old) items.now).0 t)) }
+{
+    let mut names = Vec::with_capacity(alloc, items.len())?;
+    for item in items {
+        names.push(give_item(space, *item)?)?;
+    }
+    Ok(Names::from(names))
+}
+
+/// Gives a space what an argument carries: the argument as it is received. Refused where the space
+/// would have more than 4,096 entries.
+fn give_arg(
+    alloc: Global,
+    space: &mut Space,
+    argument: &QueuedArgument,
+) -> Result<Argument, OrMemory<Code>>
+    ensures given { IfOk result (λ got. (s : TStore) (t : ℕ)
+        → give_arg t (set_space s t space.old) (queued_of argument.now)
+        ≡ (set_space s t space.new, argument_of got)) }
+    ensures other { IfOk result (λ got.
+        OtherArg (unnamed (queued_of argument.now)) (argument_of got)) }
+    ensures refused { IfErr result (λ e. (s : TStore) (t : ℕ) → IsOverFilled e
+        (space_of (give_arg t (set_space s t space.old) (queued_of argument.now)).0 t)) }
+{
+    match argument {
+        QueuedArgument::Data { desc, bytes } => Ok(Argument::Data {
+            desc: *desc,
+            bytes: bytes.copy(alloc)?,
+        }),
+        QueuedArgument::Items { right, items } => Ok(Argument::Ports {
+            disp: moving(*right),
+            names: give_items(alloc, space, items.as_slice())?,
+        }),
+    }
+}
+
+/// Gives a space what all arguments carry, in order: the arguments as they are received. Refused
+/// where the space would have more than 4,096 entries.
+fn give_args(
+    alloc: Global,
+    space: &mut Space,
+    arguments: &[QueuedArgument],
+) -> Result<Arguments, OrMemory<Code>>
+    ensures given { IfOk result (λ got. (s : TStore) (t : ℕ)
+        → give_args t (set_space s t space.old) (map queued_of arguments.now)
+        ≡ (set_space s t space.new, arguments_of got)) }
+    ensures other { IfOk result (λ got.
+        OtherArgs (map unnamed (map queued_of arguments.now)) (arguments_of got)) }
+    ensures refused { IfErr result (λ e. (s : TStore) (t : ℕ) → IsOverFilled e
+        (space_of (give_args t (set_space s t space.old) (map queued_of arguments.now)).0 t)) }
+{
+    let mut args = Vec::with_capacity(alloc, arguments.len())?;
+    for argument in arguments {
+        args.push(give_arg(alloc, space, argument)?)?;
+    }
+    Ok(Arguments::from(args))
+}
+
+/// The disposition that tells whether there is a reply port, a dead one included.
+fn reply_disp(reply: Item) -> u8
+    ensures { result ≡ reply_disp reply }
+{
+    match reply {
+        Item::Null => 0,
+        Item::Dead | Item::Right { port: _, right: _ } => SEND_ONCE,
+    }
+}
+
+/// The disposition that tells which right a message was sent through.
+fn local_disp(by_once: bool) -> u8
+    ensures { result ≡ (if by_once then given_number SendOnce else given_number Send) }
+{
+    if by_once { SEND_ONCE } else { SEND }
+}
+
+/// Gives a space what a message carries: the message as it is received under a name, after so many
+/// receipts. Refused where the space would have more than 4,096 entries.
+fn received(
+    alloc: Global,
+    space: &mut Space,
+    name: u32,
+    receipts: u32,
+    parcel: &Parcel,
+) -> Result<Message, OrMemory<Code>>
+    ensures given { IfOk result (λ message. (s : TStore) (t : ℕ)
+        → received (set_space s t space.old) t name receipts parcel.now
+        ≡ (set_space s t space.new, message)) }
+    ensures refused { IfErr result (λ e. (s : TStore) (t : ℕ) → IsOverFilled e
+        (space_of (received (set_space s t space.old) t name receipts parcel.now).0 t)) }
+{
+    let remote = give_item(space, parcel.reply())?;
+    let args = give_args(alloc, space, parcel.arguments())?;
+    let header = Header {
+        remote_disp: reply_disp(parcel.reply()),
+        local_disp: local_disp(parcel.by_once()),
+        remote_port: remote,
+        local_port: name,
+        seqno: receipts,
+        id: parcel.id(),
+    };
+    match Message::new(header, args) {
+        Ok(message) => Ok(message),
+        Err(_) => unreachable!(),
+    }
+}
+
+/// What receiving comes to. It holds what it needs, so that carrying it out takes no memory.
+#[derive(Debug, Drop)]
+pub struct ReceivePlan {
+    task: TaskId,
+    space: Space,
+    port: PortId,
+    bytes: Written,
+}
+
+impl Model for ReceivePlan {
+    ghost use Rattle.mrc_transit.specs.Receiving as receiving;
+
+    ghost Value = { receiving.ReceivePlan };
+
+    ghost view = { λ a. record {
+      task = a.task;
+      space = a.space;
+      port = a.port;
+      bytes = a.bytes;
+    } };
+}
+
+/// The plan of receiving a message of at most `limit` bytes by a name of the task: a receive right,
+/// or a port set, of whose members the first one by ascending name is received from that has a
+/// message. Nothing changes yet.
+pub fn copy_out(
+    alloc: Global,
+    store: &Store,
+    task: TaskId,
+    name: u32,
+    limit: u32,
+) -> Result<ReceivePlan, OrMemory<ReceiveFault>>
+    ensures planned { IfOk result (λ plan. (tasks : Map TTask)
+        → call_receive (record { tasks = tasks; store = store.now }) task name limit
+        ≡ Ok (record { tasks = tasks; store = carried_out store.now plan }, Bytes plan.bytes)) }
+    ensures refused { IfErr result (λ e. (tasks : Map TTask) → IsReceiveRefusal e
+        (call_receive (record { tasks = tasks; store = store.now }) task name limit)) }
+{
+    let Some(space) = store.space(task) else {
+        return Err(OrMemory::Fault(ReceiveFault::Refused(Code::MachRcvInvalidName)));
+    };
+    let (from, port) = match source_at(store, task, space, name) {
+        Ok(found) => found,
+        Err(code) => return Err(OrMemory::Fault(ReceiveFault::Refused(code))),
+    };
+    let Some(found) = store.ports().get(port) else {
+        return Err(OrMemory::Fault(ReceiveFault::Refused(Code::MachRcvInvalidName)));
+    };
+    let Some(parcel) = found.queue().first() else {
+        return Err(OrMemory::Fault(ReceiveFault::Refused(Code::MachRcvTimedOut)));
+    };
+    let size = parcel.written_size();
+    if limit < size {
+        return Err(OrMemory::Fault(ReceiveFault::TooLarge(size)));
+    }
+    let mut space = space.copy(alloc)?;
+    let message = match received(alloc, &mut space, from, found.receipts(), parcel) {
+        Ok(message) => message,
+        Err(OrMemory::Fault(_)) => {
+            return Err(OrMemory::Fault(ReceiveFault::Refused(Code::ProfileNoSpace)));
+        }
+        Err(OrMemory::Memory) => return Err(OrMemory::Memory),
+    };
+    space.bounds();
+    Ok(ReceivePlan {
+        task,
+        space,
+        port,
+        bytes: Written::of(alloc, &message)?,
+    })
+}
+
+impl ReceivePlan {
+    /// Carries the plan out: the first message of the port leaves its queue, and the task has its
+    /// space of the plan. The bytes of the message come out. It takes no memory. Where the store is
+    /// as it was when the plan was made, this is the receiving that was planned.
+    pub fn apply(self, store: &mut Store) -> Written
+        ensures store { store.new ≡ carried_out store.old self }
+        ensures bytes { result ≡ self.bytes }
+    {
+        let ReceivePlan {
+            task,
+            space,
+            port,
+            bytes,
+        } = self;
+        let _ = store.dequeue(port);
+        let _ = store.put_space(task, space);
+        bytes
+    }
+}
