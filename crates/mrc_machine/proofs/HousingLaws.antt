@@ -13,6 +13,10 @@ use Rattle.mrc_model.proofs.Maps.{Each-insert, same_Some, not_None, find_here, f
 use Rattle.mrc_map.proofs.SameMaps.{same_map}
 use Rattle.mrc_ports.specs.Tables.{no_store}
 use Rattle.mrc_ports.proofs.TableLaws.{insert_twice}
+use Rattle.mrc_transit.specs.SendPlans.{SendPlan, sent, IsReady}
+use Rattle.mrc_transit.proofs.ApplyLaws.{sent_spaces}
+use Rattle.mrc_ports.specs.Queues.{received_by}
+use Rattle.mrc_transit.specs.Receiving.{ReceivePlan, replaced, carried_out}
 use Rattle.std.specs.List.{AllByRecursion}
 use Rattle.mrc_machine.specs.Holdings.{AreShort}
 use Rattle.mrc_machine.specs.Housing.{IsHoused}
@@ -75,6 +79,39 @@ housed_space ts s z t x h short is =
       tasks = h.tasks;
       owners = Each-insert (λ u y. u < 2 ^ 32) s.spaces t x h.owners short;
     } (ap (λ (y : Store). y.spaces) is)
+
+-- where a message was sent
+pub housed_sent : (ts : Map Task) (s z : Store) (plan : SendPlan)
+    → IsHoused record { tasks = ts; store = s }
+    → IsReady s plan
+    → z ≡ sent s plan
+    → IsHoused record { tasks = ts; store = z }
+housed_sent ts s z plan h ready is =
+    let short = each_there (λ q. q < 2 ^ 32) s.spaces plan.sender (get s.spaces plan.sender)
+    h.owners refl ready.has_space in
+    housed_same ts (set_space s plan.sender plan.taking.space) z
+    (housed_space ts s _ plan.sender plan.taking.space h short refl)
+    (ap (λ (y : Store). y.spaces) is ∙ sent_spaces s plan)
+
+-- where a message was received
+pub housed_received : (ts : Map Task) (s z : Store) (plan : ReceivePlan)
+    → IsHoused record { tasks = ts; store = s }
+    → z ≡ carried_out s plan
+    → IsHoused record { tasks = ts; store = z }
+housed_received ts s z plan h is =
+    subst (λ (y : Store). IsHoused record { tasks = ts; store = y }) (sym is)
+    (go (get s.spaces plan.task) refl)
+  where
+    go : (o : Option Space)
+        → get s.spaces plan.task ≡ o
+        → IsHoused record {
+          tasks = ts;
+          store = replaced (received_by s plan.port).1 plan.task plan.space o;
+        }
+    go None at = housed_same ts s (received_by s plan.port).1 h refl
+    go (Some y) at =
+        housed_space ts (received_by s plan.port).1 _ plan.task plan.space
+        (housed_same ts s (received_by s plan.port).1 h refl) (h.owners plan.task y at) refl
 
 -- what is known of a task, where a world is open
 module _ (ts : Map Task) (s : Store) (w : World) (t : ℕ)

@@ -30,6 +30,7 @@ use Rattle.mrc_model.specs.CallInsertRight.{call_insert_right, call_extract_righ
 use Rattle.mrc_model.proofs.Maps.{len-insert, if_true, if_false}
 use Rattle.mrc_names.specs.Takes.{take_right, taken_port, move_right, give_right}
 use Rattle.mrc_names.specs.Refusals.{IsRefusal, Foretells}
+use Rattle.mrc_names.proofs.SpaceExits.{port_of_taken}
 use Rattle.mrc_machine.specs.Housing.{target_of}
 use Rattle.mrc_machine.specs.Moves.{moved, space_beside, second_space}
 use Rattle.mrc_machine.proofs.StoreLaws.{space_moved}
@@ -52,17 +53,6 @@ take_by_space s t n x =
     sym (bind_bind (or_refuse (get (space s t) n) bad_name) parts (on_taken s t x)
     ∙ ap (λ (f : Entry → Try (Store × ℕ)). or_refuse (get (space s t) n) bad_name >>= f)
     (λ i e. bind_bind (or_refuse (take_from e x) wrong_right) put (on_taken s t x) i))
-
--- a right whose port is told can be taken
-pub port_of_taken : (x : Space) (n p : ℕ) (d : Disp)
-    → taken_port x n d ≡ Ok p
-    → (y : Space) × (take_right x n d ≡ Ok (y, p))
-unfolding taken_port ◌>>=◌
-port_of_taken x n p d told = go (take_right x n d) told
-  where
-    go : (m : Try (Space × ℕ)) → (m >>= λ (y, q). Ok q) ≡ Ok p → (y : Space) × (m ≡ Ok (y, p))
-    go (Ok got) is = (got.0, ap (λ q. Ok (got.0, q)) (same_Ok _ _ is))
-    go (Err e) is = absurd (not_Err _ _ (sym is))
 
 -- what is told of the second space
 

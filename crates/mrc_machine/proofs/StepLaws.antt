@@ -27,11 +27,9 @@ module _ (W : Wiring) (w : World) (t : ℕ) (call : Call) where
     unfolding step
     step_done z reply is = rw (alive, is) refl
 
-    pub step_refused : (code : Code)
-        → try_call W w t call ≡ Err (Refused code)
-        → step W w t call ≡ (w, Refused code)
+    pub step_refused : (e : Reply) → try_call W w t call ≡ Err e → step W w t call ≡ (w, e)
     unfolding step
-    step_refused code is = rw (alive, is) refl
+    step_refused e is = rw (alive, is) refl
 
   -- spaces stay spaces
   pub spaces_after : (z : World) (reply : Reply)

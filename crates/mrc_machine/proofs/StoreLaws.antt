@@ -8,19 +8,12 @@ use Rattle.mrc_model.specs.Reply.{◌>>=◌, or_refuse}
 use Rattle.mrc_model.specs.Space.{restart, restart_port, restart_if}
 use Rattle.mrc_model.specs.Target.{with_store, bad_name}
 use Rattle.mrc_model.proofs.Maps.{get-insert}
+use Rattle.mrc_transit.proofs.ApplyLaws.{restart_spaces}
 use Rattle.mrc_machine.specs.Moves.{limited}
 
-restart_keeps_at : (s : Store) (p : ℕ) (o : Option Port) → (restart_port s p o).spaces ≡ s.spaces
-restart_keeps_at s p None = refl
-restart_keeps_at s p (Some x) = refl
-
 -- no space changes where a port's receipts become 0
-pub restart_keeps : (s : Store) (p : ℕ) → (restart s p).spaces ≡ s.spaces
-unfolding restart
-restart_keeps s p = restart_keeps_at s p (get s.ports p)
-
 pub restart_if_keeps : (b : Bool) (s : Store) (p : ℕ) → (restart_if b s p).spaces ≡ s.spaces
-restart_if_keeps true s p = restart_keeps s p
+restart_if_keeps true s p = restart_spaces s p
 restart_if_keeps false s p = refl
 
 -- what the second space is, after the first was put

@@ -1,6 +1,9 @@
 -- Calls and replies of code, read as the definitions'; and what it is that a call is not refused.
 -- This profile's own choice.
-use Rattle.std.specs.Prelude.{ℕ, IsTrue, IsOk}
+use Rattle.std.specs.Prelude.{◌≡◌, ℕ, IsTrue, IsOk, Err}
+use Rattle.mrc_base.specs.declared.memory.OrMemory.{OrMemory}
+use Rattle.mrc_base.specs.declared.memory.OrMemory.TheVariants.{Fault, Memory}
+use Rattle.mrc_model.specs.declared.Code.{Code}
 use Rattle.mrc_model.specs.Map.{get}
 use Rattle.mrc_model.specs.Wiring.{Wiring}
 use Rattle.mrc_model.specs.World.{World}
@@ -9,13 +12,18 @@ use Rattle.mrc_model.specs.Step.{try_call}
 use Rattle.mrc_machine.specs.declared.call.Call.{Call}
 use Rattle.mrc_machine.specs.declared.call.Call.TheVariants.{Allocate, GetRefs, InsertRight}
 use Rattle.mrc_machine.specs.declared.call.Call.TheVariants.{ExtractRight, SetQlimit, PortType}
-use Rattle.mrc_machine.specs.declared.call.Call.TheVariants.{Names, Rename}
+use Rattle.mrc_machine.specs.declared.call.Call.TheVariants.{Names, Rename, Send, Receive}
+use Rattle.mrc_machine.specs.declared.refusal.Refusal.{Refusal}
+use Rattle.mrc_machine.specs.declared.refusal.Refusal.TheVariants as why
 use Rattle.mrc_machine.specs.declared.reply.Reply.{Reply}
 use Rattle.mrc_machine.specs.declared.reply.Reply.TheVariants as told
 use Rattle.mrc_model.specs.Reply as model
+use Rattle.mrc_transit.specs.Receiving as receiving
 
 -- a call
 abbrev pub call_of : Call → model.Call
+call_of (Send message) = model.SendMessage message
+call_of (Receive name limit) = model.ReceiveMessage name limit
 call_of (Allocate task right kind) = model.Allocate task right kind
 call_of (GetRefs task name right) = model.GetRefs task name right
 call_of (InsertRight task name right disp) = model.InsertRight task name right disp
@@ -32,7 +40,10 @@ reply_of (told.Name name) = model.Name name
 reply_of (told.Refs refs) = model.Refs refs
 reply_of (told.Mask mask) = model.Mask mask
 reply_of (told.Names names) = model.Names names
+reply_of (told.Message bytes) = model.Bytes bytes
+reply_of (told.TooLarge size) = model.TooLarge size
 reply_of (told.Refused code) = model.Refused code
+reply_of (told.Denied denied) = model.DeniedBy denied
 reply_of told.DeadTask = model.DeadTask
 
 -- the reply tells that the call was refused
@@ -42,9 +53,74 @@ IsRefused (told.Name name) = ⊥
 IsRefused (told.Refs refs) = ⊥
 IsRefused (told.Mask mask) = ⊥
 IsRefused (told.Names names) = ⊥
+IsRefused (told.Message bytes) = ⊥
+IsRefused (told.TooLarge size) = Unit {0}
 IsRefused (told.Refused code) = Unit {0}
+IsRefused (told.Denied denied) = Unit {0}
 IsRefused told.DeadTask = Unit {0}
 
 -- the call is not refused: its task is alive, and no refusal comes
 abbrev pub IsGranted : Wiring → World → ℕ → model.Call → Type 0
 IsGranted W w t call = IsTrue (is_alive (get w.tasks t)) × IsOk (try_call W w t call)
+
+-- the same, but receiving may be refused for want of room in the space
+abbrev pub IsGrantedOrFull : Wiring → World → ℕ → model.Call → Type 0
+IsGrantedOrFull W w t call =
+    IsTrue (is_alive (get w.tasks t)) × receiving.IsGrantedOrFull (try_call W w t call)
+
+-- Which calls are judged before any memory is taken, so that want of it is told only where they are
+-- not refused. What a message takes from its sender's space, and whether a space has room for all
+-- that is received, is found out on a copy of the space.
+abbrev pub IsJudgedFirst : Call → Type 0
+IsJudgedFirst (Send message) = ⊥
+IsJudgedFirst (Receive name limit) = ⊥
+IsJudgedFirst (Allocate task right kind) = Unit {0}
+IsJudgedFirst (GetRefs task name right) = Unit {0}
+IsJudgedFirst (InsertRight task name right disp) = Unit {0}
+IsJudgedFirst (ExtractRight task name disp) = Unit {0}
+IsJudgedFirst (SetQlimit task name limit) = Unit {0}
+IsJudgedFirst (PortType task name) = Unit {0}
+IsJudgedFirst (Names task) = Unit {0}
+IsJudgedFirst (Rename task old new) = Unit {0}
+
+-- the call receives a message
+abbrev pub IsReceiving : Call → Type 0
+IsReceiving (Send message) = ⊥
+IsReceiving (Receive name limit) = Unit {0}
+IsReceiving (Allocate task right kind) = ⊥
+IsReceiving (GetRefs task name right) = ⊥
+IsReceiving (InsertRight task name right disp) = ⊥
+IsReceiving (ExtractRight task name disp) = ⊥
+IsReceiving (SetQlimit task name limit) = ⊥
+IsReceiving (PortType task name) = ⊥
+IsReceiving (Names task) = ⊥
+IsReceiving (Rename task old new) = ⊥
+
+-- the reply that tells why a call is refused
+abbrev pub refusal_reply : Refusal → model.Reply
+refusal_reply (why.Refused code) = model.Refused code
+refusal_reply (why.Denied denied) = model.DeniedBy denied
+refusal_reply (why.TooLarge size) = model.TooLarge size
+
+-- the refusal with a code, where memory did not run out
+abbrev pub refusal_of : OrMemory Code → OrMemory Refusal
+refusal_of (Fault code) = Fault (why.Refused code)
+refusal_of Memory = Memory
+
+-- the step is refused so; of want of memory nothing is said
+abbrev pub IsNotDone : {A : Type 0} → OrMemory Refusal → model.Try A → Type 0
+IsNotDone (Fault refusal) m = m ≡ Err (refusal_reply refusal)
+IsNotDone Memory m = Unit {0}
+
+-- the step is refused so; memory runs out only where it is not refused, but it may be for want of
+-- room in the space
+abbrev pub IsNotReceived : {A : Type 0} → OrMemory Refusal → model.Try A → Type 0
+IsNotReceived (Fault refusal) m = m ≡ Err (refusal_reply refusal)
+IsNotReceived Memory m = receiving.IsGrantedOrFull m
+
+-- the call is refused so; memory runs out only where it is not refused, if it is judged first, and
+-- where it may be refused for want of room in the space, if it receives
+abbrev pub IsRefusalOf : {A : Type 0} → Call → OrMemory Refusal → model.Try A → Type 0
+IsRefusalOf call (Fault refusal) m = m ≡ Err (refusal_reply refusal)
+IsRefusalOf call Memory m =
+    (IsJudgedFirst call → IsOk m) × (IsReceiving call → receiving.IsGrantedOrFull m)

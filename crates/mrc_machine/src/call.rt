@@ -1,12 +1,32 @@
 //! The calls of the machine.
 
 use mrc_base::{Disp, Right};
+use mrc_desc::Message;
 
-/// A call of a task (Mach 3 Kernel Interfaces, the `mach_port_` calls). `task` is a name of the
-/// caller's space, with a send right to the kernel port of the task that the call acts on; `name`
-/// is a name in that task's space.
-#[derive(Clone, Copy, Debug, PartialEq, Eq)]
+/// A call of a task (Mach 3 Kernel Interfaces, `mach_msg` and the `mach_port_` calls). `task` is a
+/// name of the caller's space, with a send right to the kernel port of the task that the call acts
+/// on; `name` is a name in that task's space.
+#[derive(Debug, Drop)]
 pub enum Call {
+    /// `mach_msg`, MACH_SEND_MSG: sends a message, whose names are the caller's. Answers `Done`.
+    /// Refused, in order: a destination that gives no such right on a live port
+    /// (MACH_SEND_INVALID_DEST); a message that its class does not accept (`Denied`); a reply port
+    /// that gives no such right (MACH_SEND_INVALID_REPLY); name by name of the arguments, one that
+    /// gives no such right (MACH_SEND_INVALID_RIGHT) or a port that its slot does not admit
+    /// (`Denied`); a queue at or above its limit, but for a send-once right (MACH_SEND_TIMED_OUT).
+    Send(Message),
+    /// `mach_msg`, MACH_RCV_MSG and MACH_RCV_LARGE: receives the first message that waits under a
+    /// name of the caller, a receive right or a port set. Of a set it is that of the first member,
+    /// by ascending name, that has one. Answers `Message`. Refused, in order: a name that is
+    /// neither (MACH_RCV_INVALID_NAME); a member of a set (MACH_RCV_IN_SET); no message
+    /// (MACH_RCV_TIMED_OUT); a message of more bytes than the limit (`TooLarge`); a space of the
+    /// caller that would have more than 4,096 entries (PROFILE_NO_SPACE).
+    Receive {
+        /// The name to receive from.
+        name: u32,
+        /// How many bytes the message may have.
+        limit: u32,
+    },
     /// `mach_port_allocate`: a new port, port set or dead name under the least unused name. The
     /// port is of the births of the task that it is made in, of this kind; of a set and of a dead
     /// name the kind is 0. Answers `Name`. Refused, in order: KERN_INVALID_TASK; a send or

@@ -3,6 +3,7 @@
 
 mod allocate;
 mod call;
+mod copies;
 mod extract_right;
 mod first;
 mod get_refs;
@@ -10,8 +11,12 @@ mod holding;
 mod insert_right;
 mod names;
 mod port_type;
+mod receive;
+mod refusal;
 mod rename;
 mod reply;
+mod room;
+mod send;
 mod set_qlimit;
 mod state;
 mod step;
@@ -21,6 +26,7 @@ mod world;
 pub use call::Call;
 pub use holding::Holding;
 pub use reply::Reply;
+pub use room::Room;
 pub use world::World;
 
 #[cfg(test)]

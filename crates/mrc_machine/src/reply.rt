@@ -1,7 +1,8 @@
 //! What the machine answers.
 
-use mrc_model::Code;
+use mrc_model::{Code, Denied};
 use mrc_names::Listing;
+use mrc_transit::Written;
 
 /// What a call answers.
 #[derive(Debug, Drop)]
@@ -16,8 +17,15 @@ pub enum Reply {
     Mask(u32),
     /// Names with their rights, ascending; at most 4,096.
     Names(Listing),
+    /// A received message, as its bytes; at most 8,192.
+    Message(Written),
+    /// The message is larger than the limit, and nothing changed: it stays queued. So many bytes it
+    /// has.
+    TooLarge(u32),
     /// The call was refused, and nothing changed.
     Refused(Code),
+    /// The call was refused by the filter, and nothing changed.
+    Denied(Denied),
     /// The caller is no task, or one that has ended, and nothing changed.
     DeadTask,
 }

@@ -37,9 +37,9 @@ use std::marker::Model;
 /// All tasks, and the store with their spaces and all ports. Each task has a space.
 #[derive(Debug, Drop)]
 pub(crate) struct State {
-    alloc: Global,
+    pub(crate) alloc: Global,
     tasks: Map<Task>,
-    store: Store,
+    pub(crate) store: Store,
 }
 
 impl Model for State {

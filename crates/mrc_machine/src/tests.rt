@@ -54,7 +54,13 @@ fn told(alloc: Global, reply: &Reply) -> Result<String, AllocError> {
         Reply::Refs(refs) => format!(in alloc; "refs {refs}"),
         Reply::Mask(mask) => format!(in alloc; "type {mask}"),
         Reply::Names(listing) => listed(alloc, listing),
+        Reply::Message(bytes) => {
+            let len = bytes.as_slice().len();
+            format!(in alloc; "message of {len}")
+        }
+        Reply::TooLarge(size) => format!(in alloc; "too large {size}"),
         Reply::Refused(code) => format!(in alloc; "{code}"),
+        Reply::Denied(denied) => format!(in alloc; "{denied}"),
         Reply::DeadTask => String::from_str(alloc, "dead task"),
     }
 }

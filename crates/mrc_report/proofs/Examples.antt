@@ -2,11 +2,10 @@
 use Rattle.std.proofs.Common.{◌≡◌, ℕ, List, [], ◌∷◌, ◌++◌, Ok, Err, Some, None, refl}
 use Rattle.std.specs.Prelude.{codes}
 use Rattle.std.specs.Fmt.{digits}
-use Rattle.mrc_base.specs.declared.Right.TheVariants.{Receive}
 use Rattle.mrc_base.specs.declared.Disp.TheVariants.{CopySend}
 use Rattle.mrc_model.specs.declared.Code.TheVariants.{KernNoSpace}
 use Rattle.mrc_model.specs.declared.Denied.TheVariants.{NoSuchId, NotAdmitted}
-use Rattle.mrc_model.specs.Reply.{Done, Names, Bytes, TooLarge, Refused, DeniedBy}
+use Rattle.mrc_model.specs.Reply.{Names, Bytes, TooLarge, Refused, DeniedBy}
 use Rattle.mrc_wiring_text.specs.declared.faults.TextFault.TheVariants.{BadLine}
 use Rattle.mrc_wiring_text.specs.declared.reading.Line.{Line}
 use Rattle.mrc_wiring_text.specs.Lexis.{is_blank, words, between_blanks}
@@ -15,8 +14,10 @@ use Rattle.mrc_wiring.specs.Table.{Table}
 use Rattle.mrc_machine.specs.declared.call.Call.{Call}
 use Rattle.mrc_machine.specs.declared.call.Call.TheVariants as call
 use Rattle.mrc_report.specs.declared.script.TaskCall.{TaskCall}
-use Rattle.mrc_report.specs.Parameters.{number_of_word, right_of_word}
-use Rattle.mrc_report.specs.Calls.{allocate, insert_right, names, call_named, script_says}
+use Rattle.mrc_report.specs.Parameters.{number_of_word, byte_of}
+use Rattle.mrc_report.specs.Parameters.{bytes_of_digits}
+use Rattle.mrc_report.specs.Calls.{insert_right, names, port_call_named, call_named}
+use Rattle.mrc_report.specs.Calls.{script_says}
 use Rattle.mrc_report.specs.Scripts.{script_of}
 use Rattle.mrc_report.specs.Printing.{reply_text, event_line, end_line}
 
@@ -35,7 +36,8 @@ at n task call = record { number = n; says = record { task = task; call = call }
 two_calls : script_of tasks (text (
     codes "l insert_right 2 009 1 19" ∷ [] ∷ codes "f names 1 #" ∷ []))
     ≡ Ok (at 1 0 (call.InsertRight 2 9 1 CopySend) ∷ at 3 1 (call.Names 1) ∷ [])
-unfolding body line_of words between_blanks is_blank script_says call_named insert_right names number_of_word
+unfolding body line_of words between_blanks is_blank script_says call_named
+    port_call_named insert_right names number_of_word
 two_calls = refl
 
 -- a text without words
@@ -46,7 +48,8 @@ nothing = refl
 -- the first wrong line is told
 another_task : script_of tasks (text (codes "f names 1" ∷ codes "g names 1" ∷ codes "f" ∷ []))
     ≡ Err (BadLine 2)
-unfolding body line_of words between_blanks is_blank script_says call_named names number_of_word
+unfolding body line_of words between_blanks is_blank script_says call_named
+    port_call_named names number_of_word
 another_task = refl
 
 -- a number of more than 32 bits, and the last that has no more
@@ -57,6 +60,15 @@ large = refl
 largest : number_of_word (codes "04294967295") ≡ Some 4294967295
 unfolding number_of_word
 largest = refl
+
+-- digits of either case; one that is over spells no byte
+whole_bytes : bytes_of_digits (codes "0aF1") ≡ Some (10 ∷ 241 ∷ [])
+unfolding byte_of
+whole_bytes = refl
+
+half_byte : bytes_of_digits (codes "0aF") ≡ None
+unfolding byte_of
+half_byte = refl
 
 abbrev table : Table
 table = record {

@@ -1,13 +1,12 @@
 -- A whole replay, from the texts to what is printed, by computation: a loader puts its own kernel
 -- port into the space of the task that it loads.
-use Rattle.std.proofs.Common.{◌≡◌, ℕ, List, [], ◌∷◌, ◌++◌, Ok, refl}
+use Rattle.std.proofs.Common.{ℕ, List, [], ◌∷◌, refl}
 use Rattle.std.specs.Prelude.{codes, None}
 use Rattle.std.specs.Fmt.{digits}
 use Rattle.mrc_base.specs.declared.PortRight.TheVariants.{Send}
 use Rattle.mrc_base.specs.declared.Disp.TheVariants.{CopySend}
 use Rattle.mrc_model.specs.declared.FirstLine.TheVariants.{Task, Hold}
 use Rattle.mrc_model.specs.Map.{empty, get, insert, alter_all, len, keys}
-use Rattle.mrc_model.specs.Wiring.{Wiring}
 use Rattle.mrc_model.specs.World.{World}
 use Rattle.mrc_model.specs.Reply.{Call, Done, Names, InsertRight, ListNames}
 use Rattle.mrc_model.specs.Reply.{◌>>=◌, ◌>>◌, check, refuse_if, or_refuse}
@@ -18,7 +17,6 @@ use Rattle.mrc_model.specs.CallNames.{call_names}
 use Rattle.mrc_model.specs.CallInsertRight.{call_insert_right}
 use Rattle.mrc_model.specs.Step.{step}
 use Rattle.mrc_model.specs.First.{first}
-use Rattle.mrc_model.specs.Runs.{Event}
 use Rattle.mrc_wiring_text.specs.declared.reading.Line.{Line}
 use Rattle.mrc_wiring.specs.Table.{Table, wiring_of}
 use Rattle.mrc_machine.specs.declared.call.Call.TheVariants as call

@@ -1,6 +1,6 @@
 -- What a line of a script says: a task of the wiring by its name, a call by Mach's name without
--- `mach_port_`, and the call's parameters in order. One definition a call. The calls are those of
--- Mach 3 Kernel Interfaces; how they are written is this profile's own choice.
+-- `mach_port_`, or `receive`, and the call's parameters in order. One definition a call. The calls
+-- are those of Mach 3 Kernel Interfaces; how they are written is this profile's own choice.
 use Rattle.std.specs.Prelude.{ℕ, bytes_eq, codes, List, [], ◌∷◌, Option, Some, None}
 use Rattle.std.specs.Prelude.{if◌then◌else◌}
 use Rattle.mrc_wiring.specs.Names.{number_of}
@@ -8,9 +8,18 @@ use Rattle.mrc_words.specs.Reading.{◌>>=◌}
 use Rattle.mrc_machine.specs.declared.call.Call.{Call}
 use Rattle.mrc_machine.specs.declared.call.Call.TheVariants.{Allocate, GetRefs, InsertRight}
 use Rattle.mrc_machine.specs.declared.call.Call.TheVariants.{ExtractRight, SetQlimit, PortType}
-use Rattle.mrc_machine.specs.declared.call.Call.TheVariants.{Names, Rename}
+use Rattle.mrc_machine.specs.declared.call.Call.TheVariants.{Names, Rename, Receive, Send}
 use Rattle.mrc_report.specs.declared.script.TaskCall.{TaskCall}
 use Rattle.mrc_report.specs.Parameters.{number_of_word, right_of_word, disp_of_word}
+use Rattle.mrc_report.specs.Parameters.{message_of_words}
+
+-- `receive NAME LIMIT`
+unfoldable pub receive : List (List ℕ) → Option Call
+receive (name ∷ limit ∷ []) = do
+  n ← number_of_word name
+  l ← number_of_word limit
+  Some (Receive n l)
+receive words = None
 
 -- `allocate TASK RIGHT`, of kind 0
 unfoldable pub allocate : List (List ℕ) → Option Call
@@ -81,10 +90,17 @@ rename (task ∷ old ∷ new ∷ []) = do
   Some (Rename t o n)
 rename words = None
 
--- a call by its name, with the words of its parameters
-unfoldable pub call_named : List ℕ → List (List ℕ) → Option Call
-call_named name parameters =
-    if bytes_eq name (codes "allocate") then allocate parameters
+-- `send HEX`, the bytes of the message, where blanks may stand anywhere
+unfoldable pub send : List (List ℕ) → Option Call
+send words = do
+  message ← message_of_words words
+  Some (Send message)
+
+-- a call but sending by its name, with the words of its parameters
+unfoldable pub port_call_named : List ℕ → List (List ℕ) → Option Call
+port_call_named name parameters =
+    if bytes_eq name (codes "receive") then receive parameters
+    else if bytes_eq name (codes "allocate") then allocate parameters
     else if bytes_eq name (codes "get_refs") then get_refs parameters
     else if bytes_eq name (codes "insert_right") then insert_right parameters
     else if bytes_eq name (codes "extract_right") then extract_right parameters
@@ -93,6 +109,11 @@ call_named name parameters =
     else if bytes_eq name (codes "names") then names parameters
     else if bytes_eq name (codes "rename") then rename parameters
     else None
+
+-- a call by its name, with the words of its parameters
+unfoldable pub call_named : List ℕ → List (List ℕ) → Option Call
+call_named name parameters =
+    if bytes_eq name (codes "send") then send parameters else port_call_named name parameters
 
 -- what the words of a line say: the call of a task, which has one of these names
 unfoldable pub script_says : List (List ℕ) → List (List ℕ) → Option TaskCall

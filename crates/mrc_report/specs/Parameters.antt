@@ -1,8 +1,9 @@
 -- The parameters of a call as words of a script: numbers, rights and dispositions. How they are
 -- written is this profile's own choice; the numbers of dispositions are Mach's (Mach 3 Kernel
 -- Interfaces, mach_msg_type_name_t).
-use Rattle.std.specs.Prelude.{ℕ, ◌^◌, ◌&&◌, nat_lt, bytes_eq, codes, List, Option, Some, None}
-use Rattle.std.specs.Prelude.{if◌then◌else◌}
+use Rattle.std.specs.Prelude.{ℕ, ◌+◌, ◌-◌, ◌*◌, ◌^◌, ◌&&◌, nat_lt, nat_le, bytes_eq, codes, List}
+use Rattle.std.specs.Prelude.{[], ◌∷◌, Option, Some, None, if◌then◌else◌, flat_map}
+use Rattle.std.specs.Result.{result_ok}
 use Rattle.mrc_base.specs.declared.Right.{Right}
 use Rattle.mrc_base.specs.declared.Right.TheVariants.{Send, Receive, SendOnce, PortSet, DeadName}
 use Rattle.mrc_base.specs.declared.Disp.{Disp}
@@ -10,6 +11,8 @@ use Rattle.mrc_base.specs.Disposition.{disp_of_number}
 use Rattle.mrc_wiring_text.specs.Lexis.{decimal}
 use Rattle.mrc_wiring_text.specs.Reading.{is_number}
 use Rattle.mrc_words.specs.Reading.{◌>>=◌}
+use Rattle.mrc_model.specs.Message.{Message}
+use Rattle.mrc_desc.specs.Reading.{message_at}
 
 -- the number that decimal digits spell, leading zeros or not, where it has 32 bits
 unfoldable pub number_of_word : List ℕ → Option ℕ
@@ -29,3 +32,33 @@ right_of_word word =
 -- the disposition of a word, by its number: 16 to 21
 abbrev pub disp_of_word : List ℕ → Option Disp
 disp_of_word word = number_of_word word >>= disp_of_number
+
+-- the value of a hexadecimal digit, of either case
+abbrev pub digit_value : ℕ → Option ℕ
+digit_value digit =
+    if nat_le 48 digit && nat_le digit 57 then Some (digit - 48)
+    else if nat_le 97 digit && nat_le digit 102 then Some (digit - 87)
+    else if nat_le 65 digit && nat_le digit 70 then Some (digit - 55)
+    else None
+
+-- the byte that two digits spell
+unfoldable pub byte_of : ℕ → ℕ → Option ℕ
+byte_of high low = do
+  h ← digit_value high
+  l ← digit_value low
+  Some (h * 16 + l)
+
+-- the bytes that digits spell, two digits a byte
+abbrev pub bytes_of_digits : List ℕ → Option (List ℕ)
+bytes_of_digits [] = Some []
+bytes_of_digits (digit ∷ []) = None
+bytes_of_digits (high ∷ low ∷ digits) = do
+  byte ← byte_of high low
+  bytes ← bytes_of_digits digits
+  Some (byte ∷ bytes)
+
+-- the message whose bytes the digits of these words spell, one word after the other
+unfoldable pub message_of_words : List (List ℕ) → Option Message
+message_of_words words = do
+  bytes ← bytes_of_digits (flat_map (λ word. word) words)
+  result_ok (message_at bytes)

@@ -1,18 +1,33 @@
 //! The words of a script's line as the call of a task.
 
-ghost use Rattle.std.specs.Prelude.{◌≡◌, map};
+ghost use Rattle.std.specs.Prelude.{◌≡◌, map, IfOk};
 ghost use Rattle.mrc_wiring.specs.Names.{number_of};
 ghost use Rattle.mrc_report.specs.Calls.{allocate, get_refs, insert_right, extract_right};
 ghost use Rattle.mrc_report.specs.Calls.{set_qlimit, port_type, names, rename, call_named};
+ghost use Rattle.mrc_report.specs.Calls.{receive, send, port_call_named};
 ghost use Rattle.mrc_report.specs.Calls.{script_says};
 
-use crate::parameters::{disp_of_word, number_of_word, right_of_word};
+use crate::parameters::{disp_of_word, message_of_words, number_of_word, right_of_word};
 use crate::script::TaskCall;
 use mrc_base::TaskId;
 use mrc_machine::Call;
 use mrc_wiring::Wired;
 use mrc_wiring_text::is_word;
+use std::alloc::{AllocError, Global};
 use std::str;
+
+#[tactic(auto, unfolding(crate::specs::Calls::receive))]
+fn receive(words: &[&[u8]]) -> Option<Call>
+    ensures { result ≡ receive (map (λ word. word.now) words.now) }
+{
+    match *words {
+        [name, limit] => Some(Call::Receive {
+            name: number_of_word(name)?,
+            limit: number_of_word(limit)?,
+        }),
+        _ => None,
+    }
+}
 
 #[tactic(auto, unfolding(crate::specs::Calls::allocate))]
 fn allocate(words: &[&[u8]]) -> Option<Call>
@@ -124,12 +139,25 @@ fn rename(words: &[&[u8]]) -> Option<Call>
     }
 }
 
-/// A call by its name, with the words of its parameters.
-#[tactic(auto, unfolding(crate::specs::Calls::call_named))]
-fn call_named(name: &[u8], parameters: &[&[u8]]) -> Option<Call>
-    ensures { result ≡ call_named name.now (map (λ word. word.now) parameters.now) }
+/// The message of the words is sent.
+#[tactic(auto, unfolding(crate::specs::Calls::send))]
+fn send(alloc: Global, words: &[&[u8]]) -> Result<Option<Call>, AllocError>
+    ensures { IfOk result (λ call. call ≡ send (map (λ word. word.now) words.now)) }
 {
-    if is_word(name, "allocate") {
+    match message_of_words(alloc, words)? {
+        Some(message) => Ok(Some(Call::Send(message))),
+        None => Ok(None),
+    }
+}
+
+/// A call but sending by its name, with the words of its parameters.
+#[tactic(auto, unfolding(crate::specs::Calls::port_call_named))]
+fn port_call_named(name: &[u8], parameters: &[&[u8]]) -> Option<Call>
+    ensures { result ≡ port_call_named name.now (map (λ word. word.now) parameters.now) }
+{
+    if is_word(name, "receive") {
+        receive(parameters)
+    } else if is_word(name, "allocate") {
         allocate(parameters)
     } else if is_word(name, "get_refs") {
         get_refs(parameters)
@@ -150,6 +178,19 @@ fn call_named(name: &[u8], parameters: &[&[u8]]) -> Option<Call>
     }
 }
 
+/// A call by its name, with the words of its parameters.
+#[tactic(auto, unfolding(crate::specs::Calls::call_named))]
+fn call_named(alloc: Global, name: &[u8], parameters: &[&[u8]]) -> Result<Option<Call>, AllocError>
+    ensures { IfOk result
+        (λ call. call ≡ call_named name.now (map (λ word. word.now) parameters.now)) }
+{
+    if is_word(name, "send") {
+        send(alloc, parameters)
+    } else {
+        Ok(port_call_named(name, parameters))
+    }
+}
+
 /// The wired task of a name.
 fn task_of_word(wired: &Wired, word: &[u8]) -> Option<TaskId>
     ensures { result ≡ number_of wired.now.names word.now }
@@ -163,14 +204,24 @@ fn task_of_word(wired: &Wired, word: &[u8]) -> Option<TaskId>
 
 /// What the words of a line say: the call of a task.
 #[tactic(auto, unfolding(crate::specs::Calls::script_says))]
-pub(crate) fn script_says(wired: &Wired, words: &[&[u8]]) -> Option<TaskCall>
-    ensures { result ≡ script_says wired.now.names (map (λ word. word.now) words.now) }
+pub(crate) fn script_says(
+    alloc: Global,
+    wired: &Wired,
+    words: &[&[u8]],
+) -> Result<Option<TaskCall>, AllocError>
+    ensures { IfOk result
+        (λ says. says ≡ script_says wired.now.names (map (λ word. word.now) words.now)) }
 {
     match *words {
-        [task, name, ref parameters @ ..] => Some(TaskCall {
-            task: task_of_word(wired, task)?,
-            call: call_named(name, parameters)?,
-        }),
-        _ => None,
+        [task, name, ref parameters @ ..] => {
+            let Some(task) = task_of_word(wired, task) else {
+                return Ok(None);
+            };
+            let Some(call) = call_named(alloc, name, parameters)? else {
+                return Ok(None);
+            };
+            Ok(Some(TaskCall { task, call }))
+        }
+        _ => Ok(None),
     }
 }

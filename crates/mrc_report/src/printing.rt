@@ -1,14 +1,15 @@
 //! Events as they are printed.
 
-ghost use Rattle.std.specs.Prelude.{◌≡◌, IfOk, ◌++◌, string_bytes, flat_map, codes};
+ghost use Rattle.std.specs.Prelude.{◌≡◌, ◌<◌, ◌/◌, ◌%◌, IfOk, OnOk, ◌++◌, ◌∷◌, [], string_bytes};
+ghost use Rattle.std.specs.Prelude.{flat_map, codes};
 ghost use Rattle.mrc_names.specs.Listings.{name_of};
 ghost use Rattle.mrc_machine.specs.Calls.{reply_of};
 ghost use Rattle.mrc_report.specs.Printing.{code_word, named_word, reply_text, event_line};
-ghost use Rattle.mrc_report.specs.Printing.{end_line};
+ghost use Rattle.mrc_report.specs.Printing.{end_line, hex_digit, hex, denied_words};
 
 use mrc_base::TaskId;
 use mrc_machine::Reply;
-use mrc_model::Code;
+use mrc_model::{Code, Denied};
 use mrc_names::{Listing, NamedType};
 use mrc_wiring::Wired;
 use mrc_words::task_word;
@@ -59,6 +60,51 @@ fn names_text(alloc: Global, names: &Listing) -> Result<String, AllocError>
     Ok(text)
 }
 
+/// The hexadecimal digit of a number below 16.
+fn hex_digit(number: u8) -> char
+    requires { number < 16 }
+    ensures exact { result ≡ hex_digit number }
+    ensures within { result < 128 }
+{
+    if number < 10 {
+        char::from(48 + number)
+    } else {
+        char::from(87 + number)
+    }
+}
+
+/// Two digits for a byte.
+fn push_byte(text: &mut String, byte: u8) -> Result<(), AllocError>
+    ensures { OnOk result (string_bytes text.new
+        ≡ string_bytes text.old ++ hex_digit (byte / 16) ∷ hex_digit (byte % 16) ∷ []) }
+{
+    text.push(hex_digit(byte / 16))?;
+    text.push(hex_digit(byte % 16))
+}
+
+fn message_text(alloc: Global, bytes: &[u8]) -> Result<String, AllocError>
+    ensures { IfOk result (λ text. string_bytes text ≡ codes "message " ++ hex bytes.now) }
+{
+    let mut text = String::from_str(alloc, "message ")?;
+    for byte in bytes {
+        push_byte(&mut text, *byte)?;
+    }
+    Ok(text)
+}
+
+fn denied_words(alloc: Global, denied: Denied) -> Result<String, AllocError>
+    ensures { IfOk result (λ text. string_bytes text ≡ denied_words denied) }
+{
+    match denied {
+        Denied::NoSuchId => String::from_str(alloc, "NoSuchId"),
+        Denied::WrongShape(argument) => format!(in alloc; "WrongShape {argument}"),
+        Denied::WrongDisposition(argument) => format!(in alloc; "WrongDisposition {argument}"),
+        Denied::ReplySlot => String::from_str(alloc, "ReplySlot"),
+        Denied::NotAdmitted(argument) => format!(in alloc; "NotAdmitted {argument}"),
+        Denied::NotDestroyed => String::from_str(alloc, "NotDestroyed"),
+    }
+}
+
 /// A reply as it is printed.
 pub fn reply_text(alloc: Global, reply: &Reply) -> Result<String, AllocError>
     ensures { IfOk result (λ text. string_bytes text ≡ reply_text (reply_of reply.now)) }
@@ -69,9 +115,15 @@ pub fn reply_text(alloc: Global, reply: &Reply) -> Result<String, AllocError>
         Reply::Refs(refs) => format!(in alloc; "refs {refs}"),
         Reply::Mask(mask) => format!(in alloc; "type {mask}"),
         Reply::Names(names) => names_text(alloc, names),
+        Reply::Message(bytes) => message_text(alloc, bytes.as_slice()),
+        Reply::TooLarge(size) => format!(in alloc; "too large {size}"),
         Reply::Refused(code) => {
             let code = code_word(*code);
             format!(in alloc; "refused {code}")
+        }
+        Reply::Denied(denied) => {
+            let denied = denied_words(alloc, *denied)?;
+            format!(in alloc; "denied {denied}")
         }
         Reply::DeadTask => String::from_str(alloc, "dead task"),
     }

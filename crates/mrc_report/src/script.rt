@@ -81,7 +81,7 @@ fn line_of(
     if said.is_empty() {
         return Ok(None);
     }
-    match script_says(wired, &said) {
+    match script_says(alloc, wired, &said)? {
         Some(says) => Ok(Some(says)),
         None => Err(OrMemory::Fault(ScriptFault::BadLine(number))),
     }

@@ -4,7 +4,7 @@ use super::{script, two_tasks};
 use crate::{code_word, end_line, event_line, replay, reply_text};
 use mrc_base::TaskId;
 use mrc_machine::Reply;
-use mrc_model::Code;
+use mrc_model::{Code, Denied};
 use std::alloc::Global;
 use std::test::Fail;
 
@@ -15,10 +15,23 @@ fn replies(rt: HostRuntime) -> Result<(), Fail> {
         (Reply::Name(4_294_967_295), "name 4294967295"),
         (Reply::Refs(0), "refs 0"),
         (Reply::Mask(196_608), "type 196608"),
+        (Reply::TooLarge(8_192), "too large 8192"),
         (
             Reply::Refused(Code::KernRightExists),
             "refused KERN_RIGHT_EXISTS",
         ),
+        (Reply::Denied(Denied::NoSuchId), "denied NoSuchId"),
+        (Reply::Denied(Denied::WrongShape(1)), "denied WrongShape 1"),
+        (
+            Reply::Denied(Denied::WrongDisposition(31)),
+            "denied WrongDisposition 31",
+        ),
+        (Reply::Denied(Denied::ReplySlot), "denied ReplySlot"),
+        (
+            Reply::Denied(Denied::NotAdmitted(0)),
+            "denied NotAdmitted 0",
+        ),
+        (Reply::Denied(Denied::NotDestroyed), "denied NotDestroyed"),
         (Reply::DeadTask, "dead task"),
     ];
     for (reply, want) in table {

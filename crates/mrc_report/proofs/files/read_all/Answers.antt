@@ -1,4 +1,4 @@
-use Rattle.std.proofs.Common.{rules, arith, ◌≡◌, ◌+◌, ◌≤◌, length, vec_len}
+use Rattle.std.proofs.Common.{rules, arith, ◌≡◌, ◌+◌, length, vec_len}
 use Rattle.std.proofs.lemmas.List.{length-take}
 use Rattle.mrc_report.proofs.FileLemmas.{loses_one_more}
 use Rattle.mrc_report.proofs.files.read_all.Goals as goal

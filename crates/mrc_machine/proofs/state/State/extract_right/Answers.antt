@@ -6,7 +6,7 @@ use Rattle.mrc_names.specs.Takes.{take_right}
 use Rattle.mrc_names.proofs.Granting.{wanting}
 use Rattle.mrc_machine.proofs.MoveLaws.{extract_no_task, extract_not_taken, extract_full}
 use Rattle.mrc_machine.proofs.MoveLaws.{extract_not_given, extract_given, extract_room}
-use Rattle.mrc_machine.proofs.MoveLaws.{port_of_taken}
+use Rattle.mrc_names.proofs.SpaceExits.{port_of_taken}
 use Rattle.mrc_machine.proofs.state.State.extract_right.Goals as goal
 
 pub returns-in_default-clause-refused : goal.returns-in_default-clause-refused

@@ -1,13 +1,11 @@
 use Rattle.std.proofs.Common.{sym, ap, ◌∙◌, subst}
 use Rattle.mrc_model.specs.Map.{get}
 use Rattle.mrc_model.specs.World.{World}
-use Rattle.mrc_model.specs.Reply.{Refused}
 use Rattle.mrc_model.specs.Target.{is_alive}
 use Rattle.mrc_model.specs.Step.{step, try_call}
 use Rattle.mrc_model.specs.Covers.{HasSpaces}
-use Rattle.mrc_names.specs.Refusals.{IsRefusal}
 use Rattle.mrc_wiring.specs.Table.{wiring_of}
-use Rattle.mrc_machine.specs.Calls.{call_of}
+use Rattle.mrc_machine.specs.Calls.{call_of, refusal_reply, IsRefusalOf}
 use Rattle.mrc_machine.proofs.StepLaws.{step_dead, step_done, step_refused, spaces_after}
 use Rattle.mrc_machine.proofs.world.World.step.Goals.{in-Ok, in-Err-Fault, in-Err-Memory}
 use Rattle.mrc_machine.proofs.world.World.step.Goals as goal
@@ -41,10 +39,14 @@ returns-clause-step c =
           (sym c.self.view_is)
           ∙ step_done W was c.args.caller call alive _ _ w.in-Ok.ensures.ok)
       | in-Err-Fault w ↦
-          let refused = subst (λ e. IsRefusal e (try_call W was c.args.caller call))
+          let refused = subst
+          (λ e. IsRefusalOf c.args.call.now e (try_call W was c.args.caller call))
           w.in-Err-Fault.field-0-is w.in-Err-Fault.ensures.refused in
           rw w.result-is (ap (λ (v : World). step W v c.args.caller call) (sym c.self.view_is)
-          ∙ step_refused W was c.args.caller call alive w.in-Err-Fault.code refused
-          ∙ ap (λ (v : World). (v, Refused w.in-Err-Fault.code)) (sym w.in-Err-Fault.ensures.err))
+          ∙ step_refused W was c.args.caller call alive (refusal_reply w.in-Err-Fault.refusal)
+          refused
+          ∙ ap (λ (v : World). (v, refusal_reply w.in-Err-Fault.refusal))
+          (sym w.in-Err-Fault.ensures.err)
+          ∙ ap (λ e. (c.call.new.self, e)) (sym w.reply.ensures.exact))
       | in-Err-Memory w ↦ rw w.result-is tt
     ]
