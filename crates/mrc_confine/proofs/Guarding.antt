@@ -1,0 +1,55 @@
+-- The first world of an accepted case is guarded, and each call keeps it so.
+use Rattle.std.proofs.Common.{◌≡◌, IfOk, IsTrue, OnErr, Result, Ok, Err, subst, sym, ℕ}
+use Rattle.mrc_check.specs.Verdict.{Case, IsAccepted}
+use Rattle.mrc_classes.specs.Sets.{has}
+use Rattle.mrc_confine.specs.Guards.{IsGuarded, wiring_in}
+use Rattle.mrc_cover.proofs.Laws.{covered_is_safe, first_is_covered, step_is_covered}
+use Rattle.mrc_model.specs.Covers.{Covers, IsWellFormed}
+use Rattle.mrc_model.specs.First.{first, is_sound}
+use Rattle.mrc_model.specs.Reply.{Call, Reply}
+use Rattle.mrc_model.specs.Rules.{Has}
+use Rattle.mrc_model.specs.Step.{step}
+use Rattle.mrc_model.specs.Wiring.{numbers_of}
+use Rattle.mrc_model.specs.World.{World}
+use Rattle.mrc_wiring.specs.Claims.{policy_of}
+
+-- a well formed world that the draft's facts cover has no breach
+covered_is_guarded : (case : Case) → IsAccepted case.claim case.draft → (w : World)
+    → IsWellFormed (numbers_of (wiring_in case)) w → Covers (Has (has case.draft.facts)) w
+    → IsGuarded case w
+covered_is_guarded case accepted w formed covered = record {
+  well_formed = formed;
+  covered = covered;
+  safe =
+      covered_is_safe (wiring_in case) (has case.draft.facts) accepted.yes.closed
+      (policy_of case.claim) accepted.yes.allowed w formed covered;
+}
+
+-- the first world
+pub first_is_guarded : (case : Case) → IsTrue (is_sound (wiring_in case))
+    → IsAccepted case.claim case.draft → IsGuarded case (first (wiring_in case))
+first_is_guarded case sound accepted =
+    let begin = first_is_covered (wiring_in case) sound in
+    covered_is_guarded case accepted (first (wiring_in case)) begin.0
+    (begin.1 (has case.draft.facts) accepted.yes.closed)
+
+-- each further one
+step_is_guarded : (case : Case) → IsAccepted case.claim case.draft
+    → (w : World) (t : ℕ) (call : Call) → IsGuarded case w
+    → IsGuarded case (step (wiring_in case) w t call).0
+step_is_guarded case accepted w t call guarded =
+    let next =
+    step_is_covered (wiring_in case) (has case.draft.facts) accepted.yes.closed w t call
+    guarded.well_formed guarded.covered in
+    covered_is_guarded case accepted (step (wiring_in case) w t call).0 next.0 next.1
+
+-- and so what a step answers, whether or not memory ran out
+pub answer_is_guarded : {R E : Type 0} (case : Case) → IsAccepted case.claim case.draft
+    → (v w : World) (t : ℕ) (call : Call) (told : R → Reply) (answer : Result R E)
+    → IfOk answer (λ reply. step (wiring_in case) v t call ≡ (w, told reply))
+    → OnErr answer (w ≡ v) → IsGuarded case v → IsGuarded case w
+answer_is_guarded case accepted v w t call told (Ok reply) is same guarded =
+    subst (λ (end : World × Reply). IsGuarded case end.0) is
+    (step_is_guarded case accepted v t call guarded)
+answer_is_guarded case accepted v w t call told (Err e) is same guarded =
+    subst (λ (end : World). IsGuarded case end) (sym same) guarded

@@ -1,0 +1,94 @@
+//! The machine that runs what was checked.
+
+ghost use Rattle.std.specs.Prelude.{◌≡◌, IfOk, IfErr, OnErr};
+ghost use Rattle.mrc_model.specs.Step.{step};
+ghost use Rattle.mrc_machine.specs.Calls.{call_of, reply_of, IsRefused, IsGranted};
+ghost use Rattle.mrc_machine.specs.Calls.{IsJudgedFirst, IsReceiving, IsGrantedOrFull};
+ghost use Rattle.mrc_confine.specs.Safety.{IsSafe};
+ghost use Rattle.mrc_confine.specs.Guards.{IsGuarded, started, wiring_in};
+
+use mrc_base::TaskId;
+use mrc_check::Confined;
+use mrc_machine::{Call, Reply, World};
+use std::alloc::{AllocError, Global};
+use std::marker::Model;
+
+/// The machine of an accepted case, and the case. At all times the accepted facts cover its world,
+/// and the world has no breach of the policy.
+#[derive(Debug, Drop)]
+pub struct Guarded {
+    confined: Confined,
+    world: World,
+}
+
+impl Model for Guarded {
+    ghost use Rattle.mrc_confine.specs.Guards.{Guard, IsGuarded};
+
+    ghost Value = { Guard };
+
+    ghost view = { λ g. record { confined = g.confined; world = g.world } };
+
+    ghost invariant = { λ g. IsGuarded g.confined g.world };
+}
+
+impl Guarded {
+    /// The machine in the first state of the wiring that was checked. Where memory runs out, what
+    /// was checked comes back.
+    pub fn start(alloc: Global, confined: Confined) -> Result<Guarded, Confined>
+        // Whether or not it starts: every list of calls from the first state, by tasks in any order
+        // and with any arguments, ends in a world that the accepted facts cover and that has no
+        // breach of the policy.
+        ensures safe { IsSafe confined }
+        ensures ok { IfOk result (λ guarded. guarded ≡ started confined) }
+        ensures returned { IfErr result (λ back. back ≡ confined) }
+    {
+        let _tasks = confined.wired().tasks();
+        match World::first(alloc, confined.wired()) {
+            Ok(world) => Ok(Guarded { confined, world }),
+            Err(_) => Err(confined),
+        }
+    }
+
+    /// One call of a task, made whole: the reply, with the world as the call leaves it. A reply
+    /// that is a refusal leaves it as it was, and so does want of memory, which is told only where
+    /// the call is not refused; but for sending, which takes memory to be judged, and for receiving,
+    /// where the space might have no room for what is received.
+    pub fn step(&mut self, caller: TaskId, call: &Call) -> Result<Reply, AllocError>
+        ensures step { IfOk result (λ reply.
+            step (wiring_in self.old.confined) self.old.world caller (call_of call.now)
+            ≡ (self.new.world, reply_of reply)) }
+        ensures confined { self.new.confined ≡ self.old.confined }
+        ensures refused { IfOk result (λ reply. IsRefused reply → self.new ≡ self.old) }
+        ensures err { OnErr result (self.new ≡ self.old) }
+        ensures last { OnErr result (IsJudgedFirst call.now → IsGranted
+            (wiring_in self.old.confined) self.old.world caller (call_of call.now)) }
+        ensures full { OnErr result (IsReceiving call.now → IsGrantedOrFull
+            (wiring_in self.old.confined) self.old.world caller (call_of call.now)) }
+    {
+        self.world.step(self.confined.wired(), caller, call)
+    }
+
+    /// The world that the machine has come to.
+    pub fn world(&self) -> &World
+        ensures exact { result.now ≡ self.now.world }
+        // It is well formed, the accepted facts cover it, and it has no breach of the policy.
+        ensures kept { IsGuarded self.now.confined self.now.world }
+    {
+        &self.world
+    }
+
+    /// What was checked.
+    pub fn confined(&self) -> &Confined
+        ensures { result.now ≡ self.now.confined }
+    {
+        &self.confined
+    }
+
+    /// What was checked, by itself.
+    pub fn into_confined(self) -> Confined
+        ensures { result ≡ self.confined }
+    {
+        let Guarded { confined, world: _ } = self;
+        confined
+    }
+}
