@@ -1,0 +1,5 @@
+use Rattle.mrc_live.proofs.Following.{beginning}
+use Rattle.mrc_live.proofs.finishing.beginnings.Goals as goal
+
+pub returns : goal.returns
+returns c = λ number. beginning 256 number

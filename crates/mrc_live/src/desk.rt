@@ -1,0 +1,253 @@
+//! What lies under the lock.
+
+ghost use Rattle.std.specs.Prelude.{◌≡◌, ◌↔◌, ◌<◌, ◌≤◌, [], ◌∷◌, ◌++◌, IfOk, IfErr, IfSome, IfNone};
+ghost use Rattle.std.specs.Prelude.{OnErr, OnOk, length, Err, vec_len, vec_capacity};
+ghost use Rattle.mrc_confine.specs.Guards.{wiring_in};
+ghost use Rattle.mrc_live.specs.declared.desk.NotTaken.TheVariants.{JournalFull};
+ghost use Rattle.mrc_live.specs.Desks.{desk_after, seat_after, call_in, fresh, opened};
+ghost use Rattle.mrc_live.specs.Runs.{IsJournal, reply_to, world_after};
+ghost use Rattle.mrc_machine.specs.Calls.{reply_of};
+ghost use Rattle.mrc_model.specs.First.{first};
+
+use crate::event::{Event, Journal, Made};
+use crate::seat::Seat;
+use mrc_base::TaskId;
+use mrc_check::Confined;
+use mrc_confine::Guarded;
+use mrc_machine::{Call, Reply, Room};
+use std::alloc::{AllocError, Global};
+use std::marker::Model;
+use std::sync::ledger::{Blank, Book, Ledger, Share};
+
+/// The most seats of a server.
+pub(crate) const MOST_SEATS: u32 = 256;
+
+/// The guarded machine with its journal. The book's total is the number of events, so it is what
+/// the shares of all seats add up to.
+#[derive(Drop)]
+pub struct Desk<L: Ledger> {
+    alloc: Global,
+    guarded: Guarded,
+    events: Vec<Event>,
+    limit: usize,
+    made: u32,
+    book: Book<L>,
+    left: Share<L>,
+}
+
+impl<L: Ledger> Model for Desk<L> {
+    ghost use Rattle.std.specs.Prelude.{◌≡◌};
+    ghost use Rattle.mrc_live.specs.Desks.{DeskState, IsKept};
+
+    ghost Value = { DeskState };
+
+    ghost view = { λ d. record {
+      confined = d.guarded.confined;
+      world = d.guarded.world;
+      events = d.events.items;
+      limit = d.limit;
+      made = d.made;
+      total = d.book.total;
+      left = d.left.parts;
+    } };
+
+    ghost invariant = { λ d.
+        IsKept d.guarded d.events.items d.limit d.made d.book.total d.left.parts
+        × (d.left.amount ≡ 0) };
+}
+
+/// Why a call was not taken, with the call.
+#[derive(Debug, Drop)]
+pub enum NotTaken {
+    /// The journal has as many events as it may have.
+    JournalFull(Call),
+    /// Want of memory.
+    Memory(Call),
+}
+
+/// All that a call with its event needs: a copy of the call, and two rooms for copies of the reply.
+#[derive(Drop)]
+struct Rooms {
+    copy: Call,
+    ours: Room,
+    theirs: Room,
+}
+
+/// Makes room for an event, for a seat's call, and for what they hold. The spare places are named
+/// by these clauses alone: a model of the desk or of the seat does not speak of them, so this is a
+/// function over the fields.
+fn make_ready(
+    alloc: Global,
+    events: &mut Vec<Event>,
+    calls: &mut Vec<Made>,
+    call: &Call,
+) -> Result<Rooms, AllocError>
+    ensures events { events.new.items ≡ events.old.items }
+    ensures calls { calls.new.items ≡ calls.old.items }
+    ensures copy { IfOk result (λ r. r.copy ≡ call.now) }
+    ensures event_room { OnOk result (vec_len events.new < vec_capacity events.new) }
+    ensures call_room { OnOk result (vec_len calls.new < vec_capacity calls.new) }
+{
+    let copy = call.copy(alloc)?;
+    let ours = Room::new(alloc)?;
+    let theirs = Room::new(alloc)?;
+    events.reserve(1)?;
+    calls.reserve(1)?;
+    Ok(Rooms { copy, ours, theirs })
+}
+
+/// One step of the machine, by the world and the reply that it gives.
+fn step(guarded: &mut Guarded, task: TaskId, call: &Call) -> Result<Reply, AllocError>
+    ensures reply { IfOk result (λ r.
+        reply_of r ≡ reply_to guarded.old.confined guarded.old.world task call.now) }
+    ensures world { IfOk result (λ _.
+        guarded.new.world ≡ world_after guarded.old.confined guarded.old.world task call.now) }
+    ensures confined { guarded.new.confined ≡ guarded.old.confined }
+    ensures err { OnErr result (guarded.new ≡ guarded.old) }
+{
+    guarded.step(task, call)
+}
+
+/// Writes the event and the seat's call into the places that were made for them. It takes no
+/// memory.
+fn note(
+    events: &mut Vec<Event>,
+    calls: &mut Vec<Made>,
+    rooms: Rooms,
+    seat: u32,
+    task: TaskId,
+    call: Call,
+    reply: &Reply,
+)
+    requires event_room { vec_len events.old < vec_capacity events.old }
+    requires call_room { vec_len calls.old < vec_capacity calls.old }
+    requires copy { rooms.copy ≡ call }
+    ensures events { events.new.items ≡ events.old.items
+        ++ record { seat = seat; task = task; call = call; reply = reply.now } ∷ [] }
+    ensures calls { calls.new.items ≡ calls.old.items
+        ++ record { call = call; reply = reply.now } ∷ [] }
+{
+    let Rooms { copy, ours, theirs } = rooms;
+    events.push_reserved(Event {
+        seat,
+        task,
+        call: copy,
+        reply: reply.fill(ours),
+    });
+    calls.push_reserved(Made {
+        call,
+        reply: reply.fill(theirs),
+    });
+}
+
+impl<L: Ledger> Desk<L> {
+    /// Begins with a machine in its first state, and an empty journal.
+    pub(crate) fn new(alloc: Global, guarded: Guarded, limit: usize, blank: Blank) -> Desk<L>
+        requires limit { (1 ≤ limit) × (limit ≤ 1000000) }
+        requires name { blank.name ≡ L.name }
+        requires parts { (blank.parts ≡ L.parts) × (L.parts ≡ 257) }
+        requires first { guarded.world ≡ first (wiring_in guarded.confined) }
+        ensures { result ≡ opened guarded limit }
+    {
+        let (book, left) = blank.open::<L>();
+        Desk {
+            alloc,
+            guarded,
+            events: Vec::new(alloc),
+            limit,
+            made: 0,
+            book,
+            left,
+        }
+    }
+
+    /// Makes a seat, where there are fewer than 256.
+    pub(crate) fn seat(&mut self, task: TaskId) -> Option<Seat<L>>
+        ensures some { IfSome result (λ s. (s ≡ fresh self.old.made task) × (s.number < 256)) }
+        ensures none { IfNone result ((self.new ≡ self.old) × (self.old.made ≡ 256)) }
+    {
+        if self.made >= MOST_SEATS {
+            return None;
+        }
+        let share = self.left.split_off(1, 0);
+        let number = self.made;
+        self.made += 1;
+        Some(Seat {
+            number,
+            task,
+            calls: Vec::new(self.alloc),
+            share,
+        })
+    }
+
+    /// One call of a seat: one step of the machine, and one event. The call comes back where the
+    /// journal is full and where memory runs out.
+    pub fn take(&mut self, seat: &mut Seat<L>, call: Call) -> Result<Reply, NotTaken>
+        ensures reply { IfOk result (λ r.
+            reply_of r ≡ reply_to self.old.confined self.old.world seat.old.task call) }
+        ensures desk { IfOk result (λ r. self.new ≡ desk_after self.old seat.old call r) }
+        ensures seat { IfOk result (λ r. seat.new ≡ seat_after seat.old call r) }
+        ensures full { (result ≡ Err (JournalFull call))
+            ↔ (length self.old.events ≡ self.old.limit) }
+        ensures returned { IfErr result (λ fault. call_in fault ≡ call) }
+        ensures err { OnErr result ((self.new ≡ self.old) × (seat.new ≡ seat.old)) }
+    {
+        if self.events.len() >= self.limit {
+            return Err(NotTaken::JournalFull(call));
+        }
+        let Ok(rooms) = make_ready(self.alloc, &mut self.events, &mut seat.calls, &call) else {
+            return Err(NotTaken::Memory(call));
+        };
+        let Ok(reply) = step(&mut self.guarded, seat.task, &call) else {
+            return Err(NotTaken::Memory(call));
+        };
+        self.book.add(&mut seat.share, 1);
+        let (number, task) = (seat.number, seat.task);
+        note(
+            &mut self.events,
+            &mut seat.calls,
+            rooms,
+            number,
+            task,
+            call,
+            &reply,
+        );
+        Ok(reply)
+    }
+
+    /// The number of seats made.
+    pub(crate) fn made(&self) -> u32
+        ensures made { result ≡ self.now.made }
+        ensures few { self.now.made ≤ 256 }
+    {
+        self.made
+    }
+
+    /// The events so far.
+    pub fn events(&self) -> &[Event]
+        ensures { result.now ≡ self.now.events }
+    {
+        self.events.as_slice()
+    }
+
+    /// What the machine runs.
+    pub fn confined(&self) -> &Confined
+        ensures { result.now ≡ self.now.confined }
+    {
+        self.guarded.confined()
+    }
+
+    /// The journal and the machine.
+    pub(crate) fn into_parts(self) -> (Journal, Guarded)
+        ensures journal { result.0 ≡ self.events }
+        ensures confined { result.1.confined ≡ self.confined }
+        ensures run { IsJournal self.confined result.0 result.1.world }
+    {
+        let Desk {
+            guarded,
+            events,
+            ..
+        } = self;
+        (Journal { events }, guarded)
+    }
+}

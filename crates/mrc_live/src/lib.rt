@@ -1,0 +1,17 @@
+//! The server of task threads: one locked machine with a journal, and a seat for each thread.
+#![tactic(auto)]
+
+mod desk;
+mod event;
+mod finishing;
+mod live;
+mod seat;
+
+pub use desk::{Desk, NotTaken};
+pub use event::{Event, Journal, Made};
+pub use finishing::Why;
+pub use live::{Live, NotSeated, Unfinished};
+pub use seat::Seat;
+
+#[cfg(test)]
+mod tests;

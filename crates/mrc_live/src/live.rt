@@ -1,0 +1,138 @@
+//! The server.
+
+ghost use Rattle.std.specs.Prelude.{◌≡◌, ◌↔◌, ◌<◌, ◌≤◌, IfOk, IfErr, OnErr, OnOk, Err};
+ghost use Rattle.mrc_confine.specs.Guards.{wiring_in};
+ghost use Rattle.mrc_live.specs.declared.live.NotSeated.TheVariants.{NoSuchTask};
+ghost use Rattle.mrc_live.specs.Desks.{seat_after, call_in, fresh};
+ghost use Rattle.mrc_live.specs.Runs.{IsJournal};
+ghost use Rattle.mrc_live.specs.Parts.{AllAreSeated, AreApart, EachIsItsPart};
+ghost use Rattle.mrc_model.specs.First.{first};
+
+use crate::desk::{Desk, NotTaken};
+use crate::event::Journal;
+use crate::finishing::{Why, judge};
+use crate::seat::Seat;
+use mrc_base::TaskId;
+use mrc_check::Confined;
+use mrc_confine::Guarded;
+use mrc_machine::{Call, Reply};
+use std::alloc::Global;
+use std::marker::Model;
+use std::sync::ledger::{Blank, Ledger};
+use std::sync::{Mutex, Wait};
+
+/// A machine behind a lock. Contracts see what was checked, as it was handed in.
+#[derive(Drop)]
+pub struct Live<L: Ledger> {
+    desk: Mutex<Desk<L>>,
+    confined: Confined,
+}
+
+impl<L: Ledger> Model for Live<L> {
+    ghost use Rattle.mrc_check.specs.Verdict.{Case};
+
+    ghost Value = { Case };
+
+    ghost view = { λ l. l.confined };
+}
+
+/// Why there is no seat.
+#[derive(Clone, Copy, Debug, PartialEq, Eq)]
+pub enum NotSeated {
+    /// The system has no task of that number.
+    NoSuchTask,
+    /// There are 256 seats.
+    TooManySeats,
+}
+
+impl<L: Ledger> Live<L> {
+    /// Puts a machine in its first state behind a lock. Where memory runs out the machine comes
+    /// back.
+    pub fn new(
+        alloc: Global,
+        guarded: Guarded,
+        limit: usize,
+        blank: Blank,
+    ) -> Result<Live<L>, Guarded>
+        requires limit { (1 ≤ limit) × (limit ≤ 1000000) }
+        requires name { blank.name ≡ L.name }
+        requires parts { (blank.parts ≡ L.parts) × (L.parts ≡ 257) }
+        requires first { guarded.world ≡ first (wiring_in guarded.confined) }
+        ensures ok { IfOk result (λ live. live ≡ guarded.confined) }
+        ensures returned { IfErr result (λ back. back ≡ guarded) }
+    {
+        let Ok(confined) = guarded.confined().copy(alloc) else {
+            return Err(guarded);
+        };
+        Ok(Live {
+            desk: Mutex::new(Desk::new(alloc, guarded, limit, blank)),
+            confined,
+        })
+    }
+
+    /// What was checked, as it was handed in.
+    pub fn confined(&self) -> &Confined
+        ensures { result.now ≡ self.now }
+    {
+        &self.confined
+    }
+
+    /// A seat for a task.
+    pub fn seat<R: Wait>(&self, rt: &R, task: TaskId) -> Result<Seat<L>, NotSeated>
+        ensures ok { IfOk result (λ s. (s ≡ fresh s.number task) × (s.number < 256)) }
+        ensures no_such_task { (result ≡ Err NoSuchTask) ↔ ((wiring_in self.now).tasks ≤ task) }
+    {
+        if task.0 >= u32::from(self.confined.wired().tasks()) {
+            return Err(NotSeated::NoSuchTask);
+        }
+        match self.desk.lock(rt).seat(task) {
+            Some(seat) => Ok(seat),
+            None => Err(NotSeated::TooManySeats),
+        }
+    }
+
+    /// One call of a seat, as one event. The call comes back with a refusal.
+    pub fn call<R: Wait>(&self, rt: &R, seat: &mut Seat<L>, call: Call) -> Result<Reply, NotTaken>
+        ensures ok { IfOk result (λ r. seat.new ≡ seat_after seat.old call r) }
+        ensures returned { IfErr result (λ fault. call_in fault ≡ call) }
+        ensures err { OnErr result (seat.new ≡ seat.old) }
+    {
+        self.desk.lock(rt).take(seat, call)
+    }
+
+    /// Ends the server, once the threads have returned: each seat's calls and replies stand in the
+    /// journal in their order, each once, and no others. With a refusal all comes back.
+    pub fn finish(self, seats: Vec<Seat<L>>) -> Result<(Journal, Guarded), Unfinished<L>>
+        ensures run { IfOk result (λ r. IsJournal self r.0 r.1.world) }
+        ensures confined { IfOk result (λ r. r.1.confined ≡ self) }
+        ensures parts { IfOk result (λ r. EachIsItsPart seats.items r.0) }
+        ensures owners { IfOk result (λ r. AllAreSeated seats.items r.0) }
+        ensures apart { OnOk result (AreApart seats.items) }
+        ensures returned { IfErr result (λ f. (f.live ≡ self) × (f.seats.items ≡ seats.items)) }
+    {
+        let Live { desk, confined } = self;
+        let desk = desk.into_inner();
+        match judge(&desk, &confined, seats.as_slice()) {
+            None => Ok(desk.into_parts()),
+            Some(why) => Err(Unfinished {
+                why,
+                live: Live {
+                    desk: Mutex::new(desk),
+                    confined,
+                },
+                seats,
+            }),
+        }
+    }
+}
+
+/// A server that was not finished, with the seats that were handed in.
+#[derive(Drop)]
+pub struct Unfinished<L: Ledger> {
+    /// Why.
+    pub why: Why,
+    /// The server.
+    pub live: Live<L>,
+    /// The seats.
+    pub seats: Vec<Seat<L>>,
+}

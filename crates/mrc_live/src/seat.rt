@@ -1,0 +1,59 @@
+//! Seats.
+
+ghost use Rattle.std.specs.Prelude.{◌≡◌};
+ghost use Rattle.mrc_live.specs.Desks.{SeatState};
+
+use crate::event::Made;
+use mrc_base::TaskId;
+use std::marker::Model;
+use std::sync::ledger::{Ledger, Share};
+
+/// A task's place at the server. It keeps its own calls with their replies, and one part of the
+/// ledger, whose amount is the number of them: without the book, which is under the lock, no call
+/// can be added.
+#[derive(Drop)]
+pub struct Seat<L: Ledger> {
+    pub(crate) number: u32,
+    pub(crate) task: TaskId,
+    pub(crate) calls: Vec<Made>,
+    pub(crate) share: Share<L>,
+}
+
+impl<L: Ledger> Model for Seat<L> {
+    ghost use Rattle.std.specs.Prelude.{◌≡◌, vec_len};
+    ghost use Rattle.mrc_live.specs.Desks.{SeatState};
+
+    ghost Value = { SeatState };
+
+    ghost view = { λ s. record {
+      number = s.number;
+      task = s.task;
+      calls = s.calls.items;
+      share = s.share.amount;
+    } };
+
+    ghost invariant = { λ s. (s.share.parts ≡ 1) × (s.share.amount ≡ vec_len s.calls) };
+}
+
+impl<L: Ledger> Seat<L> {
+    /// Its number at its server.
+    pub fn number(&self) -> u32
+        ensures { result ≡ self.now.number }
+    {
+        self.number
+    }
+
+    /// Its task.
+    pub fn task(&self) -> TaskId
+        ensures { result ≡ self.now.task }
+    {
+        self.task
+    }
+
+    /// Its calls with their replies, in order.
+    pub fn calls(&self) -> &[Made]
+        ensures { result.now ≡ self.now.calls }
+    {
+        self.calls.as_slice()
+    }
+}
