@@ -1,0 +1,48 @@
+/* Refuses the allocation whose number, from 1, stands in REFUSE, and with ALL_AFTER each one after it, and writes how
+ * many were asked for to the file that COUNT names. It is loaded before the C library, so that malloc and realloc are
+ * these. */
+#define _GNU_SOURCE
+#include <dlfcn.h>
+#include <stdio.h>
+#include <stdlib.h>
+
+static unsigned long asked;
+static unsigned long refused;
+static int all_after;
+static int begun;
+
+__attribute__((constructor)) static void begin(void) {
+    const char *word = getenv("REFUSE");
+    refused = word ? strtoul(word, NULL, 10) : 0;
+    all_after = getenv("ALL_AFTER") != NULL;
+    asked = 0;
+    begun = 1;
+}
+
+static int is_refused(void) {
+    if (!begun) return 0;
+    asked++;
+    return refused && (asked == refused || (all_after && asked > refused));
+}
+
+void *malloc(size_t size) {
+    static void *(*real)(size_t);
+    if (!real) real = dlsym(RTLD_NEXT, "malloc");
+    return is_refused() ? NULL : real(size);
+}
+
+void *realloc(void *old, size_t size) {
+    static void *(*real)(void *, size_t);
+    if (!real) real = dlsym(RTLD_NEXT, "realloc");
+    return is_refused() ? NULL : real(old, size);
+}
+
+__attribute__((destructor)) static void end(void) {
+    unsigned long all = asked;
+    const char *name = getenv("COUNT");
+    begun = 0;
+    FILE *file = name ? fopen(name, "w") : NULL;
+    if (!file) return;
+    fprintf(file, "%lu\n", all);
+    fclose(file);
+}
