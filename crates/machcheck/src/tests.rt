@@ -742,7 +742,7 @@ fn faults_of_replays(rt: HostRuntime) -> Result<(), Fail> {
     let wrong = Ok(b"wiring 1\ntask".as_slice());
     let unknown = Ok(b"wiring 1\nhold a send task a".as_slice());
     let no_text = Ok(b"a names 1\na \xff\nb".as_slice());
-    let bad = Ok(b"a names 1\n\na receive 1 24\nb names 1\n".as_slice());
+    let bad = Ok(b"a names 1\n\na wait 1 24\nb names 1\n".as_slice());
     let denied = Err(ErrorKind::PermissionDenied);
     let full = Err(ErrorKind::OutOfMemory);
     for (wiring, script, want, order) in [
