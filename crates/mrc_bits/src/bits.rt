@@ -1,0 +1,99 @@
+//! Rows of bits, in words of 64.
+ghost use Rattle.std.specs.Prelude.{◌≡◌, ℕ, ◌*◌, ◌+◌, ◌^◌, ◌<◌, ◌≤◌, ◌==◌, ◌||◌, ◌&&◌, length, slice_index, false, not, IfSome, IfNone};
+ghost use Rattle.std.specs.Int.{bit_at};
+ghost use Rattle.mrc_bits.specs.Bits.{is_set, is_fresh, IsNextBit, IsNextFresh, IsNextIn, NoneIn};
+
+/// Whether the bit is set.
+pub fn has_bit(words: &[u64], i: usize) -> bool
+    ensures { result ≡ is_set words.now i }
+{
+    match words.get(i / 64) {
+        Some(word) => (*word >> (i % 64)) & 1 == 1,
+        None => false,
+    }
+}
+
+/// Sets the bit.
+pub fn set_bit(words: &mut [u64], i: usize)
+    requires { i < 64 * length words.old }
+    ensures { (j : ℕ) → is_set words.new j ≡ (j == i || is_set words.old j) }
+{
+    words[i / 64] |= 1 << (i % 64);
+}
+
+/// Clears the bit.
+pub fn clear_bit(words: &mut [u64], i: usize)
+    requires { i < 64 * length words.old }
+    ensures { (j : ℕ) → is_set words.new j ≡ (not (j == i) && is_set words.old j) }
+{
+    words[i / 64] &= !(1 << (i % 64));
+}
+
+/// The first set bit of a word from this one on.
+fn next_in_word(word: u64, from: u32) -> Option<u32>
+    requires { from < 64 }
+    ensures found { IfSome result (λ i. IsNextIn word from i) }
+    ensures none { IfNone result (NoneIn word from) }
+{
+    let rest = word >> from;
+    if rest == 0 {
+        None
+    } else {
+        Some(from + rest.trailing_zeros())
+    }
+}
+
+/// The first set bit from this one on.
+pub fn next_bit(words: &[u64], from: usize) -> Option<usize>
+    requires { 64 * length words.now < 2 ^ 64 }
+    ensures found { IfSome result (IsNextBit words.now from) }
+    ensures none { IfNone result ((j : ℕ) → from ≤ j → is_set words.now j ≡ false) }
+{
+    let mut place = from / 64;
+    let mut start = (from % 64) as u32;
+    while place < words.len() {
+        if let Some(i) = next_in_word(words[place], start) {
+            return Some(64 * place + i as usize);
+        }
+        place += 1;
+        start = 0;
+    }
+    None
+}
+
+/// A word of a row; 0 behind the last.
+fn word_at(words: &[u64], k: usize) -> u64
+    ensures value { result ≡ slice_index words.now k }
+    ensures small { result < 2 ^ 64 }
+{
+    match words.get(k) {
+        Some(word) => *word,
+        None => 0,
+    }
+}
+
+/// The bits of a word of `more` that are not set in `words`.
+fn fresh_word(words: &[u64], more: &[u64], k: usize) -> u64
+    requires { k < length more.now }
+    ensures { (i : ℕ) → i < 64 → (bit_at result i == 1) ≡ is_fresh words.now more.now (64 * k + i) }
+{
+    more[k] & !word_at(words, k)
+}
+
+/// The first bit of `more` from this one on that is not set in `words`.
+pub fn next_fresh(words: &[u64], more: &[u64], from: usize) -> Option<usize>
+    requires { 64 * length more.now < 2 ^ 64 }
+    ensures found { IfSome result (IsNextFresh words.now more.now from) }
+    ensures none { IfNone result ((j : ℕ) → from ≤ j → is_fresh words.now more.now j ≡ false) }
+{
+    let mut place = from / 64;
+    let mut start = (from % 64) as u32;
+    while place < more.len() {
+        if let Some(i) = next_in_word(fresh_word(words, more, place), start) {
+            return Some(64 * place + i as usize);
+        }
+        place += 1;
+        start = 0;
+    }
+    None
+}

@@ -1,0 +1,6 @@
+//! Rows of bits, in words of 64.
+#![tactic(auto)]
+
+mod bits;
+
+pub use bits::{clear_bit, has_bit, next_bit, next_fresh, set_bit};

@@ -1,0 +1,4 @@
+pub mod Rows
+pub mod ShownProp
+pub mod Halves
+pub mod HalvesProp

@@ -1,0 +1,297 @@
+//! Sets of facts as rows of bits.
+ghost use Rattle.std.specs.Prelude.{◌≡◌, ◌+◌, ◌*◌, ◌==◌, ◌||◌, ◌&&◌, replicate, ◌<◌, ◌≤◌, ◌↔◌, [], length, not, OnOk, OnErr, IfOk, IfSome, IfNone, IsTrue, if◌then◌else◌, ◌^◌};
+ghost use Rattle.mrc_base.specs.declared.Fact.{Fact};
+ghost use Rattle.mrc_facts.specs.Sets.{has, with_fact, first, after, IsAscending};
+ghost use Rattle.mrc_facts.specs.Order.{right_number, is_same};
+ghost use Rattle.mrc_rows.specs.Rows.{IsWithin, Shown, is_within, row_of, place_of, words_of, width_of, AreSized, SameBits, OneMoreBit, OneLessBit, IsNextPlace, NoPlace, IsFirstFrom, NoneFrom, start_row, start_place};
+ghost use Rattle.mrc_rows.specs.ShownProp.{shown_prop};
+
+use mrc_base::{ClassId, Fact, PortRight};
+use mrc_bits::{clear_bit, has_bit, next_bit, set_bit};
+use std::alloc::{AllocError, Global};
+use std::marker::Model;
+
+/// A set of facts. Each row is empty, or has 63 words.
+#[derive(Debug, Drop)]
+pub(crate) struct RowFacts {
+    rows: Vec<Vec<u64>>,
+    count: usize,
+    alloc: Global,
+    ghost shown: { Shown rows.items count } by { shown_prop rows.items count },
+}
+
+impl Model for RowFacts {
+    ghost use Rattle.std.specs.Prelude.{List};
+    ghost use Rattle.mrc_base.specs.declared.Fact.{Fact};
+
+    ghost Value = { List Fact };
+
+    ghost view = { λ a. a.shown.0 };
+}
+
+/// The number of a right.
+fn number(right: PortRight) -> usize
+    ensures value { result ≡ right_number right }
+    ensures small { result < 3 }
+{
+    match right {
+        PortRight::Send => 0,
+        PortRight::Receive => 1,
+        PortRight::SendOnce => 2,
+    }
+}
+
+/// Whether the fact has a place in a row.
+pub(crate) fn is_within(fact: &Fact) -> bool
+    ensures { result ≡ is_within fact.now }
+{
+    match fact {
+        Fact::Hold { task, class, .. } => *task < 64 && class.0 < 1344,
+        Fact::Carry {
+            destination,
+            class,
+            ..
+        } => destination.0 < 1344 && class.0 < 1344,
+        Fact::Backup { class, notify } => class.0 < 1344 && notify.0 < 1344,
+    }
+}
+
+/// The fact's row.
+fn row_of(fact: &Fact) -> usize
+    ensures value { result ≡ row_of fact.now }
+    ensures there { IsWithin fact.now → result < 2752 }
+{
+    match fact {
+        Fact::Hold { task, .. } => *task as usize,
+        Fact::Carry { destination, .. } => 64 + destination.0 as usize,
+        Fact::Backup { class, .. } => 1408 + class.0 as usize,
+    }
+}
+
+/// The fact's place in its row.
+fn place_of(fact: &Fact) -> usize
+    ensures value { result ≡ place_of fact.now }
+    ensures few { result < 2 ^ 18 }
+    ensures there { IsWithin fact.now → result < 4032 }
+{
+    match fact {
+        Fact::Hold { class, right, .. } => 3 * class.0 as usize + number(*right),
+        Fact::Carry { class, right, .. } => 3 * class.0 as usize + number(*right),
+        Fact::Backup { notify, .. } => notify.0 as usize,
+    }
+}
+
+/// How many words a row has.
+fn width_of(row: usize) -> usize
+    ensures { result ≡ width_of row }
+{
+    if row < 1408 { 63 } else { 21 }
+}
+
+/// A row of zeros.
+fn zeros(alloc: Global, len: usize) -> Result<Vec<u64>, AllocError>
+    ensures { IfOk result (λ row. row.items ≡ replicate len 0) }
+{
+    vec![in alloc; 0u64; len]
+}
+
+/// Makes the row, unless it is there.
+fn make_row(alloc: Global, rows: &mut Vec<Vec<u64>>, row: usize) -> Result<(), AllocError>
+    requires { row < 2752 }
+    ensures same { SameBits rows.old.items rows.new.items }
+    ensures made { OnOk result (AreSized rows.old.items → length (words_of rows.new.items row) ≡ width_of row) }
+{
+    while rows.len() <= row {
+        rows.push(Vec::new(alloc))?;
+    }
+    if rows[row].is_empty() {
+        rows[row] = zeros(alloc, width_of(row))?;
+    }
+    Ok(())
+}
+
+/// Sets a bit of a row that is made.
+fn set_in_row(rows: &mut Vec<Vec<u64>>, row: usize, place: usize)
+    requires { place < 64 * length (words_of rows.old.items row) }
+    ensures { OneMoreBit rows.old.items rows.new.items row place }
+{
+    set_bit(rows[row].as_mut_slice(), place);
+}
+
+/// Clears a bit of a row that is made.
+fn clear_in_row(rows: &mut Vec<Vec<u64>>, row: usize, place: usize)
+    requires { place < 64 * length (words_of rows.old.items row) }
+    ensures { OneLessBit rows.old.items rows.new.items row place }
+{
+    clear_bit(rows[row].as_mut_slice(), place);
+}
+
+/// The first row that may have a fact behind this one, and the place where such begin in it.
+fn start_of(fact: &Fact) -> (usize, usize)
+    ensures row { result.0 ≡ start_row fact.now }
+    ensures place { result.1 ≡ start_place fact.now }
+{
+    match fact {
+        Fact::Hold { task, .. } => {
+            if *task < 64 {
+                (row_of(fact), place_of(fact) + 1)
+            } else {
+                (64, 0)
+            }
+        }
+        Fact::Carry { destination, .. } => {
+            if destination.0 < 1344 {
+                (row_of(fact), place_of(fact) + 1)
+            } else {
+                (1408, 0)
+            }
+        }
+        Fact::Backup { .. } => (row_of(fact), place_of(fact) + 1),
+    }
+}
+
+/// The right of a number.
+fn right_of(number: usize) -> PortRight
+    requires { number < 3 }
+    ensures { right_number result ≡ number }
+{
+    if number == 0 {
+        PortRight::Send
+    } else if number == 1 {
+        PortRight::Receive
+    } else {
+        PortRight::SendOnce
+    }
+}
+
+/// The fact of a place.
+fn fact_at(row: usize, place: usize) -> Fact
+    requires row { row < 2752 }
+    requires place { place < 64 * width_of row }
+    ensures row { row_of result ≡ row }
+    ensures place { place_of result ≡ place }
+    ensures within { IsWithin result }
+{
+    if row < 64 {
+        Fact::Hold {
+            task: row as u16,
+            class: ClassId((place / 3) as u16),
+            right: right_of(place % 3),
+        }
+    } else if row < 1408 {
+        Fact::Carry {
+            destination: ClassId((row - 64) as u16),
+            class: ClassId((place / 3) as u16),
+            right: right_of(place % 3),
+        }
+    } else {
+        Fact::Backup {
+            class: ClassId((row - 1408) as u16),
+            notify: ClassId(place as u16),
+        }
+    }
+}
+
+/// The first set bit from this place on.
+fn next_place(rows: &[Vec<u64>], row: usize, place: usize) -> Option<(usize, usize)>
+    requires { AreSized rows.now }
+    ensures found { IfSome result (λ p. IsNextPlace rows.now row place p.0 p.1) }
+    ensures none { IfNone result (NoPlace rows.now row place) }
+{
+    let mut start = place;
+    for k in row..rows.len() {
+        if let Some(i) = next_bit(rows[k].as_slice(), start) {
+            return Some((k, i));
+        }
+        start = 0;
+    }
+    None
+}
+
+impl RowFacts {
+    /// How many facts the set has.
+    pub(crate) fn len(&self) -> usize
+        ensures value { result ≡ length self.now }
+        ensures few { result ≤ 2 ^ 42 }
+        ensures ascending { IsAscending self.now }
+    {
+        self.count
+    }
+
+    /// Whether the set has the fact.
+    pub(crate) fn has(&self, fact: &Fact) -> bool
+        ensures { result ≡ has self.now fact.now }
+    {
+        is_within(fact)
+            && match self.rows.get(row_of(fact)) {
+                Some(row) => has_bit(row.as_slice(), place_of(fact)),
+                None => false,
+            }
+    }
+
+    /// Puts the fact into the set, and answers whether it is new there.
+    pub(crate) fn insert(&mut self, fact: Fact) -> Result<bool, AllocError>
+        requires { IsWithin fact }
+        ensures added { IfOk result (λ added. added ≡ not (has self.old fact)) }
+        ensures ok { OnOk result (self.new ≡ with_fact self.old fact) }
+        ensures err { OnErr result (self.new ≡ self.old) }
+    {
+        if self.has(&fact) {
+            return Ok(false);
+        }
+        let row = row_of(&fact);
+        make_row(self.alloc, &mut self.rows, row)?;
+        set_in_row(&mut self.rows, row, place_of(&fact));
+        self.count += 1;
+        Ok(true)
+    }
+
+    /// The empty set. It keeps the allocator.
+    pub(crate) fn new(alloc: Global) -> RowFacts
+        ensures { result ≡ [] }
+    {
+        RowFacts {
+            rows: Vec::new(alloc),
+            count: 0,
+            alloc,
+        }
+    }
+
+    fn first_from(&self, row: usize, place: usize) -> Option<Fact>
+        ensures found { IfSome result (IsFirstFrom self.now row place) }
+        ensures none { IfNone result (NoneFrom self.now row place) }
+    {
+        let (row, place) = next_place(self.rows.as_slice(), row, place)?;
+        Some(fact_at(row, place))
+    }
+
+    /// The least fact.
+    pub(crate) fn first(&self) -> Option<Fact>
+        ensures { result ≡ first self.now }
+    {
+        let _count = self.count;
+        self.first_from(0, 0)
+    }
+
+    /// The least fact that is greater than this one, which need not be in the set.
+    pub(crate) fn after(&self, fact: &Fact) -> Option<Fact>
+        ensures { result ≡ after self.now fact.now }
+    {
+        let _count = self.count;
+        let (row, place) = start_of(fact);
+        self.first_from(row, place)
+    }
+
+    /// Takes the fact out of the set, where it is there.
+    pub(crate) fn remove(&mut self, fact: &Fact)
+        ensures members { (g : Fact) →
+            has self.new g ≡ (not (is_same g fact.now) && has self.old g) }
+        ensures ascending { IsAscending self.new }
+    {
+        if !self.has(fact) {
+            return;
+        }
+        clear_in_row(&mut self.rows, row_of(fact), place_of(fact));
+        self.count -= 1;
+    }
+}
