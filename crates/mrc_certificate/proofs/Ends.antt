@@ -9,9 +9,9 @@ use Rattle.std.specs.Ordering.{match_ordering, ordering_reverse, is_lt}
 use Rattle.std.proofs.lemmas.Bool.{and_parts}
 use Rattle.std.proofs.lemmas.List.{append-nil}
 use Rattle.mrc_base.specs.declared.Fact.{Fact}
-use Rattle.mrc_classes.specs.Order.{fact_cmp, is_before}
-use Rattle.mrc_classes.specs.Sets.{with_fact, are_ascending, IsAscending}
-use Rattle.mrc_classes.proofs.Total.{fact_total, Less-is}
+use Rattle.mrc_facts.specs.Order.{fact_cmp, is_before}
+use Rattle.mrc_facts.specs.Sets.{with_fact, are_ascending, IsAscending}
+use Rattle.mrc_facts.proofs.Total.{fact_total, Less-is}
 use Rattle.mrc_base.specs.declared.memory.OrMemory.{OrMemory}
 use Rattle.mrc_base.specs.Reading.{◌>>=◌, Refuses}
 use Rattle.mrc_base.proofs.Steps.{refuses_then, refuses_same}

@@ -4,3 +4,4 @@ pub mod Series
 pub mod Ends
 pub mod Whole
 pub mod Sets
+pub mod Runs

@@ -8,8 +8,8 @@ use Rattle.std.specs.Option.{option_to_list}
 use Rattle.std.proofs.lemmas.Bool.{and_parts, and_from}
 use Rattle.std.proofs.lemmas.List.Concat.{flat_map-cons}
 use Rattle.mrc_base.specs.declared.Fact.{Fact}
-use Rattle.mrc_classes.specs.Order.{fact_bytes, is_before}
-use Rattle.mrc_classes.specs.Sets.{are_ascending}
+use Rattle.mrc_facts.specs.Order.{fact_bytes, is_before}
+use Rattle.mrc_facts.specs.Sets.{are_ascending}
 use Rattle.mrc_certificate.specs.declared.fault.DraftFault.{DraftFault}
 use Rattle.mrc_certificate.specs.declared.fault.DraftFault.TheVariants.{NotAscending}
 use Rattle.mrc_base.specs.Reading.{◌>>=◌}

@@ -4,10 +4,10 @@ use Rattle.std.specs.Prelude.{IsTrue}
 use Rattle.std.specs.List.{list_all}
 use Rattle.std.proofs.lemmas.Bool.{and_parts, or_cases}
 use Rattle.mrc_base.specs.declared.Fact.{Fact}
-use Rattle.mrc_classes.specs.Order.{is_same}
-use Rattle.mrc_classes.specs.Sets.{has}
-use Rattle.mrc_classes.proofs.Total.{equal_from_same}
-use Rattle.mrc_classes.proofs.Members.{one_list}
+use Rattle.mrc_facts.specs.Order.{is_same}
+use Rattle.mrc_facts.specs.Sets.{has}
+use Rattle.mrc_facts.proofs.Total.{equal_from_same}
+use Rattle.mrc_facts.proofs.Members.{one_list}
 use Rattle.mrc_base.proofs.Steps.{ok_is}
 use Rattle.mrc_certificate.specs.Drafts.{is_within}
 use Rattle.mrc_certificate.specs.Spelling.{spelling}

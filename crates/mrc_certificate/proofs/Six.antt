@@ -7,8 +7,8 @@ use Rattle.std.proofs.lemmas.Bool.{ltb-true, and_parts}
 use Rattle.mrc_base.specs.declared.Fact.{Fact}
 use Rattle.mrc_base.specs.declared.Fact.TheVariants.{Hold, Carry, Backup}
 use Rattle.mrc_base.specs.declared.PortRight.TheVariants.{Send, Receive, SendOnce}
-use Rattle.mrc_classes.specs.Order.{kind, first_number, second_number, last_byte, fact_bytes}
-use Rattle.mrc_classes.specs.Order.{FitsBytes}
+use Rattle.mrc_facts.specs.Order.{kind, first_number, second_number, last_byte, fact_bytes}
+use Rattle.mrc_facts.specs.Order.{FitsBytes}
 use Rattle.mrc_certificate.specs.declared.fault.DraftFault.TheVariants.{BadFact}
 use Rattle.mrc_base.proofs.Steps.{passed, ok_is}
 use Rattle.mrc_certificate.specs.Drafts.{is_within}

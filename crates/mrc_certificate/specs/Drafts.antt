@@ -3,7 +3,7 @@ use Rattle.std.specs.Prelude.{ℕ, ◌^◌, ◌<◌, Bool, ◌&&◌, List, lengt
 use Rattle.std.specs.List.{list_all}
 use Rattle.mrc_base.specs.declared.Fact.{Fact}
 use Rattle.mrc_base.specs.declared.Fact.TheVariants.{Hold, Carry, Backup}
-use Rattle.mrc_classes.specs.Sets.{IsAscending}
+use Rattle.mrc_facts.specs.Sets.{IsAscending}
 
 -- whether the fact's task, where it has one, and its classes are of so many
 abbrev pub is_within : ℕ → ℕ → Fact → Bool

@@ -1,7 +1,7 @@
 -- What holds of certificates and of what they claim.
 use Rattle.std.specs.Prelude.{◌≡◌, ℕ, List, Ok, IsTrue}
 use Rattle.mrc_base.specs.declared.Fact.{Fact}
-use Rattle.mrc_classes.specs.Sets.{has}
+use Rattle.mrc_facts.specs.Sets.{has}
 use Rattle.mrc_certificate.specs.Drafts.{Content, IsDraft, is_within, AreWithin}
 use Rattle.mrc_certificate.specs.Spelling.{spelling, Spells}
 use Rattle.mrc_certificate.specs.Reading.{draft_from}

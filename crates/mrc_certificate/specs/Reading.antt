@@ -11,7 +11,7 @@ use Rattle.mrc_base.specs.declared.Fact.TheVariants.{Hold, Carry, Backup}
 use Rattle.mrc_base.specs.declared.PortRight.{PortRight}
 use Rattle.mrc_base.specs.declared.PortRight.TheVariants.{Send, Receive, SendOnce}
 use Rattle.mrc_base.specs.Reading.{◌>>=◌}
-use Rattle.mrc_classes.specs.Order.{is_before}
+use Rattle.mrc_facts.specs.Order.{is_before}
 use Rattle.mrc_certificate.specs.declared.fault.DraftFault.{DraftFault}
 use Rattle.mrc_certificate.specs.declared.fault.DraftFault.TheVariants.{Magic, Version, Truncated}
 use Rattle.mrc_certificate.specs.declared.fault.DraftFault.TheVariants.{BadFact, NotAscending}

@@ -3,7 +3,7 @@ use Rattle.std.specs.Prelude.{◌≡◌, ℕ, List, ◌++◌, length, codes}
 use Rattle.std.specs.List.{flat_map}
 use Rattle.std.specs.Int.{w16, w32, to_be_bytes}
 use Rattle.mrc_base.specs.declared.Fact.{Fact}
-use Rattle.mrc_classes.specs.Order.{fact_bytes}
+use Rattle.mrc_facts.specs.Order.{fact_bytes}
 use Rattle.mrc_certificate.specs.Drafts.{Content, IsDraft}
 use Rattle.mrc_certificate.specs.declared.draft.Draft.{Draft}
 

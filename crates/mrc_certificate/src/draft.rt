@@ -2,7 +2,7 @@
 
 ghost use Rattle.std.specs.Prelude.{◌≡◌, ◌^◌, ◌<◌, ◌↔◌, length, IsSome, IfSome, IfOk, IsTrue};
 ghost use Rattle.std.specs.List.{list_all};
-ghost use Rattle.mrc_classes.specs.Sets.{IsAscending};
+ghost use Rattle.mrc_facts.specs.Sets.{IsAscending};
 ghost use Rattle.mrc_certificate.specs.Drafts.{is_within, AreWithin};
 
 use mrc_classes::{Fact, Facts};
@@ -41,7 +41,15 @@ pub(crate) fn is_within(tasks: u16, classes: u16, fact: &Fact) -> bool
 fn are_within(tasks: u16, classes: u16, facts: &Facts) -> bool
     ensures { result ≡ list_all (is_within tasks classes) facts.now }
 {
-    facts.iter().all(|fact| is_within(tasks, classes, fact))
+    let _count = facts.len();
+    let mut next = facts.first();
+    while let Some(fact) = next {
+        if !is_within(tasks, classes, &fact) {
+            return false;
+        }
+        next = facts.after(fact);
+    }
+    true
 }
 
 impl Draft {

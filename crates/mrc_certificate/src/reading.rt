@@ -1,7 +1,7 @@
 ghost use Rattle.std.specs.Prelude.{◌≡◌, ◌≤◌, length, IfOk, OnOk};
 ghost use Rattle.std.specs.Int.{w16, w32};
 ghost use Rattle.mrc_base.specs.Reading.{Gives};
-ghost use Rattle.mrc_classes.specs.Sets.{IsAscending};
+ghost use Rattle.mrc_facts.specs.Sets.{IsAscending};
 ghost use Rattle.mrc_certificate.specs.Drafts.{Content, is_within, AreWithin};
 ghost use Rattle.mrc_certificate.specs.Spelling.{content, Spells};
 ghost use Rattle.mrc_certificate.specs.Reading.{behind_magic, behind_version, number_at};

@@ -4,7 +4,7 @@ use Rattle.std.specs.Prelude.{◌≡◌, ℕ, ◌<◌, ◌≤◌, Bool, List, le
 use Rattle.std.specs.Option.{option_map}
 use Rattle.mrc_base.specs.declared.Fact.TheVariants.{Hold}
 use Rattle.mrc_base.specs.declared.Fact.{Fact}
-use Rattle.mrc_classes.specs.Sets.{has}
+use Rattle.mrc_facts.specs.Sets.{has}
 use Rattle.mrc_classes.specs.declared.rule_names.RuleName.{RuleName}
 use Rattle.mrc_classes.specs.declared.rule_names.RuleName.TheVariants.{First, Births}
 use Rattle.mrc_classes.specs.Missing.{rule_number, IsFirstMissing}

@@ -3,7 +3,7 @@
 ghost use Rattle.std.specs.Prelude.{◌≡◌, ◌↔◌, IsTrue, IfOk, OnOk, IfErr};
 ghost use Rattle.mrc_base.specs.Reading.{UnlessMemory};
 ghost use Rattle.mrc_certificate.specs.Spelling.{content};
-ghost use Rattle.mrc_classes.specs.Sets.{has};
+ghost use Rattle.mrc_facts.specs.Sets.{has};
 ghost use Rattle.mrc_classes.specs.Missing.{IsAnswer};
 ghost use Rattle.mrc_wiring.specs.Table.{wiring_of};
 ghost use Rattle.mrc_check.specs.Verdict.{HasCounts, IsAccepted, IsWhy, first_broken, reason};

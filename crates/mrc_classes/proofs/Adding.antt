@@ -4,9 +4,9 @@ use Rattle.std.proofs.Common.{◌⊎◌, inl, inr, arith}
 use Rattle.std.specs.Prelude.{◌||◌}
 use Rattle.std.proofs.lemmas.Bool.{cases_eq, or_cases, or_left, or_right, false≢true}
 use Rattle.mrc_base.specs.declared.Fact.{Fact}
-use Rattle.mrc_classes.specs.Order.{is_same}
+use Rattle.mrc_facts.specs.Order.{is_same}
 use Rattle.mrc_classes.specs.Growing.{Added, Only, If, Below}
-use Rattle.mrc_classes.proofs.Total.{equal_from_same, same_itself}
+use Rattle.mrc_facts.proofs.Total.{equal_from_same, same_itself}
 
 -- nothing more is added
 pub added_none : (F : Fact → Bool) (P : Fact → Type 0) → ((g : Fact) → P g → ⊥) → Added F F P

@@ -1,6 +1,8 @@
 -- What the first state and births give is what the rules without premises conclude.
 use Rattle.std.proofs.Common.{◌≡◌, ℕ, ◌+◌, ◌<◌, Bool, List, [], ◌∷◌, ◌++◌, length, take}
-use Rattle.std.proofs.Common.{refl, ap, sym, slice_index_or, subst, ◌∙◌, IsTrue, ◌↔◌, ◌⊎◌, inl, inr}
+use Rattle.std.proofs.Common.{Result, Ok, Err, refl, ap, sym, slice_index_or, subst, ◌∙◌, IsTrue, ◌↔◌, ◌⊎◌, inl, inr}
+use Rattle.std.specs.Prelude.{IfOk}
+use Rattle.std.proofs.lemmas.Bool.{false≢true}
 use Rattle.std.proofs.lemmas.List.{take_more}
 use Rattle.mrc_base.specs.declared.Fact.{Fact}
 use Rattle.mrc_base.specs.declared.Fact.TheVariants.{Hold, Carry, Backup}
@@ -12,7 +14,7 @@ use Rattle.mrc_model.specs.Rules.{InRange, Rule, k1, k2}
 use Rattle.mrc_model.proofs.Concluding.{in_left, in_right, in_append}
 use Rattle.mrc_model.proofs.FirstHeld.{in_one}
 use Rattle.mrc_wiring.specs.FirstState.{HasFirstHolds}
-use Rattle.mrc_classes.specs.Sets.{has}
+use Rattle.mrc_facts.specs.Sets.{has}
 use Rattle.mrc_classes.specs.Growing.{Added, Only, Below, nothing}
 use Rattle.mrc_classes.specs.Following.{IsHeldAtFirst, IsFirstFact, IsListOf}
 use Rattle.mrc_classes.specs.Parts.{IsListedHold, IsHoldInRange, IsBirth}
@@ -140,3 +142,18 @@ first_facts_are W held facts first births g = (
     of_birth x =
         subst (λ y. IsFirstFact W y) (sym x.at.is)
         (record { rule = 2; instance = k2 x.at.kind x.at.birth; in_range = (x.at.there, x.below) })
+
+-- what is put into the empty set
+pub listed_all : {E : Type 0} (P : Fact → Type 0) (start : List Fact)
+    → start ≡ []
+    → (r : Result (List Fact) E)
+    → IfOk r (λ all. Added (has start) (has all) P)
+    → IfOk r (IsListOf P)
+listed_all P start none (Ok all) added = λ g. (
+  λ h. elim (added.new g h) [
+    | inl before ↦ absurd (false≢true (ap (λ fs. has fs g) (sym none) ∙ before))
+    | inr p ↦ p
+  ],
+  added.all g,
+)
+listed_all P start none (Err e) added = tt

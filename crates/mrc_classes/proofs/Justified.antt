@@ -19,7 +19,7 @@ use Rattle.mrc_model.specs.Conclusions.{same_right}
 use Rattle.mrc_model.proofs.Concluding.{same_right_is}
 use Rattle.mrc_wiring.specs.Slots.{takes}
 use Rattle.mrc_wiring.proofs.Takers.{taker}
-use Rattle.mrc_classes.specs.Sets.{has}
+use Rattle.mrc_facts.specs.Sets.{has}
 use Rattle.mrc_classes.specs.Parts.{are_linked}
 use Rattle.mrc_classes.specs.Following.{IsListOf, IsFirstFact, IsHeldAtFirst}
 use Rattle.mrc_classes.specs.declared.rule_names.RuleName.{RuleName}

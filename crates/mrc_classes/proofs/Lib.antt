@@ -1,12 +1,6 @@
-pub mod Derived
-pub mod Keys
-pub mod Total
-pub mod Bytes
-pub mod Members
 pub mod Adding
 pub mod Concluding
 pub mod Premises
 pub mod Beginning
-pub mod Comparing
 pub mod Missed
 pub mod Justified

@@ -19,7 +19,7 @@ use Rattle.mrc_model.specs.Rules.{k1, k2, k3_send, k3_once, k4, k5, k6, k7_up, k
 use Rattle.mrc_model.specs.Conclusions.{same_right}
 use Rattle.mrc_model.proofs.Concluding.{same_right_is}
 use Rattle.mrc_wiring.proofs.Takers.{IsTaker, taken, taker}
-use Rattle.mrc_classes.specs.Order.{is_before, right_number}
+use Rattle.mrc_facts.specs.Order.{is_before, right_number}
 use Rattle.mrc_classes.specs.declared.rule_names.RuleName.{RuleName}
 use Rattle.mrc_classes.specs.declared.rule_names.RuleName.TheVariants.{First, Births, Weaker, Slot}
 use Rattle.mrc_classes.specs.declared.rule_names.RuleName.TheVariants.{Reply, Received, KernelPort}
@@ -29,7 +29,7 @@ use Rattle.mrc_classes.specs.Lacks.{conclusion, rows, can_send_to, Concludes, La
 use Rattle.mrc_classes.specs.Lacks.{LacksNothing, IsFirstLack}
 use Rattle.mrc_classes.specs.Missing.{rule_number, IsMissing, IsFirstMissing, IsAnswer}
 use Rattle.mrc_classes.proofs.Beginning.{first_hold_is}
-use Rattle.mrc_classes.proofs.Comparing.{IsLess, three_less}
+use Rattle.mrc_facts.proofs.Comparing.{IsLess, three_less}
 use Rattle.mrc_classes.proofs.Concluding.{kernel_there}
 
 -- the test of a rule concludes the fact

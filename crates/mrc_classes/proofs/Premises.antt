@@ -7,12 +7,12 @@ use Rattle.mrc_base.specs.declared.Fact.{Fact}
 use Rattle.mrc_model.specs.IsIn.{IsIn, here, later}
 use Rattle.mrc_model.specs.Wiring.{Wiring}
 use Rattle.mrc_model.specs.Rules.{Has, InRange}
-use Rattle.mrc_classes.specs.Order.{is_same}
-use Rattle.mrc_classes.specs.Sets.{has}
+use Rattle.mrc_facts.specs.Order.{is_same}
+use Rattle.mrc_facts.specs.Sets.{has}
 use Rattle.mrc_classes.specs.Growing.{Added, nothing}
 use Rattle.mrc_classes.specs.Following.{IsConsequence, IsListOf}
 use Rattle.mrc_classes.specs.Parts.{ByFact}
-use Rattle.mrc_classes.proofs.Total.{equal_from_same, same_itself}
+use Rattle.mrc_facts.proofs.Total.{equal_from_same, same_itself}
 use Rattle.mrc_classes.proofs.Adding.{added_none, added_as}
 use Rattle.mrc_classes.proofs.Concluding.{Concluded, part_of, of_part}
 

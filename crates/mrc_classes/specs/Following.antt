@@ -7,7 +7,7 @@ use Rattle.mrc_base.specs.declared.Fact.TheVariants.{Hold}
 use Rattle.mrc_model.specs.Wiring.{Wiring}
 use Rattle.mrc_model.specs.Rules.{FactSet, Rule, InRange, FollowsFrom}
 use Rattle.mrc_wiring.specs.FirstState.{IsFirstHold}
-use Rattle.mrc_classes.specs.Sets.{has}
+use Rattle.mrc_facts.specs.Sets.{has}
 
 -- the list has the facts of the set, and no others
 abbrev pub IsListOf : FactSet → List Fact → Type 0

@@ -11,7 +11,7 @@ use Rattle.mrc_model.specs.Wiring.{Wiring, classes, births_class, accepts_routin
 use Rattle.mrc_model.specs.Wiring.{accepts_destroyed}
 use Rattle.mrc_model.specs.Conclusions.{same_right}
 use Rattle.mrc_wiring.specs.Slots.{takes}
-use Rattle.mrc_classes.specs.Order.{right_number}
+use Rattle.mrc_facts.specs.Order.{right_number}
 use Rattle.mrc_classes.specs.Following.{IsHeldAtFirst}
 use Rattle.mrc_classes.specs.Parts.{are_linked}
 use Rattle.mrc_classes.specs.declared.rule_names.RuleName.{RuleName}

@@ -9,7 +9,7 @@ ghost use Rattle.mrc_model.specs.Wiring.{classes, accepts_routine, accepts_destr
 ghost use Rattle.mrc_model.specs.Rules.{Has, InRange};
 ghost use Rattle.mrc_wiring.specs.Table.{wiring_of};
 ghost use Rattle.mrc_wiring.specs.Slots.{takes};
-ghost use Rattle.mrc_classes.specs.Sets.{has};
+ghost use Rattle.mrc_facts.specs.Sets.{has};
 ghost use Rattle.mrc_classes.specs.Growing.{Added, Only, If, Below};
 ghost use Rattle.mrc_classes.specs.Following.{IsConsequence, IsListOf};
 ghost use Rattle.mrc_classes.specs.Parts.{EachRight, BySlot, BySlots, ByReply, ByRequest, ByPair};
@@ -17,11 +17,12 @@ ghost use Rattle.mrc_classes.specs.Parts.{PairedBy, PairedAt, SharedAt, are_link
 ghost use Rattle.mrc_classes.specs.Parts.{is_link, ByLink, ReceivedAt, NotifiedAt, ReceiverAt};
 ghost use Rattle.mrc_classes.specs.Parts.{ByReceive, ByHold, ByFact};
 
-use crate::facts::Facts;
 use crate::rights::{
     backup, can_send, carry, hold, is_in_range, kernel_port, linked_task, same_right,
 };
 use mrc_base::{ClassId, Disp, Fact, PortRight, give, need};
+use mrc_rows::Facts;
+use mrc_slots::Slots;
 use mrc_wiring::Wired;
 use std::alloc::{AllocError, Global};
 use std::marker::Model;
@@ -61,7 +62,7 @@ pub(crate) fn put_if(test: bool, found: &mut Facts, fact: Fact) -> Result<(), Al
 }
 
 fn slot(
-    wired: &Wired,
+    wired: &Slots<'_>,
     to: u16,
     right: PortRight,
     class: u16,
@@ -79,7 +80,7 @@ fn slot(
 }
 
 fn slots(
-    wired: &Wired,
+    wired: &Slots<'_>,
     to: u16,
     right: PortRight,
     class: u16,
@@ -99,7 +100,7 @@ fn slots(
 }
 
 fn reply(
-    wired: &Wired,
+    wired: &Slots<'_>,
     to: u16,
     right: PortRight,
     class: u16,
@@ -116,7 +117,7 @@ fn reply(
 }
 
 fn request(
-    wired: &Wired,
+    wired: &Slots<'_>,
     to: u16,
     right: PortRight,
     class: u16,
@@ -134,7 +135,7 @@ fn request(
 
 /// What follows where one task holds `right` on class `to` and `held` on `class`, in this order.
 fn pair(
-    wired: &Wired,
+    wired: &Slots<'_>,
     to: u16,
     right: PortRight,
     class: u16,
@@ -151,7 +152,7 @@ fn pair(
 }
 
 fn pair_by(
-    wired: &Wired,
+    wired: &Slots<'_>,
     known: &Known<'_>,
     task: u16,
     to: u16,
@@ -171,7 +172,7 @@ fn pair_by(
 }
 
 fn pair_at(
-    wired: &Wired,
+    wired: &Slots<'_>,
     known: &Known<'_>,
     task: u16,
     to: u16,
@@ -208,7 +209,7 @@ fn pair_at(
 
 /// What follows with each other hold of the same task.
 fn pairs(
-    wired: &Wired,
+    wired: &Slots<'_>,
     known: &Known<'_>,
     task: u16,
     to: u16,
@@ -225,18 +226,18 @@ fn pairs(
     Ok(())
 }
 
-fn are_linked(wired: &Wired, known: &Known<'_>, one: u16, other: u16) -> bool
+fn are_linked(wired: &Slots<'_>, known: &Known<'_>, one: u16, other: u16) -> bool
     requires one { one < (wiring_of wired.now).tasks }
     requires other { other < (wiring_of wired.now).tasks }
     ensures { result ≡ are_linked (wiring_of wired.now) (has known.now) one other }
 {
-    known.has(&hold(one, kernel_port(wired, other), PortRight::Send))
-        || known.has(&hold(other, kernel_port(wired, one), PortRight::Send))
+    known.has(&hold(one, kernel_port(wired.wired(), other), PortRight::Send))
+        || known.has(&hold(other, kernel_port(wired.wired(), one), PortRight::Send))
 }
 
 /// What the task's hold gives to each task that is linked to it by a kernel port.
 fn partners(
-    wired: &Wired,
+    wired: &Slots<'_>,
     known: &Known<'_>,
     task: u16,
     class: u16,
@@ -276,7 +277,7 @@ fn share_at(
 
 /// All that the other task holds, for the task.
 fn share(
-    wired: &Wired,
+    wired: &Slots<'_>,
     known: &Known<'_>,
     task: u16,
     other: u16,
@@ -312,7 +313,7 @@ fn receive_at(
 
 /// All that is carried to class `to`, for the task.
 fn receive(
-    wired: &Wired,
+    wired: &Slots<'_>,
     known: &Known<'_>,
     task: u16,
     to: u16,
@@ -329,7 +330,7 @@ fn receive(
 
 /// The rights of earlier requests on ports of the class, for the task.
 fn notices(
-    wired: &Wired,
+    wired: &Slots<'_>,
     known: &Known<'_>,
     task: u16,
     class: u16,
@@ -347,7 +348,7 @@ fn notices(
 
 /// The right on the class, for each task that receives at class `to`.
 fn receivers(
-    wired: &Wired,
+    wired: &Slots<'_>,
     known: &Known<'_>,
     to: u16,
     class: u16,
@@ -365,7 +366,7 @@ fn receivers(
 }
 
 fn by_receive(
-    wired: &Wired,
+    wired: &Slots<'_>,
     known: &Known<'_>,
     task: u16,
     class: u16,
@@ -382,7 +383,7 @@ fn by_receive(
 }
 
 fn by_link(
-    wired: &Wired,
+    wired: &Slots<'_>,
     known: &Known<'_>,
     task: u16,
     other: u16,
@@ -397,7 +398,7 @@ fn by_link(
 }
 
 fn if_receive(
-    wired: &Wired,
+    wired: &Slots<'_>,
     known: &Known<'_>,
     task: u16,
     class: u16,
@@ -415,7 +416,7 @@ fn if_receive(
 }
 
 fn if_link(
-    wired: &Wired,
+    wired: &Slots<'_>,
     known: &Known<'_>,
     task: u16,
     class: u16,
@@ -427,14 +428,14 @@ fn if_link(
         (ByLink (wiring_of wired.now) (has known.now) task
         (class - (wiring_of wired.now).ports)))) }
 {
-    if let Some(other) = linked_task(wired, class, right) {
+    if let Some(other) = linked_task(wired.wired(), class, right) {
         by_link(wired, known, task, other, found)?;
     }
     Ok(())
 }
 
 fn by_hold(
-    wired: &Wired,
+    wired: &Slots<'_>,
     known: &Known<'_>,
     task: u16,
     class: u16,
@@ -453,7 +454,7 @@ fn by_hold(
 }
 
 fn by_backup(
-    wired: &Wired,
+    wired: &Slots<'_>,
     known: &Known<'_>,
     class: u16,
     notify: u16,
@@ -469,7 +470,7 @@ fn by_backup(
 
 /// Puts into the set what follows from the fact with the known facts.
 fn by_fact(
-    wired: &Wired,
+    wired: &Slots<'_>,
     known: &Known<'_>,
     fact: Fact,
     found: &mut Facts,
@@ -492,7 +493,7 @@ fn by_fact(
 /// Puts into `found` each conclusion of a rule that has the fact among its premises, and its other
 /// premises in `facts`. Where memory runs out, `found` is gone.
 pub fn with_consequences(
-    wired: &Wired,
+    wired: &Slots<'_>,
     facts: &Facts,
     fact: Fact,
     found: Facts,
@@ -500,7 +501,7 @@ pub fn with_consequences(
     ensures { IfOk result (λ all. Added (has found) (has all)
         (IsConsequence (wiring_of wired.now) (Has (has facts.now)) fact)) }
 {
-    if !is_in_range(wired, &fact) {
+    if !is_in_range(wired.wired(), &fact) {
         return Ok(found);
     }
     let known = Known { facts, fact };
@@ -520,5 +521,6 @@ pub fn consequences(
     ensures { IfOk result
         (IsListOf (IsConsequence (wiring_of wired.now) (Has (has facts.now)) fact)) }
 {
-    with_consequences(wired, facts, fact, Facts::new(alloc))
+    let slots = Slots::without_rows(alloc, wired);
+    with_consequences(&slots, facts, fact, Facts::new(alloc))
 }

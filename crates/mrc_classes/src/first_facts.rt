@@ -4,15 +4,15 @@ ghost use Rattle.std.specs.Prelude.{◌≡◌, ◌<◌, ◌↔◌, ◌⊎◌, On
 ghost use Rattle.mrc_model.specs.Wiring.{classes};
 ghost use Rattle.mrc_model.specs.Rules.{InRange};
 ghost use Rattle.mrc_wiring.specs.Table.{wiring_of};
-ghost use Rattle.mrc_classes.specs.Sets.{has};
+ghost use Rattle.mrc_facts.specs.Sets.{has};
 ghost use Rattle.mrc_classes.specs.Growing.{Added, Below, nothing};
 ghost use Rattle.mrc_classes.specs.Following.{IsFirstFact, IsListOf, IsHeldAtFirst};
 ghost use Rattle.mrc_classes.specs.Parts.{IsListedHold, IsHoldInRange, IsBirth};
 
 use crate::conclude::put_if;
-use crate::facts::Facts;
 use crate::rights::hold;
 use mrc_base::{ClassId, Fact, PortRight};
+use mrc_rows::Facts;
 use mrc_wiring::Wired;
 use std::alloc::{AllocError, Global};
 

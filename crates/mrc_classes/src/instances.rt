@@ -8,7 +8,7 @@ ghost use Rattle.mrc_base.specs.Disposition.{given};
 ghost use Rattle.mrc_model.specs.Wiring.{classes, kernel_class};
 ghost use Rattle.mrc_model.specs.Rules.{Has, Follows, InRange};
 ghost use Rattle.mrc_wiring.specs.Table.{wiring_of};
-ghost use Rattle.mrc_classes.specs.Sets.{has};
+ghost use Rattle.mrc_facts.specs.Sets.{has};
 ghost use Rattle.mrc_classes.specs.Parts.{are_linked};
 ghost use Rattle.mrc_classes.specs.Following.{IsListOf, IsFirstFact};
 ghost use Rattle.mrc_classes.specs.Lacks.{can_send_to, IsSender, IsReceiver, IsReceived};
@@ -16,11 +16,11 @@ ghost use Rattle.mrc_classes.specs.Lacks.{IsShared, IsReturned, IsCarriedBy, Con
 ghost use Rattle.mrc_classes.specs.Instances.{IsInstance, IsSending};
 ghost use Rattle.mrc_classes.specs.declared.rule_names.RuleName.{RuleName};
 
-use crate::facts::Facts;
 use crate::lacking::{are_linked, can_send_to, is_birth};
 use crate::rights::{backup, carry, hold, is_in_range, kernel_port, same_right};
 use crate::rule_names::RuleName;
 use mrc_base::{ClassId, Disp, Fact, PortRight, need};
+use mrc_rows::Facts;
 use mrc_wiring::Wired;
 
 /// The premises of an instance of a rule, in the rule's order.

@@ -10,8 +10,8 @@ ghost use Rattle.mrc_model.specs.Rules.{Has, Closed};
 ghost use Rattle.mrc_model.specs.Conclusions.{same_right};
 ghost use Rattle.mrc_wiring.specs.Table.{wiring_of};
 ghost use Rattle.mrc_wiring.specs.Slots.{takes};
-ghost use Rattle.mrc_classes.specs.Order.{right_number};
-ghost use Rattle.mrc_classes.specs.Sets.{has};
+ghost use Rattle.mrc_facts.specs.Order.{right_number};
+ghost use Rattle.mrc_facts.specs.Sets.{has};
 ghost use Rattle.mrc_classes.specs.Following.{IsListOf, IsHeldAtFirst};
 ghost use Rattle.mrc_classes.specs.Parts.{are_linked};
 ghost use Rattle.mrc_classes.specs.Lacks.{conclusion, rows, can_send_to, IsSender, IsCarriedBy};
@@ -21,12 +21,12 @@ ghost use Rattle.mrc_classes.specs.Lacks.{IsFirstLack};
 ghost use Rattle.mrc_classes.specs.Missing.{rule_number, IsAnswer};
 ghost use Rattle.mrc_classes.specs.declared.rule_names.RuleName.{RuleName};
 
-use crate::facts::Facts;
 use crate::first_facts::held_at_first;
 use crate::instances::{received_at, receiver, returned_at, sender, shared_by};
 use crate::rights::{backup, carry, hold, kernel_port, same_right};
 use crate::rule_names::{RuleName, rule_of};
 use mrc_base::{ClassId, Disp, Fact, PortRight, need};
+use mrc_rows::Facts;
 use mrc_wiring::Wired;
 use std::alloc::{AllocError, Global};
 

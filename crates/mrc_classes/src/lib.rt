@@ -2,20 +2,19 @@
 #![tactic(auto)]
 
 mod conclude;
-mod facts;
 mod first_facts;
 mod instances;
 mod lacking;
-pub mod laws;
 mod rights;
 mod rule_names;
 
 pub use conclude::{consequences, with_consequences};
-pub use facts::Facts;
 pub use first_facts::first_rules;
 pub use instances::{FewFacts, Instance, instance_of};
 pub use lacking::{Missing, violation};
 pub use mrc_base::Fact;
+pub use mrc_rows::Facts;
+pub use mrc_slots::Slots;
 pub use rule_names::RuleName;
 
 #[cfg(test)]

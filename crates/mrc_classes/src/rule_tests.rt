@@ -89,7 +89,7 @@ fn both(alloc: Global) -> Result<Facts, AllocError> {
 
 /// Whether the two sets are one.
 fn are_same(one: &Facts, other: &Facts) -> bool {
-    one.len() == other.len() && one.iter().all(|fact| other.has(fact))
+    one.same(other)
 }
 
 /// Whether just these facts follow from the fact and the one that is known beside it.

@@ -62,11 +62,12 @@ fn kinds_and_high_bytes_come_first(rt: HostRuntime) -> Result<(), Fail> {
     for fact in ascending.iter().rev() {
         let _ = facts.insert(*fact)?;
     }
-    let mut places = ascending.iter();
-    for fact in facts.iter() {
-        assert_eq!(rt; places.next().copied(), Some(*fact));
+    let mut next = facts.first();
+    for fact in ascending.iter() {
+        assert_eq!(rt; next, Some(*fact));
+        next = facts.after(*fact);
     }
-    assert_eq!(rt; places.next(), None);
+    assert_eq!(rt; next, None);
     Ok(())
 }
 

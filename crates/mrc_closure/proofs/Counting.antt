@@ -7,11 +7,11 @@ use Rattle.mrc_base.specs.declared.Fact.TheVariants.{Hold, Carry, Backup}
 use Rattle.mrc_base.specs.declared.PortRight.TheVariants.{Send, Receive, SendOnce}
 use Rattle.mrc_model.specs.Wiring.{Wiring, classes}
 use Rattle.mrc_model.specs.Rules.{InRange}
-use Rattle.mrc_classes.specs.Order.{is_same, is_before, kind, first_number, second_number}
-use Rattle.mrc_classes.specs.Order.{last_byte}
-use Rattle.mrc_classes.specs.Sets.{has, are_ascending, IsAscending}
-use Rattle.mrc_classes.proofs.Total.{same_itself}
-use Rattle.mrc_classes.proofs.Comparing.{cmp_less, last_less}
+use Rattle.mrc_facts.specs.Order.{is_same, is_before, kind, first_number, second_number}
+use Rattle.mrc_facts.specs.Order.{last_byte}
+use Rattle.mrc_facts.specs.Sets.{has, are_ascending, IsAscending}
+use Rattle.mrc_facts.proofs.Total.{same_itself}
+use Rattle.mrc_facts.proofs.Comparing.{cmp_less, last_less}
 use Rattle.mrc_closure.specs.Merging.{Merged}
 use Rattle.mrc_closure.proofs.Keeping.{some, IsRound}
 

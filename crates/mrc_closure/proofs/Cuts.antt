@@ -5,9 +5,9 @@ use Rattle.std.specs.Prelude.{◌||◌}
 use Rattle.std.proofs.lemmas.Bool.{or_cases, or_left, or_right}
 use Rattle.mrc_base.specs.declared.Fact.{Fact}
 use Rattle.mrc_model.specs.IsIn.{IsIn, here, later}
-use Rattle.mrc_classes.specs.Order.{is_same}
-use Rattle.mrc_classes.specs.Sets.{has}
-use Rattle.mrc_classes.proofs.Total.{equal_from_same, same_itself}
+use Rattle.mrc_facts.specs.Order.{is_same}
+use Rattle.mrc_facts.specs.Sets.{has}
+use Rattle.mrc_facts.proofs.Total.{equal_from_same, same_itself}
 
 pub cut_none : {X : Type 0} → (before : List X) (x : X) (behind : List X)
     → [] ≡ before ++ x ∷ behind

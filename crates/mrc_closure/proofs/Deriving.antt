@@ -9,11 +9,11 @@ use Rattle.mrc_model.specs.IsIn.{IsIn, here, later}
 use Rattle.mrc_model.specs.Wiring.{Wiring}
 use Rattle.mrc_model.specs.Rules.{Has, InRange, Rule, Follows, Instance, Derives, EndsIn}
 use Rattle.mrc_model.specs.Rules.{IsDerivation, Least, Closed, IsLeast}
-use Rattle.mrc_classes.specs.Order.{is_same}
-use Rattle.mrc_classes.specs.Sets.{has}
+use Rattle.mrc_facts.specs.Order.{is_same}
+use Rattle.mrc_facts.specs.Sets.{has}
 use Rattle.mrc_classes.specs.Following.{IsConsequence, IsFirstFact, IsListOf}
 use Rattle.mrc_classes.specs.Instances.{premise_list, IsInstance}
-use Rattle.mrc_classes.proofs.Total.{equal_from_same, same_itself}
+use Rattle.mrc_facts.proofs.Total.{equal_from_same, same_itself}
 use Rattle.mrc_classes.proofs.Premises.{all_as}
 use Rattle.mrc_closure.specs.declared.chains.Link.{Link}
 use Rattle.mrc_closure.specs.Merging.{FromOne, Merged}

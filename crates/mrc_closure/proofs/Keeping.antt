@@ -13,11 +13,11 @@ use Rattle.mrc_model.specs.Wiring.{Wiring}
 use Rattle.mrc_model.specs.Rules.{Has, InRange, Rule, Closed, Least, IsLeast}
 use Rattle.mrc_model.proofs.Concluding.{in_left, in_right, in_append}
 use Rattle.mrc_model.proofs.FirstHeld.{in_one}
-use Rattle.mrc_classes.specs.Order.{is_same}
-use Rattle.mrc_classes.specs.Sets.{has, IsAscending}
+use Rattle.mrc_facts.specs.Order.{is_same}
+use Rattle.mrc_facts.specs.Sets.{has, IsAscending}
 use Rattle.mrc_classes.specs.Growing.{Added}
 use Rattle.mrc_classes.specs.Following.{IsConsequence, IsFirstFact, IsListOf}
-use Rattle.mrc_classes.proofs.Total.{equal_from_same, same_itself}
+use Rattle.mrc_facts.proofs.Total.{equal_from_same, same_itself}
 use Rattle.mrc_classes.proofs.Premises.{all_as}
 use Rattle.mrc_closure.specs.Merging.{FromOne, Merged}
 use Rattle.mrc_closure.proofs.Cuts.{cut_none, IsCutLeft, cut_push, in_of_has}

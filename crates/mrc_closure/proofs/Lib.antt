@@ -1,5 +1,4 @@
 pub mod Cuts
-pub mod Walking
 pub mod Keeping
 pub mod Counting
 pub mod Within

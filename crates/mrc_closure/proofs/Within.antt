@@ -8,9 +8,9 @@ use Rattle.mrc_base.specs.declared.Fact.TheVariants.{Hold, Carry, Backup}
 use Rattle.mrc_model.specs.Wiring.{classes}
 use Rattle.mrc_model.specs.Rules.{InRange}
 use Rattle.mrc_wiring.specs.Table.{Table, wiring_of}
-use Rattle.mrc_classes.specs.Order.{is_same}
-use Rattle.mrc_classes.specs.Sets.{has}
-use Rattle.mrc_classes.proofs.Total.{same_itself}
+use Rattle.mrc_facts.specs.Order.{is_same}
+use Rattle.mrc_facts.specs.Sets.{has}
+use Rattle.mrc_facts.proofs.Total.{same_itself}
 use Rattle.mrc_certificate.specs.Drafts.{is_within, AreWithin}
 
 -- a number below the wiring's is below the count

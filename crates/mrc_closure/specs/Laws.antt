@@ -6,7 +6,7 @@ use Rattle.mrc_model.specs.IsIn.{IsIn}
 use Rattle.mrc_model.specs.Wiring.{Wiring}
 use Rattle.mrc_model.specs.Breach.{Forbid}
 use Rattle.mrc_model.specs.Rules.{Has, IsLeast, SaysYes}
-use Rattle.mrc_classes.specs.Sets.{has, IsAscending}
+use Rattle.mrc_facts.specs.Sets.{has, IsAscending}
 
 -- where a line forbids a hold of the least set, the checker says yes to no set
 abbrev pub ForbiddenIsFinal : Type 0

@@ -4,7 +4,7 @@ use Rattle.mrc_base.specs.declared.Fact.{Fact}
 use Rattle.mrc_model.specs.IsIn.{IsIn}
 use Rattle.mrc_model.specs.Wiring.{Wiring}
 use Rattle.mrc_model.specs.Rules.{Has}
-use Rattle.mrc_classes.specs.Sets.{has}
+use Rattle.mrc_facts.specs.Sets.{has}
 use Rattle.mrc_classes.specs.Following.{IsConsequence}
 use Rattle.mrc_closure.specs.Orders.{IsOnce}
 

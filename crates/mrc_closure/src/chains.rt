@@ -6,7 +6,7 @@ ghost use Rattle.mrc_base.specs.declared.Fact.{Fact};
 ghost use Rattle.mrc_model.specs.Rules.{IsLeast, Least, IsDerivation};
 ghost use Rattle.mrc_model.specs.Wiring.{Wiring};
 ghost use Rattle.mrc_wiring.specs.Table.{wiring_of};
-ghost use Rattle.mrc_classes.specs.Sets.{has};
+ghost use Rattle.mrc_facts.specs.Sets.{has};
 ghost use Rattle.mrc_classes.specs.Following.{IsListOf, IsFirstFact};
 ghost use Rattle.mrc_classes.specs.Instances.{premise_list};
 ghost use Rattle.mrc_closure.specs.Chains.{place_list, IsAt, AreAt, IsChain};
@@ -15,7 +15,7 @@ ghost use Rattle.mrc_closure.specs.Orders.{IsLinked, IsPlaced, backward};
 
 use crate::rounds::{merge, round};
 use mrc_base::Fact;
-use mrc_classes::{Facts, FewFacts, Instance, RuleName, first_rules, instance_of};
+use mrc_classes::{Facts, FewFacts, Instance, RuleName, Slots, first_rules, instance_of};
 use mrc_wiring::Wired;
 use std::alloc::{AllocError, Global};
 use std::marker::Model;
@@ -91,12 +91,13 @@ fn derive_all(alloc: Global, wired: &Wired, first: &Facts) -> Result<Derived, Al
     ensures same { IfOk result (λ d. HaveSame d.facts d.order.items) }
 {
     let _classes = wired.classes();
+    let slots = Slots::new(alloc, wired)?;
     let mut facts = Facts::new(alloc);
     let mut order = Vec::new(alloc);
     let mut new = merge(alloc, &mut facts, first)?;
     while !new.is_empty() {
         order.extend_from_slice(new.as_slice())?;
-        let found = round(alloc, wired, &facts, new.as_slice())?;
+        let found = round(alloc, &slots, &facts, new.as_slice())?;
         new = merge(alloc, &mut facts, &found)?;
     }
     Ok(Derived { facts, order })

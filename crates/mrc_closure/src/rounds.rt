@@ -4,29 +4,29 @@ ghost use Rattle.std.specs.Prelude.{◌≡◌, ◌^◌, ◌<◌, ◌++◌, ◌�
 ghost use Rattle.mrc_model.specs.Wiring.{classes};
 ghost use Rattle.mrc_model.specs.Rules.{InRange, IsLeast};
 ghost use Rattle.mrc_wiring.specs.Table.{wiring_of};
-ghost use Rattle.mrc_classes.specs.Sets.{has, after, IsAscending};
+ghost use Rattle.mrc_facts.specs.Sets.{has, after, IsAscending};
 ghost use Rattle.mrc_classes.specs.Following.{IsListOf};
 ghost use Rattle.mrc_certificate.specs.Spelling.{content};
 ghost use Rattle.mrc_closure.specs.Merging.{FromOne, Merged};
 
 use mrc_base::Fact;
 use mrc_certificate::Draft;
-use mrc_classes::{Facts, first_rules, with_consequences};
+use mrc_classes::{Facts, Slots, first_rules, with_consequences};
 use mrc_wiring::Wired;
 use std::alloc::{AllocError, Global};
 
 /// What follows from one of the new facts, with those of the set.
 pub(crate) fn round(
     alloc: Global,
-    wired: &Wired,
+    slots: &Slots<'_>,
     facts: &Facts,
     new: &[Fact],
 ) -> Result<Facts, AllocError>
-    ensures { IfOk result (IsListOf (FromOne (wiring_of wired.now) facts.now new.now)) }
+    ensures { IfOk result (IsListOf (FromOne (wiring_of slots.now) facts.now new.now)) }
 {
     let mut found = Facts::new(alloc);
     for fact in new {
-        found = with_consequences(wired, facts, *fact, found)?;
+        found = with_consequences(slots, facts, *fact, found)?;
     }
     Ok(found)
 }
@@ -90,11 +90,12 @@ fn least_set(alloc: Global, wired: &Wired) -> Result<Facts, AllocError>
     ensures few { IfOk result (λ facts. length facts < 2 ^ 32) }
 {
     let _classes = wired.classes();
+    let slots = Slots::new(alloc, wired)?;
     let mut facts = Facts::new(alloc);
     let first = first_rules(alloc, wired)?;
     let mut new = merge(alloc, &mut facts, &first)?;
     while !new.is_empty() {
-        let found = round(alloc, wired, &facts, new.as_slice())?;
+        let found = round(alloc, &slots, &facts, new.as_slice())?;
         new = merge(alloc, &mut facts, &found)?;
     }
     Ok(facts)

@@ -1,5 +1,5 @@
 use Rattle.std.proofs.Common.{◌≡◌, ◌+◌, ◌*◌, None}
-use Rattle.mrc_classes.specs.Sets.{IsAscending}
+use Rattle.mrc_facts.specs.Sets.{IsAscending}
 use Rattle.mrc_certificate.specs.Reading.{facts_at}
 use Rattle.mrc_certificate.proofs.Ends.{Left}
 use Rattle.mrc_certificate.proofs.reading.facts_at.Given as goal

@@ -1,6 +1,6 @@
 use Rattle.std.proofs.Common.{subst, ap, sym, ◌∙◌}
 use Rattle.mrc_certificate.specs.Spelling.{content}
-use Rattle.mrc_classes.specs.Sets.{has}
+use Rattle.mrc_facts.specs.Sets.{has}
 use Rattle.mrc_classes.specs.Missing.{IsAnswer}
 use Rattle.mrc_wiring.specs.Table.{wiring_of}
 use Rattle.mrc_check.specs.Verdict.{first_broken, IsWhy}

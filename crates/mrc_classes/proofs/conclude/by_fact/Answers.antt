@@ -3,7 +3,7 @@ use Rattle.std.specs.Prelude.{OnOk}
 use Rattle.mrc_base.specs.declared.Fact.{Fact}
 use Rattle.mrc_base.specs.declared.Fact.TheVariants.{Hold}
 use Rattle.mrc_wiring.specs.Table.{wiring_of}
-use Rattle.mrc_classes.specs.Sets.{has}
+use Rattle.mrc_facts.specs.Sets.{has}
 use Rattle.mrc_classes.specs.Growing.{Added}
 use Rattle.mrc_classes.specs.Parts.{ByFact}
 use Rattle.mrc_classes.proofs.conclude.by_fact.Goals as goal

@@ -1,5 +1,5 @@
 use Rattle.mrc_wiring.specs.Table.{wiring_of}
-use Rattle.mrc_classes.specs.Sets.{has}
+use Rattle.mrc_facts.specs.Sets.{has}
 use Rattle.mrc_classes.specs.Parts.{PairedAt}
 use Rattle.mrc_classes.proofs.Adding.{below_more}
 use Rattle.mrc_classes.proofs.conclude.pairs.Goals as goal

@@ -1,4 +1,4 @@
-use Rattle.mrc_classes.specs.Sets.{has}
+use Rattle.mrc_facts.specs.Sets.{has}
 use Rattle.mrc_classes.specs.Growing.{Added, Below}
 use Rattle.mrc_classes.specs.Parts.{PairedAt}
 use Rattle.mrc_wiring.specs.Table.{wiring_of}

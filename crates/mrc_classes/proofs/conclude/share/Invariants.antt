@@ -1,4 +1,4 @@
-use Rattle.mrc_classes.specs.Sets.{has}
+use Rattle.mrc_facts.specs.Sets.{has}
 use Rattle.mrc_classes.specs.Growing.{Added, Below}
 use Rattle.mrc_classes.specs.Parts.{SharedAt}
 use Rattle.mrc_classes.proofs.conclude.share.Given as goal

@@ -1,5 +1,7 @@
-use Rattle.mrc_wiring.specs.Table.{wiring_of}
-use Rattle.mrc_classes.specs.Sets.{has}
+use Rattle.std.proofs.Common.{subst, ◌↔◌, IsTrue}
+use Rattle.mrc_model.specs.Rules.{InRange}
+use Rattle.mrc_wiring.specs.Table.{Table, wiring_of}
+use Rattle.mrc_facts.specs.Sets.{has}
 use Rattle.mrc_classes.proofs.Premises.{parts_follow, nothing_follows}
 use Rattle.std.proofs.lemmas.Bool.Decides.{not_from_Decides}
 use Rattle.mrc_classes.proofs.conclude.with_consequences.Goals as goal
@@ -8,10 +10,14 @@ use Rattle.mrc_classes.proofs.conclude.with_consequences.Goals as goal
 pub returns-then-not-is_in_range : goal.returns-then-not-is_in_range
 returns-then-not-is_in_range c =
     nothing_follows (wiring_of c.args.wired.now) c.args.facts.now c.args.fact (has c.args.found)
-    (not_from_Decides _ c.is_in_range.ensures c.if-not-is_in_range.true)
+    (not_from_Decides _
+    (subst (λ (table : Table). IsTrue c.is_in_range.result ↔ InRange (wiring_of table) c.args.fact)
+    c.wired.ensures c.is_in_range.ensures) c.if-not-is_in_range.true)
 
 pub returns : goal.returns
 returns c =
     parts_follow (wiring_of c.args.wired.now) c.args.facts.now c.args.fact (has c.args.found)
-    (has c.by_fact.new.found) (c.is_in_range.ensures.0 c.if-not-is_in_range.false)
+    (has c.by_fact.new.found)
+    (subst (λ (table : Table). InRange (wiring_of table) c.args.fact) c.wired.ensures
+    (c.is_in_range.ensures.0 c.if-not-is_in_range.false))
     c.in_ok-by_fact.ensures

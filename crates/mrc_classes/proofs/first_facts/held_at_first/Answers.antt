@@ -2,7 +2,7 @@ use Rattle.std.proofs.Common.{List, subst, sym}
 use Rattle.mrc_base.specs.declared.Fact.{Fact}
 use Rattle.mrc_wiring.specs.Table.{wiring_of}
 use Rattle.mrc_wiring.specs.FirstState.{HasFirstHolds}
-use Rattle.mrc_classes.specs.Sets.{has}
+use Rattle.mrc_facts.specs.Sets.{has}
 use Rattle.mrc_classes.specs.Growing.{Added}
 use Rattle.mrc_classes.specs.Parts.{IsListedHold}
 use Rattle.mrc_classes.proofs.Beginning.{held_listed}

@@ -1,5 +1,5 @@
 use Rattle.mrc_wiring.specs.Table.{wiring_of}
-use Rattle.mrc_classes.specs.Sets.{has}
+use Rattle.mrc_facts.specs.Sets.{has}
 use Rattle.mrc_classes.specs.Growing.{Added, Below}
 use Rattle.mrc_classes.specs.Parts.{IsBirth}
 use Rattle.mrc_classes.proofs.first_facts.put_births.Given as goal

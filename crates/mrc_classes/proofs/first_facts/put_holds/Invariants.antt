@@ -1,6 +1,6 @@
 use Rattle.std.proofs.Common.{take}
 use Rattle.mrc_wiring.specs.Table.{wiring_of}
-use Rattle.mrc_classes.specs.Sets.{has}
+use Rattle.mrc_facts.specs.Sets.{has}
 use Rattle.mrc_classes.specs.Growing.{Added}
 use Rattle.mrc_classes.specs.Parts.{IsListedHold}
 use Rattle.mrc_classes.proofs.first_facts.put_holds.Given as goal

@@ -1,7 +1,7 @@
 use Rattle.std.proofs.Common.{IsTrue}
 use Rattle.mrc_base.specs.declared.Fact.TheVariants.{Hold}
 use Rattle.mrc_wiring.specs.Table.{wiring_of}
-use Rattle.mrc_classes.specs.Sets.{has}
+use Rattle.mrc_facts.specs.Sets.{has}
 use Rattle.mrc_classes.proofs.Beginning.{first_hold_is}
 use Rattle.mrc_classes.proofs.Justified.{by_birth}
 use Rattle.mrc_classes.proofs.instances.by_nothing.Goals as goal

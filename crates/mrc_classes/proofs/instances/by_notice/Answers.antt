@@ -2,7 +2,7 @@ use Rattle.std.proofs.Common.{◌≡◌, true, false, IsTrue}
 use Rattle.mrc_base.specs.declared.PortRight.TheVariants.{Send, Receive, SendOnce}
 use Rattle.mrc_model.specs.Conclusions.{same_right}
 use Rattle.mrc_wiring.specs.Table.{wiring_of}
-use Rattle.mrc_classes.specs.Sets.{has}
+use Rattle.mrc_facts.specs.Sets.{has}
 use Rattle.mrc_classes.proofs.Justified.{notice_at}
 use Rattle.mrc_classes.proofs.instances.by_notice.Goals as goal
 

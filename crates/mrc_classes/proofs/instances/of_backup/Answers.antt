@@ -5,7 +5,7 @@ use Rattle.mrc_model.specs.Rules.{Has, Follows}
 use Rattle.mrc_classes.specs.declared.instances.Instance.{Instance}
 use Rattle.mrc_model.specs.Wiring.{accepts_destroyed}
 use Rattle.mrc_wiring.specs.Table.{wiring_of}
-use Rattle.mrc_classes.specs.Sets.{has}
+use Rattle.mrc_facts.specs.Sets.{has}
 use Rattle.mrc_classes.proofs.Justified.{request_at, no_receiver}
 use Rattle.mrc_classes.proofs.instances.of_backup.Goals as goal
 

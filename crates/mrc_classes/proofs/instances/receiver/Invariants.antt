@@ -1,7 +1,7 @@
 use Rattle.std.proofs.Common.{ℕ, ◌<◌, IsTrue}
 use Rattle.mrc_base.specs.declared.Fact.TheVariants.{Hold}
 use Rattle.mrc_base.specs.declared.PortRight.TheVariants.{Receive, SendOnce}
-use Rattle.mrc_classes.specs.Sets.{has}
+use Rattle.mrc_facts.specs.Sets.{has}
 use Rattle.mrc_classes.proofs.instances.receiver.Given as goal
 
 -- no task so far receives and holds the right

@@ -1,7 +1,7 @@
 use Rattle.std.proofs.Common.{ℕ, ◌<◌, IsTrue}
 use Rattle.mrc_base.specs.declared.Fact.TheVariants.{Hold, Backup}
 use Rattle.mrc_base.specs.declared.PortRight.TheVariants.{Receive}
-use Rattle.mrc_classes.specs.Sets.{has}
+use Rattle.mrc_facts.specs.Sets.{has}
 use Rattle.mrc_classes.proofs.instances.returned_at.Given as goal
 
 -- for no class so far the right is returned

@@ -1,6 +1,6 @@
 use Rattle.std.proofs.Common.{ℕ, ◌<◌, IsTrue}
 use Rattle.mrc_base.specs.declared.Fact.TheVariants.{Hold}
-use Rattle.mrc_classes.specs.Sets.{has}
+use Rattle.mrc_facts.specs.Sets.{has}
 use Rattle.mrc_classes.specs.Lacks.{can_send_to}
 use Rattle.mrc_classes.proofs.instances.sender.Given as goal
 

@@ -1,6 +1,6 @@
 use Rattle.std.proofs.Common.{◌<◌}
 use Rattle.mrc_wiring.specs.Table.{wiring_of}
-use Rattle.mrc_classes.specs.Sets.{has}
+use Rattle.mrc_facts.specs.Sets.{has}
 use Rattle.mrc_classes.specs.Lacks.{LacksNothing}
 use Rattle.mrc_classes.specs.Missing.{rule_number}
 use Rattle.mrc_classes.specs.declared.rule_names.RuleName.{RuleName}

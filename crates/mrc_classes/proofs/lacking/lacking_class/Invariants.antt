@@ -1,7 +1,7 @@
 use Rattle.std.proofs.Common.{ℕ, ◌<◌}
 use Rattle.mrc_base.specs.declared.PortRight.{PortRight}
 use Rattle.mrc_wiring.specs.Table.{wiring_of}
-use Rattle.mrc_classes.specs.Sets.{has}
+use Rattle.mrc_facts.specs.Sets.{has}
 use Rattle.mrc_classes.specs.Lacks.{Lacks}
 use Rattle.mrc_classes.proofs.lacking.lacking_class.Given as goal
 

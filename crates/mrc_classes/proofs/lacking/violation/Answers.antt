@@ -1,5 +1,5 @@
 use Rattle.mrc_wiring.specs.Table.{wiring_of}
-use Rattle.mrc_classes.specs.Sets.{has}
+use Rattle.mrc_facts.specs.Sets.{has}
 use Rattle.mrc_classes.proofs.Missed.{answered}
 use Rattle.mrc_classes.proofs.lacking.violation.Goals as goal
 

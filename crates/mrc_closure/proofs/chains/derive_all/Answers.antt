@@ -36,7 +36,7 @@ loop-alloc-preserved c =
     let W = wiring_of c.args.wired.now in
     let found : IsListOf (FromOne W c.loop-alloc.facts c.loop-alloc.new.items)
     c.in_ok-found.found = subst (λ (fs : List Fact). IsListOf (FromOne W c.loop-alloc.facts fs)
-    c.in_ok-found.found) c.as_slice-in-loop-alloc.ensures.value c.in_ok-found.ensures in
+    c.in_ok-found.found) c.as_slice-in-loop-alloc.ensures.value (subst (λ (table : Table). IsListOf (FromOne (wiring_of table) c.loop-alloc.facts c.as_slice-in-loop-alloc.result.now) c.in_ok-found.found) c.in_ok-slots.ensures c.in_ok-found.ensures) in
     let longer : c.extend_from_slice.new.self.items ≡ c.loop-alloc.order.items
     ++ c.loop-alloc.new.items = c.in_ok-extend_from_slice.ensures.items
     ∙ ap (λ (fs : List Fact). c.loop-alloc.order.items ++ fs) c.as_slice.ensures.value in

@@ -1,7 +1,7 @@
 use Rattle.std.proofs.Common.{◌≡◌, Bool, true, false, refl, IsTrue}
 use Rattle.std.proofs.lemmas.Bool.{false≢true}
-use Rattle.mrc_classes.specs.Sets.{has}
-use Rattle.mrc_classes.proofs.Members.{one_list}
+use Rattle.mrc_facts.specs.Sets.{has}
+use Rattle.mrc_facts.proofs.Members.{one_list}
 use Rattle.mrc_closure.proofs.laws.one_least.Goals as goal
 
 same : (p q : Bool) → (IsTrue p → IsTrue q) → (IsTrue q → IsTrue p) → p ≡ q

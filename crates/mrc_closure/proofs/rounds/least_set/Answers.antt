@@ -29,7 +29,7 @@ loop-alloc-preserved c =
     let W = wiring_of c.args.wired.now in
     let found : IsListOf (FromOne W c.loop-alloc.facts c.loop-alloc.new.items)
     c.in_ok-found.found = subst (λ (fs : List Fact). IsListOf (FromOne W c.loop-alloc.facts fs)
-    c.in_ok-found.found) c.as_slice.ensures.value c.in_ok-found.ensures in
+    c.in_ok-found.found) c.as_slice.ensures.value (subst (λ (table : Table). IsListOf (FromOne (wiring_of table) c.loop-alloc.facts c.as_slice.result.now) c.in_ok-found.found) c.in_ok-slots.ensures c.in_ok-found.ensures) in
     gone_on W c.loop-alloc.facts c.loop-alloc.new.items c.in_ok-found.found
     c.merge-in-loop-alloc.new.facts c.in_ok-new-2.new.items c.loop-alloc.invariant found
     c.in_ok-new-2.ensures.merged c.in_ok-new-2.ensures.ascending

@@ -1,5 +1,5 @@
 use Rattle.std.proofs.Common.{sym, ◌∙◌}
-use Rattle.mrc_closure.proofs.Walking.{listed_more, listed_all, listed_less}
+use Rattle.mrc_facts.proofs.Walking.{listed_more, listed_all, listed_less}
 use Rattle.mrc_closure.proofs.rounds.listed.Goals as goal
 
 pub loop-next-preserved : goal.loop-next-preserved

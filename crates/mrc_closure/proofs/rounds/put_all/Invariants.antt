@@ -1,5 +1,5 @@
 use Rattle.std.proofs.Common.{take}
-use Rattle.mrc_classes.specs.Sets.{IsAscending}
+use Rattle.mrc_facts.specs.Sets.{IsAscending}
 use Rattle.mrc_closure.specs.Merging.{Merged}
 use Rattle.mrc_closure.proofs.rounds.put_all.Given as goal
 

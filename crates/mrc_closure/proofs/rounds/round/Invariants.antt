@@ -7,4 +7,4 @@ use Rattle.mrc_closure.proofs.rounds.round.Given as goal
 -- found is what follows from the facts so far
 abbrev pub invariant-loop-fact : goal.invariant-loop-fact
 invariant-loop-fact l =
-    IsListOf (FromOne (wiring_of l.wired) l.facts (take l.fact-index l.new)) l.found
+    IsListOf (FromOne (wiring_of l.slots) l.facts (take l.fact-index l.new)) l.found

@@ -1,5 +1,0 @@
-use Rattle.mrc_classes.proofs.Members.{one_list}
-use Rattle.mrc_classes.proofs.laws.one_list.Goals as goal
-
-pub returns : goal.returns
-returns c = one_list
