@@ -3,3 +3,10 @@ pub mod Keeping
 pub mod Following
 pub mod Absent
 pub mod TakenLaws
+pub mod TakingLaws
+pub mod RightsLaws
+pub mod Burying
+pub mod Rooms
+pub mod Telling
+pub mod TellLoops
+pub mod WorkLaws

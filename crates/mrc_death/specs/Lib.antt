@@ -1,5 +1,6 @@
 pub mod Heads
 pub mod Losing
+pub mod Plans
 pub mod Rights
 pub mod Search
 pub mod Taking

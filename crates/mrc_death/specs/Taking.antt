@@ -1,5 +1,5 @@
 -- What a call destroys, as code has it, in the definitions' words.
-use Rattle.std.specs.Prelude.{[], ◌∷◌, Option, Some, None, option_map}
+use Rattle.std.specs.Prelude.{[], ◌∷◌, Option, Some, None, IsSome, option_map}
 use Rattle.mrc_base.specs.declared.PortRight.TheVariants.{Receive as ReceiveRight}
 use Rattle.mrc_model.specs.declared.Entry.{Entry}
 use Rattle.mrc_model.specs.declared.Entry.TheVariants.{Receive as ReceiveEntry}
@@ -7,9 +7,13 @@ use Rattle.mrc_model.specs.Death.{Doomed}
 use Rattle.mrc_model.specs.Destroyed.{Destroyed as TDestroyed, ReceiveOf, EntryOf, TaskOf, TakenOut}
 use Rattle.std.specs.Prelude.{◌≡◌, ℕ}
 use Rattle.mrc_model.specs.Death.{has, dying}
+use Rattle.mrc_model.specs.Map.{get}
+use Rattle.mrc_model.specs.World.{Store, set_space}
+use Rattle.mrc_model.specs.Space.{send_entry}
 use Rattle.mrc_death.specs.Losing.{is_losing}
 use Rattle.mrc_death.specs.declared.search.Deaths.{Deaths}
 use Rattle.mrc_death.specs.declared.taking.Destroyed.{Destroyed}
+use Rattle.mrc_death.specs.declared.taking.Taken.{Taken}
 use Rattle.mrc_death.specs.declared.taking.Destroyed.TheVariants.{Receive, Entry as WholeEntry}
 use Rattle.mrc_death.specs.declared.taking.Destroyed.TheVariants.{Task}
 
@@ -37,3 +41,21 @@ AreDeaths (Some deaths) out =
     (o : TakenOut) × (out ≡ Some o)
     × ((p : ℕ) → has deaths.dead p ≡ has (dying o.store o.doomed) p)
     × ((p : ℕ) → has deaths.lost p ≡ is_losing o.store o.doomed p)
+
+-- what is taken out of a task's space: nothing where nothing is. The task has a space, which is
+-- changed.
+abbrev pub AreTaken : Store → Option Taken → Option TakenOut → Type 0
+AreTaken s None out = out ≡ None
+AreTaken s (Some t) out =
+    IsSome (get s.spaces t.task)
+    × (out ≡ Some (record { store = set_space s t.task t.space; doomed = t.doomed }))
+
+-- the entry has a receive right
+abbrev pub IsReceive : Option Entry → Type 0
+IsReceive (Some (ReceiveEntry p k i)) = Unit {0}
+IsReceive e = ⊥
+
+-- what is left of an entry without its receive right
+abbrev pub left_of_receive : Option Entry → Option Entry
+left_of_receive (Some (ReceiveEntry p k i)) = send_entry p k
+left_of_receive e = None

@@ -73,6 +73,13 @@ impl Doomed {
         self.rights.as_slice()
     }
 
+    /// The rights, taken out.
+    pub(crate) fn into_rights(self) -> Vec<Held>
+        ensures { result.items ≡ self.rights }
+    {
+        self.rights
+    }
+
     /// The kernel port of the task that ends.
     pub fn kernel(&self) -> Option<PortId>
         ensures { result ≡ self.now.kernel }

@@ -3,13 +3,17 @@
 ghost use Rattle.std.specs.Prelude.{◌≡◌, ◌++◌, IfOk, OnOk, Some, option_map};
 ghost use Rattle.mrc_model.specs.Map.{get};
 ghost use Rattle.mrc_model.specs.World.{space, entry_rights, if_sends};
-ghost use Rattle.mrc_model.specs.Destroyed.{all_rights, taken_out};
+ghost use Rattle.mrc_model.specs.Destroyed.{all_rights, taken_out, receive_out, entry_out};
+ghost use Rattle.mrc_model.specs.Destroyed.{task_out};
+ghost use Rattle.mrc_model.specs.Space.{put_entry};
 ghost use Rattle.mrc_death.specs.Taking.{destroyed_of, receive_rights, doomed_of, AreDeaths};
+ghost use Rattle.mrc_death.specs.Taking.{AreTaken, IsReceive, left_of_receive};
 
 use crate::doomed::{Doomed, Held};
 use crate::search::{Deaths, find_deaths};
-use mrc_base::{PortId, PortRight, TaskId};
+use mrc_base::{Disp, PortId, PortRight, TaskId};
 use mrc_model::Entry;
+use mrc_names::Space;
 use mrc_ports::Store;
 use std::alloc::{AllocError, Global};
 
@@ -151,5 +155,123 @@ pub fn deaths_by(
             Ok(Some(deaths))
         }
         None => Ok(None),
+    }
+}
+
+/// A task's space without what is destroyed, and what goes with it.
+#[derive(Debug, Drop)]
+pub(crate) struct Taken {
+    /// The task.
+    pub(crate) task: TaskId,
+    /// Its space from then on.
+    pub(crate) space: Space,
+    /// What goes.
+    pub(crate) doomed: Doomed,
+}
+
+/// The space after the receive right left its entry; its send references stay.
+fn without_receive(alloc: Global, space: &Space, name: u32) -> Result<Space, AllocError>
+    requires { IsReceive (get space.now name) }
+    ensures { IfOk result (λ left.
+        left ≡ put_entry space.now name (left_of_receive (get space.now name))) }
+{
+    let mut left = space.copy(alloc)?;
+    match left.take(name, Disp::MoveReceive) {
+        Ok(_) => Ok(left),
+        Err(_) => unreachable!(),
+    }
+}
+
+/// The receive right under a name of a task, taken out. None where there is none.
+fn take_receive(
+    alloc: Global,
+    store: &Store,
+    task: TaskId,
+    name: u32,
+) -> Result<Option<Taken>, AllocError>
+    ensures { IfOk result (λ taken.
+        AreTaken store.now taken (receive_out store.now task name (get (space store.now task) name))) }
+{
+    let Some(found) = store.space(task) else {
+        return Ok(None);
+    };
+    let Some(entry) = found.get(name) else {
+        return Ok(None);
+    };
+    let Some(doomed) = doomed_receive(alloc, &entry)? else {
+        return Ok(None);
+    };
+    let space = without_receive(alloc, found, name)?;
+    Ok(Some(Taken {
+        task,
+        space,
+        doomed,
+    }))
+}
+
+/// All that stands under a name of a task, taken out. None where nothing does.
+fn take_entry(
+    alloc: Global,
+    store: &Store,
+    task: TaskId,
+    name: u32,
+) -> Result<Option<Taken>, AllocError>
+    ensures { IfOk result (λ taken.
+        AreTaken store.now taken (entry_out store.now task name (get (space store.now task) name))) }
+{
+    let Some(found) = store.space(task) else {
+        return Ok(None);
+    };
+    let Some(entry) = found.get(name) else {
+        return Ok(None);
+    };
+    let doomed = Doomed::new(rights_of(alloc, &entry)?, None);
+    let mut space = found.copy(alloc)?;
+    let _ = space.remove(name);
+    Ok(Some(Taken {
+        task,
+        space,
+        doomed,
+    }))
+}
+
+/// All that a task has, taken out, with its kernel port. A task without a space is answered as want
+/// of memory: a space of its own would take some.
+fn take_task(
+    alloc: Global,
+    store: &Store,
+    task: TaskId,
+    kernel: PortId,
+) -> Result<Taken, AllocError>
+    ensures { IfOk result (λ taken.
+        AreTaken store.now (Some taken) (Some (task_out store.now task kernel))) }
+{
+    let Some(found) = store.space(task) else {
+        return Err(AllocError);
+    };
+    let rights = all_rights(alloc, found.entries())?;
+    Ok(Taken {
+        task,
+        space: Space::new(alloc),
+        doomed: Doomed::new(rights, Some(kernel)),
+    })
+}
+
+/// What is destroyed, taken out. None where it is not there.
+pub(crate) fn take_out(
+    alloc: Global,
+    store: &Store,
+    what: Destroyed,
+) -> Result<Option<Taken>, AllocError>
+    ensures { IfOk result (λ taken.
+        AreTaken store.now taken (taken_out store.now (destroyed_of what))) }
+{
+    match what {
+        Destroyed::Receive { task, name } => take_receive(alloc, store, task, name),
+        Destroyed::Entry { task, name } => take_entry(alloc, store, task, name),
+        Destroyed::Task { task, kernel } => {
+            let taken = take_task(alloc, store, task, kernel)?;
+            Ok(Some(taken))
+        }
     }
 }

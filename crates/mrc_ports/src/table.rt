@@ -76,6 +76,13 @@ impl PortTable {
         self.ports.get(port.0)
     }
 
+    /// The live ports by the numbers of their births, ascending.
+    pub fn entries(&self) -> &[(u64, Port)]
+        ensures { result.now ≡ self.now.ports.list }
+    {
+        self.ports.entries()
+    }
+
     /// How many live ports there are.
     pub fn len(&self) -> usize
         ensures { result ≡ len self.now.ports }

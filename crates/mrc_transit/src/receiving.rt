@@ -23,18 +23,13 @@ ghost use Rattle.mrc_transit.specs.Receiving.{IsReceiveRefusal};
 
 use crate::giving::give_item;
 use crate::written::Written;
-use mrc_base::{OrMemory, PortId, TaskId};
+use mrc_base::{OrMemory, PortId, PortRight, TaskId};
 use mrc_desc::{Argument, Arguments, Header, Message, Names};
 use mrc_model::{Code, Entry, Item};
 use mrc_names::Space;
 use mrc_ports::{Parcel, QueuedArgument, Store, moving};
 use std::alloc::{AllocError, Global};
 use std::marker::Model;
-
-/// The number that tells a send right, MACH_MSG_TYPE_PORT_SEND.
-const SEND: u8 = 17;
-/// The number that tells a send-once right, MACH_MSG_TYPE_PORT_SEND_ONCE.
-const SEND_ONCE: u8 = 18;
 
 /// Why no message is received. Nothing has changed.
 #[derive(Clone, Copy, Debug, Drop, PartialEq, Eq)]
@@ -200,13 +195,20 @@ fn give_args(
     Ok(Arguments::from(args))
 }
 
+/// The number by which a received message tells a right: that of the disposition that moves it.
+fn given_number(right: PortRight) -> u8
+    ensures { result ≡ given_number right }
+{
+    moving(right).number() as u8
+}
+
 /// The disposition that tells whether there is a reply port, a dead one included.
 fn reply_disp(reply: Item) -> u8
     ensures { result ≡ reply_disp reply }
 {
     match reply {
         Item::Null => 0,
-        Item::Dead | Item::Right { port: _, right: _ } => SEND_ONCE,
+        Item::Dead | Item::Right { port: _, right: _ } => given_number(PortRight::SendOnce),
     }
 }
 
@@ -214,7 +216,11 @@ fn reply_disp(reply: Item) -> u8
 fn local_disp(by_once: bool) -> u8
     ensures { result ≡ (if by_once then given_number SendOnce else given_number Send) }
 {
-    if by_once { SEND_ONCE } else { SEND }
+    if by_once {
+        given_number(PortRight::SendOnce)
+    } else {
+        given_number(PortRight::Send)
+    }
 }
 
 /// Gives a space what a message carries: the message as it is received under a name, after so many

@@ -1,0 +1,55 @@
+-- Rights that are put behind others, part by part.
+use Rattle.std.proofs.Common.{◌≡◌, ℕ, ◌+◌, ◌<◌, ◌≤◌, List, [], ◌∷◌, ◌++◌, refl, length, get_or, drop, map, sym, ◌∙◌}
+use Rattle.std.proofs.Common.{ap}
+use Rattle.std.proofs.lemmas.List.{at_drop_more, at_drop_all, append_assoc}
+use Rattle.mrc_model.specs.declared.Item.{Item}
+use Rattle.mrc_model.specs.World.{Parcel, Held, item_rights, args_rights, parcel_rights}
+use Rattle.mrc_model.specs.World.{queue_rights}
+use Rattle.mrc_ports.specs.declared.parcel.QueuedArgument.{QueuedArgument}
+use Rattle.mrc_ports.specs.Parcels.{queued_of}
+use Rattle.mrc_death.specs.Rights.{flat, argument_rights}
+use Rattle.mrc_death.proofs.Following.{args_flat}
+
+-- what a message carries: its reply right, then those of its arguments
+pub message_pushed : (m : Parcel) (reply : Item) (xs : List QueuedArgument)
+    (old mid new : List Held)
+    → reply ≡ m.reply
+    → map queued_of xs ≡ m.args
+    → mid ≡ old ++ item_rights reply
+    → new ≡ mid ++ flat argument_rights xs
+    → new ≡ old ++ parcel_rights m
+message_pushed m reply xs old mid new r a one two =
+    let args : flat argument_rights xs ≡ args_rights m.args = args_flat xs ∙ ap args_rights a in
+    two ∙ ap (λ hs. hs ++ flat argument_rights xs) one
+    ∙ append_assoc old (item_rights reply) (flat argument_rights xs)
+    ∙ ap (λ hs. old ++ (item_rights reply ++ hs)) args
+    ∙ ap (λ x. old ++ (item_rights x ++ args_rights m.args)) r
+
+-- one message more of a queue
+pub queue_pushed : (ms : List Parcel) (all old new : List Held) (i j : ℕ) (m : Parcel)
+    → i < length ms
+    → m ≡ get_or ms i m
+    → j ≡ i + 1
+    → old ++ queue_rights (drop i ms) ≡ all
+    → new ≡ old ++ parcel_rights m
+    → new ++ queue_rights (drop j ms) ≡ all
+queue_pushed ms all old new i j m h is next so_far pushed =
+    let rest = queue_rights (drop (i + 1) ms) in
+    ap (λ hs. hs ++ queue_rights (drop j ms)) pushed
+    ∙ ap (λ k. (old ++ parcel_rights m) ++ queue_rights (drop k ms)) next
+    ∙ append_assoc old (parcel_rights m) rest
+    ∙ ap (λ hs. old ++ hs)
+    (ap (λ x. parcel_rights x ++ rest) is ∙ sym (at_drop_more queue_rights ms i m h))
+    ∙ so_far
+
+nothing_behind : (hs : List Held) → hs ++ [] ≡ hs
+nothing_behind [] = refl
+nothing_behind (h ∷ hs) = ap (λ r. h ∷ r) (nothing_behind hs)
+
+-- all messages of a queue
+pub queue_done : (ms : List Parcel) (all old : List Held) (i : ℕ)
+    → length ms ≤ i
+    → old ++ queue_rights (drop i ms) ≡ all
+    → old ≡ all
+queue_done ms all old i h so_far =
+    sym (nothing_behind old) ∙ ap (λ hs. old ++ hs) (sym (at_drop_all queue_rights ms i h)) ∙ so_far

@@ -1,0 +1,118 @@
+//! All rights that go in a destruction: those that the call destroys, and those that are queued on
+//! the ports that die.
+
+ghost use Rattle.std.specs.Prelude.{◌≡◌, ◌++◌, IfOk, OnOk};
+ghost use Rattle.mrc_model.specs.World.{item_rights, items_rights, parcel_rights, queue_rights};
+ghost use Rattle.mrc_model.specs.Death.{queued_rights};
+ghost use Rattle.mrc_death.specs.Rights.{flat, argument_rights, queued_at};
+
+use crate::doomed::{Doomed, Held};
+use mrc_base::PortId;
+use mrc_map::Ports;
+use mrc_model::Item;
+use mrc_ports::{Parcel, Port, Queue, QueuedArgument, Store};
+use std::alloc::AllocError;
+
+/// What stands in the place of a name.
+fn add_item(rights: &mut Vec<Held>, item: Item) -> Result<(), AllocError>
+    ensures { OnOk result (rights.new.items ≡ rights.old.items ++ item_rights item) }
+{
+    match item {
+        Item::Null => Ok(()),
+        Item::Dead => Ok(()),
+        Item::Right { port, right } => {
+            rights.push(Held::new(port, right))?;
+            Ok(())
+        }
+    }
+}
+
+/// The rights of items.
+fn add_items(rights: &mut Vec<Held>, items: &[Item]) -> Result<(), AllocError>
+    ensures { OnOk result (rights.new.items ≡ rights.old.items ++ items_rights items.now) }
+{
+    for item in items {
+        add_item(rights, *item)?;
+    }
+    Ok(())
+}
+
+/// The rights of an argument.
+fn add_argument(rights: &mut Vec<Held>, argument: &QueuedArgument) -> Result<(), AllocError>
+    ensures { OnOk result (rights.new.items ≡ rights.old.items ++ argument_rights argument.now) }
+{
+    match argument {
+        QueuedArgument::Data { .. } => Ok(()),
+        QueuedArgument::Items { items, .. } => {
+            add_items(rights, items.as_slice())?;
+            Ok(())
+        }
+    }
+}
+
+/// The rights of arguments.
+fn add_arguments(rights: &mut Vec<Held>, arguments: &[QueuedArgument]) -> Result<(), AllocError>
+    ensures { OnOk result
+        (rights.new.items ≡ rights.old.items ++ flat argument_rights arguments.now) }
+{
+    for argument in arguments {
+        add_argument(rights, argument)?;
+    }
+    Ok(())
+}
+
+/// The rights that a message carries.
+fn add_message(rights: &mut Vec<Held>, message: &Parcel) -> Result<(), AllocError>
+    ensures { OnOk result (rights.new.items ≡ rights.old.items ++ parcel_rights message.now) }
+{
+    add_item(rights, message.reply())?;
+    add_arguments(rights, message.arguments())?;
+    Ok(())
+}
+
+/// The rights that the messages of a queue carry.
+fn add_queue(rights: &mut Vec<Held>, queue: &Queue) -> Result<(), AllocError>
+    ensures { OnOk result (rights.new.items ≡ rights.old.items ++ queue_rights queue.now) }
+{
+    for message in queue.iter() {
+        add_message(rights, message)?;
+    }
+    Ok(())
+}
+
+/// The rights that are queued on a port, if it dies.
+fn add_port(rights: &mut Vec<Held>, dead: &Ports, held: &(u64, Port)) -> Result<(), AllocError>
+    ensures { OnOk result
+        (rights.new.items ≡ rights.old.items ++ queued_at dead.now held.now) }
+{
+    if dead.has(PortId(held.0)) {
+        add_queue(rights, held.1.queue())?;
+    }
+    Ok(())
+}
+
+/// The rights that are queued on the ports that die.
+fn add_queued(rights: &mut Vec<Held>, store: &Store, dead: &Ports) -> Result<(), AllocError>
+    ensures { OnOk result
+        (rights.new.items ≡ rights.old.items ++ queued_rights store.now dead.now) }
+{
+    for held in store.ports().entries() {
+        add_port(rights, dead, held)?;
+    }
+    Ok(())
+}
+
+/// All rights that go, in order: those that the call destroys, then those of the dying ports'
+/// queues.
+pub(crate) fn all_going(
+    store: &Store,
+    doomed: Doomed,
+    dead: &Ports,
+) -> Result<Vec<Held>, AllocError>
+    ensures { IfOk result (λ rights.
+        rights.items ≡ doomed.rights ++ queued_rights store.now dead.now) }
+{
+    let mut rights = doomed.into_rights();
+    add_queued(&mut rights, store, dead)?;
+    Ok(rights)
+}

@@ -1,0 +1,139 @@
+//! The making of a plan.
+
+ghost use Rattle.std.specs.Prelude.{◌≡◌, ◌++◌, true, IfOk, OnOk, IsSome};
+ghost use Rattle.mrc_model.specs.Map.{get};
+ghost use Rattle.mrc_death.specs.Taking.{destroyed_of};
+ghost use Rattle.mrc_death.specs.Plans.{HasRoom, IsPlanOf, IsWorkOf, once_port, once_ports};
+ghost use Rattle.mrc_death.specs.Plans.{kept_port, kept_ports};
+
+use crate::doomed::Held;
+use crate::going::all_going;
+use crate::notices::{DestroyedNotice, OnceNotice};
+use crate::plan::{Dying, Work};
+use crate::search::{Deaths, find_deaths};
+use crate::taking::{Destroyed, Taken, take_out};
+use mrc_base::{PortId, PortRight};
+use mrc_ports::Store;
+use std::alloc::{AllocError, Global};
+
+/// How many messages can not wait at a port: memory has no room for them.
+const WAITING: usize = 1 << 62;
+
+/// Puts a send-once notice behind the others, if the right is a send-once right.
+fn add_once(
+    alloc: Global,
+    store: &Store,
+    held: &Held,
+    notices: &mut Vec<OnceNotice>,
+) -> Result<(), AllocError>
+    ensures { OnOk result (notices.new.items ≡ notices.old.items ++ once_port held.now) }
+{
+    if held.right() == PortRight::SendOnce {
+        notices.push(OnceNotice::new(alloc, store, held.port())?)?;
+    }
+    Ok(())
+}
+
+/// A send-once notice for each send-once right among these.
+fn once_notices(
+    alloc: Global,
+    store: &Store,
+    rights: &[Held],
+) -> Result<Vec<OnceNotice>, AllocError>
+    ensures { IfOk result (λ notices. notices.items ≡ once_ports rights.now) }
+{
+    let mut notices = Vec::new(alloc);
+    for held in rights {
+        add_once(alloc, store, held, &mut notices)?;
+    }
+    Ok(notices)
+}
+
+/// Puts a port-destroyed notice behind the others, if the port loses its receive right, and stays.
+fn add_destroyed(
+    alloc: Global,
+    store: &Store,
+    deaths: &Deaths,
+    port: PortId,
+    notices: &mut Vec<DestroyedNotice>,
+) -> Result<(), AllocError>
+    ensures { OnOk result
+        (notices.new.items ≡ notices.old.items ++ kept_port deaths.now.dead deaths.now.lost port) }
+{
+    if !deaths.dead.has(port) && deaths.lost.has(port) {
+        notices.push(DestroyedNotice::new(alloc, store, port)?)?;
+    }
+    Ok(())
+}
+
+/// A port-destroyed notice for each port that loses its receive right, and stays, by ascending
+/// birth number.
+fn destroyed_notices(
+    alloc: Global,
+    store: &Store,
+    deaths: &Deaths,
+) -> Result<Vec<DestroyedNotice>, AllocError>
+    ensures { IfOk result (λ notices.
+        notices.items ≡ kept_ports deaths.now.dead deaths.now.lost store.now.ports.list) }
+{
+    let mut notices = Vec::new(alloc);
+    for held in store.ports().entries() {
+        add_destroyed(alloc, store, deaths, PortId(held.0), &mut notices)?;
+    }
+    Ok(notices)
+}
+
+/// Whether each queue has room for so many messages more.
+fn has_room(store: &Store, more: usize) -> bool
+    ensures { result ≡ true → HasRoom more store.now }
+{
+    for held in store.ports().entries() {
+        let waiting = held.1.queue().len();
+        if WAITING < waiting || WAITING - waiting < more {
+            return false;
+        }
+    }
+    true
+}
+
+/// The work where this is taken out.
+fn work_of(alloc: Global, store: &Store, taken: Taken) -> Result<Work, AllocError>
+    requires { IsSome (get store.now.spaces taken.task) }
+    ensures { IfOk result (λ work. IsWorkOf store.now taken work) }
+{
+    let Taken {
+        task,
+        space,
+        doomed,
+    } = taken;
+    let deaths = find_deaths(alloc, store, &doomed)?;
+    let lost = destroyed_notices(alloc, store, &deaths)?;
+    let rights = all_going(store, doomed, &deaths.dead)?;
+    let once = once_notices(alloc, store, &rights)?;
+    if !has_room(store, once.len() + lost.len()) {
+        return Err(AllocError);
+    }
+    Ok(Work {
+        task,
+        space,
+        dead: deaths.dead,
+        once,
+        lost,
+    })
+}
+
+/// The plan of a destruction, by which all that follows is found, and has its room, before
+/// anything changes: what is destroyed goes from its space, the ports that die are buried, then
+/// send-once rights that go tell their ports, and then receive rights that go while their ports
+/// stay are sent to the ports' backups, by ascending birth number.
+pub fn dying(alloc: Global, store: &Store, what: Destroyed) -> Result<Dying, AllocError>
+    ensures { IfOk result (λ plan. IsPlanOf store.now (destroyed_of what) plan) }
+{
+    match take_out(alloc, store, what)? {
+        Some(taken) => {
+            let work = work_of(alloc, store, taken)?;
+            Ok(Dying { work: Some(work) })
+        }
+        None => Ok(Dying { work: None }),
+    }
+}
