@@ -22,7 +22,7 @@ use Rattle.mrc_machine.specs.Holdings.{AreShort}
 use Rattle.mrc_machine.specs.Housing.{IsHoused}
 
 -- what holds of each entry holds of one that is there
-each_there : {X : Type 0} (P : ℕ → Type 0) (m : Map X) (k : ℕ) (o : Option X)
+pub each_there : {X : Type 0} (P : ℕ → Type 0) (m : Map X) (k : ℕ) (o : Option X)
     → Each (λ q x. P q) m
     → get m k ≡ o
     → IsSome o
@@ -237,3 +237,21 @@ housed_task ts us s z t x task h short space_is task_is =
     } in
     subst (λ (w : World). IsHoused w)
     (λ i. record { tasks = sym task_is i; store = sym space_is i }) both
+
+-- where a task that is there is another one
+pub housed_end : (ts us : Map Task) (s : Store) (t : ℕ) (task : Task)
+    → IsHoused record { tasks = ts; store = s }
+    → IsSome (get ts t)
+    → us ≡ insert ts t task
+    → IsHoused record { tasks = us; store = s }
+housed_end ts us s t task h has is =
+    let short = each_there (λ q. q < 2 ^ 32) ts t (get ts t) h.tasks refl has in
+    let put : IsHoused record { tasks = insert ts t task; store = s } = record {
+      spaces = λ u there. elim (cases_eq u t) [
+        | inl same ↦ subst (λ q. IsSome (get s.spaces q)) (sym same) (h.spaces t has)
+        | inr apart ↦ h.spaces u (subst (λ o. IsSome o) (get-insert_other ts t task u apart) there)
+      ];
+      tasks = Each-insert (λ u y. u < 2 ^ 32) ts t task h.tasks short;
+      owners = h.owners;
+    } in
+    subst (λ (m : Map Task). IsHoused record { tasks = m; store = s }) (sym is) put

@@ -6,6 +6,12 @@ pub mod AllocateLaws
 pub mod AskingLaws
 pub mod QlimitLaws
 pub mod RenameLaws
+pub mod MoveMemberLaws
+pub mod DropLaws
+pub mod DestroyLaws
+pub mod TerminateLaws
+pub mod TakeLaws
+pub mod RequestLaws
 pub mod MoveLaws
 pub mod StepLaws
 pub mod StartLaws

@@ -1,33 +1,29 @@
 -- What moving a right between two tasks comes to, from what each step of code tells.
-use Rattle.std.proofs.Common.{◌≡◌, ℕ, ◌+◌, ◌≤◌, Bool, true, false, Option, Result}
+use Rattle.std.proofs.Common.{◌≡◌, ℕ, true, false, Result}
 use Rattle.std.proofs.Common.{Some, None, Ok, Err, refl}
-use Rattle.std.proofs.Common.{sym, ◌∙◌, ap, subst, arith, ◌==◌, if◌then◌else◌}
+use Rattle.std.proofs.Common.{sym, ◌∙◌, ap, subst, ◌==◌, if◌then◌else◌}
 use Rattle.std.specs.Prelude.{◌||◌, IsOk}
-use Rattle.std.proofs.lemmas.Bool.{leb-false, le-ltb, eq-eqb, ne_eqb}
+use Rattle.std.proofs.lemmas.Bool.{eq-eqb, ne_eqb}
 use Rattle.mrc_base.specs.declared.memory.OrMemory.{OrMemory}
 use Rattle.mrc_base.specs.declared.memory.OrMemory.TheVariants.{Fault, Memory}
 use Rattle.mrc_base.specs.declared.PortRight.{PortRight}
-use Rattle.mrc_base.specs.declared.PortRight.TheVariants.{Send, Receive, SendOnce}
 use Rattle.mrc_base.specs.declared.Disp.{Disp}
 use Rattle.mrc_base.specs.Disposition.{given}
-use Rattle.mrc_model.specs.declared.Entry.{Entry}
 use Rattle.mrc_model.specs.declared.Code.{Code}
 use Rattle.mrc_model.specs.declared.Code.TheVariants.{KernInvalidTask, KernInvalidValue}
 use Rattle.mrc_model.specs.declared.Code.TheVariants.{KernNoSpace}
 use Rattle.mrc_model.specs.declared.Code.TheVariants.{KernInvalidCapability}
 use Rattle.mrc_model.specs.Rights.{is_receive}
-use Rattle.mrc_model.specs.Map.{get, len}
+use Rattle.mrc_model.specs.Map.{get}
 use Rattle.mrc_model.specs.World.{Space, Store, World, space, set_space}
 use Rattle.mrc_model.specs.Reply.{Reply, Done, Name, Refused, Try, ◌>>=◌}
-use Rattle.mrc_model.specs.Reply.{◌>>◌, refuse_if, or_refuse}
-use Rattle.mrc_model.specs.Space.{Taken, take_from, put_entry, take}
+use Rattle.mrc_model.specs.Reply.{◌>>◌, refuse_if}
 use Rattle.mrc_model.specs.Space.{restart_if, insert_at, give_item}
-use Rattle.mrc_model.specs.Space.{is_full, is_over_full, place, place_at, entry_of}
-use Rattle.mrc_model.specs.Space.{unused, new_entry, joined}
-use Rattle.mrc_model.specs.Target.{is_reserved, with_store, bad_name, wrong_right}
+use Rattle.mrc_model.specs.Space.{is_full, place}
+use Rattle.mrc_model.specs.Target.{is_reserved, with_store}
 use Rattle.mrc_model.specs.CallSend.{dead_taken, is_dead_taken}
 use Rattle.mrc_model.specs.CallInsertRight.{call_insert_right, call_extract_right}
-use Rattle.mrc_model.proofs.Maps.{len-insert, if_true, if_false}
+use Rattle.mrc_model.proofs.Maps.{if_true, if_false}
 use Rattle.mrc_names.specs.Takes.{take_right, taken_port, move_right, give_right}
 use Rattle.mrc_names.specs.Refusals.{IsRefusal, Foretells}
 use Rattle.mrc_names.proofs.SpaceExits.{port_of_taken}
@@ -35,24 +31,10 @@ use Rattle.mrc_machine.specs.Housing.{target_of}
 use Rattle.mrc_machine.specs.Moves.{moved, space_beside, second_space}
 use Rattle.mrc_machine.proofs.StoreLaws.{space_moved}
 use Rattle.mrc_machine.proofs.TargetLaws.{target_none, target_some}
-use Rattle.mrc_machine.proofs.Trying.{bind_bind, ok_bind, err_bind, same_Ok, not_Err}
+use Rattle.mrc_machine.proofs.TakeLaws.{on_taken, take_by_space}
+use Rattle.mrc_machine.proofs.TakeLaws.{given_parts, not_given}
+use Rattle.mrc_machine.proofs.Trying.{bind_bind, ok_bind, err_bind}
 use Rattle.mrc_machine.proofs.Trying.{ok_goes, ok_after, err_after}
-
--- taking from a store is taking from a space
-
--- the store after a taking
-abbrev on_taken : Store → ℕ → Disp → Space × ℕ → Try (Store × ℕ)
-on_taken s t x got = Ok (restart_if (is_receive (given x)) (set_space s t got.0) got.1, got.1)
-
-take_by_space : (s : Store) (t n : ℕ) (x : Disp)
-    → take s t n x bad_name wrong_right ≡ (take_right (space s t) n x >>= on_taken s t x)
-unfolding take take_right ◌>>=◌
-take_by_space s t n x =
-    let put : Taken → Try (Space × ℕ) = λ got. Ok (put_entry (space s t) n got.rest, got.port) in
-    let parts : Entry → Try (Space × ℕ) = λ e. or_refuse (take_from e x) wrong_right >>= put in
-    sym (bind_bind (or_refuse (get (space s t) n) bad_name) parts (on_taken s t x)
-    ∙ ap (λ (f : Entry → Try (Store × ℕ)). or_refuse (get (space s t) n) bad_name >>= f)
-    (λ i e. bind_bind (or_refuse (take_from e x) wrong_right) put (on_taken s t x) i))
 
 -- what is told of the second space
 
@@ -223,44 +205,6 @@ extracted w t u x got =
       with_store w (moved w.store u got.0 got.1 (given x) t (place y got.1 (given x)).space),
       Name (place y got.1 (given x)).name,
     )
-
--- the parts of what was given
-given_parts : (x y : Space) (p n : ℕ) (r : PortRight)
-    → give_right x p r ≡ Ok (y, n)
-    → (y ≡ (place x p r).space) × (n ≡ (place x p r).name)
-unfolding give_right ◌>>◌ refuse_if
-given_parts x y p n r is = go (is_over_full (place x p r).space) is
-  where
-    go : (b : Bool)
-        → ◌≡◌ {A = Try (Space × ℕ)} (refuse_if b (Refused KernNoSpace)
-        >> Ok ((place x p r).space, (place x p r).name)) (Ok (y, n))
-        → (y ≡ (place x p r).space) × (n ≡ (place x p r).name)
-    go true e = absurd (not_Err _ _ (sym e))
-    go false e = let same = same_Ok _ _ (sym e) in (ap (λ z. z.0) same, ap (λ z. z.1) same)
-
--- what is given adds one entry at most
-place_at_len : (x : Space) (p : ℕ) (r : PortRight) (o : Option (ℕ × Entry))
-    → len (place_at x p r o).space ≤ len x + 1
-place_at_len x p r None = omega (arith, len-insert x (unused x) (new_entry p r))
-place_at_len x p r (Some e) = omega (arith, len-insert x e.0 (joined e.1 r))
-
-place_len : (x : Space) (p : ℕ) (r : PortRight) → len (place x p r).space ≤ len x + 1
-place_len x p Send = place_at_len x p Send (entry_of x p)
-place_len x p Receive = place_at_len x p Receive (entry_of x p)
-place_len x p SendOnce = place_at_len x p SendOnce None
-
--- a space that is not full takes what it is given
-not_given : (x : Space) (p : ℕ) (r : PortRight) (e : Reply)
-    → is_full x ≡ false
-    → give_right x p r ≡ Err e
-    → ⊥
-unfolding give_right ◌>>◌ refuse_if
-not_given x p r e room is =
-    let few : is_over_full (place x p r).space ≡ false =
-    le-ltb 4096 (len (place x p r).space)
-    (omega (arith, place_len x p r, leb-false 4096 (len x) room)) in
-    let done : give_right x p r ≡ Ok ((place x p r).space, (place x p r).name) = rw few refl in
-    not_Err _ _ (sym done ∙ is)
 
 module _ (w : World) (t task name : ℕ) (x : Disp) where
   pub extract_no_task : target_of w t task ≡ None

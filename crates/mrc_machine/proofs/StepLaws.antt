@@ -1,10 +1,9 @@
 -- What a step comes to, from what the call tells, and that spaces stay spaces.
 use Rattle.std.proofs.Common.{◌≡◌, ℕ, true, false, Ok, Err, refl, sym, ap, ◌∙◌, subst}
-use Rattle.mrc_model.specs.declared.Code.{Code}
 use Rattle.mrc_model.specs.Map.{get}
 use Rattle.mrc_model.specs.Wiring.{Wiring}
 use Rattle.mrc_model.specs.World.{World, space}
-use Rattle.mrc_model.specs.Reply.{Reply, Refused, DeadTask, Call}
+use Rattle.mrc_model.specs.Reply.{Reply, DeadTask, Call}
 use Rattle.mrc_model.specs.Space.{IsSpace}
 use Rattle.mrc_model.specs.Target.{is_alive}
 use Rattle.mrc_model.specs.Step.{step, try_call}

@@ -5,11 +5,13 @@ use Rattle.std.specs.Prelude.{◌==◌, unwrap_or, IsOk, IsErr, is_err}
 use Rattle.mrc_model.specs.Map.{Map, empty, get}
 use Rattle.mrc_model.specs.World.{Space, Port, Store, World, space, set_space, set_port}
 use Rattle.mrc_model.specs.Reply.{◌>>=◌, or_refuse}
-use Rattle.mrc_model.specs.Space.{restart, restart_port, restart_if}
+use Rattle.mrc_model.specs.Space.{restart_if}
 use Rattle.mrc_model.specs.Target.{with_store, bad_name}
 use Rattle.mrc_model.proofs.Maps.{get-insert}
 use Rattle.mrc_transit.proofs.ApplyLaws.{restart_spaces}
+use Rattle.mrc_model.specs.declared.Backup.{Backup}
 use Rattle.mrc_machine.specs.Moves.{limited}
+use Rattle.mrc_machine.specs.Requests.{with_backup}
 
 -- no space changes where a port's receipts become 0
 pub restart_if_keeps : (b : Bool) (s : Store) (p : ℕ) → (restart_if b s p).spaces ≡ s.spaces
@@ -70,3 +72,22 @@ module _ {A B : Type 0} (w : World) (z : Store) (p limit : ℕ) (r : Result A B)
       go : (o : Option Port) → get w.store.ports p ≡ o → z.spaces ≡ w.store.spaces
       go None at = ap (λ (y : Store). y.spaces) (absent at).1
       go (Some x) at = ap (λ (y : Store). y.spaces) (there x at).1
+
+-- the request of a port: what code tells
+module _ {A B : Type 0} (s z : Store) (p : ℕ) (b : Backup) (r : Result A B)
+    (there : (y : Port) → get s.ports p ≡ Some y
+    → IsOk r × (z ≡ set_port s p (record y { backup = b })))
+    (absent : get s.ports p ≡ None → IsErr r × (z ≡ s)) where
+  pub backup_set : z ≡ with_backup s p b (get s.ports p)
+  backup_set = go (get s.ports p) refl
+    where
+      go : (o : Option Port) → get s.ports p ≡ o → z ≡ with_backup s p b o
+      go None at = (absent at).1
+      go (Some y) at = (there y at).1
+
+  pub backup_keeps : z.spaces ≡ s.spaces
+  backup_keeps = go (get s.ports p) refl
+    where
+      go : (o : Option Port) → get s.ports p ≡ o → z.spaces ≡ s.spaces
+      go None at = ap (λ (y : Store). y.spaces) (absent at).1
+      go (Some y) at = ap (λ (k : Store). k.spaces) (there y at).1

@@ -1,11 +1,13 @@
 -- Steps that may be refused, one after the other: in whichever way they stand together.
 use Rattle.std.proofs.Common.{◌≡◌, Result, Ok, Err, refl, sym, ap, ◌∙◌, subst}
-use Rattle.std.specs.Prelude.{IsOk, IfOk, IfErr, OnErr}
+use Rattle.std.specs.Prelude.{IsOk, IfOk, IfErr, OnErr, IsErrAnd}
 use Rattle.std.specs.Result.{result_unwrap_or}
 use Rattle.mrc_base.specs.declared.memory.OrMemory.{OrMemory}
 use Rattle.mrc_base.specs.declared.memory.OrMemory.TheVariants.{Fault, Memory}
 use Rattle.mrc_model.specs.declared.Code.{Code}
 use Rattle.mrc_names.specs.Refusals.{IsRefusal}
+use Rattle.mrc_machine.specs.declared.refusal.Refusal.{Refusal}
+use Rattle.mrc_machine.specs.Calls.{IsRefusedBy}
 use Rattle.mrc_machine.specs.Starts.{IsFaultOf}
 use Rattle.mrc_model.specs.Reply.{Reply, Done, Refused, Try, ◌>>=◌, ◌>>◌}
 
@@ -123,6 +125,19 @@ seen_as (Err e) call f g same is = tt
 pub on_err : {A E : Type 0} (r : Result A E) (P Q : Type 0) → (P → Q) → OnErr r P → OnErr r Q
 on_err (Ok a) P Q go p = tt
 on_err (Err e) P Q go p = go p
+
+-- memory may run out in a step that is not refused
+pub wanting_by : {A T : Type 0} (r : Result T (OrMemory Refusal)) (m : Try A)
+    → IsErrAnd r (λ e. e ≡ Memory)
+    → IsOk m
+    → IfErr r (λ e. IsRefusedBy e m)
+wanting_by (Ok t) m is ok = tt
+wanting_by (Err e) m is ok = subst (λ k. IsRefusedBy k m) (sym is) ok
+
+-- what holds anyway holds at an error
+pub always : {A E P : Type 0} (r : Result A E) → P → OnErr r P
+always (Ok a) p = tt
+always (Err e) p = p
 
 pub same_Ok : {A E : Type 0} (a b : A) → ◌≡◌ {A = Result A E} (Ok a) (Ok b) → a ≡ b
 same_Ok a b is = ap (λ r. result_unwrap_or r a) is

@@ -1,6 +1,6 @@
 -- Calls and replies of code, read as the definitions'; and what it is that a call is not refused.
 -- This profile's own choice.
-use Rattle.std.specs.Prelude.{◌≡◌, ℕ, IsTrue, IsOk, Err}
+use Rattle.std.specs.Prelude.{◌≡◌, ℕ, Bool, true, false, IsTrue, IsOk, Err}
 use Rattle.mrc_base.specs.declared.memory.OrMemory.{OrMemory}
 use Rattle.mrc_base.specs.declared.memory.OrMemory.TheVariants.{Fault, Memory}
 use Rattle.mrc_model.specs.declared.Code.{Code}
@@ -13,6 +13,9 @@ use Rattle.mrc_machine.specs.declared.call.Call.{Call}
 use Rattle.mrc_machine.specs.declared.call.Call.TheVariants.{Allocate, GetRefs, InsertRight}
 use Rattle.mrc_machine.specs.declared.call.Call.TheVariants.{ExtractRight, SetQlimit, PortType}
 use Rattle.mrc_machine.specs.declared.call.Call.TheVariants.{Names, Rename, Send, Receive}
+use Rattle.mrc_machine.specs.declared.call.Call.TheVariants.{MoveMember, RequestNotification}
+use Rattle.mrc_machine.specs.declared.call.Call.TheVariants.{Deallocate, Destroy, ModRefs}
+use Rattle.mrc_machine.specs.declared.call.Call.TheVariants.{Terminate}
 use Rattle.mrc_machine.specs.declared.refusal.Refusal.{Refusal}
 use Rattle.mrc_machine.specs.declared.refusal.Refusal.TheVariants as why
 use Rattle.mrc_machine.specs.declared.reply.Reply.{Reply}
@@ -32,6 +35,13 @@ call_of (SetQlimit task name limit) = model.SetQlimit task name limit
 call_of (PortType task name) = model.PortType task name
 call_of (Names task) = model.ListNames task
 call_of (Rename task old new) = model.Rename task old new
+call_of (MoveMember task member set) = model.MoveMember task member set
+call_of (RequestNotification task name id sync notify disp) =
+    model.RequestNotification task name id sync notify disp
+call_of (Deallocate task name) = model.Deallocate task name
+call_of (Destroy task name) = model.Destroy task name
+call_of (ModRefs task name right delta) = model.ModRefs task name right delta
+call_of (Terminate task) = model.Terminate task
 
 -- a reply
 abbrev pub reply_of : Reply → model.Reply
@@ -82,6 +92,12 @@ IsJudgedFirst (SetQlimit task name limit) = Unit {0}
 IsJudgedFirst (PortType task name) = Unit {0}
 IsJudgedFirst (Names task) = Unit {0}
 IsJudgedFirst (Rename task old new) = Unit {0}
+IsJudgedFirst (MoveMember task member set) = Unit {0}
+IsJudgedFirst (RequestNotification task name id sync notify disp) = Unit {0}
+IsJudgedFirst (Deallocate task name) = Unit {0}
+IsJudgedFirst (Destroy task name) = Unit {0}
+IsJudgedFirst (ModRefs task name right delta) = Unit {0}
+IsJudgedFirst (Terminate task) = Unit {0}
 
 -- the call receives a message
 abbrev pub IsReceiving : Call → Type 0
@@ -95,6 +111,34 @@ IsReceiving (SetQlimit task name limit) = ⊥
 IsReceiving (PortType task name) = ⊥
 IsReceiving (Names task) = ⊥
 IsReceiving (Rename task old new) = ⊥
+IsReceiving (MoveMember task member set) = ⊥
+IsReceiving (RequestNotification task name id sync notify disp) = ⊥
+IsReceiving (Deallocate task name) = ⊥
+IsReceiving (Destroy task name) = ⊥
+IsReceiving (ModRefs task name right delta) = ⊥
+IsReceiving (Terminate task) = ⊥
+
+-- the call is refused by codes alone: the filter has no part in it, and there is no message
+abbrev pub IsCoded : Call → Type 0
+IsCoded (Send message) = ⊥
+IsCoded (Receive name limit) = ⊥
+IsCoded (RequestNotification task name id sync notify disp) = ⊥
+IsCoded call = Unit {0}
+
+-- the call only asks
+abbrev pub is_asking : Call → Bool
+is_asking (GetRefs task name right) = true
+is_asking (PortType task name) = true
+is_asking (Names task) = true
+is_asking call = false
+
+-- the call drops references, a name or a task
+abbrev pub is_dropping : Call → Bool
+is_dropping (Deallocate task name) = true
+is_dropping (Destroy task name) = true
+is_dropping (ModRefs task name right delta) = true
+is_dropping (Terminate task) = true
+is_dropping call = false
 
 -- the reply that tells why a call is refused
 abbrev pub refusal_reply : Refusal → model.Reply
@@ -111,6 +155,11 @@ refusal_of Memory = Memory
 abbrev pub IsNotDone : {A : Type 0} → OrMemory Refusal → model.Try A → Type 0
 IsNotDone (Fault refusal) m = m ≡ Err (refusal_reply refusal)
 IsNotDone Memory m = Unit {0}
+
+-- the step is refused so; memory runs out only where it is not refused
+abbrev pub IsRefusedBy : {A : Type 0} → OrMemory Refusal → model.Try A → Type 0
+IsRefusedBy (Fault refusal) m = m ≡ Err (refusal_reply refusal)
+IsRefusedBy Memory m = IsOk m
 
 -- the step is refused so; memory runs out only where it is not refused, but it may be for want of
 -- room in the space

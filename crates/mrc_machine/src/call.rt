@@ -116,4 +116,81 @@ pub enum Call {
         /// The name that it gets.
         new: u32,
     },
+    /// `mach_port_move_member`: moves a receive right into a port set, out of the one that it is
+    /// in; a set of 0 takes it out alone. Answers `Done`. Refused, in order: KERN_INVALID_TASK; a
+    /// member without entry (KERN_INVALID_NAME), or without a receive right (KERN_INVALID_RIGHT); a
+    /// set of 0 where the member is in none (KERN_NOT_IN_SET); a set without entry
+    /// (KERN_INVALID_NAME), or that is no set (KERN_INVALID_RIGHT).
+    MoveMember {
+        /// The task whose names they are.
+        task: u32,
+        /// The name of the receive right.
+        member: u32,
+        /// The name of the set.
+        set: u32,
+    },
+    /// `mach_port_request_notification`, MACH_NOTIFY_PORT_DESTROYED: where the receive right of a
+    /// port would be destroyed, it goes in a notice through a send-once right of the caller; 0 in
+    /// its place takes the request back. Answers `Name`: the name that the caller gets for the
+    /// right of the previous request, 0 where there was none and 0xffffffff where it is dead.
+    /// Refused, in order: KERN_INVALID_TASK; an id that is not 69, a sync that is not 0 or a
+    /// disposition that gives no send-once right (KERN_INVALID_VALUE); KERN_INVALID_NAME; an entry
+    /// without the receive right (KERN_INVALID_RIGHT); 0xffffffff, or a dead name of which a right
+    /// is moved (KERN_INVALID_CAPABILITY); no entry of the caller (KERN_INVALID_NAME); an entry
+    /// that lacks the right (KERN_INVALID_RIGHT); a port whose class accepts no such notices
+    /// (`Denied`); and then, after the taking, a full space where a right is to be given
+    /// (KERN_NO_SPACE).
+    RequestNotification {
+        /// The task that receives.
+        task: u32,
+        /// The name of the receive right.
+        name: u32,
+        /// The id of the notice.
+        id: u32,
+        /// The number of references, of no use to this notice.
+        sync: u32,
+        /// The name of the caller that the send-once right is taken from.
+        notify: u32,
+        /// How it is taken.
+        disp: Disp,
+    },
+    /// `mach_port_deallocate`: drops one send or dead reference, or destroys a send-once right.
+    /// Answers `Done`. Refused, in order: KERN_INVALID_TASK; KERN_INVALID_NAME; an entry that has
+    /// none of them (KERN_INVALID_RIGHT).
+    Deallocate {
+        /// The task whose name it is.
+        task: u32,
+        /// The name.
+        name: u32,
+    },
+    /// `mach_port_destroy`: destroys a name with all its rights; members leave a set. Answers
+    /// `Done`. Refused, in order: KERN_INVALID_TASK; KERN_INVALID_NAME.
+    Destroy {
+        /// The task whose name it is.
+        task: u32,
+        /// The name.
+        name: u32,
+    },
+    /// `mach_port_mod_refs`: changes the references of a right by a number. Of a right that is
+    /// there once -1 destroys it, and 0 keeps it. Answers `Done`. Refused, in order:
+    /// KERN_INVALID_TASK; KERN_INVALID_NAME; an entry that lacks the right (KERN_INVALID_RIGHT);
+    /// another number for a right that is there once, or a sum below 0 (KERN_INVALID_VALUE); a sum
+    /// above 65,535 (KERN_UREFS_OVERFLOW).
+    ModRefs {
+        /// The task whose name it is.
+        task: u32,
+        /// The name.
+        name: u32,
+        /// The right.
+        right: Right,
+        /// By how much the references change.
+        delta: i32,
+    },
+    /// `task_terminate`: ends a task. Its entries go with all their rights, and its kernel port
+    /// dies. Answers `Done`. Refused: KERN_INVALID_ARGUMENT, where other calls are refused by
+    /// KERN_INVALID_TASK.
+    Terminate {
+        /// The task.
+        task: u32,
+    },
 }

@@ -54,6 +54,12 @@ impl Call {
             PortType { task, name }
             Names { task }
             Rename { task, old, new }
+            MoveMember { task, member, set }
+            RequestNotification { task, name, id, sync, notify, disp }
+            Deallocate { task, name }
+            Destroy { task, name }
+            ModRefs { task, name, right, delta }
+            Terminate { task }
         ))
     }
 
@@ -71,6 +77,12 @@ impl Call {
             PortType { task, name }
             Names { task }
             Rename { task, old, new }
+            MoveMember { task, member, set }
+            RequestNotification { task, name, id, sync, notify, disp }
+            Deallocate { task, name }
+            Destroy { task, name }
+            ModRefs { task, name, right, delta }
+            Terminate { task }
         )
     }
 }

@@ -24,7 +24,7 @@ fn is_reserved(name: u32) -> bool
 }
 
 /// Whether the entry is a dead name, and the disposition moves or copies what it stands for.
-fn gives_dead(entry: Option<Entry>, disp: Disp) -> bool
+pub(crate) fn gives_dead(entry: Option<Entry>, disp: Disp) -> bool
     ensures { result ≡ is_dead_taken (dead_taken entry disp) }
 {
     match entry {

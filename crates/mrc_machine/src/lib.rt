@@ -4,23 +4,27 @@
 mod allocate;
 mod call;
 mod copies;
+mod dropping;
 mod extract_right;
 mod first;
 mod get_refs;
 mod holding;
 mod insert_right;
+mod move_member;
 mod names;
 mod port_type;
 mod receive;
 mod refusal;
 mod rename;
 mod reply;
+mod request_notification;
 mod room;
 mod send;
 mod set_qlimit;
 mod state;
 mod step;
 mod task;
+mod terminate;
 mod world;
 
 pub use call::Call;

@@ -11,7 +11,7 @@ use mrc_base::{PortId, TaskId, limits};
 use mrc_model::{Code, Entry};
 
 /// The port of an entry's receive right.
-fn received_port(entry: &Entry) -> Option<PortId>
+pub(crate) fn received_port(entry: &Entry) -> Option<PortId>
     ensures { result ≡ received_port entry.now }
 {
     match *entry {

@@ -1,6 +1,6 @@
 //! All tasks and the store, with what every call needs of them.
 
-ghost use Rattle.std.specs.Prelude.{◌≡◌, false, map, None, Ok, Err, IfOk};
+ghost use Rattle.std.specs.Prelude.{◌≡◌, false, map, option_map, Some, None, Ok, Err, IfOk};
 ghost use Rattle.std.specs.Prelude.{OnOk, OnErr, IfSome, IsSome};
 ghost use Rattle.std.specs.Prelude.{IfErr, is_some, ◌<◌};
 ghost use Rattle.mrc_model.specs.declared.Entry.TheVariants.{Receive as ReceiveEntry};
@@ -8,7 +8,7 @@ ghost use Rattle.mrc_model.specs.declared.Entry.TheVariants.{Send as SendEntry};
 ghost use Rattle.mrc_base.specs.Limits.{limit_of_tasks};
 ghost use Rattle.mrc_model.specs.Rights.{is_receive};
 ghost use Rattle.mrc_model.specs.Map.{empty, get, insert, len};
-ghost use Rattle.mrc_model.specs.World.{space, task_class};
+ghost use Rattle.mrc_model.specs.World.{space, task_class, Task as TTask};
 ghost use Rattle.mrc_model.specs.Space.{is_full, unused, restart_if};
 ghost use Rattle.mrc_model.specs.Reply.{Refused};
 ghost use Rattle.mrc_model.specs.First.{no_world};
@@ -22,13 +22,18 @@ ghost use Rattle.mrc_machine.specs.Holdings.{holdings_of};
 ghost use Rattle.mrc_machine.specs.Housing.{target_of};
 ghost use Rattle.mrc_names.specs.Refusals.{IsRefusal};
 ghost use Rattle.mrc_machine.specs.Moves.{moved, limited};
+ghost use Rattle.mrc_machine.specs.Requests.{with_backup};
+ghost use Rattle.mrc_machine.specs.Endings.{with_end};
+ghost use Rattle.mrc_model.specs.Destroyed.{destroyed};
+ghost use Rattle.mrc_death.specs.Taking.{destroyed_of};
 ghost use Rattle.mrc_machine.specs.Starts.{with_task, with_right};
 
 use crate::holding::{Holding, spaces_holdings};
 use crate::task::Task;
 use mrc_base::{ClassId, OrMemory, PortId, PortRight, TaskId};
+use mrc_death::{Destroyed, dying};
 use mrc_map::Map;
-use mrc_model::{Code, Entry};
+use mrc_model::{Backup, Code, Entry};
 use mrc_names::{Listing, Space};
 use mrc_ports::Store;
 use std::alloc::{AllocError, Global};
@@ -262,6 +267,56 @@ impl State {
             return Err(Code::KernInvalidName);
         }
         Ok(())
+    }
+
+    /// Replaces the port-destroyed request of a port. Nothing where no live port has this number.
+    pub(crate) fn set_backup(&mut self, port: PortId, backup: &Backup)
+        ensures { self.new ≡ with_store self.old
+            (with_backup self.old.store port backup.now (get self.old.store.ports port)) }
+    {
+        let _ = self.store.set_backup(port, *backup);
+    }
+
+    /// Destroys something, with all that follows from it.
+    pub(crate) fn destroy(&mut self, what: Destroyed) -> Result<(), AllocError>
+        ensures ok { OnOk result (self.new ≡ with_store self.old
+            (destroyed self.old.store (destroyed_of what))) }
+        ensures err { OnErr result (self.new ≡ self.old) }
+    {
+        let plan = dying(self.alloc, &self.store, what)?;
+        plan.apply(&mut self.store);
+        Ok(())
+    }
+
+    /// The kernel port of a task.
+    pub(crate) fn kernel(&self, task: TaskId) -> PortId
+        requires { IsSome (get self.now.tasks task) }
+        ensures { option_map (λ (x : TTask). x.kernel) (get self.now.tasks task) ≡ Some result }
+    {
+        match self.tasks.get(u64::from(task.0)) {
+            Some(found) => found.kernel(),
+            None => unreachable!(),
+        }
+    }
+
+    /// The task is no longer alive. Nothing where there is none of this number.
+    pub(crate) fn end(&mut self, task: TaskId)
+        ensures { self.new ≡ with_end self.old task (get self.old.tasks task) }
+    {
+        let key = u64::from(task.0);
+        let Some(found) = self.tasks.get(key) else {
+            return;
+        };
+        let ended = found.ended();
+        self.tasks.set(key, ended);
+    }
+
+    /// What the type keeps: each task has a space in the store.
+    pub(crate) fn housing(&self, task: TaskId)
+        requires { IsSome (get self.now.tasks task) }
+        ensures kept { IsSome (get self.now.store.spaces task) }
+    {
+        let _ = &self.store;
     }
 
     /// The number that the next birth gives.

@@ -1,12 +1,12 @@
 //! One call of a live task.
 
-ghost use Rattle.std.specs.Prelude.{◌≡◌, Ok, OnErr, IfOk, IfErr, IsSome};
+ghost use Rattle.std.specs.Prelude.{◌≡◌, true, false, Ok, OnErr, IfOk, IfErr, IsSome};
 ghost use Rattle.mrc_model.specs.Map.{get};
 ghost use Rattle.mrc_model.specs.Step.{try_call};
 ghost use Rattle.mrc_wiring.specs.Table.{wiring_of};
 ghost use Rattle.mrc_names.specs.Refusals.{IsRefusal};
-ghost use Rattle.mrc_machine.specs.Calls.{call_of, reply_of, IsRefused, IsJudgedFirst};
-ghost use Rattle.mrc_machine.specs.Calls.{IsRefusalOf};
+ghost use Rattle.mrc_machine.specs.Calls.{call_of, reply_of, IsRefused, IsCoded};
+ghost use Rattle.mrc_machine.specs.Calls.{IsRefusalOf, is_asking, is_dropping};
 
 use crate::call::Call;
 use crate::refusal::{Refusal, refusal_of};
@@ -15,6 +15,29 @@ use crate::state::State;
 use mrc_base::{OrMemory, TaskId};
 use mrc_model::Code;
 use mrc_wiring::Wired;
+
+/// Whether the call only asks.
+fn is_asking(call: &Call) -> bool
+    ensures { result ≡ is_asking call.now }
+{
+    matches!(
+        call,
+        Call::GetRefs { .. } | Call::PortType { .. } | Call::Names { .. }
+    )
+}
+
+/// Whether the call drops references, a name or a task.
+fn is_dropping(call: &Call) -> bool
+    ensures { result ≡ is_dropping call.now }
+{
+    matches!(
+        call,
+        Call::Deallocate { .. }
+            | Call::Destroy { .. }
+            | Call::ModRefs { .. }
+            | Call::Terminate { .. }
+    )
+}
 
 impl State {
     /// One call of a live task, or why it is refused.
@@ -41,13 +64,27 @@ impl State {
             let bytes = self.receive(caller, name, limit)?;
             return Ok(Reply::Message(bytes));
         }
+        if let Call::RequestNotification {
+            task,
+            name,
+            id,
+            sync,
+            notify,
+            disp,
+        } = *call
+        {
+            let given = self.request_notification(
+                wired, caller, task, name, id, sync, notify, disp,
+            )?;
+            return Ok(Reply::Name(given));
+        }
         match self.port_call(wired, caller, call) {
             Ok(reply) => Ok(reply),
             Err(fault) => Err(refusal_of(fault)),
         }
     }
 
-    /// One call of a live task that is judged before it takes memory, or why it is refused.
+    /// One call of a live task that is refused by codes alone, or why it is refused.
     fn port_call(
         &mut self,
         wired: &Wired,
@@ -55,7 +92,33 @@ impl State {
         call: &Call,
     ) -> Result<Reply, OrMemory<Code>>
         requires alive { IsSome (get self.old.tasks caller) }
-        requires first { IsJudgedFirst call.now }
+        requires coded { IsCoded call.now }
+        ensures ok { IfOk result (λ reply.
+            try_call (wiring_of wired.now) self.old caller (call_of call.now)
+            ≡ Ok (self.new, reply_of reply)) }
+        ensures told { IfOk result (λ reply. IsRefused reply → ⊥) }
+        ensures refused { IfErr result (λ e. IsRefusal e
+            (try_call (wiring_of wired.now) self.old caller (call_of call.now))) }
+        ensures err { OnErr result (self.new ≡ self.old) }
+    {
+        if is_asking(call) {
+            self.asking_call(wired, caller, call)
+        } else if is_dropping(call) {
+            self.dropping_call(wired, caller, call)
+        } else {
+            self.giving_call(wired, caller, call)
+        }
+    }
+
+    /// One call of a live task that only asks.
+    fn asking_call(
+        &mut self,
+        wired: &Wired,
+        caller: TaskId,
+        call: &Call,
+    ) -> Result<Reply, OrMemory<Code>>
+        requires alive { IsSome (get self.old.tasks caller) }
+        requires asking { is_asking call.now ≡ true }
         ensures ok { IfOk result (λ reply.
             try_call (wiring_of wired.now) self.old caller (call_of call.now)
             ≡ Ok (self.new, reply_of reply)) }
@@ -65,17 +128,79 @@ impl State {
         ensures err { OnErr result (self.new ≡ self.old) }
     {
         match *call {
-            Call::Send(_) => unreachable!(),
-            Call::Receive { .. } => unreachable!(),
-            Call::Allocate { task, right, kind } => {
-                let name = self.allocate(wired, caller, task, right, kind)?;
-                Ok(Reply::Name(name))
-            }
             Call::GetRefs { task, name, right } => {
                 match self.get_refs(caller, task, name, right) {
                     Ok(refs) => Ok(Reply::Refs(refs)),
                     Err(code) => Err(OrMemory::Fault(code)),
                 }
+            }
+            Call::PortType { task, name } => match self.port_type(caller, task, name) {
+                Ok(rights) => Ok(Reply::Mask(rights.mask())),
+                Err(code) => Err(OrMemory::Fault(code)),
+            },
+            Call::Names { task } => {
+                let names = self.names(caller, task)?;
+                Ok(Reply::Names(names))
+            }
+            _ => unreachable!(),
+        }
+    }
+
+    /// One call of a live task that drops references, a name or a task.
+    fn dropping_call(
+        &mut self,
+        wired: &Wired,
+        caller: TaskId,
+        call: &Call,
+    ) -> Result<Reply, OrMemory<Code>>
+        requires alive { IsSome (get self.old.tasks caller) }
+        requires dropping { is_dropping call.now ≡ true }
+        ensures ok { IfOk result (λ reply.
+            try_call (wiring_of wired.now) self.old caller (call_of call.now)
+            ≡ Ok (self.new, reply_of reply)) }
+        ensures told { IfOk result (λ reply. IsRefused reply → ⊥) }
+        ensures refused { IfErr result (λ e. IsRefusal e
+            (try_call (wiring_of wired.now) self.old caller (call_of call.now))) }
+        ensures err { OnErr result (self.new ≡ self.old) }
+    {
+        match *call {
+            Call::Deallocate { task, name } => self.deallocate(caller, task, name)?,
+            Call::Destroy { task, name } => self.destroy_name(caller, task, name)?,
+            Call::ModRefs {
+                task,
+                name,
+                right,
+                delta,
+            } => self.mod_refs(caller, task, name, right, delta)?,
+            Call::Terminate { task } => self.terminate(caller, task)?,
+            _ => unreachable!(),
+        }
+        Ok(Reply::Done)
+    }
+
+    /// One call of a live task that makes names, gives rights or moves names.
+    fn giving_call(
+        &mut self,
+        wired: &Wired,
+        caller: TaskId,
+        call: &Call,
+    ) -> Result<Reply, OrMemory<Code>>
+        requires alive { IsSome (get self.old.tasks caller) }
+        requires coded { IsCoded call.now }
+        requires asks_not { is_asking call.now ≡ false }
+        requires drops_not { is_dropping call.now ≡ false }
+        ensures ok { IfOk result (λ reply.
+            try_call (wiring_of wired.now) self.old caller (call_of call.now)
+            ≡ Ok (self.new, reply_of reply)) }
+        ensures told { IfOk result (λ reply. IsRefused reply → ⊥) }
+        ensures refused { IfErr result (λ e. IsRefusal e
+            (try_call (wiring_of wired.now) self.old caller (call_of call.now))) }
+        ensures err { OnErr result (self.new ≡ self.old) }
+    {
+        match *call {
+            Call::Allocate { task, right, kind } => {
+                let name = self.allocate(wired, caller, task, right, kind)?;
+                Ok(Reply::Name(name))
             }
             Call::InsertRight {
                 task,
@@ -96,18 +221,17 @@ impl State {
                     Err(code) => Err(OrMemory::Fault(code)),
                 }
             }
-            Call::PortType { task, name } => match self.port_type(caller, task, name) {
-                Ok(rights) => Ok(Reply::Mask(rights.mask())),
-                Err(code) => Err(OrMemory::Fault(code)),
-            },
-            Call::Names { task } => {
-                let names = self.names(caller, task)?;
-                Ok(Reply::Names(names))
-            }
             Call::Rename { task, old, new } => {
                 self.rename(caller, task, old, new)?;
                 Ok(Reply::Done)
             }
+            Call::MoveMember { task, member, set } => {
+                match self.move_member(caller, task, member, set) {
+                    Ok(()) => Ok(Reply::Done),
+                    Err(code) => Err(OrMemory::Fault(code)),
+                }
+            }
+            _ => unreachable!(),
         }
     }
 }

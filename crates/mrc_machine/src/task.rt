@@ -1,6 +1,6 @@
 //! Tasks.
 
-ghost use Rattle.std.specs.Prelude.{◌≡◌, true};
+ghost use Rattle.std.specs.Prelude.{◌≡◌, true, false};
 ghost use Rattle.mrc_model.specs.Target.{has_kernel};
 
 use mrc_base::{PortId, TaskId};
@@ -46,6 +46,24 @@ impl Task {
         ensures { result ≡ self.now.class }
     {
         self.class
+    }
+
+    /// Its kernel port.
+    pub(crate) fn kernel(&self) -> PortId
+        ensures { result ≡ self.now.kernel }
+    {
+        self.kernel
+    }
+
+    /// The same task, which has ended.
+    pub(crate) fn ended(&self) -> Task
+        ensures { result ≡ record self.now { alive = false } }
+    {
+        Task {
+            alive: false,
+            kernel: self.kernel,
+            class: self.class,
+        }
     }
 
     /// Whether the task is alive and this is its kernel port.

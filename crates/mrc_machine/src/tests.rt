@@ -91,8 +91,8 @@ fn disposition(word: &str) -> Disp {
 }
 
 /// A call by its task and the words behind it.
-fn call(verb: &str, task: u32, words: [&str; 3]) -> Call {
-    let [first, second, third] = words;
+fn call(verb: &str, task: u32, words: [&str; 5]) -> Call {
+    let [first, second, third, _, _] = words;
     match verb {
         "allocate" => Call::Allocate {
             task,
@@ -129,6 +129,37 @@ fn call(verb: &str, task: u32, words: [&str; 3]) -> Call {
             old: number(first),
             new: number(second),
         },
+        _ => last_call(verb, task, words),
+    }
+}
+
+/// A call that drops something, moves a member or requests a notice; or that lists all names.
+fn last_call(verb: &str, task: u32, words: [&str; 5]) -> Call {
+    let [first, second, third, fourth, fifth] = words;
+    let name = number(first);
+    match verb {
+        "move_member" => Call::MoveMember {
+            task,
+            member: name,
+            set: number(second),
+        },
+        "request_notification" => Call::RequestNotification {
+            task,
+            name,
+            id: number(second),
+            sync: number(third),
+            notify: number(fourth),
+            disp: disposition(fifth),
+        },
+        "deallocate" => Call::Deallocate { task, name },
+        "destroy" => Call::Destroy { task, name },
+        "mod_refs" => Call::ModRefs {
+            task,
+            name,
+            right: right(second),
+            delta: third.parse::<i32>().unwrap_or(0),
+        },
+        "task_terminate" => Call::Terminate { task },
         _ => Call::Names { task },
     }
 }
@@ -141,7 +172,9 @@ fn read(line: &str) -> Call {
     let first = words.next().unwrap_or("");
     let second = words.next().unwrap_or("");
     let third = words.next().unwrap_or("");
-    call(verb, task, [first, second, third])
+    let fourth = words.next().unwrap_or("");
+    let fifth = words.next().unwrap_or("");
+    call(verb, task, [first, second, third, fourth, fifth])
 }
 
 /// A reply, as it is printed, once more where memory ran out.
@@ -341,7 +374,7 @@ fn eight_calls(rt: HostRuntime) -> Result<(), Fail> {
 }
 
 /// Calls that have more wrong than their task, before and behind its name.
-const WRONG: [(&str, &str); 8] = [
+const WRONG: [(&str, &str); 13] = [
     ("allocate", "send 9"),
     ("get_refs", "0 send"),
     ("insert_right", "0 0 17"),
@@ -350,6 +383,11 @@ const WRONG: [(&str, &str); 8] = [
     ("type", "0"),
     ("names", ""),
     ("rename", "0 0"),
+    ("move_member", "0 0"),
+    ("request_notification", "0 70 1 0 17"),
+    ("deallocate", "0"),
+    ("destroy", "0"),
+    ("mod_refs", "0 send -3"),
 ];
 
 /// Each of those calls, on this task, has this reply.
@@ -659,6 +697,187 @@ fn renamings(rt: HostRuntime) -> Result<(), Fail> {
             ("names 4294967294", "names 1:131072 4294967294:65536"),
         ],
     )
+}
+
+// A receive right moves from set to set, and out of them; the member is judged before the set.
+#[test]
+fn members(rt: HostRuntime) -> Result<(), Fail> {
+    let mut machine = with_each_kind(&rt)?;
+    Ok(run(
+        &rt,
+        &mut machine,
+        &[
+            (0, "allocate 1 set 0", "name 7"),
+            (0, "move_member 1 9 0", "KERN_INVALID_NAME"),
+            (0, "move_member 1 1 9", "KERN_INVALID_RIGHT"),
+            (0, "move_member 1 5 0", "KERN_INVALID_RIGHT"),
+            (0, "move_member 1 2 0", "KERN_NOT_IN_SET"),
+            (0, "move_member 1 2 9", "KERN_INVALID_NAME"),
+            (0, "move_member 1 2 4294967295", "KERN_INVALID_NAME"),
+            (0, "move_member 1 2 2", "KERN_INVALID_RIGHT"),
+            (0, "move_member 1 2 5", "done"),
+            (0, "move_member 1 2 5", "done"),
+            (0, "move_member 1 2 7", "done"),
+            (0, "move_member 1 2 0", "done"),
+            (0, "move_member 1 2 0", "KERN_NOT_IN_SET"),
+        ],
+    )?)
+}
+
+/// One task with a port under name 2 whose class accepts port-destroyed notices, and one under
+/// name 3 whose class accepts nothing.
+const NOTIFIED: &str = "wiring 1\ntask a\nport p receiver a accepts destroyed\n\
+    port q receiver a accepts none";
+
+// The refusals of a request in their order; the right of a request that is replaced comes back
+// under the least unused name after the taking.
+#[test]
+fn requests(rt: HostRuntime) -> Result<(), Fail> {
+    let mut machine = started(rt.alloc(), NOTIFIED)?;
+    let call = "request_notification 1";
+    for line in [
+        ("9 70 0 9 21", "KERN_INVALID_VALUE"),
+        ("9 69 1 9 21", "KERN_INVALID_VALUE"),
+        ("9 69 0 0 20", "KERN_INVALID_VALUE"),
+        ("9 69 0 9 21", "KERN_INVALID_NAME"),
+        ("1 69 0 9 21", "KERN_INVALID_RIGHT"),
+        ("3 69 0 4294967295 21", "KERN_INVALID_CAPABILITY"),
+        ("3 69 0 9 21", "KERN_INVALID_NAME"),
+        ("3 69 0 1 21", "KERN_INVALID_RIGHT"),
+        ("3 69 0 3 21", "NotDestroyed"),
+        ("3 69 0 0 21", "name 0"),
+        ("3 69 0 2 21", "name 0"),
+        ("3 69 0 2 21", "name 4"),
+        ("3 69 0 0 18", "name 5"),
+        ("3 69 0 5 18", "name 0"),
+        ("3 69 0 4 18", "name 4"),
+    ] {
+        let text = match format!(in rt.alloc(); "{call} {}", line.0) {
+            Ok(text) => text,
+            Err(_) => format!(in rt.alloc(); "{call} {}", line.0)?,
+        };
+        let told = machine.step(rt.alloc(), 0, text.as_str())?;
+        assert_eq!(rt; told.as_str(), line.1, "{text}");
+    }
+    Ok(())
+}
+
+// A dead name gives a dead right where it would be moved, and lacks the right to make one.
+#[test]
+fn requests_by_a_dead_name(rt: HostRuntime) -> Result<(), Fail> {
+    let mut machine = with_each_kind(&rt)?;
+    Ok(run(
+        &rt,
+        &mut machine,
+        &[
+            (
+                0,
+                "request_notification 1 2 69 0 6 18",
+                "KERN_INVALID_CAPABILITY",
+            ),
+            (
+                0,
+                "request_notification 1 2 69 0 6 21",
+                "KERN_INVALID_RIGHT",
+            ),
+        ],
+    )?)
+}
+
+// One reference goes, and an entry with none left.
+#[test]
+fn deallocations(rt: HostRuntime) -> Result<(), Fail> {
+    let mut machine = with_each_kind(&rt)?;
+    Ok(run(
+        &rt,
+        &mut machine,
+        &[
+            (0, "deallocate 1 9", "KERN_INVALID_NAME"),
+            (0, "deallocate 1 2", "KERN_INVALID_RIGHT"),
+            (0, "deallocate 1 5", "KERN_INVALID_RIGHT"),
+            (0, "insert_right 1 3 3 20", "done"),
+            (0, "deallocate 1 3", "done"),
+            (0, "get_refs 1 3 send", "refs 1"),
+            (0, "deallocate 1 3", "done"),
+            (0, "deallocate 1 3", "KERN_INVALID_RIGHT"),
+            (0, "deallocate 1 6", "done"),
+            (0, "deallocate 1 6", "KERN_INVALID_NAME"),
+            (0, "destroy 1 6", "KERN_INVALID_NAME"),
+            (0, "deallocate 1 1", "done"),
+            (0, "names 1", "KERN_INVALID_TASK"),
+        ],
+    )?)
+}
+
+// The right is judged before the number, and a sum below 0 is another refusal than one above
+// 65,535.
+#[test]
+fn changed_references(rt: HostRuntime) -> Result<(), Fail> {
+    let mut machine = with_each_kind(&rt)?;
+    Ok(run(
+        &rt,
+        &mut machine,
+        &[
+            (0, "mod_refs 1 9 send 1", "KERN_INVALID_NAME"),
+            (0, "mod_refs 1 2 send 0", "KERN_INVALID_RIGHT"),
+            (0, "mod_refs 1 2 receive 1", "KERN_INVALID_VALUE"),
+            (0, "mod_refs 1 2 receive -2", "KERN_INVALID_VALUE"),
+            (0, "mod_refs 1 2 receive 0", "done"),
+            (0, "mod_refs 1 4 once 1", "KERN_INVALID_VALUE"),
+            (0, "mod_refs 1 5 set 1", "KERN_INVALID_VALUE"),
+            (0, "mod_refs 1 3 send 65535", "KERN_UREFS_OVERFLOW"),
+            (0, "mod_refs 1 3 send -2", "KERN_INVALID_VALUE"),
+            (0, "mod_refs 1 3 send 65534", "done"),
+            (0, "get_refs 1 3 send", "refs 65535"),
+            (0, "mod_refs 1 3 send -65535", "done"),
+            (0, "type 1 3", "type 131072"),
+            (0, "mod_refs 1 6 dead 2147483647", "KERN_UREFS_OVERFLOW"),
+            (0, "mod_refs 1 6 dead -2147483648", "KERN_INVALID_VALUE"),
+            (0, "mod_refs 1 6 dead -1", "done"),
+            (0, "mod_refs 1 6 dead 0", "KERN_INVALID_NAME"),
+        ],
+    )?)
+}
+
+// What is destroyed goes, and names on a port that dies turn dead.
+#[test]
+fn destructions(rt: HostRuntime) -> Result<(), Fail> {
+    let mut machine = with_each_kind(&rt)?;
+    run(
+        &rt,
+        &mut machine,
+        &[
+            (0, "mod_refs 1 3 receive -1", "done"),
+            (0, "type 1 3", "type 1048576"),
+            (0, "type 1 4", "type 1048576"),
+            (0, "deallocate 1 4", "done"),
+            (0, "move_member 1 2 5", "done"),
+            (0, "destroy 1 5", "done"),
+            (0, "move_member 1 2 0", "KERN_NOT_IN_SET"),
+            (0, "insert_right 1 7 2 21", "done"),
+            (0, "deallocate 1 7", "done"),
+            (0, "names 1", "names 1:65536 2:131072 3:1048576 6:1048576"),
+            (0, "task_terminate 1", "done"),
+            (0, "names 1", "dead task"),
+        ],
+    )?;
+    assert_eq!(rt; machine.world.live_ports(), 0);
+    Ok(())
+}
+
+// What names no live task's kernel port cannot be ended.
+#[test]
+fn no_task_to_end(rt: HostRuntime) -> Result<(), Fail> {
+    let mut machine = with_each_kind(&rt)?;
+    for name in ["0", "4294967295", "7", "2", "3", "4", "5", "6"] {
+        let text = match format!(in rt.alloc(); "task_terminate {name}") {
+            Ok(text) => text,
+            Err(_) => format!(in rt.alloc(); "task_terminate {name}")?,
+        };
+        let told = machine.step(rt.alloc(), 0, text.as_str())?;
+        assert_eq!(rt; told.as_str(), "KERN_INVALID_ARGUMENT", "{name}");
+    }
+    Ok(())
 }
 
 // A send right has 65,535 references at most; a moved one comes back to its own name.

@@ -1,0 +1,15 @@
+use Rattle.std.proofs.Common.{sym, ap, ◌∙◌}
+use Rattle.mrc_model.specs.World.{Store, World}
+use Rattle.mrc_model.specs.Target.{with_store}
+use Rattle.mrc_model.specs.Destroyed.{destroyed}
+use Rattle.mrc_death.specs.Taking.{destroyed_of}
+use Rattle.mrc_machine.proofs.DestroyLaws.{housed_carried}
+use Rattle.mrc_machine.proofs.state.State.destroy.Goals as goal
+
+pub apply-requires : goal.apply-requires
+apply-requires c = c.in_ok-plan.ensures.ready
+
+pub invariant_of-self : goal.invariant_of-self
+invariant_of-self c =
+    housed_carried c.self.inside.tasks c.self.inside.store c.apply.new.store c.in_ok-plan.plan
+    c.self.invariant c.in_ok-plan.ensures.ready c.apply.ensures
