@@ -1,7 +1,7 @@
 -- The first world of an accepted case is guarded, and each call keeps it so.
 use Rattle.std.proofs.Common.{◌≡◌, IfOk, IsTrue, OnErr, Result, Ok, Err, subst, sym, ℕ}
 use Rattle.mrc_check.specs.Verdict.{Case, IsAccepted}
-use Rattle.mrc_classes.specs.Sets.{has}
+use Rattle.mrc_facts.specs.Sets.{has}
 use Rattle.mrc_confine.specs.Guards.{IsGuarded, wiring_in}
 use Rattle.mrc_cover.proofs.Laws.{covered_is_safe, first_is_covered, step_is_covered}
 use Rattle.mrc_model.specs.Covers.{Covers, IsWellFormed}

@@ -1,6 +1,6 @@
 -- The checker's yes is the premise of the headline.
 use Rattle.mrc_cover.proofs.Laws.{runs_are_safe}
-use Rattle.mrc_classes.specs.Sets.{has}
+use Rattle.mrc_facts.specs.Sets.{has}
 use Rattle.mrc_wiring.proofs.Resolved.{resolved_is_table}
 use Rattle.mrc_wiring.proofs.Sound.{table_is_sound}
 use Rattle.mrc_wiring.specs.Claims.{policy_of}

@@ -1,6 +1,6 @@
 -- What a guarded machine is, and what it keeps. This profile's own choice.
 use Rattle.mrc_check.specs.Verdict.{Case}
-use Rattle.mrc_classes.specs.Sets.{has}
+use Rattle.mrc_facts.specs.Sets.{has}
 use Rattle.mrc_model.specs.Breach.{Breach}
 use Rattle.mrc_model.specs.Covers.{Covers, IsWellFormed}
 use Rattle.mrc_model.specs.First.{first}

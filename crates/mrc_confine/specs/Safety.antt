@@ -3,7 +3,7 @@ use Rattle.std.specs.Prelude.{ℕ, List, IsTrue}
 use Rattle.mrc_certificate.specs.Drafts.{Content}
 use Rattle.mrc_check.specs.Texts.{SayYes}
 use Rattle.mrc_check.specs.Verdict.{Case, IsAccepted}
-use Rattle.mrc_classes.specs.Sets.{has}
+use Rattle.mrc_facts.specs.Sets.{has}
 use Rattle.mrc_model.specs.Breach.{Breach}
 use Rattle.mrc_model.specs.Covers.{Covers}
 use Rattle.mrc_model.specs.First.{first, is_sound}

@@ -2,10 +2,11 @@ use crate::Guarded;
 use crate::laws::{
     accepted_is_safe, confined_is_safe, covered_safe, first_covered, step_covered, yes_is_safe,
 };
-use mrc_base::{Right, TaskId};
+use mrc_base::{Disp, Right, TaskId};
 use mrc_check::{Confined, check_texts};
+use mrc_desc::read_message;
 use mrc_machine::{Call, Reply};
-use mrc_model::Code;
+use mrc_model::{Code, Denied};
 use std::alloc::{AllocError, Global};
 use std::test::Fail;
 
@@ -91,5 +92,174 @@ fn comes_back(alloc: Global, confined: Confined) -> Result<bool, AllocError> {
 #[test]
 fn what_was_checked_comes_back(rt: HostRuntime) -> Result<(), Fail> {
     assert!(rt; comes_back(rt.alloc(), alone(rt.alloc())?)?);
+    Ok(())
+}
+
+const FILE_SERVER: &str = "subsystem fsys 3000;
+#include <mach/std_types.defs>
+type file_t = MACH_MSG_TYPE_COPY_SEND;
+type path_t = c_string[64];
+routine open(root : mach_port_t; in path : path_t; out file : file_t);
+";
+
+const FILES: &str = "wiring 1
+task app
+task fs
+port root receiver fs accepts request fsys
+births app accepts reply fsys
+hold app send port root
+admit fsys.file_t births fs
+";
+
+const NO_KERNEL_PORT: &str = "policy 1\nforbid app send task fs\n";
+
+/// The least certificate of the file server.
+const OF_FILES: [u8; 122] = [
+    0x4d, 0x52, 0x43, 0x43, 0, 1, 0, 2, 0, 5, 0, 0, 0, 18, // header
+    1, 0, 0, 0, 0, 0, 1, 0, 0, 0, 1, 0, 1, 0, 0, 0, 3, 0, // app: root, itself
+    1, 0, 0, 0, 3, 1, 1, 0, 0, 0, 3, 2, 1, 0, 0, 0, 4, 0, // its births, and files
+    1, 0, 1, 0, 0, 0, 1, 0, 1, 0, 0, 1, 1, 0, 1, 0, 0, 2, // fs: root
+    1, 0, 1, 0, 2, 0, 1, 0, 1, 0, 3, 2, // itself, and reply ports
+    1, 0, 1, 0, 4, 0, 1, 0, 1, 0, 4, 1, 1, 0, 1, 0, 4, 2, // its births
+    2, 0, 0, 0, 0, 2, 2, 0, 0, 0, 3, 2, 2, 0, 0, 0, 4, 2, // what root carries
+    2, 0, 3, 0, 4, 0, // and what reply ports carry
+];
+
+/// The client's request to open a file, without the 64 bytes of its path, as it is sent and as it
+/// is received.
+const ASKED: [u8; 28] = [
+    0x13, 0x15, 0, 0, 0x5c, 0, 0, 0, 2, 0, 0, 0, 3, 0, 0, 0, 0, 0, 0, 0, 0xb8, 0x0b, 0, 0, 0x0c, 8,
+    0x40, 0x10,
+];
+
+const HEARD: [u8; 28] = [
+    0x12, 0x11, 0, 0, 0x5c, 0, 0, 0, 3, 0, 0, 0, 2, 0, 0, 0, 0, 0, 0, 0, 0xb8, 0x0b, 0, 0, 0x0c, 8,
+    0x40, 0x10,
+];
+
+/// The server's answer with the right of a name, and as the client receives it.
+const fn answer(name: u8) -> [u8; 40] {
+    [
+        0x12, 0, 0, 0x80, 0x28, 0, 0, 0, 3, 0, 0, 0, 0, 0, 0, 0, 0, 0, 0, 0, 0x1c, 0x0c, 0, 0, 2,
+        0x20, 1, 0x10, 0, 0, 0, 0, 0x13, 0x20, 1, 0x10, name, 0, 0, 0,
+    ]
+}
+
+const GOT: [u8; 40] = [
+    0, 0x12, 0, 0x80, 0x28, 0, 0, 0, 0, 0, 0, 0, 3, 0, 0, 0, 0, 0, 0, 0, 0x1c, 0x0c, 0, 0, 2, 0x20,
+    1, 0x10, 0, 0, 0, 0, 0x11, 0x20, 1, 0x10, 4, 0, 0, 0,
+];
+
+/// The file server, as it was checked.
+fn file_server(alloc: Global) -> Result<Confined, AllocError> {
+    let defs = vec![in alloc; Vec::from_slice(alloc, FILE_SERVER.as_bytes())?]?;
+    let answer = check_texts(
+        alloc,
+        defs.as_slice(),
+        FILES.as_bytes(),
+        NO_KERNEL_PORT.as_bytes(),
+        &OF_FILES,
+    );
+    match answer {
+        Ok(confined) => Ok(confined),
+        Err(_) => Err(AllocError),
+    }
+}
+
+/// The call that sends the message of these bytes.
+fn send(alloc: Global, bytes: &[u8]) -> Result<Call, AllocError> {
+    match read_message(alloc, bytes) {
+        Ok(message) => Ok(Call::Send(message)),
+        Err(_) => Err(AllocError),
+    }
+}
+
+/// These bytes and a path of 64 bytes 0.
+fn with_path(alloc: Global, bytes: &[u8]) -> Result<Vec<u8>, AllocError> {
+    let mut whole = Vec::from_slice(alloc, bytes)?;
+    whole.extend_from_slice(&[0; 64])?;
+    Ok(whole)
+}
+
+/// Whether the call is answered by the message of these bytes.
+fn receives(guarded: &mut Guarded, task: u32, call: &Call, bytes: &[u8]) -> bool {
+    match guarded.step(TaskId(task), call) {
+        Ok(Reply::Message(message)) => message.as_slice() == bytes,
+        _ => false,
+    }
+}
+
+/// A port is made in the caller's space.
+fn allocate() -> Call {
+    Call::Allocate {
+        task: 1,
+        right: Right::Receive,
+        kind: 0,
+    }
+}
+
+/// The client makes a reply port and asks for a file, and the server hears it.
+fn asks(alloc: Global, guarded: &mut Guarded) -> Result<[bool; 3], AllocError> {
+    let asked = send(alloc, with_path(alloc, &ASKED)?.as_slice())?;
+    let heard = with_path(alloc, &HEARD)?;
+    let receive = Call::Receive { name: 2, limit: 92 };
+    Ok([
+        matches!(guarded.step(TaskId(0), &allocate()), Ok(Reply::Name(3))),
+        matches!(guarded.step(TaskId(0), &asked), Ok(Reply::Done)),
+        receives(guarded, 1, &receive, heard.as_slice()),
+    ])
+}
+
+/// The server makes a port for the file, and answers with it; not with its own kernel port.
+fn answers(alloc: Global, guarded: &mut Guarded) -> Result<[bool; 4], AllocError> {
+    let inserted = Call::InsertRight {
+        task: 1,
+        name: 4,
+        right: 4,
+        disp: Disp::MakeSend,
+    };
+    let own = send(alloc, &answer(1))?;
+    let file = send(alloc, &answer(4))?;
+    Ok([
+        matches!(guarded.step(TaskId(1), &allocate()), Ok(Reply::Name(4))),
+        matches!(guarded.step(TaskId(1), &inserted), Ok(Reply::Done)),
+        matches!(
+            guarded.step(TaskId(1), &own),
+            Ok(Reply::Denied(Denied::NotAdmitted(1)))
+        ),
+        matches!(guarded.step(TaskId(1), &file), Ok(Reply::Done)),
+    ])
+}
+
+/// The client receives the right to the file, which is a send right.
+fn gets(guarded: &mut Guarded) -> [bool; 2] {
+    let receive = Call::Receive { name: 3, limit: 40 };
+    let named = Call::PortType { task: 1, name: 4 };
+    [
+        receives(guarded, 0, &receive, &GOT),
+        matches!(guarded.step(TaskId(0), &named), Ok(Reply::Mask(65536))),
+    ]
+}
+
+/// Which replies were right, and whether what was checked comes back in the end.
+fn run_files(alloc: Global) -> Result<([bool; 3], [bool; 4], [bool; 2], bool), AllocError> {
+    let confined = file_server(alloc)?;
+    let copy = confined.copy(alloc)?;
+    let Ok(mut guarded) = Guarded::start(alloc, confined) else {
+        return Err(AllocError);
+    };
+    let asked = asks(alloc, &mut guarded)?;
+    let answered = answers(alloc, &mut guarded)?;
+    let got = gets(&mut guarded);
+    Ok((asked, answered, got, guarded.into_confined().same(&copy)))
+}
+
+#[test]
+fn a_file_server_runs(rt: HostRuntime) -> Result<(), Fail> {
+    let (asked, answered, got, comes_back) = run_files(rt.alloc())?;
+    assert_eq!(rt; asked, [true; 3]);
+    assert_eq!(rt; answered, [true; 4]);
+    assert_eq!(rt; got, [true; 2]);
+    assert!(rt; comes_back);
     Ok(())
 }

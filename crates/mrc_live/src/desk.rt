@@ -1,12 +1,17 @@
 //! What lies under the lock.
 
-ghost use Rattle.std.specs.Prelude.{◌≡◌, ◌↔◌, ◌<◌, ◌≤◌, [], ◌∷◌, ◌++◌, IfOk, IfErr, IfSome, IfNone};
-ghost use Rattle.std.specs.Prelude.{OnErr, OnOk, length, Err, vec_len, vec_capacity};
+ghost use Rattle.std.specs.Prelude.{◌≡◌, ◌≢◌, ◌↔◌, ◌<◌, ◌≤◌, [], ◌∷◌, ◌++◌, IfOk, IfErr};
+ghost use Rattle.std.specs.Prelude.{IfSome, IfNone, IsTrue, OnErr, OnOk, length, Err, vec_len};
+ghost use Rattle.std.specs.Prelude.{vec_capacity};
 ghost use Rattle.mrc_confine.specs.Guards.{wiring_in};
+ghost use Rattle.mrc_live.specs.declared.desk.NotReceived.TheVariants as nothing;
 ghost use Rattle.mrc_live.specs.declared.desk.NotTaken.TheVariants.{JournalFull};
 ghost use Rattle.mrc_live.specs.Desks.{desk_after, seat_after, call_in, fresh, opened};
 ghost use Rattle.mrc_live.specs.Runs.{IsJournal, reply_to, world_after};
-ghost use Rattle.mrc_machine.specs.Calls.{reply_of};
+ghost use Rattle.mrc_machine.specs.Calls.{IsRefused, reply_of};
+ghost use Rattle.mrc_machine.specs.declared.call.Call.TheVariants.{Receive};
+ghost use Rattle.mrc_machine.specs.declared.reply.Reply.TheVariants.{Refused};
+ghost use Rattle.mrc_model.specs.declared.Code.TheVariants.{MachRcvTimedOut};
 ghost use Rattle.mrc_model.specs.First.{first};
 
 use crate::event::{Event, Journal, Made};
@@ -15,6 +20,7 @@ use mrc_base::TaskId;
 use mrc_check::Confined;
 use mrc_confine::Guarded;
 use mrc_machine::{Call, Reply, Room};
+use mrc_model::Code;
 use std::alloc::{AllocError, Global};
 use std::marker::Model;
 use std::sync::ledger::{Blank, Book, Ledger, Share};
@@ -65,6 +71,15 @@ pub enum NotTaken {
     Memory(Call),
 }
 
+/// Why nothing was received.
+#[derive(Clone, Copy, Debug, PartialEq, Eq)]
+pub enum NotReceived {
+    /// The journal has as many events as it may have.
+    JournalFull,
+    /// Want of memory.
+    Memory,
+}
+
 /// All that a call with its event needs: a copy of the call, and two rooms for copies of the reply.
 #[derive(Drop)]
 struct Rooms {
@@ -103,9 +118,17 @@ fn step(guarded: &mut Guarded, task: TaskId, call: &Call) -> Result<Reply, Alloc
     ensures world { IfOk result (λ _.
         guarded.new.world ≡ world_after guarded.old.confined guarded.old.world task call.now) }
     ensures confined { guarded.new.confined ≡ guarded.old.confined }
+    ensures refused { IfOk result (λ r. IsRefused r → guarded.new ≡ guarded.old) }
     ensures err { OnErr result (guarded.new ≡ guarded.old) }
 {
     guarded.step(task, call)
+}
+
+/// Whether no message waited.
+fn is_timed_out(reply: &Reply) -> bool
+    ensures { IsTrue result ↔ (reply.now ≡ Refused MachRcvTimedOut) }
+{
+    matches!(reply, Reply::Refused(Code::MachRcvTimedOut))
 }
 
 /// Writes the event and the seat's call into the places that were made for them. It takes no
@@ -213,6 +236,56 @@ impl<L: Ledger> Desk<L> {
             &reply,
         );
         Ok(reply)
+    }
+
+    /// As `take` with a receive, where a message waits or the call is refused for another reason.
+    /// Where the reply would be that none waits it is `None`, and nothing has changed.
+    pub fn take_if_any(
+        &mut self,
+        seat: &mut Seat<L>,
+        name: u32,
+        limit: u32,
+    ) -> Result<Option<Reply>, NotReceived>
+        ensures reply { IfOk result (λ some. IfSome some (λ r. reply_of r
+            ≡ reply_to self.old.confined self.old.world seat.old.task (Receive name limit))) }
+        ensures came { IfOk result (λ some. IfSome some (λ r. r ≢ Refused MachRcvTimedOut)) }
+        ensures desk { IfOk result (λ some. IfSome some
+            (λ r. self.new ≡ desk_after self.old seat.old (Receive name limit) r)) }
+        ensures seat { IfOk result (λ some. IfSome some
+            (λ r. seat.new ≡ seat_after seat.old (Receive name limit) r)) }
+        ensures none { IfOk result (λ some. IfNone some (reply_of (Refused MachRcvTimedOut)
+            ≡ reply_to self.old.confined self.old.world seat.old.task (Receive name limit))) }
+        ensures same { IfOk result (λ some.
+            IfNone some ((self.new ≡ self.old) × (seat.new ≡ seat.old))) }
+        ensures full { (result ≡ Err nothing.JournalFull)
+            ↔ (length self.old.events ≡ self.old.limit) }
+        ensures err { OnErr result ((self.new ≡ self.old) × (seat.new ≡ seat.old)) }
+    {
+        if self.events.len() >= self.limit {
+            return Err(NotReceived::JournalFull);
+        }
+        let call = Call::Receive { name, limit };
+        let Ok(rooms) = make_ready(self.alloc, &mut self.events, &mut seat.calls, &call) else {
+            return Err(NotReceived::Memory);
+        };
+        let Ok(reply) = step(&mut self.guarded, seat.task, &call) else {
+            return Err(NotReceived::Memory);
+        };
+        if is_timed_out(&reply) {
+            return Ok(None);
+        }
+        self.book.add(&mut seat.share, 1);
+        let (number, task) = (seat.number, seat.task);
+        note(
+            &mut self.events,
+            &mut seat.calls,
+            rooms,
+            number,
+            task,
+            call,
+            &reply,
+        );
+        Ok(Some(reply))
     }
 
     /// The number of seats made.

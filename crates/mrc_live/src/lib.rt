@@ -7,7 +7,7 @@ mod finishing;
 mod live;
 mod seat;
 
-pub use desk::{Desk, NotTaken};
+pub use desk::{Desk, NotReceived, NotTaken};
 pub use event::{Event, Journal, Made};
 pub use finishing::Why;
 pub use live::{Live, NotSeated, Unfinished};

@@ -1,14 +1,17 @@
 //! The server.
 
-ghost use Rattle.std.specs.Prelude.{◌≡◌, ◌↔◌, ◌<◌, ◌≤◌, IfOk, IfErr, OnErr, OnOk, Err};
+ghost use Rattle.std.specs.Prelude.{◌≡◌, ◌≢◌, ◌↔◌, ◌<◌, ◌≤◌, IfOk, IfErr, OnErr, OnOk, Err};
 ghost use Rattle.mrc_confine.specs.Guards.{wiring_in};
 ghost use Rattle.mrc_live.specs.declared.live.NotSeated.TheVariants.{NoSuchTask};
 ghost use Rattle.mrc_live.specs.Desks.{seat_after, call_in, fresh};
 ghost use Rattle.mrc_live.specs.Runs.{IsJournal};
 ghost use Rattle.mrc_live.specs.Parts.{AllAreSeated, AreApart, EachIsItsPart};
+ghost use Rattle.mrc_machine.specs.declared.call.Call.TheVariants.{Receive};
+ghost use Rattle.mrc_machine.specs.declared.reply.Reply.TheVariants.{Refused};
 ghost use Rattle.mrc_model.specs.First.{first};
+ghost use Rattle.mrc_model.specs.declared.Code.TheVariants.{MachRcvTimedOut};
 
-use crate::desk::{Desk, NotTaken};
+use crate::desk::{Desk, NotReceived, NotTaken};
 use crate::event::Journal;
 use crate::finishing::{Why, judge};
 use crate::seat::Seat;
@@ -19,12 +22,14 @@ use mrc_machine::{Call, Reply};
 use std::alloc::Global;
 use std::marker::Model;
 use std::sync::ledger::{Blank, Ledger};
-use std::sync::{Mutex, Wait};
+use std::sync::{Condvar, Mutex, Wait};
 
 /// A machine behind a lock. Contracts see what was checked, as it was handed in.
 #[derive(Drop)]
 pub struct Live<L: Ledger> {
     desk: Mutex<Desk<L>>,
+    /// Told of each event: a seat that waits for a message tries again.
+    moved: Condvar,
     confined: Confined,
 }
 
@@ -66,6 +71,7 @@ impl<L: Ledger> Live<L> {
         };
         Ok(Live {
             desk: Mutex::new(Desk::new(alloc, guarded, limit, blank)),
+            moved: Condvar::new(),
             confined,
         })
     }
@@ -97,7 +103,39 @@ impl<L: Ledger> Live<L> {
         ensures returned { IfErr result (λ fault. call_in fault ≡ call) }
         ensures err { OnErr result (seat.new ≡ seat.old) }
     {
-        self.desk.lock(rt).take(seat, call)
+        let taken = self.desk.lock(rt).take(seat, call);
+        if taken.is_ok() {
+            self.moved.notify_all();
+        }
+        taken
+    }
+
+    /// Waits for a message under a name, and receives it, as one event. A turn that finds none
+    /// leaves no event. It waits while the reply would be MACH_RCV_TIMED_OUT: every other refusal
+    /// by the machine is a reply. A full journal is told before it waits, and after each wake.
+    pub fn receive_wait<R: Wait>(
+        &self,
+        rt: &R,
+        seat: &mut Seat<L>,
+        name: u32,
+        limit: u32,
+    ) -> Result<Reply, NotReceived>
+        ensures ok { IfOk result (λ r. seat.new ≡ seat_after seat.old (Receive name limit) r) }
+        ensures came { IfOk result (λ r. r ≢ Refused MachRcvTimedOut) }
+        ensures err { OnErr result (seat.new ≡ seat.old) }
+    {
+        let mut desk = self.desk.lock(rt);
+        for _ in rt.forever() {
+            match desk.take_if_any(seat, name, limit) {
+                Ok(Some(reply)) => {
+                    self.moved.notify_all();
+                    return Ok(reply);
+                }
+                Ok(None) => desk = self.moved.wait(rt, desk),
+                Err(fault) => return Err(fault),
+            }
+        }
+        unreachable!()
     }
 
     /// Ends the server, once the threads have returned: each seat's calls and replies stand in the
@@ -110,7 +148,11 @@ impl<L: Ledger> Live<L> {
         ensures apart { OnOk result (AreApart seats.items) }
         ensures returned { IfErr result (λ f. (f.live ≡ self) × (f.seats.items ≡ seats.items)) }
     {
-        let Live { desk, confined } = self;
+        let Live {
+            desk,
+            moved,
+            confined,
+        } = self;
         let desk = desk.into_inner();
         match judge(&desk, &confined, seats.as_slice()) {
             None => Ok(desk.into_parts()),
@@ -118,6 +160,7 @@ impl<L: Ledger> Live<L> {
                 why,
                 live: Live {
                     desk: Mutex::new(desk),
+                    moved,
                     confined,
                 },
                 seats,

@@ -1,10 +1,18 @@
 //! Seats.
 
-ghost use Rattle.std.specs.Prelude.{◌≡◌};
+ghost use Rattle.std.specs.Prelude.{◌≡◌, IfOk, Ok};
+ghost use Rattle.mrc_base.specs.Reading.{Gives};
+ghost use Rattle.mrc_desc.specs.Spelling.{Spells};
 ghost use Rattle.mrc_live.specs.Desks.{SeatState};
+ghost use Rattle.mrc_live.specs.Preparing.{SendsWhat, prepared};
+ghost use Rattle.mrc_machine.specs.declared.call.Call.TheVariants.{Send};
+ghost use Rattle.mrc_model.specs.Message.{Message};
 
 use crate::event::Made;
-use mrc_base::TaskId;
+use mrc_base::{OrMemory, TaskId};
+use mrc_desc::{ReadFault, read_message};
+use mrc_machine::Call;
+use std::alloc::Global;
 use std::marker::Model;
 use std::sync::ledger::{Ledger, Share};
 
@@ -55,5 +63,22 @@ impl<L: Ledger> Seat<L> {
         ensures { result.now ≡ self.now.calls }
     {
         self.calls.as_slice()
+    }
+
+    /// Reads the message of these bytes, to be sent by a call. It takes no lock and waits for
+    /// nothing: names are looked up, and classes admitted, in the step itself.
+    pub fn prepare(&self, alloc: Global, bytes: &[u8]) -> Result<Call, OrMemory<ReadFault>>
+        // What is read is spelled so.
+        ensures found { IfOk result (SendsWhat bytes.now) }
+        // What is spelled so is read, unless memory runs out.
+        ensures only { (m : Message) → Spells bytes.now m
+            → Gives (λ call. call) result (Ok (Send m)) }
+        // Which fault it is: the first.
+        ensures fault { Gives (λ call. call) result (prepared bytes.now) }
+    {
+        match read_message(alloc, bytes) {
+            Ok(message) => Ok(Call::Send(message)),
+            Err(fault) => Err(fault),
+        }
     }
 }
