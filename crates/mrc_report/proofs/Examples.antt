@@ -1,5 +1,5 @@
 -- Scripts and what they say, and printed events, by computation.
-use Rattle.std.proofs.Common.{◌≡◌, ℕ, List, [], ◌∷◌, ◌++◌, Ok, Err, Some, None, refl}
+use Rattle.std.proofs.Common.{◌≡◌, ℕ, List, [], ◌∷◌, ◌++◌, Ok, Err, Some, None, refl, false, true}
 use Rattle.std.specs.Prelude.{codes}
 use Rattle.std.specs.Fmt.{digits}
 use Rattle.mrc_base.specs.declared.Disp.TheVariants.{CopySend}
@@ -16,8 +16,10 @@ use Rattle.mrc_machine.specs.declared.call.Call.TheVariants as call
 use Rattle.mrc_report.specs.declared.script.TaskCall.{TaskCall}
 use Rattle.mrc_report.specs.Parameters.{number_of_word, byte_of}
 use Rattle.mrc_report.specs.Parameters.{bytes_of_digits}
-use Rattle.mrc_report.specs.Calls.{insert_right, names, port_call_named, call_named}
-use Rattle.mrc_report.specs.Calls.{script_says}
+use Rattle.mrc_report.specs.Calls.{insert_right, names, port_call_named, dropping_call_named}
+use Rattle.mrc_report.specs.Calls.{call_named}
+use Rattle.mrc_report.specs.Calls.{script_says, receive}
+use Rattle.mrc_report.specs.Waiting.{live_says, wait_says}
 use Rattle.mrc_report.specs.Scripts.{script_of}
 use Rattle.mrc_report.specs.Printing.{reply_text, event_line, end_line}
 
@@ -30,23 +32,37 @@ abbrev tasks : List (List ℕ)
 tasks = codes "l" ∷ codes "f" ∷ []
 
 abbrev at : ℕ → ℕ → Call → Line TaskCall
-at n task call = record { number = n; says = record { task = task; call = call } }
+at n task call = record { number = n; says = record { task = task; call = call; waits = false } }
 
 -- two calls
-two_calls : script_of tasks (text (
+two_calls : script_of false tasks (text (
     codes "l insert_right 2 009 1 19" ∷ [] ∷ codes "f names 1 #" ∷ []))
     ≡ Ok (at 1 0 (call.InsertRight 2 9 1 CopySend) ∷ at 3 1 (call.Names 1) ∷ [])
 unfolding body line_of words between_blanks is_blank script_says call_named
     port_call_named insert_right names number_of_word
 two_calls = refl
 
+-- a line that waits, where tasks run as threads; and the same in a replay
+waiting : script_of true tasks (codes "f wait 2 24")
+    ≡ Ok (record {
+      number = 1;
+      says = record { task = 1; call = call.Receive 2 24; waits = true };
+    } ∷ [])
+unfolding body line_of words between_blanks is_blank live_says wait_says receive number_of_word
+waiting = refl
+
+no_waiting : script_of false tasks (codes "f wait 2 24") ≡ Err (BadLine 1)
+unfolding body line_of words between_blanks is_blank script_says call_named port_call_named
+    dropping_call_named
+no_waiting = refl
+
 -- a text without words
-nothing : script_of tasks (codes "  # nothing") ≡ Ok []
+nothing : script_of false tasks (codes "  # nothing") ≡ Ok []
 unfolding body line_of words between_blanks is_blank
 nothing = refl
 
 -- the first wrong line is told
-another_task : script_of tasks (text (codes "f names 1" ∷ codes "g names 1" ∷ codes "f" ∷ []))
+another_task : script_of false tasks (text (codes "f names 1" ∷ codes "g names 1" ∷ codes "f" ∷ []))
     ≡ Err (BadLine 2)
 unfolding body line_of words between_blanks is_blank script_says call_named
     port_call_named names number_of_word

@@ -5,3 +5,6 @@ pub mod FileLemmas
 pub mod ByteLaws
 mod Examples
 mod WorkedReplay
+pub mod Asking
+pub mod Joining
+pub mod JournalLaws

@@ -30,7 +30,7 @@ run_on W v w x (d ∷ ds) e run next =
     (run.0, run_on W (step W v d.task d.call).0 w x ds e run.1 next)
 
 -- the line of one more event
-line_on : (table : Table) (n : ℕ) (es : List Event) (e : Event)
+pub line_on : (table : Table) (n : ℕ) (es : List Event) (e : Event)
     → event_lines table n (es ++ e ∷ [])
     ≡ event_lines table n es ++ event_line table (n + length es) e.task e.reply
 line_on table n [] e =

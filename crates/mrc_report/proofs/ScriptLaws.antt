@@ -1,5 +1,5 @@
 -- What was read is a script that says so, and what a script says is read.
-use Rattle.std.proofs.Common.{◌≡◌, ℕ, List, Result, Ok, Err, sym, ◌∙◌, arith}
+use Rattle.std.proofs.Common.{◌≡◌, ℕ, Bool, List, Result, Ok, Err, sym, ◌∙◌, arith}
 use Rattle.std.specs.Prelude.{IfOk}
 use Rattle.mrc_base.specs.declared.memory.OrMemory.{OrMemory}
 use Rattle.mrc_base.proofs.Steps.{refuses_same}
@@ -9,21 +9,21 @@ use Rattle.mrc_wiring_text.specs.Lexis.{lines}
 use Rattle.mrc_wiring_text.proofs.TextLaws.{body_says, says_body}
 use Rattle.mrc_report.specs.declared.script.ScriptFault.{ScriptFault}
 use Rattle.mrc_report.specs.declared.script.TaskCall.{TaskCall}
-use Rattle.mrc_report.specs.Calls.{script_says}
+use Rattle.mrc_report.specs.Waiting.{line_says}
 use Rattle.mrc_report.specs.Scripts.{IsScript, Reads, script_of, text_refusal}
 
 -- what was read is said by the text
-script_found : (tasks : List (List ℕ)) (text : List ℕ) (says : List (Line TaskCall))
-    → script_of tasks text ≡ Ok says → IsScript tasks text says
-script_found tasks text says e =
-    let read = body_says (script_says tasks) 1 (lines text) says (omega arith) e in
+script_found : (live : Bool) (tasks : List (List ℕ)) (text : List ℕ) (says : List (Line TaskCall))
+    → script_of live tasks text ≡ Ok says → IsScript live tasks text says
+script_found live tasks text says e =
+    let read = body_says (line_says live tasks) 1 (lines text) says (omega arith) e in
     record { few = omega (arith, read.1); said = read.0 }
 
 -- what a text says is read
-script_read : (tasks : List (List ℕ)) (text : List ℕ) (says : List (Line TaskCall))
-    → IsScript tasks text says → script_of tasks text ≡ Ok says
-script_read tasks text says is =
-    says_body (script_says tasks) 1 (lines text) says (omega (arith, is.few)) is.said
+script_read : (live : Bool) (tasks : List (List ℕ)) (text : List ℕ) (says : List (Line TaskCall))
+    → IsScript live tasks text says → script_of live tasks text ≡ Ok says
+script_read live tasks text says is =
+    says_body (line_says live tasks) 1 (lines text) says (omega (arith, is.few)) is.said
 
 reads_same : {A B : Type 0} (view : A → B) (r : Result A (OrMemory ScriptFault))
     (given other : Result B TextFault)
@@ -32,17 +32,18 @@ reads_same view (Ok x) given other same reads = sym same ∙ reads
 reads_same view (Err refusal) given other same reads =
     refuses_same (text_refusal refusal) given other same reads
 
-pub found_in : {A : Type 0} (view : A → List (Line TaskCall)) (tasks : List (List ℕ))
+pub found_in : {A : Type 0} (view : A → List (Line TaskCall)) (live : Bool) (tasks : List (List ℕ))
     (text : List ℕ) (r : Result A (OrMemory ScriptFault))
-    → Reads view r (script_of tasks text)
-    → IfOk r (λ script. IsScript tasks text (view script))
-found_in view tasks text (Ok script) reads = script_found tasks text (view script) reads
-found_in view tasks text (Err refusal) reads = tt
+    → Reads view r (script_of live tasks text)
+    → IfOk r (λ script. IsScript live tasks text (view script))
+found_in view live tasks text (Ok script) reads = script_found live tasks text (view script) reads
+found_in view live tasks text (Err refusal) reads = tt
 
-pub read_by : {A : Type 0} (view : A → List (Line TaskCall)) (tasks : List (List ℕ))
+pub read_by : {A : Type 0} (view : A → List (Line TaskCall)) (live : Bool) (tasks : List (List ℕ))
     (text : List ℕ) (r : Result A (OrMemory ScriptFault)) (says : List (Line TaskCall))
-    → Reads view r (script_of tasks text)
-    → IsScript tasks text says
+    → Reads view r (script_of live tasks text)
+    → IsScript live tasks text says
     → Reads view r (Ok says)
-read_by view tasks text r says reads is =
-    reads_same view r (script_of tasks text) (Ok says) (script_read tasks text says is) reads
+read_by view live tasks text r says reads is =
+    reads_same view r (script_of live tasks text) (Ok says)
+    (script_read live tasks text says is) reads

@@ -1,6 +1,6 @@
 -- A whole replay, from the texts to what is printed, by computation: a loader puts its own kernel
 -- port into the space of the task that it loads.
-use Rattle.std.proofs.Common.{ℕ, List, [], ◌∷◌, refl}
+use Rattle.std.proofs.Common.{ℕ, List, [], ◌∷◌, false, refl}
 use Rattle.std.specs.Prelude.{codes, None}
 use Rattle.std.specs.Fmt.{digits}
 use Rattle.mrc_base.specs.declared.PortRight.TheVariants.{Send}
@@ -38,8 +38,11 @@ loader = record {
 -- `l insert_right 2 9 1 19`, `f names 1`
 abbrev script : List (Line TaskCall)
 script =
-    record { number = 1; says = record { task = 0; call = call.InsertRight 2 9 1 CopySend } }
-    ∷ record { number = 2; says = record { task = 1; call = call.Names 1 } } ∷ []
+    record {
+      number = 1;
+      says = record { task = 0; call = call.InsertRight 2 9 1 CopySend; waits = false };
+    }
+    ∷ record { number = 2; says = record { task = 1; call = call.Names 1; waits = false } } ∷ []
 
 abbrev after : World → ℕ → Call → World
 after world task call = (step (wiring_of loader) world task call).0

@@ -2,16 +2,19 @@
 -- `mach_port_`, or `receive`, and the call's parameters in order. One definition a call. The calls
 -- are those of Mach 3 Kernel Interfaces; how they are written is this profile's own choice.
 use Rattle.std.specs.Prelude.{ℕ, bytes_eq, codes, List, [], ◌∷◌, Option, Some, None}
-use Rattle.std.specs.Prelude.{if◌then◌else◌}
+use Rattle.std.specs.Prelude.{if◌then◌else◌, false}
 use Rattle.mrc_wiring.specs.Names.{number_of}
 use Rattle.mrc_words.specs.Reading.{◌>>=◌}
 use Rattle.mrc_machine.specs.declared.call.Call.{Call}
 use Rattle.mrc_machine.specs.declared.call.Call.TheVariants.{Allocate, GetRefs, InsertRight}
 use Rattle.mrc_machine.specs.declared.call.Call.TheVariants.{ExtractRight, SetQlimit, PortType}
 use Rattle.mrc_machine.specs.declared.call.Call.TheVariants.{Names, Rename, Receive, Send}
+use Rattle.mrc_machine.specs.declared.call.Call.TheVariants.{MoveMember, RequestNotification}
+use Rattle.mrc_machine.specs.declared.call.Call.TheVariants.{Deallocate, Destroy, ModRefs}
+use Rattle.mrc_machine.specs.declared.call.Call.TheVariants.{Terminate}
 use Rattle.mrc_report.specs.declared.script.TaskCall.{TaskCall}
 use Rattle.mrc_report.specs.Parameters.{number_of_word, right_of_word, disp_of_word}
-use Rattle.mrc_report.specs.Parameters.{message_of_words}
+use Rattle.mrc_report.specs.Parameters.{delta_of_word, message_of_words}
 
 -- `receive NAME LIMIT`
 unfoldable pub receive : List (List ℕ) → Option Call
@@ -90,11 +93,74 @@ rename (task ∷ old ∷ new ∷ []) = do
   Some (Rename t o n)
 rename words = None
 
+-- `move_member TASK MEMBER SET`
+unfoldable pub move_member : List (List ℕ) → Option Call
+move_member (task ∷ member ∷ set ∷ []) = do
+  t ← number_of_word task
+  m ← number_of_word member
+  s ← number_of_word set
+  Some (MoveMember t m s)
+move_member words = None
+
+-- `request_notification TASK NAME ID SYNC NOTIFY DISP`, where NOTIFY is a name of the caller
+unfoldable pub request_notification : List (List ℕ) → Option Call
+request_notification (task ∷ name ∷ id ∷ sync ∷ notify ∷ disp ∷ []) = do
+  t ← number_of_word task
+  n ← number_of_word name
+  i ← number_of_word id
+  s ← number_of_word sync
+  o ← number_of_word notify
+  d ← disp_of_word disp
+  Some (RequestNotification t n i s o d)
+request_notification words = None
+
+-- `deallocate TASK NAME`
+unfoldable pub deallocate : List (List ℕ) → Option Call
+deallocate (task ∷ name ∷ []) = do
+  t ← number_of_word task
+  n ← number_of_word name
+  Some (Deallocate t n)
+deallocate words = None
+
+-- `destroy TASK NAME`
+unfoldable pub destroy : List (List ℕ) → Option Call
+destroy (task ∷ name ∷ []) = do
+  t ← number_of_word task
+  n ← number_of_word name
+  Some (Destroy t n)
+destroy words = None
+
+-- `mod_refs TASK NAME RIGHT DELTA`
+unfoldable pub mod_refs : List (List ℕ) → Option Call
+mod_refs (task ∷ name ∷ right ∷ delta ∷ []) = do
+  t ← number_of_word task
+  n ← number_of_word name
+  r ← right_of_word right
+  d ← delta_of_word delta
+  Some (ModRefs t n r d)
+mod_refs words = None
+
+-- `task_terminate TASK`
+unfoldable pub task_terminate : List (List ℕ) → Option Call
+task_terminate (task ∷ []) = do
+  t ← number_of_word task
+  Some (Terminate t)
+task_terminate words = None
+
 -- `send HEX`, the bytes of the message, where blanks may stand anywhere
 unfoldable pub send : List (List ℕ) → Option Call
 send words = do
   message ← message_of_words words
   Some (Send message)
+
+-- a call that drops references, a name or a task, by its name
+unfoldable pub dropping_call_named : List ℕ → List (List ℕ) → Option Call
+dropping_call_named name parameters =
+    if bytes_eq name (codes "deallocate") then deallocate parameters
+    else if bytes_eq name (codes "destroy") then destroy parameters
+    else if bytes_eq name (codes "mod_refs") then mod_refs parameters
+    else if bytes_eq name (codes "task_terminate") then task_terminate parameters
+    else None
 
 -- a call but sending by its name, with the words of its parameters
 unfoldable pub port_call_named : List ℕ → List (List ℕ) → Option Call
@@ -108,7 +174,9 @@ port_call_named name parameters =
     else if bytes_eq name (codes "type") then port_type parameters
     else if bytes_eq name (codes "names") then names parameters
     else if bytes_eq name (codes "rename") then rename parameters
-    else None
+    else if bytes_eq name (codes "move_member") then move_member parameters
+    else if bytes_eq name (codes "request_notification") then request_notification parameters
+    else dropping_call_named name parameters
 
 -- a call by its name, with the words of its parameters
 unfoldable pub call_named : List ℕ → List (List ℕ) → Option Call
@@ -120,5 +188,5 @@ unfoldable pub script_says : List (List ℕ) → List (List ℕ) → Option Task
 script_says tasks (task ∷ name ∷ parameters) = do
   t ← number_of tasks task
   call ← call_named name parameters
-  Some (record { task = t; call = call })
+  Some (record { task = t; call = call; waits = false })
 script_says tasks words = None

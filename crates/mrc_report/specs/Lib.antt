@@ -1,6 +1,9 @@
 pub mod Parameters
 pub mod Calls
+pub mod Waiting
 pub mod Scripts
 pub mod Printing
 pub mod Replay
 pub mod Files
+pub mod Plays
+pub mod Journal

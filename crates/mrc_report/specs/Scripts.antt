@@ -1,7 +1,7 @@
 -- What a script says: the calls of its lines in order, or the first fault. Lines and words are
 -- those of wirings; there is no heading, and a script may have no line of words. This profile's own
 -- choice.
-use Rattle.std.specs.Prelude.{◌≡◌, ℕ, ◌≤◌, List, length, Result, Ok, Err}
+use Rattle.std.specs.Prelude.{◌≡◌, ℕ, Bool, ◌≤◌, List, length, Result, Ok, Err}
 use Rattle.mrc_base.specs.Limits.{limit_of_lines}
 use Rattle.mrc_base.specs.declared.memory.OrMemory.{OrMemory}
 use Rattle.mrc_base.specs.declared.memory.OrMemory.TheVariants.{Fault, Memory}
@@ -15,17 +15,18 @@ use Rattle.mrc_wiring_text.specs.Texts.{Say}
 use Rattle.mrc_report.specs.declared.script.ScriptFault.{ScriptFault}
 use Rattle.mrc_report.specs.declared.script.ScriptFault.TheVariants.{BadLine}
 use Rattle.mrc_report.specs.declared.script.TaskCall.{TaskCall}
-use Rattle.mrc_report.specs.Calls.{script_says}
+use Rattle.mrc_report.specs.Waiting.{line_says}
 
--- a text that is a script of tasks with these names, and what it says
-pub record IsScript (tasks : List (List ℕ)) (text : List ℕ) (says : List (Line TaskCall))
-    : Type 0 where
+-- a text that is a script of tasks with these names, which run as threads (`live`) or do not, and
+-- what it says
+pub record IsScript (live : Bool) (tasks : List (List ℕ)) (text : List ℕ)
+    (says : List (Line TaskCall)) : Type 0 where
   pub few : length (lines text) ≤ limit_of_lines
-  pub said : Say (script_says tasks) 1 (lines text) says
+  pub said : Say (line_says live tasks) 1 (lines text) says
 
 -- what a text says, read line by line
-abbrev pub script_of : List (List ℕ) → List ℕ → Result (List (Line TaskCall)) TextFault
-script_of tasks text = body (script_says tasks) 1 (lines text)
+abbrev pub script_of : Bool → List (List ℕ) → List ℕ → Result (List (Line TaskCall)) TextFault
+script_of live tasks text = body (line_says live tasks) 1 (lines text)
 
 -- a refusal of a script, among those of texts of lines
 abbrev pub text_refusal : OrMemory ScriptFault → OrMemory TextFault

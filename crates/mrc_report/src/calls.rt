@@ -5,9 +5,13 @@ ghost use Rattle.mrc_wiring.specs.Names.{number_of};
 ghost use Rattle.mrc_report.specs.Calls.{allocate, get_refs, insert_right, extract_right};
 ghost use Rattle.mrc_report.specs.Calls.{set_qlimit, port_type, names, rename, call_named};
 ghost use Rattle.mrc_report.specs.Calls.{receive, send, port_call_named};
-ghost use Rattle.mrc_report.specs.Calls.{script_says};
+ghost use Rattle.mrc_report.specs.Calls.{script_says, dropping_call_named};
+ghost use Rattle.mrc_report.specs.Calls.{move_member, request_notification, deallocate, destroy};
+ghost use Rattle.mrc_report.specs.Calls.{mod_refs, task_terminate};
 
-use crate::parameters::{disp_of_word, message_of_words, number_of_word, right_of_word};
+use crate::parameters::{
+    delta_of_word, disp_of_word, message_of_words, number_of_word, right_of_word,
+};
 use crate::script::TaskCall;
 use mrc_base::TaskId;
 use mrc_machine::Call;
@@ -17,7 +21,7 @@ use std::alloc::{AllocError, Global};
 use std::str;
 
 #[tactic(auto, unfolding(crate::specs::Calls::receive))]
-fn receive(words: &[&[u8]]) -> Option<Call>
+pub(crate) fn receive(words: &[&[u8]]) -> Option<Call>
     ensures { result ≡ receive (map (λ word. word.now) words.now) }
 {
     match *words {
@@ -139,6 +143,90 @@ fn rename(words: &[&[u8]]) -> Option<Call>
     }
 }
 
+#[tactic(auto, unfolding(crate::specs::Calls::move_member))]
+fn move_member(words: &[&[u8]]) -> Option<Call>
+    ensures { result ≡ move_member (map (λ word. word.now) words.now) }
+{
+    match *words {
+        [task, member, set] => Some(Call::MoveMember {
+            task: number_of_word(task)?,
+            member: number_of_word(member)?,
+            set: number_of_word(set)?,
+        }),
+        _ => None,
+    }
+}
+
+#[tactic(auto, unfolding(crate::specs::Calls::request_notification))]
+fn request_notification(words: &[&[u8]]) -> Option<Call>
+    ensures { result ≡ request_notification (map (λ word. word.now) words.now) }
+{
+    match *words {
+        [task, name, id, sync, notify, disp] => Some(Call::RequestNotification {
+            task: number_of_word(task)?,
+            name: number_of_word(name)?,
+            id: number_of_word(id)?,
+            sync: number_of_word(sync)?,
+            notify: number_of_word(notify)?,
+            disp: disp_of_word(disp)?,
+        }),
+        _ => None,
+    }
+}
+
+#[tactic(auto, unfolding(crate::specs::Calls::deallocate))]
+fn deallocate(words: &[&[u8]]) -> Option<Call>
+    ensures { result ≡ deallocate (map (λ word. word.now) words.now) }
+{
+    match *words {
+        [task, name] => Some(Call::Deallocate {
+            task: number_of_word(task)?,
+            name: number_of_word(name)?,
+        }),
+        _ => None,
+    }
+}
+
+#[tactic(auto, unfolding(crate::specs::Calls::destroy))]
+fn destroy(words: &[&[u8]]) -> Option<Call>
+    ensures { result ≡ destroy (map (λ word. word.now) words.now) }
+{
+    match *words {
+        [task, name] => Some(Call::Destroy {
+            task: number_of_word(task)?,
+            name: number_of_word(name)?,
+        }),
+        _ => None,
+    }
+}
+
+#[tactic(auto, unfolding(crate::specs::Calls::mod_refs))]
+fn mod_refs(words: &[&[u8]]) -> Option<Call>
+    ensures { result ≡ mod_refs (map (λ word. word.now) words.now) }
+{
+    match *words {
+        [task, name, right, delta] => Some(Call::ModRefs {
+            task: number_of_word(task)?,
+            name: number_of_word(name)?,
+            right: right_of_word(right)?,
+            delta: delta_of_word(delta)?,
+        }),
+        _ => None,
+    }
+}
+
+#[tactic(auto, unfolding(crate::specs::Calls::task_terminate))]
+fn task_terminate(words: &[&[u8]]) -> Option<Call>
+    ensures { result ≡ task_terminate (map (λ word. word.now) words.now) }
+{
+    match *words {
+        [task] => Some(Call::Terminate {
+            task: number_of_word(task)?,
+        }),
+        _ => None,
+    }
+}
+
 /// The message of the words is sent.
 #[tactic(auto, unfolding(crate::specs::Calls::send))]
 fn send(alloc: Global, words: &[&[u8]]) -> Result<Option<Call>, AllocError>
@@ -147,6 +235,24 @@ fn send(alloc: Global, words: &[&[u8]]) -> Result<Option<Call>, AllocError>
     match message_of_words(alloc, words)? {
         Some(message) => Ok(Some(Call::Send(message))),
         None => Ok(None),
+    }
+}
+
+/// A call that drops references, a name or a task, by its name.
+#[tactic(auto, unfolding(crate::specs::Calls::dropping_call_named))]
+fn dropping_call_named(name: &[u8], parameters: &[&[u8]]) -> Option<Call>
+    ensures { result ≡ dropping_call_named name.now (map (λ word. word.now) parameters.now) }
+{
+    if is_word(name, "deallocate") {
+        deallocate(parameters)
+    } else if is_word(name, "destroy") {
+        destroy(parameters)
+    } else if is_word(name, "mod_refs") {
+        mod_refs(parameters)
+    } else if is_word(name, "task_terminate") {
+        task_terminate(parameters)
+    } else {
+        None
     }
 }
 
@@ -173,8 +279,12 @@ fn port_call_named(name: &[u8], parameters: &[&[u8]]) -> Option<Call>
         names(parameters)
     } else if is_word(name, "rename") {
         rename(parameters)
+    } else if is_word(name, "move_member") {
+        move_member(parameters)
+    } else if is_word(name, "request_notification") {
+        request_notification(parameters)
     } else {
-        None
+        dropping_call_named(name, parameters)
     }
 }
 
@@ -192,7 +302,7 @@ fn call_named(alloc: Global, name: &[u8], parameters: &[&[u8]]) -> Result<Option
 }
 
 /// The wired task of a name.
-fn task_of_word(wired: &Wired, word: &[u8]) -> Option<TaskId>
+pub(crate) fn task_of_word(wired: &Wired, word: &[u8]) -> Option<TaskId>
     ensures { result ≡ number_of wired.now.names word.now }
 {
     let _tasks = wired.tasks();
@@ -220,7 +330,11 @@ pub(crate) fn script_says(
             let Some(call) = call_named(alloc, name, parameters)? else {
                 return Ok(None);
             };
-            Ok(Some(TaskCall { task, call }))
+            Ok(Some(TaskCall {
+                task,
+                call,
+                waits: false,
+            }))
         }
         _ => Ok(None),
     }

@@ -1,18 +1,25 @@
-//! Scripts of calls, and what the program prints of their events; bytes in from readers and out to
-//! writers.
+//! Scripts of calls, run one after the other or by tasks as threads, and what the program prints of
+//! their events; bytes in from readers and out to writers.
 #![tactic(auto)]
 
 mod calls;
 mod files;
 mod parameters;
+mod playing;
 mod printing;
 mod replaying;
+mod running;
 mod script;
+mod serving;
+mod waiting;
 
 pub use files::{ReadFault, WriteFault, read_all, read_fault, write_text};
+pub use playing::{Gate, LiveFault};
 pub use printing::{code_word, end_line, event_line, reply_text};
 pub use replaying::replay;
+pub use running::{Stopped, run_live};
 pub use script::{Script, ScriptFault, TaskCall, read_script};
+pub use serving::{ServeFault, journal_text, serve};
 
 #[cfg(test)]
 mod tests;

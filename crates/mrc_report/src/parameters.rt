@@ -3,6 +3,7 @@
 ghost use Rattle.std.specs.Prelude.{◌≡◌, ◌<◌, ◌^◌, min, map, flat_map, option_map, IfOk, IfSome};
 ghost use Rattle.mrc_wiring_text.specs.Lexis.{decimal};
 ghost use Rattle.mrc_report.specs.Parameters.{number_of_word, right_of_word, disp_of_word};
+ghost use Rattle.mrc_report.specs.Parameters.{delta_above, delta_below, delta_of_word};
 ghost use Rattle.mrc_report.specs.Parameters.{digit_value, byte_of, bytes_of_digits};
 ghost use Rattle.mrc_report.specs.Parameters.{message_of_words};
 
@@ -13,6 +14,9 @@ use std::alloc::{AllocError, Global};
 
 /// The first number that has more than 32 bits.
 const TOO_LARGE: u64 = 0x1_0000_0000;
+
+/// The first number above 0 that has more than 32 bits with its sign.
+const TOO_LARGE_DELTA: u64 = 0x8000_0000;
 
 /// The number that decimal digits spell. Any number of more than 32 bits counts as the first.
 fn value_of(digits: &[u8]) -> u64
@@ -38,6 +42,50 @@ pub(crate) fn number_of_word(word: &[u8]) -> Option<u32>
         Some(value as u32)
     } else {
         None
+    }
+}
+
+/// The number that digits spell, where it is at most 2147483647.
+#[tactic(auto, unfolding(crate::specs::Parameters::delta_above))]
+fn delta_above(digits: &[u8]) -> Option<i32>
+    ensures { result ≡ delta_above digits.now }
+{
+    if !is_number(digits) {
+        return None;
+    }
+    let value = value_of(digits);
+    if value < TOO_LARGE_DELTA {
+        Some(value as i32)
+    } else {
+        None
+    }
+}
+
+/// The number whose negative digits spell, where it is at least -2147483648.
+#[tactic(auto, unfolding(crate::specs::Parameters::delta_below))]
+fn delta_below(digits: &[u8]) -> Option<i32>
+    ensures { result ≡ delta_below digits.now }
+{
+    if !is_number(digits) {
+        return None;
+    }
+    let value = value_of(digits);
+    if value <= TOO_LARGE_DELTA {
+        Some(-(value as i64) as i32)
+    } else {
+        None
+    }
+}
+
+/// The number that a word spells in decimal digits, after `-` where it is below 0.
+#[tactic(auto, unfolding(crate::specs::Parameters::delta_of_word))]
+pub(crate) fn delta_of_word(word: &[u8]) -> Option<i32>
+    ensures { result ≡ delta_of_word word.now }
+{
+    match *word {
+        [] => None,
+        [b'-', ref digits @ ..] => delta_below(digits),
+        _ => delta_above(word),
     }
 }
 

@@ -6,10 +6,10 @@ ghost use Rattle.mrc_wiring_text.specs.declared.reading.Line.{Line};
 ghost use Rattle.mrc_wiring_text.specs.Lexis.{lines};
 ghost use Rattle.mrc_wiring_text.specs.Reading.{line_of, body};
 ghost use Rattle.mrc_report.specs.declared.script.TaskCall.{TaskCall};
-ghost use Rattle.mrc_report.specs.Calls.{script_says};
+ghost use Rattle.mrc_report.specs.Waiting.{line_says};
 ghost use Rattle.mrc_report.specs.Scripts.{IsScript, Reads, script_of};
 
-use crate::calls::script_says;
+use crate::waiting::line_says;
 use mrc_base::limits::LINES;
 use mrc_base::{OrMemory, TaskId};
 use mrc_machine::Call;
@@ -34,6 +34,8 @@ pub struct TaskCall {
     pub task: TaskId,
     /// The call.
     pub call: Call,
+    /// Whether the call, which receives, waits for a message. In a replay none does.
+    pub waits: bool,
 }
 
 /// A script: its lines that say something, in order.
@@ -66,11 +68,12 @@ impl Script {
 fn line_of(
     alloc: Global,
     wired: &Wired,
+    live: bool,
     number: u32,
     line: &[u8],
 ) -> Result<Option<TaskCall>, OrMemory<ScriptFault>>
     ensures fault { Reads (λ says. says) result
-        (line_of (script_says wired.now.names) number line.now) }
+        (line_of (line_says live wired.now.names) number line.now) }
     ensures within { OnOk result (number ≤ limit_of_lines) }
 {
     if number > LINES {
@@ -81,7 +84,7 @@ fn line_of(
     if said.is_empty() {
         return Ok(None);
     }
-    match script_says(alloc, wired, &said)? {
+    match line_says(alloc, wired, live, &said)? {
         Some(says) => Ok(Some(says)),
         None => Err(OrMemory::Fault(ScriptFault::BadLine(number))),
     }
@@ -91,16 +94,17 @@ fn line_of(
 fn lines_of(
     alloc: Global,
     wired: &Wired,
+    live: bool,
     text: &[u8],
 ) -> Result<Vec<Line<TaskCall>>, OrMemory<ScriptFault>>
-    ensures { Reads (λ said. said.items) result (script_of wired.now.names text.now) }
+    ensures { Reads (λ said. said.items) result (script_of live wired.now.names text.now) }
 {
     let mut said = Vec::new(alloc);
     let mut rest = text;
     let mut number = 1;
     while !rest.is_empty() {
         let (line, after) = first_line(rest);
-        if let Some(says) = line_of(alloc, wired, number, line)? {
+        if let Some(says) = line_of(alloc, wired, live, number, line)? {
             said.push(Line { number, says })?;
         }
         number += 1;
@@ -109,28 +113,35 @@ fn lines_of(
     Ok(said)
 }
 
-fn script_of(alloc: Global, wired: &Wired, text: &str) -> Result<Script, OrMemory<ScriptFault>>
-    ensures { Reads (λ script. script) result (script_of wired.now.names text.now) }
+fn script_of(
+    alloc: Global,
+    wired: &Wired,
+    text: &str,
+    live: bool,
+) -> Result<Script, OrMemory<ScriptFault>>
+    ensures { Reads (λ script. script) result (script_of live wired.now.names text.now) }
 {
-    let lines = lines_of(alloc, wired, text.as_bytes())?;
+    let lines = lines_of(alloc, wired, live, text.as_bytes())?;
     Ok(Script { lines })
 }
 
 /// Reads a script of a wiring's tasks, or tells its first line that is none of the grammar. A line
 /// is the name of a wired task, a call by Mach's name without `mach_port_`, and the call's
-/// parameters in order.
+/// parameters in order. Where tasks run as threads (`live`) a line may also be `wait` with the
+/// parameters of a receive.
 pub fn read_script(
     alloc: Global,
     wired: &Wired,
     text: &str,
+    live: bool,
 ) -> Result<Script, OrMemory<ScriptFault>>
     // What is read is said by a script of the wiring's tasks.
-    ensures found { IfOk result (λ script. IsScript wired.now.names text.now script) }
+    ensures found { IfOk result (λ script. IsScript live wired.now.names text.now script) }
     // What such a script says is read, unless memory runs out.
-    ensures only { (says : List (Line TaskCall)) → IsScript wired.now.names text.now says →
+    ensures only { (says : List (Line TaskCall)) → IsScript live wired.now.names text.now says →
         Reads (λ script. script) result (Ok says) }
     // Which fault it is: the first.
-    ensures fault { Reads (λ script. script) result (script_of wired.now.names text.now) }
+    ensures fault { Reads (λ script. script) result (script_of live wired.now.names text.now) }
 {
-    script_of(alloc, wired, text)
+    script_of(alloc, wired, text, live)
 }

@@ -1,6 +1,7 @@
 //! Scripts, events and files on worked cases.
 
 mod files;
+mod live;
 mod printing;
 mod scripts;
 
@@ -21,7 +22,7 @@ fn two_tasks(alloc: Global) -> Result<Wired, Fail> {
 /// A script of these tasks, or the number of its first wrong line.
 fn script(alloc: Global, text: &str) -> Result<Result<Script, u32>, Fail> {
     let wired = two_tasks(alloc)?;
-    match read_script(alloc, &wired, text) {
+    match read_script(alloc, &wired, text, false) {
         Ok(script) => Ok(Ok(script)),
         Err(OrMemory::Fault(ScriptFault::BadLine(number))) => Ok(Err(number)),
         Err(OrMemory::Memory) => Err(Fail::from("no memory")),

@@ -18,7 +18,7 @@ fn call_of(alloc: Global, line: &str) -> Result<Option<String>, Fail> {
     }
 }
 
-const CALLS: [(&str, &str); 10] = [
+const CALLS: [(&str, &str); 18] = [
     ("receive 2 8192", "Receive { name: 2, limit: 8192 }"),
     (
         "allocate 1 set",
@@ -49,6 +49,29 @@ const CALLS: [(&str, &str); 10] = [
         " rename\t1 2\r 3# as it was",
         "Rename { task: 1, old: 2, new: 3 }",
     ),
+    ("deallocate 1 2", "Deallocate { task: 1, name: 2 }"),
+    ("destroy 1 02", "Destroy { task: 1, name: 2 }"),
+    (
+        "mod_refs 1 2 dead -02147483648",
+        "ModRefs { task: 1, name: 2, right: DeadName, delta: -2147483648 }",
+    ),
+    (
+        "mod_refs 1 2 set 2147483647",
+        "ModRefs { task: 1, name: 2, right: PortSet, delta: 2147483647 }",
+    ),
+    (
+        "mod_refs 1 2 receive -0",
+        "ModRefs { task: 1, name: 2, right: Receive, delta: 0 }",
+    ),
+    (
+        "move_member 1 2 0",
+        "MoveMember { task: 1, member: 2, set: 0 }",
+    ),
+    (
+        "request_notification 1 2 69 3 4 18",
+        "RequestNotification { task: 1, name: 2, id: 69, sync: 3, notify: 4, disp: MoveSendOnce }",
+    ),
+    ("task_terminate 1", "Terminate { task: 1 }"),
     (
         "send 1400000018000000 0200000 0 00000000\t00000000 F401000a # ping",
         "Send(Message { header: Header { remote_disp: 20, local_disp: 0, remote_port: 2, \
@@ -101,7 +124,7 @@ fn dispositions(rt: HostRuntime) -> Result<(), Fail> {
 }
 
 // Words that are too many, too few or none of the grammar.
-const BAD: [&str; 27] = [
+const BAD: [&str; 32] = [
     "",
     "allocate 1",
     "allocate 1 set 0",
@@ -123,7 +146,12 @@ const BAD: [&str; 27] = [
     "names 1\u{a0}",
     "receive 1",
     "wait 1 24",
-    "deallocate 1 2",
+    "terminate 1",
+    "task_terminate 1 2",
+    "mod_refs 1 2 send +5",
+    "mod_refs 1 2 send -",
+    "mod_refs 1 2 send 2147483648",
+    "mod_refs 1 2 send -2147483649",
     "send",
     "send 13000080",
     "send 140000001800000002000000000000000000000000f4010",

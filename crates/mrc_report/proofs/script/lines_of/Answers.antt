@@ -7,7 +7,7 @@ use Rattle.mrc_wiring_text.specs.Reading.{body}
 use Rattle.mrc_wiring_text.proofs.HeadingLemmas.{is_nil}
 use Rattle.mrc_wiring_text.proofs.BodyLemmas.{with_front, more, body_same, body_goes_on, body_fails}
 use Rattle.mrc_wiring_text.proofs.BodyLemmas.{body_ends}
-use Rattle.mrc_report.specs.Calls.{script_says}
+use Rattle.mrc_report.specs.Waiting.{line_says}
 use Rattle.mrc_report.specs.Scripts.{script_of, text_refusal}
 use Rattle.mrc_report.proofs.script.lines_of.Goals as goal
 use Rattle.mrc_report.proofs.script.lines_of.Goals.{in-Some+in_ok-push, in_default}
@@ -15,13 +15,13 @@ use Rattle.mrc_report.proofs.script.lines_of.Goals.{in-Some+in_ok-push, in_defau
 pub returns-in_err-says : goal.returns-in_err-says
 returns-in_err-says c =
     let p = err_from_is_err_and c.from_residual.result c.from_residual.ensures.1 in
-    let says = script_says c.args.wired.now.names in
+    let says = line_says c.args.live c.args.wired.now.names in
     rw (p.1, p.2) (body_fails (text_refusal c.in_err-says.field-0.0) says _ _ _ _ _ _
     c.loop-rest.invariant.same c.first_line.ensures.cut c.in_err-says.ensures.fault)
 
 pub loop-rest-preserved : goal.loop-rest-preserved
 loop-rest-preserved c =
-    let goes = body_goes_on (script_says c.args.wired.now.names) _ _ _ _ _ _ _
+    let goes = body_goes_on (line_says c.args.live c.args.wired.now.names) _ _ _ _ _ _ _
     c.loop-rest.invariant.same c.first_line.ensures.cut c.in_ok-says.ensures.fault in
     let n = c.loop-rest.number in
     let front = c.loop-rest.said.items in
@@ -43,7 +43,7 @@ loop-rest-preserved c =
 pub returns : goal.returns
 returns c =
     let none = is_nil c.loop-rest.rest.now _ c.is_empty.ensures c.loop-rest-test.false in
-    let says = script_says c.args.wired.now.names in
+    let says = line_says c.args.live c.args.wired.now.names in
     body_ends says c.loop-rest.said.items c.loop-rest.number _
     (subst (λ bs. with_front c.loop-rest.said.items (body says c.loop-rest.number (lines bs))
-    ≡ script_of c.args.wired.now.names c.args.text.now) none c.loop-rest.invariant.same)
+    ≡ script_of c.args.live c.args.wired.now.names c.args.text.now) none c.loop-rest.invariant.same)

@@ -4,14 +4,14 @@ use Rattle.mrc_base.specs.Limits.{limit_of_lines}
 use Rattle.mrc_wiring_text.specs.Lexis.{lines}
 use Rattle.mrc_wiring_text.specs.Reading.{body}
 use Rattle.mrc_wiring_text.proofs.BodyLemmas.{with_front}
-use Rattle.mrc_report.specs.Calls.{script_says}
+use Rattle.mrc_report.specs.Waiting.{line_says}
 use Rattle.mrc_report.specs.Scripts.{script_of}
 use Rattle.mrc_report.proofs.script.lines_of.Given as goal
 
 abbrev pub invariant-loop-rest : goal.invariant-loop-rest
 invariant-loop-rest l = record {
-  same : with_front l.said.items (body (script_says l.wired.names) l.number (lines l.rest))
-      ≡ script_of l.wired.names l.text;
+  same : with_front l.said.items (body (line_says l.live l.wired.names) l.number (lines l.rest))
+      ≡ script_of l.live l.wired.names l.text;
   within : l.number ≤ limit_of_lines + 1;
 }
 

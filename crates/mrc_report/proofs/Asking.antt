@@ -1,0 +1,68 @@
+-- The calls of a part of a script.
+use Rattle.std.proofs.Common.{◌≡◌, ◌+◌, ℕ, List, [], ◌∷◌, ◌++◌, Some, Bool, true, false, take}
+use Rattle.std.proofs.Common.{drop, slice_get, refl, sym, ap, ◌∙◌, subst, ◌==◌, cond}
+use Rattle.std.proofs.lemmas.List.{take-append-drop, append-nil}
+use Rattle.mrc_live.proofs.Following.{take_next}
+use Rattle.mrc_live.specs.Desks.{SeatState}
+use Rattle.mrc_machine.specs.declared.call.Call.{Call}
+use Rattle.mrc_report.specs.Plays.{asked_of, calls_of, Begins, IsPlayed}
+use Rattle.mrc_report.specs.declared.playing.LiveFault.{LiveFault}
+use Rattle.mrc_report.specs.declared.script.TaskCall.{TaskCall}
+use Rattle.mrc_wiring_text.specs.declared.reading.Line.{Line}
+
+asked_cond : (b : Bool) (x : Call) (xs ys : List Call)
+    → cond b (x ∷ (xs ++ ys)) (xs ++ ys) ≡ cond b (x ∷ xs) xs ++ ys
+asked_cond true x xs ys = refl
+asked_cond false x xs ys = refl
+
+-- the calls of one list of lines after another
+pub asked_of-append : (task : ℕ) (ls ms : List (Line TaskCall))
+    → asked_of task (ls ++ ms) ≡ asked_of task ls ++ asked_of task ms
+asked_of-append task [] ms = refl
+asked_of-append task (l ∷ ls) ms =
+    (λ i. cond (l.says.task == task) (l.says.call ∷ asked_of-append task ls ms i)
+    (asked_of-append task ls ms i))
+    ∙ asked_cond (l.says.task == task) l.says.call (asked_of task ls) (asked_of task ms)
+
+-- the calls of the first lines are a beginning
+pub part_begins : (task : ℕ) (lines : List (Line TaskCall)) (k : ℕ)
+    → Begins (asked_of task lines) (asked_of task (take k lines))
+part_begins task lines k = (
+  asked_of task (drop k lines),
+  sym (asked_of-append task (take k lines) (drop k lines))
+      ∙ ap (asked_of task) (take-append-drop k lines),
+)
+
+-- one line more
+pub asked_next : (task : ℕ) (lines : List (Line TaskCall)) (k : ℕ) (l : Line TaskCall)
+    → slice_get lines k ≡ Some l
+    → asked_of task (take (k + 1) lines)
+    ≡ asked_of task (take k lines) ++ cond (l.says.task == task) (l.says.call ∷ []) []
+asked_next task lines k l at =
+    ap (asked_of task) (take_next lines k (k + 1) l at refl)
+    ∙ asked_of-append task (take k lines) (l ∷ [])
+
+pub asked_mine : (task : ℕ) (lines : List (Line TaskCall)) (k : ℕ) (l : Line TaskCall)
+    → slice_get lines k ≡ Some l → (l.says.task == task) ≡ true
+    → asked_of task (take (k + 1) lines) ≡ asked_of task (take k lines) ++ l.says.call ∷ []
+asked_mine task lines k l at mine =
+    asked_next task lines k l at
+    ∙ (λ i. asked_of task (take k lines) ++ cond (mine i) (l.says.call ∷ []) [])
+
+pub asked_other : (task : ℕ) (lines : List (Line TaskCall)) (k : ℕ) (l : Line TaskCall)
+    → slice_get lines k ≡ Some l → (l.says.task == task) ≡ false
+    → asked_of task (take (k + 1) lines) ≡ asked_of task (take k lines)
+asked_other task lines k l at other =
+    asked_next task lines k l at
+    ∙ (λ i. asked_of task (take k lines) ++ cond (other i) (l.says.call ∷ []) [])
+    ∙ append-nil (asked_of task (take k lines))
+
+-- with a fault the calls of the first lines have been made
+pub played_part : (task : ℕ) (lines : List (Line TaskCall)) (s : SeatState) (f : LiveFault) (k : ℕ)
+    → s.task ≡ task → calls_of s ≡ asked_of task (take k lines)
+    → IsPlayed task lines s (Some f)
+played_part task lines s f k same calls = record {
+  task_is = same;
+  whole = λ none. absurd cc;
+  begun = subst (Begins (asked_of task lines)) (sym calls) (part_begins task lines k);
+}

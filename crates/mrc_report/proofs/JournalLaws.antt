@@ -1,0 +1,168 @@
+-- From a journal and the seats that have played a script to what is printed of it.
+use Rattle.std.proofs.Common.{◌≡◌, ◌<◌, ◌≤◌, ◌+◌, ℕ, zero, suc, Bool, true, false, List, []}
+use Rattle.std.proofs.Common.{◌∷◌, ◌++◌}
+use Rattle.std.proofs.Common.{length, map, take, get_or, slice_get, Some, refl, sym, ap, ◌∙◌}
+use Rattle.std.proofs.Common.{subst, arith, ◌==◌, cond, inl, inr}
+use Rattle.std.proofs.lemmas.Bool.Decides.{eqb_tells}
+use Rattle.std.proofs.lemmas.List.{length-map, map-append, length-take, take_all}
+use Rattle.std.proofs.lemmas.Option.{slice_get_within, slice_get-get_or}
+use Rattle.std.proofs.Math.Seq.{take-suc}
+use Rattle.mrc_check.specs.Verdict.{Case}
+use Rattle.mrc_confine.specs.Guards.{wiring_in}
+use Rattle.mrc_live.proofs.Following.{one_there}
+use Rattle.mrc_live.specs.Desks.{SeatState}
+use Rattle.mrc_live.specs.Parts.{AllAreSeated, AreApart, EachIsItsPart}
+use Rattle.mrc_live.specs.Runs.{IsJournal, event_of, part_of}
+use Rattle.mrc_live.specs.declared.event.Event.{Event as LiveEvent}
+use Rattle.mrc_machine.specs.Calls.{call_of, reply_of}
+use Rattle.mrc_model.specs.Map.{len}
+use Rattle.mrc_model.specs.Runs.{Event}
+use Rattle.mrc_model.specs.World.{World}
+use Rattle.mrc_report.proofs.ReplayLaws.{line_on}
+use Rattle.mrc_report.specs.Journal.{IsLive, calls_by, journal_text}
+use Rattle.mrc_report.specs.Plays.{SaysAll, asked_of, calls_of}
+use Rattle.mrc_report.specs.Printing.{event_line, end_line}
+use Rattle.mrc_report.specs.Replay.{event_lines}
+use Rattle.mrc_report.specs.declared.script.TaskCall.{TaskCall}
+use Rattle.mrc_wiring.specs.Table.{Table, wiring_of}
+use Rattle.mrc_wiring_text.specs.declared.reading.Line.{Line}
+
+-- the line of one more event
+pub printed_next : (table : Table) (all : List LiveEvent) (n : ℕ) (e : LiveEvent)
+    (before after : List ℕ)
+    → before ≡ event_lines table 0 (map event_of (take n all))
+    → n < length all → e ≡ get_or all n e
+    → after ≡ before ++ event_line table n e.task (reply_of e.reply)
+    → after ≡ event_lines table 0 (map event_of (take (n + 1) all))
+printed_next table all n e before after was within is shown =
+    let front = map event_of (take n all) in
+    let few : 0 + length front ≡ n =
+    omega (arith, length-map (take n all) event_of, length-take n all) in
+    let place : suc n ≡ n + 1 = omega arith in
+    let more : take (n + 1) all ≡ take n all ++ e ∷ [] =
+    ap (λ k. take k all) (sym place) ∙ take-suc all n e within
+    ∙ ap (λ x. take n all ++ x ∷ []) (sym is) in
+    let line = event_line table n e.task (reply_of e.reply) in
+    shown
+    ∙ ap (λ text. text ++ line) was
+    ∙ ap (λ k. event_lines table 0 front ++ event_line table k e.task (reply_of e.reply)) (sym few)
+    ∙ sym (line_on table 0 front (event_of e))
+    ∙ ap (event_lines table 0) (sym (map-append event_of (take n all) (e ∷ [])))
+    ∙ ap (λ es. event_lines table 0 (map event_of es)) (sym more)
+
+-- the last line
+pub printed_whole : (table : Table) (all : List LiveEvent) (n ports : ℕ) (before after : List ℕ)
+    → before ≡ event_lines table 0 (map event_of (take n all))
+    → length all ≤ n
+    → after ≡ before ++ end_line (length all) ports
+    → after ≡ journal_text table all ports
+printed_whole table all n ports before after was past shown =
+    shown
+    ∙ ap (λ text. text ++ end_line (length all) ports) was
+    ∙ ap (λ es. event_lines table 0 (map event_of es) ++ end_line (length all) ports)
+    (take_all n all past)
+
+-- the events of a task are those of a seat
+abbrev pub IsOne : ℕ → ℕ → List LiveEvent → Type 0
+IsOne task number es =
+    (k : ℕ) (e : LiveEvent) → slice_get es k ≡ Some e
+    → (e.seat ≡ number → e.task ≡ task) × (e.task ≡ task → e.seat ≡ number)
+
+both_same : (a b c d : ℕ) → (a ≡ b → c ≡ d) → (c ≡ d → a ≡ b) → (c == d) ≡ (a == b)
+both_same a b c d there back =
+    elim (eqb_tells a b) [
+      | inl yes_ ↦ elim (eqb_tells c d) [
+        | inl same ↦ same.0 ∙ sym yes_.0
+        | inr other ↦ absurd (other.1 (there yes_.1))
+      ]
+      | inr no_ ↦ elim (eqb_tells c d) [
+        | inl same ↦ absurd (no_.1 (back same.1))
+        | inr other ↦ other.0 ∙ sym no_.0
+      ]
+    ]
+
+by_cond : (b : Bool) (e : LiveEvent) (es : List LiveEvent) (number : ℕ)
+    → cond b (call_of e.call ∷ map call_of (map (λ m. m.call) (part_of number es)))
+    (map call_of (map (λ m. m.call) (part_of number es)))
+    ≡ map call_of (map (λ m. m.call) (cond b
+    (record { call = e.call; reply = e.reply } ∷ part_of number es) (part_of number es)))
+by_cond true e es number = refl
+by_cond false e es number = refl
+
+by_seat : (task number : ℕ) (es : List LiveEvent) → IsOne task number es
+    → calls_by task (map event_of es) ≡ map call_of (map (λ m. m.call) (part_of number es))
+by_seat task number [] one = refl
+by_seat task number (e ∷ es) one =
+    let same : (e.task == task) ≡ (e.seat == number) =
+    both_same e.seat number e.task task (one 0 e refl).0 (one 0 e refl).1 in
+    let later = by_seat task number es (λ k f at. one (suc k) f at) in
+    (λ i. cond (same i) (call_of e.call ∷ later i) (later i))
+    ∙ by_cond (e.seat == number) e es number
+
+-- each task's events are those of its seat
+pub are_one : (lines : List (Line TaskCall)) (seats : List SeatState) (es : List LiveEvent) (t : ℕ)
+    (s : SeatState)
+    → SaysAll lines seats → AllAreSeated seats es → AreApart seats → slice_get seats t ≡ Some s
+    → IsOne t s.number es
+are_one lines seats es t s says seated apart at k e here =
+    let own = seated k e here in
+    let i = own.0 in
+    let mine = own.1.0 in
+    let there = own.1.1 in
+    let number : mine.number ≡ e.seat = own.1.2 in
+    let task : mine.task ≡ e.task = own.1.3 in
+    let place : mine.task ≡ i = (says i mine there).0 in (
+      λ same. sym task ∙ place ∙ apart i t mine s there at (number ∙ same),
+      λ same. sym number ∙ ap (λ (x : SeatState). x.number)
+          (one_there seats i t mine s there at (sym place ∙ task ∙ same)),
+    )
+
+-- each task makes the calls of its lines
+pub calls_are : (lines : List (Line TaskCall)) (seats : List SeatState) (es : List LiveEvent)
+    (t : ℕ) (s : SeatState)
+    → SaysAll lines seats → EachIsItsPart seats es → AllAreSeated seats es → AreApart seats
+    → slice_get seats t ≡ Some s
+    → calls_by t (map event_of es) ≡ map call_of (asked_of t lines)
+calls_are lines seats es t s says parts seated apart at =
+    by_seat t s.number es (are_one lines seats es t s says seated apart at)
+    ∙ ap (λ made. map call_of (map (λ m. m.call) made)) (parts t s at)
+    ∙ ap (map call_of) (says t s at).1
+
+-- an element of a list by a function comes from one of the list
+map_there : {X Y : Type 0} (f : X → Y) (xs : List X) (k : ℕ) (y : Y)
+    → slice_get (map f xs) k ≡ Some y
+    → (x : X) × ((slice_get xs k ≡ Some x) × (f x ≡ y))
+map_there f [] k y at = cc
+map_there f (x ∷ xs) zero y at =
+    (x, (refl, one_there (f x ∷ map f xs) 0 0 (f x) y refl at refl))
+map_there f (x ∷ xs) (suc k) y at = map_there f xs k y at
+
+-- a seat, where there is none
+no_seat : SeatState
+no_seat = record { number = 0; task = 0; calls = []; share = 0 }
+
+-- what is told of a server that was finished
+pub is_live : (case : Case) (lines : List (Line TaskCall)) (seats : List SeatState)
+    (events : List LiveEvent) (world : World) (text : List ℕ)
+    → IsJournal case events world
+    → EachIsItsPart seats events → AllAreSeated seats events → AreApart seats
+    → SaysAll lines seats → length seats ≡ (wiring_in case).tasks
+    → text ≡ journal_text case.claim.table events (len world.store.ports)
+    → IsLive case.claim.table lines text
+is_live case lines seats events world text run parts seated apart says many shown = record {
+  events = map event_of events;
+  world = world;
+  run = run;
+  calls = λ t below. calls_are lines seats events t (get_or seats t no_seat) says parts seated apart
+      (slice_get-get_or seats t no_seat (omega (arith, below, many)));
+  tasks = λ k e at.
+      let one = map_there event_of events k e at in
+      let own = seated k one.0 one.1.0 in
+      let place : own.1.0.task ≡ own.0 = (says own.0 own.1.0 own.1.1).0 in
+      let same : own.1.0.task ≡ one.0.task = own.1.3 in
+      let is : one.0.task ≡ e.task = ap (λ (x : Event). x.task) one.1.1 in
+      let within = slice_get_within seats own.0 own.1.0 own.1.1 in
+      omega (arith, place, same, is, within, many);
+  printed = shown ∙ ap (λ n. event_lines case.claim.table 0 (map event_of events)
+      ++ end_line n (len world.store.ports)) (sym (length-map events event_of));
+}

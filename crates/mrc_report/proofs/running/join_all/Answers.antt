@@ -1,0 +1,47 @@
+use Rattle.std.proofs.Common.{◌≡◌, ◌+◌, MatchResult, None, vec_len, length, rules, sym, subst}
+use Rattle.std.specs.Vec.Iter.{into_iter_items}
+use Rattle.mrc_report.specs.Plays.{IsPlayed}
+use Rattle.mrc_report.proofs.Joining.{each_grown, each_first, each_later, from_both, played_later}
+use Rattle.mrc_report.proofs.running.join_all.Goals as goal
+
+-- the first of the rest has ended with what it promised, and is one more of the seats
+pub loop-one-preserved : goal.loop-one-preserved
+loop-one-preserved g c =
+    let script = c.args.script.now in
+    let was = c.loop-one.invariant in
+    let one = c.in-Some.one in
+    let done = vec_len c.loop-one.seats in
+    let rest = into_iter_items c.loop-one.one-iterator in
+    let later = into_iter_items c.next.new.self in
+    let end = c.ended-seat.result in
+    let keeps = each_first (λ t x. MatchResult x
+    (λ h. (h.promise.task ≡ t) × (h.promise.script.value ≡ script))
+    (λ p. IsPlayed t script p.seat p.fault)) done one rest later c.in-Some.ensures.steps.0 was.2 in
+    let played : IsPlayed done script end.seat end.fault =
+    from_both one
+    (λ h. (h.promise.task ≡ done) × (h.promise.script.value ≡ script))
+    (λ h. IsPlayed h.promise.task h.promise.script.value end.seat end.fault)
+    (λ p. IsPlayed done script p.seat p.fault)
+    (λ p. end ≡ p)
+    (IsPlayed done script end.seat end.fault)
+    (λ h is this. subst (λ ls. IsPlayed done ls end.seat end.fault) is.1
+    (subst (λ t. IsPlayed t h.promise.script.value end.seat end.fault) is.0 this))
+    (λ p this is. subst (λ q. IsPlayed done script q.seat q.fault) (sym is) this)
+    keeps c.ended-seat.ensures in
+    let next : vec_len c.push_reserved.new.self ≡ done + 1 = search rules in
+    let len : done ≡ length c.loop-one.seats.items = search rules in
+    let this_none : c.earlier-first.result ≡ None → end.fault ≡ None = search rules in
+    let that_none : c.earlier-first.result ≡ None → c.loop-one.first ≡ None = search rules in (
+      search rules,
+      search rules,
+      each_later (λ t x. MatchResult x
+          (λ h. (h.promise.task ≡ t) × (h.promise.script.value ≡ script))
+          (λ p. IsPlayed t script p.seat p.fault))
+          done (vec_len c.push_reserved.new.self) one rest later c.in-Some.ensures.steps.0 was.2
+          next,
+      each_grown (λ t s. IsPlayed t script s c.earlier-first.result) c.loop-one.seats.items
+          c.push_reserved.new.self.items end.seat done c.push_reserved.ensures.items len
+          (λ t s at. played_later t script s c.loop-one.first c.earlier-first.result that_none
+          (was.3 t s at))
+          (played_later done script end.seat end.fault c.earlier-first.result this_none played),
+    )

@@ -1,0 +1,171 @@
+//! That the threads of a script run at once, and that a run with waits ends.
+
+ghost use Rattle.std.specs.Prelude.{◌≡◌};
+
+use crate::{Gate, read_script, run_live, serve};
+use mrc_base::OrMemory;
+use mrc_check::{Confined, check_texts};
+use mrc_confine::Guarded;
+use mrc_live::Live;
+use std::alloc::{AllocError, Global};
+use std::marker::Brand;
+use std::sync::Wait;
+use std::sync::atomic::{AtomicBool, Ordering};
+use std::sync::ledger::{Blank, Ledger};
+use std::test::Fail;
+use std::thread;
+use std::thread::Threads;
+
+/// Holds the first task until the second has entered, for so many turns at most.
+#[derive(Drop)]
+struct Holding {
+    entered: AtomicBool,
+    gave_up: AtomicBool,
+}
+
+impl Gate for Holding {
+    fn enter(&self, number: usize) {
+        if number == 1 {
+            self.entered.store(true, Ordering::SeqCst);
+            return;
+        }
+        for _ in 0..1_000_000u32 {
+            if self.entered.load(Ordering::SeqCst) {
+                return;
+            }
+            thread::yield_now();
+        }
+        self.gave_up.store(true, Ordering::SeqCst);
+    }
+}
+
+const FILE_SERVER: &str = "subsystem fsys 3000;
+#include <mach/std_types.defs>
+type file_t = MACH_MSG_TYPE_COPY_SEND;
+type path_t = c_string[64];
+routine open(root : mach_port_t; in path : path_t; out file : file_t);
+";
+
+const FILES: &str = "wiring 1
+task app
+task fs
+port root receiver fs accepts request fsys
+births app accepts reply fsys
+hold app send port root
+admit fsys.file_t births fs
+";
+
+const POLICY: &str = "policy 1\nforbid app send task fs\n";
+
+/// The least certificate of the file server.
+const OF_FILES: [u8; 122] = [
+    0x4d, 0x52, 0x43, 0x43, 0, 1, 0, 2, 0, 5, 0, 0, 0, 18, // header
+    1, 0, 0, 0, 0, 0, 1, 0, 0, 0, 1, 0, 1, 0, 0, 0, 3, 0, // app: root, itself
+    1, 0, 0, 0, 3, 1, 1, 0, 0, 0, 3, 2, 1, 0, 0, 0, 4, 0, // its births, and files
+    1, 0, 1, 0, 0, 0, 1, 0, 1, 0, 0, 1, 1, 0, 1, 0, 0, 2, // fs: root
+    1, 0, 1, 0, 2, 0, 1, 0, 1, 0, 3, 2, // itself, and reply ports
+    1, 0, 1, 0, 4, 0, 1, 0, 1, 0, 4, 1, 1, 0, 1, 0, 4, 2, // its births
+    2, 0, 0, 0, 0, 2, 2, 0, 0, 0, 3, 2, 2, 0, 0, 0, 4, 2, // what root carries
+    2, 0, 3, 0, 4, 0, // and what reply ports carry
+];
+
+const OPENS: &str = "fs wait 2 92
+fs allocate 1 receive
+fs insert_right 1 4 4 20
+fs send 12000080 28000000 03000000 0000000000000000 1c0c0000 0220011000000000 1320011004000000
+app allocate 1 receive
+app send 13150000 5c000000 02000000 03000000 00000000 b80b0000 0c084010 \
+00000000000000000000000000000000 00000000000000000000000000000000 \
+00000000000000000000000000000000 00000000000000000000000000000000
+app wait 3 40
+app type 1 4
+";
+
+/// The file server, as it was checked.
+fn file_server(alloc: Global) -> Result<Confined, AllocError> {
+    let defs = vec![in alloc; Vec::from_slice(alloc, FILE_SERVER.as_bytes())?]?;
+    let answer = check_texts(
+        alloc,
+        defs.as_slice(),
+        FILES.as_bytes(),
+        POLICY.as_bytes(),
+        &OF_FILES,
+    );
+    match answer {
+        Ok(confined) => Ok(confined),
+        Err(_) => Err(AllocError),
+    }
+}
+
+/// Runs the script and finishes. The number of events, and 0 where something was refused.
+fn run_files<L: Ledger + Send + Sync, R: Threads + Wait + Sync>(
+    rt: &R,
+    alloc: Global,
+    blank: Blank,
+    gate: &Holding,
+) -> Result<usize, AllocError>
+    requires name { blank.name ≡ L.name }
+    requires parts { (blank.parts ≡ L.parts) × (L.parts ≡ 257) }
+{
+    let Ok(guarded) = Guarded::start(alloc, file_server(alloc)?) else {
+        return Err(AllocError);
+    };
+    let Ok(live) = Live::<L>::new(alloc, guarded, 8, blank) else {
+        return Err(AllocError);
+    };
+    let Ok(script) = read_script(alloc, live.confined().wired(), OPENS, true) else {
+        return Err(AllocError);
+    };
+    let Ok(seats) = run_live(rt, alloc, &live, script, gate) else {
+        return Ok(0);
+    };
+    match live.finish(seats) {
+        Ok((journal, _)) => Ok(journal.events().len()),
+        Err(_) => Ok(0),
+    }
+}
+
+#[test]
+fn threads_run_at_once(rt: HostRuntime) -> Result<(), Fail> {
+    let gate = Holding {
+        entered: AtomicBool::new(false),
+        gave_up: AtomicBool::new(false),
+    };
+    assert_eq!(rt;
+        run_files::<Brand, _>(&rt, rt.alloc(), Blank::new(257), &gate)?,
+        8
+    );
+    assert!(rt; !gate.gave_up.load(Ordering::SeqCst));
+    Ok(())
+}
+
+/// What is told of a script that makes one event more than the journal may have.
+fn too_many<L: Ledger + Send + Sync, R: Threads + Wait + Sync>(
+    rt: &R,
+    alloc: Global,
+    blank: Blank,
+) -> Result<String, AllocError>
+    requires name { blank.name ≡ L.name }
+    requires parts { (blank.parts ≡ L.parts) × (L.parts ≡ 257) }
+{
+    let gate = Holding {
+        entered: AtomicBool::new(true),
+        gave_up: AtomicBool::new(false),
+    };
+    let confined = file_server(alloc)?;
+    let Ok(script) = read_script(alloc, confined.wired(), "app names 1\napp names 1\n", true) else {
+        return Err(AllocError);
+    };
+    match serve::<L, _, _>(rt, alloc, confined, script, 1, blank, &gate) {
+        Ok(text) => Ok(text),
+        Err(OrMemory::Fault(fault)) => fault.to_string(alloc),
+        Err(OrMemory::Memory) => Err(AllocError),
+    }
+}
+
+#[test]
+fn a_journal_is_full(rt: HostRuntime) -> Result<(), Fail> {
+    let told = too_many::<Brand, _>(&rt, rt.alloc(), Blank::new(257))?;
+    assert_eq!(rt; told.as_str(), "JournalFull");
+    Ok(())
+}
