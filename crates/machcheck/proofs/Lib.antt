@@ -1,4 +1,5 @@
+pub mod CommandLaws
 pub mod FileLaws
 pub mod ToldLaws
-pub mod ReplayLaws
+pub mod ScriptLaws
 pub mod ChainLaws

@@ -1,5 +1,5 @@
 -- From the checker's answer, and what is told of it, to what the texts say.
-use Rattle.std.proofs.Common.{◌≡◌, ◌⊎◌, ℕ, List, Result, Ok, Err, refl, sym, ◌∙◌, inl, inr}
+use Rattle.std.proofs.Common.{◌≡◌, ◌⊎◌, ℕ, List, [], Result, Ok, Err, refl, sym, ◌∙◌, inl, inr}
 use Rattle.std.proofs.Common.{string_bytes, arith, codes, map, subst, Vec, Global}
 use Rattle.std.specs.Prelude.{IfOk, IfErr, Option}
 use Rattle.std.specs.Io.KnownBytes.{Appends}
@@ -9,6 +9,7 @@ use Rattle.mrc_check.specs.declared.texts.TextsFault.{TextsFault}
 use Rattle.mrc_check.specs.declared.texts.TextsFault.TheVariants.{Defs, Wiring, Policy}
 use Rattle.mrc_check.specs.declared.texts.TextsFault.TheVariants.{Certificate, Check}
 use Rattle.mrc_interface.specs.Reading.{refused_of}
+use Rattle.mrc_certificate.specs.Spelling.{content}
 use Rattle.mrc_check.specs.Verdict.{Case}
 use Rattle.mrc_check.specs.Texts.{InSystem, InDefs, InWiring, InPolicy, InCertificate, Tells, SayYes}
 use Rattle.machcheck.specs.declared.told.Told.{Told}
@@ -16,9 +17,11 @@ use Rattle.machcheck.specs.declared.command.CheckFiles.{CheckFiles}
 use Rattle.mrc_report.specs.declared.files.ReadFault.{ReadFault}
 use Rattle.mrc_report.specs.declared.files.ReadFault.TheVariants.{ReadFailed, TooBig}
 use Rattle.mrc_report.specs.declared.files.ReadFault.TheVariants.{Memory as NoMemory}
+use Rattle.machcheck.specs.declared.command.LiveFiles.{LiveFiles}
 use Rattle.machcheck.specs.Files.{Held, IsFirstUnread}
-use Rattle.machcheck.specs.Texts.{CheckTexts, AreAccepted, said_by}
-use Rattle.machcheck.specs.Told.{status_of, out_of, IsError, ToldMemory, ToldFault, UnreadTold}
+use Rattle.machcheck.specs.Texts.{CheckTexts, LiveTexts, AreAccepted, said_by}
+use Rattle.machcheck.specs.Told.{status_of, out_of, fault_line, IsError, IsFaultOf}
+use Rattle.machcheck.specs.Told.{ToldMemory, ToldFault, ToldNo, ToldOfScript, UnreadTold}
 use Rattle.machcheck.specs.Told.{ToldUnread, SomeFiles, WentOut}
 
 -- what is told of an answer, where there is memory for it
@@ -59,6 +62,65 @@ pub fault_told : {E : Type 0} (files : CheckFiles) (texts : CheckTexts)
     → IfOk result (λ told. told.status ≡ 2 → ToldMemory told ⊎ ToldFault files texts told)
 fault_told files texts answer (Ok told) v says = fault_of files texts answer told v says
 fault_told files texts answer (Err e) v says = tt
+
+no_of : {E : Type 0} (files : CheckFiles) (texts : CheckTexts)
+    (answer : Result Case (OrMemory TextsFault)) (told : Told)
+    → Verdict {E = E} files answer (Ok told) → Tells answer (said_by texts) → told.status ≡ 1
+    → ToldNo texts told
+no_of files texts (Ok case) told v says one =
+    let zero_is : told.status ≡ 0 = v.status in absurd (omega arith)
+no_of files texts (Err Memory) told v says one =
+    let two_is : told.status ≡ 2 = v.status in absurd (omega arith)
+no_of files texts (Err (Fault (Defs f))) told v says one =
+    let two_is : told.status ≡ 2 = v.status in absurd (omega arith)
+no_of files texts (Err (Fault (Wiring f))) told v says one =
+    let two_is : told.status ≡ 2 = v.status in absurd (omega arith)
+no_of files texts (Err (Fault (Policy f))) told v says one =
+    let two_is : told.status ≡ 2 = v.status in absurd (omega arith)
+no_of files texts (Err (Fault (Certificate f))) told v says one =
+    let two_is : told.status ≡ 2 = v.status in absurd (omega arith)
+no_of files texts (Err (Fault (Check r))) told v says one = record {
+  case = record { claim = r.claim; draft = content r.draft };
+  says = says.0;
+  why = r.why;
+  is_why = says.1;
+  out = v.out;
+  err = v.err;
+}
+
+-- status 1 tells the checker's reason
+pub no_told : {E : Type 0} (files : CheckFiles) (texts : CheckTexts)
+    (answer : Result Case (OrMemory TextsFault)) (result : Result Told E)
+    → Verdict files answer result → Tells answer (said_by texts)
+    → IfOk result (λ told. told.status ≡ 1 → ToldNo texts told)
+no_told files texts answer (Ok told) v says = no_of files texts answer told v says
+no_told files texts answer (Err e) v says = tt
+
+-- a fault of a file
+pub of_file : {E : Type 0} (file fault : List ℕ) (result : Result Told E)
+    → IfOk result (λ told. string_bytes told.out ≡ [])
+    → IfOk result (λ told. string_bytes told.err ≡ fault_line file fault)
+    → IfOk result (λ told. told.status ≡ 2
+    → ToldMemory told ⊎ ((string_bytes told.out ≡ []) × IsFaultOf file (string_bytes told.err)))
+of_file file fault (Ok told) out err = λ two. inr (out, (fault, err))
+of_file file fault (Err e) out err = tt
+
+-- a fault of a script, beside texts that are accepted
+pub of_script : {E : Type 0} (files : LiveFiles) (texts : LiveTexts) (case : Case)
+    (fault : List ℕ) (result : Result Told E)
+    → AreAccepted texts.check case
+    → IfOk result (λ told. string_bytes told.out ≡ [])
+    → IfOk result (λ told. string_bytes told.err ≡ fault_line files.script.now fault)
+    → IfOk result (λ told. told.status ≡ 2
+    → ToldMemory told ⊎ ToldOfScript files texts told)
+of_script files texts case fault (Ok told) accepted out err =
+    λ two. inr (record {
+      case = case;
+      accepted = accepted;
+      out = out;
+      err = (fault, err);
+    })
+of_script files texts case fault (Err e) accepted out err = tt
 
 -- an answer that is a yes or want of memory is told as such
 pub only_told : {E : Type 0} (files : CheckFiles) (answer : Result Case (OrMemory TextsFault))

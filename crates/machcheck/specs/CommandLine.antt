@@ -67,6 +67,16 @@ explain_app = with_files (new_app (codes "explain")) (codes "wiring" ∷ codes "
 abbrev pub replay_app : App
 replay_app = with_files (new_app (codes "replay")) (codes "wiring" ∷ codes "script" ∷ [])
 
+-- `live` with its first two options
+abbrev pub live_options : App
+live_options =
+    with_rule (with_rule (new_app (codes "live")) (file_rule (codes "wiring")))
+    (file_rule (codes "policy"))
+
+-- `live --wiring FILE --policy FILE --cert FILE --script FILE [DEFS]...`
+abbrev pub live_app : App
+live_app = with_files live_options (codes "cert" ∷ codes "script" ∷ [])
+
 -- all values that are given to an argument, none where it is not given
 abbrev pub all_values : Found → Text → List Text
 all_values found id = unwrap_or (option_map raw_values (matched_of found id)) []
@@ -93,9 +103,13 @@ certificate_app = with_subcommand (with_subcommand bare_app check_app.top) make_
 abbrev pub fact_app : App
 fact_app = with_subcommand certificate_app explain_app.top
 
+-- the same, and what replays a script
+abbrev pub script_app : App
+script_app = with_subcommand fact_app replay_app.top
+
 -- the program and its commands
 abbrev pub machcheck_app : App
-machcheck_app = with_subcommand fact_app replay_app.top
+machcheck_app = with_subcommand script_app live_app.top
 
 -- the words ask for help or for the version, as `clap` reads them; then they are no command
 abbrev pub AsksHelp : List Text → Type 0

@@ -4,6 +4,7 @@ use Rattle.std.specs.List.{All, AllZip}
 use Rattle.mrc_base.specs.Limits.{limit_of_file}
 use Rattle.machcheck.specs.declared.command.SystemFiles.{SystemFiles}
 use Rattle.machcheck.specs.declared.command.CheckFiles.{CheckFiles}
+use Rattle.machcheck.specs.declared.command.LiveFiles.{LiveFiles}
 use Rattle.machcheck.specs.declared.command.ReplayFiles.{ReplayFiles}
 
 -- the bytes of each file by its name, where they are known
@@ -48,3 +49,7 @@ check_names files = system_names files.system ++ files.policy.now ∷ files.cert
 -- the files of a `replay`, in the order in which they are read
 abbrev pub replay_names : ReplayFiles → List (List ℕ)
 replay_names files = system_names files.system ++ files.script.now ∷ []
+
+-- the files of a `live`, in the order in which they are read
+abbrev pub live_names : LiveFiles → List (List ℕ)
+live_names files = check_names files.check ++ files.script.now ∷ []

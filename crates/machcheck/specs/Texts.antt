@@ -1,17 +1,15 @@
 -- The texts that are judged together: those of MIG files and of a wiring, with those of a policy
 -- and a certificate, or with that of a script. This profile's own choice.
-use Rattle.std.specs.Prelude.{◌≡◌, ℕ, List, [], ◌∷◌, ◌++◌, Result, Ok, Err}
+use Rattle.std.specs.Prelude.{◌≡◌, ℕ, Bool, false, List, [], ◌∷◌, ◌++◌, Result, Ok, Err}
 use Rattle.mrc_base.specs.declared.memory.OrMemory.{OrMemory}
 use Rattle.mrc_base.specs.Reading.{◌>>=◌, UnlessMemory}
 use Rattle.mrc_wiring_text.specs.declared.faults.TextFault.{TextFault}
-use Rattle.mrc_wiring_text.specs.declared.faults.TextFault.TheVariants.{NotUtf8, BadLine}
 use Rattle.mrc_wiring_text.specs.declared.reading.Line.{Line}
 use Rattle.mrc_wiring_text.specs.Reading.{utf8_text}
 use Rattle.mrc_interface.specs.Reading.{step}
 use Rattle.mrc_wiring.specs.Table.{Table}
 use Rattle.mrc_check.specs.Verdict.{Case}
 use Rattle.mrc_check.specs.Texts.{SayYes, NoSystem, Meaningless, case_of, table_of, no_table_of}
-use Rattle.mrc_report.specs.declared.script.ScriptFault.TheVariants as script_fault
 use Rattle.mrc_report.specs.declared.script.TaskCall.{TaskCall}
 use Rattle.mrc_report.specs.Scripts.{script_of}
 use Rattle.machcheck.specs.declared.replay.WiredScript.{WiredScript}
@@ -59,29 +57,37 @@ pub record ReplayTexts : Type 0 where
 abbrev pub replay_list : ReplayTexts → List (List ℕ)
 replay_list texts = system_list texts.system ++ texts.script ∷ []
 
+-- the bytes that are checked, and those of a script
+pub record LiveTexts : Type 0 where
+  pub check : CheckTexts
+  pub script : List ℕ
+
+-- one after the other
+abbrev pub live_list : LiveTexts → List (List ℕ)
+live_list texts = check_list texts.check ++ texts.script ∷ []
+
 -- the one of these texts that has no meaning, and its first fault
 pub data Unscripted : Type 0 where
   InSystem : NoSystem → Unscripted
   InScript : TextFault → Unscripted
 
--- what a script's bytes say to the tasks of a wiring
-abbrev pub script_said : Table → List ℕ → Result (List (Line TaskCall)) TextFault
-script_said table script = do
+-- what a script's bytes say to the tasks of a wiring, which run as threads (`live`) or do not
+abbrev pub script_said : Bool → Table → List ℕ → Result (List (Line TaskCall)) TextFault
+script_said live table script = do
   text ← utf8_text script
-  script_of table.names text
+  script_of live table.names text
 
 -- what they say together, or the first that has no meaning
 abbrev pub scripted : ReplayTexts → Result WiredScript Unscripted
 scripted texts = do
   table ← step InSystem (wired_by texts.system)
-  script ← step InScript (script_said table texts.script)
+  script ← step InScript (script_said false table texts.script)
   Ok (record { wired = table; script = script })
 
 -- a fault of code, among these
 abbrev pub unscripted : ReplayFault → Unscripted
 unscripted (fault.System f) = InSystem (no_table_of f)
-unscripted fault.NotUtf8 = InScript NotUtf8
-unscripted (fault.Script (script_fault.BadLine n)) = InScript (BadLine n)
+unscripted (fault.Script f) = InScript f
 
 -- what was answered, seen by view, is what is said, unless memory ran out
 abbrev pub Plays : {A B : Type 0} → (A → B) → Result A (OrMemory ReplayFault)

@@ -1,7 +1,8 @@
 -- What the program tells of an answer of the checker, of a certificate that it makes, and of a
 -- replay: the status, and the texts on standard output and on standard error. This profile's own
 -- choice.
-use Rattle.std.specs.Prelude.{◌≡◌, ◌⊎◌, ℕ, List, [], ◌++◌, Option, Result, Ok, Err, codes, decimal}
+use Rattle.std.specs.Prelude.{◌≡◌, ◌⊎◌, ℕ, true, List, [], ◌++◌, Option, Result, Ok, Err, codes}
+use Rattle.std.specs.Prelude.{decimal}
 use Rattle.std.specs.Prelude.{string_bytes, get_or, length}
 use Rattle.std.specs.Io.KnownBytes.{Appends}
 use Rattle.mrc_wiring.specs.Table.{Table}
@@ -14,7 +15,7 @@ use Rattle.mrc_check.specs.declared.texts.TextsFault.{TextsFault}
 use Rattle.mrc_check.specs.declared.texts.TextsFault.TheVariants.{Defs, Wiring, Policy}
 use Rattle.mrc_check.specs.declared.texts.TextsFault.TheVariants.{Certificate, Check}
 use Rattle.mrc_classes.specs.Missing.{rule_number}
-use Rattle.mrc_classes.specs.Sets.{has}
+use Rattle.mrc_facts.specs.Sets.{has}
 use Rattle.mrc_certificate.specs.Drafts.{Content}
 use Rattle.mrc_certificate.specs.Spelling.{Spells}
 use Rattle.mrc_model.specs.Wiring.{classes}
@@ -27,20 +28,26 @@ use Rattle.machcheck.specs.declared.told.Told.{Told}
 use Rattle.machcheck.specs.declared.command.SystemFiles.{SystemFiles}
 use Rattle.machcheck.specs.declared.command.CheckFiles.{CheckFiles}
 use Rattle.machcheck.specs.declared.command.MakeFiles.{MakeFiles}
+use Rattle.machcheck.specs.declared.command.LiveFiles.{LiveFiles}
 use Rattle.machcheck.specs.declared.command.ReplayFiles.{ReplayFiles}
 use Rattle.machcheck.specs.declared.replay.WiredScript.{WiredScript}
 use Rattle.mrc_report.specs.declared.files.ReadFault.{ReadFault}
 use Rattle.mrc_report.specs.declared.files.ReadFault.TheVariants.{ReadFailed, TooBig}
 use Rattle.mrc_report.specs.declared.files.ReadFault.TheVariants.{Memory as NoMemory}
 use Rattle.mrc_report.specs.declared.files.WriteFault.{WriteFault}
+use Rattle.mrc_report.specs.Journal.{IsLive}
 use Rattle.mrc_report.specs.Replay.{IsReplay}
+use Rattle.mrc_report.specs.declared.script.TaskCall.{TaskCall}
+use Rattle.mrc_wiring_text.specs.declared.reading.Line.{Line}
 use Rattle.mrc_words.specs.Words.{◌␣◌, fact_text}
 use Rattle.machcheck.specs.Texts.{SystemTexts, system_list, wired_by}
 use Rattle.machcheck.specs.Texts.{CheckTexts, check_list, AreAccepted, said_by}
 use Rattle.machcheck.specs.Texts.{ReplayTexts, replay_list, scripted, Unscripted, InScript}
+use Rattle.machcheck.specs.Texts.{LiveTexts, live_list, script_said}
 use Rattle.machcheck.specs.Texts as texts
 use Rattle.machcheck.specs.Files.{Held, HasBytes, AreHeld, IsFirstUnread}
 use Rattle.machcheck.specs.Files.{defs_names, system_names, check_names, replay_names}
+use Rattle.machcheck.specs.Files.{live_names}
 
 -- the status of an answer: 0 for a yes, 1 for a refusal, 2 for a fault and for want of memory
 abbrev pub status_of : Result Case (OrMemory TextsFault) → ℕ
@@ -263,6 +270,45 @@ abbrev pub FaultOfReplay : Held → ReplayFiles → Told → Type 0
 FaultOfReplay held files told = ToldMemory told
     ⊎ (ToldUnread held (replay_names files) told
     ⊎ OfFiles replay_list (ToldUnscripted files) held (replay_names files) told)
+
+-- The journal of a script is told of texts, and it is right: the checker accepts them, the script
+-- has a meaning, and what is printed is a run from the first state of the wiring in which each task
+-- makes the calls of its lines.
+pub record ToldLive (texts : LiveTexts) (told : Told) : Type 0 where
+  pub case : Case
+  pub accepted : AreAccepted texts.check case
+  pub script : List (Line TaskCall)
+  pub says : script_said true case.claim.table texts.script ≡ Ok script
+  pub out : IsLive case.claim.table script (string_bytes told.out)
+  pub err : string_bytes told.err ≡ []
+
+-- a fault of the script, or of its run, is told of texts that the checker accepts
+pub record ToldOfScript (files : LiveFiles) (texts : LiveTexts) (told : Told) : Type 0 where
+  pub case : Case
+  pub accepted : AreAccepted texts.check case
+  pub out : string_bytes told.out ≡ []
+  pub err : IsFaultOf files.script.now (string_bytes told.err)
+
+-- a fault is told of texts: one of those that are checked has no meaning, or it is the script's
+abbrev pub ToldUnserved : LiveFiles → LiveTexts → Told → Type 0
+ToldUnserved files texts told =
+    ToldFault files.check texts.check told ⊎ ToldOfScript files texts told
+
+-- a journal is told of what the files hold
+abbrev pub LiveOfFiles : Held → LiveFiles → Told → Type 0
+LiveOfFiles held files told = OfFiles live_list ToldLive held (live_names files) told
+
+-- `NO` is told of what the files of a `live` hold
+abbrev pub NoOfLive : Held → LiveFiles → Told → Type 0
+NoOfLive held files told =
+    OfFiles live_list (λ texts. ToldNo texts.check) held (live_names files) told
+
+-- why status 2 is told of the files of a `live`: memory ran out, a file can't be read, a text has
+-- no meaning, or the script was not run to its end
+abbrev pub FaultOfLive : Held → LiveFiles → Told → Type 0
+FaultOfLive held files told = ToldMemory told
+    ⊎ (ToldUnread held (live_names files) told
+    ⊎ OfFiles live_list (ToldUnserved files) held (live_names files) told)
 
 -- it is told of some files
 abbrev pub SomeFiles : {F : Type 0} → (F → Told → Type 0) → Told → Type 0

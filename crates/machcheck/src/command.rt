@@ -8,7 +8,8 @@ ghost use Rattle.clap.specs.declared.error.kind.ErrorKind.TheVariants.{DisplayVe
 ghost use Rattle.machcheck.specs.CommandLine.{IsNoCommand, TellsError, file_rule, check_app};
 ghost use Rattle.machcheck.specs.CommandLine.{check_options, certificate_app, explain_app, fact_app};
 ghost use Rattle.machcheck.specs.CommandLine.{defs_rule, make_app, replay_app, machcheck_app};
-ghost use Rattle.machcheck.specs.CommandLine.{HasNoGlobals, all_values};
+ghost use Rattle.machcheck.specs.CommandLine.{HasNoGlobals, all_values, live_app, live_options};
+ghost use Rattle.machcheck.specs.CommandLine.{script_app};
 
 use crate::told::Told;
 use clap::error::ErrorKind;
@@ -16,8 +17,8 @@ use clap::{Arg, ArgAction, ArgMatches, Error};
 use std::alloc::{AllocError, AllocFailed, Global};
 
 const PROGRAM_HELP: &str = "Exit status of each command:
-  0  YES was printed, a certificate was made, a chain was printed, a script was replayed,
-     or help or the version was printed
+  0  YES was printed, a certificate was made, a chain was printed, a script was replayed
+     or run by threads, or help or the version was printed
   1  NO was printed, with the first reason, or none, where no chain leads to a fact
   2  a fault was told on standard error: a file can't be read or has no meaning,
      the command line is wrong, the output was not taken, or memory ran out
@@ -89,6 +90,28 @@ Exit status:
 
 Read on in README.md, and in docs/ARCHITECTURE.md.";
 
+const LIVE_HELP: &str = "Files, as docs/FORMATS.md describes them:
+  MIG files have the messages of the interfaces that the wiring names,
+  a wiring has the tasks and ports, what they accept, and the rights that are held at first,
+  a policy has who must never hold what,
+  a certificate has who may come to hold what. It is not trusted,
+  a script has a call of a task on each line.
+
+The certificate is checked first. Then each task runs as a thread, which makes the calls of its
+lines in order; between the tasks the order is that of the schedule. `wait NAME LIMIT` receives as
+`receive` does, but waits for a message: where all tasks wait, the program waits too. In the end
+the journal is printed: a line for each event, with its number from 0, the task and the reply,
+and then how many there were and how many ports are live. It has 1,000,000 events at most.
+
+Exit status:
+  0  the script was run to its end: a call that is refused is told, and the next one is made
+  1  NO, with the first reason, as `check` tells it: nothing was run
+  2  a fault on standard error, as `machcheck: FILE: FAULT`: a file can't be read or has
+     no meaning, the journal is full, the command line is wrong, the output was not taken,
+     or memory ran out
+
+Read on in README.md, and in docs/ARCHITECTURE.md.";
+
 /// What the user asks for.
 #[derive(Drop)]
 pub enum Command<'a> {
@@ -100,6 +123,8 @@ pub enum Command<'a> {
     Explain(ExplainFiles<'a>),
     /// What do the calls of the script answer?
     Replay(ReplayFiles<'a>),
+    /// What do they answer where the certificate is accepted and tasks run as threads?
+    Live(LiveFiles<'a>),
 }
 
 /// The files of a system: the MIG files of its interfaces, and its wiring.
@@ -135,6 +160,13 @@ pub struct ExplainFiles<'a> {
 #[derive(Drop)]
 pub struct ReplayFiles<'a> {
     pub system: SystemFiles<'a>,
+    pub script: &'a str,
+}
+
+/// The files of a `live`.
+#[derive(Drop)]
+pub struct LiveFiles<'a> {
+    pub check: CheckFiles<'a>,
     pub script: &'a str,
 }
 
@@ -252,6 +284,28 @@ fn replay_command<'a>(alloc: Global) -> Result<clap::Command<'a>, AllocError>
         .arg(defs_arguments(alloc))
 }
 
+/// The command with its first two options.
+fn live_options<'a>(alloc: Global) -> Result<clap::Command<'a>, AllocError>
+    ensures app { IfOk result (λ command. app_of command ≡ live_options) }
+    ensures local { IfOk result HasNoGlobals }
+{
+    clap::Command::new(alloc, "live")
+        .about("Checks, and runs a script of calls by tasks as threads")
+        .after_help(LIVE_HELP)
+        .arg(wiring_option(alloc))?
+        .arg(file_option(alloc, "policy", "The forbidden holdings"))
+}
+
+fn live_command<'a>(alloc: Global) -> Result<clap::Command<'a>, AllocError>
+    ensures app { IfOk result (λ command. app_of command ≡ live_app) }
+    ensures local { IfOk result HasNoGlobals }
+{
+    live_options(alloc)?
+        .arg(file_option(alloc, "cert", "The certificate: who may come to hold what"))?
+        .arg(file_option(alloc, "script", "The calls, one a line"))?
+        .arg(defs_arguments(alloc))
+}
+
 /// The program with the commands that speak of certificates.
 fn certificate_commands<'a>(alloc: Global) -> Result<clap::Command<'a>, AllocError>
     ensures { IfOk result (λ command. app_of command ≡ certificate_app) }
@@ -279,12 +333,21 @@ fn fact_commands<'a>(alloc: Global) -> Result<clap::Command<'a>, AllocError>
     commands.subcommand(explain)
 }
 
-fn whole_command<'a>(alloc: Global) -> Result<clap::Command<'a>, AllocError>
-    ensures { IfOk result (λ command. app_of command ≡ machcheck_app) }
+/// The same with the command that replays a script.
+fn script_commands<'a>(alloc: Global) -> Result<clap::Command<'a>, AllocError>
+    ensures { IfOk result (λ command. app_of command ≡ script_app) }
 {
     let commands = fact_commands(alloc)?;
     let replay = replay_command(alloc)?;
     commands.subcommand(replay)
+}
+
+fn whole_command<'a>(alloc: Global) -> Result<clap::Command<'a>, AllocError>
+    ensures { IfOk result (λ command. app_of command ≡ machcheck_app) }
+{
+    let commands = script_commands(alloc)?;
+    let live = live_command(alloc)?;
+    commands.subcommand(live)
 }
 
 /// The text of clap: help and version go to standard output, all else to standard error.
@@ -411,6 +474,25 @@ fn replay_files<'a>(alloc: Global, matches: &ArgMatches<'a>) -> Result<ReplayFil
     Ok(ReplayFiles { system, script })
 }
 
+fn live_files<'a>(alloc: Global, matches: &ArgMatches<'a>) -> Result<LiveFiles<'a>, NoCommand>
+    ensures defs { IfOk result (λ files. map (λ file. file.now) files.check.system.defs.items
+        ≡ all_values (found_of matches.now) (codes "defs")) }
+    ensures wiring { IfOk result (λ files.
+        first_value (found_of matches.now) (codes "wiring")
+        ≡ Some files.check.system.wiring.now) }
+    ensures policy { IfOk result (λ files.
+        first_value (found_of matches.now) (codes "policy") ≡ Some files.check.policy.now) }
+    ensures certificate { IfOk result (λ files.
+        first_value (found_of matches.now) (codes "cert") ≡ Some files.check.certificate.now) }
+    ensures script { IfOk result
+        (λ files. first_value (found_of matches.now) (codes "script") ≡ Some files.script.now) }
+    ensures none { IfErr result (λ none. none ≡ NoCommand.Memory) }
+{
+    let check = check_files(alloc, matches)?;
+    let script = file_given(matches, "script")?;
+    Ok(LiveFiles { check, script })
+}
+
 fn command_of<'a>(alloc: Global, matches: &ArgMatches<'a>) -> Result<Command<'a>, NoCommand>
     ensures none { IfErr result (λ none. none ≡ NoCommand.Memory) }
 {
@@ -423,8 +505,11 @@ fn command_of<'a>(alloc: Global, matches: &ArgMatches<'a>) -> Result<Command<'a>
     if let Some(matches) = matches.subcommand_matches("explain") {
         return Ok(Command::Explain(explain_files(alloc, matches)?));
     }
-    match matches.subcommand_matches("replay") {
-        Some(matches) => Ok(Command::Replay(replay_files(alloc, matches)?)),
+    if let Some(matches) = matches.subcommand_matches("replay") {
+        return Ok(Command::Replay(replay_files(alloc, matches)?));
+    }
+    match matches.subcommand_matches("live") {
+        Some(matches) => Ok(Command::Live(live_files(alloc, matches)?)),
         None => Err(NoCommand::Memory),
     }
 }

@@ -5,9 +5,11 @@
 mod command;
 mod explain;
 mod files;
+mod live;
 mod make;
 mod replay;
 mod run;
+mod script;
 mod system;
 mod tell;
 #[cfg(test)]
@@ -21,6 +23,7 @@ fn main(rt: HostRuntime) -> ExitCode {
     let mut out = rt.stdout();
     let mut err = rt.stderr();
     let status = run::start(
+        &rt,
         &mut files::Disk(&rt),
         rt.alloc(),
         words::words_of(&rt),

@@ -1,10 +1,9 @@
 //! What the program tells of a wiring and a script.
 
 ghost use Rattle.std.specs.Prelude.{◌≡◌, ◌⊎◌, [], Ok, IfOk, IfErr, string_bytes};
-ghost use Rattle.mrc_interface.specs.Reading.{step};
 ghost use Rattle.mrc_report.specs.Replay.{IsReplay};
 ghost use Rattle.machcheck.specs.declared.replay.WiredScript.{WiredScript};
-ghost use Rattle.machcheck.specs.Texts.{InScript, Plays, script_said, scripted, unscripted};
+ghost use Rattle.machcheck.specs.Texts.{Plays, scripted, unscripted};
 ghost use Rattle.machcheck.specs.Texts.{replay_list};
 ghost use Rattle.machcheck.specs.Files.{AreHeld, Exceeds, IsFirstUnread, replay_names};
 ghost use Rattle.machcheck.specs.Told.{ToldReplay, ToldUnscripted, ToldMemory, IsFaultOf};
@@ -12,15 +11,16 @@ ghost use Rattle.machcheck.specs.Told.{unscripted_file, ReplayOfFiles, FaultOfRe
 
 use crate::command::ReplayFiles;
 use crate::files::{Folder, Unread, bytes_of, unread_told};
+use crate::script::script_said;
 use crate::system::{SystemBytes, system_bytes, system_fault_told, wired_by};
 use crate::told::{Told, fault_of, memory, said};
 use mrc_base::OrMemory;
 use mrc_check::SystemFault;
-use mrc_report::{ReadFault, Script, ScriptFault, read_script, replay};
+use mrc_report::{ReadFault, Script, replay};
 use mrc_wiring::Wired;
+use mrc_wiring_text::TextFault;
 use std::alloc::{AllocError, Global};
 use std::marker::Model;
-use std::str;
 
 /// The bytes of the files of a `replay`.
 #[derive(Drop)]
@@ -49,10 +49,8 @@ pub struct WiredScript {
 pub enum ReplayFault {
     /// A MIG file or the wiring has no meaning.
     System(SystemFault),
-    /// The script's bytes are no UTF-8 text.
-    NotUtf8,
     /// The script has no meaning.
-    Script(ScriptFault),
+    Script(TextFault),
 }
 
 /// All files are read before any is judged, those of the system first.
@@ -73,28 +71,18 @@ fn replay_bytes<'a, F: Folder>(
     Ok(ReplayBytes { system, script })
 }
 
-/// What a script's bytes say to the tasks of a wiring.
-fn script_said(alloc: Global, wired: &Wired, bytes: &[u8]) -> Result<Script, OrMemory<ReplayFault>>
-    ensures { Plays (λ script. script) result (step InScript (script_said wired.now bytes.now)) }
-{
-    match str::from_utf8(bytes) {
-        Ok(text) => match read_script(alloc, wired, text) {
-            Ok(script) => Ok(script),
-            Err(OrMemory::Fault(fault)) => Err(OrMemory::Fault(ReplayFault::Script(fault))),
-            Err(OrMemory::Memory) => Err(OrMemory::Memory),
-        },
-        Err(_) => Err(OrMemory::Fault(ReplayFault::NotUtf8)),
-    }
-}
-
 /// What the bytes of a system and a script say together.
 fn scripted(alloc: Global, bytes: &ReplayBytes) -> Result<WiredScript, OrMemory<ReplayFault>>
     ensures { Plays (λ both. both) result (scripted bytes.now) }
 {
     match wired_by(alloc, &bytes.system) {
         Ok(wired) => {
-            let script = script_said(alloc, &wired, bytes.script.as_slice())?;
-            Ok(WiredScript { wired, script })
+            let bytes = bytes.script.as_slice();
+            match script_said(alloc, &wired, false, bytes) {
+                Ok(script) => Ok(WiredScript { wired, script }),
+                Err(OrMemory::Fault(fault)) => Err(OrMemory::Fault(ReplayFault::Script(fault))),
+                Err(OrMemory::Memory) => Err(OrMemory::Memory),
+            }
         }
         Err(OrMemory::Fault(fault)) => Err(OrMemory::Fault(ReplayFault::System(fault))),
         Err(OrMemory::Memory) => Err(OrMemory::Memory),
@@ -115,7 +103,6 @@ fn fault_told(
 {
     match fault {
         ReplayFault::System(fault) => system_fault_told(alloc, &files.system, system, fault),
-        ReplayFault::NotUtf8 => fault_of(alloc, files.script, "NotUtf8"),
         ReplayFault::Script(fault) => {
             let text = fault.to_string(alloc)?;
             fault_of(alloc, files.script, text.as_str())

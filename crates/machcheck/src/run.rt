@@ -6,16 +6,18 @@ ghost use Rattle.std.specs.Io.KnownBytes.{Appends};
 ghost use Rattle.mrc_check.specs.Verdict.{Case};
 ghost use Rattle.mrc_check.specs.Texts.{Tells};
 ghost use Rattle.machcheck.specs.Texts.{AreAccepted, said_by, check_list};
-ghost use Rattle.machcheck.specs.Files.{AreHeld, Exceeds, IsFirstUnread, check_names};
+ghost use Rattle.std.specs.List.{All};
+ghost use Rattle.machcheck.specs.Files.{AreHeld, Exceeds, Fits, IsFirstUnread, check_names};
 ghost use Rattle.machcheck.specs.Told.{ToldYes, ToldNo, ToldMemory, ToldFault, YesOfFiles};
 ghost use Rattle.machcheck.specs.Told.{NoOfFiles, FaultOfFiles, MadeOfFiles, ReplayOfFiles};
-ghost use Rattle.machcheck.specs.Told.{SomeFiles, WentOut};
+ghost use Rattle.machcheck.specs.Told.{LiveOfFiles, NoOfLive, SomeFiles, WentOut};
 ghost use Rattle.machcheck.specs.Explained.{ChainOfFiles, NoneOfFiles};
 ghost use Rattle.machcheck.specs.CommandLine.{AsksHelp};
 
 use crate::command::{CheckFiles, Command, NoCommand, read};
 use crate::explain::explain_files;
 use crate::files::{Folder, Unread, bytes_of, unread_told};
+use crate::live::live_files;
 use crate::make::make_files;
 use crate::replay::replay_files;
 use crate::system::{SystemBytes, system_bytes};
@@ -28,13 +30,15 @@ use mrc_report::{ReadFault, write_text};
 use std::alloc::{AllocError, Global};
 use std::io::Write;
 use std::marker::Model;
+use std::sync::Wait;
+use std::thread::Threads;
 
 /// The bytes of the files of a `check`.
 #[derive(Drop)]
-struct CheckBytes {
-    system: SystemBytes,
-    policy: Vec<u8>,
-    certificate: Vec<u8>,
+pub struct CheckBytes {
+    pub system: SystemBytes,
+    pub policy: Vec<u8>,
+    pub certificate: Vec<u8>,
 }
 
 impl Model for CheckBytes {
@@ -51,13 +55,14 @@ impl Model for CheckBytes {
 
 /// All files are read before any is judged, those of the system first, and then the policy and the
 /// certificate.
-fn check_bytes<'a, F: Folder>(
+pub fn check_bytes<'a, F: Folder>(
     folder: &F,
     alloc: Global,
     files: &CheckFiles<'a>,
 ) -> Result<CheckBytes, Unread<'a>>
     ensures held { IfOk result
         (λ bytes. AreHeld (F.held folder.now) (check_names files.now) (check_list bytes)) }
+    ensures fit { IfOk result (λ _. All (Fits (F.held folder.now)) (check_names files.now)) }
     ensures first { IfErr result (λ unread.
         IsFirstUnread (F.held folder.now) (check_names files.now) unread.file.now) }
     ensures too_big { IfErr result (λ unread. unread.fault ≡ ReadFault.TooBig
@@ -74,7 +79,7 @@ fn check_bytes<'a, F: Folder>(
 }
 
 /// The checker's answer to the bytes of the files.
-fn answer_of(alloc: Global, bytes: &CheckBytes) -> Result<Confined, OrMemory<TextsFault>>
+pub fn answer_of(alloc: Global, bytes: &CheckBytes) -> Result<Confined, OrMemory<TextsFault>>
     ensures yes { IfOk result (AreAccepted bytes.now) }
     ensures only { (case : Case) → AreAccepted bytes.now case
         → IfErr result (λ refusal. refusal ≡ OrMemory.Memory) }
@@ -129,19 +134,26 @@ fn check_files<F: Folder>(
 }
 
 /// What is told of the words of a command line.
-fn told<F: Folder>(folder: &mut F, alloc: Global, words: &[String]) -> Result<Told, AllocError>
+fn told<F: Folder, R: Threads + Wait + Sync>(
+    rt: &R,
+    folder: &mut F,
+    alloc: Global,
+    words: &[String],
+) -> Result<Told, AllocError>
     ensures status { IfOk result (λ told. told.status ≤ 2) }
-    // Status 0 is that of a yes, of a certificate that was made, of a replay or of a chain, unless
-    // the words ask for help or the version.
+    // Status 0 is that of a yes, of a certificate that was made, of a replay, of a chain or of a
+    // journal, unless the words ask for help or the version.
     ensures yes { IfOk result (λ told. told.status ≡ 0
         → SomeFiles (YesOfFiles (F.held folder.old)) told
         ⊎ (SomeFiles (MadeOfFiles (F.held folder.old) (F.held folder.new)) told
         ⊎ (SomeFiles (ReplayOfFiles (F.held folder.old)) told
         ⊎ (SomeFiles (ChainOfFiles (F.held folder.old)) told
-        ⊎ AsksHelp (map string_bytes words.now))))) }
+        ⊎ (SomeFiles (LiveOfFiles (F.held folder.old)) told
+        ⊎ AsksHelp (map string_bytes words.now)))))) }
     ensures no { IfOk result (λ told. told.status ≡ 1
         → SomeFiles (NoOfFiles (F.held folder.old)) told
-        ⊎ SomeFiles (NoneOfFiles (F.held folder.old)) told) }
+        ⊎ (SomeFiles (NoneOfFiles (F.held folder.old)) told
+        ⊎ SomeFiles (NoOfLive (F.held folder.old)) told)) }
     ensures fault { IfOk result (λ told. told.status ≡ 2 → string_bytes told.out ≡ []) }
 {
     match read(alloc, words) {
@@ -149,6 +161,7 @@ fn told<F: Folder>(folder: &mut F, alloc: Global, words: &[String]) -> Result<To
         Ok(Command::Make(files)) => make_files(folder, alloc, &files),
         Ok(Command::Explain(files)) => explain_files(folder, alloc, &files),
         Ok(Command::Replay(files)) => replay_files(folder, alloc, &files),
+        Ok(Command::Live(files)) => live_files(rt, folder, alloc, &files),
         Err(NoCommand::Told(told)) => Ok(told),
         Err(NoCommand::Memory) => memory(alloc),
     }
@@ -180,9 +193,11 @@ fn write_told<O: Write, E: Write>(alloc: Global, told: &Told, out: &mut O, err: 
 }
 
 /// Runs the program on the words of a command line, its own name first, and on the files of a
-/// folder. The status is 0 for `YES`, for a certificate that is made, for a chain, for a replay and
-/// for help and the version, 1 for `NO` and for `none`, and 2 for a fault.
-pub fn run<F: Folder, O: Write, E: Write>(
+/// folder. The status is 0 for `YES`, for a certificate that is made, for a chain, for a replay,
+/// for a journal and for help and the version, 1 for `NO` and for `none`, and 2 for a fault. It may
+/// wait: where all tasks of a script wait for messages it does not return.
+pub fn run<F: Folder, R: Threads + Wait + Sync, O: Write, E: Write>(
+    rt: &R,
     folder: &mut F,
     alloc: Global,
     words: &[String],
@@ -190,22 +205,24 @@ pub fn run<F: Folder, O: Write, E: Write>(
     err: &mut E,
 ) -> u8
     ensures status { result ≤ 2 }
-    // With status 0 a yes, the making of a certificate, a replay or a chain went out that is right
-    // of what the files held, unless the words ask for help or the version.
+    // With status 0 a yes, the making of a certificate, a replay, a chain or a journal went out
+    // that is right of what the files held, unless the words ask for help or the version.
     ensures yes { result ≡ 0
         → WentOut (YesOfFiles (F.held folder.old)) (O.contents out.old) (O.contents out.new)
         ⊎ (WentOut (MadeOfFiles (F.held folder.old) (F.held folder.new)) (O.contents out.old)
         (O.contents out.new)
         ⊎ (WentOut (ReplayOfFiles (F.held folder.old)) (O.contents out.old) (O.contents out.new)
         ⊎ (WentOut (ChainOfFiles (F.held folder.old)) (O.contents out.old) (O.contents out.new)
-        ⊎ AsksHelp (map string_bytes words.now)))) }
+        ⊎ (WentOut (LiveOfFiles (F.held folder.old)) (O.contents out.old) (O.contents out.new)
+        ⊎ AsksHelp (map string_bytes words.now))))) }
     // With status 1 a no went out, or that no chain leads to a fact, that is right of what the
     // files hold.
     ensures no { result ≡ 1
         → WentOut (NoOfFiles (F.held folder.old)) (O.contents out.old) (O.contents out.new)
-        ⊎ WentOut (NoneOfFiles (F.held folder.old)) (O.contents out.old) (O.contents out.new) }
+        ⊎ (WentOut (NoneOfFiles (F.held folder.old)) (O.contents out.old) (O.contents out.new)
+        ⊎ WentOut (NoOfLive (F.held folder.old)) (O.contents out.old) (O.contents out.new)) }
 {
-    match told(folder, alloc, words) {
+    match told(rt, folder, alloc, words) {
         Ok(told) => write_told(alloc, &told, out, err),
         Err(AllocError) => {
             let _ = write_text(err, b"machcheck: Memory\n");
@@ -216,7 +233,8 @@ pub fn run<F: Folder, O: Write, E: Write>(
 
 /// Runs the program on the words of a command line, or tells why they can't be had. The status is
 /// that of [`run`], or 2.
-pub fn start<F: Folder, O: Write, E: Write>(
+pub fn start<F: Folder, R: Threads + Wait + Sync, O: Write, E: Write>(
+    rt: &R,
     folder: &mut F,
     alloc: Global,
     words: Result<Vec<String>, WordsFault>,
@@ -225,23 +243,25 @@ pub fn start<F: Folder, O: Write, E: Write>(
 ) -> u8
     ensures status { result ≤ 2 }
     ensures fault { IfErr words (λ _. result ≡ 2) }
-    // With status 0 a yes, the making of a certificate, a replay or a chain went out that is right
-    // of what the files held, unless the words ask for help or the version.
+    // With status 0 a yes, the making of a certificate, a replay, a chain or a journal went out
+    // that is right of what the files held, unless the words ask for help or the version.
     ensures yes { result ≡ 0
         → WentOut (YesOfFiles (F.held folder.old)) (O.contents out.old) (O.contents out.new)
         ⊎ (WentOut (MadeOfFiles (F.held folder.old) (F.held folder.new)) (O.contents out.old)
         (O.contents out.new)
         ⊎ (WentOut (ReplayOfFiles (F.held folder.old)) (O.contents out.old) (O.contents out.new)
         ⊎ (WentOut (ChainOfFiles (F.held folder.old)) (O.contents out.old) (O.contents out.new)
-        ⊎ IsOkAnd words (λ given. AsksHelp (map string_bytes given.items))))) }
+        ⊎ (WentOut (LiveOfFiles (F.held folder.old)) (O.contents out.old) (O.contents out.new)
+        ⊎ IsOkAnd words (λ given. AsksHelp (map string_bytes given.items)))))) }
     // With status 1 a no went out, or that no chain leads to a fact, that is right of what the
     // files hold.
     ensures no { result ≡ 1
         → WentOut (NoOfFiles (F.held folder.old)) (O.contents out.old) (O.contents out.new)
-        ⊎ WentOut (NoneOfFiles (F.held folder.old)) (O.contents out.old) (O.contents out.new) }
+        ⊎ (WentOut (NoneOfFiles (F.held folder.old)) (O.contents out.old) (O.contents out.new)
+        ⊎ WentOut (NoOfLive (F.held folder.old)) (O.contents out.old) (O.contents out.new)) }
 {
     match words {
-        Ok(words) => run(folder, alloc, words.as_slice(), out, err),
+        Ok(words) => run(rt, folder, alloc, words.as_slice(), out, err),
         Err(fault) => {
             let _ = write_text(err, words_line(fault));
             2

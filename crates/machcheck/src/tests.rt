@@ -10,7 +10,9 @@ use std::cell::Cell;
 use std::env::{Env, FillError};
 use std::io::{ErrorKind, Write};
 use std::process::Abort;
+use std::sync::Wait;
 use std::test::Fail;
+use std::thread::Threads;
 use std::{fs, io};
 
 /// What a run wrote and ended with.
@@ -75,16 +77,21 @@ fn words(alloc: Global, folder: &str) -> Result<Vec<String>, Fail> {
     Ok(words)
 }
 
-fn run_words(rt: &HostRuntime, words: &[String]) -> Outcome {
+fn run_words(
+    rt: &HostRuntime,
+    threads: &(impl Threads + Wait + Sync),
+    words: &[String],
+) -> Outcome {
     let alloc = rt.alloc();
     let mut out = Vec::new(alloc);
     let mut err = Vec::new(alloc);
-    let status = run(&mut Disk(rt), alloc, words, &mut out, &mut err);
+    let status = run(threads, &mut Disk(rt), alloc, words, &mut out, &mut err);
     Outcome { out, err, status }
 }
 
 fn checked(
     rt: &HostRuntime,
+    threads: &(impl Threads + Wait + Sync),
     folder: &str,
     wiring: &str,
     policy: &str,
@@ -97,7 +104,7 @@ fn checked(
         format!(in rt.alloc(); "{folder}/c")?.as_str(),
         certificate,
     )?;
-    Ok(run_words(rt, words(rt.alloc(), folder)?.as_slice()))
+    Ok(run_words(rt, threads, words(rt.alloc(), folder)?.as_slice()))
 }
 
 /// A certificate of holds, each as task, class, right.
@@ -125,17 +132,17 @@ fn yes_and_no(rt: HostRuntime) -> Result<(), Fail> {
     let one = "wiring 1\ntask a\n";
     let none = "policy 1\n";
 
-    let yes = checked(&rt, folder, one, none, &ALONE)?;
+    let yes = checked(&rt, &rt, folder, one, none, &ALONE)?;
     assert_eq!(rt; yes.out.as_slice(), b"YES\n".as_slice());
     assert_eq!(rt; yes.err.as_slice(), b"".as_slice());
     assert_eq!(rt; yes.status, 0);
 
-    let empty = checked(&rt, folder, "wiring 1\n", none, &NO_TASKS)?;
+    let empty = checked(&rt, &rt, folder, "wiring 1\n", none, &NO_TASKS)?;
     assert_eq!(rt; empty.out.as_slice(), b"YES\n".as_slice());
     assert_eq!(rt; empty.status, 0);
 
     let missing = certificate(alloc, 1, 2, &[(0, 1, 0), (0, 1, 1), (0, 1, 2)])?;
-    let missing = checked(&rt, folder, one, none, missing.as_slice())?;
+    let missing = checked(&rt, &rt, folder, one, none, missing.as_slice())?;
     assert_eq!(rt;
         missing.out.as_slice(),
         b"NO missing hold a task:a send\n".as_slice()
@@ -144,7 +151,7 @@ fn yes_and_no(rt: HostRuntime) -> Result<(), Fail> {
     assert_eq!(rt; missing.status, 1);
 
     let counts = certificate(alloc, 1, 3, &[(0, 0, 0), (0, 1, 0), (0, 1, 1), (0, 1, 2)])?;
-    let counts = checked(&rt, folder, one, none, counts.as_slice())?;
+    let counts = checked(&rt, &rt, folder, one, none, counts.as_slice())?;
     assert_eq!(rt; counts.out.as_slice(), b"NO counts\n".as_slice());
     assert_eq!(rt; counts.status, 1);
     Ok(())
@@ -163,7 +170,7 @@ fn a_kernel_port_opens_the_way_back(rt: HostRuntime) -> Result<(), Fail> {
         holds.extend_from_slice(&[(task, 3, 0), (task, 3, 1), (task, 3, 2)])?;
     }
     let least = certificate(alloc, 2, 4, holds.as_slice())?;
-    let forbidden = checked(&rt, folder, LOADER, policy, least.as_slice())?;
+    let forbidden = checked(&rt, &rt, folder, LOADER, policy, least.as_slice())?;
     assert_eq!(rt;
         forbidden.out.as_slice(),
         b"NO forbidden line 2\n".as_slice()
@@ -182,7 +189,7 @@ fn a_kernel_port_opens_the_way_back(rt: HostRuntime) -> Result<(), Fail> {
         (1, 3, 2),
     ];
     let nine = certificate(alloc, 2, 4, &nine)?;
-    let open = checked(&rt, folder, LOADER, policy, nine.as_slice())?;
+    let open = checked(&rt, &rt, folder, LOADER, policy, nine.as_slice())?;
     assert_eq!(rt;
         open.out.as_slice(),
         b"NO not closed K7 hold l births:f send\n".as_slice()
@@ -197,18 +204,18 @@ type Faulty<'a> = (&'a str, &'a str, &'a [u8], &'a str, &'a str);
 /// Each check tells its fault on standard error, and nothing else.
 fn tell_faults(
     rt: &HostRuntime,
-    abort: &impl Abort,
+    host: &(impl Abort + Threads + Wait + Sync),
     name: &str,
     table: &[Faulty<'_>],
 ) -> Result<(), Fail> {
     let folder = folder(rt, name)?;
     let folder = folder.as_str();
     for (wiring, policy, certificate, file, fault) in table {
-        let told = checked(rt, folder, wiring, policy, certificate)?;
+        let told = checked(rt, host, folder, wiring, policy, certificate)?;
         let line = format!(in rt.alloc(); "machcheck: {folder}/{file}: {fault}\n")?;
-        assert_eq!(abort; told.err.as_slice(), line.as_bytes(), "{fault}");
-        assert_eq!(abort; told.out.as_slice(), b"".as_slice());
-        assert_eq!(abort; told.status, 2);
+        assert_eq!(host; told.err.as_slice(), line.as_bytes(), "{fault}");
+        assert_eq!(host; told.out.as_slice(), b"".as_slice());
+        assert_eq!(host; told.status, 2);
     }
     Ok(())
 }
@@ -267,13 +274,13 @@ fn files_that_cannot_be_read(rt: HostRuntime) -> Result<(), Fail> {
     // A policy with a fault, and no certificate: reading comes before judging.
     fs::write(&rt, format!(in alloc; "{folder}/w")?.as_str(), "wiring 1\n")?;
     fs::write(&rt, format!(in alloc; "{folder}/p")?.as_str(), "policy 9\n")?;
-    let absent = run_words(&rt, words(alloc, folder)?.as_slice());
+    let absent = run_words(&rt, &rt, words(alloc, folder)?.as_slice());
     let line = format!(in alloc; "machcheck: {folder}/c: ReadFailed\n")?;
     assert_eq!(rt; absent.err.as_slice(), line.as_bytes());
     assert_eq!(rt; absent.status, 2);
     // A folder is no file.
     fs::create_dir_all(&rt, format!(in alloc; "{folder}/c")?.as_str())?;
-    let a_folder = run_words(&rt, words(alloc, folder)?.as_slice());
+    let a_folder = run_words(&rt, &rt, words(alloc, folder)?.as_slice());
     assert_eq!(rt; a_folder.err.as_slice(), line.as_bytes());
     Ok(())
 }
@@ -283,10 +290,11 @@ fn standard_output_that_fails(rt: HostRuntime) -> Result<(), Fail> {
     let alloc = rt.alloc();
     let folder = folder(&rt, "failing")?;
     let folder = folder.as_str();
-    let _ = checked(&rt, folder, "wiring 1\ntask a\n", "policy 1\n", &ALONE)?;
+    let _ = checked(&rt, &rt, folder, "wiring 1\ntask a\n", "policy 1\n", &ALONE)?;
     let mut out = Failing { left: 2 };
     let mut err = Vec::new(alloc);
     let status = run(
+        &rt,
         &mut Disk(&rt),
         alloc,
         words(alloc, folder)?.as_slice(),
@@ -309,11 +317,15 @@ fn line(alloc: Global, words: &[&str]) -> Result<Vec<String>, Fail> {
 #[test]
 fn the_command_line(rt: HostRuntime) -> Result<(), Fail> {
     let alloc = rt.alloc();
-    let told = run_words(&rt, line(alloc, &["machcheck", "--version"])?.as_slice());
+    let told = run_words(
+        &rt,
+        &rt,
+        line(alloc, &["machcheck", "--version"])?.as_slice(),
+    );
     assert_eq!(rt; told.out.as_slice(), b"machcheck 0.1.0\n".as_slice());
     assert_eq!(rt; told.status, 0);
 
-    let told = run_words(&rt, line(alloc, &["machcheck", "check"])?.as_slice());
+    let told = run_words(&rt, &rt, line(alloc, &["machcheck", "check"])?.as_slice());
     assert!(rt; told.err.as_slice().starts_with(b"error: ".as_slice()));
     assert_eq!(rt; told.out.as_slice(), b"".as_slice());
     assert_eq!(rt; told.status, 2);
@@ -323,17 +335,17 @@ fn the_command_line(rt: HostRuntime) -> Result<(), Fail> {
 /// Help goes to standard output with status 0, and has each of the lines.
 fn tells_help(
     rt: &HostRuntime,
-    abort: &impl Abort,
+    host: &(impl Abort + Threads + Wait + Sync),
     words: &[&str],
     lines: &[&str],
 ) -> Result<(), Fail> {
-    let told = run_words(rt, line(rt.alloc(), words)?.as_slice());
+    let told = run_words(rt, host, line(rt.alloc(), words)?.as_slice());
     let text = std::str::from_utf8(told.out.as_slice()).map_err(|_| "no text")?;
     for line in lines {
-        assert!(abort; text.contains(*line), "{line}");
+        assert!(host; text.contains(*line), "{line}");
     }
-    assert_eq!(abort; told.err.as_slice(), b"".as_slice());
-    assert_eq!(abort; told.status, 0);
+    assert_eq!(host; told.err.as_slice(), b"".as_slice());
+    assert_eq!(host; told.status, 0);
     Ok(())
 }
 
@@ -420,6 +432,7 @@ struct Shelf<'a> {
     wiring: Result<&'a [u8], ErrorKind>,
     policy: Result<&'a [u8], ErrorKind>,
     certificate: Result<&'a [u8], ErrorKind>,
+    script: Result<&'a [u8], ErrorKind>,
     opened: Cell<u32>,
     written: Vec<u8>,
 }
@@ -432,6 +445,7 @@ fn no_files<'a>(alloc: Global) -> Shelf<'a> {
         wiring: none,
         policy: none,
         certificate: none,
+        script: none,
         opened: Cell::new(0),
         written: Vec::new(alloc),
     }
@@ -450,6 +464,7 @@ impl<'a> Folder for Shelf<'a> {
             "w" => (1, self.wiring),
             "p" => (2, self.policy),
             "c" => (3, self.certificate),
+            "s" => (5, self.script),
             _ => return Err(io::Error::from(ErrorKind::NotFound)),
         };
         self.opened
@@ -484,11 +499,16 @@ const CHECK: [&str; 8] = [
 ];
 
 /// What is told of the files of a shelf, and the order in which they were opened.
-fn of_shelf(alloc: Global, shelf: &mut Shelf<'_>, words: &[&str]) -> Result<(Outcome, u32), Fail> {
+fn of_shelf(
+    rt: &(impl AllocGlobal + Threads + Wait + Sync),
+    shelf: &mut Shelf<'_>,
+    words: &[&str],
+) -> Result<(Outcome, u32), Fail> {
+    let alloc = rt.alloc();
     let mut out = Vec::new(alloc);
     let mut err = Vec::new(alloc);
     let words = line(alloc, words)?;
-    let status = run(shelf, alloc, words.as_slice(), &mut out, &mut err);
+    let status = run(rt, shelf, alloc, words.as_slice(), &mut out, &mut err);
     Ok((Outcome { out, err, status }, shelf.opened.get()))
 }
 
@@ -541,7 +561,7 @@ fn files_are_read_in_order(rt: HostRuntime) -> Result<(), Fail> {
         shelf.wiring = wiring;
         shelf.policy = policy;
         shelf.certificate = certificate;
-        let (told, opened) = of_shelf(alloc, &mut shelf, &CHECK)?;
+        let (told, opened) = of_shelf(&rt, &mut shelf, &CHECK)?;
         assert_eq!(rt; told.err.as_slice(), want);
         assert_eq!(rt; opened, order);
         assert_eq!(rt; told.status, if want.is_empty() { 0 } else { 2 });
@@ -554,14 +574,14 @@ const REPLAY: [&str; 6] = ["machcheck", "replay", "--script", "p", "--wiring", "
 
 /// What is told of a replay, and the order in which the files were opened.
 fn replayed<'a>(
-    alloc: Global,
+    rt: &(impl AllocGlobal + Threads + Wait + Sync),
     wiring: Result<&'a [u8], ErrorKind>,
     script: Result<&'a [u8], ErrorKind>,
 ) -> Result<(Outcome, u32), Fail> {
-    let mut shelf = no_files(alloc);
+    let mut shelf = no_files(rt.alloc());
     shelf.wiring = wiring;
     shelf.policy = script;
-    of_shelf(alloc, &mut shelf, &REPLAY)
+    of_shelf(rt, &mut shelf, &REPLAY)
 }
 
 const FILE_SERVER: &[u8] = b"subsystem fsys 3000;
@@ -595,22 +615,22 @@ const OF_CAREFUL: [u8; 122] = [
 
 /// What a `make` of these files tells, and the bytes that were written.
 fn made<'a>(
-    alloc: Global,
+    rt: &(impl AllocGlobal + Threads + Wait + Sync),
     defs: &'a [u8],
     wiring: &'a [u8],
     out: &str,
 ) -> Result<(Outcome, Vec<u8>), Fail> {
-    let mut shelf = no_files(alloc);
+    let mut shelf = no_files(rt.alloc());
     shelf.defs = Ok(defs);
     shelf.wiring = Ok(wiring);
     let words = ["machcheck", "make", "--wiring", "w", "--out", out, "d"];
-    let (told, _) = of_shelf(alloc, &mut shelf, &words)?;
+    let (told, _) = of_shelf(rt, &mut shelf, &words)?;
     Ok((told, shelf.written))
 }
 
 #[test]
 fn makes(rt: HostRuntime) -> Result<(), Fail> {
-    let (told, written) = made(rt.alloc(), FILE_SERVER, CAREFUL, "made")?;
+    let (told, written) = made(&rt, FILE_SERVER, CAREFUL, "made")?;
     assert_eq!(rt; told.out.as_slice(), b"facts 18\n".as_slice());
     assert_eq!(rt; told.err.as_slice(), b"".as_slice());
     assert_eq!(rt; told.status, 0);
@@ -641,7 +661,7 @@ fn faults_of_makes(rt: HostRuntime) -> Result<(), Fail> {
             "machcheck: d: BadCharacter 12\n",
         ),
     ] {
-        let (told, written) = made(alloc, defs, wiring, out)?;
+        let (told, written) = made(&rt, defs, wiring, out)?;
         assert_eq!(rt; told.err.as_slice(), want.as_bytes());
         assert_eq!(rt; told.out.as_slice(), b"".as_slice());
         assert_eq!(rt; told.status, 2);
@@ -661,26 +681,30 @@ fn checks_with_interfaces(rt: HostRuntime) -> Result<(), Fail> {
     shelf.certificate = Ok(OF_CAREFUL.as_slice());
     let mut words = Vec::from_slice(alloc, &CHECK)?;
     words.push("d")?;
-    let (told, opened) = of_shelf(alloc, &mut shelf, words.as_slice())?;
+    let (told, opened) = of_shelf(&rt, &mut shelf, words.as_slice())?;
     assert_eq!(rt; told.out.as_slice(), b"YES\n".as_slice());
     assert_eq!(rt; (told.status, opened), (0, 4123));
     Ok(())
 }
 
 /// What is told of a fact, of a wiring over the file server's interface.
-fn explained(alloc: Global, wiring: &[u8], fact: &str) -> Result<Outcome, Fail> {
-    let mut shelf = no_files(alloc);
+fn explained(
+    rt: &(impl AllocGlobal + Threads + Wait + Sync),
+    wiring: &[u8],
+    fact: &str,
+) -> Result<Outcome, Fail> {
+    let mut shelf = no_files(rt.alloc());
     shelf.defs = Ok(FILE_SERVER);
     shelf.wiring = Ok(wiring);
     let words = ["machcheck", "explain", "--wiring", "w", "--fact", fact, "d"];
-    let (told, _) = of_shelf(alloc, &mut shelf, &words)?;
+    let (told, _) = of_shelf(rt, &mut shelf, &words)?;
     Ok(told)
 }
 
 #[test]
 fn explains(rt: HostRuntime) -> Result<(), Fail> {
     let alloc = rt.alloc();
-    let told = explained(alloc, CAREFUL, "hold fs births:app once")?;
+    let told = explained(&rt, CAREFUL, "hold fs births:app once")?;
     let want = b"0 K1 hold app port:root send
 1 K2 hold app births:app receive
 2 K1 hold fs port:root receive
@@ -690,7 +714,7 @@ fn explains(rt: HostRuntime) -> Result<(), Fail> {
 ";
     assert_eq!(rt; told.out.as_slice(), want.as_slice());
     assert_eq!(rt; told.status, 0);
-    let told = explained(alloc, CAREFUL, "hold app task:fs send")?;
+    let told = explained(&rt, CAREFUL, "hold app task:fs send")?;
     assert_eq!(rt; told.out.as_slice(), b"none\n".as_slice());
     assert_eq!(rt; told.status, 1);
     for fact in [
@@ -698,7 +722,7 @@ fn explains(rt: HostRuntime) -> Result<(), Fail> {
         "hold app  task:fs send",
         "hold app births:fs:0 send",
     ] {
-        let told = explained(alloc, CAREFUL, fact)?;
+        let told = explained(&rt, CAREFUL, fact)?;
         assert_eq!(rt;
             told.err.as_slice(),
             b"machcheck: --fact: BadFact\n".as_slice()
@@ -725,7 +749,7 @@ fn replays(rt: HostRuntime) -> Result<(), Fail> {
         ),
         (b"".as_slice(), b"end events 0 ports 2\n".as_slice()),
     ] {
-        let (told, _) = replayed(alloc, Ok(LOADER.as_bytes()), Ok(script))?;
+        let (told, _) = replayed(&rt, Ok(LOADER.as_bytes()), Ok(script))?;
         assert_eq!(rt; told.out.as_slice(), want);
         assert_eq!(rt; told.err.as_slice(), b"".as_slice());
         assert_eq!(rt; told.status, 0);
@@ -759,7 +783,7 @@ fn faults_of_replays(rt: HostRuntime) -> Result<(), Fail> {
         (one, no_text, b"machcheck: p: NotUtf8\n".as_slice(), 12),
         (one, bad, b"machcheck: p: BadLine 3\n".as_slice(), 12),
     ] {
-        let (told, opened) = replayed(alloc, wiring, script)?;
+        let (told, opened) = replayed(&rt, wiring, script)?;
         assert_eq!(rt; told.err.as_slice(), want);
         assert_eq!(rt; told.out.as_slice(), b"".as_slice());
         assert_eq!(rt; (told.status, opened), (2, order));
@@ -819,10 +843,136 @@ fn words_that_cannot_be_had(rt: HostRuntime) -> Result<(), Fail> {
     ] {
         let mut out = Vec::new(alloc);
         let mut err = Vec::new(alloc);
-        let status = start(&mut Disk(&rt), alloc, Err(fault), &mut out, &mut err);
+        let status = start(&rt, &mut Disk(&rt), alloc, Err(fault), &mut out, &mut err);
         assert_eq!(rt; err.as_slice(), want);
         assert_eq!(rt; out.as_slice(), b"".as_slice());
         assert_eq!(rt; status, 2);
     }
     Ok(())
+}
+
+const LIVE: [&str; 11] = [
+    "machcheck",
+    "live",
+    "--script",
+    "s",
+    "--cert",
+    "c",
+    "--policy",
+    "p",
+    "--wiring",
+    "w",
+    "d",
+];
+
+const NO_KERNEL_PORT: &[u8] = b"policy 1\nforbid app send task fs\n";
+
+/// What is told of a script of the file server, and the order in which the files were opened.
+fn lived(
+    rt: &(impl AllocGlobal + Threads + Wait + Sync),
+    policy: &[u8],
+    certificate: &[u8],
+    script: &[u8],
+) -> Result<(Outcome, u32), Fail> {
+    let mut shelf = no_files(rt.alloc());
+    shelf.defs = Ok(FILE_SERVER);
+    shelf.wiring = Ok(CAREFUL);
+    shelf.policy = Ok(policy);
+    shelf.certificate = Ok(certificate);
+    shelf.script = Ok(script);
+    of_shelf(rt, &mut shelf, &LIVE)
+}
+
+// The server's lines stand before those of the client, for whose message it waits.
+const OPENS: &[u8] = b"fs wait 2 92
+fs allocate 1 receive
+fs insert_right 1 4 4 20
+fs send 12000080 28000000 03000000 0000000000000000 1c0c0000 0220011000000000 1320011001000000
+fs send 12000080 28000000 03000000 0000000000000000 1c0c0000 0220011000000000 1320011004000000
+app allocate 1 receive
+app send 13150000 5c000000 02000000 03000000 00000000 b80b0000 0c084010 \
+00000000000000000000000000000000 00000000000000000000000000000000 \
+00000000000000000000000000000000 00000000000000000000000000000000
+app wait 3 40
+app type 1 4
+";
+
+const OPENED: &[u8] = b"0 app name 3
+1 app done
+2 fs message 121100005c000000030000000200000000000000b80b00000c084010\
+00000000000000000000000000000000000000000000000000000000000000000000000000000000\
+000000000000000000000000000000000000000000000000
+3 fs name 4
+4 fs done
+5 fs denied NotAdmitted 1
+6 fs done
+7 app message 00120080280000000000000003000000000000001c0c00000220011000000000\
+1120011004000000
+8 app type 65536
+end events 9 ports 5
+";
+
+#[test]
+fn lives(rt: HostRuntime) -> Result<(), Fail> {
+    let (told, opened) = lived(&rt, NO_KERNEL_PORT, OF_CAREFUL.as_slice(), OPENS)?;
+    assert_eq!(rt; told.out.as_slice(), OPENED);
+    assert_eq!(rt; told.err.as_slice(), b"".as_slice());
+    assert_eq!(rt; (told.status, opened), (0, 41235));
+    Ok(())
+}
+
+// The certificate is judged before the script, and the script before it runs.
+#[test]
+fn faults_of_lives(rt: HostRuntime) -> Result<(), Fail> {
+    let forbidden = b"policy 1\nforbid app send port root\n".as_slice();
+    let none = b"".as_slice();
+    for (policy, script, out, err, status) in [
+        (
+            forbidden,
+            b"app".as_slice(),
+            b"NO forbidden line 2\n".as_slice(),
+            none,
+            1,
+        ),
+        (
+            NO_KERNEL_PORT,
+            b"app wait 3".as_slice(),
+            none,
+            b"machcheck: s: BadLine 1\n".as_slice(),
+            2,
+        ),
+        (
+            NO_KERNEL_PORT,
+            b"# \xff".as_slice(),
+            none,
+            b"machcheck: s: NotUtf8\n".as_slice(),
+            2,
+        ),
+        (
+            b"policy 2".as_slice(),
+            b"app".as_slice(),
+            none,
+            b"machcheck: p: Version\n".as_slice(),
+            2,
+        ),
+    ] {
+        let (told, _) = lived(&rt, policy, OF_CAREFUL.as_slice(), script)?;
+        assert_eq!(rt; told.out.as_slice(), out);
+        assert_eq!(rt; told.err.as_slice(), err);
+        assert_eq!(rt; told.status, status);
+    }
+    Ok(())
+}
+
+#[test]
+fn help_of_lives(rt: HostRuntime) -> Result<(), Fail> {
+    tells_help(
+        &rt,
+        &rt,
+        &["machcheck", "live", "--help"],
+        &[
+            "Usage: machcheck live --wiring <FILE> --policy <FILE> --cert <FILE> --script <FILE>",
+            "`wait NAME LIMIT` receives",
+        ],
+    )
 }

@@ -1,4 +1,5 @@
 use Rattle.std.proofs.Common.{[], ◌∷◌, subst, sym}
+use Rattle.std.proofs.lemmas.List.Elements.{All-append}
 use Rattle.std.proofs.lemmas.Result.{err_from_is_err_and}
 use Rattle.machcheck.specs.Files.{IsFirstUnread, Fits}
 use Rattle.machcheck.proofs.FileLaws.{held_more, first_behind, first_is, one_of}
@@ -17,6 +18,16 @@ returns-in_err-certificate-clause-first g c =
     let first = first_behind held _ (files.policy.now ∷ certificate ∷ []) certificate
     c.in_ok-system.ensures.fit behind in
     rw (p.1, p.2) (subst (IsFirstUnread held _) (sym c.in_err-certificate.ensures.named) first)
+
+pub returns-clause-fit : goal.returns-clause-fit
+returns-clause-fit g c =
+    let held = g.F.Folder.held c.args.folder.now in
+    let files = c.args.files.now in
+    let policy = one_of (Fits held) files.policy.now c.in_ok-policy.ensures.fits in
+    let certificate = one_of (Fits held) files.certificate.now c.in_ok-certificate.ensures.fits in
+    All-append (Fits held) _ (files.policy.now ∷ files.certificate.now ∷ [])
+    c.in_ok-system.ensures.fit
+    (All-append (Fits held) (files.policy.now ∷ []) (files.certificate.now ∷ []) policy certificate)
 
 pub returns-clause-held : goal.returns-clause-held
 returns-clause-held g c =

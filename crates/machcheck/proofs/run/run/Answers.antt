@@ -19,7 +19,10 @@ returns-in-Ok-clause-yes g c zero_is =
           | inl said ↦ inl (went_out _ c.in-Ok.told _ _ said out)
           | inr last ↦ inr (elim last [
             | inl said ↦ inl (went_out _ c.in-Ok.told _ _ said out)
-            | inr help ↦ inr help
+            | inr live ↦ inr (elim live [
+              | inl said ↦ inl (went_out _ c.in-Ok.told _ _ said out)
+              | inr help ↦ inr help
+            ])
           ])
         ])
       ])
@@ -32,5 +35,8 @@ returns-in-Ok-clause-no g c one_is =
     let out = c.write_told.ensures.out (λ two. absurd (omega arith)) in
     elim no [
       | inl said ↦ inl (went_out _ c.in-Ok.told _ _ said out)
-      | inr none ↦ inr (went_out _ c.in-Ok.told _ _ none out)
+      | inr others ↦ inr (elim others [
+        | inl none ↦ inl (went_out _ c.in-Ok.told _ _ none out)
+        | inr live ↦ inr (went_out _ c.in-Ok.told _ _ live out)
+      ])
     ]

@@ -32,4 +32,15 @@ returns-in-Ok-Explain-clause-yes g c =
 pub returns-in-Ok-Explain-clause-no : goal.returns-in-Ok-Explain-clause-no
 returns-in-Ok-Explain-clause-no g c =
     IfOk-weaker c.explain_files.result _ _
-    (λ told h one_is. inr (c.in-Ok-Explain.files, h one_is)) c.explain_files.ensures.none
+    (λ told h one_is. inr (inl (c.in-Ok-Explain.files, h one_is))) c.explain_files.ensures.none
+
+pub returns-in-Ok-Live-clause-yes : goal.returns-in-Ok-Live-clause-yes
+returns-in-Ok-Live-clause-yes g c =
+    IfOk-weaker c.live_files.result _ _
+    (λ told h zero_is. inr (inr (inr (inr (inl (c.in-Ok-Live.files, h zero_is))))))
+    c.live_files.ensures.live
+
+pub returns-in-Ok-Live-clause-no : goal.returns-in-Ok-Live-clause-no
+returns-in-Ok-Live-clause-no g c =
+    IfOk-weaker c.live_files.result _ _
+    (λ told h one_is. inr (inr (c.in-Ok-Live.files, h one_is))) c.live_files.ensures.no
