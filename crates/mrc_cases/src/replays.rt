@@ -1,5 +1,6 @@
 //! Replays of scripts.
 
+use crate::samples::sample;
 use anyhow::Result;
 use mrc_base::OrMemory;
 use mrc_check::{SystemFault, table_of};
@@ -18,16 +19,30 @@ fn on_one_line(alloc: Global, lines: &str) -> Result<String, AllocError> {
     Ok(text)
 }
 
-/// What is printed of the events of a script on a wiring: the two texts have a `|` between them.
+/// The bytes of MIG texts that have a `&` between them.
+fn files_of(alloc: Global, list: &str) -> Result<Vec<Vec<u8>>, AllocError> {
+    let mut files = Vec::new(alloc);
+    for text in list.split('&') {
+        if !text.is_empty() {
+            files.push(Vec::from_slice(alloc, sample(text).as_bytes())?)?;
+        }
+    }
+    Ok(files)
+}
+
+/// What is printed of the events of a script on a wiring over MIG texts: the wiring, the script and
+/// the texts have a `|` between them.
 pub fn events(alloc: Global, text: &str) -> Result<String> {
-    let (wiring, script) = text.split_once('|').unwrap_or((text, ""));
-    let wired = match table_of(alloc, &[], wiring.as_bytes()) {
+    let (wiring, text) = text.split_once('|').unwrap_or((text, ""));
+    let (script, list) = text.split_once('|').unwrap_or((text, ""));
+    let files = files_of(alloc, list)?;
+    let wired = match table_of(alloc, files.as_slice(), sample(wiring).as_bytes()) {
         Ok(wired) => wired,
         Err(OrMemory::Fault(SystemFault::Defs(fault))) => return Ok(fault.fault.to_string(alloc)?),
         Err(OrMemory::Fault(SystemFault::Wiring(fault))) => return Ok(fault.to_string(alloc)?),
         Err(OrMemory::Memory) => return Ok(String::from_str(alloc, "Memory")?),
     };
-    let script = match read_script(alloc, &wired, script) {
+    let script = match read_script(alloc, &wired, script, false) {
         Ok(script) => script,
         Err(fault) => return Ok(fault.to_string(alloc)?),
     };
