@@ -1,17 +1,8 @@
-//! Reads and writes large inputs many times over, and tells on standard error how long that took.
-//!
-//! `mrc_bench WORK TIMES [SIZE]` prints what was done, on standard output. WORK is one of
-//!
-//! - `header`: a message of 24 bytes
-//! - `bytes`, `names`, `arguments`: a message of 8,192 bytes, with one argument of bytes, one of
-//! port names, or 1,021   arguments
-//! - `subsystem`: a MIG file of 100 routines with 32 arguments each
-//! - `comments`: a MIG file that is a comment of 64 MiB but for its first line
-//! - `types`, `options`, `arrays`, `sums`, `parentheses`: a MIG file of SIZE MiB, or 64, that is made
-//! of   types, of options of arguments, or of one type with many arrays around it, a long sum or
-//! many   parentheses in it
+//! Works on large inputs many times over, and tells on standard error how long that took. README.md
+//! lists the works.
 #![tactic(auto)]
 
+mod deaths;
 mod messages;
 mod subsystems;
 
@@ -22,7 +13,11 @@ use std::time::Instant;
 /// How many bytes a MiB has.
 const MIB: usize = 1 << 20;
 
-/// Does the work, and gives how many bytes were read each time. The size is that of a large file.
+/// The number of live ports, at most.
+const PORTS: u64 = 65_536;
+
+/// Does the work, and gives how many bytes were read each time, or ports are left. The size is that
+/// of a large file.
 fn done(alloc: Global, work: &str, times: u32, size: usize) -> Result<usize> {
     match work {
         "header" => messages::read_and_write(&messages::header(alloc)?, alloc, times),
@@ -36,6 +31,8 @@ fn done(alloc: Global, work: &str, times: u32, size: usize) -> Result<usize> {
         "sums" => subsystems::read(&subsystems::sums(alloc, size)?, alloc, times),
         "parentheses" => subsystems::read(&subsystems::parentheses(alloc, size)?, alloc, times),
         "comments" => subsystems::read(&subsystems::comments(alloc)?, alloc, times),
+        "ports" => Ok(deaths::store(alloc, PORTS)?.ports().len()),
+        "deaths" => deaths::end(alloc, deaths::store(alloc, PORTS)?),
         _ => Err(anyhow!("there is no such work")),
     }
 }
