@@ -8,6 +8,8 @@ use std::fmt::Write;
 use std::process::Abort;
 use std::test::Fail;
 
+mod memory;
+
 /// One task.
 const ONE: &str = "wiring 1\ntask a";
 
@@ -160,6 +162,10 @@ fn last_call(verb: &str, task: u32, words: [&str; 5]) -> Call {
             delta: third.parse::<i32>().unwrap_or(0),
         },
         "task_terminate" => Call::Terminate { task },
+        "receive" => Call::Receive {
+            name: task,
+            limit: name,
+        },
         _ => Call::Names { task },
     }
 }
@@ -194,68 +200,6 @@ impl Machine {
             Err(_) => self.world.step(&self.wired, TaskId(caller), &call)?,
         };
         surely_told(alloc, &reply)
-    }
-}
-
-/// What a machine of two tasks shows: what they hold, the live ports, and all names.
-#[derive(Drop)]
-struct Shown {
-    held: Vec<Holding>,
-    ports: usize,
-    names: [String; 2],
-}
-
-impl Shown {
-    /// Whether this machine shows the same.
-    fn is_that_of(&self, other: &Shown) -> bool {
-        self.held.as_slice() == other.held.as_slice()
-            && self.ports == other.ports
-            && self.names[0].as_str() == other.names[0].as_str()
-            && self.names[1].as_str() == other.names[1].as_str()
-    }
-}
-
-impl Machine {
-    /// The names of a task that has its own kernel port under name 1.
-    fn names(&mut self, alloc: Global, task: u32) -> Result<String, AllocError> {
-        let reply = self
-            .world
-            .step(&self.wired, TaskId(task), &Call::Names { task: 1 })?;
-        told(alloc, &reply)
-    }
-
-    fn try_shown(&mut self, alloc: Global) -> Result<Shown, AllocError> {
-        Ok(Shown {
-            held: self.world.holdings()?,
-            ports: self.world.live_ports(),
-            names: [self.names(alloc, 0)?, self.names(alloc, 1)?],
-        })
-    }
-
-    /// What the machine shows, asked once more where memory ran out.
-    fn shown(&mut self, alloc: Global) -> Result<Shown, AllocError> {
-        match self.try_shown(alloc) {
-            Ok(shown) => Ok(shown),
-            Err(_) => self.try_shown(alloc),
-        }
-    }
-
-    /// One call, whose want of memory leaves the machine as it was; made once more after it.
-    fn step_or_stay(
-        &mut self,
-        rt: &(impl Abort + AllocGlobal),
-        caller: u32,
-        line: &str,
-    ) -> Result<String, AllocError> {
-        let call = read(line);
-        let before = self.shown(rt.alloc())?;
-        if let Ok(reply) = self.world.step(&self.wired, TaskId(caller), &call) {
-            return surely_told(rt.alloc(), &reply);
-        }
-        let after = self.shown(rt.alloc())?;
-        assert!(rt; before.is_that_of(&after), "{line}");
-        let reply = self.world.step(&self.wired, TaskId(caller), &call)?;
-        surely_told(rt.alloc(), &reply)
     }
 }
 
@@ -898,32 +842,6 @@ fn too_many_references(rt: HostRuntime) -> Result<(), Fail> {
             (0, "get_refs 1 1 send", "refs 65535"),
         ],
     )?;
-    Ok(())
-}
-
-// Each call that can answer want of memory leaves the machine as it was, and answers the same as
-// with memory when it is made once more: to be run with each allocation refused in turn.
-#[test]
-fn memory_runs_out(rt: HostRuntime) -> Result<(), Fail> {
-    let mut machine = started(rt.alloc(), TWO)?;
-    for line in [
-        (0, "allocate 2 receive 0", "name 2"),
-        (0, "allocate 1 set 0", "name 3"),
-        (0, "allocate 1 dead 0", "name 4"),
-        (1, "insert_right 1 5 2 21", "done"),
-        (0, "extract_right 2 2 20", "name 5"),
-        (0, "insert_right 2 6 5 17", "KERN_RIGHT_EXISTS"),
-        (0, "insert_right 2 2 5 17", "done"),
-        (0, "insert_right 1 7 2 19", "KERN_RIGHT_EXISTS"),
-        (1, "extract_right 1 5 18", "name 3"),
-        (1, "rename 1 3 9", "done"),
-        (0, "rename 1 3 3", "KERN_NAME_EXISTS"),
-        (0, "names 2", "names 1:65536 2:196608 9:262144"),
-        (0, "names 1", "names 1:65536 2:65536 3:524288 4:1048576"),
-    ] {
-        let text = machine.step_or_stay(&rt, line.0, line.1)?;
-        assert_eq!(rt; text.as_str(), line.2, "{}", line.1);
-    }
     Ok(())
 }
 
