@@ -1,10 +1,11 @@
 /* Refuses the allocation whose number, from 1, stands in REFUSE, and with ALL_AFTER each one after it, and writes how
- * many were asked for to the file that COUNT names. It is loaded before the C library, so that malloc and realloc are
- * these. */
+ * many were asked for to the file that COUNT names. It is loaded before the C library, so that malloc, realloc and
+ * _exit are these: a program with threads ends by _exit, which calls no destructor. */
 #define _GNU_SOURCE
 #include <dlfcn.h>
 #include <stdio.h>
 #include <stdlib.h>
+#include <unistd.h>
 
 static unsigned long asked;
 static unsigned long refused;
@@ -21,8 +22,8 @@ __attribute__((constructor)) static void begin(void) {
 
 static int is_refused(void) {
     if (!begun) return 0;
-    asked++;
-    return refused && (asked == refused || (all_after && asked > refused));
+    unsigned long number = __atomic_add_fetch(&asked, 1, __ATOMIC_RELAXED);
+    return refused && (number == refused || (all_after && number > refused));
 }
 
 void *malloc(size_t size) {
@@ -40,9 +41,17 @@ void *realloc(void *old, size_t size) {
 __attribute__((destructor)) static void end(void) {
     unsigned long all = asked;
     const char *name = getenv("COUNT");
+    if (!begun) return;
     begun = 0;
     FILE *file = name ? fopen(name, "w") : NULL;
     if (!file) return;
     fprintf(file, "%lu\n", all);
     fclose(file);
+}
+
+void _exit(int status) {
+    void (*real)(int) = dlsym(RTLD_NEXT, "_exit");
+    end();
+    real(status);
+    __builtin_unreachable();
 }
