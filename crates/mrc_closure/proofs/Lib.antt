@@ -4,3 +4,5 @@ pub mod Counting
 pub mod Within
 pub mod Deriving
 pub mod Placing
+pub mod Dealing
+pub mod Joining

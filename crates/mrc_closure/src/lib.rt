@@ -4,9 +4,11 @@
 mod chains;
 pub mod laws;
 mod rounds;
+mod workers;
 
 pub use chains::{Chain, Places, Step, explain};
 pub use rounds::make_alone;
+pub use workers::{Gate, MakeFault, make};
 
 #[cfg(test)]
 mod tests;

@@ -2,13 +2,15 @@ ghost use Rattle.std.specs.Prelude.{◌≡◌};
 ghost use Rattle.mrc_base.specs.declared.Fact.{Fact};
 
 use super::*;
-use mrc_base::{ClassId, Fact, PortRight};
+use mrc_base::{ClassId, Fact, OrMemory, PortRight};
 use mrc_certificate::{Draft, write_draft};
 use mrc_wiring::Wired;
 use mrc_wiring_text::read_wiring;
 use std::alloc::{AllocError, Global};
 use std::fmt::Write;
+use std::sync::atomic::{AtomicBool, AtomicUsize, Ordering};
 use std::test::Fail;
+use std::thread;
 
 const ONE: &str = "wiring 1\ntask a\n";
 
@@ -132,8 +134,107 @@ fn memory_that_runs_out_is_told(rt: HostRuntime) -> Result<(), Fail> {
     if let Ok(draft) = make_alone(rt.alloc(), &wired) {
         assert_eq!(rt; draft.facts.len(), 16);
     }
+    for workers in [1, 4] {
+        if let Ok(draft) = make(&rt, rt.alloc(), &wired, workers, &Open) {
+            assert_eq!(rt; draft.facts.len(), 16);
+        }
+    }
     if let Ok(chain) = explain(rt.alloc(), &wired, hold(1, 2, PortRight::Send)) {
         assert!(rt; chain.is_some());
+    }
+    Ok(())
+}
+
+/// Lets all workers in at once.
+struct Open;
+
+impl Gate for Open {
+    fn enter(&self, _worker: usize) {}
+}
+
+/// Holds the first worker until the second has entered, for so many turns at most.
+#[derive(Drop)]
+struct Holding {
+    entered: AtomicBool,
+    gave_up: AtomicBool,
+}
+
+impl Gate for Holding {
+    fn enter(&self, worker: usize) {
+        if worker == 1 {
+            self.entered.store(true, Ordering::SeqCst);
+            return;
+        }
+        for _ in 0..1_000_000u32 {
+            if self.entered.load(Ordering::SeqCst) {
+                return;
+            }
+            thread::yield_now();
+        }
+        self.gave_up.store(true, Ordering::SeqCst);
+    }
+}
+
+// The bytes are those of one thread, whatever the number of workers.
+#[test]
+fn workers_make_the_same(rt: HostRuntime) -> Result<(), Fail> {
+    let alloc = rt.alloc();
+    let wired = wired(alloc, TWO)?;
+    let alone = write_draft(alloc, &make_alone(alloc, &wired)?)?;
+    for workers in [1, 4, 64] {
+        let draft = make(&rt, alloc, &wired, workers, &Open)?;
+        let bytes = write_draft(alloc, &draft)?;
+        assert_eq!(rt; bytes.as_slice(), alone.as_slice());
+    }
+    Ok(())
+}
+
+// Two workers are at work at once.
+#[test]
+fn a_gate_holds_a_worker(rt: HostRuntime) -> Result<(), Fail> {
+    let wired = wired(rt.alloc(), TWO)?;
+    let gate = Holding {
+        entered: AtomicBool::new(false),
+        gave_up: AtomicBool::new(false),
+    };
+    let draft = make(&rt, rt.alloc(), &wired, 2, &gate)?;
+    assert_eq!(rt; draft.facts.len(), 16);
+    assert!(rt; gate.entered.load(Ordering::SeqCst));
+    assert!(rt; !gate.gave_up.load(Ordering::SeqCst));
+    Ok(())
+}
+
+/// Counts those that enter.
+#[derive(Drop)]
+struct Counting {
+    entered: AtomicUsize,
+}
+
+impl Gate for Counting {
+    fn enter(&self, _worker: usize) {
+        let _before = self.entered.fetch_add(1, Ordering::SeqCst);
+    }
+}
+
+// Each worker enters once, also where there is no fact.
+#[test]
+fn each_worker_enters_once(rt: HostRuntime) -> Result<(), Fail> {
+    let wired = wired(rt.alloc(), "wiring 1\n")?;
+    let gate = Counting {
+        entered: AtomicUsize::new(0),
+    };
+    let draft = make(&rt, rt.alloc(), &wired, 5, &gate)?;
+    assert_eq!(rt; draft.facts.len(), 0);
+    assert_eq!(rt; gate.entered.load(Ordering::SeqCst), 5);
+    Ok(())
+}
+
+#[test]
+fn there_are_1_to_64_workers(rt: HostRuntime) -> Result<(), Fail> {
+    let wired = wired(rt.alloc(), ONE)?;
+    for workers in [0, 65] {
+        let refused = make(&rt, rt.alloc(), &wired, workers, &Open);
+        assert!(rt; matches!(refused, Err(OrMemory::Fault(MakeFault::Workers))));
     }
     Ok(())
 }
