@@ -151,7 +151,7 @@ const GOT: [u8; 40] = [
 ];
 
 /// The file server, as it was checked.
-fn file_server(alloc: Global) -> Result<Confined, AllocError> {
+fn checked_files(alloc: Global) -> Result<Confined, AllocError> {
     let defs = vec![in alloc; Vec::from_slice(alloc, FILE_SERVER.as_bytes())?]?;
     let answer = check_texts(
         alloc,
@@ -166,24 +166,69 @@ fn file_server(alloc: Global) -> Result<Confined, AllocError> {
     }
 }
 
-/// The call that sends the message of these bytes.
-fn send(alloc: Global, bytes: &[u8]) -> Result<Call, AllocError> {
-    match read_message(alloc, bytes) {
-        Ok(message) => Ok(Call::Send(message)),
+// What follows asks once more where memory ran out, so that it can be run with each allocation
+// refused in turn.
+
+/// The file server, as it was checked.
+fn file_server(alloc: Global) -> Result<Confined, AllocError> {
+    match checked_files(alloc) {
+        Ok(confined) => Ok(confined),
+        Err(_) => checked_files(alloc),
+    }
+}
+
+/// What is equal to it.
+fn copied(alloc: Global, confined: &Confined) -> Result<Confined, AllocError> {
+    match confined.copy(alloc) {
+        Ok(copy) => Ok(copy),
+        Err(_) => confined.copy(alloc),
+    }
+}
+
+/// The machine of what was checked, which comes back where memory runs out.
+fn started(alloc: Global, confined: Confined) -> Result<Guarded, AllocError> {
+    let again = match Guarded::start(alloc, confined) {
+        Ok(guarded) => return Ok(guarded),
+        Err(again) => again,
+    };
+    match Guarded::start(alloc, again) {
+        Ok(guarded) => Ok(guarded),
         Err(_) => Err(AllocError),
     }
 }
 
+/// What a task is told of its call.
+fn told(guarded: &mut Guarded, task: u32, call: &Call) -> Result<Reply, AllocError> {
+    match guarded.step(TaskId(task), call) {
+        Ok(reply) => Ok(reply),
+        Err(_) => guarded.step(TaskId(task), call),
+    }
+}
+
+/// The call that sends the message of these bytes.
+fn send(alloc: Global, bytes: &[u8]) -> Result<Call, AllocError> {
+    for _ in 0..2 {
+        if let Ok(message) = read_message(alloc, bytes) {
+            return Ok(Call::Send(message));
+        }
+    }
+    Err(AllocError)
+}
+
 /// These bytes and a path of 64 bytes 0.
 fn with_path(alloc: Global, bytes: &[u8]) -> Result<Vec<u8>, AllocError> {
-    let mut whole = Vec::from_slice(alloc, bytes)?;
-    whole.extend_from_slice(&[0; 64])?;
-    Ok(whole)
+    for _ in 0..2 {
+        let mut whole = Vec::new(alloc);
+        if whole.extend_from_slice(bytes).is_ok() && whole.extend_from_slice(&[0; 64]).is_ok() {
+            return Ok(whole);
+        }
+    }
+    Err(AllocError)
 }
 
 /// Whether the call is answered by the message of these bytes.
 fn receives(guarded: &mut Guarded, task: u32, call: &Call, bytes: &[u8]) -> bool {
-    match guarded.step(TaskId(task), call) {
+    match told(guarded, task, call) {
         Ok(Reply::Message(message)) => message.as_slice() == bytes,
         _ => false,
     }
@@ -204,8 +249,8 @@ fn asks(alloc: Global, guarded: &mut Guarded) -> Result<[bool; 3], AllocError> {
     let heard = with_path(alloc, &HEARD)?;
     let receive = Call::Receive { name: 2, limit: 92 };
     Ok([
-        matches!(guarded.step(TaskId(0), &allocate()), Ok(Reply::Name(3))),
-        matches!(guarded.step(TaskId(0), &asked), Ok(Reply::Done)),
+        matches!(told(guarded, 0, &allocate()), Ok(Reply::Name(3))),
+        matches!(told(guarded, 0, &asked), Ok(Reply::Done)),
         receives(guarded, 1, &receive, heard.as_slice()),
     ])
 }
@@ -221,13 +266,13 @@ fn answers(alloc: Global, guarded: &mut Guarded) -> Result<[bool; 4], AllocError
     let own = send(alloc, &answer(1))?;
     let file = send(alloc, &answer(4))?;
     Ok([
-        matches!(guarded.step(TaskId(1), &allocate()), Ok(Reply::Name(4))),
-        matches!(guarded.step(TaskId(1), &inserted), Ok(Reply::Done)),
+        matches!(told(guarded, 1, &allocate()), Ok(Reply::Name(4))),
+        matches!(told(guarded, 1, &inserted), Ok(Reply::Done)),
         matches!(
-            guarded.step(TaskId(1), &own),
+            told(guarded, 1, &own),
             Ok(Reply::Denied(Denied::NotAdmitted(1)))
         ),
-        matches!(guarded.step(TaskId(1), &file), Ok(Reply::Done)),
+        matches!(told(guarded, 1, &file), Ok(Reply::Done)),
     ])
 }
 
@@ -237,17 +282,15 @@ fn gets(guarded: &mut Guarded) -> [bool; 2] {
     let named = Call::PortType { task: 1, name: 4 };
     [
         receives(guarded, 0, &receive, &GOT),
-        matches!(guarded.step(TaskId(0), &named), Ok(Reply::Mask(65536))),
+        matches!(told(guarded, 0, &named), Ok(Reply::Mask(65536))),
     ]
 }
 
 /// Which replies were right, and whether what was checked comes back in the end.
 fn run_files(alloc: Global) -> Result<([bool; 3], [bool; 4], [bool; 2], bool), AllocError> {
     let confined = file_server(alloc)?;
-    let copy = confined.copy(alloc)?;
-    let Ok(mut guarded) = Guarded::start(alloc, confined) else {
-        return Err(AllocError);
-    };
+    let copy = copied(alloc, &confined)?;
+    let mut guarded = started(alloc, confined)?;
     let asked = asks(alloc, &mut guarded)?;
     let answered = answers(alloc, &mut guarded)?;
     let got = gets(&mut guarded);
