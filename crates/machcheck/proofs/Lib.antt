@@ -3,3 +3,4 @@ pub mod FileLaws
 pub mod ToldLaws
 pub mod ScriptLaws
 pub mod ChainLaws
+mod MakeLaws

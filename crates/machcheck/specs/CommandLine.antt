@@ -1,6 +1,7 @@
 -- The command line that `clap` reads, and the words that it comes in. This profile's own choice.
 use Rattle.std.specs.Prelude.{◌≡◌, ◌⊎◌, ℕ, List, [], ◌∷◌, Some, true, codes, string_bytes, false}
-use Rattle.std.specs.Prelude.{unwrap_or}
+use Rattle.std.specs.Prelude.{unwrap_or, Option, None}
+use Rattle.mrc_report.specs.Parameters.{number_of_word}
 use Rattle.std.specs.Option.{option_map}
 use Rattle.std.specs.declared.io.ErrorKind.{ErrorKind}
 use Rattle.std.specs.declared.io.ErrorKind.TheVariants.{InvalidData}
@@ -55,9 +56,25 @@ check_options =
 abbrev pub check_app : App
 check_app = with_files check_options (codes "cert" ∷ [])
 
--- `make --wiring FILE --out FILE [DEFS]...`
+-- the option that says how many workers there are, and need not be given
+abbrev pub workers_rule : Rule
+workers_rule = record
+    (new_rule (codes "workers")) { long = Some (codes "workers"); value_names = 1; action = Some Set }
+
+-- how many are asked for: 4 where no number is given, 0 where the text is no number
+abbrev pub workers_of : Option Text → ℕ
+workers_of None = 4
+workers_of (Some text) = unwrap_or (number_of_word text) 0
+
+-- `make` with its two files
+abbrev pub make_options : App
+make_options =
+    with_rule (with_rule (new_app (codes "make")) (file_rule (codes "wiring")))
+    (file_rule (codes "out"))
+
+-- `make --wiring FILE --out FILE [--workers N] [DEFS]...`
 abbrev pub make_app : App
-make_app = with_files (new_app (codes "make")) (codes "wiring" ∷ codes "out" ∷ [])
+make_app = with_rule (with_rule make_options workers_rule) defs_rule
 
 -- `explain --wiring FILE --fact FACT [DEFS]...`
 abbrev pub explain_app : App

@@ -1,7 +1,7 @@
 -- What the program tells of an answer of the checker, of a certificate that it makes, and of a
 -- replay: the status, and the texts on standard output and on standard error. This profile's own
 -- choice.
-use Rattle.std.specs.Prelude.{◌≡◌, ◌⊎◌, ℕ, true, List, [], ◌++◌, Option, Result, Ok, Err, codes}
+use Rattle.std.specs.Prelude.{◌≡◌, ◌⊎◌, ◌<◌, ℕ, true, List, [], ◌++◌, Option, Result, Ok, Err, codes}
 use Rattle.std.specs.Prelude.{decimal}
 use Rattle.std.specs.Prelude.{string_bytes, get_or, length}
 use Rattle.std.specs.Io.KnownBytes.{Appends}
@@ -221,6 +221,16 @@ pub record ToldUnwritten (files : MakeFiles) (told : Told) : Type 0 where
   pub out : string_bytes told.out ≡ []
   pub err : IsFaultOf files.out.now (string_bytes told.err)
 
+-- it is told that there can't be so many workers
+pub record ToldWorkers (files : MakeFiles) (told : Told) : Type 0 where
+  pub count : (files.workers ≡ 0) ⊎ (64 < files.workers)
+  pub out : string_bytes told.out ≡ []
+  pub err : string_bytes told.err ≡ fault_line (codes "--workers") (codes "Workers")
+
+-- it is told why no certificate was written: there can't be so many workers, or it was not taken
+pub record ToldUnmade (files : MakeFiles) (told : Told) : Type 0 where
+  pub why : ToldUnwritten files told ⊎ ToldWorkers files told
+
 -- what is told where the certificate was not taken. Want of memory is no file's fault
 abbrev pub UnwrittenTold : MakeFiles → OrMemory WriteFault → Told → Type 0
 UnwrittenTold files (Fault fault) told = ToldUnwritten files told
@@ -232,12 +242,12 @@ MadeOfFiles before after files told =
     OfFiles system_list (ToldMade files after) before (system_names files.system) told
 
 -- why status 2 is told of the files of a `make`: memory ran out, a file can't be read, a text has
--- no meaning, or the certificate was not taken
+-- no meaning, there can't be so many workers, or the certificate was not taken
 abbrev pub FaultOfMake : Held → MakeFiles → Told → Type 0
 FaultOfMake held files told = ToldMemory told
     ⊎ (ToldUnread held (system_names files.system) told
     ⊎ (OfFiles system_list (ToldNoSystem files.system) held (system_names files.system) told
-    ⊎ ToldUnwritten files told))
+    ⊎ ToldUnmade files told))
 
 -- A replay is told of texts, and it is right: each of them has a meaning, and what is printed is
 -- the run of the script's calls from the first state of the wiring.

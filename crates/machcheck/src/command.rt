@@ -7,13 +7,14 @@ ghost use Rattle.clap.specs.declared.error.kind.ErrorKind.TheVariants.{OutOfMemo
 ghost use Rattle.clap.specs.declared.error.kind.ErrorKind.TheVariants.{DisplayVersion};
 ghost use Rattle.machcheck.specs.CommandLine.{IsNoCommand, TellsError, file_rule, check_app};
 ghost use Rattle.machcheck.specs.CommandLine.{check_options, certificate_app, explain_app, fact_app};
-ghost use Rattle.machcheck.specs.CommandLine.{defs_rule, make_app, replay_app, machcheck_app};
+ghost use Rattle.machcheck.specs.CommandLine.{defs_rule, workers_rule, workers_of, make_options, make_app, replay_app, machcheck_app};
 ghost use Rattle.machcheck.specs.CommandLine.{HasNoGlobals, all_values, live_app, live_options};
 ghost use Rattle.machcheck.specs.CommandLine.{script_app};
 
 use crate::told::Told;
 use clap::error::ErrorKind;
 use clap::{Arg, ArgAction, ArgMatches, Error};
+use mrc_report::number_of_word;
 use std::alloc::{AllocError, AllocFailed, Global};
 
 const PROGRAM_HELP: &str = "Exit status of each command:
@@ -47,12 +48,14 @@ const MAKE_HELP: &str = "Files, as README.md describes them:
 
 The least certificate of the wiring is made: who may come to hold what, and nothing else. It
 is written beside the file that --out names, as FILE.part, and then takes its place, so that
-the file is never half written. How many facts it has is printed.
+the file is never half written. How many facts it has is printed. --workers says how many
+threads make it; the certificate is the same whatever their number.
 
 Exit status:
   0  the certificate was made
   2  a fault on standard error, as `machcheck: FILE: FAULT`: a file can't be read or has
-     no meaning or was not taken, the command line is wrong, or memory ran out
+     no meaning or was not taken, --workers is not a number from 1 to 64 (Workers), the
+     command line is wrong, or memory ran out
 
 Read on in README.md, and in docs/ARCHITECTURE.md.";
 
@@ -142,11 +145,12 @@ pub struct CheckFiles<'a> {
     pub certificate: &'a str,
 }
 
-/// The files of a `make`. The last one is written.
+/// The files of a `make`, the last of which is written, and by how many workers it is made.
 #[derive(Drop)]
 pub struct MakeFiles<'a> {
     pub system: SystemFiles<'a>,
     pub out: &'a str,
+    pub workers: usize,
 }
 
 /// The files of an `explain`, and the text of the fact.
@@ -217,6 +221,17 @@ fn wiring_option<'a>(alloc: Global) -> Arg<'a>
     file_option(alloc, "wiring", "Tasks, ports and their first rights")
 }
 
+fn workers_option<'a>(alloc: Global) -> Arg<'a>
+    ensures rule { rule_of result ≡ workers_rule }
+    ensures local { result.global ≡ false }
+{
+    Arg::new(alloc, "workers")
+        .long("workers")
+        .value_name("N")
+        .help("How many threads make it, 1 to 64: 4 where it is not given")
+        .action(ArgAction::Set)
+}
+
 fn defs_arguments<'a>(alloc: Global) -> Arg<'a>
     ensures rule { rule_of result ≡ defs_rule }
     ensures local { result.global ≡ false }
@@ -248,15 +263,24 @@ fn check_command<'a>(alloc: Global) -> Result<clap::Command<'a>, AllocError>
         .arg(defs_arguments(alloc))
 }
 
-fn make_command<'a>(alloc: Global) -> Result<clap::Command<'a>, AllocError>
-    ensures app { IfOk result (λ command. app_of command ≡ make_app) }
+/// The command with its first two options.
+fn make_options<'a>(alloc: Global) -> Result<clap::Command<'a>, AllocError>
+    ensures app { IfOk result (λ command. app_of command ≡ make_options) }
     ensures local { IfOk result HasNoGlobals }
 {
     clap::Command::new(alloc, "make")
         .about("Makes the least certificate of a wiring")
         .after_help(MAKE_HELP)
         .arg(wiring_option(alloc))?
-        .arg(file_option(alloc, "out", "The certificate that is written"))?
+        .arg(file_option(alloc, "out", "The certificate that is written"))
+}
+
+fn make_command<'a>(alloc: Global) -> Result<clap::Command<'a>, AllocError>
+    ensures app { IfOk result (λ command. app_of command ≡ make_app) }
+    ensures local { IfOk result HasNoGlobals }
+{
+    make_options(alloc)?
+        .arg(workers_option(alloc))?
         .arg(defs_arguments(alloc))
 }
 
@@ -388,6 +412,19 @@ fn file_given<'a>(matches: &ArgMatches<'a>, option: &str) -> Result<&'a str, NoC
     }
 }
 
+/// How many workers are asked for: 4 where the option is not given, 0 where it is no number.
+fn workers_given(matches: &ArgMatches<'_>) -> usize
+    ensures { result ≡ workers_of (first_value (found_of matches.now) (codes "workers")) }
+{
+    match matches.get_str("workers") {
+        Some(text) => match number_of_word(text.as_bytes()) {
+            Some(number) => number as usize,
+            None => 0,
+        },
+        None => 4,
+    }
+}
+
 /// The MIG files that are given.
 fn defs_given<'a>(alloc: Global, matches: &ArgMatches<'a>) -> Result<Vec<&'a str>, AllocError>
     ensures { IfOk result (λ files.
@@ -439,11 +476,18 @@ fn make_files<'a>(alloc: Global, matches: &ArgMatches<'a>) -> Result<MakeFiles<'
         first_value (found_of matches.now) (codes "wiring") ≡ Some files.system.wiring.now) }
     ensures out { IfOk result
         (λ files. first_value (found_of matches.now) (codes "out") ≡ Some files.out.now) }
+    ensures workers { IfOk result (λ files. files.workers
+        ≡ workers_of (first_value (found_of matches.now) (codes "workers"))) }
     ensures none { IfErr result (λ none. none ≡ NoCommand.Memory) }
 {
     let system = system_files(alloc, matches)?;
     let out = file_given(matches, "out")?;
-    Ok(MakeFiles { system, out })
+    let workers = workers_given(matches);
+    Ok(MakeFiles {
+        system,
+        out,
+        workers,
+    })
 }
 
 fn explain_files<'a>(alloc: Global, matches: &ArgMatches<'a>) -> Result<ExplainFiles<'a>, NoCommand>

@@ -42,7 +42,7 @@ impl Model for LiveBytes {
 }
 
 /// Threads enter at once.
-struct Open;
+pub(crate) struct Open;
 
 impl Gate for Open {
     fn enter(&self, _number: usize) {}

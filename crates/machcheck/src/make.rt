@@ -3,19 +3,26 @@
 ghost use Rattle.std.specs.Prelude.{◌≡◌, ◌⊎◌, [], IfOk, IsOkAnd, string_bytes};
 ghost use Rattle.mrc_certificate.specs.Spelling.{content};
 ghost use Rattle.machcheck.specs.Told.{ToldMade, ToldLeast, ToldWritten, ToldMemory};
-ghost use Rattle.machcheck.specs.Told.{ToldNoSystem, ToldUnwritten, UnwrittenTold};
+ghost use Rattle.machcheck.specs.Told.{ToldNoSystem, ToldUnwritten, ToldWorkers, ToldUnmade, UnwrittenTold};
 ghost use Rattle.machcheck.specs.Told.{MadeOfFiles, FaultOfMake};
 
 use crate::command::MakeFiles;
 use crate::files::{Folder, unread_told};
+use crate::live::Open;
 use crate::system::{SystemBytes, system_bytes, system_fault_told, wired_by};
 use crate::told::{Told, fault_of, memory, said};
 use mrc_base::OrMemory;
 use mrc_certificate::{Draft, write_draft};
-use mrc_closure::make_alone;
+use mrc_closure::{Gate, MakeFault, make};
 use mrc_report::WriteFault;
 use mrc_wiring::Wired;
 use std::alloc::{AllocError, Global};
+use std::sync::Wait;
+use std::thread::Threads;
+
+impl Gate for Open {
+    fn enter(&self, _worker: usize) {}
+}
 
 /// A certificate that the file was not given, with the file.
 fn unwritten_told(
@@ -62,7 +69,8 @@ fn draft_written<F: Folder>(
 }
 
 /// Makes the certificate of a wiring.
-fn wired_made<F: Folder>(
+fn wired_made<F: Folder, R: Threads + Wait + Sync>(
+    rt: &R,
     folder: &mut F,
     alloc: Global,
     files: &MakeFiles<'_>,
@@ -72,17 +80,21 @@ fn wired_made<F: Folder>(
     ensures made { IfOk result (λ told. told.status ≡ 0
         → ToldLeast files.now wired.now (F.held folder.new) told) }
     ensures fault { IfOk result (λ told. told.status ≡ 2
-        → ToldMemory told ⊎ ToldUnwritten files.now told) }
+        → ToldMemory told ⊎ (ToldUnwritten files.now told ⊎ ToldWorkers files.now told)) }
     // A file is changed where a certificate is told, and nowhere else.
     ensures kept { IsOkAnd result (λ told. told.status ≡ 0)
         ⊎ (F.held folder.new ≡ F.held folder.old) }
 {
-    let draft = make_alone(alloc, wired)?;
-    draft_written(folder, alloc, files, &draft)
+    match make(rt, alloc, wired, files.workers, &Open) {
+        Ok(draft) => draft_written(folder, alloc, files, &draft),
+        Err(OrMemory::Fault(MakeFault::Workers)) => fault_of(alloc, "--workers", "Workers"),
+        Err(OrMemory::Memory) => memory(alloc),
+    }
 }
 
 /// What is told of the bytes of MIG files and a wiring.
-fn make_told<F: Folder>(
+fn make_told<F: Folder, R: Threads + Wait + Sync>(
+    rt: &R,
     folder: &mut F,
     alloc: Global,
     files: &MakeFiles<'_>,
@@ -95,13 +107,13 @@ fn make_told<F: Folder>(
     // A fault is one of the first file that has one, or of the writing, unless memory ran out.
     ensures fault { IfOk result (λ told. told.status ≡ 2
         → ToldMemory told ⊎ (ToldNoSystem files.now.system bytes.now told
-        ⊎ ToldUnwritten files.now told)) }
+        ⊎ ToldUnmade files.now told)) }
     // A file is changed where a certificate is told, and nowhere else.
     ensures kept { IsOkAnd result (λ told. told.status ≡ 0)
         ⊎ (F.held folder.new ≡ F.held folder.old) }
 {
     match wired_by(alloc, bytes) {
-        Ok(wired) => wired_made(folder, alloc, files, &wired),
+        Ok(wired) => wired_made(rt, folder, alloc, files, &wired),
         Err(OrMemory::Fault(fault)) => system_fault_told(alloc, &files.system, bytes, fault),
         Err(OrMemory::Memory) => memory(alloc),
     }
@@ -109,7 +121,8 @@ fn make_told<F: Folder>(
 
 /// What is told of the files of a `make`. Want of memory before the certificate is written changes
 /// no file.
-pub fn make_files<F: Folder>(
+pub fn make_files<F: Folder, R: Threads + Wait + Sync>(
+    rt: &R,
     folder: &mut F,
     alloc: Global,
     files: &MakeFiles<'_>,
@@ -125,7 +138,7 @@ pub fn make_files<F: Folder>(
         ⊎ (F.held folder.new ≡ F.held folder.old) }
 {
     match system_bytes(folder, alloc, &files.system) {
-        Ok(bytes) => make_told(folder, alloc, files, &bytes),
+        Ok(bytes) => make_told(rt, folder, alloc, files, &bytes),
         Err(unread) => unread_told(alloc, &unread),
     }
 }

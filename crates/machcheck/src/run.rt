@@ -158,7 +158,7 @@ fn told<F: Folder, R: Threads + Wait + Sync>(
 {
     match read(alloc, words) {
         Ok(Command::Check(files)) => check_files(folder, alloc, &files),
-        Ok(Command::Make(files)) => make_files(folder, alloc, &files),
+        Ok(Command::Make(files)) => make_files(rt, folder, alloc, &files),
         Ok(Command::Explain(files)) => explain_files(folder, alloc, &files),
         Ok(Command::Replay(files)) => replay_files(folder, alloc, &files),
         Ok(Command::Live(files)) => live_files(rt, folder, alloc, &files),

@@ -670,6 +670,50 @@ fn faults_of_makes(rt: HostRuntime) -> Result<(), Fail> {
     Ok(())
 }
 
+/// What a `make` by so many workers tells, and the bytes that were written.
+fn made_by(
+    rt: &(impl AllocGlobal + Threads + Wait + Sync),
+    workers: &str,
+) -> Result<(Outcome, Vec<u8>), Fail> {
+    let mut shelf = no_files(rt.alloc());
+    shelf.defs = Ok(FILE_SERVER);
+    shelf.wiring = Ok(CAREFUL);
+    let words = [
+        "machcheck",
+        "make",
+        "--wiring",
+        "w",
+        "--out",
+        "made",
+        "--workers",
+        workers,
+        "d",
+    ];
+    let (told, _) = of_shelf(rt, &mut shelf, &words)?;
+    Ok((told, shelf.written))
+}
+
+#[test]
+fn makes_by_workers(rt: HostRuntime) -> Result<(), Fail> {
+    for workers in ["1", "64"] {
+        let (told, written) = made_by(&rt, workers)?;
+        assert_eq!(rt; told.out.as_slice(), b"facts 18\n".as_slice());
+        assert_eq!(rt; told.status, 0);
+        assert_eq!(rt; written.as_slice(), OF_CAREFUL.as_slice());
+    }
+    for workers in ["0", "65", "four"] {
+        let (told, written) = made_by(&rt, workers)?;
+        assert_eq!(rt;
+            told.err.as_slice(),
+            b"machcheck: --workers: Workers\n".as_slice()
+        );
+        assert_eq!(rt; told.out.as_slice(), b"".as_slice());
+        assert_eq!(rt; told.status, 2);
+        assert_eq!(rt; written.as_slice(), b"".as_slice());
+    }
+    Ok(())
+}
+
 // MIG files are read first, and judged first.
 #[test]
 fn checks_with_interfaces(rt: HostRuntime) -> Result<(), Fail> {

@@ -31,7 +31,7 @@ fn value_of(digits: &[u8]) -> u64
 
 /// The number that a word spells in decimal digits, where it has 32 bits.
 #[tactic(auto, unfolding(crate::specs::Parameters::number_of_word))]
-pub(crate) fn number_of_word(word: &[u8]) -> Option<u32>
+pub fn number_of_word(word: &[u8]) -> Option<u32>
     ensures { result ≡ number_of_word word.now }
 {
     if !is_number(word) {

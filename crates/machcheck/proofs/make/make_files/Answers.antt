@@ -1,7 +1,7 @@
 use Rattle.std.proofs.Common.{◌⊎◌}
 use Rattle.machcheck.specs.Files.{system_names}
 use Rattle.machcheck.specs.Texts.{system_list}
-use Rattle.machcheck.specs.Told.{OfFiles, ToldNoSystem, ToldUnwritten}
+use Rattle.machcheck.specs.Told.{OfFiles, ToldNoSystem, ToldUnmade}
 use Rattle.machcheck.proofs.ToldLaws.{unread_fault}
 use Rattle.machcheck.proofs.make.make_files.Goals as goal
 
@@ -11,5 +11,5 @@ returns-in-Err-clause-fault g c =
     let held = g.F.Folder.held c.args.folder.now in
     unread_fault held (system_names files.system) _ _ c.unread_told.result
     (λ told. OfFiles system_list (ToldNoSystem files.system) held (system_names files.system) told
-    ⊎ ToldUnwritten files told)
+    ⊎ ToldUnmade files told)
     c.in-Err.ensures.first c.unread_told.ensures.told
