@@ -4,7 +4,10 @@ use Rattle.std.specs.Prelude.{Result, Ok, Err, IfOk}
 use Rattle.std.specs.declared.alloc.AllocError.{AllocError}
 use Rattle.machcheck.specs.declared.command.MakeFiles.{MakeFiles}
 use Rattle.machcheck.specs.declared.told.Told.{Told}
-use Rattle.machcheck.specs.Told.{ToldUnwritten, ToldWorkers, ToldUnmade}
+use Rattle.machcheck.specs.Files.{Held, AreHeld, system_names}
+use Rattle.machcheck.specs.Texts.{SystemTexts, system_list}
+use Rattle.machcheck.specs.Told.{ToldMemory, ToldNoSystem, ToldUnwritten, ToldWorkers}
+use Rattle.machcheck.specs.Told.{ToldUnmade, FaultOfMake}
 
 -- one more reason that may be told
 pub told_either : (r : Result Told AllocError) (files : MakeFiles) (A B : Told → Type 0)
@@ -16,3 +19,17 @@ told_either (Ok told) files A B is = λ two. elim (is two) [
   | inr c ↦ inr (inr (record { why = c }))
 ]
 told_either (Err e) files A B is = is
+
+-- what is told of the texts of some files is told of the files
+pub told_of_held : (r : Result Told AllocError) (held : Held) (files : MakeFiles)
+    (texts : SystemTexts)
+    → AreHeld held (system_names files.system) (system_list texts)
+    → IfOk r (λ told. told.status ≡ 2
+    → ToldMemory told ⊎ (ToldNoSystem files.system texts told ⊎ ToldUnmade files told))
+    → IfOk r (λ told. told.status ≡ 2 → FaultOfMake held files told)
+told_of_held (Ok told) held files texts are is = λ two. elim (is two) [
+  | inl memory ↦ inl memory
+  | inr (inl none) ↦ inr (inr (inl (record { texts = texts; are_held = are; tells = none })))
+  | inr (inr unmade) ↦ inr (inr (inr unmade))
+]
+told_of_held (Err e) held files texts are is = is

@@ -3,6 +3,7 @@ use Rattle.machcheck.specs.Files.{system_names}
 use Rattle.machcheck.specs.Texts.{system_list}
 use Rattle.machcheck.specs.Told.{OfFiles, ToldNoSystem, ToldUnmade}
 use Rattle.machcheck.proofs.ToldLaws.{unread_fault}
+use Rattle.machcheck.proofs.MakeLaws.{told_of_held}
 use Rattle.machcheck.proofs.make.make_files.Goals as goal
 
 pub returns-in-Err-clause-fault : goal.returns-in-Err-clause-fault
@@ -13,3 +14,8 @@ returns-in-Err-clause-fault g c =
     (λ told. OfFiles system_list (ToldNoSystem files.system) held (system_names files.system) told
     ⊎ ToldUnmade files told)
     c.in-Err.ensures.first c.unread_told.ensures.told
+
+pub returns-in-Ok-clause-fault : goal.returns-in-Ok-clause-fault
+returns-in-Ok-clause-fault g c =
+    told_of_held c.make_told.result (g.F.Folder.held c.args.folder.now) c.args.files.now _
+    c.in-Ok.ensures.held c.make_told.ensures.fault
