@@ -516,53 +516,24 @@ fn of_shelf(
 #[test]
 fn files_are_read_in_order(rt: HostRuntime) -> Result<(), Fail> {
     let alloc = rt.alloc();
-    let wiring = ONE.as_bytes();
-    let policy = NOTHING.as_bytes();
+    let wiring = Ok(ONE.as_bytes());
+    let policy = Ok(NOTHING.as_bytes());
+    let alone = Ok(ALONE.as_slice());
     let denied = Err(ErrorKind::PermissionDenied);
     let full = Err(ErrorKind::OutOfMemory);
     for (wiring, policy, certificate, want, order) in [
-        (
-            Ok(wiring),
-            Ok(policy),
-            Ok(ALONE.as_slice()),
-            b"".as_slice(),
-            123,
-        ),
-        (
-            denied,
-            denied,
-            denied,
-            b"machcheck: w: ReadFailed\n".as_slice(),
-            1,
-        ),
-        (
-            Ok(wiring),
-            denied,
-            denied,
-            b"machcheck: p: ReadFailed\n".as_slice(),
-            12,
-        ),
-        (
-            Ok(wiring),
-            Ok(policy),
-            denied,
-            b"machcheck: c: ReadFailed\n".as_slice(),
-            123,
-        ),
-        (
-            Ok(wiring),
-            full,
-            denied,
-            b"machcheck: Memory\n".as_slice(),
-            12,
-        ),
+        (wiring, policy, alone, "", 123),
+        (denied, denied, denied, "machcheck: w: ReadFailed\n", 1),
+        (wiring, denied, denied, "machcheck: p: ReadFailed\n", 12),
+        (wiring, policy, denied, "machcheck: c: ReadFailed\n", 123),
+        (wiring, full, denied, "machcheck: Memory\n", 12),
     ] {
         let mut shelf = no_files(alloc);
         shelf.wiring = wiring;
         shelf.policy = policy;
         shelf.certificate = certificate;
         let (told, opened) = of_shelf(&rt, &mut shelf, &CHECK)?;
-        assert_eq!(rt; told.err.as_slice(), want);
+        assert_eq!(rt; told.err.as_slice(), want.as_bytes());
         assert_eq!(rt; opened, order);
         assert_eq!(rt; told.status, if want.is_empty() { 0 } else { 2 });
     }
@@ -912,11 +883,11 @@ const LIVE: [&str; 11] = [
 const NO_KERNEL_PORT: &[u8] = b"policy 1\nforbid app send task fs\n";
 
 /// What is told of a script of the file server, and the order in which the files were opened.
-fn lived(
+fn lived<'a>(
     rt: &(impl AllocGlobal + Threads + Wait + Sync),
-    policy: &[u8],
-    certificate: &[u8],
-    script: &[u8],
+    policy: &'a [u8],
+    certificate: &'a [u8],
+    script: &'a [u8],
 ) -> Result<(Outcome, u32), Fail> {
     let mut shelf = no_files(rt.alloc());
     shelf.defs = Ok(FILE_SERVER);
