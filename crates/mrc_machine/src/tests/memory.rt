@@ -225,3 +225,35 @@ fn memory_runs_out_at_the_end_of_a_task(rt: HostRuntime) -> Result<(), Fail> {
         ],
     )?)
 }
+
+// A request that is replaced gives its send-once right to the task that made the new one.
+#[test]
+fn what_tasks_hold_after_a_request(rt: HostRuntime) -> Result<(), Fail> {
+    let mut machine = inbox(rt.alloc())?;
+    run_short(
+        &rt,
+        &mut machine,
+        &[
+            (0, "allocate 1 receive 0", "name 5"),
+            (0, "request_notification 1 5 69 0 2 21", "name 0"),
+            (0, "hand 5", "done"),
+            (1, "receive 2 32", "message of 32"),
+            (1, "request_notification 1 3 69 0 0 21", "name 4"),
+            (1, "type 1 4", "type 262144"),
+        ],
+    )?;
+    let shown = machine.shown(rt.alloc())?;
+    let want = [
+        holding(0, 0, PortRight::Send),
+        holding(0, 3, PortRight::Receive),
+        holding(0, 2, PortRight::Send),
+        holding(0, 1, PortRight::Send),
+        holding(1, 1, PortRight::Send),
+        holding(1, 2, PortRight::Receive),
+        holding(1, 4, PortRight::Receive),
+        holding(1, 3, PortRight::SendOnce),
+    ];
+    assert_eq!(rt; shown.held.as_slice(), want.as_slice());
+    assert_eq!(rt; shown.ports, 5);
+    Ok(())
+}
