@@ -1,13 +1,13 @@
 -- Bits of words, and of rows of words.
-use Rattle.std.proofs.Common.{◌≡◌, ℕ, zero, suc, ◌+◌, ◌-◌, ◌*◌, ◌/◌, ◌%◌, ◌^◌, ◌<◌, ◌≤◌, Bool, true, false, List, length, slice_index, slice_set, max, min, refl, ap, sym, subst, ◌∙◌, inl, inr, ◌⊎◌, arith, lit<, ◌==◌}
+use Rattle.std.proofs.Common.{◌≡◌, ℕ, ◌+◌, ◌-◌, ◌*◌, ◌/◌, ◌%◌, ◌^◌, ◌<◌, ◌≤◌, false, List, length, slice_index, slice_set, min, refl, ap, sym, ◌∙◌, inl, inr, ◌⊎◌, arith, lit<, ◌==◌}
 use Rattle.std.specs.Prelude.{◌||◌, ◌&&◌, not, bit_and, bit_or}
 use Rattle.std.specs.Int.{bit_at, w64, bit_not, trailing_zeros}
 use Rattle.std.proofs.lemmas.Bool.{cases_eq, cases_lt, eq-eqb, ne_eqb}
 use Rattle.std.proofs.lemmas.Nat.{div-add-mod', mod_below, pow_pos}
 use Rattle.std.proofs.Math.Nat.{div-le_self}
-use Rattle.std.proofs.lemmas.Nat.Bits.{bit_at_or, bit_at_and, bit_at-lt, bit_at_set_same, bit_at_set_other, bit_at_clear_same, bit_at_clear_other, bit_at_cat_high, bit_at_not, bit_at_above, bit_at-zero, bit_at-trailing_zeros}
-use Rattle.std.proofs.lemmas.List.{get_or-set_same, get_or-set_other, get_or_past}
-use Rattle.mrc_bits.specs.Bits.{is_set, is_fresh, IsNextIn, NoneIn, IsNextBit}
+use Rattle.std.proofs.lemmas.Nat.Bits.{bit_at_and, bit_at-lt, bit_at_set_same, bit_at_set_other, bit_at_clear_same, bit_at_clear_other, bit_at_cat_high, bit_at_not, bit_at_above, bit_at-zero, bit_at-trailing_zeros}
+use Rattle.std.proofs.lemmas.List.{get_or-set_same, get_or-set_other}
+use Rattle.mrc_bits.specs.Bits.{is_set, is_fresh, IsNextIn, NoneIn, IsNextFresh}
 
 -- a bit is 0 or 1
 bit_cases : (n i : ℕ) → (bit_at n i ≡ 0) ⊎ (bit_at n i ≡ 1)
@@ -70,21 +70,65 @@ clear_there words i below j =
       ])
     ]
 
--- the bits of one word that another lacks
-pub fresh_there : (words more : List ℕ) (k i : ℕ) (own : ℕ) → own ≡ slice_index words k → own < 2 ^ 64 → i < 64 → (bit_at (bit_and (slice_index more k) (2 ^ 64 - 1 - own)) i == 1) ≡ is_fresh words more (64 * k + i)
-fresh_there words more k i own is fits below =
-    ap (λ n. n == 1) (bit_at_and (slice_index more k) (2 ^ 64 - 1 - own) i ∙ ap (min (bit_at (slice_index more k) i)) (bit_at_not w64 own i fits below))
-    ∙ (by_cases (bit_at (slice_index more k) i) (bit_at own i) (bit_cases (slice_index more k) i) (bit_cases own i)
-    ∙ (ap (λ w. bit_at (slice_index more k) i == 1 && not (bit_at w i == 1)) is ∙ at_place))
+-- the bits that two words have and a third one lacks
+word_there : (word masked own i : ℕ) → own < 2 ^ 64 → i < 64
+    → (bit_at (bit_and (bit_and word masked) (2 ^ 64 - 1 - own)) i == 1)
+    ≡ ((bit_at word i == 1 && bit_at masked i == 1) && not (bit_at own i == 1))
+word_there word masked own i fits below =
+    ap (λ n. n == 1) (bit_at_and (bit_and word masked) (2 ^ 64 - 1 - own) i
+    ∙ (ap (λ n. min n (bit_at (2 ^ 64 - 1 - own) i)) (bit_at_and word masked i)
+    ∙ ap (min (min (bit_at word i) (bit_at masked i))) (bit_at_not w64 own i fits below)))
+    ∙ by_cases (bit_at word i) (bit_at masked i) (bit_at own i)
+    (bit_cases word i) (bit_cases masked i) (bit_cases own i)
   where
-    by_cases : (a b : ℕ) → (a ≡ 0) ⊎ (a ≡ 1) → (b ≡ 0) ⊎ (b ≡ 1) → (min a (1 - b) == 1) ≡ (a == 1 && not (b == 1))
-    by_cases a b (inl x) (inl y) = rw (x, y) refl
-    by_cases a b (inl x) (inr y) = rw (x, y) refl
-    by_cases a b (inr x) (inl y) = rw (x, y) refl
-    by_cases a b (inr x) (inr y) = rw (x, y) refl
+    by_cases : (a m b : ℕ) → (a ≡ 0) ⊎ (a ≡ 1) → (m ≡ 0) ⊎ (m ≡ 1) → (b ≡ 0) ⊎ (b ≡ 1)
+        → (min (min a m) (1 - b) == 1) ≡ ((a == 1 && m == 1) && not (b == 1))
+    by_cases a m b (inl x) (inl z) (inl y) = rw (x, z, y) refl
+    by_cases a m b (inl x) (inl z) (inr y) = rw (x, z, y) refl
+    by_cases a m b (inl x) (inr z) (inl y) = rw (x, z, y) refl
+    by_cases a m b (inl x) (inr z) (inr y) = rw (x, z, y) refl
+    by_cases a m b (inr x) (inl z) (inl y) = rw (x, z, y) refl
+    by_cases a m b (inr x) (inl z) (inr y) = rw (x, z, y) refl
+    by_cases a m b (inr x) (inr z) (inl y) = rw (x, z, y) refl
+    by_cases a m b (inr x) (inr z) (inr y) = rw (x, z, y) refl
 
-    at_place : (bit_at (slice_index more k) i == 1 && not (bit_at (slice_index words k) i == 1)) ≡ is_fresh words more (64 * k + i)
+-- and the same of rows
+pub fresh_there : (words more mask : List ℕ) (k i own : ℕ) → own ≡ slice_index words k
+    → own < 2 ^ 64 → i < 64
+    → (bit_at (bit_and (bit_and (slice_index more k) (slice_index mask k)) (2 ^ 64 - 1 - own)) i
+    == 1) ≡ is_fresh words more mask (64 * k + i)
+fresh_there words more mask k i own is fits below =
+    word_there (slice_index more k) (slice_index mask k) own i fits below
+    ∙ (ap (λ w. (bit_at (slice_index more k) i == 1 && bit_at (slice_index mask k) i == 1)
+    && not (bit_at w i == 1)) is ∙ at_place)
+  where
+    at_place : ((bit_at (slice_index more k) i == 1 && bit_at (slice_index mask k) i == 1)
+        && not (bit_at (slice_index words k) i == 1)) ≡ is_fresh words more mask (64 * k + i)
     at_place =
         let d : (64 * k + i) / 64 ≡ k = omega arith in
         let m : (64 * k + i) % 64 ≡ i = omega arith in
         rw (d, m) refl
+
+-- the first fresh bit of a word is that of the rows, where none comes before the word
+pub found_fresh : (words more mask : List ℕ) (from place start i word : ℕ)
+    → ((j : ℕ) → j < 64 → (bit_at word j == 1) ≡ is_fresh words more mask (64 * place + j))
+    → IsNextIn word start i
+    → ((j : ℕ) → from ≤ j → j < 64 * place + start → is_fresh words more mask j ≡ false)
+    → from ≤ 64 * place + start → place < length more
+    → IsNextFresh words more mask from (64 * place + i)
+found_fresh words more mask from place start i word shown next none above below = record {
+  from_there = let a = next.from_there in omega arith;
+  below = let b = next.below in omega arith;
+  fresh = sym (shown i next.below) ∙ ap (λ b. b == 1) next.set;
+  first = λ j low under. elim (cases_lt j (64 * place + start)) [
+    | inl before ↦ none j low before
+    | inr behind ↦
+        let b = next.below in
+        let at : 64 * place + (j - 64 * place) ≡ j = omega arith in
+        let near : j - 64 * place < i = omega arith in
+        let far : start ≤ j - 64 * place = omega arith in
+        ap (is_fresh words more mask) (sym at)
+        ∙ (sym (shown (j - 64 * place) (omega arith))
+        ∙ ap (λ b. b == 1) (next.first (j - 64 * place) far near))
+  ];
+}

@@ -72,24 +72,27 @@ fn word_at(words: &[u64], k: usize) -> u64
     }
 }
 
-/// The bits of a word of `more` that are not set in `words`.
-fn fresh_word(words: &[u64], more: &[u64], k: usize) -> u64
-    requires { k < length more.now }
-    ensures { (i : ℕ) → i < 64 → (bit_at result i == 1) ≡ is_fresh words.now more.now (64 * k + i) }
+/// The bits of a word that both `more` and `mask` have, and that are not set in `words`.
+fn fresh_word(words: &[u64], more: &[u64], mask: &[u64], k: usize) -> u64
+    requires more { k < length more.now }
+    requires mask { k < length mask.now }
+    ensures { (i : ℕ) → i < 64 →
+        (bit_at result i == 1) ≡ is_fresh words.now more.now mask.now (64 * k + i) }
 {
-    more[k] & !word_at(words, k)
+    (more[k] & mask[k]) & !word_at(words, k)
 }
 
-/// The first bit of `more` from this one on that is not set in `words`.
-pub fn next_fresh(words: &[u64], more: &[u64], from: usize) -> Option<usize>
+/// The first bit from this one on that both `more` and `mask` have, and that is not set in `words`.
+pub fn next_fresh(words: &[u64], more: &[u64], mask: &[u64], from: usize) -> Option<usize>
     requires { 64 * length more.now < 2 ^ 64 }
-    ensures found { IfSome result (IsNextFresh words.now more.now from) }
-    ensures none { IfNone result ((j : ℕ) → from ≤ j → is_fresh words.now more.now j ≡ false) }
+    ensures found { IfSome result (IsNextFresh words.now more.now mask.now from) }
+    ensures none { IfNone result
+        ((j : ℕ) → from ≤ j → is_fresh words.now more.now mask.now j ≡ false) }
 {
     let mut place = from / 64;
     let mut start = (from % 64) as u32;
-    while place < more.len() {
-        if let Some(i) = next_in_word(fresh_word(words, more, place), start) {
+    while place < more.len() && place < mask.len() {
+        if let Some(i) = next_in_word(fresh_word(words, more, mask, place), start) {
             return Some(64 * place + i as usize);
         }
         place += 1;

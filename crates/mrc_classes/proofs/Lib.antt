@@ -1,6 +1,10 @@
 pub mod Adding
 pub mod Concluding
-pub mod Premises
+pub mod Joined
+pub mod Spreads
+pub mod Turning
+pub mod Following
 pub mod Beginning
 pub mod Missed
 pub mod Justified
+pub mod FirstPassing

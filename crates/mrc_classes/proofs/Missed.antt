@@ -393,7 +393,7 @@ module _ (W : Wiring) (S : Fact → Bool) where
         | false ↦ λ e.
             let t = tested W S k premises g rule all within in
             let l = lacks_at k g t within e in
-            absurd (nothing t.rule t.row t.class t.right l.0 l.1 l.2)
+            absurd (nothing t.rule t.row l.0 t.class t.right l.1 l.2)
       ] refl
 
   -- the first lack is the first missing fact
@@ -405,35 +405,35 @@ module _ (W : Wiring) (S : Fact → Bool) where
     where
       missing : IsMissing W S (rule_number rule) f
       missing =
-          subst (λ y. IsMissing W S (rule_number rule) y) (sym x.is)
+          subst (λ y. IsMissing W S (rule_number rule) y) (sym x.lack.is)
           (record {
-            follows = concluded W S rule x.row x.class x.right x.row_there x.class_there
-                x.lacks.concluded;
-            absent = x.lacks.absent;
+            follows = concluded W S rule x.row x.lack.class x.lack.right x.row_there x.lack.class_there
+                x.lack.lacks.concluded;
+            absent = x.lack.lacks.absent;
           })
 
       none_before : (row c : ℕ) (q : PortRight)
           → c < classes W
           → Lacks W S rule row c q
-          → IsLess row c (right_number q) x.row x.class (right_number x.right)
+          → IsLess row c (right_number q) x.row x.lack.class (right_number x.lack.right)
           → ⊥
-      none_before row c q high l (inl low) = x.least_row row c q low high l
+      none_before row c q high l (inl low) = x.least_row row low c q high l
       none_before row c q high l (inr (same, inl low)) =
-          x.least_class c q low (subst (λ n. Lacks W S rule n c q) same l)
+          x.lack.least_class c q low (subst (λ n. Lacks W S rule n c q) same l)
       none_before row c q high l (inr (same, inr (also, low))) =
-          x.least_right q low (subst (λ n. Lacks W S rule n x.class q) same
+          x.lack.least_right q low (subst (λ n. Lacks W S rule n x.lack.class q) same
           (subst (λ n. Lacks W S rule row n q) also l))
 
       not_before : (row c : ℕ) (q : PortRight)
           → c < classes W
           → Lacks W S rule row c q
-          → is_before (conclusion rule row c q) (conclusion rule x.row x.class x.right) ≡ false
+          → is_before (conclusion rule row c q) (conclusion rule x.row x.lack.class x.lack.right) ≡ false
       not_before row c q high l =
-          elim (is_before (conclusion rule row c q) (conclusion rule x.row x.class x.right)) as
-          (λ b. is_before (conclusion rule row c q) (conclusion rule x.row x.class x.right) ≡ b
+          elim (is_before (conclusion rule row c q) (conclusion rule x.row x.lack.class x.lack.right)) as
+          (λ b. is_before (conclusion rule row c q) (conclusion rule x.row x.lack.class x.lack.right) ≡ b
           → b ≡ false) [
             | true ↦ λ e. absurd (none_before row c q high l
-                (less_place rule row c q x.row x.class x.right e))
+                (less_place rule row c q x.row x.lack.class x.lack.right e))
             | false ↦ λ e. refl
           ] refl
 
@@ -448,11 +448,11 @@ module _ (W : Wiring) (S : Fact → Bool) where
           (λ q. Lacks W S q t.row t.class t.right) one l.2 in
           let at : is_before (conclusion t.rule t.row t.class t.right) f ≡ false = subst
           (λ q. is_before (conclusion q t.row t.class t.right) f ≡ false) (sym one)
-          (subst (λ y. is_before (conclusion rule t.row t.class t.right) y ≡ false) (sym x.is)
+          (subst (λ y. is_before (conclusion rule t.row t.class t.right) y ≡ false) (sym x.lack.is)
           (not_before t.row t.class t.right l.1 lacks)) in
           inr (sym same, subst (λ y. is_before y f ≡ false) (sym t.is) at)
       compared j g t l (inr (inl low)) =
-          absurd (earlier t.rule (omega (arith, t.number)) t.row t.class t.right l.0 l.1 l.2)
+          absurd (earlier t.rule (omega (arith, t.number)) t.row l.0 t.class t.right l.1 l.2)
       compared j g t l (inr (inr high)) = inl high
 
       least : (j : ℕ) (g : Fact)

@@ -103,21 +103,37 @@ pub record Lacks (W : Wiring) (S : Fact → Bool) (rule : RuleName) (row c : ℕ
   pub concluded : Concludes W S rule row c r
   pub absent : S (conclusion rule row c r) ≡ false
 
+-- the set has each fact over the wiring's classes that the rule concludes in this row
+abbrev pub LacksNoneIn : Wiring → (Fact → Bool) → RuleName → ℕ → Type 0
+LacksNoneIn W S rule row = (c : ℕ) (r : PortRight) → c < classes W → Lacks W S rule row c r → ⊥
+
 -- the set has each fact over the tasks and classes that the rule concludes
 abbrev pub LacksNothing : Wiring → (Fact → Bool) → RuleName → Type 0
-LacksNothing W S rule =
-    (row c : ℕ) (r : PortRight) → row < rows W rule → c < classes W → Lacks W S rule row c r → ⊥
+LacksNothing W S rule = (row : ℕ) → row < rows W rule → LacksNoneIn W S rule row
+
+-- the set lacks this fact by the rule in this row, and none before it there
+pub record IsRowLack (W : Wiring) (S : Fact → Bool) (rule : RuleName) (row : ℕ) (f : Fact)
+    : Type 0 where
+  pub class : ℕ
+  pub right : PortRight
+  pub is : f ≡ conclusion rule row class right
+  pub class_there : class < classes W
+  pub lacks : Lacks W S rule row class right
+  pub least_class : (c : ℕ) (q : PortRight) → c < class → Lacks W S rule row c q → ⊥
+  pub least_right : (q : PortRight) → right_number q < right_number right
+      → Lacks W S rule row class q → ⊥
+
+-- the set lacks some fact by the rule in this row, which the rule has
+pub record IsLackingRow (W : Wiring) (S : Fact → Bool) (rule : RuleName) (row : ℕ) : Type 0 where
+  pub row_there : row < rows W rule
+  pub class : ℕ
+  pub right : PortRight
+  pub class_there : class < classes W
+  pub lacks : Lacks W S rule row class right
 
 -- the set lacks this fact by the rule, and none before it
 pub record IsFirstLack (W : Wiring) (S : Fact → Bool) (rule : RuleName) (f : Fact) : Type 0 where
   pub row : ℕ
-  pub class : ℕ
-  pub right : PortRight
-  pub is : f ≡ conclusion rule row class right
   pub row_there : row < rows W rule
-  pub class_there : class < classes W
-  pub lacks : Lacks W S rule row class right
-  pub least_row : (t c : ℕ) (q : PortRight) → t < row → c < classes W → Lacks W S rule t c q → ⊥
-  pub least_class : (c : ℕ) (q : PortRight) → c < class → Lacks W S rule row c q → ⊥
-  pub least_right : (q : PortRight) → right_number q < right_number right
-      → Lacks W S rule row class q → ⊥
+  pub lack : IsRowLack W S rule row f
+  pub least_row : (t : ℕ) → t < row → LacksNoneIn W S rule t

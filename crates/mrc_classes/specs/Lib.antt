@@ -1,6 +1,7 @@
 pub mod Following
 pub mod Growing
 pub mod Parts
+pub mod Spreading
 pub mod Missing
 pub mod Lacks
 pub mod Instances

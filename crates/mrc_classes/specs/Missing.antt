@@ -1,6 +1,6 @@
 -- What a set of facts lacks by the ten rules, and which lack is the first. This profile's own
 -- choice.
-use Rattle.std.specs.Prelude.{◌≡◌, ℕ, ◌<◌, ◌⊎◌, Bool, false, Option, Some, None}
+use Rattle.std.specs.Prelude.{◌≡◌, ℕ, ◌<◌, ◌⊎◌, Bool, false, List, Option, Some, None}
 use Rattle.mrc_base.specs.declared.Fact.{Fact}
 use Rattle.mrc_model.specs.Wiring.{Wiring}
 use Rattle.mrc_model.specs.Rules.{Has, Follows, Closed}
@@ -10,6 +10,11 @@ use Rattle.mrc_classes.specs.declared.rule_names.RuleName.TheVariants.{First, Bi
 use Rattle.mrc_classes.specs.declared.rule_names.RuleName.TheVariants.{Reply, Received, KernelPort}
 use Rattle.mrc_classes.specs.declared.rule_names.RuleName.TheVariants.{Request, Notice, Returned}
 use Rattle.mrc_classes.specs.declared.lacking.Missing.{Missing}
+
+-- a wiring, and the set in which what is missing is looked for
+pub record Searched : Type 0 where
+  pub wiring : Wiring
+  pub facts : List Fact
 
 -- the number of a rule
 abbrev pub rule_number : RuleName → ℕ

@@ -1,19 +1,15 @@
 -- What follows from a fact with those of a set, rule by rule and place by place. W is the wiring,
 -- S tells the facts of the set. This profile's own choice.
-use Rattle.std.specs.Prelude.{◌≡◌, ℕ, ◌-◌, ◌<◌, ◌⊎◌, Bool, true, ◌&&◌, ◌||◌, List, Some}
+use Rattle.std.specs.Prelude.{◌≡◌, ℕ, ◌-◌, ◌<◌, ◌⊎◌, Bool, true, ◌&&◌, ◌||◌, List, Some, IsTrue}
 use Rattle.mrc_base.specs.declared.PortRight.{PortRight}
 use Rattle.mrc_base.specs.declared.PortRight.TheVariants.{Send, Receive, SendOnce}
-use Rattle.mrc_base.specs.declared.Disp.{Disp}
-use Rattle.mrc_base.specs.declared.Disp.TheVariants.{MoveReceive, MoveSend, MoveSendOnce, CopySend}
-use Rattle.mrc_base.specs.declared.Disp.TheVariants.{MakeSend, MakeSendOnce}
-use Rattle.mrc_base.specs.Disposition.{needed, given}
 use Rattle.mrc_base.specs.declared.Fact.{Fact}
 use Rattle.mrc_base.specs.declared.Fact.TheVariants.{Hold, Carry, Backup}
 use Rattle.mrc_model.specs.IsIn.{IsIn}
 use Rattle.mrc_model.specs.Wiring.{Wiring, classes, births_class, kernel_class, is_kernel_class}
-use Rattle.mrc_model.specs.Wiring.{accepts_routine, accepts_destroyed}
+use Rattle.mrc_model.specs.Wiring.{accepts_destroyed}
 use Rattle.mrc_model.specs.Conclusions.{same_right, can_send}
-use Rattle.mrc_wiring.specs.Slots.{takes}
+use Rattle.mrc_slots.specs.Passing.{passes, is_passed}
 use Rattle.mrc_classes.specs.Growing.{Only, If, Below}
 
 -- without premises
@@ -37,46 +33,51 @@ pub record IsBirth (W : Wiring) (c : ℕ) (g : Fact) : Type 0 where
   pub birth : births_class W task kind ≡ Some c
   pub is : g ≡ Hold task c Receive
 
--- of a task that holds r on class d and q on class c
+-- of a task that holds a right on a class
 
 -- one for each of the three rights
 abbrev pub EachRight : (PortRight → Fact → Type 0) → Fact → Type 0
 EachRight P g = P Send g ⊎ (P Receive g ⊎ P SendOnce g)
 
--- what a slot of this disposition carries to class d
-abbrev pub BySlot : Wiring → ℕ → PortRight → ℕ → PortRight → Disp → Fact → Type 0
-BySlot W d r c q x =
-    Only (can_send r && (same_right (needed x) q && takes W d x c)) (Carry d c (given x))
+-- what class d takes of what t holds by the right q: by a slot, or as a reply right
+pub record SentTo (W : Wiring) (S : Fact → Bool) (t d : ℕ) (q : PortRight) (g : Fact) : Type 0 where
+  pub class : ℕ
+  pub below : class < classes W
+  pub held : IsTrue (S (Hold t class q))
+  pub give : PortRight
+  pub passed : IsTrue (passes W d class q give)
+  pub is : g ≡ Carry d class give
 
--- what slots carry to class d
-abbrev pub BySlots : Wiring → ℕ → PortRight → ℕ → PortRight → Fact → Type 0
-BySlots W d r c q g =
-    BySlot W d r c q MoveReceive g ⊎ (BySlot W d r c q MoveSend g
-    ⊎ (BySlot W d r c q MoveSendOnce g ⊎ (BySlot W d r c q CopySend g
-    ⊎ (BySlot W d r c q MakeSend g ⊎ BySlot W d r c q MakeSendOnce g))))
+-- what the classes on which t holds the right r take of the right q on class c
+pub record SentBy (W : Wiring) (S : Fact → Bool) (t c : ℕ) (q r : PortRight) (g : Fact) : Type 0 where
+  pub to : ℕ
+  pub below : to < classes W
+  pub held : IsTrue (S (Hold t to r))
+  pub give : PortRight
+  pub passed : IsTrue (passes W to c q give)
+  pub is : g ≡ Carry to c give
 
--- what comes to class d as a reply right
-abbrev pub ByReply : Wiring → ℕ → PortRight → ℕ → PortRight → Fact → Type 0
-ByReply W d r c q =
-    Only (can_send r && (same_right q SendOnce && accepts_routine W d)) (Carry d c SendOnce)
+-- what is carried to class d, where t can send to it by the right r
+abbrev pub BySend : Wiring → (Fact → Bool) → ℕ → ℕ → PortRight → Fact → Type 0
+BySend W S t d r = If (can_send r) (EachRight (SentTo W S t d))
 
--- a request for a port-destroyed notice
-abbrev pub ByRequest : Wiring → ℕ → PortRight → ℕ → PortRight → Fact → Type 0
-ByRequest W d r c q =
-    Only (same_right r Receive && (same_right q SendOnce && accepts_destroyed W c)) (Backup d c)
+-- what is carried of the right q on class c to each class to which t can send
+abbrev pub BySent : Wiring → (Fact → Bool) → ℕ → ℕ → PortRight → Fact → Type 0
+BySent W S t c q g = SentBy W S t c q Send g ⊎ SentBy W S t c q SendOnce g
 
--- slots, replies and requests
-abbrev pub ByPair : Wiring → ℕ → PortRight → ℕ → PortRight → Fact → Type 0
-ByPair W d r c q g = BySlots W d r c q g ⊎ (ByReply W d r c q g ⊎ ByRequest W d r c q g)
+-- the request that a port of class c be told to class d, where t receives at class c
+abbrev pub RequestAt : Wiring → (Fact → Bool) → ℕ → ℕ → ℕ → Fact → Type 0
+RequestAt W S t c d = Only (S (Hold t d SendOnce) && accepts_destroyed W d) (Backup c d)
 
--- where task t holds q on class c as well as r on class d: both orders
-abbrev pub PairedBy : Wiring → (Fact → Bool) → ℕ → ℕ → PortRight → ℕ → PortRight → Fact → Type 0
-PairedBy W S t d r c q =
-    If (S (Hold t c q)) (λ g. ByPair W d r c q g ⊎ ByPair W c q d r g)
+-- the same, where t has a send-once right on class d
+abbrev pub RequestTo : (Fact → Bool) → ℕ → ℕ → ℕ → Fact → Type 0
+RequestTo S t d c = Only (S (Hold t c Receive)) (Backup c d)
 
--- whichever right it holds on class c
-abbrev pub PairedAt : Wiring → (Fact → Bool) → ℕ → ℕ → PortRight → ℕ → Fact → Type 0
-PairedAt W S t d r c = EachRight (λ q. PairedBy W S t d r c q)
+-- requests for port-destroyed notices
+abbrev pub ByRequests : Wiring → (Fact → Bool) → ℕ → ℕ → PortRight → Fact → Type 0
+ByRequests W S t c r g =
+    If (same_right r Receive) (Below (classes W) (RequestAt W S t c)) g
+    ⊎ If (same_right r SendOnce && accepts_destroyed W c) (Below (classes W) (RequestTo S t c)) g
 
 -- of tasks of which one holds the kernel port of the other
 
@@ -123,16 +124,33 @@ ByReceive W S t c g =
 
 -- of a fact
 
--- all that a hold is a premise of
+-- all that a hold is a premise of, but what is sent of it
 abbrev pub ByHold : Wiring → (Fact → Bool) → ℕ → ℕ → PortRight → Fact → Type 0
 ByHold W S t c r g =
-    Below (classes W) (PairedAt W S t c r) g ⊎ (Below W.tasks (PartnerAt W S t c r) g
+    BySend W S t c r g ⊎ (ByRequests W S t c r g ⊎ (Below W.tasks (PartnerAt W S t c r) g
     ⊎ (If (same_right r Receive) (ByReceive W S t c) g
-    ⊎ If (is_link W c r) (ByLink W S t (c - W.ports)) g))
+    ⊎ If (is_link W c r) (ByLink W S t (c - W.ports)) g)))
 
--- all that a fact is a premise of
+-- all that a fact is a premise of, but what is sent of it
 abbrev pub ByFact : Wiring → (Fact → Bool) → Fact → Fact → Type 0
 ByFact W S (Hold t c r) g = ByHold W S t c r g
 ByFact W S (Carry d c r) g = Below W.tasks (ReceiverAt S d c r) g
 ByFact W S (Backup c d) g =
     Only true (Carry d c Receive) g ⊎ Below W.tasks (ReceiverAt S c d SendOnce) g
+
+-- what is sent of a hold
+abbrev pub OfFact : Wiring → (Fact → Bool) → Fact → Fact → Type 0
+OfFact W S (Hold t c r) g = BySent W S t c r g
+OfFact W S (Carry d c r) g = ⊥
+OfFact W S (Backup c d) g = ⊥
+
+-- the right that class c takes of a right on itself
+abbrev pub CarriedToItself : Wiring → ℕ → PortRight → PortRight → Fact → Type 0
+CarriedToItself W c r give = Only (can_send r && is_passed W c c r give) (Carry c c give)
+
+-- what a fact is both premises of
+abbrev pub ByItself : Wiring → Fact → Fact → Type 0
+ByItself W (Hold t c r) g =
+    EachRight (CarriedToItself W c r) g ⊎ Only (is_link W c r) (Hold (c - W.ports) c r) g
+ByItself W (Carry d c r) g = ⊥
+ByItself W (Backup c d) g = ⊥

@@ -17,7 +17,7 @@ ghost use Rattle.mrc_classes.specs.Parts.{are_linked};
 ghost use Rattle.mrc_classes.specs.Lacks.{conclusion, rows, can_send_to, IsSender, IsCarriedBy};
 ghost use Rattle.mrc_classes.specs.Lacks.{IsReceiver, IsReceived, IsShared, IsReturned};
 ghost use Rattle.mrc_classes.specs.Lacks.{IsBirthClass, Concludes, Lacks, LacksNothing};
-ghost use Rattle.mrc_classes.specs.Lacks.{IsFirstLack};
+ghost use Rattle.mrc_classes.specs.Lacks.{LacksNoneIn, IsRowLack, IsFirstLack};
 ghost use Rattle.mrc_classes.specs.Missing.{rule_number, IsAnswer};
 ghost use Rattle.mrc_classes.specs.declared.rule_names.RuleName.{RuleName};
 
@@ -29,6 +29,7 @@ use mrc_base::{ClassId, Disp, Fact, PortRight, need};
 use mrc_rows::Facts;
 use mrc_wiring::Wired;
 use std::alloc::{AllocError, Global};
+use std::marker::Model;
 
 /// A conclusion that a set lacks, with its rule.
 #[derive(Clone, Copy, Debug, PartialEq, Eq)]
@@ -285,34 +286,89 @@ fn lacking_class(
     None
 }
 
+/// A search for what a set lacks by the ten rules, of one rule and one row at a time. Memory is
+/// taken when it begins, for what is held at first.
+#[derive(Drop)]
+pub struct Search<'a> {
+    wired: &'a Wired,
+    facts: &'a Facts,
+    first: Facts,
+}
+
+impl<'a> Model for Search<'a> {
+    ghost use Rattle.mrc_wiring.specs.Table.{wiring_of};
+    ghost use Rattle.mrc_classes.specs.Following.{IsListOf, IsHeldAtFirst};
+    ghost use Rattle.mrc_classes.specs.Missing.{Searched};
+
+    ghost Value = { Searched };
+
+    ghost view = { λ s. record { wiring = wiring_of s.wired.now; facts = s.facts.now } };
+
+    ghost invariant = { λ s. IsListOf (IsHeldAtFirst (wiring_of s.wired.now)) s.first };
+}
+
+impl<'a> Search<'a> {
+    /// A search through the set.
+    pub fn new(alloc: Global, wired: &'a Wired, facts: &'a Facts) -> Result<Search<'a>, AllocError>
+        ensures { IfOk result (λ search.
+            search ≡ record { wiring = wiring_of wired.now; facts = facts.now }) }
+    {
+        let first = held_at_first(alloc, wired)?;
+        Ok(Search {
+            wired,
+            facts,
+            first,
+        })
+    }
+
+    /// How many rows the rule has: one for each task, or one for each class, as its conclusions are.
+    pub fn rows(&self, rule: RuleName) -> u16
+        ensures { result ≡ rows self.now.wiring rule }
+    {
+        rows(self.wired, rule)
+    }
+
+    /// The least fact of a row that the rule concludes and that the set lacks. It takes no memory.
+    pub fn violation_row(&self, rule: RuleName, row: u16) -> Option<Fact>
+        ensures found { IfSome result (λ f. (row < rows self.now.wiring rule)
+            × IsRowLack self.now.wiring (has self.now.facts) rule row f) }
+        ensures none { IfNone result (row < rows self.now.wiring rule →
+            LacksNoneIn self.now.wiring (has self.now.facts) rule row) }
+    {
+        if row >= self.rows(rule) {
+            return None;
+        }
+        let (class, right) = lacking_class(self.wired, &self.first, self.facts, rule, row)?;
+        Some(conclusion(rule, row, class, right))
+    }
+}
+
 /// The first fact that the rule concludes and that the set lacks.
-fn first_lack(wired: &Wired, first: &Facts, facts: &Facts, rule: RuleName) -> Option<Fact>
-    requires held { IsListOf (IsHeldAtFirst (wiring_of wired.now)) first.now }
-    ensures found { IfSome result (IsFirstLack (wiring_of wired.now) (has facts.now) rule) }
-    ensures none { IfNone result (LacksNothing (wiring_of wired.now) (has facts.now) rule) }
+fn first_lack(search: &Search<'_>, rule: RuleName) -> Option<Fact>
+    ensures found { IfSome result (IsFirstLack search.now.wiring (has search.now.facts) rule) }
+    ensures none { IfNone result (LacksNothing search.now.wiring (has search.now.facts) rule) }
 {
-    for row in 0..rows(wired, rule) {
-        if let Some((class, right)) = lacking_class(wired, first, facts, rule, row) {
-            return Some(conclusion(rule, row, class, right));
+    for row in 0..search.rows(rule) {
+        if let Some(fact) = search.violation_row(rule, row) {
+            return Some(fact);
         }
     }
     None
 }
 
 /// The first lack by the rules in their order.
-fn first_missing(wired: &Wired, first: &Facts, facts: &Facts) -> Option<Missing>
-    requires held { IsListOf (IsHeldAtFirst (wiring_of wired.now)) first.now }
+fn first_missing(search: &Search<'_>) -> Option<Missing>
     ensures found { IfSome result (λ m.
-        IsFirstLack (wiring_of wired.now) (has facts.now) m.rule m.fact) }
+        IsFirstLack search.now.wiring (has search.now.facts) m.rule m.fact) }
     ensures earlier { IfSome result (λ m. (rule : RuleName) →
         rule_number rule < rule_number m.rule →
-        LacksNothing (wiring_of wired.now) (has facts.now) rule) }
+        LacksNothing search.now.wiring (has search.now.facts) rule) }
     ensures none { IfNone result ((rule : RuleName) →
-        LacksNothing (wiring_of wired.now) (has facts.now) rule) }
+        LacksNothing search.now.wiring (has search.now.facts) rule) }
 {
     for number in 1..11u8 {
         let rule = rule_of(number);
-        if let Some(fact) = first_lack(wired, first, facts, rule) {
+        if let Some(fact) = first_lack(search, rule) {
             return Some(Missing { rule, fact });
         }
     }
@@ -325,6 +381,6 @@ fn first_missing(wired: &Wired, first: &Facts, facts: &Facts) -> Option<Missing>
 pub fn violation(alloc: Global, wired: &Wired, facts: &Facts) -> Result<Option<Missing>, AllocError>
     ensures { IfOk result (IsAnswer (wiring_of wired.now) (has facts.now)) }
 {
-    let first = held_at_first(alloc, wired)?;
-    Ok(first_missing(wired, &first, facts))
+    let search = Search::new(alloc, wired, facts)?;
+    Ok(first_missing(&search))
 }

@@ -3,19 +3,25 @@
 
 mod conclude;
 mod first_facts;
+mod found;
 mod instances;
 mod lacking;
+mod premise_set;
 mod rights;
 mod rule_names;
+mod searching;
 
 pub use conclude::{consequences, with_consequences};
 pub use first_facts::first_rules;
+pub use found::Found;
 pub use instances::{FewFacts, Instance, instance_of};
-pub use lacking::{Missing, violation};
+pub use lacking::{Missing, Search, violation};
 pub use mrc_base::Fact;
 pub use mrc_rows::Facts;
 pub use mrc_slots::Slots;
+pub use premise_set::Premises;
 pub use rule_names::RuleName;
+pub use searching::violation_by;
 
 #[cfg(test)]
 mod rule_tests;

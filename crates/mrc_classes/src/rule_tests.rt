@@ -302,6 +302,29 @@ fn facts_out_of_range_are_let_be(rt: HostRuntime) -> Result<(), Fail> {
     Ok(())
 }
 
+#[test]
+fn threads_find_the_first(rt: HostRuntime) -> Result<(), Fail> {
+    let alloc = rt.alloc();
+    let wired = wired(alloc, TWO)?;
+    for (rule, fact) in [
+        (RuleName::First, hold(1, 1, PortRight::Send)),
+        (RuleName::Births, hold(1, 3, PortRight::Receive)),
+        (RuleName::Weaker, hold(1, 2, PortRight::Send)),
+        (RuleName::KernelPort, hold(1, 0, PortRight::Send)),
+    ] {
+        let facts = changed(alloc, &Some(fact), &[])?;
+        let want = Some(Missing { rule, fact });
+        assert_eq!(rt; violation_by(&rt, alloc, &wired, &facts)?, want);
+        let search = Search::new(alloc, &wired, &facts)?;
+        assert_eq!(rt; search.rows(rule), 2);
+        assert_eq!(rt; search.violation_row(rule, 0), None);
+        assert_eq!(rt; search.violation_row(rule, 1), Some(fact));
+        assert_eq!(rt; search.violation_row(rule, 2), None);
+    }
+    assert_eq!(rt; violation_by(&rt, alloc, &wired, &both(alloc)?)?, None);
+    Ok(())
+}
+
 // Where an allocation of these calls is refused, they say so.
 #[test]
 fn memory_that_runs_out_is_told(rt: HostRuntime) -> Result<(), Fail> {
@@ -315,6 +338,9 @@ fn memory_that_runs_out_is_told(rt: HostRuntime) -> Result<(), Fail> {
         assert_eq!(rt; found.len(), 2);
     }
     if let Ok(lack) = violation(alloc, &wired, &Facts::new(alloc)) {
+        assert!(rt; lack.is_some());
+    }
+    if let Ok(lack) = violation_by(&rt, alloc, &wired, &Facts::new(alloc)) {
         assert!(rt; lack.is_some());
     }
     Ok(())

@@ -14,7 +14,7 @@ use Rattle.mrc_facts.specs.Sets.{has}
 use Rattle.mrc_classes.specs.Following.{IsConsequence, IsFirstFact, IsListOf}
 use Rattle.mrc_classes.specs.Instances.{premise_list, IsInstance}
 use Rattle.mrc_facts.proofs.Total.{equal_from_same, same_itself}
-use Rattle.mrc_classes.proofs.Premises.{all_as}
+use Rattle.mrc_classes.proofs.Following.{all_as}
 use Rattle.mrc_closure.specs.declared.chains.Link.{Link}
 use Rattle.mrc_closure.specs.Merging.{FromOne, Merged}
 use Rattle.mrc_closure.specs.Orders.{IsFollowing, IsOnce, IsOrder, HaveSame, link_instance}

@@ -3,14 +3,15 @@ use Rattle.std.proofs.Common.{◌≡◌, ℕ, not, ◌==◌, ◌+◌, ◌<◌, B
 use Rattle.std.proofs.Common.{◌∷◌, ◌++◌, length, take, add-zero, if◌then◌else◌, slice_index_or}
 use Rattle.std.proofs.Common.{refl, ap, sym, subst, ◌∙◌}
 use Rattle.std.proofs.Common.{IsTrue, ◌⊎◌, inl, inr, arith}
-use Rattle.std.specs.Prelude.{◌||◌}
+use Rattle.std.specs.Prelude.{◌||◌, ◌↔◌, ◌≤◌, Result, Ok, Err, IfOk}
+use Rattle.std.specs.declared.alloc.AllocError.{AllocError}
 use Rattle.std.specs.List.{AllByRecursion}
 use Rattle.std.proofs.lemmas.Bool.{or_cases, or_left, or_right, true≢false, ne_eqb}
-use Rattle.std.proofs.lemmas.List.{take_more}
+use Rattle.std.proofs.lemmas.List.{take_more, take_all}
 use Rattle.mrc_base.specs.declared.Fact.{Fact}
 use Rattle.mrc_model.specs.IsIn.{IsIn, here, later}
 use Rattle.mrc_model.specs.Wiring.{Wiring}
-use Rattle.mrc_model.specs.Rules.{Has, InRange, Rule, Closed, Least, IsLeast}
+use Rattle.mrc_model.specs.Rules.{FactSet, Has, InRange, Rule, Closed, Least, IsLeast}
 use Rattle.mrc_model.proofs.Concluding.{in_left, in_right, in_append}
 use Rattle.mrc_model.proofs.FirstHeld.{in_one}
 use Rattle.mrc_facts.specs.Order.{is_same}
@@ -18,7 +19,7 @@ use Rattle.mrc_facts.specs.Sets.{has, IsAscending}
 use Rattle.mrc_classes.specs.Growing.{Added}
 use Rattle.mrc_classes.specs.Following.{IsConsequence, IsFirstFact, IsListOf}
 use Rattle.mrc_facts.proofs.Total.{equal_from_same, same_itself}
-use Rattle.mrc_classes.proofs.Premises.{all_as}
+use Rattle.mrc_classes.proofs.Following.{all_as}
 use Rattle.mrc_closure.specs.Merging.{FromOne, Merged}
 use Rattle.mrc_closure.proofs.Cuts.{cut_none, IsCutLeft, cut_push, in_of_has}
 
@@ -381,20 +382,24 @@ at_rest W facts round = record {
   least = λ g h. (round.derived g h).1;
 }
 
+-- the test tells these facts
+abbrev pub AreThose : FactSet → (Fact → Bool) → Type 0
+AreThose F S = (g : Fact) → IsTrue (S g) ↔ F g
+
 -- one more of the new facts
 pub one_more : (W : Wiring) (facts new : List Fact) (i : ℕ) (f : Fact)
     → i < length new
     → f ≡ slice_index_or new i f
-    → (found found_then : List Fact)
-    → IsListOf (FromOne W facts (take i new)) found
-    → Added (has found) (has found_then) (IsConsequence W (Has (has facts)) f)
-    → IsListOf (FromOne W facts (take (i + 1) new)) found_then
+    → (found found_then : Fact → Bool)
+    → AreThose (FromOne W facts (take i new)) found
+    → Added found found_then (IsConsequence W (Has (has facts)) f)
+    → AreThose (FromOne W facts (take (i + 1) new)) found_then
 one_more W facts new i f below is found found_then before step g = (there, back)
   where
     more : take (i + 1) new ≡ take i new ++ f ∷ []
     more = take_more new i f below ∙ ap (λ x. take i new ++ x ∷ []) (sym is)
 
-    there : IsTrue (has found_then g) → FromOne W facts (take (i + 1) new) g
+    there : IsTrue (found_then g) → FromOne W facts (take (i + 1) new) g
     there h = elim (step.new g h) [
       | inl old ↦ let x = (before g).0 old in
           record {
@@ -410,7 +415,7 @@ one_more W facts new i f below is found found_then before step g = (there, back)
       }
     ]
 
-    back : FromOne W facts (take (i + 1) new) g → IsTrue (has found_then g)
+    back : FromOne W facts (take (i + 1) new) g → IsTrue (found_then g)
     back x = elim (in_push x.premise f (take i new)
         (subst (λ xs. IsIn x.premise xs) more x.there)) [
           | inl old ↦ step.kept g ((before g).1
@@ -418,8 +423,24 @@ one_more W facts new i f below is found found_then before step g = (there, back)
           | inr e ↦ step.all g (subst (λ p. IsConsequence W (Has (has facts)) p g) e x.consequence)
         ]
 
-pub none_yet : (W : Wiring) (facts : List Fact) → IsListOf (FromOne W facts []) []
-none_yet W facts g = ((λ h. absurd cc), (λ x. elim x.there [ ]))
+pub none_yet : (W : Wiring) (facts : List Fact) (found : Fact → Bool)
+    → ((g : Fact) → found g ≡ false)
+    → AreThose (FromOne W facts []) found
+none_yet W facts found none g =
+    ((λ h. absurd (true≢false (sym h ∙ none g))), (λ x. elim x.there [ ]))
+
+-- all of them, as one list
+pub listed_found : (W : Wiring) (facts new : List Fact) (i : ℕ) (found : Fact → Bool)
+    (all : Result (List Fact) AllocError)
+    → length new ≤ i
+    → AreThose (FromOne W facts (take i new)) found
+    → IfOk all (λ all. (g : Fact) → has all g ≡ found g)
+    → IfOk all (IsListOf (FromOne W facts new))
+listed_found W facts new i found (Ok all) past are same =
+    λ g. let whole : take i new ≡ new = take_all i new past in
+    let those = subst (λ fs. AreThose (FromOne W facts fs) found) whole are g in
+    ((λ h. those.0 (sym (same g) ∙ h)), (λ x. same g ∙ those.1 x))
+listed_found W facts new i found (Err e) past are same = same
 
 -- whether there is an element
 

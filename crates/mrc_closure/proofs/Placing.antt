@@ -11,7 +11,7 @@ use Rattle.mrc_model.specs.Rules.{IsDerivation, Least, Closed}
 use Rattle.mrc_classes.specs.Missing.{rule_number}
 use Rattle.mrc_classes.specs.Instances.{premise_list}
 use Rattle.mrc_classes.specs.declared.instances.FewFacts.{FewFacts}
-use Rattle.mrc_classes.proofs.Premises.{all_as}
+use Rattle.mrc_classes.proofs.Following.{all_as}
 use Rattle.mrc_closure.specs.declared.chains.Link.{Link}
 use Rattle.mrc_closure.specs.declared.chains.Step.{Step}
 use Rattle.mrc_closure.specs.declared.chains.Places.{Places}

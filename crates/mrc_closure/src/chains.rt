@@ -15,7 +15,7 @@ ghost use Rattle.mrc_closure.specs.Orders.{IsLinked, IsPlaced, backward};
 
 use crate::rounds::{merge, round};
 use mrc_base::Fact;
-use mrc_classes::{Facts, FewFacts, Instance, RuleName, Slots, first_rules, instance_of};
+use mrc_classes::{Facts, FewFacts, Instance, Premises, RuleName, Slots, first_rules, instance_of};
 use mrc_wiring::Wired;
 use std::alloc::{AllocError, Global};
 use std::marker::Model;
@@ -92,7 +92,7 @@ fn derive_all(alloc: Global, wired: &Wired, first: &Facts) -> Result<Derived, Al
 {
     let _classes = wired.classes();
     let slots = Slots::new(alloc, wired)?;
-    let mut facts = Facts::new(alloc);
+    let mut facts = Premises::new(alloc);
     let mut order = Vec::new(alloc);
     let mut new = merge(alloc, &mut facts, first)?;
     while !new.is_empty() {
@@ -100,7 +100,10 @@ fn derive_all(alloc: Global, wired: &Wired, first: &Facts) -> Result<Derived, Al
         let found = round(alloc, &slots, &facts, new.as_slice())?;
         new = merge(alloc, &mut facts, &found)?;
     }
-    Ok(Derived { facts, order })
+    Ok(Derived {
+        facts: facts.into_facts(),
+        order,
+    })
 }
 
 /// Puts the premises into the set.

@@ -11,24 +11,24 @@ ghost use Rattle.mrc_closure.specs.Merging.{FromOne, Merged};
 
 use mrc_base::Fact;
 use mrc_certificate::Draft;
-use mrc_classes::{Facts, Slots, first_rules, with_consequences};
+use mrc_classes::{Facts, Found, Premises, Slots, first_rules, with_consequences};
 use mrc_wiring::Wired;
 use std::alloc::{AllocError, Global};
 
 /// What follows from one of the new facts, with those of the set.
 pub(crate) fn round(
     alloc: Global,
-    slots: &Slots<'_>,
-    facts: &Facts,
+    slots: &Slots,
+    facts: &Premises,
     new: &[Fact],
 ) -> Result<Facts, AllocError>
     ensures { IfOk result (IsListOf (FromOne (wiring_of slots.now) facts.now new.now)) }
 {
-    let mut found = Facts::new(alloc);
+    let mut found = Found::new(alloc);
     for fact in new {
         found = with_consequences(slots, facts, *fact, found)?;
     }
-    Ok(found)
+    found.flat()
 }
 
 /// Puts the fact at the end of the list, and answers the next one of the set.
@@ -53,7 +53,7 @@ fn listed(alloc: Global, facts: &Facts) -> Result<Vec<Fact>, AllocError>
 }
 
 /// Puts the listed facts into the set, and answers those that are new there.
-fn put_all(alloc: Global, facts: &mut Facts, list: &[Fact]) -> Result<Vec<Fact>, AllocError>
+fn put_all(alloc: Global, facts: &mut Premises, list: &[Fact]) -> Result<Vec<Fact>, AllocError>
     ensures merged { IfOk result (λ new. Merged facts.old list.now facts.new new.items) }
     ensures ascending { IsAscending facts.new }
 {
@@ -70,7 +70,7 @@ fn put_all(alloc: Global, facts: &mut Facts, list: &[Fact]) -> Result<Vec<Fact>,
 /// Puts the found facts into the set, and answers those that are new there.
 pub(crate) fn merge(
     alloc: Global,
-    facts: &mut Facts,
+    facts: &mut Premises,
     found: &Facts,
 ) -> Result<Vec<Fact>, AllocError>
     ensures merged { IfOk result (λ new. Merged facts.old found.now facts.new new.items) }
@@ -91,14 +91,14 @@ fn least_set(alloc: Global, wired: &Wired) -> Result<Facts, AllocError>
 {
     let _classes = wired.classes();
     let slots = Slots::new(alloc, wired)?;
-    let mut facts = Facts::new(alloc);
+    let mut facts = Premises::new(alloc);
     let first = first_rules(alloc, wired)?;
     let mut new = merge(alloc, &mut facts, &first)?;
     while !new.is_empty() {
         let found = round(alloc, &slots, &facts, new.as_slice())?;
         new = merge(alloc, &mut facts, &found)?;
     }
-    Ok(facts)
+    Ok(facts.into_facts())
 }
 
 /// The certificate of the wiring: the least set that is closed under the ten rules, with the

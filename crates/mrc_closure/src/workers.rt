@@ -18,7 +18,7 @@ ghost use Rattle.mrc_closure.specs.Working.{IsWorking};
 use crate::rounds::{merge, round};
 use mrc_base::{Fact, OrMemory};
 use mrc_certificate::Draft;
-use mrc_classes::{Facts, Slots, first_rules};
+use mrc_classes::{Facts, Premises, Slots, first_rules};
 use mrc_wiring::Wired;
 use std::alloc::{AllocError, Global};
 use std::snapshot::Snapshot;
@@ -55,25 +55,24 @@ fn chunk(
 /// What follows from the worker's facts, with those of the set.
 fn work(
     alloc: Global,
-    wired: &Wired,
-    facts: &Facts,
+    slots: &Slots,
+    facts: &Premises,
     new: &Vec<Fact>,
     worker: usize,
     workers: usize,
 ) -> Result<Facts, AllocError>
     requires { 0 < workers }
-    ensures { IsFind (wiring_of wired.now) facts.now new.now.items worker workers result }
+    ensures { IsFind (wiring_of slots.now) facts.now new.now.items worker workers result }
 {
     let chunk = chunk(alloc, new, worker, workers)?;
-    let slots = Slots::new(alloc, wired)?;
-    round(alloc, &slots, facts, chunk.as_slice())
+    round(alloc, slots, facts, chunk.as_slice())
 }
 
 /// What a worker promises: all that follows from its facts.
 #[derive(Drop)]
 struct Part {
     wired: Snapshot<Wired>,
-    facts: Snapshot<Facts>,
+    facts: Snapshot<Premises>,
     new: Snapshot<Vec<Fact>>,
     worker: usize,
     workers: usize,
@@ -92,8 +91,8 @@ fn start<'s, E, R: Threads + Wait + Sync, G: Gate>(
     scope: &Scope<'s, E>,
     rt: &'s R,
     alloc: Global,
-    wired: &'s Wired,
-    facts: &'s Facts,
+    slots: &'s Slots,
+    facts: &'s Premises,
     new: &'s Vec<Fact>,
     gate: &'s G,
     entering: bool,
@@ -102,10 +101,10 @@ fn start<'s, E, R: Threads + Wait + Sync, G: Gate>(
 ) -> Result<Working, AllocError>
     requires { 0 < workers }
     ensures { IfOk result (λ h.
-        IsWorking wired.now facts.now new.now.items worker workers h.promise) }
+        IsWorking slots.now facts.now new.now.items worker workers h.promise) }
 {
     let promise = Part {
-        wired: Snapshot::of(wired),
+        wired: Snapshot::of(slots.wired()),
         facts: Snapshot::of(facts),
         new: Snapshot::of(new),
         worker,
@@ -113,13 +112,13 @@ fn start<'s, E, R: Threads + Wait + Sync, G: Gate>(
     };
     let job = move || -> Result<Facts, AllocError>
         requires { 0 < workers }
-        ensures { IsFind (wiring_of wired.entry.now) facts.entry.now new.entry.now.items
+        ensures { IsFind (wiring_of slots.entry.now) facts.entry.now new.entry.now.items
             worker workers result }
     {
         if entering {
             gate.enter(worker);
         }
-        work(alloc, wired, facts, new, worker, workers)
+        work(alloc, slots, facts, new, worker, workers)
     };
     match scope.spawn_with(promise, job) {
         Ok(handle) => Ok(handle),
@@ -132,8 +131,8 @@ fn start_all<'s, E, R: Threads + Wait + Sync, G: Gate>(
     scope: &Scope<'s, E>,
     rt: &'s R,
     alloc: Global,
-    wired: &'s Wired,
-    facts: &'s Facts,
+    slots: &'s Slots,
+    facts: &'s Premises,
     new: &'s Vec<Fact>,
     gate: &'s G,
     entering: bool,
@@ -143,12 +142,12 @@ fn start_all<'s, E, R: Threads + Wait + Sync, G: Gate>(
     requires empty { working.old.items ≡ [] }
     requires room { workers ≤ vec_capacity working.old }
     ensures each { (k : ℕ) (h : _) → slice_get working.new.items k ≡ Some h →
-        IsWorking wired.now facts.now new.now.items k workers h.promise }
+        IsWorking slots.now facts.now new.now.items k workers h.promise }
     ensures all { IsTrue result → vec_len working.new ≡ workers }
 {
     for worker in 0..workers {
         match start(
-            scope, rt, alloc, wired, facts, new, gate, entering, worker, workers,
+            scope, rt, alloc, slots, facts, new, gate, entering, worker, workers,
         ) {
             Ok(one) => working.push_reserved(one),
             Err(_) => return false,
@@ -159,13 +158,19 @@ fn start_all<'s, E, R: Threads + Wait + Sync, G: Gate>(
 
 /// Puts what a worker found into the set, and answers whether the set is whole then, where it was
 /// before.
-fn take_in(alloc: Global, whole: bool, all: &mut Facts, found: Result<Facts, AllocError>) -> bool
+fn take_in(whole: bool, all: &mut Facts, found: Result<Facts, AllocError>) -> bool
     ensures before { IsTrue result → IsTrue whole }
     ensures members { IsTrue result → MatchResult found
         (λ found. (g : Fact) → has all.new g ≡ (has all.old g || has found g)) (λ _. ⊥) }
 {
     match found {
-        Ok(found) => merge(alloc, all, &found).is_ok() && whole,
+        Ok(found) => {
+            if all.is_empty() {
+                *all = found;
+                return whole;
+            }
+            all.join_all(&found).is_ok() && whole
+        }
         Err(_) => false,
     }
 }
@@ -176,21 +181,21 @@ fn join_all<R: Threads>(
     rt: &R,
     alloc: Global,
     working: Vec<Working>,
-    wired: &Wired,
-    facts: &Facts,
+    slots: &Slots,
+    facts: &Premises,
     new: &Vec<Fact>,
     workers: usize,
 ) -> Result<Facts, AllocError>
     requires { (k : ℕ) (h : _) → slice_get working.items k ≡ Some h →
-        IsWorking wired.now facts.now new.now.items k workers h.promise }
+        IsWorking slots.now facts.now new.now.items k workers h.promise }
     ensures { IfOk result (IsListOf
-        (FromFirst (wiring_of wired.now) facts.now new.now.items (vec_len working) workers)) }
+        (FromFirst (wiring_of slots.now) facts.now new.now.items (vec_len working) workers)) }
 {
     let mut all = Facts::new(alloc);
     let mut whole = true;
     for one in working {
         let found = one.join(rt);
-        whole = take_in(alloc, whole, &mut all, found);
+        whole = take_in(whole, &mut all, found);
     }
     if whole { Ok(all) } else { Err(AllocError) }
 }
@@ -200,8 +205,8 @@ fn round_in<'s, E, R: Threads + Wait + Sync, G: Gate>(
     scope: &Scope<'s, E>,
     rt: &'s R,
     alloc: Global,
-    wired: &'s Wired,
-    facts: &'s Facts,
+    slots: &'s Slots,
+    facts: &'s Premises,
     new: &'s Vec<Fact>,
     gate: &'s G,
     entering: bool,
@@ -209,14 +214,14 @@ fn round_in<'s, E, R: Threads + Wait + Sync, G: Gate>(
 ) -> Result<Facts, AllocError>
     requires { 0 < workers }
     ensures { IfOk result (IsListOf
-        (FromOne (wiring_of wired.now) facts.now new.now.items)) }
+        (FromOne (wiring_of slots.now) facts.now new.now.items)) }
 {
     let mut working = Vec::with_capacity(alloc, workers)?;
     let started = start_all(
         scope,
         rt,
         alloc,
-        wired,
+        slots,
         facts,
         new,
         gate,
@@ -224,7 +229,7 @@ fn round_in<'s, E, R: Threads + Wait + Sync, G: Gate>(
         workers,
         &mut working,
     );
-    let found = join_all(rt, alloc, working, wired, facts, new, workers);
+    let found = join_all(rt, alloc, working, slots, facts, new, workers);
     if started { found } else { Err(AllocError) }
 }
 
@@ -233,8 +238,8 @@ fn round_in<'s, E, R: Threads + Wait + Sync, G: Gate>(
 fn round_by<R: Threads + Wait + Sync, G: Gate>(
     rt: &R,
     alloc: Global,
-    wired: &Wired,
-    facts: &Facts,
+    slots: &Slots,
+    facts: &Premises,
     new: &Vec<Fact>,
     gate: &G,
     entering: bool,
@@ -242,7 +247,7 @@ fn round_by<R: Threads + Wait + Sync, G: Gate>(
 ) -> Result<Facts, AllocError>
     requires { 0 < workers }
     ensures { IfOk result (IsListOf
-        (FromOne (wiring_of wired.now) facts.now new.now.items)) }
+        (FromOne (wiring_of slots.now) facts.now new.now.items)) }
 {
     thread::scope(
         thread::scope_env(),
@@ -250,8 +255,8 @@ fn round_by<R: Threads + Wait + Sync, G: Gate>(
         |scope| -> Result<Facts, AllocError>
             requires { 0 < workers }
             ensures { IfOk result (IsListOf
-                (FromOne (wiring_of wired.entry.now) facts.entry.now new.entry.now.items)) }
-        { round_in(scope, rt, alloc, wired, facts, new, gate, entering, workers) },
+                (FromOne (wiring_of slots.entry.now) facts.entry.now new.entry.now.items)) }
+        { round_in(scope, rt, alloc, slots, facts, new, gate, entering, workers) },
     )
 }
 
@@ -271,16 +276,17 @@ fn least_by<R: Threads + Wait + Sync, G: Gate>(
     ensures few { IfOk result (λ facts. length facts < 2 ^ 32) }
 {
     let _classes = wired.classes();
-    let mut facts = Facts::new(alloc);
+    let slots = Slots::new(alloc, wired)?;
+    let mut facts = Premises::new(alloc);
     let first = first_rules(alloc, wired)?;
     let mut new = merge(alloc, &mut facts, &first)?;
-    let found = round_by(rt, alloc, wired, &facts, &new, gate, true, workers)?;
+    let found = round_by(rt, alloc, &slots, &facts, &new, gate, true, workers)?;
     new = merge(alloc, &mut facts, &found)?;
     while !new.is_empty() {
-        let found = round_by(rt, alloc, wired, &facts, &new, gate, false, workers)?;
+        let found = round_by(rt, alloc, &slots, &facts, &new, gate, false, workers)?;
         new = merge(alloc, &mut facts, &found)?;
     }
-    Ok(facts)
+    Ok(facts.into_facts())
 }
 
 /// Why no certificate is made.

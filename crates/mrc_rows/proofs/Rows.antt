@@ -36,7 +36,7 @@ words_some rows k row e = ap (λ (o : Option Row). unwrap_or (option_map (λ (r 
 pub words_at : (rows : List Row) (k : ℕ) (row : Row) → k < length rows → row ≡ slice_index_or rows k row → words_of rows k ≡ row.items
 words_at rows k row below is = words_some rows k row (slice_get-get_or rows k row below ∙ ap (λ (r : Row). Some r) (sym is))
 
-words_past : (rows : List Row) (k : ℕ) → length rows ≤ k → words_of rows k ≡ []
+pub words_past : (rows : List Row) (k : ℕ) → length rows ≤ k → words_of rows k ≡ []
 words_past rows k past = ap (λ (o : Option Row). unwrap_or (option_map (λ (r : Row). r.items) o) []) (slice_get_past rows k past)
 
 pub words_set : (rows : List Row) (k : ℕ) (row : Row) → k < length rows → words_of (slice_set rows k row) k ≡ row.items
@@ -149,7 +149,7 @@ refilled n ws items e = ap (λ m. take m (ws ++ drop (length ws) items)) (sym e)
 
 -- facts and places
 
-right_there : (r : PortRight) → right_number r < 3
+pub right_there : (r : PortRight) → right_number r < 3
 right_there Send = lit< tt
 right_there Receive = lit< tt
 right_there SendOnce = lit< tt

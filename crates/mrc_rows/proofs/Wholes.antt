@@ -362,3 +362,48 @@ had_all fs other next e so_far g h = so_far g (ap (λ o. has (take (place fs o) 
 
 pub not_had : (fs other : List Fact) (f : Fact) → IsTrue (has fs f) → has other f ≡ false → IsTrue false ↔ ((g : Fact) → IsTrue (has fs g) → IsTrue (has other g))
 not_had fs other f there lacks = (λ h. absurd (false≢true h), λ all. absurd (false≢true (sym lacks ∙ all f there)))
+
+-- what is joined
+
+pub begins_joined : (list had : List Fact) (next : Option Fact) → place list next ≡ 0
+    → (g : Fact) → has had g ≡ (has had g || has (take (place list next) list) g)
+begins_joined list had next e g =
+    sym (ap (λ n. has had g || has (take n list) g) e ∙ or_false (has had g))
+
+pub more_joined : (list had now then : List Fact) (next : Option Fact) (f : Fact)
+    (after_it : Option Fact) → next ≡ Some f → IsStep list f after_it
+    → ((g : Fact) → has now g ≡ (has had g || has (take (place list next) list) g))
+    → ((g : Fact) → has then g ≡ (is_same g f || has now g))
+    → (g : Fact) → has then g ≡ (has had g || has (take (place list after_it) list) g)
+more_joined list had now then next f after_it is step so_far put g =
+    put g ∙ (ap (λ b. is_same g f || b) (so_far g)
+    ∙ (ap (λ o. is_same g f || (has had g || has (take (place list o) list) g)) is
+    ∙ (swapped (is_same g f) (has had g) (has (take (place list (Some f)) list) g)
+    ∙ ap (λ b. has had g || b)
+    (sym (ap (λ fs. has fs g) step.taken ∙ has_more (take (place list (Some f)) list) f g)))))
+  where
+    swapped : (a b c : Bool) → (a || (b || c)) ≡ (b || (a || c))
+    swapped true true c = refl
+    swapped true false c = refl
+    swapped false b c = refl
+
+pub all_joined : (list had now : List Fact) (next : Option Fact) → next ≡ None
+    → ((g : Fact) → has now g ≡ (has had g || has (take (place list next) list) g))
+    → (g : Fact) → has now g ≡ (has had g || has list g)
+all_joined list had now next is so_far g =
+    so_far g
+    ∙ ap (λ fs. has had g || has fs g) (ap (λ o. take (place list o) list) is ∙ walk_ends list)
+
+-- the facts with a place in rows, and all others
+pub both_joined : (rows others facts : List Fact) → IsWhole rows others facts → (g : Fact)
+    → (had now then : Bool) → now ≡ (had || (is_within g && has facts g))
+    → then ≡ (now || has others g) → then ≡ (had || has facts g)
+both_joined rows others facts is g had now then in_rows beside =
+    beside ∙ (ap (λ b. b || has others g) in_rows ∙ elim (cases_Bool (is_within g)) [
+      | inl within ↦ rw within (
+          ap (λ b. (had || has facts g) || b) (others_lack rows others facts is g within)
+          ∙ or_false (had || has facts g))
+      | inr outside ↦ rw outside (
+          ap (λ b. b || has others g) (or_false had)
+          ∙ ap (λ b. had || b) (sym (has_other rows others facts is g outside)))
+    ])

@@ -2,3 +2,4 @@ pub mod Rows
 pub mod ShownProp
 pub mod Halves
 pub mod HalvesProp
+pub mod Joining

@@ -1,14 +1,19 @@
 //! Sets of facts.
 
-ghost use Rattle.std.specs.Prelude.{◌≡◌, ◌+◌, ◌↔◌, [], length, not, ◌&&◌, ◌||◌, if◌then◌else◌};
+ghost use Rattle.std.specs.Prelude.{◌≡◌, ◌+◌, ◌↔◌, ◌≤◌, ◌&&◌, ◌||◌, [], length, true, not};
 ghost use Rattle.std.specs.Prelude.{IsTrue, IsNone, IfOk, OnOk, OnErr, IfSome, IfNone};
+ghost use Rattle.std.specs.Prelude.{if◌then◌else◌};
 ghost use Rattle.mrc_base.specs.declared.Fact.{Fact};
 ghost use Rattle.mrc_facts.specs.Order.{is_before, is_same};
 ghost use Rattle.mrc_facts.specs.Sets.{has, with_fact, first, after, IsAscending};
 ghost use Rattle.mrc_facts.specs.Laws.{IsLeast, IsNext, NoneAfter};
 ghost use Rattle.mrc_rows.specs.Halves.{Whole, earlier};
 ghost use Rattle.mrc_rows.specs.HalvesProp.{whole_prop};
+ghost use Rattle.mrc_rows.specs.Rows.{place_of, is_within};
+ghost use Rattle.mrc_rows.specs.Joining.{is_of};
+ghost use Rattle.mrc_bits.specs.Bits.{is_set};
 
+use crate::joining::{Row, number_of};
 use crate::row_facts::{RowFacts, is_within};
 use mrc_base::Fact;
 use mrc_facts::ListedFacts;
@@ -95,6 +100,19 @@ impl Facts {
         }
     }
 
+    /// The words of the row: the places of those of its facts that the set has. A task above 63 and
+    /// a class above 1,343 have no words.
+    pub fn words(&self, row: Row) -> &[u64]
+        ensures shown { (g : Fact) → is_of row g ≡ true →
+            is_set result.now (place_of g) ≡ (is_within g && has self.now g) }
+        ensures few { length result.now ≤ 63 }
+    {
+        match number_of(row) {
+            Some(number) => self.rows.words(number),
+            None => &[],
+        }
+    }
+
     /// Puts the fact into the set, and answers whether it is new there.
     pub fn insert(&mut self, fact: Fact) -> Result<bool, AllocError>
         ensures added { IfOk result (λ added. added ≡ not (has self.old fact)) }
@@ -166,6 +184,38 @@ impl Facts {
             next = self.copy_one(&mut copy, &fact)?;
         }
         Ok(copy)
+    }
+
+    /// Puts the fact into the set, and answers the next one of the list.
+    fn put_listed(&mut self, list: &ListedFacts, fact: &Fact) -> Result<Option<Fact>, AllocError>
+        ensures put { OnOk result ((g : Fact) →
+            has self.new g ≡ (is_same g fact.now || has self.old g)) }
+        ensures next { IfOk result (λ next. next ≡ after list.now fact.now) }
+    {
+        let _new = self.insert(*fact)?;
+        Ok(list.after(*fact))
+    }
+
+    /// Puts the facts of the list into the set.
+    fn join_listed(&mut self, list: &ListedFacts) -> Result<(), AllocError>
+        ensures { OnOk result ((g : Fact) → has self.new g ≡ (has self.old g || has list.now g)) }
+    {
+        let _count = list.len();
+        let mut next = list.first();
+        while let Some(fact) = next {
+            next = self.put_listed(list, &fact)?;
+        }
+        Ok(())
+    }
+
+    /// Puts the facts of the other set into the set. Where memory runs out, some of them may be
+    /// there.
+    pub fn join_all(&mut self, other: &Facts) -> Result<(), AllocError>
+        ensures { OnOk result ((g : Fact) → has self.new g ≡ (has self.old g || has other.now g)) }
+    {
+        self.join_rows(other)?;
+        self.join_listed(&other.others)?;
+        Ok(())
     }
 
     /// Whether the set has each fact of the other one.

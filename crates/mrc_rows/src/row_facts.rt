@@ -5,6 +5,7 @@ ghost use Rattle.mrc_facts.specs.Sets.{has, with_fact, first, after, IsAscending
 ghost use Rattle.mrc_facts.specs.Order.{right_number, is_same};
 ghost use Rattle.mrc_rows.specs.Rows.{IsWithin, Shown, is_within, row_of, place_of, words_of, width_of, AreSized, SameBits, OneMoreBit, OneLessBit, IsNextPlace, NoPlace, IsFirstFrom, NoneFrom, start_row, start_place};
 ghost use Rattle.mrc_rows.specs.ShownProp.{shown_prop};
+ghost use Rattle.mrc_bits.specs.Bits.{is_set};
 
 use mrc_base::{ClassId, Fact, PortRight};
 use mrc_bits::{clear_bit, has_bit, next_bit, set_bit};
@@ -30,7 +31,7 @@ impl Model for RowFacts {
 }
 
 /// The number of a right.
-fn number(right: PortRight) -> usize
+pub(crate) fn number(right: PortRight) -> usize
     ensures value { result ≡ right_number right }
     ensures small { result < 3 }
 {
@@ -151,7 +152,7 @@ fn start_of(fact: &Fact) -> (usize, usize)
 }
 
 /// The right of a number.
-fn right_of(number: usize) -> PortRight
+pub(crate) fn right_of(number: usize) -> PortRight
     requires { number < 3 }
     ensures { right_number result ≡ number }
 {
@@ -254,6 +255,18 @@ impl RowFacts {
             rows: Vec::new(alloc),
             count: 0,
             alloc,
+        }
+    }
+
+    /// The words of a row.
+    pub(crate) fn words(&self, row: usize) -> &[u64]
+        ensures shown { (f : Fact) → row_of f ≡ row → IsWithin f →
+            has self.now f ≡ is_set result.now (place_of f) }
+        ensures few { length result.now ≤ width_of row }
+    {
+        match self.rows.get(row) {
+            Some(row) => row.as_slice(),
+            None => &[],
         }
     }
 

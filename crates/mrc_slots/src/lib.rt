@@ -1,6 +1,8 @@
-//! A wiring, with what its slots take as rows of bits.
+//! A wiring, with what its classes take as rows of bits.
 #![tactic(auto)]
 
+mod masks;
 mod slots;
+mod taking;
 
 pub use slots::Slots;

@@ -1,152 +1,118 @@
-//! What the slots of a wiring take, as rows of bits.
+//! A wiring, with what its classes take as rows of bits.
 
-ghost use Rattle.std.specs.Prelude.{◌≡◌, ◌+◌, ◌<◌, IfOk, [], replicate};
+ghost use Rattle.std.specs.Prelude.{◌≡◌, ◌+◌, ◌*◌, ◌≤◌, ℕ, IfOk, length, nat_lt};
+ghost use Rattle.mrc_base.specs.declared.PortRight.{PortRight};
+ghost use Rattle.mrc_base.specs.Limits.{limit_of_tasks, limit_of_wired_ports};
+ghost use Rattle.mrc_bits.specs.Bits.{is_set};
+ghost use Rattle.mrc_rows.specs.Joining.{right_place};
 ghost use Rattle.mrc_wiring.specs.Table.{wiring_of};
-ghost use Rattle.mrc_wiring.specs.Slots.{takes};
 ghost use Rattle.mrc_model.specs.Wiring.{classes, accepts_routine, accepts_destroyed};
-ghost use Rattle.mrc_slots.specs.Taken.{IsMarked, AreTaken, place_of, disp_at};
+ghost use Rattle.mrc_slots.specs.Passing.{is_passed};
+ghost use Rattle.mrc_slots.specs.Masks.{HasMasks};
 
-use mrc_base::{ClassId, Disp};
-use mrc_bits::{has_bit, set_bit};
+use crate::masks::{all_places, row_at, taken_rows, takers_rows};
+use mrc_base::{ClassId, PortRight};
+use mrc_bits::has_bit;
+use mrc_rows::right_place;
 use mrc_wiring::Wired;
 use std::alloc::{AllocError, Global};
 use std::marker::Model;
 
-/// A wiring, with what the slots of its classes take in rows of bits. A row that is not there is
-/// looked up in the wiring.
+/// A wiring, with what its classes take in rows of bits: a row for each class and right, by places
+/// of rights on classes.
 #[derive(Drop)]
-pub struct Slots<'a> {
-    wired: &'a Wired,
-    rows: Vec<Vec<u64>>,
+pub struct Slots {
+    wired: Wired,
+    taken: Vec<Vec<u64>>,
+    takers: Vec<Vec<u64>>,
+    all: Vec<u64>,
 }
 
-impl<'a> Model for Slots<'a> {
+impl Model for Slots {
     ghost use Rattle.mrc_wiring.specs.Table.{Table, wiring_of};
-    ghost use Rattle.mrc_slots.specs.Taken.{AreTaken};
+    ghost use Rattle.mrc_slots.specs.Masks.{HasMasks};
 
     ghost Value = { Table };
 
-    ghost view = { λ s. s.wired.now };
+    ghost view = { λ s. s.wired };
 
-    ghost invariant = { λ s. AreTaken (wiring_of s.wired.now) s.rows.items };
+    ghost invariant = { λ s. HasMasks (wiring_of s.wired) s.taken.items s.takers.items s.all.items };
 }
 
-fn place_of(disp: Disp) -> usize
-    ensures { result ≡ place_of disp }
-{
-    match disp {
-        Disp::MoveReceive => 0,
-        Disp::MoveSend => 1,
-        Disp::MoveSendOnce => 2,
-        Disp::CopySend => 3,
-        Disp::MakeSend => 4,
-        Disp::MakeSendOnce => 5,
-    }
-}
-
-fn disp_at(number: u16) -> Disp
-    ensures { result ≡ disp_at number }
-{
-    if number == 0 {
-        Disp::MoveReceive
-    } else if number == 1 {
-        Disp::MoveSend
-    } else if number == 2 {
-        Disp::MoveSendOnce
-    } else if number == 3 {
-        Disp::CopySend
-    } else if number == 4 {
-        Disp::MakeSend
-    } else {
-        Disp::MakeSendOnce
-    }
-}
-
-/// A row of zeros.
-fn zeros(alloc: Global) -> Result<Vec<u64>, AllocError>
-    ensures { IfOk result (λ row. row.items ≡ replicate 6 0) }
-{
-    vec![in alloc; 0u64; 6]
-}
-
-/// Marks the class, where a slot of the disposition that class `to` accepts takes it.
-fn mark(wired: &Wired, to: ClassId, disp: Disp, class: u16, row: &mut Vec<u64>)
-    requires small { class < 384 }
-    requires marked { IsMarked (wiring_of wired.now) to disp class row.old.items }
-    ensures { IsMarked (wiring_of wired.now) to disp (class + 1) row.new.items }
-{
-    if wired.takes(to, disp, ClassId(class)) {
-        set_bit(row.as_mut_slice(), class as usize);
-    }
-}
-
-/// What slots of the disposition that class `to` accepts take.
-fn taken_row(alloc: Global, wired: &Wired, to: ClassId, disp: Disp) -> Result<Vec<u64>, AllocError>
-    ensures { IfOk result (λ row.
-        IsMarked (wiring_of wired.now) to disp (classes (wiring_of wired.now)) row.items) }
-{
-    let mut row = zeros(alloc)?;
-    for class in 0..wired.classes() {
-        mark(wired, to, disp, class, &mut row);
-    }
-    Ok(row)
-}
-
-impl<'a> Slots<'a> {
-    /// The wiring, with a row for each class and disposition.
-    pub fn new(alloc: Global, wired: &'a Wired) -> Result<Slots<'a>, AllocError>
+impl Slots {
+    /// A copy of the wiring, with a row for each class and right of what the class takes and of who
+    /// takes it.
+    pub fn new(alloc: Global, wired: &Wired) -> Result<Slots, AllocError>
         ensures { IfOk result (λ slots. slots ≡ wired.now) }
     {
-        let mut rows = Vec::new(alloc);
-        for number in 0..6 * wired.classes() {
-            let to = ClassId(number / 6);
-            let row = taken_row(alloc, wired, to, disp_at(number % 6))?;
-            rows.push(row)?;
-        }
-        Ok(Slots { wired, rows })
-    }
-
-    /// The wiring, without rows. It takes no memory.
-    pub fn without_rows(alloc: Global, wired: &'a Wired) -> Slots<'a>
-        ensures { result ≡ wired.now }
-    {
-        Slots {
+        let wired = wired.copy(alloc)?;
+        let taken = taken_rows(alloc, &wired)?;
+        let places = 3 * wired.classes();
+        let takers = takers_rows(alloc, taken.as_slice(), places)?;
+        let all = all_places(alloc, places)?;
+        Ok(Slots {
             wired,
-            rows: Vec::new(alloc),
-        }
+            taken,
+            takers,
+            all,
+        })
     }
 
-    /// Whether a form that the class accepts has a slot of the disposition, whose type admits the
-    /// class that is carried.
-    pub fn takes(&self, to: ClassId, disp: Disp, carried: ClassId) -> bool
-        ensures { result ≡ takes (wiring_of self.now) to disp carried }
+    /// What class `to` takes of rights `held`: the bit at the place of `give` on a class is set
+    /// where it takes a right `held` on that class, which comes there as `give`.
+    pub fn taken_by(&self, to: u16, held: PortRight) -> &[u64]
+        ensures taken { (c : ℕ) (give : PortRight) →
+            is_set result.now (right_place c give) ≡ is_passed (wiring_of self.now) to c held give }
+        ensures few { length result.now ≤ 63 }
     {
-        let row = 6 * to.0 as usize + place_of(disp);
-        if row >= self.rows.len() {
-            return self.wired.takes(to, disp, carried);
-        }
-        if carried.0 >= self.wired.classes() {
-            return self.wired.takes(to, disp, carried);
-        }
-        has_bit(self.rows[row].as_slice(), carried.0 as usize)
+        row_at(self.taken.as_slice(), right_place(to, held))
     }
+
+    /// The classes that take a right `held` on the class: the bit at the place of `give` on a class
+    /// is set where that class takes it, and it comes there as `give`.
+    pub fn takers_of(&self, class: u16, held: PortRight) -> &[u64]
+        ensures takers { (d : ℕ) (give : PortRight) → is_set result.now (right_place d give)
+            ≡ is_passed (wiring_of self.now) d class held give }
+        ensures few { length result.now ≤ 63 }
+    {
+        row_at(self.takers.as_slice(), right_place(class, held))
+    }
+
+    /// Whether class `to` takes a right `held` on the class, which comes there as `give`.
+    pub fn passes(&self, to: u16, class: u16, held: PortRight, give: PortRight) -> bool
+        ensures { result ≡ is_passed (wiring_of self.now) to class held give }
+    {
+        has_bit(self.taken_by(to, held), right_place(class, give))
+    }
+
+    /// The places of all rights on the wiring's classes.
+    pub fn all(&self) -> &[u64]
+        ensures shown { (c : ℕ) (r : PortRight) →
+            is_set result.now (right_place c r) ≡ nat_lt c (classes (wiring_of self.now)) }
+        ensures few { length result.now ≤ 63 }
+    {
+        self.all.as_slice()
+    }
+
     /// The wiring itself.
     pub fn wired(&self) -> &Wired
         ensures { result.now ≡ self.now }
     {
-        self.wired
+        &self.wired
     }
 
     /// How many tasks there are.
     pub fn tasks(&self) -> u16
-        ensures { result ≡ (wiring_of self.now).tasks }
+        ensures exact { result ≡ (wiring_of self.now).tasks }
+        ensures within { result ≤ limit_of_tasks }
     {
         self.wired.tasks()
     }
 
     /// How many classes of ports there are.
     pub fn classes(&self) -> u16
-        ensures { result ≡ classes (wiring_of self.now) }
+        ensures exact { result ≡ classes (wiring_of self.now) }
+        ensures within { result ≤ limit_of_wired_ports + 2 * limit_of_tasks }
     {
         self.wired.classes()
     }

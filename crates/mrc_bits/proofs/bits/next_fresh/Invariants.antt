@@ -7,7 +7,7 @@ abbrev pub invariant-loop-place : goal.invariant-loop-place
 invariant-loop-place l = record {
   start : l.start < 64;
   from_there : l.from ≤ 64 * l.place + l.start;
-  none : (j : ℕ) → l.from ≤ j → j < 64 * l.place + l.start → is_fresh l.words l.more j ≡ false;
+  none : (j : ℕ) → l.from ≤ j → j < 64 * l.place + l.start → is_fresh l.words l.more l.mask j ≡ false;
 }
 
 abbrev pub decreases-loop-place : goal.decreases-loop-place

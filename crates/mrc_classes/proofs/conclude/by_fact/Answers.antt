@@ -12,7 +12,7 @@ pub returns-in-Hold : goal.returns-in-Hold
 returns-in-Hold c =
     let is_found : Fact → Type 0 = λ f. OnOk c.by_hold.result
     (Added (has c.args.found.now) (has c.by_hold.new.found)
-    (ByFact (wiring_of c.args.wired.now) (has c.args.known.now) f)) in
+    (ByFact (wiring_of c.args.wired.now) (has c.args.premises.now) f)) in
     subst is_found (sym c.in-Hold.is)
     (subst (λ (k : ℕ). is_found (Hold c.in-Hold.task k c.in-Hold.right)) c.class.view_is
     c.by_hold.ensures)

@@ -7,4 +7,4 @@ use Rattle.mrc_classes.proofs.conclude.notices.Given as goal
 abbrev pub invariant-loop-notify : goal.invariant-loop-notify
 invariant-loop-notify l =
     Added (has l.fn.found) (has l.found)
-    (Below l.notify (NotifiedAt (has l.known) l.task l.class))
+    (Below l.notify (NotifiedAt (has l.premises) l.task l.class))

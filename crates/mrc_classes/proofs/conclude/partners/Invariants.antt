@@ -8,4 +8,4 @@ use Rattle.mrc_classes.proofs.conclude.partners.Given as goal
 abbrev pub invariant-loop-other : goal.invariant-loop-other
 invariant-loop-other l =
     Added (has l.fn.found) (has l.found)
-    (Below l.other (PartnerAt (wiring_of l.wired) (has l.known) l.task l.class l.right))
+    (Below l.other (PartnerAt (wiring_of l.wired) (has l.premises) l.task l.class l.right))

@@ -7,4 +7,4 @@ use Rattle.mrc_classes.proofs.conclude.receivers.Given as goal
 abbrev pub invariant-loop-task : goal.invariant-loop-task
 invariant-loop-task l =
     Added (has l.fn.found) (has l.found)
-    (Below l.task (ReceiverAt (has l.known) l.to l.class l.right))
+    (Below l.task (ReceiverAt (has l.premises) l.to l.class l.right))

@@ -1,5 +1,4 @@
 use Rattle.std.proofs.Common.{◌<◌}
-use Rattle.mrc_wiring.specs.Table.{wiring_of}
 use Rattle.mrc_facts.specs.Sets.{has}
 use Rattle.mrc_classes.specs.Lacks.{LacksNothing}
 use Rattle.mrc_classes.specs.Missing.{rule_number}
@@ -10,4 +9,4 @@ use Rattle.mrc_classes.proofs.lacking.first_missing.Given as goal
 abbrev pub invariant-loop-number : goal.invariant-loop-number
 invariant-loop-number l =
     (rule : RuleName) → rule_number rule < l.number
-    → LacksNothing (wiring_of l.wired) (has l.facts) rule
+    → LacksNothing l.search.wiring (has l.search.facts) rule

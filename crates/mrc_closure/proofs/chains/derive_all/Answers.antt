@@ -1,9 +1,12 @@
 use Rattle.std.proofs.Common.{◌≡◌, ℕ, ◌<◌, ◌^◌, List, [], ap, ◌∙◌, ◌++◌, ◌==◌, subst, sym, arith}
 use Rattle.mrc_base.specs.declared.Fact.{Fact}
 use Rattle.mrc_model.specs.Wiring.{classes}
+use Rattle.mrc_model.specs.Rules.{IsLeast}
 use Rattle.mrc_wiring.specs.Table.{Table, wiring_of}
+use Rattle.mrc_facts.specs.Sets.{has}
 use Rattle.mrc_classes.specs.Following.{IsListOf}
 use Rattle.mrc_closure.specs.Merging.{FromOne, Merged}
+use Rattle.mrc_closure.specs.Orders.{HaveSame}
 use Rattle.mrc_closure.proofs.Keeping.{IsRound, begun, gone_on, at_rest, some_there, none_there}
 use Rattle.mrc_closure.proofs.Counting.{IsSmall, small_of, fewer}
 use Rattle.mrc_closure.proofs.Deriving.{IsOrdered, order_begun, order_gone_on, order_same}
@@ -67,16 +70,18 @@ loop-alloc-smaller c =
 pub returns-clause-least : goal.returns-clause-least
 returns-clause-least c =
     let W = wiring_of c.args.wired.now in
-    at_rest W c.loop-alloc.facts (subst (IsRound W c.loop-alloc.facts)
+    subst (λ (fs : List Fact). IsLeast W (has fs)) (sym c.into_facts.ensures)
+    (at_rest W c.loop-alloc.facts (subst (IsRound W c.loop-alloc.facts)
     (none_there c.loop-alloc.new.items c.is_empty.result
     (c.is_empty.ensures ∙ ap (λ n. n == 0) c.loop-alloc.new.ok.0) c.loop-alloc-test.false)
-    c.loop-alloc.invariant.round)
+    c.loop-alloc.invariant.round))
 
 pub returns-clause-same : goal.returns-clause-same
 returns-clause-same c =
     let W = wiring_of c.args.wired.now in
-    order_same W c.loop-alloc.facts c.loop-alloc.order.items
+    subst (λ (fs : List Fact). HaveSame fs c.loop-alloc.order.items) (sym c.into_facts.ensures)
+    (order_same W c.loop-alloc.facts c.loop-alloc.order.items
     (subst (IsOrdered W c.loop-alloc.facts c.loop-alloc.order.items)
     (none_there c.loop-alloc.new.items c.is_empty.result
     (c.is_empty.ensures ∙ ap (λ n. n == 0) c.loop-alloc.new.ok.0) c.loop-alloc-test.false)
-    c.loop-alloc.invariant.ordered)
+    c.loop-alloc.invariant.ordered))

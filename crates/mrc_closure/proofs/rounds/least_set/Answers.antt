@@ -1,7 +1,9 @@
-use Rattle.std.proofs.Common.{◌≡◌, ℕ, ◌<◌, ◌^◌, List, [], ap, ◌∙◌, ◌==◌, subst, arith}
+use Rattle.std.proofs.Common.{◌≡◌, ℕ, ◌<◌, ◌^◌, List, [], length, ap, sym, ◌∙◌, ◌==◌, subst, IsTrue, arith}
 use Rattle.mrc_base.specs.declared.Fact.{Fact}
 use Rattle.mrc_model.specs.Wiring.{classes}
+use Rattle.mrc_model.specs.Rules.{IsLeast}
 use Rattle.mrc_wiring.specs.Table.{Table, wiring_of}
+use Rattle.mrc_facts.specs.Sets.{has, IsAscending}
 use Rattle.mrc_classes.specs.Following.{IsListOf}
 use Rattle.mrc_closure.specs.Merging.{FromOne, Merged}
 use Rattle.mrc_closure.proofs.Keeping.{IsRound, begun, gone_on, at_rest, some_there, none_there}
@@ -48,14 +50,26 @@ loop-alloc-smaller c =
 pub returns-clause-least : goal.returns-clause-least
 returns-clause-least c =
     let W = wiring_of c.args.wired.now in
-    at_rest W c.loop-alloc.facts (subst (IsRound W c.loop-alloc.facts)
+    subst (λ (fs : List Fact). IsLeast W (has fs)) (sym c.into_facts.ensures)
+    (at_rest W c.loop-alloc.facts (subst (IsRound W c.loop-alloc.facts)
     (none_there c.loop-alloc.new.items c.is_empty.result
     (c.is_empty.ensures ∙ ap (λ n. n == 0) c.loop-alloc.new.ok.0) c.loop-alloc-test.false)
-    c.loop-alloc.invariant)
+    c.loop-alloc.invariant))
+
+pub returns-clause-in_range : goal.returns-clause-in_range
+returns-clause-in_range c =
+    λ f h. (c.loop-alloc.invariant.derived f
+    (subst (λ (fs : List Fact). IsTrue (has fs f)) c.into_facts.ensures h)).0
+
+pub returns-clause-ascending : goal.returns-clause-ascending
+returns-clause-ascending c =
+    subst (λ (fs : List Fact). IsAscending fs) (sym c.into_facts.ensures)
+    c.loop-alloc.invariant.ascending
 
 pub returns-clause-few : goal.returns-clause-few
 returns-clause-few c =
     let W = wiring_of c.args.wired.now in
-    few W (small c.args.wired.now c.classes-classes.result c.classes-classes.ensures.exact
+    subst (λ (fs : List Fact). length fs < 2 ^ 32) (sym c.into_facts.ensures)
+    (few W (small c.args.wired.now c.classes-classes.result c.classes-classes.ensures.exact
     (omega (arith, c.classes-classes.ensures.within))) c.loop-alloc.facts c.loop-alloc.invariant.ascending
-    (λ g h. (c.loop-alloc.invariant.derived g h).0)
+    (λ f h. (c.loop-alloc.invariant.derived f h).0))

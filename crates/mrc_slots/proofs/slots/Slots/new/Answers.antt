@@ -1,19 +1,22 @@
-use Rattle.std.proofs.Common.{◌≡◌, ◌/◌, subst}
+use Rattle.std.proofs.Common.{◌*◌, ap, subst}
 use Rattle.mrc_wiring.specs.Table.{wiring_of}
 use Rattle.mrc_model.specs.Wiring.{classes}
-use Rattle.mrc_slots.specs.Taken.{IsMarked}
-use Rattle.mrc_slots.proofs.Tables.{more_taken, more_rows}
+use Rattle.mrc_slots.specs.Masks.{IsMask, AreMasks, is_any, is_turned}
+use Rattle.mrc_slots.proofs.Marked.{turned}
 use Rattle.mrc_slots.proofs.slots.Slots.new.Goals as goal
 
-pub loop-number-preserved : goal.loop-number-preserved
-loop-number-preserved c =
-    let W = wiring_of c.args.wired.now in
-    let rows = c.loop-number.rows.items in
-    let n = c.loop-number.number in
-    let marked = subst (λ x. IsMarked W (n / 6) x (classes W) c.in_ok-row.row.items) c.disp_at.ensures c.in_ok-row.ensures in
+pub invariant_of-result : goal.invariant_of-result
+invariant_of-result c =
+    let W = wiring_of c.in_ok-wired.wired in
+    let taken = c.in_ok-taken.taken.items in
+    let takers = c.in_ok-takers.takers.items in
+    let n = 3 * classes W in
+    let same = ap (λ n. 3 * n) c.classes-places.ensures.exact in
     record {
-      taken = more_taken W rows c.push.new.self.items c.in_ok-row.row n c.loop-number.invariant.taken
-          c.loop-number.invariant.len marked c.in_ok-push.ensures.items;
-      len = more_rows rows c.push.new.self.items c.in_ok-row.row n c.loop-number.invariant.len
-          c.in_ok-push.ensures.items;
+      taken = c.in_ok-taken.ensures;
+      takers = turned W taken takers c.in_ok-taken.ensures
+          (subst (λ rows. AreMasks (is_turned rows) n n takers) c.as_slice.ensures.value
+          (subst (λ m. AreMasks (is_turned c.as_slice.result.now) m m takers) same
+          c.in_ok-takers.ensures));
+      all = subst (λ m. IsMask is_any m c.in_ok-all.all.items) same c.in_ok-all.ensures;
     }

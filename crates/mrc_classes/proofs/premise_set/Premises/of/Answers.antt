@@ -1,0 +1,42 @@
+use Rattle.mrc_facts.proofs.Walking.{walk_begins, walk_goes_on, at_some, taken_some, taken_none}
+use Rattle.mrc_facts.proofs.Walking.{less_some}
+use Rattle.mrc_rows.proofs.Wholes.{put_next, begins_copied}
+use Rattle.mrc_classes.proofs.premise_set.Premises.of.Goals as goal
+
+pub loop-next-init : goal.loop-next-init
+loop-next-init c =
+    let b = walk_begins c.args.facts.now c.len-count.ensures.ascending c.first-next.result
+    c.first-next.ensures.exact in
+    record {
+      at = b.1;
+      so_far = begins_copied c.args.facts.now c.first-next.result c.new-copy.result b.0
+          c.new-copy.ensures;
+    }
+
+pub loop-next-preserved : goal.loop-next-preserved
+loop-next-preserved c =
+    let at = at_some c.args.facts.now c.loop-next.next c.in-Some.fact c.in-Some.is
+    c.loop-next.invariant.at in
+    let step = walk_goes_on c.args.facts.now c.len-count.ensures.ascending c.in-Some.fact at _
+    c.in_ok-next.ensures.next in
+    record {
+      at = step.next;
+      so_far = put_next c.args.facts.now c.in-Some.fact _ c.loop-next.copy c.copy_one.new.copy
+          c.len-count.ensures.ascending step
+          (taken_some c.args.facts.now c.loop-next.next c.in-Some.fact c.in-Some.is
+          c.loop-next.copy c.loop-next.invariant.so_far)
+          c.in_ok-next.ensures.put;
+    }
+
+pub loop-next-smaller : goal.loop-next-smaller
+loop-next-smaller c =
+    let at = at_some c.args.facts.now c.loop-next.next c.in-Some.fact c.in-Some.is
+    c.loop-next.invariant.at in
+    let step = walk_goes_on c.args.facts.now c.len-count.ensures.ascending c.in-Some.fact at _
+    c.in_ok-next.ensures.next in
+    less_some c.args.facts.now c.loop-next.next c.in-Some.fact c.in-Some.is _ step
+
+pub returns : goal.returns
+returns c =
+    taken_none c.args.facts.now c.loop-next.next c.in_default.is c.loop-next.copy
+    c.loop-next.invariant.so_far

@@ -1,0 +1,72 @@
+-- Rows of facts, and how one is joined with another through a mask. This profile's own choice.
+use Rattle.std.specs.Prelude.{◌≡◌, ℕ, ◌+◌, ◌*◌, ◌%◌, ◌<◌, ◌≤◌, ◌==◌, ◌&&◌, nat_lt}
+use Rattle.std.specs.Prelude.{Bool, true, false, List, length, IsTrue, if◌then◌else◌}
+use Rattle.mrc_base.specs.declared.PortRight.{PortRight}
+use Rattle.mrc_base.specs.declared.PortRight.TheVariants.{Send, Receive, SendOnce}
+use Rattle.mrc_base.specs.declared.Fact.{Fact}
+use Rattle.mrc_base.specs.declared.Fact.TheVariants.{Hold, Carry, Backup}
+use Rattle.mrc_facts.specs.Order.{right_number}
+use Rattle.mrc_facts.specs.Sets.{has}
+use Rattle.mrc_bits.specs.Bits.{is_set}
+use Rattle.mrc_rows.specs.Rows.{is_within, row_of, place_of, width_of}
+use Rattle.mrc_rows.specs.declared.joining.Row.{Row}
+use Rattle.mrc_rows.specs.declared.joining.Row.TheVariants.{Holds, Carries, Backups}
+
+-- the place of a right on a class of ports
+abbrev pub right_place : ℕ → PortRight → ℕ
+right_place c r = 3 * c + right_number r
+
+-- the right of a place
+abbrev pub right_at : ℕ → PortRight
+right_at place =
+    if place % 3 == 0 then Send else if place % 3 == 1 then Receive else SendOnce
+
+-- the fact stands in the row
+abbrev pub is_of : Row → Fact → Bool
+is_of (Holds t) (Hold u c r) = u == t
+is_of (Holds t) (Carry d c r) = false
+is_of (Holds t) (Backup c d) = false
+is_of (Carries d) (Hold t c r) = false
+is_of (Carries d) (Carry e c r) = e == d
+is_of (Carries d) (Backup c e) = false
+is_of (Backups c) (Hold t e r) = false
+is_of (Backups c) (Carry d e r) = false
+is_of (Backups c) (Backup e d) = e == c
+
+-- both have the bit
+abbrev pub is_in_both : List ℕ → List ℕ → ℕ → Bool
+is_in_both more mask place = is_set more place && is_set mask place
+
+-- the row is kept as the one of this number
+pub record IsNumber (row : Row) (number : ℕ) : Type 0 where
+  pub there : number < 2752
+  pub at : (g : Fact) → is_of row g ≡ true → row_of g ≡ number
+  pub within : (g : Fact) → is_of row g ≡ true
+      → is_within g ≡ nat_lt (place_of g) (64 * width_of number)
+
+-- the row is not kept
+abbrev pub HasNoNumber : Row → Type 0
+HasNoNumber row = (g : Fact) → is_of row g ≡ true → is_within g ≡ false
+
+-- the first bit from this one on that both have and whose fact the set lacks
+pub record IsNextNew
+    (facts : List Fact)
+    (row : Row)
+    (more mask : List ℕ)
+    (from place : ℕ)
+    : Type 0 where
+  pub from_there : from ≤ place
+  pub below : place < 64 * length more
+  pub set : is_in_both more mask place ≡ true
+  pub first : (g : Fact) → is_of row g ≡ true → from ≤ place_of g → place_of g < place
+      → is_in_both more mask (place_of g) ≡ true → IsTrue (has facts g)
+
+-- the set has each fact of the row from this place on whose bit both have
+abbrev pub NoneNew : List Fact → Row → List ℕ → List ℕ → ℕ → Type 0
+NoneNew facts row more mask from =
+    (g : Fact) → is_of row g ≡ true → from ≤ place_of g
+    → is_in_both more mask (place_of g) ≡ true → IsTrue (has facts g)
+
+-- the fact has a place in a row before the one of this number
+abbrev pub is_kept_before : ℕ → Fact → Bool
+is_kept_before number g = is_within g && nat_lt (row_of g) number

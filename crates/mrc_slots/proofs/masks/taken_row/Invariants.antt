@@ -1,0 +1,15 @@
+use Rattle.std.proofs.Common.{◌≡◌, ℕ, ◌+◌, ◌/◌, length}
+use Rattle.std.specs.Prelude.{◌&&◌, nat_lt}
+use Rattle.mrc_bits.specs.Bits.{is_set}
+use Rattle.mrc_rows.specs.Joining.{right_at}
+use Rattle.mrc_wiring.specs.Table.{wiring_of}
+use Rattle.mrc_slots.specs.Passing.{passes}
+use Rattle.mrc_slots.proofs.masks.taken_row.Given as goal
+
+-- the places up to here are marked
+abbrev pub invariant-loop-place : goal.invariant-loop-place
+invariant-loop-place l = record {
+  wide : length l.row.items ≡ l.places / 64 + 1;
+  bits : (p : ℕ) → is_set l.row.items p
+      ≡ (nat_lt p l.place && passes (wiring_of l.wired) l.to (p / 3) l.held (right_at p));
+}
