@@ -161,7 +161,7 @@ fn live_told<R: Threads + Wait + Sync>(
     ensures fault { IfOk result (λ told. told.status ≡ 2
         → ToldMemory told ⊎ ToldUnserved files.now bytes.now told) }
 {
-    match answer_of(alloc, &bytes.check) {
+    match answer_of(rt, alloc, &bytes.check) {
         Ok(confined) => confined_told(rt, alloc, files, confined, bytes),
         Err(refusal) => refused_told(alloc, &files.check, &bytes.check, &Err(refusal)),
     }

@@ -79,13 +79,18 @@ pub fn check_bytes<'a, F: Folder>(
 }
 
 /// The checker's answer to the bytes of the files.
-pub fn answer_of(alloc: Global, bytes: &CheckBytes) -> Result<Confined, OrMemory<TextsFault>>
+pub fn answer_of<R: Threads + Sync>(
+    rt: &R,
+    alloc: Global,
+    bytes: &CheckBytes,
+) -> Result<Confined, OrMemory<TextsFault>>
     ensures yes { IfOk result (AreAccepted bytes.now) }
     ensures only { (case : Case) → AreAccepted bytes.now case
         → IfErr result (λ refusal. refusal ≡ OrMemory.Memory) }
     ensures told { Tells result (said_by bytes.now) }
 {
     check_texts(
+        rt,
         alloc,
         bytes.system.defs.as_slice(),
         bytes.system.wiring.as_slice(),
@@ -95,7 +100,12 @@ pub fn answer_of(alloc: Global, bytes: &CheckBytes) -> Result<Confined, OrMemory
 }
 
 /// What is told of the bytes of the files.
-fn told_of(alloc: Global, files: &CheckFiles<'_>, bytes: &CheckBytes) -> Result<Told, AllocError>
+fn told_of<R: Threads + Sync>(
+    rt: &R,
+    alloc: Global,
+    files: &CheckFiles<'_>,
+    bytes: &CheckBytes,
+) -> Result<Told, AllocError>
     ensures status { IfOk result (λ told. told.status ≤ 2) }
     // A yes is right.
     ensures yes { IfOk result (λ told. told.status ≡ 0 → ToldYes bytes.now told) }
@@ -108,12 +118,13 @@ fn told_of(alloc: Global, files: &CheckFiles<'_>, bytes: &CheckBytes) -> Result<
     ensures fault { IfOk result (λ told. told.status ≡ 2
         → ToldMemory told ⊎ ToldFault files.now bytes.now told) }
 {
-    let answer = answer_of(alloc, bytes);
+    let answer = answer_of(rt, alloc, bytes);
     verdict(alloc, files, bytes.system.wiring.as_slice(), &answer)
 }
 
 /// What is told of the files of a `check`.
-fn check_files<F: Folder>(
+fn check_files<F: Folder, R: Threads + Sync>(
+    rt: &R,
     folder: &F,
     alloc: Global,
     files: &CheckFiles<'_>,
@@ -128,7 +139,7 @@ fn check_files<F: Folder>(
         → FaultOfFiles (F.held folder.now) files.now told) }
 {
     match check_bytes(folder, alloc, files) {
-        Ok(bytes) => told_of(alloc, files, &bytes),
+        Ok(bytes) => told_of(rt, alloc, files, &bytes),
         Err(unread) => unread_told(alloc, &unread),
     }
 }
@@ -157,7 +168,7 @@ fn told<F: Folder, R: Threads + Wait + Sync>(
     ensures fault { IfOk result (λ told. told.status ≡ 2 → string_bytes told.out ≡ []) }
 {
     match read(alloc, words) {
-        Ok(Command::Check(files)) => check_files(folder, alloc, &files),
+        Ok(Command::Check(files)) => check_files(rt, folder, alloc, &files),
         Ok(Command::Make(files)) => make_files(rt, folder, alloc, &files),
         Ok(Command::Explain(files)) => explain_files(folder, alloc, &files),
         Ok(Command::Replay(files)) => replay_files(folder, alloc, &files),

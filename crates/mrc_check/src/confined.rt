@@ -11,6 +11,7 @@ use mrc_certificate::Draft;
 use mrc_wiring::{Claim, Wired};
 use std::alloc::{AllocError, Global};
 use std::marker::Model;
+use std::thread::Threads;
 
 /// A claim with a certificate that was accepted for it: its facts are closed under the ten rules,
 /// and none of them is forbidden. Only [`check`] and [`Confined::copy`] make one.
@@ -44,8 +45,14 @@ pub struct Refused<W> {
 
 /// Accepts the certificate for the claim exactly where it has the wiring's numbers of tasks and
 /// classes, its facts are closed under the ten rules, and none of them is forbidden. Else the first
-/// reason is told, or that memory ran out, and both come back.
-pub fn check(alloc: Global, claim: Claim, draft: Draft) -> Result<Confined, Refused<OrMemory<Why>>>
+/// reason is told, or that memory ran out, and both come back. What the rules conclude and the draft
+/// lacks is looked for by as many threads as there are processors.
+pub fn check(
+    rt: &(impl Threads + Sync),
+    alloc: Global,
+    claim: Claim,
+    draft: Draft,
+) -> Result<Confined, Refused<OrMemory<Why>>>
     // What is accepted may be, and is what was handed in.
     ensures found { IfOk result (λ c. IsAccepted claim (content draft)
         × (c ≡ record { claim = claim; draft = content draft })) }
@@ -55,7 +62,7 @@ pub fn check(alloc: Global, claim: Claim, draft: Draft) -> Result<Confined, Refu
     ensures fault { IfErr result (λ r. UnlessMemory (IsWhy claim (content draft)) r.why) }
     ensures returned { IfErr result (λ r. (r.claim ≡ claim) × (content r.draft ≡ content draft)) }
 {
-    match judge(alloc, &claim, &draft) {
+    match judge(rt, alloc, &claim, &draft) {
         Ok(()) => Ok(Confined { claim, draft }),
         Err(why) => Err(Refused { claim, draft, why }),
     }

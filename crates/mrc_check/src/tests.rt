@@ -10,6 +10,7 @@ use std::alloc::{AllocError, Global};
 use std::fmt::Write;
 use std::process::Abort;
 use std::test::Fail;
+use std::thread::Threads;
 
 const ONE: &str = "wiring 1\ntask a\n";
 
@@ -96,12 +97,13 @@ fn certificate(
 
 /// The answer as one text: `accepted`, or the step that refuses and its fault.
 fn answer(
+    rt: &(impl Threads + Sync),
     alloc: Global,
     wiring: &[u8],
     policy: &[u8],
     certificate: &[u8],
 ) -> Result<String, AllocError> {
-    match check_texts(alloc, &[], wiring, policy, certificate) {
+    match check_texts(rt, alloc, &[], wiring, policy, certificate) {
         Ok(_) => String::from_str(alloc, "accepted"),
         Err(OrMemory::Fault(TextsFault::Defs(fault))) => format!(in alloc; "defs {}", fault.fault),
         Err(OrMemory::Fault(TextsFault::Wiring(fault))) => format!(in alloc; "wiring {fault}"),
@@ -116,12 +118,13 @@ fn answer(
 
 /// Why the certificate of three texts that have a meaning is refused.
 fn reason_of(
-    rt: &(impl Abort + AllocGlobal),
+    rt: &(impl Abort + AllocGlobal + Threads + Sync),
     wiring: &str,
     policy: &str,
     certificate: &[u8],
 ) -> Why {
     match check_texts(
+        rt,
         rt.alloc(),
         &[],
         wiring.as_bytes(),
@@ -153,7 +156,7 @@ fn accepts(rt: HostRuntime) -> Result<(), Fail> {
         (ONE, ALONE.as_slice()),
         (TWO, both.as_slice()),
     ] {
-        let told = answer(alloc, wiring.as_bytes(), ANY.as_bytes(), bytes)?;
+        let told = answer(&rt, alloc, wiring.as_bytes(), ANY.as_bytes(), bytes)?;
         assert_eq!(rt; told.as_str(), "accepted", "of {wiring:?}");
     }
     Ok(())
@@ -173,7 +176,7 @@ fn counts_differ(rt: HostRuntime) -> Result<(), Fail> {
 
 /// Why a certificate of a task alone that has these holds is refused.
 fn lack_of(
-    rt: &(impl Abort + AllocGlobal),
+    rt: &(impl Abort + AllocGlobal + Threads + Sync),
     count: u16,
     holds: &[(u8, u8, u8)],
 ) -> Result<Why, AllocError> {
@@ -230,7 +233,7 @@ fn the_first_broken_line_is_told(rt: HostRuntime) -> Result<(), Fail> {
         assert_eq!(rt; reason_of(&rt, TWO, policy, &both), Why::Forbidden(line));
     }
     let kept = "policy 1\nforbid f receive task l\nforbid f once task l\n";
-    let told = answer(rt.alloc(), TWO.as_bytes(), kept.as_bytes(), &both)?;
+    let told = answer(&rt, rt.alloc(), TWO.as_bytes(), kept.as_bytes(), &both)?;
     assert_eq!(rt; told.as_str(), "accepted");
     Ok(())
 }
@@ -267,13 +270,19 @@ fn texts_without_meaning(rt: HostRuntime) -> Result<(), Fail> {
         ),
         (ONE, ANY, "certificate Magic"),
     ] {
-        let told = answer(rt.alloc(), wiring.as_bytes(), policy.as_bytes(), b"MRCD")?;
+        let told = answer(
+            &rt,
+            rt.alloc(),
+            wiring.as_bytes(),
+            policy.as_bytes(),
+            b"MRCD",
+        )?;
         assert_eq!(rt; told.as_str(), want, "of {wiring:?} and {policy:?}");
     }
     // Bytes that are no text.
-    let told = answer(rt.alloc(), b"\xff", ANY.as_bytes(), &ALONE)?;
+    let told = answer(&rt, rt.alloc(), b"\xff", ANY.as_bytes(), &ALONE)?;
     assert_eq!(rt; told.as_str(), "wiring NotUtf8");
-    let told = answer(rt.alloc(), ONE.as_bytes(), b"policy 1 \xff", &ALONE)?;
+    let told = answer(&rt, rt.alloc(), ONE.as_bytes(), b"policy 1 \xff", &ALONE)?;
     assert_eq!(rt; told.as_str(), "policy NotUtf8");
     Ok(())
 }
@@ -294,7 +303,7 @@ fn certificates_without_meaning(rt: HostRuntime) -> Result<(), Fail> {
         (exchanged.as_slice(), "certificate NotAscending 26"),
         (longer.as_slice(), "certificate Trailing"),
     ] {
-        let told = answer(alloc, ONE.as_bytes(), ANY.as_bytes(), bytes)?;
+        let told = answer(&rt, alloc, ONE.as_bytes(), ANY.as_bytes(), bytes)?;
         assert_eq!(rt; told.as_str(), want);
     }
     Ok(())
@@ -305,7 +314,7 @@ fn what_is_refused_comes_back(rt: HostRuntime) -> Result<(), Fail> {
     let alloc = rt.alloc();
     let claim = claim_of(alloc, TWO, NO_SEND_TO_L)?;
     let bytes = certificate(alloc, 2, 4, 16, &BOTH)?;
-    let once = match check(alloc, claim, read_draft(alloc, &bytes)?) {
+    let once = match check(&rt, alloc, claim, read_draft(alloc, &bytes)?) {
         Ok(_) => panic!(rt; "accepted"),
         Err(refused) => refused,
     };
@@ -313,7 +322,7 @@ fn what_is_refused_comes_back(rt: HostRuntime) -> Result<(), Fail> {
     assert_eq!(rt; once.claim.lines().len(), 1);
     assert_eq!(rt; once.claim.wired().tasks(), 2);
     assert_eq!(rt; once.draft.facts.len(), 16);
-    match check(alloc, once.claim, once.draft) {
+    match check(&rt, alloc, once.claim, once.draft) {
         Ok(_) => panic!(rt; "accepted"),
         Err(again) => assert_eq!(rt; again.why, OrMemory::Fault(Why::Forbidden(2))),
     }
@@ -325,6 +334,7 @@ fn what_is_accepted_shows_its_wiring(rt: HostRuntime) -> Result<(), Fail> {
     let alloc = rt.alloc();
     let bytes = certificate(alloc, 2, 4, 16, &BOTH)?;
     let confined = check(
+        &rt,
         alloc,
         claim_of(alloc, TWO, ANY)?,
         read_draft(alloc, &bytes)?,
@@ -361,7 +371,14 @@ fn rules_have_numbers(rt: HostRuntime) {
 #[test]
 fn memory_that_runs_out_is_told(rt: HostRuntime) {
     let policy = "policy 1\nforbid a once task a\n";
-    let told = check_texts(rt.alloc(), &[], ONE.as_bytes(), policy.as_bytes(), &ALONE);
+    let told = check_texts(
+        &rt,
+        rt.alloc(),
+        &[],
+        ONE.as_bytes(),
+        policy.as_bytes(),
+        &ALONE,
+    );
     match told {
         Ok(confined) => assert_eq!(rt; confined.wired().tasks(), 1),
         Err(refusal) => assert!(rt; matches!(refusal, OrMemory::Memory)),
@@ -402,7 +419,7 @@ fn a_chain_of_the_most_tasks(rt: HostRuntime) -> Result<(), Fail> {
     let wiring = chain(alloc)?;
     let bytes = whole_chain(alloc)?;
     assert_eq!(rt; bytes.len(), 98318);
-    let told = answer(alloc, wiring.as_bytes(), ANY.as_bytes(), &bytes)?;
+    let told = answer(&rt, alloc, wiring.as_bytes(), ANY.as_bytes(), &bytes)?;
     assert_eq!(rt; told.as_str(), "accepted");
     Ok(())
 }

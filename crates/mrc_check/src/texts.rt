@@ -15,6 +15,7 @@ use mrc_interface::{FileFault, Interface, read_interfaces};
 use mrc_wiring::{Claim, ClaimFault, ResolveFault, Wired};
 use mrc_wiring_text::{TextFault, read_policy, read_wiring};
 use std::alloc::Global;
+use std::thread::Threads;
 use thiserror::Error;
 
 /// Why a wiring's bytes mean no wiring.
@@ -120,6 +121,7 @@ fn claim_of(alloc: Global, wired: Wired, policy: &[u8]) -> Result<Claim, OrMemor
 }
 
 fn answered_by(
+    rt: &(impl Threads + Sync),
     alloc: Global,
     claim: Claim,
     certificate: &[u8],
@@ -127,7 +129,7 @@ fn answered_by(
     ensures { Tells result (answered_by claim certificate.now) }
 {
     match read_draft(alloc, certificate) {
-        Ok(draft) => match check(alloc, claim, draft) {
+        Ok(draft) => match check(rt, alloc, claim, draft) {
             Ok(confined) => Ok(confined),
             Err(Refused { claim, draft, why }) => match why {
                 OrMemory::Fault(why) => Err(OrMemory::Fault(TextsFault::Check(Refused {
@@ -145,6 +147,7 @@ fn answered_by(
 
 /// What a wiring's policy and certificate say, step by step.
 fn checked_over(
+    rt: &(impl Threads + Sync),
     alloc: Global,
     wired: Wired,
     policy: &[u8],
@@ -153,7 +156,7 @@ fn checked_over(
     ensures { Tells result (case_over wired policy.now certificate.now) }
 {
     match claim_of(alloc, wired, policy) {
-        Ok(claim) => answered_by(alloc, claim, certificate),
+        Ok(claim) => answered_by(rt, alloc, claim, certificate),
         Err(OrMemory::Fault(fault)) => Err(OrMemory::Fault(TextsFault::Policy(fault))),
         Err(OrMemory::Memory) => Err(OrMemory::Memory),
     }
@@ -161,6 +164,7 @@ fn checked_over(
 
 /// What the files say, step by step.
 fn checked(
+    rt: &(impl Threads + Sync),
     alloc: Global,
     defs: &[Vec<u8>],
     wiring: &[u8],
@@ -171,7 +175,7 @@ fn checked(
         certificate.now) }
 {
     match table_of(alloc, defs, wiring) {
-        Ok(wired) => checked_over(alloc, wired, policy, certificate),
+        Ok(wired) => checked_over(rt, alloc, wired, policy, certificate),
         Err(OrMemory::Fault(SystemFault::Defs(fault))) => {
             Err(OrMemory::Fault(TextsFault::Defs(fault)))
         }
@@ -189,6 +193,7 @@ fn checked(
 /// arguments, or that memory ran out; of a MIG file that the grammar refuses, that it is so, and of
 /// the tokens or ids also where and why.
 pub fn check_texts(
+    rt: &(impl Threads + Sync),
     alloc: Global,
     defs: &[Vec<u8>],
     wiring: &[u8],
@@ -206,5 +211,5 @@ pub fn check_texts(
     ensures fault { Tells result (case_of (map (λ bytes. bytes.items) defs.now) wiring.now
         policy.now certificate.now) }
 {
-    checked(alloc, defs, wiring, policy, certificate)
+    checked(rt, alloc, defs, wiring, policy, certificate)
 }

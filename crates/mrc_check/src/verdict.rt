@@ -10,9 +10,10 @@ ghost use Rattle.mrc_check.specs.Verdict.{HasCounts, IsAccepted, IsWhy, first_br
 
 use mrc_base::{Fact, OrMemory};
 use mrc_certificate::Draft;
-use mrc_classes::{Facts, Missing, RuleName, violation};
+use mrc_classes::{Facts, Missing, RuleName, violation_by};
 use mrc_wiring::{Claim, ForbiddenLine};
 use std::alloc::{AllocError, Global};
+use std::thread::Threads;
 
 /// Why a certificate is refused: the first reason, in the order here.
 #[derive(Clone, Copy, Debug, PartialEq, Eq)]
@@ -71,22 +72,32 @@ fn has_counts(claim: &Claim, draft: &Draft) -> bool
 }
 
 /// The first fact that the draft lacks, with its rule.
-fn first_missing(alloc: Global, claim: &Claim, draft: &Draft) -> Result<Option<Missing>, AllocError>
+fn first_missing(
+    rt: &(impl Threads + Sync),
+    alloc: Global,
+    claim: &Claim,
+    draft: &Draft,
+) -> Result<Option<Missing>, AllocError>
     ensures { IfOk result
         (IsAnswer (wiring_of claim.now.table) (has (content draft.now).facts)) }
 {
-    violation(alloc, claim.wired(), &draft.facts)
+    violation_by(rt, alloc, claim.wired(), &draft.facts)
 }
 
 /// Whether the draft is accepted, and else the first reason why not.
-pub(crate) fn judge(alloc: Global, claim: &Claim, draft: &Draft) -> Result<(), OrMemory<Why>>
+pub(crate) fn judge(
+    rt: &(impl Threads + Sync),
+    alloc: Global,
+    claim: &Claim,
+    draft: &Draft,
+) -> Result<(), OrMemory<Why>>
     ensures found { OnOk result (IsAccepted claim.now (content draft.now)) }
     ensures fault { IfErr result (UnlessMemory (IsWhy claim.now (content draft.now))) }
 {
     if !has_counts(claim, draft) {
         return Err(OrMemory::Fault(Why::Counts));
     }
-    match first_missing(alloc, claim, draft)? {
+    match first_missing(rt, alloc, claim, draft)? {
         Some(missing) => Err(OrMemory::Fault(reason(missing.rule, missing.fact))),
         None => match first_broken(&draft.facts, claim.lines()) {
             Some(line) => Err(OrMemory::Fault(Why::Forbidden(line))),

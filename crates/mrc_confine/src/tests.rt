@@ -9,6 +9,7 @@ use mrc_machine::{Call, Reply};
 use mrc_model::{Code, Denied};
 use std::alloc::{AllocError, Global};
 use std::test::Fail;
+use std::thread::Threads;
 
 const WIRING: &str = "wiring 1\ntask a\n";
 
@@ -23,8 +24,8 @@ const ALONE: [u8; 38] = [
 ];
 
 /// A task alone, as it was checked.
-fn alone(alloc: Global) -> Result<Confined, AllocError> {
-    match check_texts(alloc, &[], WIRING.as_bytes(), POLICY.as_bytes(), &ALONE) {
+fn alone(rt: &(impl Threads + Sync), alloc: Global) -> Result<Confined, AllocError> {
+    match check_texts(rt, alloc, &[], WIRING.as_bytes(), POLICY.as_bytes(), &ALONE) {
         Ok(confined) => Ok(confined),
         Err(_) => Err(AllocError),
     }
@@ -41,7 +42,7 @@ fn laws_are_calls_that_do_nothing() {
 
 #[test]
 fn what_was_checked_is_safe(rt: HostRuntime) -> Result<(), Fail> {
-    confined_is_safe(&alone(rt.alloc())?);
+    confined_is_safe(&alone(&rt, rt.alloc())?);
     Ok(())
 }
 
@@ -65,8 +66,8 @@ fn replies(guarded: &mut Guarded) -> [bool; 3] {
 }
 
 /// The replies, and how many ports there are then.
-fn run_alone(alloc: Global) -> Result<([bool; 3], usize), AllocError> {
-    match Guarded::start(alloc, alone(alloc)?) {
+fn run_alone(rt: &(impl Threads + Sync), alloc: Global) -> Result<([bool; 3], usize), AllocError> {
+    match Guarded::start(alloc, alone(rt, alloc)?) {
         Ok(mut guarded) => Ok((replies(&mut guarded), guarded.world().live_ports())),
         Err(_) => Err(AllocError),
     }
@@ -74,7 +75,7 @@ fn run_alone(alloc: Global) -> Result<([bool; 3], usize), AllocError> {
 
 #[test]
 fn what_was_checked_runs(rt: HostRuntime) -> Result<(), Fail> {
-    let (right, ports) = run_alone(rt.alloc())?;
+    let (right, ports) = run_alone(&rt, rt.alloc())?;
     assert_eq!(rt; right, [true; 3]);
     assert_eq!(rt; ports, 2);
     Ok(())
@@ -91,7 +92,7 @@ fn comes_back(alloc: Global, confined: Confined) -> Result<bool, AllocError> {
 
 #[test]
 fn what_was_checked_comes_back(rt: HostRuntime) -> Result<(), Fail> {
-    assert!(rt; comes_back(rt.alloc(), alone(rt.alloc())?)?);
+    assert!(rt; comes_back(rt.alloc(), alone(&rt, rt.alloc())?)?);
     Ok(())
 }
 
@@ -151,9 +152,10 @@ const GOT: [u8; 40] = [
 ];
 
 /// The file server, as it was checked.
-fn checked_files(alloc: Global) -> Result<Confined, AllocError> {
+fn checked_files(rt: &(impl Threads + Sync), alloc: Global) -> Result<Confined, AllocError> {
     let defs = vec![in alloc; Vec::from_slice(alloc, FILE_SERVER.as_bytes())?]?;
     let answer = check_texts(
+        rt,
         alloc,
         defs.as_slice(),
         FILES.as_bytes(),
@@ -170,10 +172,10 @@ fn checked_files(alloc: Global) -> Result<Confined, AllocError> {
 // refused in turn.
 
 /// The file server, as it was checked.
-fn file_server(alloc: Global) -> Result<Confined, AllocError> {
-    match checked_files(alloc) {
+fn file_server(rt: &(impl Threads + Sync), alloc: Global) -> Result<Confined, AllocError> {
+    match checked_files(rt, alloc) {
         Ok(confined) => Ok(confined),
-        Err(_) => checked_files(alloc),
+        Err(_) => checked_files(rt, alloc),
     }
 }
 
@@ -287,8 +289,11 @@ fn gets(guarded: &mut Guarded) -> [bool; 2] {
 }
 
 /// Which replies were right, and whether what was checked comes back in the end.
-fn run_files(alloc: Global) -> Result<([bool; 3], [bool; 4], [bool; 2], bool), AllocError> {
-    let confined = file_server(alloc)?;
+type Replies = ([bool; 3], [bool; 4], [bool; 2], bool);
+
+/// The whole run of the file server.
+fn run_files(rt: &(impl Threads + Sync), alloc: Global) -> Result<Replies, AllocError> {
+    let confined = file_server(rt, alloc)?;
     let copy = copied(alloc, &confined)?;
     let mut guarded = started(alloc, confined)?;
     let asked = asks(alloc, &mut guarded)?;
@@ -299,7 +304,7 @@ fn run_files(alloc: Global) -> Result<([bool; 3], [bool; 4], [bool; 2], bool), A
 
 #[test]
 fn a_file_server_runs(rt: HostRuntime) -> Result<(), Fail> {
-    let (asked, answered, got, comes_back) = run_files(rt.alloc())?;
+    let (asked, answered, got, comes_back) = run_files(&rt, rt.alloc())?;
     assert_eq!(rt; asked, [true; 3]);
     assert_eq!(rt; answered, [true; 4]);
     assert_eq!(rt; got, [true; 2]);

@@ -58,11 +58,17 @@ const NOBODY: [u8; 14] = [
 ];
 
 /// The machine of this wiring, in its first state.
-fn started(alloc: Global, wiring: &str, certificate: &[u8]) -> Result<Guarded, AllocError>
+fn started(
+    rt: &(impl Threads + Sync),
+    alloc: Global,
+    wiring: &str,
+    certificate: &[u8],
+) -> Result<Guarded, AllocError>
     ensures { IfOk result (λ g. g.world ≡ first (wiring_in g.confined)) }
 {
     let defs = vec![in alloc; Vec::from_slice(alloc, PING.as_bytes())?]?;
     let answer = check_texts(
+        rt,
         alloc,
         defs.as_slice(),
         wiring.as_bytes(),
@@ -79,12 +85,12 @@ fn started(alloc: Global, wiring: &str, certificate: &[u8]) -> Result<Guarded, A
 }
 
 /// The machine of a task alone, in its first state; made once more where memory ran out.
-fn machine(alloc: Global) -> Result<Guarded, AllocError>
+fn machine(rt: &(impl Threads + Sync), alloc: Global) -> Result<Guarded, AllocError>
     ensures { IfOk result (λ g. g.world ≡ first (wiring_in g.confined)) }
 {
-    match started(alloc, WIRING, &ALONE) {
+    match started(rt, alloc, WIRING, &ALONE) {
         Ok(guarded) => Ok(guarded),
-        Err(_) => started(alloc, WIRING, &ALONE),
+        Err(_) => started(rt, alloc, WIRING, &ALONE),
     }
 }
 
@@ -254,7 +260,7 @@ fn two_seats<L: Ledger, R: Wait>(
 #[test]
 fn answers_of_two_seats(rt: HostRuntime) -> Result<(), Fail> {
     let alloc = rt.alloc();
-    let told = match two_seats::<Brand, _>(&rt, alloc, machine(alloc)?, Blank::new(257)) {
+    let told = match two_seats::<Brand, _>(&rt, alloc, machine(&rt, alloc)?, Blank::new(257)) {
         Ok(told) => told,
         Err(back) => match two_seats::<Brand, _>(&rt, alloc, back, Blank::new(257)) {
             Ok(told) => told,
@@ -280,11 +286,15 @@ fn received<L: Ledger>(desk: &mut Desk<L>, seat: &mut Seat<L>, sent: Call) -> [b
 }
 
 /// A desk of one seat.
-fn one_desk<L: Ledger>(alloc: Global, blank: Blank) -> Result<([bool; 4], usize), AllocError>
+fn one_desk<L: Ledger, R: Threads + Sync>(
+    rt: &R,
+    alloc: Global,
+    blank: Blank,
+) -> Result<([bool; 4], usize), AllocError>
     requires name { blank.name ≡ L.name }
     requires parts { (blank.parts ≡ L.parts) × (L.parts ≡ 257) }
 {
-    let mut desk = Desk::<L>::new(alloc, machine(alloc)?, 3, blank);
+    let mut desk = Desk::<L>::new(alloc, machine(rt, alloc)?, 3, blank);
     let Some(mut seat) = desk.seat(TaskId(0)) else {
         return Err(AllocError);
     };
@@ -295,7 +305,7 @@ fn one_desk<L: Ledger>(alloc: Global, blank: Blank) -> Result<([bool; 4], usize)
 
 #[test]
 fn what_a_desk_receives(rt: HostRuntime) -> Result<(), Fail> {
-    let (right, events) = one_desk::<Brand>(rt.alloc(), Blank::new(257))?;
+    let (right, events) = one_desk::<Brand, _>(&rt, rt.alloc(), Blank::new(257))?;
     assert_eq!(rt; right, [true; 4]);
     assert_eq!(rt; events, 3);
     Ok(())
@@ -323,7 +333,7 @@ fn finish_without<L: Ledger>(live: Live<L>, seats: Vec<Seat<L>>) -> (bool, usize
 }
 
 /// A journal of one event, and a seat that is let go.
-fn one_event<L: Ledger, R: Wait>(
+fn one_event<L: Ledger, R: Threads + Wait + Sync>(
     rt: &R,
     alloc: Global,
     blank: Blank,
@@ -331,7 +341,7 @@ fn one_event<L: Ledger, R: Wait>(
     requires name { blank.name ≡ L.name }
     requires parts { (blank.parts ≡ L.parts) × (L.parts ≡ 257) }
 {
-    let Ok(live) = Live::<L>::new(alloc, machine(alloc)?, 1, blank) else {
+    let Ok(live) = Live::<L>::new(alloc, machine(rt, alloc)?, 1, blank) else {
         return Err(AllocError);
     };
     let (Ok(mut one), Ok(_)) = (live.seat(rt, TaskId(0)), live.seat(rt, TaskId(0))) else {
@@ -351,7 +361,7 @@ fn a_full_journal_is_told_at_once(rt: HostRuntime) -> Result<(), Fail> {
 }
 
 /// How many seats there are until there are too many.
-fn all_seats<L: Ledger, R: Wait>(
+fn all_seats<L: Ledger, R: Threads + Wait + Sync>(
     rt: &R,
     alloc: Global,
     blank: Blank,
@@ -359,7 +369,7 @@ fn all_seats<L: Ledger, R: Wait>(
     requires name { blank.name ≡ L.name }
     requires parts { (blank.parts ≡ L.parts) × (L.parts ≡ 257) }
 {
-    let Ok(live) = Live::<L>::new(alloc, machine(alloc)?, 1, blank) else {
+    let Ok(live) = Live::<L>::new(alloc, machine(rt, alloc)?, 1, blank) else {
         return Err(AllocError);
     };
     for made in 0..1000usize {
@@ -382,7 +392,7 @@ fn seats_are_256(rt: HostRuntime) -> Result<(), Fail> {
 }
 
 /// What is told of a seat of the first task, where there is none.
-fn seat_of_nobody<L: Ledger, R: Wait>(
+fn seat_of_nobody<L: Ledger, R: Threads + Wait + Sync>(
     rt: &R,
     alloc: Global,
     blank: Blank,
@@ -390,7 +400,7 @@ fn seat_of_nobody<L: Ledger, R: Wait>(
     requires name { blank.name ≡ L.name }
     requires parts { (blank.parts ≡ L.parts) × (L.parts ≡ 257) }
 {
-    let machine = started(alloc, "wiring 1\n", &NOBODY)?;
+    let machine = started(rt, alloc, "wiring 1\n", &NOBODY)?;
     let Ok(live) = Live::<L>::new(alloc, machine, 1, blank) else {
         return Err(AllocError);
     };
@@ -412,7 +422,7 @@ fn two_threads<L: Ledger + Send + Sync, R: Threads + Wait + Sync>(
     requires name { blank.name ≡ L.name }
     requires parts { (blank.parts ≡ L.parts) × (L.parts ≡ 257) }
 {
-    let Ok(live) = Live::<L>::new(alloc, machine(alloc)?, 1000, blank) else {
+    let Ok(live) = Live::<L>::new(alloc, machine(rt, alloc)?, 1000, blank) else {
         return Err(AllocError);
     };
     let (Ok(one), Ok(other)) = (live.seat(rt, TaskId(0)), live.seat(rt, TaskId(0))) else {
@@ -483,7 +493,7 @@ fn eight_threads<L: Ledger + Send + Sync, R: Threads + Wait + Sync>(
     requires name { blank.name ≡ L.name }
     requires parts { (blank.parts ≡ L.parts) × (L.parts ≡ 257) }
 {
-    let Ok(live) = Live::<L>::new(alloc, machine(alloc)?, 1_000_000, blank) else {
+    let Ok(live) = Live::<L>::new(alloc, machine(rt, alloc)?, 1_000_000, blank) else {
         return Err(AllocError);
     };
     let shared = &live;
@@ -527,7 +537,7 @@ fn wake<L: Ledger + Send + Sync, R: Threads + Wait + Sync>(
     requires name { blank.name ≡ L.name }
     requires parts { (blank.parts ≡ L.parts) × (L.parts ≡ 257) }
 {
-    let Ok(live) = Live::<L>::new(alloc, machine(alloc)?, 2000, blank) else {
+    let Ok(live) = Live::<L>::new(alloc, machine(rt, alloc)?, 2000, blank) else {
         return Err(AllocError);
     };
     let (Ok(one), Ok(mut other)) = (live.seat(rt, TaskId(0)), live.seat(rt, TaskId(0))) else {

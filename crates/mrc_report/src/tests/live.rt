@@ -82,9 +82,10 @@ app type 1 4
 ";
 
 /// The file server, as it was checked.
-fn file_server(alloc: Global) -> Result<Confined, AllocError> {
+fn file_server(rt: &(impl Threads + Sync), alloc: Global) -> Result<Confined, AllocError> {
     let defs = vec![in alloc; Vec::from_slice(alloc, FILE_SERVER.as_bytes())?]?;
     let answer = check_texts(
+        rt,
         alloc,
         defs.as_slice(),
         FILES.as_bytes(),
@@ -107,7 +108,7 @@ fn run_files<L: Ledger + Send + Sync, R: Threads + Wait + Sync>(
     requires name { blank.name ≡ L.name }
     requires parts { (blank.parts ≡ L.parts) × (L.parts ≡ 257) }
 {
-    let Ok(guarded) = Guarded::start(alloc, file_server(alloc)?) else {
+    let Ok(guarded) = Guarded::start(alloc, file_server(rt, alloc)?) else {
         return Err(AllocError);
     };
     let Ok(live) = Live::<L>::new(alloc, guarded, 8, blank) else {
@@ -152,7 +153,7 @@ fn too_many<L: Ledger + Send + Sync, R: Threads + Wait + Sync>(
         entered: AtomicBool::new(true),
         gave_up: AtomicBool::new(false),
     };
-    let confined = file_server(alloc)?;
+    let confined = file_server(rt, alloc)?;
     let Ok(script) = read_script(alloc, confined.wired(), "app names 1\napp names 1\n", true) else {
         return Err(AllocError);
     };

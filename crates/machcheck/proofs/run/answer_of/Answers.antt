@@ -5,7 +5,7 @@ use Rattle.machcheck.proofs.ToldLaws.{accepted_by_parts}
 use Rattle.machcheck.proofs.run.answer_of.Goals as goal
 
 pub returns-clause-only : goal.returns-clause-only
-returns-clause-only c case says =
+returns-clause-only g c case says =
     let parts = sym c.bytes.view_is ∙ ap the_view (sym c.bytes-inside.view_is) in
     c.check_texts.ensures.only case
     (accepted_by_parts c.args.bytes.now case c.as_slice.result.now c.as_slice-2.result.now

@@ -7,6 +7,6 @@ use Rattle.mrc_check.proofs.verdict.first_missing.Goals as goal
 
 -- the table of the wiring is that of the claim
 pub returns : goal.returns
-returns c =
-    subst (λ (t : Table). IfOk c.violation.result
-    (IsAnswer (wiring_of t) (has c.args.draft.now.facts))) c.wired.ensures c.violation.ensures
+returns g c =
+    subst (λ (t : Table). IfOk c.violation_by.result
+    (IsAnswer (wiring_of t) (has c.args.draft.now.facts))) c.wired.ensures c.violation_by.ensures

@@ -9,7 +9,7 @@ use Rattle.mrc_check.proofs.verdict.judge.Goals as goal
 
 -- a fact is missing
 pub returns-in-Some-clause-fault : goal.returns-in-Some-clause-fault
-returns-in-Some-clause-fault c =
+returns-in-Some-clause-fault g c =
     let claim = c.args.claim.now in
     let draft = content c.args.draft.now in
     let missing = subst (IsAnswer (wiring_of claim.table) (has draft.facts)) c.in-Some.is
@@ -20,7 +20,7 @@ returns-in-Some-clause-fault c =
 
 -- the counts are right, nothing lacks, no line is broken
 pub returns-in-None-first_broken-clause-found : goal.returns-in-None-first_broken-clause-found
-returns-in-None-first_broken-clause-found c =
+returns-in-None-first_broken-clause-found g c =
     let claim = c.args.claim.now in
     let draft = content c.args.draft.now in
     let closed = subst (IsAnswer (wiring_of claim.table) (has draft.facts)) c.in-None.is
