@@ -26,6 +26,7 @@ fn done(alloc: Global, work: &str, times: u32, size: usize) -> Result<usize> {
         "arguments" => messages::read_and_write(&messages::arguments(alloc)?, alloc, times),
         "subsystem" => subsystems::read(&subsystems::routines(alloc)?, alloc, times),
         "types" => subsystems::read(&subsystems::types(alloc, size)?, alloc, times),
+        "alike" => subsystems::read(&subsystems::alike(alloc, size)?, alloc, times),
         "options" => subsystems::read(&subsystems::options(alloc, size)?, alloc, times),
         "arrays" => subsystems::read(&subsystems::arrays(alloc, size)?, alloc, times),
         "sums" => subsystems::read(&subsystems::sums(alloc, size)?, alloc, times),

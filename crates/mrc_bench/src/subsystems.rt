@@ -3,8 +3,8 @@
 use anyhow::{Result, anyhow};
 use mrc_base::limits;
 use mrc_interface::Interface;
-use mrc_mig_lex::lex;
 use mrc_mig_parse::parse;
+use mrc_mig_symbols::lex;
 use std::alloc::{AllocError, Global};
 use std::fmt::Write;
 
@@ -49,6 +49,19 @@ pub fn types(alloc: Global, size: usize) -> Result<String> {
             break;
         }
         write!(text, "type t{number} = int;\n")?;
+    }
+    Ok(text)
+}
+
+/// A file of this size, and a little more, that declares types whose names are 64 bytes long and
+/// differ in the last of them alone.
+pub fn alike(alloc: Global, size: usize) -> Result<String> {
+    let mut text = String::from_str(alloc, HEAD)?;
+    for number in 0..size {
+        if text.len() >= size {
+            break;
+        }
+        write!(text, "type {number:t>64} = int;\n")?;
     }
     Ok(text)
 }
@@ -99,7 +112,7 @@ pub fn parentheses(alloc: Global, size: usize) -> Result<String, AllocError> {
 /// Reads a file up to its forms.
 fn once(text: &str, alloc: Global) -> Result<()> {
     let tokens = lex(alloc, text)?;
-    let subsystem = parse(alloc, tokens.as_slice())?;
+    let subsystem = parse(alloc, &tokens)?;
     match Interface::of(alloc, subsystem) {
         Ok(_) => Ok(()),
         Err((_, refusal)) => Err(anyhow!("{refusal}")),

@@ -2,8 +2,8 @@
 
 use anyhow::Result;
 use mrc_base::OrMemory;
-use mrc_mig_lex::{Sign, Token, TokenKind, lex};
-use mrc_mig_symbols::{Rest, basic_of, expression, fault_of, place_of};
+use mrc_mig_lex::{LexFault, Sign, Token, TokenKind, next_token};
+use mrc_mig_symbols::{Rest, basic_of, expression, fault_of, lex, place_of};
 use std::alloc::{AllocError, Global};
 
 fn sign_mark(sign: Sign) -> char {
@@ -37,9 +37,25 @@ fn mark(kind: TokenKind) -> char {
     }
 }
 
+/// The tokens of a text, with their kinds and their own texts.
+fn tokens_of(alloc: Global, text: &str) -> Result<Vec<Token<'_>>, OrMemory<LexFault>> {
+    let mut tokens = Vec::new(alloc);
+    let mut at = 0;
+    let mut fresh = true;
+    for _ in 0..text.len() {
+        let Some(token) = next_token(text, at, fresh)? else {
+            return Ok(tokens);
+        };
+        at = token.end();
+        fresh = false;
+        tokens.push(token)?;
+    }
+    Ok(tokens)
+}
+
 /// A character for each token, or the fault.
 pub fn marks(alloc: Global, text: &str) -> Result<String> {
-    let tokens = match lex(alloc, text) {
+    let tokens = match tokens_of(alloc, text) {
         Ok(tokens) => tokens,
         Err(fault) => return Ok(fault.to_string(alloc)?),
     };
@@ -62,7 +78,7 @@ fn shown(alloc: Global, token: &Token<'_>) -> Result<String, AllocError> {
 
 /// Each token, or the fault.
 pub fn tokens(alloc: Global, text: &str) -> Result<String> {
-    let tokens = match lex(alloc, text) {
+    let tokens = match tokens_of(alloc, text) {
         Ok(tokens) => tokens,
         Err(fault) => return Ok(fault.to_string(alloc)?),
     };
@@ -80,7 +96,7 @@ pub fn symbols(alloc: Global, text: &str) -> Result<String> {
         Err(fault) => return Ok(fault.to_string(alloc)?),
     };
     let mut line = String::new(alloc);
-    let mut rest = Rest::new(tokens.as_slice());
+    let mut rest = Rest::new(&tokens);
     for _ in 0..tokens.len() {
         line.push_str(format!(in alloc; " {:?};", rest.first())?.as_str())?;
         rest = rest.next();
@@ -99,13 +115,12 @@ pub fn value(alloc: Global, text: &str) -> Result<String> {
         Ok(tokens) => tokens,
         Err(fault) => return Ok(fault.to_string(alloc)?),
     };
-    let tokens = tokens.as_slice();
-    let line = match expression(alloc, Rest::new(tokens)) {
+    let line = match expression(alloc, Rest::new(&tokens)) {
         Ok((value, rest)) => {
-            let end = place_of(tokens, rest.len());
+            let end = place_of(&tokens, rest.len());
             format!(in alloc; "{value} to {end}")?
         }
-        Err(OrMemory::Fault(stop)) => fault_of(tokens, stop).to_string(alloc)?,
+        Err(OrMemory::Fault(stop)) => fault_of(&tokens, stop).to_string(alloc)?,
         Err(OrMemory::Memory) => String::from_str(alloc, "Memory")?,
     };
     Ok(line)

@@ -13,8 +13,8 @@ ghost use Rattle.mrc_interface.specs.Reading.{step, text_of, interface_of, inter
 use crate::fault::{DefsFault, FileFault};
 use crate::interface::Interface;
 use mrc_base::OrMemory;
-use mrc_mig_lex::{Token, lex};
 use mrc_mig_parse::{Subsystem, parse};
+use mrc_mig_symbols::{Tokens, lex};
 use std::alloc::Global;
 use std::str;
 
@@ -29,8 +29,8 @@ fn text_of(bytes: &[u8]) -> Result<&str, OrMemory<DefsFault>>
 }
 
 /// The tokens of a text.
-fn tokens_of(alloc: Global, text: &str) -> Result<Vec<Token<'_>>, OrMemory<DefsFault>>
-    ensures { GivesAs (λ tokens. tokens.items) reason_of result
+fn tokens_of(alloc: Global, text: &str) -> Result<Tokens<'_>, OrMemory<DefsFault>>
+    ensures { GivesAs (λ tokens. tokens) reason_of result
         (step NoTokens (tokens_of text.now)) }
 {
     match lex(alloc, text) {
@@ -41,7 +41,7 @@ fn tokens_of(alloc: Global, text: &str) -> Result<Vec<Token<'_>>, OrMemory<DefsF
 }
 
 /// The subsystem of tokens.
-fn subsystem_of(alloc: Global, tokens: &[Token<'_>]) -> Result<Subsystem, OrMemory<DefsFault>>
+fn subsystem_of(alloc: Global, tokens: &Tokens<'_>) -> Result<Subsystem, OrMemory<DefsFault>>
     ensures { GivesAs (λ subsystem. subsystem) reason_of result
         (ok_or (meaning_of tokens.now) NoFile) }
 {
@@ -69,7 +69,7 @@ fn interface_of(alloc: Global, bytes: &[u8]) -> Result<Interface, OrMemory<DefsF
 {
     let text = text_of(bytes)?;
     let tokens = tokens_of(alloc, text)?;
-    let subsystem = subsystem_of(alloc, tokens.as_slice())?;
+    let subsystem = subsystem_of(alloc, &tokens)?;
     table_of(alloc, subsystem)
 }
 

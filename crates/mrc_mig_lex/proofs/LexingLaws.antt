@@ -1,11 +1,11 @@
 -- The tokens of a text, piece by piece.
-use Rattle.std.proofs.Common.{◌≡◌, ◌≢◌, ℕ, zero, suc, ◌+◌, ◌-◌, ◌≤◌, Bool, true, List, [], ◌∷◌}
+use Rattle.std.proofs.Common.{◌≡◌, ◌≢◌, ℕ, zero, suc, ◌+◌, ◌-◌, ◌≤◌, Bool, false, List, [], ◌∷◌}
 use Rattle.std.proofs.Common.{◌++◌, length, get_or, take, drop, Option, Some, None, option_map}
 use Rattle.std.proofs.Common.{option_to_list, Result, Ok, Err, IsUtf8, refl, sym, ap, ◌∙◌, subst}
-use Rattle.std.proofs.Common.{⊎_elim, arith, append_assoc, length-drop}
+use Rattle.std.proofs.Common.{⊎_elim, arith, length-drop, length-take}
 use Rattle.std.specs.Str.{IsCharBoundary}
 use Rattle.std.proofs.lemmas.Bool.{cases_lt}
-use Rattle.std.proofs.lemmas.List.{append-nil, drop-drop, take_rest, get_or-drop}
+use Rattle.std.proofs.lemmas.List.{drop-drop, take_rest, get_or-drop}
 use Rattle.std.proofs.lemmas.Str.{IsCharBoundary-before_ascii, IsCharBoundary-after_ascii}
 use Rattle.std.proofs.lemmas.Str.{IsCharBoundary-end}
 use Rattle.mrc_base.specs.Reading.{◌>>=◌}
@@ -14,21 +14,8 @@ use Rattle.mrc_mig_lex.specs.declared.fault.LexFault.{LexFault}
 use Rattle.mrc_mig_lex.specs.declared.piece.Piece.{Piece}
 use Rattle.mrc_mig_lex.specs.Tokens.{Lexeme}
 use Rattle.mrc_mig_lex.specs.Pieces.{piece_at}
-use Rattle.mrc_mig_lex.specs.Lexing.{lexeme_of, tokens_from, tokens_of}
+use Rattle.mrc_mig_lex.specs.Lexing.{lexeme_of, tokens_from, tokens_behind, BeginsWith}
 use Rattle.mrc_mig_lex.proofs.PieceLaws.{piece_is}
-
--- these tokens, and then those
-abbrev pub after : List Lexeme → Result (List Lexeme) LexFault → Result (List Lexeme) LexFault
-after front read = read >>= (λ later. Ok (front ++ later))
-
-after_nil : (read : Result (List Lexeme) LexFault) → after [] read ≡ read
-after_nil (Ok later) = refl
-after_nil (Err fault) = refl
-
-after_after : (front middle : List Lexeme) (read : Result (List Lexeme) LexFault)
-    → after front (after middle read) ≡ after (front ++ middle) read
-after_after front middle (Ok later) = ap Ok (sym (append_assoc front middle later))
-after_after front middle (Err fault) = refl
 
 -- the bytes that still belong to the piece before are passed over
 pub passed_over : (left : ℕ) (fresh : Bool) (at : ℕ) (rest : List ℕ)
@@ -40,22 +27,19 @@ passed_over (suc left) fresh at (c ∷ rest) =
     let e : at + 1 + left ≡ at + suc left = omega arith in
     passed_over left fresh (at + 1) rest ∙ ap (λ i. tokens_from 0 fresh i (drop left rest)) e
 
--- out are the tokens before this place, and those from there on complete the tokens of the text
-pub record IsReadTo (text : List ℕ) (out : List Lexeme) (at : ℕ) (fresh : Bool) : Type 0 where
+-- what is read from this place on is all that there is to read
+pub record IsReadTo (text : List ℕ) (read : Result (List Lexeme) LexFault) (at : ℕ) (fresh : Bool)
+    : Type 0 where
   pub within : at ≤ length text
-  pub completed : after out (tokens_from 0 fresh at (drop at text)) ≡ tokens_of text
+  pub same : tokens_behind fresh at text ≡ read
 
-pub at_start : (text : List ℕ) → IsReadTo text [] 0 true
-at_start text = record { within = omega arith; completed = after_nil (tokens_of text) }
+pub at_end : (text : List ℕ) (read : Result (List Lexeme) LexFault) (at : ℕ) (fresh : Bool)
+    → IsReadTo text read at fresh → drop at text ≡ [] → read ≡ Ok []
+at_end text read at fresh here nothing =
+    sym here.same ∙ ap (λ l. tokens_from 0 fresh at l) nothing
 
-pub at_end : (text : List ℕ) (out : List Lexeme) (at : ℕ) (fresh : Bool)
-    → IsReadTo text out at fresh → drop at text ≡ [] → tokens_of text ≡ Ok out
-at_end text out at fresh read nothing =
-    sym read.completed ∙ ap (λ l. after out (tokens_from 0 fresh at l)) nothing
-    ∙ ap Ok (append-nil out)
-
-module _ {text : List ℕ} {out : List Lexeme} {at : ℕ} {fresh : Bool} {first : ℕ} {rest : List ℕ}
-    (read : IsReadTo text out at fresh) (left : drop at text ≡ first ∷ rest) where
+module _ {text : List ℕ} {all : Result (List Lexeme) LexFault} {at : ℕ} {fresh : Bool} {first : ℕ}
+    {rest : List ℕ} (read : IsReadTo text all at fresh) (left : drop at text ≡ first ∷ rest) where
   -- the rest, and how long it is
   rest_is : (n : ℕ) → drop n rest ≡ drop (at + 1 + n) text
   rest_is n = let e : at + suc n ≡ at + 1 + n = omega arith in
@@ -67,31 +51,30 @@ module _ {text : List ℕ} {out : List Lexeme} {at : ℕ} {fresh : Bool} {first 
   byte_is : (n : ℕ) → get_or (first ∷ rest) n 0 ≡ get_or text (at + n) 0
   byte_is n = ap (λ l. get_or l n 0) (sym left) ∙ get_or-drop at text n 0
 
-  pub at_fault : (fault : LexFault) → piece_at at fresh first rest ≡ Err fault
-      → tokens_of text ≡ Err fault
+  pub at_fault : (fault : LexFault) → piece_at at fresh first rest ≡ Err fault → all ≡ Err fault
   at_fault fault fails =
-      sym read.completed ∙ ap (λ l. after out (tokens_from 0 fresh at l)) left
-      ∙ ap (λ r. after out
-      (r >>= (λ piece. after (lexeme_of piece at first rest)
-      (tokens_from piece.more piece.fresh (at + 1) rest)))) fails
+      sym read.same ∙ ap (λ l. tokens_from 0 fresh at l) left
+      ∙ ap (λ r. r >>= (λ piece. tokens_from piece.more piece.fresh (at + 1) rest
+      >>= λ later. Ok (lexeme_of piece at first rest ++ later))) fails
 
   pub at_piece : (piece : Piece) → piece_at at fresh first rest ≡ Ok piece
-      → IsReadTo text (out ++ lexeme_of piece at first rest) (at + 1 + piece.more) piece.fresh
+      → all ≡ (tokens_behind piece.fresh (at + 1 + piece.more) text
+      >>= λ later. Ok (lexeme_of piece at first rest ++ later))
   at_piece piece found =
-      let front = lexeme_of piece at first rest in
-      let is_piece = (piece_is at fresh first rest).ok piece found in
-      let onward : tokens_from piece.more piece.fresh (at + 1) rest ≡ tokens_from 0 piece.fresh
-      (at + 1 + piece.more) (drop (at + 1 + piece.more) text) =
+      let onward : tokens_from piece.more piece.fresh (at + 1) rest
+      ≡ tokens_behind piece.fresh (at + 1 + piece.more) text =
       passed_over piece.more piece.fresh (at + 1) rest
       ∙ ap (tokens_from 0 piece.fresh (at + 1 + piece.more)) (rest_is piece.more) in
-      record {
-        within = omega (arith, length_is, is_piece.within);
-        completed = sym (after_after out front _) ∙ ap (λ r. after out (after front r)) (sym onward)
-            ∙ ap (λ r. after out
-            (r >>= (λ piece. after (lexeme_of piece at first rest)
-            (tokens_from piece.more piece.fresh (at + 1) rest)))) (sym found)
-            ∙ ap (λ l. after out (tokens_from 0 fresh at l)) (sym left) ∙ read.completed;
-      }
+      sym read.same ∙ ap (λ l. tokens_from 0 fresh at l) left
+      ∙ ap (λ r. r >>= (λ piece. tokens_from piece.more piece.fresh (at + 1) rest
+      >>= λ later. Ok (lexeme_of piece at first rest ++ later))) found
+      ∙ ap (λ r. r >>= λ later. Ok (lexeme_of piece at first rest ++ later)) onward
+
+  pub within_text : (piece : Piece) → piece_at at fresh first rest ≡ Ok piece
+      → at + 1 + piece.more ≤ length text
+  within_text piece found =
+      let is_piece = (piece_is at fresh first rest).ok piece found in
+      omega (arith, length_is, is_piece.within)
 
   -- a token can be cut out of the text
   pub begins_char : (piece : Piece) → piece_at at fresh first rest ≡ Ok piece → piece.kind ≢ None
@@ -124,41 +107,67 @@ module _ {text : List ℕ} {out : List Lexeme} {at : ℕ} {fresh : Bool} {first 
       (cases_lt (at + 1 + piece.more) (length text)))
       (is_piece.ends some)
 
-  -- past a token
+  -- a token, and what is behind it
   pub at_token : (piece : Piece) (kind : TokenKind) (bytes : List ℕ)
       → piece_at at fresh first rest ≡ Ok piece → piece.kind ≡ Some kind
       → bytes ≡ take (at + 1 + piece.more - at) (drop at text)
-      → IsReadTo text (out ++ record { kind = kind; at = at; bytes = bytes } ∷ [])
-      (at + 1 + piece.more) piece.fresh
+      → all ≡ (tokens_behind piece.fresh (at + 1 + piece.more) text
+      >>= λ later. Ok (record { kind = kind; at = at; bytes = bytes } ∷ later))
   at_token piece kind bytes found kind_is bytes_are =
       let size : at + 1 + piece.more - at ≡ suc piece.more = omega arith in
       let cut : bytes ≡ first ∷ take piece.more rest = bytes_are
       ∙ ap (λ n. take n (drop at text)) size ∙ ap (take (suc piece.more)) left in
-      let token : List Lexeme = record { kind = kind; at = at; bytes = bytes } ∷ [] in
-      let same : lexeme_of piece at first rest ≡ token =
-      ap (λ o. option_to_list
-      (option_map (λ k. record { kind = k; at = at; bytes = first ∷ take piece.more rest }) o))
-      kind_is ∙ ap (λ l. record { kind = kind; at = at; bytes = l } ∷ []) (sym cut) in
-      subst (λ (ts : List Lexeme). IsReadTo text (out ++ ts) (at + 1 + piece.more) piece.fresh) same
-      (at_piece piece found)
+      at_piece piece found
+      ∙ ap (λ o. tokens_behind piece.fresh (at + 1 + piece.more) text
+      >>= λ later. Ok (option_to_list
+      (option_map (λ k. record { kind = k; at = at; bytes = first ∷ take piece.more rest }) o)
+      ++ later)) kind_is
+      ∙ ap (λ l. tokens_behind piece.fresh (at + 1 + piece.more) text
+      >>= λ later. Ok (record { kind = kind; at = at; bytes = l } ∷ later)) (sym cut)
+
+  pub begins_with : (piece : Piece) (kind : TokenKind) (bytes : List ℕ)
+      → piece_at at fresh first rest ≡ Ok piece → piece.kind ≡ Some kind
+      → bytes ≡ take (at + 1 + piece.more - at) (drop at text)
+      → BeginsWith text (Ok (Some (record { kind = kind; at = at; bytes = bytes }))) all
+  begins_with piece kind bytes found kind_is bytes_are =
+      let is_piece = (piece_is at fresh first rest).ok piece found in
+      let size : length bytes ≡ suc piece.more =
+      omega (
+        arith,
+        ap length bytes_are,
+        length-take (at + 1 + piece.more - at) (drop at text),
+        ap length left,
+        is_piece.within,
+      ) in
+      let end_is : at + 1 + piece.more ≡ at + length bytes = omega arith in
+      at_token piece kind bytes found kind_is bytes_are
+      ∙ ap (λ f. tokens_behind f (at + 1 + piece.more) text
+      >>= λ later. Ok (record { kind = kind; at = at; bytes = bytes } ∷ later))
+      (is_piece.stale (λ none. cc))
+      ∙ ap (λ i. tokens_behind false i text
+      >>= λ later. Ok (record { kind = kind; at = at; bytes = bytes } ∷ later)) end_is
 
   -- past a blank or a comment
   pub at_gap : (piece : Piece) → piece_at at fresh first rest ≡ Ok piece
       → ((kind : TokenKind) → piece.kind ≡ Some kind → ⊥)
-      → IsReadTo text out (at + 1 + piece.more) piece.fresh
+      → IsReadTo text all (at + 1 + piece.more) piece.fresh
   at_gap piece found other =
-      subst (λ (ts : List Lexeme). IsReadTo text ts (at + 1 + piece.more) piece.fresh)
-      (ap (λ ts. out ++ ts) (no_token piece.kind other) ∙ append-nil out) (at_piece piece found)
+      record {
+        within = within_text piece found;
+        same = sym (at_piece piece found ∙ none piece.kind other _);
+      }
     where
-      no_token : (o : Option TokenKind) → ((kind : TokenKind) → o ≡ Some kind → ⊥)
-          → option_to_list {X = Lexeme}
+      none : (o : Option TokenKind) → ((kind : TokenKind) → o ≡ Some kind → ⊥)
+          → (read : Result (List Lexeme) LexFault)
+          → (read >>= λ later. Ok (option_to_list {X = Lexeme}
           (option_map (λ kind. record {
             kind = kind;
             at = at;
             bytes = first ∷ take piece.more rest;
-          }) o) ≡ []
-      no_token None _ = refl
-      no_token (Some kind) none = absurd (none kind refl)
+          }) o) ++ later)) ≡ read
+      none None _ (Ok later) = refl
+      none None _ (Err fault) = refl
+      none (Some kind) not read = absurd (not kind refl)
 
 -- what is left of a text, by its bytes
 pub left_is : (text bytes : List ℕ) (at first : ℕ) (rest : List ℕ) → bytes ≡ text

@@ -25,9 +25,11 @@ use Rattle.mrc_mig_lex.specs.Characters.{line_feed, is_blank, begins_name, conti
 use Rattle.mrc_mig_lex.specs.Pieces.{token, gap, line_len, closed_len, comment_len, number_at}
 use Rattle.mrc_mig_lex.specs.Pieces.{closed_at, comment_at, sign_at, piece_at}
 
--- a piece lies within its text, and a token begins and ends beside an ASCII character
+-- a piece lies within its text, and a token begins and ends beside an ASCII character; behind it
+-- the line is not blank
 pub record IsPieceOf (first : ℕ) (rest : List ℕ) (piece : Piece) : Type 0 where
   pub within : piece.more ≤ length rest
+  pub stale : piece.kind ≢ None → piece.fresh ≡ false
   pub begins : piece.kind ≢ None → first < 128
   pub ends : piece.kind ≢ None → (get_or (first ∷ rest) piece.more 0 < 128)
       ⊎ (get_or rest piece.more 0 < 128)
@@ -66,6 +68,7 @@ gap_is : (first : ℕ) (rest : List ℕ) (more : ℕ) (fresh : Bool) → more �
 gap_is first rest more fresh within =
     record {
       within = within;
+      stale = λ some. absurd (some refl);
       begins = λ some. absurd (some refl);
       ends = λ some. absurd (some refl);
     }
@@ -73,7 +76,12 @@ gap_is first rest more fresh within =
 token_is : (kind : TokenKind) (first : ℕ) (rest : List ℕ) (more : ℕ) → more ≤ length rest
     → first < 128 → get_or (first ∷ rest) more 0 < 128 → IsPieceOf first rest (token kind more)
 token_is kind first rest more within begins ends =
-    record { within = within; begins = λ _. begins; ends = λ _. inl ends }
+    record {
+      within = within;
+      stale = λ _. refl;
+      begins = λ _. begins;
+      ends = λ _. inl ends;
+    }
 
 -- a run of ASCII characters of one kind
 run_is : (p : ℕ → Bool) (kind : TokenKind) (first : ℕ) (rest : List ℕ)
@@ -117,6 +125,7 @@ directive_is : (first : ℕ) (rest : List ℕ) → first < 128
 directive_is first rest begins =
     record {
       within = prefix_len-le-length _ rest;
+      stale = λ _. refl;
       begins = λ _. begins;
       ends = λ _. inr
           (⊎_elim (λ inside. let e = eqb-true (get_or rest (line_len rest) 0) 10

@@ -1,58 +1,35 @@
-//! The tokens of a whole text.
+//! The tokens of a text, one after the other.
 
-ghost use Rattle.std.specs.Prelude.{List, All, Ok, IfOk};
-ghost use Rattle.mrc_base.specs.Reading.{Gives};
-ghost use Rattle.mrc_mig_lex.specs.Tokens.{Lexeme, IsSliceOf, AreInOrder};
-ghost use Rattle.mrc_mig_lex.specs.Parts.{HasTokens};
-ghost use Rattle.mrc_mig_lex.specs.Lexing.{tokens_of};
+ghost use Rattle.std.specs.Prelude.{◌<◌, ◌≤◌, length, IfOk, IfSome};
+ghost use Rattle.mrc_mig_lex.specs.Tokens.{end_of};
+ghost use Rattle.mrc_mig_lex.specs.Lexing.{tokens_behind, BeginsWith};
 
 use crate::fault::LexFault;
 use crate::piece::piece_at;
 use crate::token::Token;
-use mrc_base::OrMemory;
-use std::alloc::Global;
 
-/// Reads a text piece by piece, each behind the one before.
-fn scan(alloc: Global, text: &str) -> Result<Vec<Token<'_>>, OrMemory<LexFault>>
-    ensures { Gives (λ tokens. tokens.items) result (tokens_of text.now) }
+/// The first token of a text from this place on, or none, or the first fault. `fresh` says that
+/// only blanks stand before the place on its line: it holds at 0, and not where a token ends.
+pub fn next_token(text: &str, at: usize, fresh: bool) -> Result<Option<Token<'_>>, LexFault>
+    // The tokens from there on begin with this one; or there is none, or their first fault is this.
+    ensures exact { BeginsWith text.now result (tokens_behind fresh at text.now) }
+    ensures within { IfOk result (λ found. IfSome found (λ token.
+        (at < end_of token) × (end_of token ≤ length text.now))) }
 {
     let bytes = text.as_bytes();
-    let mut tokens = Vec::new(alloc);
-    let mut at = 0;
-    let mut fresh = true;
-    while let Some((first, rest)) = bytes[at..].split_first() {
-        let piece = piece_at(at, fresh, *first, rest)?;
-        let end = at + 1 + piece.more;
+    if at > bytes.len() {
+        return Ok(None);
+    }
+    let mut place = at;
+    let mut fresh = fresh;
+    while let Some((first, rest)) = bytes[place..].split_first() {
+        let piece = piece_at(place, fresh, *first, rest)?;
+        let end = place + 1 + piece.more;
         if let Some(kind) = piece.kind {
-            tokens.push(Token::new(kind, at, &text[at..end]))?;
+            return Ok(Some(Token::new(kind, place, &text[place..end])));
         }
         fresh = piece.fresh;
-        at = end;
+        place = end;
     }
-    Ok(tokens)
-}
-
-/// The tokens of a MIG subsystem text from left to right, or its first fault in byte order.
-///
-/// Each token is the longest that stands at its place, between blanks (space, tab, carriage return,
-/// line feed) and comments. They are those of the grammar of the Server Writer's Guide for MIG;
-/// which signs there are, and that strings have no escapes, is this profile's own choice. Keywords
-/// are names here. A `#` with only blanks before it on its line makes the rest of the line one
-/// token, which is not read further.
-///
-/// A fault is `BadCharacter`, `OpenComment` or `NumberTooLarge` with the offset of the byte where
-/// it begins; where memory runs out, that is answered in its place. It takes time in proportion to
-/// the length of the text.
-pub fn lex(alloc: Global, text: &str) -> Result<Vec<Token<'_>>, OrMemory<LexFault>>
-    // The text is made of these tokens, blanks and comments, and of no other tokens.
-    ensures found { IfOk result (λ tokens. HasTokens text.now tokens.items) }
-    // The tokens that a text is made of are answered, unless memory runs out.
-    ensures only { (tokens : List Lexeme) → HasTokens text.now tokens →
-        Gives (λ found. found.items) result (Ok tokens) }
-    // Which fault it is: the first.
-    ensures fault { Gives (λ tokens. tokens.items) result (tokens_of text.now) }
-    ensures slices { IfOk result (λ tokens. All (IsSliceOf text.now) tokens.items) }
-    ensures in_order { IfOk result (λ tokens. AreInOrder tokens.items) }
-{
-    scan(alloc, text)
+    Ok(None)
 }

@@ -7,5 +7,6 @@ mod piece;
 mod token;
 
 pub use fault::LexFault;
-pub use lexer::lex;
+pub use lexer::next_token;
+pub use piece::{Piece, piece_at};
 pub use token::{Sign, Token, TokenKind};

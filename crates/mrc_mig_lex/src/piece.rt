@@ -17,13 +17,13 @@ const TOO_LARGE: u64 = limits::NUMBER as u64 + 1;
 
 /// A token, a blank or a comment at the front of a text.
 #[derive(Drop)]
-pub(crate) struct Piece {
+pub struct Piece {
     /// What the token is; none for a blank or a comment.
-    pub(crate) kind: Option<TokenKind>,
+    pub kind: Option<TokenKind>,
     /// How many bytes it has after its first.
-    pub(crate) more: usize,
+    pub more: usize,
     /// Whether only blanks stand on the line so far.
-    pub(crate) fresh: bool,
+    pub fresh: bool,
 }
 
 impl Piece {
@@ -195,8 +195,15 @@ fn sign_at(at: usize, first: u8) -> Result<Piece, LexFault>
 
 /// What stands at the front of a text that begins with the byte `first`, at the place `at` of the
 /// whole text. `fresh` says that only blanks stand before it on its line.
+///
+/// It is the longest token that begins there, a blank (space, tab, carriage return, line feed) or a
+/// comment. Tokens are those of the grammar of the Server Writer's Guide for MIG; which signs there
+/// are, and that strings have no escapes, is this profile's own choice. Keywords are names here. A
+/// `#` with only blanks before it on its line makes the rest of the line one token, which is not
+/// read further.
+#[inline(always)]
 #[tactic(auto, unfolding(crate::specs::Pieces::piece_at))]
-pub(crate) fn piece_at(at: usize, fresh: bool, first: u8, rest: &[u8]) -> Result<Piece, LexFault>
+pub fn piece_at(at: usize, fresh: bool, first: u8, rest: &[u8]) -> Result<Piece, LexFault>
     ensures { result ≡ piece_at at fresh first rest.now }
 {
     if is_blank(first) {

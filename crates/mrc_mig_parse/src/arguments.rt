@@ -3,7 +3,8 @@ ghost use Rattle.std.specs.Prelude.{◌≡◌, ◌++◌, ◌&&◌, ◌||◌, Lis
 ghost use Rattle.std.specs.Prelude.{IfOk};
 ghost use Rattle.std.specs.List.{list_all};
 ghost use Rattle.std.specs.Option.{option_map};
-ghost use Rattle.mrc_mig_symbols.specs.Symbols.{Means, MeansOrMemory, many, left};
+ghost use Rattle.mrc_mig_symbols.specs.Symbols.{Means, MeansOrMemory, many};
+ghost use Rattle.mrc_mig_symbols.specs.Readers.{left};
 ghost use Rattle.mrc_mig_parse.specs.Arguments.{Parameter, is_reply_port, is_marked, is_in, use_of};
 ghost use Rattle.mrc_mig_parse.specs.Arguments.{is_of_port_type, has_reply_port, has_name};
 ghost use Rattle.mrc_mig_parse.specs.Arguments.{direction_at, argument_name_at, argument_type_at};
@@ -234,7 +235,7 @@ fn more_arguments<'t>(
         (more_arguments_stop types.now is_simple (map parameter_of seen.old.items) (left rest.entry)) }
 {
     let mut rest = rest;
-    let count = rest.tokens.len();
+    let count = rest.len();
     for _ in 0..count {
         if !goes_on(rest) {
             return Ok(rest);

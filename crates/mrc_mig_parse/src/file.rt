@@ -2,7 +2,8 @@
 ghost use Rattle.std.specs.Prelude.{◌≡◌, ◌++◌, [], ◌∷◌, None, Some, map, length, IfOk, OnOk};
 ghost use Rattle.mrc_base.specs.Reading.{Gives};
 ghost use Rattle.mrc_mig_parse.specs.Stops.{meaning_or_fault};
-ghost use Rattle.mrc_mig_symbols.specs.Symbols.{Means, MeansOrMemory, many, left};
+ghost use Rattle.mrc_mig_symbols.specs.Symbols.{Means, MeansOrMemory, many};
+ghost use Rattle.mrc_mig_symbols.specs.Readers.{left};
 ghost use Rattle.mrc_mig_parse.specs.Grammar.{IsFile};
 ghost use Rattle.mrc_mig_parse.specs.Files.{State, Meaning, one, table, is_declared};
 ghost use Rattle.mrc_mig_parse.specs.Files.{declared_with_all, include_by, directive_by};
@@ -26,9 +27,10 @@ use crate::subsystem::{Argument, Entry, Shape, Subsystem};
 use crate::table::Types;
 use crate::types::{Use, shape};
 use mrc_base::{OrMemory, limits};
-use mrc_mig_lex::{Sign, Token};
+use mrc_mig_lex::Sign;
 use mrc_mig_symbols::{
-    Directive, Feature, ParseFault, Rest, Stop, Symbol, Why, Word, fault_of, name, sign, stop_at,
+    Directive, Feature, ParseFault, Rest, Stop, Symbol, Tokens, Why, Word, fault_of, name, sign,
+    stop_at,
 };
 use std::alloc::{AllocError, Global};
 
@@ -160,7 +162,7 @@ fn lines<'t>(file: &mut File<'t>, rest: Rest<'t>) -> Result<Rest<'t>, OrMemory<S
     ensures fault { StopsAtOrMemory result (lines_stop (state_of file.old) (left rest.entry)) }
 {
     let mut rest = rest;
-    let count = rest.tokens.len();
+    let count = rest.len();
     for _ in 0..count {
         if !begins_line(rest) {
             return Ok(rest);
@@ -435,7 +437,7 @@ fn each_statement<'t>(
         (each_statement_stop (state_of file.old) (left rest.entry)) }
 {
     let mut rest = rest;
-    let count = rest.tokens.len();
+    let count = rest.len();
     for _ in 0..count {
         if !has_more(rest) {
             return Ok(rest);
@@ -463,7 +465,7 @@ fn statements<'t>(alloc: Global, file: &mut File<'t>, rest: Rest<'t>) -> Result<
 
 /// Reads a whole file.
 #[tactic(auto, unfolding(crate::specs::Stops::file_stop, crate::specs::Files::meaning_of))]
-fn whole_file(alloc: Global, tokens: &[Token<'_>]) -> Result<Subsystem, OrMemory<Stop>>
+fn whole_file(alloc: Global, tokens: &Tokens<'_>) -> Result<Subsystem, OrMemory<Stop>>
     ensures exact { MeansOrMemory (λ subsystem. subsystem) result (meaning_of tokens.now) }
     ensures fault { StopsAtOrMemory result (file_stop tokens.now) }
 {
@@ -491,7 +493,7 @@ fn whole_file(alloc: Global, tokens: &[Token<'_>]) -> Result<Subsystem, OrMemory
 ///
 /// Source: the Server Writer's Guide for MIG. What is left out, and all limits, are this profile's
 /// own choice.
-pub fn parse(alloc: Global, tokens: &[Token<'_>]) -> Result<Subsystem, OrMemory<ParseFault>>
+pub fn parse(alloc: Global, tokens: &Tokens<'_>) -> Result<Subsystem, OrMemory<ParseFault>>
     // What is read is what the tokens are by the grammar.
     ensures found { IfOk result (λ subsystem. IsFile tokens.now subsystem) }
     // What they are by the grammar is read, unless memory runs out.

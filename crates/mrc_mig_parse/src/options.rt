@@ -1,5 +1,6 @@
 //! What may follow a type.
-ghost use Rattle.mrc_mig_symbols.specs.Symbols.{Means, many, left};
+ghost use Rattle.mrc_mig_symbols.specs.Symbols.{Means, many};
+ghost use Rattle.mrc_mig_symbols.specs.Readers.{left};
 ghost use Rattle.mrc_mig_parse.specs.Arguments.{c_type_at, call_at, translation_at, destructor_at};
 ghost use Rattle.mrc_mig_parse.specs.Arguments.{begins_option, option_at, options_at};
 ghost use Rattle.std.specs.Prelude.{◌≡◌, length};
@@ -89,7 +90,7 @@ fn each_option(rest: Rest<'_>) -> Result<Rest<'_>, Stop>
     ensures fault { StopsAt result (each_option_stop (left rest.entry)) }
 {
     let mut rest = rest;
-    let count = rest.tokens.len();
+    let count = rest.len();
     for _ in 0..count {
         if !begins_option(rest) {
             return Ok(rest);

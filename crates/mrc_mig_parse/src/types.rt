@@ -1,7 +1,8 @@
 //! The types of arguments.
 
 ghost use Rattle.std.specs.Prelude.{◌≡◌, not};
-ghost use Rattle.mrc_mig_symbols.specs.Symbols.{Means, MeansOrMemory, guard, left, first_of};
+ghost use Rattle.mrc_mig_symbols.specs.Symbols.{Means, MeansOrMemory, guard, first_of};
+ghost use Rattle.mrc_mig_symbols.specs.Readers.{left};
 ghost use Rattle.mrc_mig_symbols.specs.Symbols.{tail_of};
 ghost use Rattle.mrc_mig_parse.specs.Types.{fits_use, times, dimension_at, variable_dimension_at};
 ghost use Rattle.mrc_mig_parse.specs.Types.{after_of, is_empty_brackets, array_at, structure_at};
@@ -229,7 +230,7 @@ fn arrays(alloc: Global, rest: Rest<'_>) -> Result<(Around, Rest<'_>), OrMemory<
         is_bound: false,
     };
     let mut rest = rest;
-    let count = rest.tokens.len();
+    let count = rest.len();
     for _ in 0..count {
         if !begins_layer(rest) {
             return Ok((around, rest));

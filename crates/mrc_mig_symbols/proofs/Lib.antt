@@ -1,4 +1,8 @@
+pub mod LeftLemmas
+pub mod MarkLemmas
 pub mod TableLemmas
+pub mod WordLemmas
+pub mod OuterLemmas
 pub mod ReadingLemmas
 pub mod PlacedLemmas
 pub mod LoopLemmas

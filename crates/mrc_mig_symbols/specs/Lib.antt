@@ -2,9 +2,11 @@ pub mod Tables
 pub mod Words
 pub mod Directives
 pub mod Symbols
+pub mod Marks
 pub mod Places
 pub mod Expressions
 pub mod ExpressionStops
 pub mod ExpressionGrammar
+pub mod Outer
 pub mod Readers
 pub mod Examples

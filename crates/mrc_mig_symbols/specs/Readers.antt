@@ -1,27 +1,19 @@
--- What the reader of an expression holds, whatever lies where in memory.
-use Rattle.std.specs.Prelude.{map, reverse}
-use Rattle.mrc_mig_symbols.specs.declared.expressions.Sum.{Sum}
+-- What the readers hold, whatever lies where in memory.
+use Rattle.std.specs.Prelude.{List, drop}
+use Rattle.mrc_mig_lex.specs.Tokens.{Lexeme}
+use Rattle.mrc_mig_symbols.specs.declared.symbol.Rest.{Rest}
 use Rattle.mrc_mig_symbols.specs.declared.expressions.Reader.{Reader}
-use Rattle.mrc_mig_symbols.specs.ExpressionStops.{Placed, Reading}
+use Rattle.mrc_mig_symbols.specs.ExpressionStops.{Reading}
+use Rattle.mrc_mig_symbols.specs.Outer.{placed_of}
 
--- a sum
-abbrev pub placed_of : Sum → Placed
-placed_of sum = record {
-  sum = record {
-    total = sum.total;
-    subtracts = sum.subtracts;
-    product = sum.product;
-    divides = sum.divides;
-  };
-  operand = sum.operand_left;
-  from = sum.left;
-  product = sum.product_left;
-}
+-- what is left to read
+unfoldable pub left : Rest → List Lexeme
+left rest = drop rest.at rest.tokens.now
 
--- the innermost sum is the last on the stack
+-- an expression that is being read
 abbrev pub reading_of : Reader → Reading
 reading_of reader = record {
-  outer = reverse (map placed_of reader.outer.items);
+  outer = reader.outer;
   sum = placed_of reader.sum;
   wants_operand = reader.wants_operand;
 }

@@ -12,7 +12,6 @@ use Rattle.mrc_mig_lex.specs.declared.token.Sign.{Sign}
 use Rattle.mrc_mig_lex.specs.declared.token.Sign.TheVariants as signs
 use Rattle.mrc_mig_symbols.specs.declared.symbol.Symbol.{Symbol}
 use Rattle.mrc_mig_symbols.specs.declared.symbol.Symbol.TheVariants as symbols
-use Rattle.mrc_mig_symbols.specs.declared.symbol.Rest.{Rest}
 use Rattle.mrc_mig_symbols.specs.declared.fault.Stop.{Stop}
 use Rattle.mrc_mig_symbols.specs.declared.fault.Why.{Why}
 use Rattle.mrc_mig_symbols.specs.declared.fault.Why.TheVariants as why
@@ -130,10 +129,6 @@ text_of (token ∷ tokens) = token.bytes
 unfoldable pub tail_of : List Lexeme → List Lexeme
 tail_of [] = []
 tail_of (token ∷ tokens) = tokens
-
--- what is left to read
-abbrev pub left : Rest → List Lexeme
-left rest = rest.tokens.now
 
 -- the place of a sign among the signs
 abbrev pub sign_number : Sign → ℕ

@@ -1,16 +1,18 @@
 //! Whole-number expressions, without recursion.
 ghost use Rattle.std.specs.Prelude.{◌≡◌};
 ghost use Rattle.mrc_base.specs.Reading.{Gives};
-ghost use Rattle.mrc_mig_symbols.specs.Symbols.{Answers, MeansOrMemory, StopsAtOrMemory, left};
+ghost use Rattle.mrc_mig_symbols.specs.Symbols.{Answers, MeansOrMemory, StopsAtOrMemory};
 ghost use Rattle.mrc_mig_symbols.specs.Expressions.{ends, expression_at};
 ghost use Rattle.mrc_mig_symbols.specs.ExpressionStops.{nothing_placed, placed_with, placed_value};
 ghost use Rattle.mrc_mig_symbols.specs.ExpressionStops.{placed_product, placed_operand};
 ghost use Rattle.mrc_mig_symbols.specs.ExpressionStops.{placed_closed, placed_operator};
 ghost use Rattle.mrc_mig_symbols.specs.ExpressionStops.{placed_step, placed_before, unplaced};
 ghost use Rattle.mrc_mig_symbols.specs.ExpressionStops.{read_expression, expression_stop};
-ghost use Rattle.mrc_mig_symbols.specs.Readers.{placed_of, reading_of};
+ghost use Rattle.mrc_mig_symbols.specs.Outer.{placed_of};
+ghost use Rattle.mrc_mig_symbols.specs.Readers.{left, reading_of};
 
 use crate::fault::{Stop, Why, stop_at};
+use crate::outer::Outer;
 use crate::symbol::{Rest, Symbol};
 use mrc_base::{OrMemory, limits};
 use mrc_mig_lex::Sign;
@@ -22,22 +24,22 @@ const MOST: u64 = limits::NUMBER as u64;
 /// A sum that is being read: the parts that are finished, and the product that is read now. Each
 /// place is how many tokens are left there.
 #[derive(Clone, Copy, Debug, PartialEq, Eq)]
-struct Sum {
+pub(crate) struct Sum {
     /// Where the operand begins that the sum is, with its parenthesis.
-    operand_left: usize,
+    pub(crate) operand_left: usize,
     /// Where the sum begins.
-    left: usize,
-    total: u32,
-    subtracts: bool,
+    pub(crate) left: usize,
+    pub(crate) total: u32,
+    pub(crate) subtracts: bool,
     /// Where the product begins.
-    product_left: usize,
-    product: u32,
-    divides: bool,
+    pub(crate) product_left: usize,
+    pub(crate) product: u32,
+    pub(crate) divides: bool,
 }
 
 impl Sum {
     /// Nothing is read yet: the sum is 0 and the product is 1.
-    fn new(operand_at: usize, at: usize) -> Sum
+    pub(crate) fn new(operand_at: usize, at: usize) -> Sum
         ensures { placed_of result ≡ nothing_placed operand_at at }
     {
         Sum {
@@ -109,8 +111,8 @@ impl Sum {
 /// An expression that is being read.
 #[derive(Drop)]
 struct Reader {
-    /// The sums around the innermost open parenthesis, the innermost last.
-    outer: Vec<Sum>,
+    /// The sums around the innermost open parenthesis.
+    outer: Outer,
     sum: Sum,
     wants_operand: bool,
 }
@@ -220,7 +222,7 @@ fn read_expression(alloc: Global, rest: Rest<'_>) -> Result<(u32, Rest<'_>), OrM
     ensures { Gives (λ x. (x.0, left x.1)) result (read_expression (left rest.entry)) }
 {
     let mut reader = Reader {
-        outer: Vec::new(alloc),
+        outer: Outer::new(alloc),
         sum: Sum::new(rest.len(), rest.len()),
         wants_operand: true,
     };

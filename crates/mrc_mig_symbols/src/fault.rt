@@ -4,8 +4,8 @@ ghost use Rattle.mrc_mig_symbols.specs.Symbols.{stop_at};
 ghost use Rattle.mrc_mig_symbols.specs.Places.{place_of, last_end, fault_of};
 ghost use Rattle.mrc_base.specs.declared.memory.OrMemory.TheVariants.{Fault};
 
+use crate::tokens::Tokens;
 use mrc_base::OrMemory;
-use mrc_mig_lex::Token;
 use std::fmt;
 use thiserror::Error;
 
@@ -117,10 +117,10 @@ impl From<Stop> for OrMemory<Stop> {
 }
 
 /// Where the last token ends.
-fn last_end(tokens: &[Token<'_>]) -> usize
+fn last_end(tokens: &Tokens<'_>) -> usize
     ensures { result ≡ last_end tokens.now }
 {
-    match tokens.last() {
+    match tokens.token(tokens.len().saturating_sub(1)) {
         Some(token) => token.end(),
         None => 0,
     }
@@ -128,17 +128,17 @@ fn last_end(tokens: &[Token<'_>]) -> usize
 
 /// Where the first of so many tokens that are left begins, or the end of the last one where none
 /// is left.
-pub fn place_of(tokens: &[Token<'_>], count: usize) -> usize
+pub fn place_of(tokens: &Tokens<'_>, count: usize) -> usize
     ensures { result ≡ place_of tokens.now count }
 {
-    match tokens.get(tokens.len().saturating_sub(count)) {
-        Some(token) => token.at(),
+    match tokens.mark(tokens.len().saturating_sub(count)) {
+        Some(mark) => mark.at,
         None => last_end(tokens),
     }
 }
 
 /// The fault of these tokens for which reading stops.
-pub fn fault_of(tokens: &[Token<'_>], stop: Stop) -> ParseFault
+pub fn fault_of(tokens: &Tokens<'_>, stop: Stop) -> ParseFault
     ensures { result ≡ fault_of tokens.now stop }
 {
     let at = place_of(tokens, stop.left);

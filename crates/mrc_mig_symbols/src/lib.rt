@@ -6,7 +6,9 @@ mod directive;
 mod expressions;
 mod fault;
 mod laws;
+mod outer;
 mod symbol;
+mod tokens;
 mod word;
 
 pub use directive::Directive;
@@ -14,4 +16,5 @@ pub use expressions::expression;
 pub use fault::{Feature, ParseFault, Stop, Why, fault_of, place_of, stop_at};
 pub use laws::expressions_by_grammar;
 pub use symbol::{Rest, Symbol, name, sign};
+pub use tokens::{Tokens, lex};
 pub use word::{Basic, Direction, Word, basic_of};

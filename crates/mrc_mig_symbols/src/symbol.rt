@@ -1,15 +1,17 @@
 //! What the grammar sees of a token, and what is left to read.
 
 ghost use Rattle.std.specs.Prelude.{◌≡◌, length};
-ghost use Rattle.mrc_mig_symbols.specs.Symbols.{Means, StopsAt, symbol_of, no_tokens, first_of};
-ghost use Rattle.mrc_mig_symbols.specs.Symbols.{text_of, tail_of, after_sign, name_at, left, stop};
+ghost use Rattle.mrc_mig_symbols.specs.Symbols.{Means, StopsAt, symbol_by, no_tokens, first_of};
+ghost use Rattle.mrc_mig_symbols.specs.Symbols.{text_of, tail_of, after_sign, name_at, stop};
 ghost use Rattle.mrc_mig_symbols.specs.Symbols.{unexpected, name_stop};
+ghost use Rattle.mrc_mig_symbols.specs.Readers.{left};
 
 use crate::directive::{Directive, directive_of};
 use crate::fault::{Stop, Why};
+use crate::tokens::Tokens;
 use crate::word::{Word, word_of};
 use mrc_base::limits;
-use mrc_mig_lex::{Sign, Token, TokenKind};
+use mrc_mig_lex::{Sign, TokenKind};
 
 /// What the grammar sees of a token.
 #[derive(Clone, Copy, Debug, PartialEq, Eq)]
@@ -32,13 +34,12 @@ pub enum Symbol {
     End,
 }
 
-/// What the grammar sees of this token.
-#[tactic(auto, unfolding(crate::specs::Symbols::symbol_of))]
-fn symbol_of(token: &Token<'_>) -> Symbol
-    ensures { result ≡ symbol_of token.now }
+/// What the grammar sees of a token of this kind with this text.
+pub(crate) fn symbol_by(kind: TokenKind, text: &str) -> Symbol
+    ensures { result ≡ symbol_by kind text.now }
 {
-    match token.kind() {
-        TokenKind::Name => match word_of(token.text()) {
+    match kind {
+        TokenKind::Name => match word_of(text) {
             Some(word) => Symbol::Word(word),
             None => Symbol::Name,
         },
@@ -46,72 +47,77 @@ fn symbol_of(token: &Token<'_>) -> Symbol
         TokenKind::Text => Symbol::Text,
         TokenKind::Header => Symbol::Header,
         TokenKind::Sign(sign) => Symbol::Sign(sign),
-        TokenKind::Directive => Symbol::Directive(directive_of(token.text())),
+        TokenKind::Directive => Symbol::Directive(directive_of(text)),
     }
 }
 
 /// What is left to read.
 #[derive(Clone, Copy)]
 pub struct Rest<'t> {
-    /// The tokens.
-    pub tokens: &'t [Token<'t>],
+    tokens: &'t Tokens<'t>,
+    /// The number of the first token that is left.
+    at: usize,
 }
 
 impl<'t> Rest<'t> {
     /// All of the tokens.
-    pub fn new(tokens: &'t [Token<'t>]) -> Rest<'t>
+    #[tactic(auto, unfolding(crate::specs::Readers::left))]
+    pub fn new(tokens: &'t Tokens<'t>) -> Rest<'t>
         ensures { left result ≡ tokens.now }
     {
-        Self { tokens }
+        Rest { tokens, at: 0 }
     }
 
     /// Whether nothing is left.
+    #[tactic(auto, unfolding(crate::specs::Readers::left))]
     pub fn is_empty(self) -> bool
         ensures { result ≡ no_tokens (left self.entry) }
     {
-        match self.tokens {
-            [] => true,
-            [_, ..] => false,
-        }
+        self.len() == 0
     }
 
     /// What the first token is.
-    #[tactic(auto, unfolding(crate::specs::Symbols::first_of))]
+    #[tactic(auto, unfolding(crate::specs::Readers::left))]
     pub fn first(self) -> Symbol
         ensures { result ≡ first_of (left self.entry) }
     {
-        match self.tokens {
-            [] => Symbol::End,
-            [token, ..] => symbol_of(token),
+        match self.tokens.mark(self.at) {
+            Some(mark) => mark.symbol,
+            None => Symbol::End,
         }
     }
 
     /// How many tokens are left.
+    #[tactic(auto, unfolding(crate::specs::Readers::left))]
     pub fn len(self) -> usize
         ensures { result ≡ length (left self.entry) }
     {
-        self.tokens.len()
+        self.tokens.len().saturating_sub(self.at)
     }
 
     /// The first token's text.
-    #[tactic(auto, unfolding(crate::specs::Symbols::text_of))]
+    #[tactic(auto, using(crate::proofs::LeftLemmas::text_left), unfolding(crate::specs::Readers::left))]
     pub fn text(self) -> &'t str
         ensures { result.now ≡ text_of (left self.entry) }
     {
-        match self.tokens {
-            [] => "",
-            [token, ..] => token.text(),
+        match self.tokens.token(self.at) {
+            Some(token) => token.text(),
+            None => "",
         }
     }
 
     /// What is left after the first token.
-    #[tactic(auto, unfolding(crate::specs::Symbols::tail_of))]
+    #[tactic(auto, using(crate::proofs::LeftLemmas::next_left, crate::proofs::LeftLemmas::end_left), unfolding(crate::specs::Readers::left))]
     pub fn next(self) -> Rest<'t>
         ensures { left result ≡ tail_of (left self.entry) }
     {
-        match self.tokens {
-            [] => self,
-            [_, tokens @ ..] => Rest { tokens },
+        if self.at < self.tokens.len() {
+            Rest {
+                at: self.at + 1,
+                ..self
+            }
+        } else {
+            self
         }
     }
 
@@ -152,9 +158,12 @@ pub fn name(rest: Rest<'_>) -> Result<(&str, Rest<'_>), Stop>
     ensures exact { Means (λ x. (x.0.now, left x.1)) result (name_at (left rest.entry)) }
     ensures fault { StopsAt result (name_stop (left rest.entry)) }
 {
-    match rest.first() {
-        Symbol::Name if rest.text().len() <= limits::NAME => Ok((rest.text(), rest.next())),
-        Symbol::Name => Err(rest.stop(Why::TooMany)),
-        _ => Err(rest.unexpected()),
+    if rest.first() != Symbol::Name {
+        return Err(rest.unexpected());
     }
+    let name = rest.text();
+    if name.len() > limits::NAME {
+        return Err(rest.stop(Why::TooMany));
+    }
+    Ok((name, rest.next()))
 }

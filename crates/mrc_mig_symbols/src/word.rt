@@ -71,52 +71,77 @@ pub enum Word {
     Polymorphic,
 }
 
-/// The reserved words, in lower case.
-const WORDS: [(&str, Word); 43] = [
-    ("subsystem", Word::Subsystem),
-    ("kernelserver", Word::Side),
-    ("kerneluser", Word::Side),
-    ("type", Word::Type),
-    ("routine", Word::Routine),
-    ("simpleroutine", Word::SimpleRoutine),
-    ("skip", Word::Skip),
+// The reserved words, in lower case, by how many letters they have.
+
+const WORDS_OF_2: [(&str, Word); 2] = [("in", Word::Direction(Direction::In)), ("of", Word::Of)];
+
+const WORDS_OF_3: [(&str, Word); 1] = [("out", Word::Direction(Direction::Out))];
+
+const WORDS_OF_4: [(&str, Word); 2] = [("type", Word::Type), ("skip", Word::Skip)];
+
+const WORDS_OF_5: [(&str, Word); 4] = [
+    ("rcsid", Word::Rcsid),
+    ("inout", Word::Direction(Direction::InOut)),
+    ("ctype", Word::CType),
+    ("array", Word::Array),
+];
+
+const WORDS_OF_6: [(&str, Word); 4] = [
     ("import", Word::Import),
+    ("intran", Word::Translation),
+    ("struct", Word::Struct),
+    ("islong", Word::Flag),
+];
+
+const WORDS_OF_7: [(&str, Word); 5] = [
+    ("routine", Word::Routine),
     ("uimport", Word::Import),
     ("simport", Word::Import),
-    ("serverprefix", Word::Prefix),
-    ("userprefix", Word::Prefix),
-    ("rcsid", Word::Rcsid),
-    ("in", Word::Direction(Direction::In)),
-    ("out", Word::Direction(Direction::Out)),
-    ("inout", Word::Direction(Direction::InOut)),
-    ("requestport", Word::Direction(Direction::RequestPort)),
-    ("replyport", Word::Direction(Direction::ReplyPort)),
-    ("ctype", Word::CType),
-    ("cusertype", Word::CType),
-    ("cservertype", Word::CType),
-    ("intran", Word::Translation),
     ("outtran", Word::Translation),
-    ("destructor", Word::Destructor),
-    ("array", Word::Array),
-    ("struct", Word::Struct),
-    ("of", Word::Of),
+    ("dealloc", Word::Dealloc),
+];
+
+const WORDS_OF_8: [(&str, Word); 4] = [
     ("c_string", Word::CString),
-    ("procedure", Word::OldForm),
-    ("simpleprocedure", Word::OldForm),
     ("function", Word::OldForm),
-    ("operation", Word::OldForm),
     ("waittime", Word::Wait),
-    ("msgoption", Word::Wait),
     ("msgseqno", Word::PortOption),
+];
+
+const WORDS_OF_9: [(&str, Word); 7] = [
+    ("subsystem", Word::Subsystem),
+    ("replyport", Word::Direction(Direction::ReplyPort)),
+    ("cusertype", Word::CType),
+    ("procedure", Word::OldForm),
+    ("operation", Word::OldForm),
+    ("msgoption", Word::Wait),
+    ("isnotlong", Word::Flag),
+];
+
+const WORDS_OF_10: [(&str, Word); 7] = [
+    ("kerneluser", Word::Side),
+    ("userprefix", Word::Prefix),
+    ("destructor", Word::Destructor),
     ("ureplyport", Word::PortOption),
     ("sreplyport", Word::PortOption),
-    ("islong", Word::Flag),
-    ("isnotlong", Word::Flag),
     ("servercopy", Word::Flag),
     ("countinout", Word::Flag),
-    ("dealloc", Word::Dealloc),
+];
+
+const WORDS_OF_11: [(&str, Word); 3] = [
+    ("requestport", Word::Direction(Direction::RequestPort)),
+    ("cservertype", Word::CType),
     ("polymorphic", Word::Polymorphic),
 ];
+
+const WORDS_OF_12: [(&str, Word); 2] = [
+    ("kernelserver", Word::Side),
+    ("serverprefix", Word::Prefix),
+];
+
+const WORDS_OF_13: [(&str, Word); 1] = [("simpleroutine", Word::SimpleRoutine)];
+
+const WORDS_OF_15: [(&str, Word); 1] = [("simpleprocedure", Word::OldForm)];
 
 fn word_in(table: &[(&str, Word)], text: &str) -> Option<Word>
     requires { AreLowercase table.now }
@@ -130,11 +155,26 @@ fn word_in(table: &[(&str, Word)], text: &str) -> Option<Word>
     None
 }
 
-/// The reserved word that the text is, in any case.
+/// The reserved word that the text is, in any case. It is compared with those of its length alone.
 pub(crate) fn word_of(text: &str) -> Option<Word>
     ensures { result ≡ word_of text.now }
 {
-    word_in(&WORDS, text)
+    match text.len() {
+        2 => word_in(&WORDS_OF_2, text),
+        3 => word_in(&WORDS_OF_3, text),
+        4 => word_in(&WORDS_OF_4, text),
+        5 => word_in(&WORDS_OF_5, text),
+        6 => word_in(&WORDS_OF_6, text),
+        7 => word_in(&WORDS_OF_7, text),
+        8 => word_in(&WORDS_OF_8, text),
+        9 => word_in(&WORDS_OF_9, text),
+        10 => word_in(&WORDS_OF_10, text),
+        11 => word_in(&WORDS_OF_11, text),
+        12 => word_in(&WORDS_OF_12, text),
+        13 => word_in(&WORDS_OF_13, text),
+        15 => word_in(&WORDS_OF_15, text),
+        _ => None,
+    }
 }
 
 /// What a MACH_MSG_TYPE_ name stands for in the place of a type.

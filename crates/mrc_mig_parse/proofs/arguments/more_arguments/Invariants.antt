@@ -1,5 +1,6 @@
 use Rattle.std.proofs.Common.{◌≡◌, ◌-◌, map, length}
-use Rattle.mrc_mig_symbols.specs.Symbols.{left, many, many_stop}
+use Rattle.mrc_mig_symbols.specs.Symbols.{many, many_stop}
+use Rattle.mrc_mig_symbols.specs.Readers.{left}
 use Rattle.mrc_mig_parse.specs.Arguments.{goes_on, next_argument}
 use Rattle.mrc_mig_parse.specs.Stops.{next_argument_stop, more_arguments_stop}
 use Rattle.mrc_mig_parse.specs.Readers.{parameter_of}

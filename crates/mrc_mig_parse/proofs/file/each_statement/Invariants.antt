@@ -1,5 +1,6 @@
 use Rattle.std.proofs.Common.{◌≡◌, ◌-◌, length}
-use Rattle.mrc_mig_symbols.specs.Symbols.{left, many, many_stop}
+use Rattle.mrc_mig_symbols.specs.Symbols.{many, many_stop}
+use Rattle.mrc_mig_symbols.specs.Readers.{left}
 use Rattle.mrc_mig_parse.specs.Files.{has_more, statement_at}
 use Rattle.mrc_mig_parse.specs.Stops.{statement_stop, each_statement_stop}
 use Rattle.mrc_mig_parse.specs.Readers.{state_of}

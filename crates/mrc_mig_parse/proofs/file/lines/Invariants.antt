@@ -1,5 +1,6 @@
 use Rattle.std.proofs.Common.{◌≡◌, ◌-◌}
-use Rattle.mrc_mig_symbols.specs.Symbols.{left, many, many_stop}
+use Rattle.mrc_mig_symbols.specs.Symbols.{many, many_stop}
+use Rattle.mrc_mig_symbols.specs.Readers.{left}
 use Rattle.mrc_mig_parse.specs.Files.{begins_line, line_at, lines_at}
 use Rattle.mrc_mig_parse.specs.Stops.{line_stop, lines_stop}
 use Rattle.mrc_mig_parse.specs.Readers.{state_of}

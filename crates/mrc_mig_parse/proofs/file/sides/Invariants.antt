@@ -1,5 +1,5 @@
 use Rattle.std.proofs.Common.{◌≡◌, length}
-use Rattle.mrc_mig_symbols.specs.Symbols.{left}
+use Rattle.mrc_mig_symbols.specs.Readers.{left}
 use Rattle.mrc_mig_parse.specs.Files.{after_sides}
 use Rattle.mrc_mig_parse.proofs.file.sides.Given as goal
 

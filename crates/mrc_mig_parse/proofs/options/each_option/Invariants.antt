@@ -1,5 +1,6 @@
 use Rattle.std.proofs.Common.{◌≡◌, ◌-◌, length}
-use Rattle.mrc_mig_symbols.specs.Symbols.{left, many, many_stop}
+use Rattle.mrc_mig_symbols.specs.Symbols.{many, many_stop}
+use Rattle.mrc_mig_symbols.specs.Readers.{left}
 use Rattle.mrc_mig_parse.specs.Arguments.{begins_option, option_at}
 use Rattle.mrc_mig_parse.specs.Stops.{option_stop, each_option_stop}
 use Rattle.mrc_mig_parse.proofs.options.each_option.Given as goal

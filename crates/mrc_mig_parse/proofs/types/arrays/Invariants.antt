@@ -1,5 +1,6 @@
 use Rattle.std.proofs.Common.{◌≡◌, ◌-◌}
-use Rattle.mrc_mig_symbols.specs.Symbols.{left, many, many_stop}
+use Rattle.mrc_mig_symbols.specs.Symbols.{many, many_stop}
+use Rattle.mrc_mig_symbols.specs.Readers.{left}
 use Rattle.mrc_mig_parse.specs.Types.{begins_layer, layer_at, layers_at}
 use Rattle.mrc_mig_parse.specs.Stops.{layer_stop, layers_stop}
 use Rattle.mrc_mig_parse.proofs.types.arrays.Given as goal

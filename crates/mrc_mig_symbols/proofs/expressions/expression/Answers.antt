@@ -1,4 +1,4 @@
-use Rattle.mrc_mig_symbols.specs.Symbols.{left}
+use Rattle.mrc_mig_symbols.specs.Readers.{left}
 use Rattle.mrc_mig_symbols.specs.ExpressionStops.{read_expression, expression_stop}
 use Rattle.mrc_mig_symbols.proofs.PlacedLemmas.{exact_from, stop_from}
 use Rattle.mrc_mig_symbols.proofs.expressions.expression.Goals as goal

@@ -1,5 +1,5 @@
 use Rattle.std.proofs.Common.{◌≡◌, length}
-use Rattle.mrc_mig_symbols.specs.Symbols.{left}
+use Rattle.mrc_mig_symbols.specs.Readers.{left}
 use Rattle.mrc_mig_symbols.specs.ExpressionStops.{placed_from, read_expression}
 use Rattle.mrc_mig_symbols.specs.Readers.{reading_of}
 use Rattle.mrc_mig_symbols.proofs.expressions.read_expression.Given as goal

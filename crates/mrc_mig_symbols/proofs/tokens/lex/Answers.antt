@@ -6,32 +6,32 @@ use Rattle.mrc_mig_lex.specs.Lexing.{tokens_of}
 use Rattle.mrc_mig_lex.specs.Parts.{HasTokens}
 use Rattle.mrc_mig_lex.proofs.SpanLaws.{slices_of, order_of}
 use Rattle.mrc_mig_lex.proofs.PartLaws.{has_tokens, only_tokens}
-use Rattle.mrc_mig_lex.proofs.lexer.lex.Goals as goal
+use Rattle.mrc_mig_symbols.proofs.tokens.lex.Goals as goal
 
 pub returns-clause-found : goal.returns-clause-found
 returns-clause-found c =
     let text = c.args.text.now in
-    gives_ok (HasTokens text) (λ tokens. tokens.items) c.scan.result (tokens_of text)
+    gives_ok (HasTokens text) (λ tokens. tokens) c.tokens_of.result (tokens_of text)
     (has_tokens text)
-    c.scan.ensures
+    c.tokens_of.ensures
 
 pub returns-clause-only : goal.returns-clause-only
 returns-clause-only c = λ tokens has.
     let text = c.args.text.now in
-    gives_same (λ found. found.items) c.scan.result (tokens_of text) (Ok tokens)
+    gives_same (λ found. found) c.tokens_of.result (tokens_of text) (Ok tokens)
     (only_tokens text tokens has)
-    c.scan.ensures
+    c.tokens_of.ensures
 
 pub returns-clause-slices : goal.returns-clause-slices
 returns-clause-slices c =
     let text = c.args.text.now in
-    gives_ok (All (IsSliceOf text)) (λ tokens. tokens.items) c.scan.result (tokens_of text)
+    gives_ok (All (IsSliceOf text)) (λ tokens. tokens) c.tokens_of.result (tokens_of text)
     (slices_of text)
-    c.scan.ensures
+    c.tokens_of.ensures
 
 pub returns-clause-in_order : goal.returns-clause-in_order
 returns-clause-in_order c =
     let text = c.args.text.now in
-    gives_ok AreInOrder (λ tokens. tokens.items) c.scan.result (tokens_of text)
+    gives_ok AreInOrder (λ tokens. tokens) c.tokens_of.result (tokens_of text)
     (order_of text)
-    c.scan.ensures
+    c.tokens_of.ensures
