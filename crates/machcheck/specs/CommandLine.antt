@@ -59,7 +59,8 @@ check_app = with_files check_options (codes "cert" ∷ [])
 -- the option that says how many workers there are, and need not be given
 abbrev pub workers_rule : Rule
 workers_rule = record
-    (new_rule (codes "workers")) { long = Some (codes "workers"); value_names = 1; action = Some Set }
+    (new_rule (codes "workers"))
+    { long = Some (codes "workers"); value_names = 1; action = Some Set }
 
 -- how many are asked for: 4 where no number is given, 0 where the text is no number
 abbrev pub workers_of : Option Text → ℕ

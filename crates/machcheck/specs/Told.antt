@@ -1,7 +1,8 @@
 -- What the program tells of an answer of the checker, of a certificate that it makes, and of a
 -- replay: the status, and the texts on standard output and on standard error. This profile's own
 -- choice.
-use Rattle.std.specs.Prelude.{◌≡◌, ◌⊎◌, ◌<◌, ℕ, true, List, [], ◌++◌, Option, Result, Ok, Err, codes}
+use Rattle.std.specs.Prelude.{◌≡◌, ◌⊎◌, ◌<◌, ℕ, true, List, [], ◌++◌, Option, Result, Ok, Err}
+use Rattle.std.specs.Prelude.{codes}
 use Rattle.std.specs.Prelude.{decimal}
 use Rattle.std.specs.Prelude.{string_bytes, get_or, length}
 use Rattle.std.specs.Io.KnownBytes.{Appends}

@@ -6,8 +6,10 @@ ghost use Rattle.clap.specs.Matches.{found_of, first_value};
 ghost use Rattle.clap.specs.declared.error.kind.ErrorKind.TheVariants.{OutOfMemory, DisplayHelp};
 ghost use Rattle.clap.specs.declared.error.kind.ErrorKind.TheVariants.{DisplayVersion};
 ghost use Rattle.machcheck.specs.CommandLine.{IsNoCommand, TellsError, file_rule, check_app};
-ghost use Rattle.machcheck.specs.CommandLine.{check_options, certificate_app, explain_app, fact_app};
-ghost use Rattle.machcheck.specs.CommandLine.{defs_rule, workers_rule, workers_of, make_options, make_app, replay_app, machcheck_app};
+ghost use Rattle.machcheck.specs.CommandLine.{check_options, certificate_app, explain_app};
+ghost use Rattle.machcheck.specs.CommandLine.{fact_app};
+ghost use Rattle.machcheck.specs.CommandLine.{defs_rule, workers_rule, workers_of, make_options};
+ghost use Rattle.machcheck.specs.CommandLine.{make_app, replay_app, machcheck_app};
 ghost use Rattle.machcheck.specs.CommandLine.{HasNoGlobals, all_values, live_app, live_options};
 ghost use Rattle.machcheck.specs.CommandLine.{script_app};
 

@@ -3,7 +3,8 @@
 ghost use Rattle.std.specs.Prelude.{◌≡◌, ◌⊎◌, [], IfOk, IsOkAnd, string_bytes};
 ghost use Rattle.mrc_certificate.specs.Spelling.{content};
 ghost use Rattle.machcheck.specs.Told.{ToldMade, ToldLeast, ToldWritten, ToldMemory};
-ghost use Rattle.machcheck.specs.Told.{ToldNoSystem, ToldUnwritten, ToldWorkers, ToldUnmade, UnwrittenTold};
+ghost use Rattle.machcheck.specs.Told.{ToldNoSystem, ToldUnwritten, ToldWorkers, ToldUnmade};
+ghost use Rattle.machcheck.specs.Told.{UnwrittenTold};
 ghost use Rattle.machcheck.specs.Told.{MadeOfFiles, FaultOfMake};
 
 use crate::command::MakeFiles;

@@ -1,5 +1,6 @@
 //! Rows of bits, in words of 64.
-ghost use Rattle.std.specs.Prelude.{◌≡◌, ℕ, ◌*◌, ◌+◌, ◌^◌, ◌<◌, ◌≤◌, ◌==◌, ◌||◌, ◌&&◌, length, slice_index, false, not, IfSome, IfNone};
+ghost use Rattle.std.specs.Prelude.{◌≡◌, ℕ, ◌*◌, ◌+◌, ◌^◌, ◌<◌, ◌≤◌, ◌==◌, ◌||◌, ◌&&◌, length};
+ghost use Rattle.std.specs.Prelude.{slice_index, false, not, IfSome, IfNone};
 ghost use Rattle.std.specs.Int.{bit_at};
 ghost use Rattle.mrc_bits.specs.Bits.{is_set, is_fresh, IsNextBit, IsNextFresh, IsNextIn, NoneIn};
 

@@ -62,8 +62,8 @@ pub is_at_least : (a b : ℕ) → a ≤ b → T (nat_le a b)
 is_at_least a b h = subst T (sym (le-leb a b h)) tt
 
 -- keys that rise from a number rise from each lesser one
-pub rising_from : {X : Type 0} (low high : ℕ) (es : List (ℕ × X)) → low ≤ high → T (is_rising high es)
-    → T (is_rising low es)
+pub rising_from : {X : Type 0} (low high : ℕ) (es : List (ℕ × X)) → low ≤ high
+    → T (is_rising high es) → T (is_rising low es)
 rising_from low high [] h r = tt
 rising_from low high (e ∷ es) h r =
     let k : high ≤ e.0 = at_least high e.0 (left_holds _ _ r) in both_hold _ _

@@ -23,7 +23,8 @@ number_of_word word =
 -- the number that digits spell, where it is at most 2147483647
 unfoldable pub delta_above : List ℕ → Option ℤ
 delta_above digits =
-    if is_number digits && nat_lt (decimal digits) (2 ^ 31) then Some (pos (decimal digits)) else None
+    if is_number digits && nat_lt (decimal digits) (2 ^ 31)
+    then Some (pos (decimal digits)) else None
 
 -- the number whose negative digits spell, where it is at least -2147483648
 unfoldable pub delta_below : List ℕ → Option ℤ
@@ -35,7 +36,8 @@ delta_below digits =
 -- not, after `-` where it is below 0
 unfoldable pub delta_of_word : List ℕ → Option ℤ
 delta_of_word [] = None
-delta_of_word (byte ∷ digits) = if byte == 45 then delta_below digits else delta_above (byte ∷ digits)
+delta_of_word (byte ∷ digits) =
+    if byte == 45 then delta_below digits else delta_above (byte ∷ digits)
 
 -- the right of a word
 unfoldable pub right_of_word : List ℕ → Option Right

@@ -1,5 +1,7 @@
 -- Rows of bits that show a set of facts.
-use Rattle.std.specs.Prelude.{◌≡◌, ℕ, ◌+◌, ◌*◌, ◌<◌, Bool, true, false, not, ◌&&◌, List, [], length, nat_lt, Vec, if◌then◌else◌, ◌≤◌, ◌⊎◌, ◌==◌, ◌||◌, slice_get, unwrap_or, option_map, IsTrue}
+use Rattle.std.specs.Prelude.{◌≡◌, ℕ, ◌+◌, ◌*◌, ◌<◌, Bool, true, false, not, ◌&&◌, List, [], length}
+use Rattle.std.specs.Prelude.{nat_lt, Vec, if◌then◌else◌, ◌≤◌, ◌⊎◌, ◌==◌, ◌||◌, slice_get}
+use Rattle.std.specs.Prelude.{unwrap_or, option_map, IsTrue}
 use Rattle.std.specs.declared.alloc.Global.{Global}
 use Rattle.mrc_base.specs.declared.Fact.{Fact}
 use Rattle.mrc_base.specs.declared.Fact.TheVariants.{Hold, Carry, Backup}
@@ -40,7 +42,8 @@ width_of k = if nat_lt k 1408 then 63 else 21
 
 -- each row is empty or has its words
 abbrev pub AreSized : List (Vec ℕ Global) → Type 0
-AreSized rows = (k : ℕ) → IsTrue (length (words_of rows k) == 0 || length (words_of rows k) == width_of k)
+AreSized rows = (k : ℕ)
+    → IsTrue (length (words_of rows k) == 0 || length (words_of rows k) == width_of k)
 
 -- the rows have the same bits
 pub record SameBits (before after : List (Vec ℕ Global)) : Type 0 where
@@ -50,13 +53,15 @@ pub record SameBits (before after : List (Vec ℕ Global)) : Type 0 where
 
 -- and one more
 pub record OneMoreBit (before after : List (Vec ℕ Global)) (row place : ℕ) : Type 0 where
-  pub same : (k i : ℕ) → is_set (words_of after k) i ≡ ((k == row && i == place) || is_set (words_of before k) i)
+  pub same : (k i : ℕ) → is_set (words_of after k) i
+      ≡ ((k == row && i == place) || is_set (words_of before k) i)
   pub sized : AreSized before → AreSized after
   pub few_rows : length before ≤ 2752 → length after ≤ 2752
 
 -- and one less
 pub record OneLessBit (before after : List (Vec ℕ Global)) (row place : ℕ) : Type 0 where
-  pub same : (k i : ℕ) → is_set (words_of after k) i ≡ (not (k == row && i == place) && is_set (words_of before k) i)
+  pub same : (k i : ℕ) → is_set (words_of after k) i
+      ≡ (not (k == row && i == place) && is_set (words_of before k) i)
   pub sized : AreSized before → AreSized after
   pub few_rows : length before ≤ 2752 → length after ≤ 2752
 
@@ -80,7 +85,8 @@ IsFrom row place k i = (row < k) ⊎ ((row ≡ k) × (place ≤ i))
 pub record IsNextPlace (rows : List (Vec ℕ Global)) (row place k i : ℕ) : Type 0 where
   pub from_there : IsFrom row place k i
   pub set : is_set (words_of rows k) i ≡ true
-  pub first : (j m : ℕ) → IsFrom row place j m → (j < k) ⊎ ((j ≡ k) × (m < i)) → is_set (words_of rows j) m ≡ false
+  pub first : (j m : ℕ) → IsFrom row place j m → (j < k) ⊎ ((j ≡ k) × (m < i))
+      → is_set (words_of rows j) m ≡ false
 
 -- no bit from this place on is set
 abbrev pub NoPlace : List (Vec ℕ Global) → ℕ → ℕ → Type 0
@@ -91,11 +97,13 @@ pub record IsFirstFrom (facts : List Fact) (row place : ℕ) (f : Fact) : Type 0
   pub member : IsTrue (has facts f)
   pub within : IsWithin f
   pub from_there : IsFrom row place (row_of f) (place_of f)
-  pub least : (h : Fact) → IsTrue (has facts h) → IsFrom row place (row_of h) (place_of h) → is_before h f ≡ false
+  pub least : (h : Fact) → IsTrue (has facts h) → IsFrom row place (row_of h) (place_of h)
+      → is_before h f ≡ false
 
 -- none of the facts is there
 abbrev pub NoneFrom : List Fact → ℕ → ℕ → Type 0
-NoneFrom facts row place = (h : Fact) → IsTrue (has facts h) → IsFrom row place (row_of h) (place_of h) → ⊥
+NoneFrom facts row place = (h : Fact) → IsTrue (has facts h)
+    → IsFrom row place (row_of h) (place_of h) → ⊥
 
 -- the rows show these facts
 pub record Shows (rows : List (Vec ℕ Global)) (count : ℕ) (facts : List Fact) : Type 0 where

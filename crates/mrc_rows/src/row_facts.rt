@@ -1,9 +1,14 @@
 //! Sets of facts as rows of bits.
-ghost use Rattle.std.specs.Prelude.{◌≡◌, ◌+◌, ◌*◌, ◌==◌, ◌||◌, ◌&&◌, replicate, ◌<◌, ◌≤◌, ◌↔◌, [], length, not, OnOk, OnErr, IfOk, IfSome, IfNone, IsTrue, if◌then◌else◌, ◌^◌};
+ghost use Rattle.std.specs.Prelude.{◌≡◌, ◌+◌, ◌*◌, ◌==◌, ◌||◌, ◌&&◌, replicate, ◌<◌, ◌≤◌, ◌↔◌, []};
+ghost use Rattle.std.specs.Prelude.{length, not, OnOk, OnErr, IfOk, IfSome, IfNone, IsTrue};
+ghost use Rattle.std.specs.Prelude.{if◌then◌else◌, ◌^◌};
 ghost use Rattle.mrc_base.specs.declared.Fact.{Fact};
 ghost use Rattle.mrc_facts.specs.Sets.{has, with_fact, first, after, IsAscending};
 ghost use Rattle.mrc_facts.specs.Order.{right_number, is_same};
-ghost use Rattle.mrc_rows.specs.Rows.{IsWithin, Shown, is_within, row_of, place_of, words_of, width_of, AreSized, SameBits, OneMoreBit, OneLessBit, IsNextPlace, NoPlace, IsFirstFrom, NoneFrom, start_row, start_place};
+ghost use Rattle.mrc_rows.specs.Rows.{IsWithin, Shown, is_within, row_of, place_of, words_of};
+ghost use Rattle.mrc_rows.specs.Rows.{width_of, AreSized, SameBits, OneMoreBit, OneLessBit};
+ghost use Rattle.mrc_rows.specs.Rows.{IsNextPlace, NoPlace, IsFirstFrom, NoneFrom, start_row};
+ghost use Rattle.mrc_rows.specs.Rows.{start_place};
 ghost use Rattle.mrc_rows.specs.ShownProp.{shown_prop};
 ghost use Rattle.mrc_bits.specs.Bits.{is_set};
 
@@ -100,7 +105,8 @@ fn zeros(alloc: Global, len: usize) -> Result<Vec<u64>, AllocError>
 fn make_row(alloc: Global, rows: &mut Vec<Vec<u64>>, row: usize) -> Result<(), AllocError>
     requires { row < 2752 }
     ensures same { SameBits rows.old.items rows.new.items }
-    ensures made { OnOk result (AreSized rows.old.items → length (words_of rows.new.items row) ≡ width_of row) }
+    ensures made { OnOk result (AreSized rows.old.items
+        → length (words_of rows.new.items row) ≡ width_of row) }
 {
     while rows.len() <= row {
         rows.push(Vec::new(alloc))?;
