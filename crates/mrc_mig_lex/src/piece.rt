@@ -27,6 +27,7 @@ pub struct Piece {
 }
 
 impl Piece {
+    #[inline(always)]
     fn token(kind: TokenKind, more: usize) -> Piece
         ensures { result ≡ token kind more }
     {
@@ -37,6 +38,7 @@ impl Piece {
         }
     }
 
+    #[inline(always)]
     fn gap(more: usize, fresh: bool) -> Piece
         ensures { result ≡ gap more fresh }
     {
@@ -48,24 +50,28 @@ impl Piece {
     }
 }
 
+#[inline(always)]
 fn begins_name(byte: u8) -> bool
     ensures { result ≡ begins_name byte }
 {
     byte.is_ascii_alphabetic() || byte == b'_'
 }
 
+#[inline(always)]
 fn continues_name(byte: u8) -> bool
     ensures { result ≡ continues_name byte }
 {
     begins_name(byte) || byte.is_ascii_digit()
 }
 
+#[inline(always)]
 fn is_blank(byte: u8) -> bool
     ensures { result ≡ is_blank byte }
 {
     matches!(byte, b' ' | b'\t' | b'\r' | b'\n')
 }
 
+#[inline(always)]
 fn sign_of(byte: u8) -> Option<Sign>
     ensures { result ≡ sign_of byte }
 {
@@ -154,6 +160,7 @@ fn capped_value(first: u8, digits: &[u8]) -> u64
     value
 }
 
+#[inline(always)]
 fn number_at(at: usize, first: u8, rest: &[u8]) -> Result<Piece, LexFault>
     ensures { result ≡ number_at at first rest.now }
 {
@@ -184,6 +191,7 @@ fn comment_at(at: usize, rest: &[u8]) -> Result<Piece, LexFault>
     }
 }
 
+#[inline(always)]
 fn sign_at(at: usize, first: u8) -> Result<Piece, LexFault>
     ensures { result ≡ sign_at at first }
 {

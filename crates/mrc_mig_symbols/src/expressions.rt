@@ -55,6 +55,7 @@ impl Sum {
 
     /// With one more factor or divisor, which begins at `at`.
     #[tactic(auto, unfolding(crate::specs::Expressions::with_operand, crate::specs::ExpressionStops::placed_with))]
+    #[inline(always)]
     fn with_operand(self, operand: u32, at: usize) -> Result<Sum, Stop>
         ensures { Answers placed_of result (placed_with operand at (placed_of self)) }
     {
@@ -75,6 +76,7 @@ impl Sum {
 
     /// The value of the whole sum.
     #[tactic(auto, unfolding(crate::specs::Expressions::value_of, crate::specs::ExpressionStops::placed_value))]
+    #[inline(always)]
     fn value(self) -> Result<u32, Stop>
         ensures { Answers (λ n. n) result (placed_value (placed_of self)) }
     {
@@ -93,6 +95,7 @@ impl Sum {
 
     /// Before the next product, which begins at `at`.
     #[tactic(auto, unfolding(crate::specs::Expressions::next_product, crate::specs::ExpressionStops::placed_product))]
+    #[inline(always)]
     fn next_product(self, subtracts: bool, at: usize) -> Result<Sum, Stop>
         ensures { Answers placed_of result (placed_product subtracts at (placed_of self)) }
     {
@@ -119,6 +122,7 @@ struct Reader {
 
 impl Reader {
     /// Reads the symbol at `at`, where an operand is wanted. The next one is at `next`.
+    #[inline(always)]
     fn read_operand(&mut self, symbol: Symbol, at: usize, next: usize) -> Result<(), OrMemory<Stop>>
         ensures { Gives (λ _. reading_of self.new) result (placed_operand symbol at next
             (reading_of self.old).outer (reading_of self.old).sum) }
@@ -140,6 +144,7 @@ impl Reader {
     }
 
     /// Closes a parenthesis, at `at`.
+    #[inline(always)]
     fn close(&mut self, at: usize) -> Result<(), Stop>
         ensures { Answers (λ _. reading_of self.new) result
             (placed_closed at (reading_of self.old).outer (reading_of self.old).sum) }
@@ -154,6 +159,7 @@ impl Reader {
     }
 
     /// Reads the symbol at `at` behind an operand. The next one is at `next`.
+    #[inline(always)]
     fn read_operator(&mut self, symbol: Symbol, at: usize, next: usize) -> Result<(), Stop>
         ensures { Answers (λ _. reading_of self.new) result (placed_operator symbol at next
             (reading_of self.old).outer (reading_of self.old).sum) }
@@ -172,6 +178,7 @@ impl Reader {
 
     /// Reads the symbol at `at`. The next one is at `next`.
     #[tactic(auto, unfolding(crate::specs::ExpressionStops::placed_step))]
+    #[inline(always)]
     fn read(&mut self, symbol: Symbol, at: usize, next: usize) -> Result<(), OrMemory<Stop>>
         ensures { Gives (λ _. reading_of self.new) result
             (placed_step symbol at next (reading_of self.old)) }
@@ -186,6 +193,7 @@ impl Reader {
 
     /// Whether the symbol belongs to the expression no more.
     #[tactic(auto, unfolding(crate::specs::Expressions::ends))]
+    #[inline(always)]
     fn ends(&self, symbol: Symbol) -> bool
         ensures { result ≡ ends (unplaced (reading_of self.now)) symbol }
     {

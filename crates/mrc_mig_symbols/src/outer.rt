@@ -17,6 +17,7 @@ struct Run {
 
 impl Run {
     /// The sum that would be the next of these.
+    #[inline(always)]
     fn inner(self) -> Sum
         ensures { placed_of result ≡ inner self.sum.left self.more }
     {
@@ -25,6 +26,7 @@ impl Run {
     }
 
     /// Whether the sum is the next of these.
+    #[inline(always)]
     fn precedes(self, sum: Sum) -> bool
         ensures { IsTrue result → placed_of sum ≡ inner self.sum.left self.more }
     {
@@ -67,6 +69,7 @@ impl Outer {
     }
 
     /// With one more, the innermost.
+    #[inline(always)]
     pub(crate) fn push(&mut self, sum: Sum) -> Result<(), AllocError>
         ensures { OnOk result (self.new ≡ placed_of sum ∷ self.old) }
     {
@@ -86,6 +89,7 @@ impl Outer {
     }
 
     /// Takes the innermost, if there is one.
+    #[inline(always)]
     pub(crate) fn pop(&mut self) -> Option<Sum>
         ensures { MatchOption result (self.old ≡ []) (λ sum. self.old ≡ placed_of sum ∷ self.new) }
     {

@@ -35,6 +35,7 @@ pub enum Symbol {
 }
 
 /// What the grammar sees of a token of this kind with this text.
+#[inline(always)]
 pub(crate) fn symbol_by(kind: TokenKind, text: &str) -> Symbol
     ensures { result ≡ symbol_by kind text.now }
 {
@@ -70,6 +71,7 @@ impl<'t> Rest<'t> {
 
     /// Whether nothing is left.
     #[tactic(auto, unfolding(crate::specs::Readers::left))]
+    #[inline(always)]
     pub fn is_empty(self) -> bool
         ensures { result ≡ no_tokens (left self.entry) }
     {
@@ -78,6 +80,7 @@ impl<'t> Rest<'t> {
 
     /// What the first token is.
     #[tactic(auto, unfolding(crate::specs::Readers::left))]
+    #[inline(always)]
     pub fn first(self) -> Symbol
         ensures { result ≡ first_of (left self.entry) }
     {
@@ -89,6 +92,7 @@ impl<'t> Rest<'t> {
 
     /// How many tokens are left.
     #[tactic(auto, unfolding(crate::specs::Readers::left))]
+    #[inline(always)]
     pub fn len(self) -> usize
         ensures { result ≡ length (left self.entry) }
     {
@@ -108,6 +112,7 @@ impl<'t> Rest<'t> {
 
     /// What is left after the first token.
     #[tactic(auto, using(crate::proofs::LeftLemmas::next_left, crate::proofs::LeftLemmas::end_left), unfolding(crate::specs::Readers::left))]
+    #[inline(always)]
     pub fn next(self) -> Rest<'t>
         ensures { left result ≡ tail_of (left self.entry) }
     {

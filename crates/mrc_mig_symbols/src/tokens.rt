@@ -52,6 +52,7 @@ impl<'t> Tokens<'t> {
     }
 
     /// What is kept of the token of this number, where there is one.
+    #[inline(always)]
     pub(crate) fn mark(&self, number: usize) -> Option<Mark>
         ensures { result ≡ option_map mark_of (slice_get self.now number) }
     {
