@@ -43,11 +43,11 @@ no_text bytes not_text =
 no_file : (tokens : List Lexeme) → ((m : Meaning) → IsFile tokens m → ⊥)
     → meaning_of tokens ≡ None
 no_file tokens none =
-    let go : (o : Option Meaning) → meaning_of tokens ≡ o → meaning_of tokens ≡ None = elim [
+    let by : (o : Option Meaning) → meaning_of tokens ≡ o → meaning_of tokens ≡ None = elim [
       | None ↦ λ e. e
       | Some m ↦ λ e. absurd (none m (read_is_file tokens m e))
     ] in
-    go (meaning_of tokens) refl
+    by (meaning_of tokens) refl
 
 -- the table that bytes have is read
 pub interface_read : (bytes : List ℕ) (table : Table) → IsInterface bytes table
@@ -83,7 +83,7 @@ HasAnswer bytes =
 with_subsystem : (bytes : List ℕ) → IsUtf8 bytes → (tokens : List Lexeme) → HasTokens bytes tokens
     → (m : Meaning) → IsFile tokens m → HasAnswer bytes
 with_subsystem bytes text tokens has m is =
-    let go : (r : Result Table InterfaceFault) → table_of m ≡ r → HasAnswer bytes = elim [
+    let by : (r : Result Table InterfaceFault) → table_of m ≡ r → HasAnswer bytes = elim [
       | Ok table ↦ λ e. inl (
         table,
         record {
@@ -97,28 +97,28 @@ with_subsystem bytes text tokens has m is =
       )
       | Err fault ↦ λ e. inr (NoTable fault, (text, tokens, m, has, is, e))
     ] in
-    go (table_of m) refl
+    by (table_of m) refl
 
 with_tokens : (bytes : List ℕ) → IsUtf8 bytes → (tokens : List Lexeme) → HasTokens bytes tokens
     → HasAnswer bytes
 with_tokens bytes text tokens has =
-    let go : (o : Option Meaning) → meaning_of tokens ≡ o → HasAnswer bytes = elim [
+    let by : (o : Option Meaning) → meaning_of tokens ≡ o → HasAnswer bytes = elim [
       | None ↦ λ none. inr
           (NoFile, (text, tokens, has, λ m is. not_read m (file_is_read tokens m is) none))
       | Some m ↦ λ e. with_subsystem bytes text tokens has m (read_is_file tokens m e)
     ] in
-    go (meaning_of tokens) refl
+    by (meaning_of tokens) refl
   where
     not_read : (m : Meaning) → meaning_of tokens ≡ Some m → meaning_of tokens ≡ None → ⊥
     not_read m e none = let same = sym e ∙ none in absurd cc
 
 with_text : (bytes : List ℕ) → IsUtf8 bytes → HasAnswer bytes
 with_text bytes text =
-    let go : (r : Result (List Lexeme) LexFault) → tokens_of bytes ≡ r → HasAnswer bytes = elim [
+    let by : (r : Result (List Lexeme) LexFault) → tokens_of bytes ≡ r → HasAnswer bytes = elim [
       | Ok tokens ↦ λ e. with_tokens bytes text tokens (has_tokens bytes tokens e)
       | Err fault ↦ λ e. inr (NoTokens fault, (text, e))
     ] in
-    go (tokens_of bytes) refl
+    by (tokens_of bytes) refl
 
 has_answer : (bytes : List ℕ) → HasAnswer bytes
 has_answer bytes = elim (cases_Bool (is_utf8 bytes)) [

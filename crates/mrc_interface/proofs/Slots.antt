@@ -34,7 +34,7 @@ slot_is_port n (item ∷ items) i d h =
     × IsPortAt (item ∷ items) j d =
     λ more. let r = slot_is_port (n + 1) items i d more in
     (suc r.0, (let e = r.1 in omega arith), r.2) in
-    let go : (o : Option Disp) → disp_of_number item.shape.name ≡ o
+    let by : (o : Option Disp) → disp_of_number item.shape.name ≡ o
     → HasSlotIn (slot_by n item.type_name o ++ slots_from (n + 1) items) i d
     → (j : ℕ) × (n + j ≡ i) × IsPortAt (item ∷ items) j d = elim [
       | None ↦ λ is more. later_on more
@@ -55,7 +55,7 @@ slot_is_port n (item ∷ items) i d h =
             | inr there ↦ later_on (more.0, there, more.2, more.3)
           ]
     ] in
-    go (disp_of_number item.shape.name) refl h
+    by (disp_of_number item.shape.name) refl h
 
 -- each item of a disposition is a slot
 pub port_is_slot : (n : ℕ) (items : List Item) (j : ℕ) (d : Disp) → IsPortAt items j d
@@ -71,12 +71,12 @@ port_is_slot n (item ∷ items) zero d p =
 port_is_slot n (item ∷ items) (suc j) d p =
     let r = port_is_slot (n + 1) items j d p in
     let e : n + 1 + j ≡ n + suc j = omega arith in
-    let go : (o : Option Disp)
+    let by : (o : Option Disp)
     → HasSlotIn (slot_by n item.type_name o ++ slots_from (n + 1) items) (n + suc j) d = elim [
       | None ↦ (r.0, r.1, r.2 ∙ e, r.3)
       | Some x ↦ (r.0, later r.1, r.2 ∙ e, r.3)
     ] in
-    go (disp_of_number item.shape.name)
+    by (disp_of_number item.shape.name)
 
 -- the argument in this place carries port rights in this way
 abbrev IsPortArgument : List Shape → ℕ → Disp → Type 0
@@ -87,7 +87,7 @@ IsPortArgument arguments i d = (argument : Shape) × (slice_get arguments i ≡ 
 item_of_argument : (items : List Item) (j : ℕ) (d : Disp)
     → IsPortArgument (map (λ item. item.shape) items) j d → IsPortAt items j d
 item_of_argument items j d p =
-    let go : (o : Option Item) → slice_get items j ≡ o
+    let by : (o : Option Item) → slice_get items j ≡ o
     → option_map (λ (item : Item). item.shape) o ≡ Some p.0 → IsPortAt items j d = elim [
       | None ↦ λ at e. absurd (not_None p.0 (sym e))
       | Some item ↦ λ at e. (
@@ -97,7 +97,7 @@ item_of_argument items j d p =
             ∙ p.2,
       )
     ] in
-    go (slice_get items j) refl (sym (slice_get-map (λ (item : Item). item.shape) items j) ∙ p.1)
+    by (slice_get items j) refl (sym (slice_get-map (λ (item : Item). item.shape) items j) ∙ p.1)
 
 argument_of_item : (items : List Item) (j : ℕ) (d : Disp) → IsPortAt items j d
     → IsPortArgument (map (λ item. item.shape) items) j d

@@ -32,7 +32,8 @@ use Rattle.mrc_mig_lex.specs.Pieces.{number_at, closed_at, comment_at, sign_at, 
 use Rattle.mrc_mig_lex.specs.Tokens.{Lexeme}
 use Rattle.mrc_mig_lex.specs.Lexing.{lexeme_of, tokens_from, tokens_of}
 use Rattle.mrc_mig_lex.proofs.LexingLaws.{passed_over}
-use Rattle.mrc_mig_lex.proofs.PieceLaws.{Yields, yields, fails, choice, option, piece_is}
+use Rattle.mrc_mig_lex.proofs.PieceLaws.{Yields, yields, fails, choice, option, piece_is, IsOther}
+use Rattle.mrc_mig_lex.proofs.PieceLaws.{sign_other}
 use Rattle.mrc_mig_lex.specs.Parts.{Part, Ends, is_fresh, NoClose, IsBlank, stays_open, IsClosed}
 use Rattle.mrc_mig_lex.specs.Parts.{IsToken, IsPart, AreParts, tokens_among, HasTokens}
 
@@ -154,20 +155,11 @@ list_all-weaker p q (c ∷ xs) weaker pass =
     let parts = and_parts _ _ pass in
     and_from _ _ (weaker c parts.0) (list_all-weaker p q xs weaker parts.1)
 
-no_feed_in_name : (c : ℕ) → continues_name c ≡ true → not (c == line_feed) ≡ true
-no_feed_in_name c h = grind (arith, nat_tests)
-
-no_feed_in_digit : (c : ℕ) → is_ascii_digit c ≡ true → not (c == line_feed) ≡ true
-no_feed_in_digit c h = grind (arith, nat_tests)
-
 name_not_blank : (c : ℕ) → begins_name c ≡ true → is_blank c ≡ false
 name_not_blank c h = grind (arith, nat_tests)
 
 digit_not_blank : (c : ℕ) → is_ascii_digit c ≡ true → is_blank c ≡ false
 digit_not_blank c h = grind (arith, nat_tests)
-
-digit_not_name : (c : ℕ) → is_ascii_digit c ≡ true → begins_name c ≡ false
-digit_not_name c h = grind (arith, nat_tests)
 
 -- ---- what is read is a part
 
@@ -201,7 +193,7 @@ name_stands before first rest begins =
     record {
       part = (first, body, refl, begins, pass, run_ends continues_name rest);
       fresh = sym (stale (is_fresh before) first body (name_not_blank first begins)
-          (list_all-weaker _ _ body no_feed_in_name pass));
+          (list_all-weaker _ _ body (λ c h. grind (arith, nat_tests)) pass));
     }
 
 number_stands : (at : ℕ) (before : List ℕ) (first : ℕ) (rest : List ℕ) → is_ascii_digit first ≡ true
@@ -221,7 +213,7 @@ number_stands at before first rest digit =
         leb-true _ _ small,
       );
       fresh = sym (stale (is_fresh before) first body (digit_not_blank first digit)
-          (list_all-weaker _ _ body no_feed_in_digit pass));
+          (list_all-weaker _ _ body (λ c h. grind (arith, nat_tests)) pass));
     }))
     (λ _. fails _)
 
@@ -457,19 +449,6 @@ pub record IsRead (at : ℕ) (fresh : Bool) (kind : Option TokenKind) (bytes aft
       fresh = then_fresh;
     })
 
-blank_read : (at : ℕ) (fresh : Bool) (bytes after : List ℕ) → IsBlank bytes
-    → IsRead at fresh None bytes after
-unfolding piece_at
-blank_read at fresh bytes after (c, split, blank) =
-    record {
-      first = c;
-      body = [];
-      split = split;
-      then_fresh = fresh
-          || (c == line_feed);
-      read = cond-true (is_blank c) _ _ blank;
-    }
-
 name_read : (at : ℕ) (fresh : Bool) (first : ℕ) (body after : List ℕ) → begins_name first ≡ true
     → list_all continues_name body ≡ true → Ends continues_name after
     → piece_at at fresh first (body ++ after) ≡ Ok (token Name (length body))
@@ -493,7 +472,7 @@ number_read at fresh first body after pass ends small =
     let value : decimal (first ∷ take_while is_ascii_digit (body ++ after)) ≡ decimal (first ∷ body)
     = ap (λ l. decimal (first ∷ l)) digits in
     cond-false (is_blank first) _ _ (digit_not_blank first p.0)
-    ∙ cond-false (begins_name first) _ _ (digit_not_name first p.0)
+    ∙ cond-false (begins_name first) _ _ (let h = p.0 in grind (arith, nat_tests))
     ∙ cond-true (is_ascii_digit first) _ _ p.0
     ∙ cond-true (leb (decimal (first ∷ take_while is_ascii_digit (body ++ after)))
     limit_of_number) _ _ (le-leb _ _ (omega (arith, value)))
@@ -525,50 +504,6 @@ closed_at_is at kind close inner after pass =
     ap (closed_at at kind close) (append_assoc inner (close ∷ []) after)
     ∙ ap (λ o. ok_or (option_map (token kind) o) (BadCharacter at))
     (closed_len_is close inner after pass ∙ ap Some size)
-
-directive_read : (at : ℕ) (line after : List ℕ) → list_all (λ c. not (c == line_feed)) line ≡ true
-    → Ends (λ c. not (c == line_feed)) after
-    → piece_at at true 35 (line ++ after) ≡ Ok (token Directive (length line))
-unfolding piece_at
-directive_read at line after pass ends =
-    ap (λ n. Ok (token Directive n))
-    (prefix_len_run (λ c. not (c == line_feed)) line after pass ends)
-
--- what no other token than a sign begins with
-record IsOther (c : ℕ) : Type 0 where
-  blank : is_blank c ≡ false
-  name : begins_name c ≡ false
-  digit : is_ascii_digit c ≡ false
-  quote : eqb c 34 ≡ false
-  less : eqb c 60 ≡ false
-  hash : eqb c 35 ≡ false
-
-other_case : (c k : ℕ) (s : sign.Sign) (more : Option sign.Sign) → IsOther k
-    → IfSome more (λ _. IsOther c) → IfSome (cond (eqb c k) (Some s) more) (λ _. IsOther c)
-other_case c k s more here others =
-    cond_both (eqb c k) (Some s) more (λ o. IfSome o (λ _. IsOther c))
-    (λ e. subst IsOther (sym (eqb-true c k e)) here) (λ _. others)
-
-is_other : (k : ℕ) → is_blank k ≡ false → begins_name k ≡ false → is_ascii_digit k ≡ false
-    → eqb k 34 ≡ false → eqb k 60 ≡ false → eqb k 35 ≡ false → IsOther k
-is_other k a b c d e f = record { blank = a; name = b; digit = c; quote = d; less = e; hash = f }
-
-sign_other : (c : ℕ) → IfSome (sign_of c) (λ _. IsOther c)
-sign_other c =
-    other_case c 59 _ _ (is_other 59 refl refl refl refl refl refl) (
-    other_case c 58 _ _ (is_other 58 refl refl refl refl refl refl) (
-    other_case c 44 _ _ (is_other 44 refl refl refl refl refl refl) (
-    other_case c 61 _ _ (is_other 61 refl refl refl refl refl refl) (
-    other_case c 40 _ _ (is_other 40 refl refl refl refl refl refl) (
-    other_case c 41 _ _ (is_other 41 refl refl refl refl refl refl) (
-    other_case c 91 _ _ (is_other 91 refl refl refl refl refl refl) (
-    other_case c 93 _ _ (is_other 93 refl refl refl refl refl refl) (
-    other_case c 42 _ _ (is_other 42 refl refl refl refl refl refl) (
-    other_case c 43 _ _ (is_other 43 refl refl refl refl refl refl) (
-    other_case c 45 _ _ (is_other 45 refl refl refl refl refl refl) (
-    other_case c 47 _ _ (is_other 47 refl refl refl refl refl refl) (
-    other_case c 94 _ _ (is_other 94 refl refl refl refl refl refl) (
-    other_case c 124 _ _ (is_other 124 refl refl refl refl refl refl) tt)))))))))))))
 
 sign_read : (at : ℕ) (fresh : Bool) (c : ℕ) (s : sign.Sign) (after : List ℕ) → sign_of c ≡ Some s
     → ((c == 47) && starts_with nat_eq after (codes "*")) ≡ false
@@ -604,93 +539,52 @@ comment_read at fresh inner after inside =
     (ap comment_len (append_assoc inner (codes "*/") after) ∙ comment_len_is inner after inside)
     ∙ ap (λ n. Ok (gap n false)) size
 
-text_read : (at : ℕ) (fresh : Bool) (inner after : List ℕ) → list_all (stays_open 34) inner ≡ true
-    → piece_at at fresh 34 ((inner ++ 34 ∷ []) ++ after)
-    ≡ Ok (token Text (length (inner ++ 34 ∷ [])))
-unfolding piece_at
-text_read at fresh inner after pass = closed_at_is at Text 34 inner after pass
-
-header_read : (at : ℕ) (fresh : Bool) (inner after : List ℕ) → list_all (stays_open 62) inner ≡ true
-    → piece_at at fresh 60 ((inner ++ 62 ∷ []) ++ after)
-    ≡ Ok (token Header (length (inner ++ 62 ∷ [])))
-unfolding piece_at
-header_read at fresh inner after pass = closed_at_is at Header 62 inner after pass
+-- a piece of these bytes behind which nothing is fresh
+stale_read : {at : ℕ} {fresh : Bool} {kind : Option TokenKind} {bytes after : List ℕ} (first : ℕ)
+    (body : List ℕ) → bytes ≡ first ∷ body
+    → piece_at at fresh first (body ++ after)
+    ≡ Ok (record { kind = kind; more = length body; fresh = false })
+    → IsRead at fresh kind bytes after
+stale_read first body split read =
+    record { first = first; body = body; split = split; then_fresh = false; read = read }
 
 token_read : (at : ℕ) (before : List ℕ) (kind : TokenKind) (bytes after : List ℕ)
     → IsToken kind before bytes after → IsRead at (is_fresh before) (Some kind) bytes after
+unfolding piece_at
 token_read at before Name bytes after (first, body, split, begins, pass, ends) =
-    record {
-      first = first;
-      body = body;
-      split = split;
-      then_fresh = false;
-      read = name_read at
-          (is_fresh before) first body after begins pass ends;
-    }
+    stale_read first body split (name_read at (is_fresh before) first body after begins pass ends)
 token_read at before (Number n) bytes after (first, body, split, pass, ends, value, small) =
     let value_is : decimal (first ∷ body) ≡ n = sym (ap decimal split) ∙ value in
-    record {
-      first = first;
-      body = body;
-      split = split;
-      then_fresh = false;
-      read = number_read at (is_fresh before) first body after
-          (ap (list_all is_ascii_digit) (sym split) ∙ pass) ends (omega (arith, value_is))
-          ∙ ap (λ v. Ok (token (Number v) (length body))) value_is;
-    }
+    stale_read first body split (number_read at (is_fresh before) first body after
+    (ap (list_all is_ascii_digit) (sym split) ∙ pass) ends (omega (arith, value_is))
+    ∙ ap (λ v. Ok (token (Number v) (length body))) value_is)
 token_read at before Text bytes after (inner, split, pass) =
-    record {
-      first = 34;
-      body = inner
-          ++ 34 ∷ [];
-      split = split;
-      then_fresh = false;
-      read =
-          text_read at (is_fresh before) inner after pass;
-    }
+    stale_read 34 (inner ++ 34 ∷ []) split (closed_at_is at Text 34 inner after pass)
 token_read at before Header bytes after (inner, split, pass) =
-    record {
-      first = 60;
-      body = inner
-          ++ 62 ∷ [];
-      split = split;
-      then_fresh = false;
-      read =
-          header_read at (is_fresh before) inner after pass;
-    }
+    stale_read 60 (inner ++ 62 ∷ []) split (closed_at_is at Header 62 inner after pass)
 token_read at before (Sign s) bytes after (c, split, is_sign, no_comment) =
+    stale_read c [] split (sign_read at (is_fresh before) c s after is_sign no_comment)
+token_read at before Directive bytes after (line, split, fresh, pass, ends) =
+    stale_read 35 line split
+    (ap (λ f. piece_at at f 35 (line ++ after)) fresh ∙ ap (λ n. Ok (token Directive n))
+    (prefix_len_run (λ c. not (c == line_feed)) line after pass ends))
+
+part_read : (at : ℕ) (before : List ℕ) (kind : Option TokenKind) (bytes after : List ℕ)
+    → IsPart kind before bytes after → IsRead at (is_fresh before) kind bytes after
+unfolding piece_at
+part_read at before (Some kind) bytes after is_token =
+    token_read at before kind bytes after is_token
+part_read at before None bytes after (inl (c, split, blank)) =
     record {
       first = c;
       body = [];
       split = split;
-      then_fresh = false;
-      read = sign_read at
-          (is_fresh before) c s after is_sign no_comment;
+      then_fresh = is_fresh before || (c == line_feed);
+      read = cond-true (is_blank c) _ _ blank;
     }
-token_read at before Directive bytes after (line, split, fresh, pass, ends) =
-    record {
-      first = 35;
-      body = line;
-      split = split;
-      then_fresh = false;
-      read = ap
-          (λ f. piece_at at f 35 (line ++ after)) fresh ∙ directive_read at line after pass ends;
-    }
-
-part_read : (at : ℕ) (before : List ℕ) (kind : Option TokenKind) (bytes after : List ℕ)
-    → IsPart kind before bytes after → IsRead at (is_fresh before) kind bytes after
-part_read at before (Some kind) bytes after is_token =
-    token_read at before kind bytes after is_token
-part_read at before None bytes after (inl blank) = blank_read at (is_fresh before) bytes after blank
 part_read at before None bytes after (inr (inner, split, inside)) =
-    record {
-      first = 47;
-      body = 42 ∷ (inner ++ codes "*/");
-      split = split;
-      then_fresh = false;
-      read
-          = comment_read at (is_fresh before) inner after inside;
-    }
+    stale_read 47 (42 ∷ (inner ++ codes "*/")) split
+    (comment_read at (is_fresh before) inner after inside)
 
 -- ---- whole texts
 
@@ -703,12 +597,6 @@ behind more fresh fresh' at at' rest after same_fresh same_at same_rest =
     ∙ ap (λ f. tokens_from 0 f (at + more) (drop more rest)) same_fresh
     ∙ ap (λ i. tokens_from 0 fresh' i (drop more rest)) same_at
     ∙ ap (tokens_from 0 fresh' at') same_rest
-
-read_behind : (more : ℕ) (fresh fresh' : Bool) (at at' : ℕ) (rest after : List ℕ)
-    (tokens : List Lexeme) → fresh ≡ fresh' → at + more ≡ at' → drop more rest ≡ after
-    → tokens_from more fresh at rest ≡ Ok tokens → tokens_from 0 fresh' at' after ≡ Ok tokens
-read_behind more fresh fresh' at at' rest after tokens same_fresh same_at same_rest read =
-    sym (behind more fresh fresh' at at' rest after same_fresh same_at same_rest) ∙ read
 
 -- these parts, with these tokens among them
 record Parted (before rest : List ℕ) (tokens : List Lexeme) : Type 0 where
@@ -734,8 +622,8 @@ parted (suc n) before (c ∷ rest) tokens le read =
     ∙ sym (fresh-append before bytes) in
     let onward : tokens_from 0 (is_fresh (before ++ bytes)) (length (before ++ bytes)) after
     ≡ Ok two.0 =
-    read_behind piece.more piece.fresh _ (length before + 1) _ rest after two.0 fresh here refl
-    two.1 in
+    sym (behind piece.more piece.fresh _ (length before + 1) _ rest after fresh here refl)
+    ∙ two.1 in
     let later = parted n (before ++ bytes) after two.0 (omega (arith, length-drop piece.more rest))
     onward in
     let whole : lexeme_of piece (length before) c rest ++ two.0 ≡ tokens = cc in

@@ -34,34 +34,49 @@ pub record IsPieceOf (first : ℕ) (rest : List ℕ) (piece : Piece) : Type 0 wh
   pub ends : piece.kind ≢ None → (get_or (first ∷ rest) piece.more 0 < 128)
       ⊎ (get_or rest piece.more 0 < 128)
 
-name_ascii : (c : ℕ) → continues_name c ≡ true → c < 128
-name_ascii c h = grind (arith, nat_tests)
-
 begin_ascii : (c : ℕ) → begins_name c ≡ true → c < 128
 begin_ascii c h = grind (arith, nat_tests)
 
 digit_ascii : (c : ℕ) → is_ascii_digit c ≡ true → c < 128
 digit_ascii c h = grind (arith, nat_tests)
 
--- a sign is an ASCII character
-sign_case : (c k : ℕ) (s : sign.Sign) (other : Option sign.Sign) → k < 128
-    → IfSome other (λ _. c < 128) → IfSome (cond (eqb c k) (Some s) other) (λ _. c < 128)
-sign_case c k s other small others =
-    cond_both (eqb c k) (Some s) other (λ o. IfSome o (λ _. c < 128))
-    (λ e. omega (arith, eqb-true c k e)) (λ _. others)
+-- an ASCII character with which no other token begins
+pub record IsOther (c : ℕ) : Type 0 where
+  pub ascii : c < 128
+  pub blank : is_blank c ≡ false
+  pub name : begins_name c ≡ false
+  pub digit : is_ascii_digit c ≡ false
+  pub quote : eqb c 34 ≡ false
+  pub less : eqb c 60 ≡ false
+  pub hash : eqb c 35 ≡ false
 
-sign_ascii : (c : ℕ) → IfSome (sign_of c) (λ _. c < 128)
-sign_ascii c =
-    sign_case c 59 _ _ (omega arith)
-    (sign_case c 58 _ _ (omega arith)
-    (sign_case c 44 _ _ (omega arith) (sign_case c 61 _ _ (omega arith)
-    (sign_case c 40 _ _ (omega arith)
-    (sign_case c 41 _ _ (omega arith)
-    (sign_case c 91 _ _ (omega arith) (sign_case c 93 _ _ (omega arith)
-    (sign_case c 42 _ _ (omega arith)
-    (sign_case c 43 _ _ (omega arith)
-    (sign_case c 45 _ _ (omega arith) (sign_case c 47 _ _ (omega arith)
-    (sign_case c 94 _ _ (omega arith) (sign_case c 124 _ _ (omega arith) tt)))))))))))))
+other : (k : ℕ) → k < 128 → is_blank k ≡ false → begins_name k ≡ false → is_ascii_digit k ≡ false
+    → eqb k 34 ≡ false → eqb k 60 ≡ false → eqb k 35 ≡ false → IsOther k
+other k low a b c d e f =
+    record { ascii = low; blank = a; name = b; digit = c; quote = d; less = e; hash = f }
+
+sign_case : (c k : ℕ) (s : sign.Sign) (more : Option sign.Sign) → IsOther k
+    → IfSome more (λ _. IsOther c) → IfSome (cond (eqb c k) (Some s) more) (λ _. IsOther c)
+sign_case c k s more here others =
+    cond_both (eqb c k) (Some s) more (λ o. IfSome o (λ _. IsOther c))
+    (λ e. subst IsOther (sym (eqb-true c k e)) here) (λ _. others)
+
+pub sign_other : (c : ℕ) → IfSome (sign_of c) (λ _. IsOther c)
+sign_other c =
+    sign_case c 59 _ _ (other 59 (lit< tt) refl refl refl refl refl refl) (
+    sign_case c 58 _ _ (other 58 (lit< tt) refl refl refl refl refl refl) (
+    sign_case c 44 _ _ (other 44 (lit< tt) refl refl refl refl refl refl) (
+    sign_case c 61 _ _ (other 61 (lit< tt) refl refl refl refl refl refl) (
+    sign_case c 40 _ _ (other 40 (lit< tt) refl refl refl refl refl refl) (
+    sign_case c 41 _ _ (other 41 (lit< tt) refl refl refl refl refl refl) (
+    sign_case c 91 _ _ (other 91 (lit< tt) refl refl refl refl refl refl) (
+    sign_case c 93 _ _ (other 93 (lit< tt) refl refl refl refl refl refl) (
+    sign_case c 42 _ _ (other 42 (lit< tt) refl refl refl refl refl refl) (
+    sign_case c 43 _ _ (other 43 (lit< tt) refl refl refl refl refl refl) (
+    sign_case c 45 _ _ (other 45 (lit< tt) refl refl refl refl refl refl) (
+    sign_case c 47 _ _ (other 47 (lit< tt) refl refl refl refl refl refl) (
+    sign_case c 94 _ _ (other 94 (lit< tt) refl refl refl refl refl refl) (
+    sign_case c 124 _ _ (other 124 (lit< tt) refl refl refl refl refl refl) tt)))))))))))))
 
 gap_is : (first : ℕ) (rest : List ℕ) (more : ℕ) (fresh : Bool) → more ≤ length rest
     → IsPieceOf first rest (gap more fresh)
@@ -199,8 +214,8 @@ comment_is at first rest some =
 sign_is : (at first : ℕ) (rest : List ℕ) → Yields (IsPieceOf first rest) (sign_at at first)
 sign_is at first rest =
     option (sign_of first) (λ s. token (Sign s) 0) (BadCharacter at)
-    (IfSome_then _ (sign_ascii first)
-    (λ s begins. token_is (Sign s) first rest 0 (omega arith) begins begins))
+    (IfSome_then _ (sign_other first)
+    (λ s is. token_is (Sign s) first rest 0 (omega arith) is.ascii is.ascii))
 
 small_is : (c k : ℕ) → k < 128 → eqb c k ≡ true → c < 128
 small_is c k small same = omega (arith, eqb-true c k same)
@@ -210,8 +225,8 @@ pub piece_is : (at : ℕ) (fresh : Bool) (first : ℕ) (rest : List ℕ)
 unfolding piece_at
 piece_is at fresh first rest =
     choice {b = is_blank first} (λ _. yields _ (gap_is first rest 0 _ (omega arith))) (λ _.
-    choice (λ e. yields _ (run_is continues_name Name first rest name_ascii (begin_ascii first e)))
-    (λ _.
+    choice (λ e. yields _ (run_is continues_name Name first rest (λ c h. grind (arith, nat_tests))
+    (begin_ascii first e))) (λ _.
     choice (λ e. number_is at first rest (digit_ascii first e)) (λ _.
     choice (λ e. closed_is at Text 34 first rest (lit< tt) (small_is first 34 (lit< tt) e)) (λ _.
     choice (λ e. closed_is at Header 62 first rest (lit< tt) (small_is first 60 (lit< tt) e)) (λ _.

@@ -15,14 +15,14 @@ use Rattle.mrc_mig_symbols.specs.ExpressionGrammar.{goes_on}
 use Rattle.mrc_mig_symbols.proofs.ExpressionLaw.{read_is_spelled, spelled_is_read}
 use Rattle.mrc_mig_parse.specs.declared.types.Around.{Around}
 use Rattle.mrc_mig_parse.specs.Types.{dimension_at, bound_by, variable_dimension_at}
-use Rattle.mrc_mig_parse.specs.Grammar.{Is, IsExpression, IsCount, inside, IsDimension, fixed}
+use Rattle.mrc_mig_parse.specs.Grammar.{IsExpression, IsCount, count, inside, IsDimension, fixed}
 use Rattle.mrc_mig_parse.specs.Grammar.{IsVariableDimension, not_variable, at_most}
-use Rattle.mrc_mig_parse.proofs.PhraseLemmas.{in_two, goes_to, behind_guard, guarded, not_true}
-use Rattle.mrc_mig_parse.proofs.PhraseLemmas.{front, first_is, after_sign_is, after_sign_read}
+use Rattle.mrc_mig_parse.proofs.ManyPhrases.{Leads}
+use Rattle.mrc_mig_parse.proofs.PhraseLemmas.{in_two, goes_to, guarded_not, guarded, front}
+use Rattle.mrc_mig_parse.proofs.PhraseLemmas.{first_is, sign_is, sign_read}
 
 pub expression_is : (tokens : List Lexeme) (n : ℕ) (rest : List Lexeme)
-    → expression_at tokens ≡ Some (n, rest) → (written : List Lexeme) × (tokens ≡ written ++ rest)
-    × IsExpression written n
+    → expression_at tokens ≡ Some (n, rest) → Leads (λ w. IsExpression w n) tokens rest
 expression_is tokens n rest e = let b = read_is_spelled tokens n rest e in
     (b.written, b.splits, record { spelled = b.spells })
 
@@ -55,73 +55,53 @@ begins_expression [] read e = absurd cc
 begins_expression (token ∷ tokens) read e = operand_first (symbol_of token) [] nothing_read
     (λ u. value_from u tokens) read e
 
--- `n]` stands in front of the rest
-record Counted (around : Around) (is_bound : Bool) (tokens : List Lexeme) (inner : Around)
-    (rest : List Lexeme) : Type 0 where
-  pub expression : List Lexeme
-  pub number : ℕ
-  pub closes : Lexeme
-  pub is : IsCount around expression number
-  pub is_closes : Is (Sign CloseBracket) closes
-  pub same : inside around number is_bound ≡ inner
-  pub splits : tokens ≡ (expression ++ closes ∷ []) ++ rest
-
-counted : (around : Around) (is_bound : Bool) (tokens : List Lexeme) (inner : Around)
-    (rest : List Lexeme) → dimension_at around is_bound tokens ≡ Some (inner, rest)
-    → Counted around is_bound tokens inner rest
+-- `n]` that is read stands there
+count_is : (around : Around) (is_bound : Bool) (tokens : List Lexeme) (found : Around × List Lexeme)
+    → dimension_at around is_bound tokens ≡ Some found
+    → (number : ℕ) × (inside around number is_bound ≡ found.0)
+    × Leads (λ w. IsCount around w number) tokens found.1
 unfolding dimension_at
-counted around is_bound tokens inner rest e =
+count_is around is_bound tokens found e =
     let (n, read, more) = in_two _ _ _ e in
     let (number, within, closing) = in_two _ _ _ more in
     let (behind, closed, last) = in_two _ _ _ closing in
     let x = expression_is tokens n.0 n.1 read in
-    let c = after_sign_is CloseBracket n.1 behind closed in
-    let (same, end) = some_pair_parts (inside around number is_bound) inner behind rest last in
-    record {
-      expression = x.0;
-      number = number;
-      closes = c.0;
-      is = record { n = n.0; is = x.2; counted = within };
-      is_closes = c.2;
-      same = same;
-      splits = x.1 ∙ ap (λ t. x.0 ++ t) (c.1 ∙ ap (λ t. c.0 ∷ t) end)
-          ∙ sym (append_assoc x.0 (c.0 ∷ []) rest);
-    }
+    let c = sign_is CloseBracket n.1 behind closed in
+    let (same, end) = some_pair_parts (inside around number is_bound) found.0 behind found.1
+    last in
+    let splits = x.1 ∙ ap (λ t. x.0 ++ t) (c.1 ∙ ap (λ t. c.0 ∷ t) end)
+    ∙ sym (append_assoc x.0 (c.0 ∷ []) found.1) in
+    (number, same, (x.0 ++ c.0 ∷ [], splits, count x.2 within c.2))
 
 -- `[n]` that is read stands there
 pub dimension_is : (around : Around) (tokens behind : List Lexeme) (inner : Around)
     (rest : List Lexeme) → after_sign OpenBracket tokens ≡ Some behind
     → dimension_at around false behind ≡ Some (inner, rest)
-    → (written : List Lexeme) × (tokens ≡ written ++ rest) × IsDimension around written inner
+    → Leads (λ w. IsDimension around w inner) tokens rest
 dimension_is around tokens behind inner rest opened e =
-    let o = after_sign_is OpenBracket tokens behind opened in
-    let c = counted around false behind inner rest e in
-    let written : List Lexeme = o.0 ∷ (c.expression ++ c.closes ∷ []) in (
-      written,
-      o.1
-          ∙ ap (λ t. o.0 ∷ t) c.splits,
-      subst (λ i. IsDimension around written i) c.same
-          (fixed o.2 c.is c.is_closes),
+    let o = sign_is OpenBracket tokens behind opened in
+    let (number, same, is) = count_is around false behind (inner, rest) e in (
+      o.0 ∷ is.0,
+      o.1 ∙ ap (λ t. o.0 ∷ t) is.1,
+      subst (λ i. IsDimension around (o.0 ∷ is.0) i) same (fixed o.2 is.2),
     )
 
 variable_is_by : (symbol : Symbol) (around : Around) (tokens behind : List Lexeme) (inner : Around)
     (rest : List Lexeme) → first_of behind ≡ symbol → after_sign OpenBracket tokens ≡ Some behind
     → bound_by symbol around behind ≡ Some (inner, rest)
-    → (written : List Lexeme) × (tokens ≡ written ++ rest)
-    × IsVariableDimension around written inner
+    → Leads (λ w. IsVariableDimension around w inner) tokens rest
 variable_is_by (Sign Star) around tokens behind inner rest first opened e =
-    let (outside, more) = behind_guard (not around.is_inside) _ _ e in
+    let (outside, more) = guarded_not around.is_inside _ _ e in
     let (before, coloned, last) = in_two _ _ _ more in
-    let o = after_sign_is OpenBracket tokens behind opened in
+    let o = sign_is OpenBracket tokens behind opened in
     let star = front (Sign Star) behind refl first in
-    let colon = after_sign_is Colon (tail_of behind) before coloned in
-    let c = counted around true before inner rest last in
-    let written : List Lexeme = o.0 ∷ star.token ∷ colon.0 ∷ (c.expression ++ c.closes ∷ []) in (
+    let colon = sign_is Colon (tail_of behind) before coloned in
+    let (number, same, is) = count_is around true before (inner, rest) last in
+    let written : List Lexeme = o.0 ∷ star.token ∷ colon.0 ∷ is.0 in (
       written,
-      cc (o.1, star.splits, colon.1, c.splits),
-      subst
-          (λ i. IsVariableDimension around written i) c.same
-          (at_most (not_true around.is_inside outside) o.2 star.is colon.2 c.is c.is_closes),
+      cc (o.1, star.splits, colon.1, is.1),
+      subst (λ i. IsVariableDimension around written i) same
+          (at_most outside o.2 star.is colon.2 is.2),
     )
 variable_is_by _ around tokens behind inner rest first opened e =
     let d = dimension_is around tokens behind inner rest opened e in
@@ -130,29 +110,26 @@ variable_is_by _ around tokens behind inner rest first opened e =
 -- `[n]` or `[*:n]` that is read stands there
 pub variable_dimension_is : (around : Around) (tokens : List Lexeme) (inner : Around)
     (rest : List Lexeme) → variable_dimension_at around tokens ≡ Some (inner, rest)
-    → (written : List Lexeme) × (tokens ≡ written ++ rest)
-    × IsVariableDimension around written inner
+    → Leads (λ w. IsVariableDimension around w inner) tokens rest
 unfolding variable_dimension_at
 variable_dimension_is around tokens inner rest e =
     let (behind, opened, last) = in_two _ _ _ e in
     variable_is_by (first_of behind) around tokens behind inner rest refl opened last
 
 -- `n]` is read
-counted_read : (around : Around) (is_bound : Bool) (expression : List Lexeme) (closes : Lexeme)
-    (number : ℕ) (rest : List Lexeme) → IsCount around expression number
-    → Is (Sign CloseBracket) closes
-    → dimension_at around is_bound ((expression ++ closes ∷ []) ++ rest)
-    ≡ Some (inside around number is_bound, rest)
+count_read : (around : Around) (is_bound : Bool) (written : List Lexeme) (number : ℕ)
+    (rest : List Lexeme) → IsCount around written number
+    → dimension_at around is_bound (written ++ rest) ≡ Some (inside around number is_bound, rest)
 unfolding dimension_at
-counted_read around is_bound expression closes number rest is closing =
+count_read around is_bound _ number rest
+    (count {expression = expression} {closes} {n} is within closing) =
     let stops : goes_on (first_of (closes ∷ rest)) ≡ false =
     ap (λ s. goes_on s) (first_is rest closing) in
     rw (
       append_assoc expression (closes ∷ []) rest,
-      expression_read expression is.n (closes ∷ rest)
-          is.is stops,
-      is.counted,
-      after_sign_read rest closing,
+      expression_read expression n (closes ∷ rest) is stops,
+      within,
+      sign_read rest closing,
     ) refl
 
 -- `[n]` is read: the bracket, and then what stands behind it
@@ -160,13 +137,11 @@ pub dimension_read : (around : Around) (written : List Lexeme) (inner : Around) 
     → IsDimension around written inner
     → (behind : List Lexeme) × (after_sign OpenBracket (written ++ rest) ≡ Some behind)
     × (dimension_at around false behind ≡ Some (inner, rest))
-dimension_read around _ _ rest
-    (fixed {closes = closes} {expression = expression} {number = number} opening is closing) = (
-      (expression ++ closes ∷ []) ++ rest,
-      after_sign_read ((expression ++ closes ∷ []) ++ rest)
-          opening,
-      counted_read around false expression closes number rest is closing,
-    )
+dimension_read around _ _ rest (fixed {counting = counting} {number} opening is) = (
+  counting ++ rest,
+  sign_read (counting ++ rest) opening,
+  count_read around false counting number rest is,
+)
 
 -- what begins with an operand is no `*:n`
 no_star : (symbol : Symbol) (around : Around) (tokens : List Lexeme) → begins_operand symbol ≡ true
@@ -189,11 +164,9 @@ variable_dimension_read around _ _ rest (not_variable {inner = inner} {dimension
     rw opened (no_star (first_of behind) around behind
     (begins_dimension around behind (inner, rest) read) ∙ read)
 variable_dimension_read around _ _ rest
-    (at_most {star = star} {colon = colon} {closes = closes} {expression = expression}
-    {number = number} outside opening starring coloning is closing) =
-    let behind : List Lexeme = (expression ++ closes ∷ []) ++ rest in
-    rw (after_sign_read (star ∷ colon ∷ behind) opening, starring.seen)
-    (guarded (after_sign Colon (colon ∷ behind) >>= λ t. dimension_at around true t)
-    (ap (λ b. not b) outside)
-    ∙ goes_to (λ t. dimension_at around true t) (after_sign_read behind coloning)
-    ∙ counted_read around true expression closes number rest is closing)
+    (at_most {star = star} {colon} {counting} {number} outside opening starring coloning is) =
+    rw (sign_read (star ∷ colon ∷ (counting ++ rest)) opening, starring.seen)
+    (guarded (after_sign Colon (colon ∷ (counting ++ rest))
+    >>= λ t. dimension_at around true t) (ap (λ b. not b) outside)
+    ∙ goes_to (λ t. dimension_at around true t) (sign_read (counting ++ rest) coloning)
+    ∙ count_read around true counting number rest is)

@@ -9,7 +9,7 @@ use Rattle.std.proofs.lemmas.List.{length-map}
 use Rattle.std.proofs.lemmas.List.Folds.{list_all-append, list_all-map}
 use Rattle.std.proofs.lemmas.Bool.{and_from, and_parts, le-leb, lt-ltb, eqb-false}
 use Rattle.std.proofs.lemmas.Option.{same_Some, cond_some}
-use Rattle.mrc_base.specs.Limits.{limit_of_items, limit_of_arguments}
+use Rattle.mrc_base.specs.Limits.{limit_of_items, limit_of_arguments, limit_of_ids}
 use Rattle.mrc_mig_lex.specs.Tokens.{Lexeme}
 use Rattle.mrc_mig_symbols.specs.declared.word.Basic.{Basic}
 use Rattle.mrc_mig_symbols.specs.declared.word.Basic.TheVariants.{Plain}
@@ -21,22 +21,22 @@ use Rattle.mrc_mig_parse.specs.declared.types.Use.{Use}
 use Rattle.mrc_mig_parse.specs.Types.{times, items, size_fits, nested}
 use Rattle.mrc_mig_parse.specs.Arguments.{Parameter, Item, as_written, as_request_port, is_in}
 use Rattle.mrc_mig_parse.specs.Arguments.{is_of_port_type, is_marked, unmarked_items, items_of}
-use Rattle.mrc_mig_parse.specs.Files.{Row, Routine, SimpleRoutine, Skip, State, table}
+use Rattle.mrc_mig_parse.specs.Files.{Row, Routine, SimpleRoutine, Skip, State, table, with_row}
 use Rattle.mrc_mig_parse.specs.Files.{is_declared, declared_with, declared_with_all, include_by}
 use Rattle.mrc_mig_parse.specs.Files.{lines_at, statements_at}
 use Rattle.mrc_mig_parse.specs.Bounds.{shape_fits, items_fit, row_fits}
-use Rattle.mrc_mig_parse.specs.Grammar.{IsDimension, fixed, IsVariableDimension}
-use Rattle.mrc_mig_parse.specs.Grammar.{not_variable, at_most, IsAround, nothing_more, array, struct}
-use Rattle.mrc_mig_parse.specs.Grammar.{IsInnerType, basic, sized, string, declared, IsType, type}
-use Rattle.mrc_mig_parse.specs.Grammar.{IsArgumentType, known, own, IsArgument, argument}
-use Rattle.mrc_mig_parse.specs.Grammar.{IsSomeArguments, last_argument, and_arguments, IsArguments}
-use Rattle.mrc_mig_parse.specs.Grammar.{no_argument, some_arguments, IsLine, marker, include}
-use Rattle.mrc_mig_parse.specs.Grammar.{IsLines, no_line, and_line, IsStatement, line, declaration}
-use Rattle.mrc_mig_parse.specs.Grammar.{routine, simple_routine, skip, import, prefix, rcsid}
-use Rattle.mrc_mig_parse.specs.Grammar.{IsStatements, no_statement, and_statement}
-use Rattle.mrc_mig_parse.proofs.PhraseLemmas.{in_two, behind_guard}
+use Rattle.mrc_mig_parse.specs.Grammar.{IsCount, count, IsDimension, fixed, IsVariableDimension}
+use Rattle.mrc_mig_parse.specs.Grammar.{not_variable, IsRoutine, named}
+use Rattle.mrc_mig_parse.specs.Grammar.{at_most, IsLayer, array, struct, IsInnerType, basic, sized}
+use Rattle.mrc_mig_parse.specs.Grammar.{string, declared, IsType, type, IsArgumentType, known, own}
+use Rattle.mrc_mig_parse.specs.Grammar.{IsArgument, argument, IsNextArgument, next_argument}
+use Rattle.mrc_mig_parse.specs.Grammar.{IsArguments, no_argument, some_arguments, IsLine, marker}
+use Rattle.mrc_mig_parse.specs.Grammar.{include, IsStatement, line, declaration, routine}
+use Rattle.mrc_mig_parse.specs.Grammar.{simple_routine, skip, note}
+use Rattle.mrc_mig_parse.proofs.ManyPhrases.{any_keep}
+use Rattle.mrc_mig_parse.proofs.PhraseLemmas.{in_two, behind_guard, where_true, where_false}
 use Rattle.mrc_mig_parse.proofs.LinePhrases.{lines_are}
-use Rattle.mrc_mig_parse.proofs.FilePhrases.{all_statements_are}
+use Rattle.mrc_mig_parse.proofs.StatementListPhrases.{all_statements_are}
 
 -- so many items there may be
 abbrev number_fits : ℕ → Bool
@@ -48,44 +48,32 @@ some_there n some = lt-ltb 0 n (ne_zero n (eqb-false n 0 some))
     ne_zero : (n : ℕ) → (n ≡ 0 → ⊥) → 0 < n
     ne_zero n other = omega (arith, other)
 
-product_fits : (n m : ℕ)
-    → (if n == 0 then None else if nat_le n limit_of_items then Some n else None) ≡ Some m
-    → number_fits m ≡ true
-product_fits n m e = by (n == 0) refl e
-  where
-    few : (b : Bool) → nat_le n limit_of_items ≡ b → (n == 0) ≡ false
-        → (if b then Some n else None) ≡ Some m → number_fits m ≡ true
-    few true le some f =
-        subst (λ k. number_fits k ≡ true) (same_Some n m f)
-        (and_from (nat_lt 0 n) (nat_le n limit_of_items) (some_there n some) le)
-    few false le some f = absurd cc
-
-    by : (b : Bool) → (n == 0) ≡ b
-        → (if b then None else if nat_le n limit_of_items then Some n else None) ≡ Some m
-        → number_fits m ≡ true
-    by true is f = absurd cc
-    by false is f = few (nat_le n limit_of_items) refl is f
-
 times_fits : (around : Around) (n m : ℕ) → times around n ≡ Some m → number_fits m ≡ true
 unfolding times
-times_fits around n m e = product_fits (around.number * n) m e
+times_fits around n m e =
+    let product = around.number * n in
+    let (some, counted) = where_false (product == 0) _ m e in
+    let (few, same) = where_true (nat_le product limit_of_items) (Some product) m counted in
+    subst (λ k. number_fits k ≡ true) (same_Some product m same)
+    (and_from (nat_lt 0 product) (nat_le product limit_of_items) (some_there product some) few)
+
+count_fits : {around : Around} {tokens : List Lexeme} {number : ℕ} → IsCount around tokens number
+    → number_fits number ≡ true
+count_fits {around} (count {n = n} {number} is within closes) = times_fits around n number within
 
 dimension_fits : {around inner : Around} {tokens : List Lexeme} → IsDimension around tokens inner
     → number_fits inner.number ≡ true
-dimension_fits (fixed {around = around} {number = number} opens count closes) =
-    times_fits around count.n number count.counted
+dimension_fits (fixed opens is) = count_fits is
 
 variable_fits : {around inner : Around} {tokens : List Lexeme}
     → IsVariableDimension around tokens inner → number_fits inner.number ≡ true
 variable_fits (not_variable dimension) = dimension_fits dimension
-variable_fits (at_most {around = around} {number = number} outer opens star colon count closes) =
-    times_fits around count.n number count.counted
+variable_fits (at_most outer opens star colon is) = count_fits is
 
-around_fits : {around inner : Around} {tokens : List Lexeme} → IsAround around tokens inner
-    → number_fits around.number ≡ true → number_fits inner.number ≡ true
-around_fits nothing_more fits = fits
-around_fits (array word dimension of others) fits = around_fits others (variable_fits dimension)
-around_fits (struct word dimension of others) fits = around_fits others (dimension_fits dimension)
+layer_fits : {around inner : Around} {tokens : List Lexeme} → IsLayer around tokens inner
+    → number_fits inner.number ≡ true
+layer_fits (array word dimension of) = variable_fits dimension
+layer_fits (struct word dimension of) = dimension_fits dimension
 
 -- what a table has passes where all of its entries do
 entry_passes : {X : Type 0} (test : X → Bool) (entries : List (List ℕ × X)) (name : List ℕ) (x : X)
@@ -145,14 +133,16 @@ inner_fits {types} {around = around}
 
 type_fits : {types : List (List ℕ × Shape)} {wanted : Use} {tokens : List Lexeme} {shape : Shape}
     → IsType types wanted tokens shape → types_fit types ≡ true → shape_fits shape ≡ true
-type_fits (type layers inner) all = inner_fits inner all (around_fits layers refl)
+type_fits (type layers inner) all =
+    inner_fits inner all (any_keep (λ (around : Around). number_fits around.number ≡ true)
+    (λ a written b is few. layer_fits is) layers refl)
 
 argument_type_fits : {types : List (List ℕ × Shape)} {wanted : Use} {tokens : List Lexeme}
     {name : List ℕ} {shape : Shape} → IsArgumentType types wanted tokens name shape
     → types_fit types ≡ true → shape_fits shape ≡ true
 argument_type_fits {types} (known {name = name} {shape} is found fits) all =
     entry_passes shape_fits types name.bytes shape all found
-argument_type_fits (own named equals is options) all = type_fits is all
+argument_type_fits (own is_name equals is options) all = type_fits is all
 
 -- arguments that were seen
 abbrev seen_fit : List Parameter → Bool
@@ -163,40 +153,38 @@ record SeenFit (seen : List Parameter) : Type 0 where
   pub few : length seen ≤ limit_of_arguments
   pub fit : seen_fit seen ≡ true
 
-one_more_fits : {types : List (List ℕ × Shape)} {is_simple : Bool} {seen : List Parameter}
-    {tokens : List Lexeme} {p : Parameter} → IsArgument types is_simple seen tokens p
-    → types_fit types ≡ true → seen_fit seen ≡ true → SeenFit (seen ++ p ∷ [])
-one_more_fits {seen = seen}
-    (argument {way = way} {name} {shape = shape} {type_name} direction named new few colon has) all
-    fit =
+one_more_fits : {types : List (List ℕ × Shape)} {is_simple : Bool} {seen all : List Parameter}
+    {tokens : List Lexeme} → IsArgument types is_simple seen tokens all
+    → types_fit types ≡ true → SeenFit seen → SeenFit all
+one_more_fits
+    (argument {seen = seen} {way = way} {name} {shape = shape} {type_name} direction is_name new few
+    colon has) types fit =
     let p : Parameter = record {
       name = name.bytes;
       direction = way;
       shape = shape;
       type_name = type_name;
     } in
-    let fits = argument_type_fits has all in
-    let last : list_all (λ (p : Parameter). shape_fits p.shape) (p ∷ []) ≡ true =
-    and_from (shape_fits shape) true fits refl in
+    let last : seen_fit (p ∷ []) ≡ true =
+    and_from (shape_fits shape) true (argument_type_fits has types) refl in
     record {
       few = rw (length-append seen (p ∷ [])) (omega arith);
       fit = list_all-append (λ (p : Parameter). shape_fits p.shape) seen (p ∷ [])
-          ∙ and_from (seen_fit seen) (list_all (λ (p : Parameter). shape_fits p.shape) (p ∷ [])) fit
-          last;
+          ∙ and_from (seen_fit seen) (seen_fit (p ∷ [])) fit.fit last;
     }
 
-some_fit : {types : List (List ℕ × Shape)} {is_simple : Bool} {seen all : List Parameter}
-    {tokens : List Lexeme} → IsSomeArguments types is_simple seen tokens all
-    → types_fit types ≡ true → seen_fit seen ≡ true → SeenFit all
-some_fit (last_argument is) types fit = one_more_fits is types fit
-some_fit (and_arguments is semicolon others) types fit =
-    some_fit others types (one_more_fits is types fit).fit
+next_fits : {types : List (List ℕ × Shape)} {is_simple : Bool} {seen all : List Parameter}
+    {tokens : List Lexeme} → IsNextArgument types is_simple seen tokens all
+    → types_fit types ≡ true → SeenFit seen → SeenFit all
+next_fits (next_argument semicolon is) types fit = one_more_fits is types fit
 
 arguments_fit : {types : List (List ℕ × Shape)} {is_simple : Bool} {all : List Parameter}
     {tokens : List Lexeme} → IsArguments types is_simple tokens all → types_fit types ≡ true
     → SeenFit all
 arguments_fit no_argument types = record { few = omega arith; fit = refl }
-arguments_fit (some_arguments are) types = some_fit are types refl
+arguments_fit (some_arguments first others) types =
+    any_keep SeenFit (λ a written b is fit. next_fits is types fit) others
+    (one_more_fits first types (record { few = omega arith; fit = refl }))
 
 written_fit : (ps : List Parameter) → SeenFit ps → items_fit (map as_written ps) ≡ true
 written_fit ps seen =
@@ -232,8 +220,9 @@ resolved_fit ps found seen e = by (count_by is_marked ps == 0) e
         subst (λ items. items_fit items ≡ true) same (written_fit ps seen)
 
 -- what is declared so far
-record StateFits (s : State) : Type 0 where
+pub record StateFits (s : State) : Type 0 where
   pub types : types_fit s.types ≡ true
+  pub few : length s.rows ≤ limit_of_ids
   pub rows : list_all row_fits s.rows ≡ true
 
 with_one : (types : List (List ℕ × Shape)) (name : List ℕ) (shape : Shape)
@@ -247,13 +236,9 @@ with_one types name shape all fits =
 declared_fits : (types more : List (List ℕ × Shape)) (name : List ℕ) (shape : Shape)
     → types_fit types ≡ true → shape_fits shape ≡ true
     → declared_with types name shape ≡ Some more → types_fit more ≡ true
-declared_fits types more name shape all fits e = by (is_declared name types) e
-  where
-    by : (b : Bool) → (if b then None else Some (types ++ (name, shape) ∷ [])) ≡ Some more
-        → types_fit more ≡ true
-    by true f = absurd cc
-    by false f = subst (λ t. types_fit t ≡ true) (same_Some _ more f)
-        (with_one types name shape all fits)
+declared_fits types more name shape all fits e =
+    let (new, same) = where_false (is_declared name types) _ more e in
+    subst (λ t. types_fit t ≡ true) (same_Some _ more same) (with_one types name shape all fits)
 
 each_declared_fits : (types others more : List (List ℕ × Shape)) → types_fit types ≡ true
     → types_fit others ≡ true → declared_with_all types others ≡ Some more → types_fit more ≡ true
@@ -273,6 +258,7 @@ include_fits false s t fits e =
     let (types, declares, last) = in_two (declared_with_all s.types table) _ t e in
     subst StateFits (same_Some _ t last) (record {
       types = each_declared_fits s.types table types fits.types refl declares;
+      few = fits.few;
       rows = fits.rows;
     })
 
@@ -280,58 +266,49 @@ line_fits : {s t : State} {tokens : List Lexeme} → IsLine s tokens t → State
 line_fits (marker is) fits = fits
 line_fits (include {s = s} {t = t} is declares) fits = include_fits s.has_table s t fits declares
 
-lines_fit : {s t : State} {tokens : List Lexeme} → IsLines s tokens t → StateFits s → StateFits t
-lines_fit no_line fits = fits
-lines_fit (and_line first others) fits = lines_fit others (line_fits first fits)
+-- with one row more, where there may be one more
+one_more_row : (s : State) (names : List (List ℕ)) (row : Row) → StateFits s
+    → length s.rows < limit_of_ids → row_fits row ≡ true → StateFits (with_row s names row)
+one_more_row s names row all room fits = record {
+  types = all.types;
+  few = rw (length-append s.rows (row ∷ [])) (omega (arith, room));
+  rows = list_all-append row_fits s.rows (row ∷ [])
+      ∙ and_from (list_all row_fits s.rows) (list_all row_fits (row ∷ [])) all.rows
+      (and_from (row_fits row) true fits refl);
+}
 
-one_more_row : (rows : List Row) (row : Row) → list_all row_fits rows ≡ true → row_fits row ≡ true
-    → list_all row_fits (rows ++ row ∷ []) ≡ true
-one_more_row rows row all fits =
-    list_all-append row_fits rows (row ∷ [])
-    ∙ and_from (list_all row_fits rows) (list_all row_fits (row ∷ [])) all
-    (and_from (row_fits row) true fits refl)
+routine_fits : {is_simple : Bool} {s : State} {tokens : List Lexeme} {name : List ℕ}
+    {items : List Item} → IsRoutine is_simple s tokens name items → StateFits s
+    → items_fit items ≡ true
+routine_fits (named {all = all} {items = items} _ _ _ are _ resolved _) fits =
+    resolved_fit all items (arguments_fit are fits.types) resolved
 
 statement_fits : {s t : State} {tokens : List Lexeme} → IsStatement s tokens t → StateFits s
     → StateFits t
 statement_fits (line is) fits = line_fits is fits
 statement_fits (declaration {s = s} {name = name} {shape = shape} _ _ _ _ is _ _) fits = record {
   types = with_one s.types name.bytes shape fits.types (type_fits is fits.types);
+  few = fits.few;
   rows = fits.rows;
 }
-statement_fits (routine {s = s} {all = all} {items = items} _ _ _ _ _ are _ resolved _) fits =
-    record {
-      types = fits.types;
-      rows = one_more_row s.rows (Routine items) fits.rows
-          (resolved_fit all items (arguments_fit are fits.types) resolved);
-    }
-statement_fits (simple_routine {s = s} {all = all} {items = items} _ _ _ _ _ are _ resolved _)
-    fits = record {
-      types = fits.types;
-      rows = one_more_row s.rows (SimpleRoutine items) fits.rows
-          (resolved_fit all items (arguments_fit are fits.types) resolved);
-    }
-statement_fits (skip {s = s} _ _ _) fits = record {
-  types = fits.types;
-  rows = one_more_row s.rows Skip fits.rows refl;
-}
-statement_fits (import _ _ _) fits = fits
-statement_fits (prefix _ _ _) fits = fits
-statement_fits (rcsid _ _ _) fits = fits
+statement_fits (routine {s = s} {items = items} _ room is) fits =
+    one_more_row s _ (Routine items) fits room (routine_fits is fits)
+statement_fits (simple_routine {s = s} {items = items} _ room is) fits =
+    one_more_row s _ (SimpleRoutine items) fits room (routine_fits is fits)
+statement_fits (skip {s = s} _ room _) fits = one_more_row s [] Skip fits room refl
+statement_fits (note _ _) fits = fits
 
-statements_fit : {s t : State} {tokens : List Lexeme} → IsStatements s tokens t → StateFits s
-    → StateFits t
-statements_fit no_statement fits = fits
-statements_fit (and_statement first others) fits = statements_fit others (statement_fits first fits)
-
--- the rows of a file that is read are in their bounds
-pub rows_fit : (first s t : State) (tokens rest more : List Lexeme) → first.types ≡ []
+-- what a file that is read declares is in its bounds
+pub all_fits : (first s t : State) (tokens rest more : List Lexeme) → first.types ≡ []
     → first.rows ≡ [] → lines_at first tokens ≡ Some (s, rest) → statements_at s more ≡ Some t
-    → list_all row_fits t.rows ≡ true
-unfolding lines_at
-rows_fit first s t tokens rest more no_types no_rows lines statements =
-    let are = lines_are (length tokens) first tokens (s, rest) lines in
+    → StateFits t
+all_fits first s t tokens rest more no_types no_rows lines statements =
     let begun : StateFits first = record {
       types = rw no_types refl;
+      few = rw no_rows (omega arith);
       rows = rw no_rows refl;
     } in
-    (statements_fit (all_statements_are s more t statements) (lines_fit are.2 begun)).rows
+    any_keep StateFits (λ s written t is fits. statement_fits is fits)
+    (all_statements_are s more t statements)
+    (any_keep StateFits (λ s written t is fits. line_fits is fits)
+    (lines_are first tokens s rest lines).2 begun)

@@ -1,7 +1,7 @@
 -- Types without what is around them are read exactly where they stand.
 use Rattle.std.proofs.Common.{◌≡◌, ℕ, true, false, not, List, [], ◌∷◌, ◌++◌, Option, Some, None}
 use Rattle.std.proofs.Common.{refl, sym, ap, ◌∙◌, subst, append_assoc, if◌then◌else◌}
-use Rattle.std.proofs.lemmas.Option.{same_Some, some_pair_parts, option_and_then_some}
+use Rattle.std.proofs.lemmas.Option.{same_Some}
 use Rattle.mrc_mig_lex.specs.Tokens.{Lexeme}
 use Rattle.mrc_mig_lex.specs.declared.token.Sign.TheVariants.{Comma, OpenParenthesis}
 use Rattle.mrc_mig_lex.specs.declared.token.Sign.TheVariants.{CloseParenthesis}
@@ -12,7 +12,7 @@ use Rattle.mrc_mig_symbols.specs.declared.word.Basic.TheVariants.{Plain}
 use Rattle.mrc_mig_symbols.specs.declared.word.Word.TheVariants as words
 use Rattle.mrc_mig_symbols.specs.Tables.{entry_of}
 use Rattle.mrc_mig_symbols.specs.Words.{basic_of}
-use Rattle.mrc_mig_symbols.specs.Symbols.{first_of, text_of, tail_of, after_sign}
+use Rattle.mrc_mig_symbols.specs.Symbols.{first_of, text_of, tail_of}
 use Rattle.mrc_mig_symbols.specs.Expressions.{expression_at}
 use Rattle.mrc_mig_symbols.specs.ExpressionGrammar.{goes_on}
 use Rattle.mrc_mig_parse.specs.declared.subsystem.Shape.{Shape}
@@ -24,69 +24,61 @@ use Rattle.mrc_mig_parse.specs.Types.{plain_by, declared_by, declared_at, named_
 use Rattle.mrc_mig_parse.specs.Types.{string_at, shape_by}
 use Rattle.mrc_mig_parse.specs.Grammar.{Is, IsExpression, IsInnerType, basic, sized, string}
 use Rattle.mrc_mig_parse.specs.Grammar.{declared}
-use Rattle.mrc_mig_parse.proofs.PhraseLemmas.{in_two, goes_to, behind_guard, guarded, where_true}
-use Rattle.mrc_mig_parse.proofs.PhraseLemmas.{Front, front, first_is, tail_is, text_is}
-use Rattle.mrc_mig_parse.proofs.PhraseLemmas.{after_sign_is, after_sign_read}
-use Rattle.mrc_mig_parse.proofs.DimensionPhrases.{expression_is}
-use Rattle.mrc_mig_parse.proofs.DimensionPhrases.{expression_read, variable_dimension_is}
-use Rattle.mrc_mig_parse.proofs.DimensionPhrases.{variable_dimension_read}
+use Rattle.mrc_mig_parse.proofs.ManyPhrases.{Leads}
+use Rattle.mrc_mig_parse.proofs.PhraseLemmas.{in_two, goes_to, behind_guard, guarded_not, guarded}
+use Rattle.mrc_mig_parse.proofs.PhraseLemmas.{where_true, Front, front, first_is, tail_is, text_is}
+use Rattle.mrc_mig_parse.proofs.PhraseLemmas.{sign_is, sign_read}
+use Rattle.mrc_mig_parse.proofs.DimensionPhrases.{expression_is, expression_read}
+use Rattle.mrc_mig_parse.proofs.DimensionPhrases.{variable_dimension_is, variable_dimension_read}
 
 -- a type stands in front of the rest
-abbrev IsInnerAt : List (List ℕ × Shape) → Use → Around → List Lexeme → Shape → List Lexeme → Type 0
-IsInnerAt types wanted around tokens shape rest = (written : List Lexeme)
-    × (tokens ≡ written ++ rest) × IsInnerType types wanted around written shape
+abbrev IsInnerAt : List (List ℕ × Shape) → Use → Around → List Lexeme → Shape × List Lexeme
+    → Type 0
+IsInnerAt types wanted around tokens found =
+    Leads (λ w. IsInnerType types wanted around w found.0) tokens found.1
 
 plain_is : (types : List (List ℕ × Shape)) (wanted : Use) (around : Around) (tokens : List Lexeme)
-    (shape : Shape) (rest : List Lexeme) (found : Basic) → Front Name tokens
-    → basic_of (text_of tokens) ≡ Some found
-    → plain_by found around wanted tokens ≡ Some (shape, rest)
-    → IsInnerAt types wanted around tokens shape rest
-plain_is types wanted around tokens shape rest (Plain number size) f is e =
+    (found : Shape × List Lexeme) (type : Basic) → Front Name tokens
+    → basic_of (text_of tokens) ≡ Some type
+    → plain_by type around wanted tokens ≡ Some found
+    → IsInnerAt types wanted around tokens found
+plain_is types wanted around tokens found (Plain number size) f is e =
     let (fits, more) = behind_guard (fits_use wanted number) _ _ e in
     let (no_bar, last) = behind_guard (not (is_bar (first_of (tail_of tokens)))) _ _ more in
-    let (same, end) = some_pair_parts (items around number size) shape (tail_of tokens) rest last in
-    let found : basic_of f.token.bytes ≡ Some (Plain number size) =
-    ap (λ t. basic_of t) (sym f.text) ∙ is in (
-      f.token ∷ [],
-      f.splits
-          ∙ ap (λ t. f.token ∷ t) end,
-      subst (λ k. IsInnerType types wanted around (f.token ∷ []) k)
-          same (basic f.is found fits),
-    )
-plain_is types wanted around tokens shape rest _ f is e = absurd cc
+    let basically : basic_of f.token.bytes ≡ Some (Plain number size) =
+    ap (λ t. basic_of t) (sym f.text) ∙ is in
+    subst (λ r. IsInnerAt types wanted around tokens r) (same_Some _ _ last)
+    (f.token ∷ [], f.splits, basic f.is basically fits)
+plain_is types wanted around tokens found _ f is e = absurd cc
 
 -- a declared type that is read
-pub declared_is : (found : Option Shape) (wanted : Use) (tokens : List Lexeme) (shape : Shape)
-    (rest : List Lexeme) → declared_by found wanted tokens ≡ Some (shape, rest)
-    → (found ≡ Some shape) × (fits_use wanted shape.name ≡ true) × (tail_of tokens ≡ rest)
-declared_is None wanted tokens shape rest e = absurd cc
-declared_is (Some found) wanted tokens shape rest e =
-    let (fits, last) = behind_guard (fits_use wanted found.name) _ _ e in
-    let (same, end) = some_pair_parts found shape (tail_of tokens) rest last in
-    (ap (λ k. Some k) same, ap (λ (k : Shape). fits_use wanted k.name) (sym same) ∙ fits, end)
+pub declared_is : (entry : Option Shape) (wanted : Use) (tokens : List Lexeme) (found : Shape
+    × List Lexeme) → declared_by entry wanted tokens ≡ Some found
+    → (entry ≡ Some found.0) × (fits_use wanted found.0.name ≡ true) × (tail_of tokens ≡ found.1)
+declared_is None wanted tokens found e = absurd cc
+declared_is (Some shape) wanted tokens found e =
+    let (fits, last) = behind_guard (fits_use wanted shape.name) _ found e in
+    let same = same_Some _ _ last in
+    let fitting = sym (ap (λ f. fits_use wanted f.0.name) same) ∙ fits in
+    (ap (λ f. Some f.0) same, fitting, ap (λ f. f.1) same)
 
 named_is : (types : List (List ℕ × Shape)) (wanted : Use) (around : Around) (tokens : List Lexeme)
-    (shape : Shape) (rest : List Lexeme) (found : Option Basic) → Front Name tokens
-    → basic_of (text_of tokens) ≡ found
-    → named_by found types around wanted tokens ≡ Some (shape, rest)
-    → IsInnerAt types wanted around tokens shape rest
+    (found : Shape × List Lexeme) (type : Option Basic) → Front Name tokens
+    → basic_of (text_of tokens) ≡ type
+    → named_by type types around wanted tokens ≡ Some found
+    → IsInnerAt types wanted around tokens found
 unfolding declared_at
-named_is types wanted around tokens shape rest (Some found) f is e =
-    plain_is types wanted around tokens shape rest found f is e
-named_is types wanted around tokens shape rest None f is e =
+named_is types wanted around tokens found (Some type) f is e =
+    plain_is types wanted around tokens found type f is e
+named_is types wanted around tokens found None f is e =
     let (inner, read, more) = in_two _ _ _ e in
     let (whole, nests, last) = in_two _ _ _ more in
-    let d = declared_is (entry_of types (text_of tokens)) wanted tokens inner.0 inner.1 read in
-    let (same, end) = some_pair_parts whole shape inner.1 rest last in
+    let d = declared_is (entry_of types (text_of tokens)) wanted tokens inner read in
     let no_basic : basic_of f.token.bytes ≡ None = ap (λ t. basic_of t) (sym f.text) ∙ is in
     let entry : entry_of types f.token.bytes ≡ Some inner.0 =
-    ap (λ t. entry_of types t) (sym f.text) ∙ d.0 in (
-      f.token ∷ [],
-      f.splits
-          ∙ ap (λ t. f.token ∷ t) (d.2 ∙ end),
-      declared f.is no_basic entry d.1 (nests
-          ∙ ap (λ k. Some k) same),
-    )
+    ap (λ t. entry_of types t) (sym f.text) ∙ d.0 in
+    subst (λ r. IsInnerAt types wanted around tokens r) (same_Some _ _ last)
+    (f.token ∷ [], f.splits ∙ ap (λ t. f.token ∷ t) d.2, declared f.is no_basic entry d.1 nests)
 
 basic_is_by : (symbol : Symbol) (tokens : List Lexeme) (type : Basic) → first_of tokens ≡ symbol
     → basic_by symbol tokens ≡ Some type
@@ -94,134 +86,77 @@ basic_is_by : (symbol : Symbol) (tokens : List Lexeme) (type : Basic) → first_
 basic_is_by Name tokens type first e = (front Name tokens refl first, e)
 basic_is_by _ tokens type first e = absurd cc
 
-size_is : (number : ℕ) (tokens : List Lexeme) (size : ℕ) (rest : List Lexeme)
-    → size_at number tokens ≡ Some (size, rest) → (expression_at tokens ≡ Some (size, rest))
-    × (size_fits number size ≡ true)
+size_is : (number : ℕ) (tokens : List Lexeme) (found : ℕ × List Lexeme)
+    → size_at number tokens ≡ Some found
+    → (expression_at tokens ≡ Some found) × (size_fits number found.0 ≡ true)
 unfolding size_at
-size_is number tokens size rest e =
+size_is number tokens found e =
     let (read, expressed, last) = in_two _ _ _ e in
-    let (fits, same) = where_true (size_fits number read.0) (Some read) (size, rest) last in
-    let end : read ≡ (size, rest) = same_Some read (size, rest) same in
-    (expressed ∙ same, ap (λ (r : ℕ × List Lexeme). size_fits number r.0) (sym end) ∙ fits)
+    let (fits, same) = where_true (size_fits number read.0) (Some read) found last in
+    (expressed ∙ same, sym (ap (λ r. size_fits number r.0) (same_Some read found same)) ∙ fits)
 
--- the steps that read `name , size )`
-record Sized (wanted : Use) (tokens : List Lexeme) (number size : ℕ) (rest : List Lexeme) : Type 0
-  where
-    pub type : Basic
-    pub usual : ℕ
-    pub before : List Lexeme
-    pub behind : List Lexeme
-    pub named : basic_at tokens ≡ Some type
-    pub numbered : basic_item type wanted ≡ Some (number, usual)
-    pub separated : after_sign Comma (tail_of tokens) ≡ Some before
-    pub sizes : size_at number before ≡ Some (size, behind)
-    pub closed : after_sign CloseParenthesis behind ≡ Some rest
-
-triple_parts : (a b x y : ℕ) (s t : List Lexeme)
-    → ◌≡◌ {A = Option ((ℕ × ℕ) × List Lexeme)} (Some ((a, b), s)) (Some ((x, y), t))
-    → (a ≡ x) × (b ≡ y) × (s ≡ t)
-triple_parts a b x y s t e =
-    let (same, end) = some_pair_parts (a, b) (x, y) s t e in
-    (ap (λ (n : ℕ × ℕ). n.0) same, ap (λ (n : ℕ × ℕ). n.1) same, end)
-
--- what is read, by the same number
-along : {A B : Type 0} (read : B) (f : A → B) (a b : A) → read ≡ f a → a ≡ b → read ≡ f b
-along read f a b e same = e ∙ ap f same
-
-same_size : (number other size read : ℕ) (tokens rest : List Lexeme) → other ≡ number → read ≡ size
-    → size_at other tokens ≡ Some (read, rest) → size_at number tokens ≡ Some (size, rest)
-same_size number other size read tokens rest is_number is_size e =
-    ap (λ n. size_at n tokens) (sym is_number) ∙ e ∙ ap (λ n. Some (n, rest)) is_size
-
-sized_steps : (wanted : Use) (tokens : List Lexeme) (number size : ℕ) (rest : List Lexeme)
-    → sized_at wanted tokens ≡ Some ((number, size), rest) → Sized wanted tokens number size rest
-unfolding sized_at
-sized_steps wanted tokens number size rest e =
-    option_and_then_some _ _ _ e (λ type named numbering.
-    option_and_then_some _ _ _ numbering (λ numbers numbered barring.
-    let (no_bar, separating) = behind_guard (not (is_bar (first_of (tail_of tokens)))) _ _ barring in
-    option_and_then_some _ _ _ separating (λ before separated sizing.
-    option_and_then_some _ _ _ sizing (λ read sizes flagging_more.
-    let (no_more_flag, closing) = behind_guard (not (flag_follows read.1)) _ _ flagging_more in
-    option_and_then_some _ _ _ closing (λ behind closed last.
-    let (is_number, is_size, end) = triple_parts numbers.0 read.0 number size behind rest last in
-    record {
-      type = type;
-      usual = numbers.1;
-      before = before;
-      behind = read.1;
-      named = named;
-      numbered = along (basic_item type wanted) (λ n. Some (n, numbers.1)) numbers.0 number numbered
-          is_number;
-      separated = separated;
-      sizes = same_size number numbers.0 size read.0 before read.1 is_number is_size sizes;
-      closed = along (after_sign CloseParenthesis read.1) (λ t. Some t) behind rest closed end;
-    })))))
-
--- `( name , size )`, behind its first parenthesis
+-- `( name , size )`
 sized_is : (types : List (List ℕ × Shape)) (wanted : Use) (around : Around) (tokens : List Lexeme)
-    (number size : ℕ) (rest : List Lexeme) → Front (Sign OpenParenthesis) tokens
-    → Sized wanted (tail_of tokens) number size rest
-    → IsInnerAt types wanted around tokens (items around number size) rest
-unfolding basic_at
-sized_is types wanted around tokens number size rest opens s =
-    let (name, is_type) = basic_is_by (first_of (tail_of tokens)) (tail_of tokens) s.type refl
-    s.named in
-    let comma = after_sign_is Comma (tail_of (tail_of tokens)) s.before s.separated in
-    let (expressed, fits) = size_is number s.before size s.behind s.sizes in
-    let expression = expression_is s.before size s.behind expressed in
-    let closes = after_sign_is CloseParenthesis s.behind rest s.closed in
-    let inside : s.before ≡ (expression.0 ++ closes.0 ∷ []) ++ rest = expression.1
+    (found : (ℕ × ℕ) × List Lexeme) → Front (Sign OpenParenthesis) tokens
+    → sized_at wanted (tail_of tokens) ≡ Some found
+    → IsInnerAt types wanted around tokens (items around found.0.0 found.0.1, found.1)
+unfolding sized_at basic_at
+sized_is types wanted around tokens found opens e =
+    let (type, named, numbering) = in_two _ _ _ e in
+    let (item, numbered, barring) = in_two _ _ _ numbering in
+    let (no_bar, separating) = guarded_not _ _ _ barring in
+    let (before, separated, sizing) = in_two _ _ _ separating in
+    let (size, sizes, flagging) = in_two _ _ _ sizing in
+    let (no_flag, closing) = guarded_not _ _ _ flagging in
+    let (behind, closed, last) = in_two _ _ _ closing in
+    let (name, is_type) = basic_is_by (first_of (tail_of tokens)) (tail_of tokens) type refl
+    named in
+    let comma = sign_is Comma (tail_of (tail_of tokens)) before separated in
+    let (expressed, fits) = size_is item.0 before size sizes in
+    let expression = expression_is before size.0 size.1 expressed in
+    let closes = sign_is CloseParenthesis size.1 behind closed in
+    let inside : before ≡ (expression.0 ++ closes.0 ∷ []) ++ behind = expression.1
     ∙ ap (λ t. expression.0 ++ t) closes.1
-    ∙ sym (append_assoc expression.0 (closes.0 ∷ []) rest) in
-    let found : basic_of name.token.bytes ≡ Some s.type = ap (λ t. basic_of t) (sym name.text)
-    ∙ is_type in (
+    ∙ sym (append_assoc expression.0 (closes.0 ∷ []) behind) in
+    let basically : basic_of name.token.bytes ≡ Some type = ap (λ t. basic_of t) (sym name.text)
+    ∙ is_type in
+    subst (λ f. IsInnerAt types wanted around tokens (items around f.0.0 f.0.1, f.1))
+    (same_Some _ _ last) (
       opens.token ∷ name.token ∷ comma.0 ∷ (expression.0 ++ closes.0 ∷ []),
       opens.splits ∙ ap (λ t. opens.token ∷ t) (name.splits
           ∙ ap (λ t. name.token ∷ t) (comma.1 ∙ ap (λ t. comma.0 ∷ t) inside)),
-      sized opens.is name.is found s.numbered comma.2 expression.2 fits closes.2,
+      sized opens.is name.is basically numbered comma.2 expression.2 fits closes.2,
     )
 
-moved : (types : List (List ℕ × Shape)) (wanted : Use) (around : Around) (tokens : List Lexeme)
-    (a b : Shape) (s t : List Lexeme) → a ≡ b → s ≡ t → IsInnerAt types wanted around tokens a s
-    → IsInnerAt types wanted around tokens b t
-moved types wanted around tokens a b s t same end is =
-    subst (λ k. IsInnerAt types wanted around tokens k t) same
-    (subst (λ r. IsInnerAt types wanted around tokens a r) end is)
-
 inner_is_by : (symbol : Symbol) (types : List (List ℕ × Shape)) (wanted : Use) (around : Around)
-    (tokens : List Lexeme) (shape : Shape) (rest : List Lexeme) → first_of tokens ≡ symbol
-    → shape_by symbol types around wanted tokens ≡ Some (shape, rest)
-    → IsInnerAt types wanted around tokens shape rest
+    (tokens : List Lexeme) (found : Shape × List Lexeme) → first_of tokens ≡ symbol
+    → shape_by symbol types around wanted tokens ≡ Some found
+    → IsInnerAt types wanted around tokens found
 unfolding named_at string_at
-inner_is_by Name types wanted around tokens shape rest first e =
-    named_is types wanted around tokens shape rest (basic_of (text_of tokens))
+inner_is_by Name types wanted around tokens found first e =
+    named_is types wanted around tokens found (basic_of (text_of tokens))
     (front Name tokens refl first) refl e
-inner_is_by (Word words.CString) types wanted around tokens shape rest first e =
+inner_is_by (Word words.CString) types wanted around tokens found first e =
     let (fits, more) = behind_guard (fits_use wanted 12) _ _ e in
     let (dimension, read, last) = in_two _ _ _ more in
-    let (same, end) = some_pair_parts (items dimension.0 12 8) shape dimension.1 rest last in
     let f = front (Word words.CString) tokens refl first in
     let d = variable_dimension_is around (tail_of tokens) dimension.0 dimension.1 read in
-    moved types wanted around tokens (items dimension.0 12 8) shape dimension.1 rest same end
+    subst (λ r. IsInnerAt types wanted around tokens r) (same_Some _ _ last)
     (f.token ∷ d.0, f.splits ∙ ap (λ t. f.token ∷ t) d.1, string f.is fits d.2)
-inner_is_by (Sign OpenParenthesis) types wanted around tokens shape rest first e =
+inner_is_by (Sign OpenParenthesis) types wanted around tokens found first e =
     let (read, sizes, last) = in_two _ _ _ e in
-    let (same, end) = some_pair_parts (items around read.0.0 read.0.1) shape read.1 rest last in
-    moved types wanted around tokens (items around read.0.0 read.0.1) shape read.1 rest same end
-    (sized_is types wanted around tokens read.0.0 read.0.1 read.1
-    (front (Sign OpenParenthesis) tokens refl first)
-    (sized_steps wanted (tail_of tokens) read.0.0 read.0.1 read.1 sizes))
-inner_is_by _ types wanted around tokens shape rest first e = absurd cc
+    subst (λ r. IsInnerAt types wanted around tokens r) (same_Some _ _ last)
+    (sized_is types wanted around tokens read (front (Sign OpenParenthesis) tokens refl first)
+    sizes)
+inner_is_by _ types wanted around tokens found first e = absurd cc
 
 -- a type that is read stands there
 pub inner_type_is : (types : List (List ℕ × Shape)) (wanted : Use) (around : Around)
     (tokens : List Lexeme) (shape : Shape) (rest : List Lexeme)
     → shape_by (first_of tokens) types around wanted tokens ≡ Some (shape, rest)
-    → (written : List Lexeme) × (tokens ≡ written ++ rest)
-    × IsInnerType types wanted around written shape
-inner_type_is types wanted around tokens shape rest e = inner_is_by (first_of tokens) types wanted
-    around tokens shape rest refl e
+    → Leads (λ w. IsInnerType types wanted around w shape) tokens rest
+inner_type_is types wanted around tokens shape rest e =
+    inner_is_by (first_of tokens) types wanted around tokens (shape, rest) refl e
 
 no_flag_at_closing : (closes : Lexeme) (tokens : List Lexeme) → Is (Sign CloseParenthesis) closes
     → flag_follows (closes ∷ tokens) ≡ false
@@ -256,9 +191,9 @@ sized_read wanted name comma closes expression type number usual size rest namin
     rw (first_is (comma ∷ inside) naming, text_is name (comma ∷ inside), found)
     (goes_to _ numbered
     ∙ rw (tail_is name (comma ∷ inside), is_comma)
-    (goes_to _ (after_sign_read inside separates)
+    (goes_to _ (sign_read inside separates)
     ∙ goes_to _ (size_read number inside size (closes ∷ rest) read fits)
-    ∙ rw (no_flag_at_closing closes rest closing) (goes_to _ (after_sign_read rest closing))))
+    ∙ rw (no_flag_at_closing closes rest closing) (goes_to _ (sign_read rest closing))))
 
 -- a declared type is read
 pub declared_read : (types : List (List ℕ × Shape)) (wanted : Use) (name : Lexeme) (shape : Shape)

@@ -1,4 +1,5 @@
 pub mod PhraseLemmas
+pub mod ManyPhrases
 pub mod OptionPhrases
 pub mod DimensionPhrases
 pub mod AroundPhrases
@@ -7,7 +8,6 @@ pub mod TypePhrases
 pub mod TypeLemmas
 pub mod FileLemmas
 pub mod ListLemmas
-pub mod PhraseBasics
 pub mod ArgumentPhrases
 pub mod ArgumentListPhrases
 pub mod LinePhrases
@@ -15,7 +15,5 @@ pub mod StatementPhrases
 pub mod StatementReadings
 pub mod StatementListPhrases
 pub mod FilePhrases
-pub mod FewIds
 pub mod FitLemmas
 pub mod PlaceLemmas
-pub mod ParseLaws

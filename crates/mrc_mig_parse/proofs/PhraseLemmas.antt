@@ -2,9 +2,9 @@
 use Rattle.std.proofs.Common.{◌≡◌, ℕ, zero, suc, ◌-◌, ◌<◌, ◌≤◌, Bool, true, false, not, List, []}
 use Rattle.std.proofs.Common.{◌∷◌, length, Option, Some, None, refl, sym, ap, ◌∙◌, subst, arith}
 use Rattle.std.proofs.Common.{◌==◌, if◌then◌else◌}
-use Rattle.std.specs.Prelude.{slice_get, nat_le}
-use Rattle.std.proofs.lemmas.Bool.{leb-true, le-leb, eqb-true, eq-eqb}
-use Rattle.std.proofs.lemmas.Option.{same_Some, some_pair_parts}
+use Rattle.std.specs.Prelude.{slice_get, nat_le, nat_lt}
+use Rattle.std.proofs.lemmas.Bool.{leb-true, le-leb, ltb-true, eqb-true, eq-eqb}
+use Rattle.std.proofs.lemmas.Option.{same_Some}
 use Rattle.mrc_base.specs.Limits.{limit_of_name}
 use Rattle.mrc_mig_lex.specs.Tokens.{Lexeme}
 use Rattle.mrc_mig_lex.specs.declared.token.Sign.{Sign as TokenSign}
@@ -32,6 +32,18 @@ pub behind_guard : {B : Type 0} (b : Bool) (o : Option B) (x : B) → (guard b >
 behind_guard true o x e = (refl, e)
 behind_guard false o x e = absurd cc
 
+-- behind a test that fails
+pub guarded_not : {B : Type 0} (test : Bool) (next : Option B) (b : B)
+    → (guard (not test) >>= λ _. next) ≡ Some b → (test ≡ false) × (next ≡ Some b)
+guarded_not true next b e = absurd cc
+guarded_not false next b e = (refl, e)
+
+-- behind a comparison
+pub guarded_less : {B : Type 0} (m n : ℕ) (next : Option B) (b : B)
+    → (guard (nat_lt m n) >>= λ _. next) ≡ Some b → (m < n) × (next ≡ Some b)
+guarded_less m n next b e = let both = behind_guard (nat_lt m n) next b e in
+    (ltb-true m n both.0, both.1)
+
 pub guarded : {B : Type 0} {b : Bool} (o : Option B) → b ≡ true → (guard b >>= λ _. o) ≡ o
 guarded o e = ap (λ b. guard b >>= λ _. o) e
 
@@ -41,9 +53,11 @@ pub where_true : {A : Type 0} (b : Bool) (o : Option A) (a : A) → (if b then o
 where_true true o a e = (refl, e)
 where_true false o a e = absurd cc
 
-pub not_true : (b : Bool) → not b ≡ true → b ≡ false
-not_true true e = absurd cc
-not_true false e = refl
+-- what is read where a test fails
+pub where_false : {A : Type 0} (b : Bool) (o : Option A) (a : A) → (if b then None else o) ≡ Some a
+    → (b ≡ false) × (o ≡ Some a)
+where_false true o a e = absurd cc
+where_false false o a e = (refl, e)
 
 -- one step of many, where fuel is left
 pub many_step : {A : Type 0} (goes : A → Bool) (step : A → Option A) (n m : ℕ) (a b : A) → m < n
@@ -60,13 +74,13 @@ pub many_holds : {A : Type 0} (goes : A → Bool) (step : A → Option A) (P : A
 unfolding many
 many_holds goes step P none more zero a c e = subst (λ x. P a x) (same_Some a c e) (none a)
 many_holds {A} goes step P none more (suc n) a c e =
-    go (λ x others. many_holds goes step P none more n x c others) (goes a) refl e
+    by (λ x others. many_holds goes step P none more n x c others) (goes a) refl e
   where
-    go : ((x : A) → many goes step n x ≡ Some c → P x c) → (b : Bool) → goes a ≡ b
+    by : ((x : A) → many goes step n x ≡ Some c → P x c) → (b : Bool) → goes a ≡ b
         → (if b then (step a >>= λ x. many goes step n x) else Some a) ≡ Some c → P a c
-    go on true test f = let (x, stepped, others) = in_two (step a) (λ x. many goes step n x) c f in
+    by on true test f = let (x, stepped, others) = in_two (step a) (λ x. many goes step n x) c f in
         more a x c test stepped (on x others)
-    go on false test f = subst (λ x. P a x) (same_Some a c f) (none a)
+    by on false test f = subst (λ x. P a x) (same_Some a c f) (none a)
 
 -- any symbol but the end
 abbrev pub is_token : Symbol → Bool
@@ -135,55 +149,54 @@ same_sign wanted found e =
     ∙ ap (λ n. slice_get all_signs n) (eqb-true (sign_number found) (sign_number wanted) e)
     ∙ by_number wanted)
 
-sign_is : (wanted : TokenSign) (symbol : Symbol) → is_sign wanted symbol ≡ true
+is_that_sign : (wanted : TokenSign) (symbol : Symbol) → is_sign wanted symbol ≡ true
     → symbol ≡ Sign wanted
-sign_is wanted (Sign found) e = ap (λ s. Sign s) (same_sign wanted found e)
-sign_is wanted _ e = absurd cc
+is_that_sign wanted (Sign found) e = ap (λ s. Sign s) (same_sign wanted found e)
+is_that_sign wanted _ e = absurd cc
 
 -- what is read behind a sign stands behind it
-pub after_sign_is : (wanted : TokenSign) (tokens rest : List Lexeme)
+pub sign_is : (wanted : TokenSign) (tokens rest : List Lexeme)
     → after_sign wanted tokens ≡ Some rest → (token : Lexeme) × (tokens ≡ token ∷ rest)
     × Is (Sign wanted) token
 unfolding after_sign
-after_sign_is wanted tokens rest e =
+sign_is wanted tokens rest e =
     let (test, same) = where_true (is_sign wanted (first_of tokens)) (Some (tail_of tokens)) rest
     e in
-    let f = front (Sign wanted) tokens refl (sign_is wanted (first_of tokens) test) in
+    let f = front (Sign wanted) tokens refl (is_that_sign wanted (first_of tokens) test) in
     (f.token, f.splits ∙ ap (λ t. f.token ∷ t) (same_Some (tail_of tokens) rest same), f.is)
 
-pub after_sign_read : {wanted : TokenSign} {token : Lexeme} (rest : List Lexeme)
+pub sign_read : {wanted : TokenSign} {token : Lexeme} (rest : List Lexeme)
     → Is (Sign wanted) token → after_sign wanted (token ∷ rest) ≡ Some rest
 unfolding after_sign first_of tail_of
-after_sign_read {wanted} rest is =
+sign_read {wanted} rest is =
     rw (is.seen, eq-eqb (sign_number wanted) (sign_number wanted) refl) refl
 
 -- a name that is read stands there
-name_read_by : (symbol : Symbol) (tokens : List Lexeme) (name : List ℕ) (rest : List Lexeme)
-    → first_of tokens ≡ symbol → name_by symbol tokens ≡ Some (name, rest)
-    → (token : Lexeme) × (tokens ≡ token ∷ rest) × IsName token × (token.bytes ≡ name)
-name_read_by Name tokens name rest is e =
-    let (test, same) = where_true (nat_le (length (text_of tokens)) limit_of_name)
-    (Some (text_of tokens, tail_of tokens)) (name, rest) e in
+name_is_by : (symbol : Symbol) (tokens : List Lexeme) (found : List ℕ × List Lexeme)
+    → first_of tokens ≡ symbol → name_by symbol tokens ≡ Some found
+    → (token : Lexeme) × (tokens ≡ token ∷ found.1) × IsName token × (token.bytes ≡ found.0)
+name_is_by Name tokens found is e =
+    let (test, last) = where_true (nat_le (length (text_of tokens)) limit_of_name)
+    (Some (text_of tokens, tail_of tokens)) found e in
     let f = front Name tokens refl is in
-    let (bytes, tail) = some_pair_parts (text_of tokens) name (tail_of tokens) rest same in (
+    let same = same_Some (text_of tokens, tail_of tokens) found last in (
       f.token,
-      f.splits ∙ ap (λ t. f.token ∷ t) tail,
+      f.splits ∙ ap (λ r. f.token ∷ r.1) same,
       record {
         seen = f.is.seen;
         few = subst (λ t. length t ≤ limit_of_name) f.text
             (leb-true (length (text_of tokens)) limit_of_name test);
       },
-      sym f.text ∙ bytes,
+      sym f.text ∙ ap (λ r. r.0) same,
     )
-name_read_by _ tokens name rest is e = absurd cc
+name_is_by _ tokens found is e = absurd cc
 
-pub name_at_is : (tokens : List Lexeme) (name : List ℕ) (rest : List Lexeme)
-    → name_at tokens ≡ Some (name, rest) → (token : Lexeme) × (tokens ≡ token ∷ rest) × IsName token
-    × (token.bytes ≡ name)
+pub name_is : (tokens : List Lexeme) (found : List ℕ × List Lexeme) → name_at tokens ≡ Some found
+    → (token : Lexeme) × (tokens ≡ token ∷ found.1) × IsName token × (token.bytes ≡ found.0)
 unfolding name_at
-name_at_is tokens name rest e = name_read_by (first_of tokens) tokens name rest refl e
+name_is tokens found e = name_is_by (first_of tokens) tokens found refl e
 
-pub name_at_read : {token : Lexeme} (rest : List Lexeme) → IsName token
+pub name_read : {token : Lexeme} (rest : List Lexeme) → IsName token
     → name_at (token ∷ rest) ≡ Some (token.bytes, rest)
 unfolding name_at first_of text_of tail_of
-name_at_read {token} rest is = rw (is.seen, le-leb (length token.bytes) limit_of_name is.few) refl
+name_read {token} rest is = rw (is.seen, le-leb (length token.bytes) limit_of_name is.few) refl

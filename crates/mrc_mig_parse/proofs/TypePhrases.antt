@@ -1,4 +1,4 @@
--- Options and types are read exactly where they stand.
+-- Types are read exactly where they stand.
 use Rattle.std.proofs.Common.{◌≡◌, ℕ, Bool, true, false, List, ◌++◌, Some, refl, ap, ◌∙◌, sym}
 use Rattle.std.proofs.Common.{append_assoc}
 use Rattle.mrc_mig_lex.specs.Tokens.{Lexeme}
@@ -9,11 +9,10 @@ use Rattle.mrc_mig_symbols.specs.declared.word.Word.TheVariants as words
 use Rattle.mrc_mig_symbols.specs.Symbols.{first_of}
 use Rattle.mrc_mig_parse.specs.declared.subsystem.Shape.{Shape}
 use Rattle.mrc_mig_parse.specs.declared.types.Use.{Use}
-use Rattle.mrc_mig_parse.specs.Types.{is_bar, flag_follows, shape_at}
-use Rattle.mrc_mig_parse.specs.Arguments.{begins_option, options_at}
-use Rattle.mrc_mig_parse.specs.Grammar.{IsOptions, IsType, type}
+use Rattle.mrc_mig_parse.specs.Types.{is_bar, shape_at}
+use Rattle.mrc_mig_parse.specs.Grammar.{IsType, type}
+use Rattle.mrc_mig_parse.proofs.ManyPhrases.{Leads}
 use Rattle.mrc_mig_parse.proofs.PhraseLemmas.{in_two, goes_to}
-use Rattle.mrc_mig_parse.proofs.OptionPhrases.{options_are, options_are_read}
 use Rattle.mrc_mig_parse.proofs.AroundPhrases.{around_is, around_read}
 use Rattle.mrc_mig_parse.proofs.InnerTypePhrases.{inner_type_is, inner_type_read, begins_no_layer}
 
@@ -26,20 +25,10 @@ ends_type (Sign Semicolon) = true
 ends_type (Sign CloseParenthesis) = true
 ends_type _ = false
 
--- options that are read stand there
-pub options_is : (tokens rest : List Lexeme) → options_at tokens ≡ Some rest
-    → (written : List Lexeme) × (tokens ≡ written ++ rest) × IsOptions written
-options_is tokens rest e = options_are tokens rest e
-
--- options that stand in front of the rest are read
-pub options_read : (written rest : List Lexeme) → IsOptions written → begins_option rest ≡ false
-    → flag_follows rest ≡ false → options_at (written ++ rest) ≡ Some rest
-options_read written rest is ends no_flag = options_are_read written rest is ends no_flag
-
 -- a type that is read stands there
 pub type_is : (types : List (List ℕ × Shape)) (wanted : Use) (tokens : List Lexeme) (shape : Shape)
     (rest : List Lexeme) → shape_at types wanted tokens ≡ Some (shape, rest)
-    → (written : List Lexeme) × (tokens ≡ written ++ rest) × IsType types wanted written shape
+    → Leads (λ w. IsType types wanted w shape) tokens rest
 unfolding shape_at
 type_is types wanted tokens shape rest e =
     let (around, layered, last) = in_two _ _ _ e in

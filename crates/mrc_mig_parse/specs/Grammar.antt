@@ -15,6 +15,7 @@ use Rattle.mrc_mig_symbols.specs.declared.symbol.Symbol.TheVariants.{Directive}
 use Rattle.mrc_mig_symbols.specs.declared.word.Basic.{Basic}
 use Rattle.mrc_mig_symbols.specs.declared.word.Basic.TheVariants.{Plain}
 use Rattle.mrc_mig_symbols.specs.declared.word.Direction.{Direction as Way}
+use Rattle.mrc_mig_symbols.specs.declared.word.Word.{Word as Reserved}
 use Rattle.mrc_mig_symbols.specs.declared.word.Word.TheVariants as words
 use Rattle.mrc_mig_symbols.specs.Tables.{entry_of}
 use Rattle.mrc_mig_symbols.specs.Words.{basic_of}
@@ -27,7 +28,7 @@ use Rattle.mrc_mig_parse.specs.declared.types.Use.TheVariants.{Any}
 use Rattle.mrc_mig_parse.specs.Types.{fits_use, nothing_around, times, items, basic_item, size_fits}
 use Rattle.mrc_mig_parse.specs.Types.{nested}
 use Rattle.mrc_mig_parse.specs.Arguments.{Parameter, is_reply_port, has_reply_port, has_name}
-use Rattle.mrc_mig_parse.specs.Arguments.{use_of, items_of}
+use Rattle.mrc_mig_parse.specs.Arguments.{use_of, Item, items_of}
 use Rattle.mrc_mig_parse.specs.Files.{Routine, SimpleRoutine, Skip, Meaning, State, is_declared}
 use Rattle.mrc_mig_parse.specs.Files.{include_by, is_routine, is_imported, with_row}
 use Rattle.mrc_mig_parse.specs.Files.{nothing_declared, meaning_of}
@@ -41,6 +42,28 @@ pub record IsName (token : Lexeme) : Type 0 where
   pub seen : symbol_of token ≡ Name
   pub few : length token.bytes ≤ limit_of_name
 
+-- any number of phrases one behind the other, each with what is known before it and behind it
+pub data AnyNumber {A : Type 0} (Phrase : A → List Lexeme → A → Type 0) : A → List Lexeme → A
+    → Type 0 where
+  none : {a : A} → AnyNumber Phrase a [] a
+  more : {a b c : A} {phrase others : List Lexeme}
+      → Phrase a phrase b
+      → AnyNumber Phrase b others c
+      → AnyNumber Phrase a (phrase ++ others) c
+
+-- any number of phrases from which nothing is to be known
+abbrev pub AnyOf : (List Lexeme → Type 0) → List Lexeme → Type 0
+AnyOf Phrase tokens = AnyNumber {A = Unit {0}} (λ _ phrase _. Phrase phrase) tt tokens tt
+
+-- `function ( argument )`
+pub data IsCall : List Lexeme → Type 0 where
+  call : {function opens argument closes : Lexeme}
+      → IsName function
+      → Is (Sign OpenParenthesis) opens
+      → IsName argument
+      → Is (Sign CloseParenthesis) closes
+      → IsCall (function ∷ opens ∷ argument ∷ closes ∷ [])
+
 -- an option of a type, which means nothing for messages
 pub data IsOption : List Lexeme → Type 0 where
   -- `ctype : name`, and so `cusertype` and `cservertype`
@@ -50,42 +73,30 @@ pub data IsOption : List Lexeme → Type 0 where
       → IsName name
       → IsOption (word ∷ colon ∷ name ∷ [])
   -- `intran : name function ( argument )`, and so `outtran`
-  translation : {word colon name function opens argument closes : Lexeme}
+  translation : {word colon name : Lexeme} {others : List Lexeme}
       → Is (Word words.Translation) word
       → Is (Sign Colon) colon
       → IsName name
-      → IsName function
-      → Is (Sign OpenParenthesis) opens
-      → IsName argument
-      → Is (Sign CloseParenthesis) closes
-      → IsOption (word ∷ colon ∷ name ∷ function ∷ opens ∷ argument ∷ closes ∷ [])
+      → IsCall others
+      → IsOption (word ∷ colon ∷ name ∷ others)
   -- `destructor : function ( argument )`
-  destructor : {word colon function opens argument closes : Lexeme}
+  destructor : {word colon : Lexeme} {others : List Lexeme}
       → Is (Word words.Destructor) word
       → Is (Sign Colon) colon
-      → IsName function
-      → Is (Sign OpenParenthesis) opens
-      → IsName argument
-      → Is (Sign CloseParenthesis) closes
-      → IsOption (word ∷ colon ∷ function ∷ opens ∷ argument ∷ closes ∷ [])
-
--- options, any number of them
-pub data IsOptions : List Lexeme → Type 0 where
-  no_option : IsOptions []
-  and_option : {option others : List Lexeme}
-      → IsOption option
-      → IsOptions others
-      → IsOptions (option ++ others)
+      → IsCall others
+      → IsOption (word ∷ colon ∷ others)
 
 -- the tokens are a whole-number expression of this value
 pub record IsExpression (tokens : List Lexeme) (n : ℕ) : Type 0 where
   pub spelled : Spells Sum (map symbol_of tokens) n
 
--- an expression; with that many of each item around there are so many items
-pub record IsCount (around : Around) (expression : List Lexeme) (number : ℕ) : Type 0 where
-  pub n : ℕ
-  pub is : IsExpression expression n
-  pub counted : times around n ≡ Some number
+-- `n]`: with that many of each item around there are so many items
+pub data IsCount (around : Around) : List Lexeme → ℕ → Type 0 where
+  count : {expression : List Lexeme} {closes : Lexeme} {n number : ℕ}
+      → IsExpression expression n
+      → times around n ≡ Some number
+      → Is (Sign CloseBracket) closes
+      → IsCount around (expression ++ closes ∷ []) number
 
 -- inside so many items; the number is the most that there may be where one around is so
 abbrev pub inside : Around → ℕ → Bool → Around
@@ -94,11 +105,10 @@ inside around number is_bound =
 
 -- `[n]`
 pub data IsDimension : Around → List Lexeme → Around → Type 0 where
-  fixed : {around : Around} {opens closes : Lexeme} {expression : List Lexeme} {number : ℕ}
+  fixed : {around : Around} {opens : Lexeme} {counting : List Lexeme} {number : ℕ}
       → Is (Sign OpenBracket) opens
-      → IsCount around expression number
-      → Is (Sign CloseBracket) closes
-      → IsDimension around (opens ∷ (expression ++ closes ∷ [])) (inside around number false)
+      → IsCount around counting number
+      → IsDimension around (opens ∷ counting) (inside around number false)
 
 -- `[n]` or `[*:n]`
 pub data IsVariableDimension : Around → List Lexeme → Around → Type 0 where
@@ -106,34 +116,28 @@ pub data IsVariableDimension : Around → List Lexeme → Around → Type 0 wher
       → IsDimension around dimension inner
       → IsVariableDimension around dimension inner
   -- `[*:n]` stands inside nothing else
-  at_most : {around : Around} {opens star colon closes : Lexeme} {expression : List Lexeme}
-      {number : ℕ}
+  at_most : {around : Around} {opens star colon : Lexeme} {counting : List Lexeme} {number : ℕ}
       → around.is_inside ≡ false
       → Is (Sign OpenBracket) opens
       → Is (Sign Star) star
       → Is (Sign Colon) colon
-      → IsCount around expression number
-      → Is (Sign CloseBracket) closes
-      → IsVariableDimension around (opens ∷ star ∷ colon ∷ (expression ++ closes ∷ []))
-      (inside around number true)
+      → IsCount around counting number
+      → IsVariableDimension around (opens ∷ star ∷ colon ∷ counting) (inside around number true)
 
--- arrays and structs around a type, any number of them, from the outside in
-pub data IsAround : Around → List Lexeme → Around → Type 0 where
-  nothing_more : {around : Around} → IsAround around [] around
+-- an array or a struct around a type
+pub data IsLayer : Around → List Lexeme → Around → Type 0 where
   -- `array[n] of` or `array[*:n] of`
-  array : {around inner innermost : Around} {word of : Lexeme} {dimension others : List Lexeme}
+  array : {around inner : Around} {word of : Lexeme} {dimension : List Lexeme}
       → Is (Word words.Array) word
       → IsVariableDimension around dimension inner
       → Is (Word words.Of) of
-      → IsAround inner others innermost
-      → IsAround around (word ∷ (dimension ++ of ∷ others)) innermost
+      → IsLayer around (word ∷ (dimension ++ of ∷ [])) inner
   -- `struct[n] of`
-  struct : {around inner innermost : Around} {word of : Lexeme} {dimension others : List Lexeme}
+  struct : {around inner : Around} {word of : Lexeme} {dimension : List Lexeme}
       → Is (Word words.Struct) word
       → IsDimension around dimension inner
       → Is (Word words.Of) of
-      → IsAround inner others innermost
-      → IsAround around (word ∷ (dimension ++ of ∷ others)) innermost
+      → IsLayer around (word ∷ (dimension ++ of ∷ [])) inner
 
 -- what stands inside them: a type for this use, where these types are declared
 pub data IsInnerType (types : List (List ℕ × Shape)) (wanted : Use) (around : Around) : List Lexeme
@@ -172,10 +176,10 @@ pub data IsInnerType (types : List (List ℕ × Shape)) (wanted : Use) (around :
       → nested around shape ≡ Some whole
       → IsInnerType types wanted around (name ∷ []) whole
 
--- a type
+-- a type, with arrays and structs around it from the outside in
 pub data IsType (types : List (List ℕ × Shape)) (wanted : Use) : List Lexeme → Shape → Type 0 where
   type : {layers inner : List Lexeme} {around : Around} {shape : Shape}
-      → IsAround nothing_around layers around
+      → AnyNumber IsLayer nothing_around layers around
       → IsInnerType types wanted around inner shape
       → IsType types wanted (layers ++ inner) shape
 
@@ -203,48 +207,44 @@ pub data IsArgumentType (types : List (List ℕ × Shape)) (wanted : Use) : List
       → IsName name
       → Is (Sign Equals) equals
       → IsType types wanted type shape
-      → IsOptions options
+      → AnyOf IsOption options
       → IsArgumentType types wanted (name ∷ equals ∷ (type ++ options)) name.bytes shape
 
 -- `[direction] name : type`, behind the arguments that were seen, of which none has its name and
 -- there may be one more
-pub data IsArgument (types : List (List ℕ × Shape)) (is_simple : Bool) (seen : List Parameter) :
-    List Lexeme → Parameter → Type 0 where
-  argument : {direction type : List Lexeme} {way : Option Way} {name colon : Lexeme} {shape : Shape}
-      {type_name : List ℕ}
+pub data IsArgument (types : List (List ℕ × Shape)) (is_simple : Bool) : List Parameter
+    → List Lexeme → List Parameter → Type 0 where
+  argument : {seen : List Parameter} {direction type : List Lexeme} {way : Option Way}
+      {name colon : Lexeme} {shape : Shape} {type_name : List ℕ}
       → IsDirection is_simple seen direction way
       → IsName name
       → has_name name.bytes seen ≡ false
       → length seen < limit_of_arguments
       → Is (Sign Colon) colon
       → IsArgumentType types (use_of way) type type_name shape
-      → IsArgument types is_simple seen (direction ++ name ∷ colon ∷ type) (record {
+      → IsArgument types is_simple seen (direction ++ name ∷ colon ∷ type) (seen ++ (record {
         name = name.bytes;
         direction = way;
         shape = shape;
         type_name = type_name;
-      })
+      }) ∷ [])
 
--- `argument {; argument}`, behind the arguments that were seen
-pub data IsSomeArguments (types : List (List ℕ × Shape)) (is_simple : Bool) : List Parameter
+-- `; argument`
+pub data IsNextArgument (types : List (List ℕ × Shape)) (is_simple : Bool) : List Parameter
     → List Lexeme → List Parameter → Type 0 where
-  last_argument : {seen : List Parameter} {argument : List Lexeme} {p : Parameter}
-      → IsArgument types is_simple seen argument p
-      → IsSomeArguments types is_simple seen argument (seen ++ p ∷ [])
-  and_arguments : {seen all : List Parameter} {argument others : List Lexeme} {p : Parameter}
-      {semicolon : Lexeme}
-      → IsArgument types is_simple seen argument p
+  next_argument : {seen all : List Parameter} {semicolon : Lexeme} {argument : List Lexeme}
       → Is (Sign Semicolon) semicolon
-      → IsSomeArguments types is_simple (seen ++ p ∷ []) others all
-      → IsSomeArguments types is_simple seen (argument ++ semicolon ∷ others) all
+      → IsArgument types is_simple seen argument all
+      → IsNextArgument types is_simple seen (semicolon ∷ argument) all
 
 -- `[argument {; argument}]`
 pub data IsArguments (types : List (List ℕ × Shape)) (is_simple : Bool) : List Lexeme
     → List Parameter → Type 0 where
   no_argument : IsArguments types is_simple [] []
-  some_arguments : {arguments : List Lexeme} {all : List Parameter}
-      → IsSomeArguments types is_simple [] arguments all
-      → IsArguments types is_simple arguments all
+  some_arguments : {first others : List Lexeme} {seen all : List Parameter}
+      → IsArgument types is_simple [] first seen
+      → AnyNumber (IsNextArgument types is_simple) seen others all
+      → IsArguments types is_simple (first ++ others) all
 
 -- a line of the preprocessor: a marker, or the include, which declares its table once
 pub data IsLine : State → List Lexeme → State → Type 0 where
@@ -254,13 +254,37 @@ pub data IsLine : State → List Lexeme → State → Type 0 where
       → include_by s.has_table s ≡ Some t
       → IsLine s (line ∷ []) t
 
--- such lines, any number of them
-pub data IsLines : State → List Lexeme → State → Type 0 where
-  no_line : {s : State} → IsLines s [] s
-  and_line : {s t u : State} {line others : List Lexeme}
-      → IsLine s line t
-      → IsLines t others u
-      → IsLines s (line ++ others) u
+-- `name ( arguments ) ;`, of a name that no routine has, with one request port
+pub data IsRoutine (is_simple : Bool) (s : State) : List Lexeme → List ℕ → List Item → Type 0 where
+  named : {name opens closes semicolon : Lexeme} {arguments : List Lexeme} {all : List Parameter}
+      {items : List Item}
+      → IsName name
+      → is_routine name.bytes s.routines ≡ false
+      → Is (Sign OpenParenthesis) opens
+      → IsArguments s.types is_simple arguments all
+      → Is (Sign CloseParenthesis) closes
+      → items_of all ≡ Some items
+      → Is (Sign Semicolon) semicolon
+      → IsRoutine is_simple s (name ∷ opens ∷ (arguments ++ closes ∷ semicolon ∷ [])) name.bytes
+      items
+
+-- what stands behind the word of a statement that declares nothing
+pub data IsNote : Reserved → List Lexeme → Type 0 where
+  -- `import file ;`, and so `uimport` and `simport`
+  import : {file semicolon : Lexeme}
+      → is_imported (symbol_of file) ≡ true
+      → Is (Sign Semicolon) semicolon
+      → IsNote words.Import (file ∷ semicolon ∷ [])
+  -- `serverprefix name ;`, and so `userprefix`
+  prefix : {name semicolon : Lexeme}
+      → IsName name
+      → Is (Sign Semicolon) semicolon
+      → IsNote words.Prefix (name ∷ semicolon ∷ [])
+  -- `rcsid string ;`
+  rcsid : {text semicolon : Lexeme}
+      → Is Text text
+      → Is (Sign Semicolon) semicolon
+      → IsNote words.Rcsid (text ∷ semicolon ∷ [])
 
 -- a statement, and what is declared before and behind it
 pub data IsStatement : State → List Lexeme → State → Type 0 where
@@ -274,93 +298,58 @@ pub data IsStatement : State → List Lexeme → State → Type 0 where
       → is_declared name.bytes s.types ≡ false
       → Is (Sign Equals) equals
       → IsType s.types Any type shape
-      → IsOptions options
+      → AnyOf IsOption options
       → Is (Sign Semicolon) semicolon
       → IsStatement s (word ∷ name ∷ equals ∷ (type ++ options ++ semicolon ∷ [])) (record s {
         types = s.types ++ (name.bytes, shape) ∷ [];
       })
-  -- `routine name ( arguments ) ;`, of a name that no routine has, with one request port
-  routine : {s : State} {word name opens closes semicolon : Lexeme} {arguments : List Lexeme}
-      {all : List Parameter} {items : _}
+  -- `routine name ( arguments ) ;`
+  routine : {s : State} {word : Lexeme} {others : List Lexeme} {name : List ℕ} {items : List Item}
       → Is (Word words.Routine) word
       → length s.rows < limit_of_ids
-      → IsName name
-      → is_routine name.bytes s.routines ≡ false
-      → Is (Sign OpenParenthesis) opens
-      → IsArguments s.types false arguments all
-      → Is (Sign CloseParenthesis) closes
-      → items_of all ≡ Some items
-      → Is (Sign Semicolon) semicolon
-      → IsStatement s (word ∷ name ∷ opens ∷ (arguments ++ closes ∷ semicolon ∷ []))
-      (with_row s (name.bytes ∷ []) (Routine items))
+      → IsRoutine false s others name items
+      → IsStatement s (word ∷ others) (with_row s (name ∷ []) (Routine items))
   -- `simpleroutine name ( arguments ) ;`
-  simple_routine : {s : State} {word name opens closes semicolon : Lexeme} {arguments : List Lexeme}
-      {all : List Parameter} {items : _}
+  simple_routine : {s : State} {word : Lexeme} {others : List Lexeme} {name : List ℕ}
+      {items : List Item}
       → Is (Word words.SimpleRoutine) word
       → length s.rows < limit_of_ids
-      → IsName name
-      → is_routine name.bytes s.routines ≡ false
-      → Is (Sign OpenParenthesis) opens
-      → IsArguments s.types true arguments all
-      → Is (Sign CloseParenthesis) closes
-      → items_of all ≡ Some items
-      → Is (Sign Semicolon) semicolon
-      → IsStatement s (word ∷ name ∷ opens ∷ (arguments ++ closes ∷ semicolon ∷ []))
-      (with_row s (name.bytes ∷ []) (SimpleRoutine items))
+      → IsRoutine true s others name items
+      → IsStatement s (word ∷ others) (with_row s (name ∷ []) (SimpleRoutine items))
   -- `skip ;`, which takes an id
   skip : {s : State} {word semicolon : Lexeme}
       → Is (Word words.Skip) word
       → length s.rows < limit_of_ids
       → Is (Sign Semicolon) semicolon
       → IsStatement s (word ∷ semicolon ∷ []) (with_row s [] Skip)
-  -- `import file ;`, and so `uimport` and `simport`
-  import : {s : State} {word file semicolon : Lexeme}
-      → Is (Word words.Import) word
-      → is_imported (symbol_of file) ≡ true
-      → Is (Sign Semicolon) semicolon
-      → IsStatement s (word ∷ file ∷ semicolon ∷ []) s
-  -- `serverprefix name ;`, and so `userprefix`
-  prefix : {s : State} {word name semicolon : Lexeme}
-      → Is (Word words.Prefix) word
-      → IsName name
-      → Is (Sign Semicolon) semicolon
-      → IsStatement s (word ∷ name ∷ semicolon ∷ []) s
-  -- `rcsid string ;`
-  rcsid : {s : State} {word text semicolon : Lexeme}
-      → Is (Word words.Rcsid) word
-      → Is Text text
-      → Is (Sign Semicolon) semicolon
-      → IsStatement s (word ∷ text ∷ semicolon ∷ []) s
+  -- one that declares nothing
+  note : {s : State} {word : Lexeme} {kind : Reserved} {others : List Lexeme}
+      → Is (Word kind) word
+      → IsNote kind others
+      → IsStatement s (word ∷ others) s
 
--- statements, any number of them
-pub data IsStatements : State → List Lexeme → State → Type 0 where
-  no_statement : {s : State} → IsStatements s [] s
-  and_statement : {s t u : State} {statement others : List Lexeme}
-      → IsStatement s statement t
-      → IsStatements t others u
-      → IsStatements s (statement ++ others) u
+-- `kernelserver` or `kerneluser`
+pub data IsSide : List Lexeme → Type 0 where
+  side : {word : Lexeme} → Is (Word words.Side) word → IsSide (word ∷ [])
 
--- `kernelserver` and `kerneluser`, any number of them
-pub data AreSides : List Lexeme → Type 0 where
-  no_side : AreSides []
-  and_side : {word : Lexeme} {others : List Lexeme}
-      → Is (Word words.Side) word
-      → AreSides others
-      → AreSides (word ∷ others)
-
--- a file: lines of the preprocessor, `subsystem name number ;`, and statements
-pub data IsFile : List Lexeme → Meaning → Type 0 where
-  file : {s t : State} {lines sides statements : List Lexeme} {word name number semicolon : Lexeme}
-      {base : ℕ}
-      → IsLines nothing_declared lines s
+-- `subsystem` {`kernelserver` or `kerneluser`} `name number ;`
+pub data IsHeading : List Lexeme → List ℕ → ℕ → Type 0 where
+  heading : {word name number semicolon : Lexeme} {sides : List Lexeme} {base : ℕ}
       → Is (Word words.Subsystem) word
-      → AreSides sides
+      → AnyOf IsSide sides
       → IsName name
       → Is (Number base) number
       → Is (Sign Semicolon) semicolon
-      → IsStatements s statements t
-      → IsFile (lines ++ word ∷ (sides ++ name ∷ number ∷ semicolon ∷ statements)) (record {
-        name = name.bytes;
+      → IsHeading (word ∷ (sides ++ name ∷ number ∷ semicolon ∷ [])) name.bytes base
+
+-- a file: lines of the preprocessor, a heading, and statements
+pub data IsFile : List Lexeme → Meaning → Type 0 where
+  file : {s t : State} {lines headed statements : List Lexeme} {name : List ℕ} {base : ℕ}
+      → AnyNumber IsLine nothing_declared lines s
+      → IsHeading headed name base
+      → AnyNumber IsStatement s statements t
+      → IsFile (lines ++ (headed ++ statements)) (record {
+        name = name;
         base = base;
         rows = t.rows;
       })

@@ -1,10 +1,10 @@
-pub mod Types
-pub mod Places
-pub mod Arguments
-pub mod Files
-pub mod Bounds
-pub mod Stops
 pub mod Grammar
 pub mod Meanings
+pub mod Bounds
+pub mod Types
+pub mod Arguments
+pub mod Files
+pub mod Places
+pub mod Stops
 pub mod Readers
 pub mod Examples

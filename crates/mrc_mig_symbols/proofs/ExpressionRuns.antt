@@ -74,7 +74,7 @@ value_parts true outer sum n e = absurd cc
 value_parts false [] sum n e = (refl, refl, e)
 value_parts false (around ∷ outer) sum n e = absurd cc
 
--- there an expression ends exactly before what it does not go on with
+-- there an expression ends exactly before what it does not by on with
 ends_outside : (s : Symbol) → goes_on s ≡ false → ends_by false [] s ≡ true
 ends_outside (Sign Star) e = absurd cc
 ends_outside (Sign Slash) e = absurd cc
@@ -141,7 +141,7 @@ pub parted : (tokens : List Lexeme) (u : Unfinished) (n : ℕ) (rest : List Lexe
     → value_from u tokens ≡ Some (n, rest) → Parted u tokens n rest
 unfolding value_from first_of ends
 parted [] u n rest e = parted_here u [] n rest refl e
-parted (token ∷ tokens) u n rest e = go (λ v read. parted tokens v n rest read)
+parted (token ∷ tokens) u n rest e = by (λ v read. parted tokens v n rest read)
     (ends u (symbol_of token)) refl e
   where
     further : (v : Unfinished) → step (symbol_of token) u ≡ Some v → Parted v tokens n rest
@@ -155,12 +155,12 @@ parted (token ∷ tokens) u n rest e = go (λ v read. parted tokens v n rest rea
       stops = p.stops;
     }
 
-    go : ((v : Unfinished) → value_from v tokens ≡ Some (n, rest) → Parted v tokens n rest)
+    by : ((v : Unfinished) → value_from v tokens ≡ Some (n, rest) → Parted v tokens n rest)
         → (b : Bool) → ends u (symbol_of token) ≡ b
         → (if b then value_before (token ∷ tokens) u
         else (step (symbol_of token) u >>= λ next. value_from next tokens)) ≡ Some (n, rest)
         → Parted u (token ∷ tokens) n rest
-    go more true is f = parted_here u (token ∷ tokens) n rest
+    by more true is f = parted_here u (token ∷ tokens) n rest
         (stops_outside u.wants_operand u.outer (symbol_of token) is) f
-    go more false is f = option_and_then_some (λ x. value_from x tokens) (step (symbol_of token) u)
+    by more false is f = option_and_then_some (λ x. value_from x tokens) (step (symbol_of token) u)
         (n, rest) f (λ v stepped read. further v stepped (more v read))

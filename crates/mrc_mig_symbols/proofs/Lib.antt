@@ -10,4 +10,3 @@ pub mod ExpressionRuns
 pub mod SpelledIsRead
 pub mod ReadIsSpelled
 pub mod ExpressionLaw
-pub mod GrammarExamples

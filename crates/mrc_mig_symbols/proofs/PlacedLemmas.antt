@@ -32,17 +32,19 @@ abbrev state : Result Reading Stop → Option Unfinished
 state (Ok r) = Some (unplaced r)
 state (Err stop) = None
 
-made : (outer : List Placed) (p : Placed) (stop : Stop) (made : Option Partial)
-    → state ((ok_or made stop >>= λ sum. Ok (record p { sum = sum })) >>= λ q. placed_read outer q)
-    ≡ option_and_then (λ sum. operand_read (sums outer) sum) made
-made outer p stop None = refl
-made outer p stop (Some sum) = refl
+-- what two steps behind a value give, by what they give of each
+by_value : {X Y Z W : Type 0} (value : Option X) (stop : Stop) (first : X → Result Y Stop)
+    (second : Y → Result Z Stop) (seen : Result Z Stop → Option W) (read : X → Option W)
+    → seen (Err stop) ≡ None → ((x : X) → seen (first x >>= second) ≡ read x)
+    → seen ((ok_or value stop >>= first) >>= second) ≡ option_and_then read value
+by_value None stop first second seen read none each = none
+by_value (Some x) stop first second seen read none each = each x
 
 operand_made : (outer : List Placed) (n at : ℕ) (p : Placed)
     → state (placed_with n at p >>= λ q. placed_read outer q)
     ≡ option_and_then (λ sum. operand_read (sums outer) sum) (with_operand n p.sum)
 unfolding placed_with
-operand_made outer n at p = made outer p _ (with_operand n p.sum)
+operand_made outer n at p = by_value (with_operand n p.sum) _ _ _ state _ refl (λ sum. refl)
 
 product_made : (outer : List Placed) (subtracts : Bool) (at : ℕ) (p : Placed)
     → state (placed_product subtracts at p >>= λ q. placed_wanted outer q)
@@ -99,20 +101,15 @@ value_made : (wants : Bool) (tokens : List Lexeme) (at : ℕ) (outer : List Plac
     ≡ option_and_then (λ n. Some (n, tokens)) (value_by wants (sums outer) p.sum)
 unfolding placed_value
 value_made true tokens at outer p = refl
-value_made false tokens at [] p = by (value_of p.sum)
+value_made false tokens at [] p = by_value (value_of p.sum) _ _ _ result_ok _ refl (λ n. refl)
+value_made false tokens at (around ∷ outer) p = by_none (value_of p.sum)
   where
-    by : (value : Option ℕ)
-        → result_ok {T = ℕ × List Lexeme} ((ok_or value (unexpected_at p.from) >>= λ n. outermost [] at n) >>= λ n. Ok (n, tokens))
-        ≡ option_and_then (λ n. Some (n, tokens)) value
-    by None = refl
-    by (Some n) = refl
-value_made false tokens at (around ∷ outer) p = by (value_of p.sum)
-  where
-    by : (value : Option ℕ) → result_ok {T = ℕ × List Lexeme}
-        ((ok_or value (unexpected_at p.from) >>= λ n. outermost (around ∷ outer) at n) >>= λ n. Ok (n, tokens))
+    by_none : (value : Option ℕ) → result_ok {T = ℕ × List Lexeme}
+        ((ok_or value (unexpected_at p.from) >>= λ n. outermost (around ∷ outer) at n)
+        >>= λ n. Ok (n, tokens))
         ≡ None
-    by None = refl
-    by (Some n) = refl
+    by_none None = refl
+    by_none (Some n) = refl
 
 before_made : (tokens : List Lexeme) (r : Reading)
     → result_ok (placed_before tokens r) ≡ value_before tokens (unplaced r)

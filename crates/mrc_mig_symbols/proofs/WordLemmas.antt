@@ -1,5 +1,5 @@
 -- A reserved word is one of those of its length.
-use Rattle.std.proofs.Common.{◌≡◌, ◌≢◌, ℕ, Bool, true, false, ◌==◌, ◌||◌, List, [], ◌∷◌, length}
+use Rattle.std.proofs.Common.{◌≡◌, ℕ, Bool, true, false, ◌==◌, List, [], ◌∷◌, length}
 use Rattle.std.proofs.Common.{Some, None, cond, refl, sym, ap, ◌∙◌, subst}
 use Rattle.std.specs.Prelude.{filter}
 use Rattle.std.specs.List.{list_all, list_any}
@@ -50,39 +50,27 @@ word_of_length text n is =
     (entry_of_length reserved (str_to_ascii_lowercase text))
 
 -- how long the reserved words are
-abbrev lengths : List ℕ
+abbrev pub lengths : List ℕ
 lengths = 2 ∷ 3 ∷ 4 ∷ 5 ∷ 6 ∷ 7 ∷ 8 ∷ 9 ∷ 10 ∷ 11 ∷ 12 ∷ 13 ∷ 15 ∷ []
 
--- none of these numbers
-abbrev pub IsNone : List ℕ → ℕ → Type 0
-IsNone [] n = Unit {0}
-IsNone (m ∷ ms) n = (n ≢ m) × IsNone ms n
-
-not_there : (ms : List ℕ) (m n : ℕ) → IsNone ms n → list_any (λ k. m == k) ms ≡ true
-    → (m == n) ≡ false
-not_there [] m n none some = absurd (false≢true some)
-not_there (k ∷ ms) m n none some = by (λ more. not_there ms m n none.1 more) (m == k) refl some
-  where
-    by : (list_any (λ k. m == k) ms ≡ true → (m == n) ≡ false) → (b : Bool) → (m == k) ≡ b
-        → (b || list_any (λ k. m == k) ms) ≡ true → (m == n) ≡ false
-    by on true is _ = false_from_ne_true (m == n)
-        (λ same. none.0 (sym (eqb-true m n same) ∙ eqb-true m k is))
-    by on false is more = on more
-
 none_of_length : {X : Type 0} (ms : List ℕ) (table : List (List ℕ × X)) (bytes : List ℕ)
-    → IsNone ms (length bytes)
+    → list_any (λ k. length bytes == k) ms ≡ false
     → list_all (λ entry. list_any (λ k. length entry.0 == k) ms) table ≡ true
     → None ≡ entry_of table bytes
 unfolding entry_of
 none_of_length ms [] bytes none each = refl
 none_of_length ms (entry ∷ table) bytes none each =
     let parts = and_parts _ _ each in
+    let other : (length entry.0 == length bytes) ≡ false =
+    false_from_ne_true (length entry.0 == length bytes) (λ same. false≢true (sym none
+    ∙ ap (λ n. list_any (λ k. n == k) ms) (sym (eqb-true (length entry.0) (length bytes) same))
+    ∙ parts.0)) in
     none_of_length ms table bytes none parts.1
-    ∙ sym (ap (λ b. cond b (Some entry.1) (entry_of table bytes))
-    (differs bytes entry.0 (not_there ms (length entry.0) (length bytes) none parts.0)))
+    ∙ sym (ap (λ b. cond b (Some entry.1) (entry_of table bytes)) (differs bytes entry.0 other))
 
-pub no_word_of_length : (text : List ℕ) → IsNone lengths (length text) → None ≡ word_of text
+-- a text of another length than each reserved word is none
+pub no_word_of_length : (text : List ℕ) → list_any (λ k. length text == k) lengths ≡ false
+    → None ≡ word_of text
 no_word_of_length text none =
-    let low = length-map text to_ascii_lowercase in
     none_of_length lengths reserved (str_to_ascii_lowercase text)
-    (subst (IsNone lengths) (sym low) none) refl
+    (ap (λ n. list_any (λ k. n == k) lengths) (length-map text to_ascii_lowercase) ∙ none) refl

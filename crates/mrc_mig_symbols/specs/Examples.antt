@@ -70,3 +70,11 @@ pub part_below_zero : expression_at
 unfolding with_operand value_of next_product step ends whole_value value_before value_from
     expression_at symbol_of
 part_below_zero = refl
+
+-- `7-2-1]` is 4
+pub left_first : expression_at
+    (number 7 ∷ sign Minus ∷ number 2 ∷ sign Minus ∷ number 1 ∷ sign CloseBracket ∷ [])
+    ≡ Some (4, sign CloseBracket ∷ [])
+unfolding with_operand value_of next_product step ends whole_value value_before value_from
+    expression_at symbol_of
+left_first = refl

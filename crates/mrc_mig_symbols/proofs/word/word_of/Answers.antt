@@ -1,4 +1,5 @@
 use Rattle.std.proofs.Common.{◌∙◌, arith}
+use Rattle.std.proofs.lemmas.Bool.Decides.{nat_tests}
 use Rattle.mrc_mig_symbols.proofs.WordLemmas.{word_of_length, no_word_of_length}
 use Rattle.mrc_mig_symbols.proofs.word.word_of.Goals as goal
 
@@ -42,41 +43,4 @@ pub returns-in-15 : goal.returns-in-15
 returns-in-15 c = c.word_in-in-15.ensures ∙ word_of_length c.args.text.now 15 c.in-15.is
 
 pub returns-in_default : goal.returns-in_default
-returns-in_default c =
-    no_word_of_length c.args.text.now (
-      omega arith,
-      (
-        omega arith,
-        (
-          omega arith,
-          (
-            omega arith,
-            (
-              omega arith,
-              (
-                omega arith,
-                (
-                  omega arith,
-                  (
-                    omega arith,
-                    (
-                      omega arith,
-                      (
-                        omega arith,
-                        (
-                          omega arith,
-                          (
-                            omega arith,
-                            (omega arith, tt),
-                          ),
-                        ),
-                      ),
-                    ),
-                  ),
-                ),
-              ),
-            ),
-          ),
-        ),
-      ),
-    )
+returns-in_default c = no_word_of_length c.args.text.now (grind (arith, nat_tests))
