@@ -1,7 +1,7 @@
 -- The rows of a table, and the statements that they are of.
 use Rattle.std.proofs.Common.{◌≡◌, ℕ, zero, suc, ◌+◌, ◌-◌, true, List, [], ◌∷◌, Option}
 use Rattle.std.proofs.Common.{Some, None, Ok, refl, sym, ap, ◌∙◌, subst, arith, nat_le}
-use Rattle.std.specs.Prelude.{slice_get}
+use Rattle.std.specs.Prelude.{slice_get, ◌↔◌}
 use Rattle.std.specs.Option.{option_map, option_and_then}
 use Rattle.std.proofs.lemmas.Bool.{leb-true, le-leb}
 use Rattle.mrc_base.specs.Limits.{limit_of_number}
@@ -12,13 +12,14 @@ use Rattle.mrc_model.specs.IsIn.{IsIn, here, later}
 use Rattle.mrc_mig_parse.proofs.PhraseLemmas.{in_two, where_true}
 use Rattle.mrc_mig_parse.specs.Files.{Meaning, Row as Statement, Routine, SimpleRoutine, Skip}
 use Rattle.mrc_interface.specs.declared.fault.InterfaceFault.TheVariants.{IdRange}
+use Rattle.mrc_interface.specs.declared.form.FormKind.{FormKind}
 use Rattle.mrc_interface.specs.Forms.{Form}
 use Rattle.mrc_interface.specs.Tables.{Row, Table, row_of, last_id, row_at, rows_at, table_of}
-use Rattle.mrc_interface.specs.Tables.{row_behind, request_form, reply_form}
+use Rattle.mrc_interface.specs.Tables.{row_behind}
 use Rattle.mrc_interface.specs.Laws.{forms_at, HasForm, IsRequest, IsReply}
 
 -- what is found by a function of what is found
-by_function : {A B : Type 0} (f : A → B) (o : Option A) (b : B) → option_map f o ≡ Some b
+pub by_function : {A B : Type 0} (f : A → B) (o : Option A) (b : B) → option_map f o ≡ Some b
     → (a : A) × (o ≡ Some a) × (f a ≡ b)
 by_function f None b e = absurd (not_None b (sym e))
 by_function f (Some a) b e = (a, refl, same_Some (f a) b e)
@@ -88,92 +89,58 @@ statement_of_reply n (SimpleRoutine items) form (here) is = absurd is
 statement_of_reply n (SimpleRoutine items) form (later h) is = elim h [ ]
 statement_of_reply n Skip form h is = elim h [ ]
 
--- the statement of the row that stands behind this id
-statement_behind : (base : ℕ) (statements : List Statement) (rows : List Row)
-    → rows_at base statements ≡ Ok rows → (i : ℕ) (row : Row) → slice_get rows i ≡ Some row
-    → (s : Statement) × (slice_get statements i ≡ Some s) × (row_of (base + i) s ≡ row)
-statement_behind base statements rows all i row is =
-    by_function (row_of (base + i)) (slice_get statements i) row
-    (sym (row_of_statement base statements rows all i) ∙ is)
+-- How the forms of a kind are picked of rows: that of a statement's row is the one of this kind that
+-- the statement has, with the id that it takes.
+pub record Picks (pick : Row → Option Form) (Of : FormKind → Type 0) (id_of : ℕ → ℕ) : Type 0 where
+  pub picked : (n : ℕ) (s : Statement) (form : Form) → pick (row_of n s) ≡ Some form
+      → IsIn form (forms_at n s) × Of form.kind × (form.id ≡ id_of n)
+  pub has : (n : ℕ) (s : Statement) (form : Form) → IsIn form (forms_at n s) → Of form.kind
+      → (pick (row_of n s) ≡ Some form) × (form.id ≡ id_of n)
+  pub behind : (n i : ℕ) → id_of (n + i) ≡ id_of n + i
 
--- the row of a statement that stands behind this id
-row_of_this : (base : ℕ) (statements : List Statement) (rows : List Row)
-    → rows_at base statements ≡ Ok rows → (i : ℕ) (s : Statement) → slice_get statements i ≡ Some s
-    → slice_get rows i ≡ Some (row_of (base + i) s)
-row_of_this base statements rows all i s is = row_of_statement base statements rows all i
-    ∙ ap (option_map (row_of (base + i))) is
+pub requests : Picks (λ row. row.request) IsRequest (λ n. n)
+requests = record {
+  picked = request_of_statement;
+  has = statement_of_request;
+  behind = λ n i. refl;
+}
 
--- a row that is found behind an id has its place
-place_of : (table : Table) (id first : ℕ) (row : Row) → row_behind table id first ≡ Some row
-    → (first + (id - first) ≡ id) × (slice_get table.rows (id - first) ≡ Some row)
-place_of table id first row e =
-    let found = where_true (nat_le first id) (slice_get table.rows (id - first)) row e in
-    let le = leb-true first id found.0 in
-    (omega arith, found.1)
+pub replies : Picks (λ row. row.reply) IsReply (λ n. n + 100)
+replies = record {
+  picked = reply_of_statement;
+  has = statement_of_reply;
+  behind = λ n i. omega arith;
+}
 
--- a place behind an id
-found_at : (table : Table) (first i : ℕ) (row : Row) → slice_get table.rows i ≡ Some row
-    → row_behind table (first + i) first ≡ Some row
-found_at table first i row e =
-    let le : nat_le first (first + i) ≡ true = le-leb first (first + i) (omega arith) in
-    let k : first + i - first ≡ i = omega arith in
-    rw (le, k) e
-
--- the request that is found by its id is the one that the subsystem has
-pub request_found : (m : Meaning) (rows : List Row) → rows_at m.base m.rows ≡ Ok rows
+-- the form that is found by its id is the one of its kind that the subsystem has
+pub form_found : {pick : Row → Option Form} {Of : FormKind → Type 0} {id_of : ℕ → ℕ}
+    → Picks pick Of id_of → (m : Meaning) (rows : List Row) → rows_at m.base m.rows ≡ Ok rows
     → (id : ℕ) (form : Form)
-    → request_form (record { name = m.name; base = m.base; rows = rows }) id ≡ Some form
-    → HasForm m form × IsRequest form.kind × (form.id ≡ id)
-request_found m rows all id form e =
+    → (option_and_then pick (row_behind (record { name = m.name; base = m.base; rows = rows }) id
+    (id_of m.base)) ≡ Some form)
+    ↔ (HasForm m form × Of form.kind × (form.id ≡ id))
+form_found {pick} {Of} {id_of} picks m rows all id form =
     let table : Table = record { name = m.name; base = m.base; rows = rows } in
-    let found = in_two (row_behind table id m.base) (λ row. row.request) form e in
-    let place = place_of table id m.base found.0 found.1 in
-    let s = statement_behind m.base m.rows rows all (id - m.base) found.0 place.1 in
-    let given = request_of_statement (m.base + (id - m.base)) s.0 form
-    (ap (λ (row : Row). row.request) s.2 ∙ found.2) in
-    ((id - m.base, s.0, s.1, given.0), given.1, given.2 ∙ place.0)
-
-pub request_is_found : (m : Meaning) (rows : List Row) → rows_at m.base m.rows ≡ Ok rows
-    → (id : ℕ) (form : Form)
-    → HasForm m form × IsRequest form.kind × (form.id ≡ id)
-    → request_form (record { name = m.name; base = m.base; rows = rows }) id ≡ Some form
-request_is_found m rows all id form h =
-    let table : Table = record { name = m.name; base = m.base; rows = rows } in
-    let i = h.0.0 in
-    let given = statement_of_request (m.base + i) h.0.1 form h.0.3 h.1 in
-    let row = row_of_this m.base m.rows rows all i h.0.1 h.0.2 in
-    let at = found_at table m.base i (row_of (m.base + i) h.0.1) row in
-    subst (λ (n : ℕ). request_form table n ≡ Some form) (sym given.1
-    ∙ h.2) (ap (option_and_then (λ row. row.request)) at ∙ given.0)
-
--- and so is the reply
-pub reply_found : (m : Meaning) (rows : List Row) → rows_at m.base m.rows ≡ Ok rows
-    → (id : ℕ) (form : Form)
-    → reply_form (record { name = m.name; base = m.base; rows = rows }) id ≡ Some form
-    → HasForm m form × IsReply form.kind × (form.id ≡ id)
-reply_found m rows all id form e =
-    let table : Table = record { name = m.name; base = m.base; rows = rows } in
-    let found = in_two (row_behind table id (m.base + 100)) (λ row. row.reply) form e in
-    let place = place_of table id (m.base + 100) found.0 found.1 in
-    let s = statement_behind m.base m.rows rows all (id - (m.base + 100)) found.0 place.1 in
-    let given = reply_of_statement (m.base + (id - (m.base + 100))) s.0 form
-    (ap (λ (row : Row). row.reply) s.2 ∙ found.2) in
-    let same : m.base + (id - (m.base + 100)) + 100 ≡ id = let p = place.0 in omega arith in
-    ((id - (m.base + 100), s.0, s.1, given.0), given.1, given.2 ∙ same)
-
-pub reply_is_found : (m : Meaning) (rows : List Row) → rows_at m.base m.rows ≡ Ok rows
-    → (id : ℕ) (form : Form)
-    → HasForm m form × IsReply form.kind × (form.id ≡ id)
-    → reply_form (record { name = m.name; base = m.base; rows = rows }) id ≡ Some form
-reply_is_found m rows all id form h =
-    let table : Table = record { name = m.name; base = m.base; rows = rows } in
-    let i = h.0.0 in
-    let given = statement_of_reply (m.base + i) h.0.1 form h.0.3 h.1 in
-    let row = row_of_this m.base m.rows rows all i h.0.1 h.0.2 in
-    let at = found_at table (m.base + 100) i (row_of (m.base + i) h.0.1) row in
-    let moved : m.base + 100 + i ≡ m.base + i + 100 = omega arith in
-    subst (λ (n : ℕ). reply_form table n ≡ Some form) (moved ∙ sym given.1
-    ∙ h.2) (ap (option_and_then (λ row. row.reply)) at ∙ given.0)
+    let first = id_of m.base in
+    let row_there = row_of_statement m.base m.rows rows all in (
+      λ e.
+          let (row, found, chosen) = in_two (row_behind table id first) pick form e in
+          let i = id - first in
+          let (test, there) = where_true (nat_le first id) (slice_get rows i) row found in
+          let (s, at, is) = by_function (row_of (m.base + i)) (slice_get m.rows i) row
+          (sym (row_there i) ∙ there) in
+          let (stands, kind, takes) = picks.picked (m.base + i) s form (ap pick is ∙ chosen) in
+          let le = leb-true first id test in
+          let place : first + i ≡ id = omega (arith, le) in
+          ((i, s, at, stands), kind, takes ∙ picks.behind m.base i ∙ place),
+      λ h.
+          let ((i, s, at, stands), kind, is) = h in
+          let (chosen, takes) = picks.has (m.base + i) s form stands kind in
+          let place : id ≡ first + i = sym is ∙ takes ∙ picks.behind m.base i in
+          let le : nat_le first (first + i) ≡ true = le-leb first (first + i) (omega arith) in
+          let k : first + i - first ≡ i = omega arith in
+          rw (place, le, k, row_there i ∙ ap (option_map (row_of (m.base + i))) at) chosen,
+    )
 
 -- the table of a subsystem has its name, its first id and the rows of its statements
 pub rows_of_table : (m : Meaning) (table : Table) → table_of m ≡ Ok table

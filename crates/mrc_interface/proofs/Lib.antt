@@ -1,4 +1,3 @@
 mod Finding
-mod FitLemmas
 mod Slots
 pub mod ReadingLaws

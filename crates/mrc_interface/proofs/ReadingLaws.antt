@@ -1,20 +1,21 @@
 -- Reading agrees with what a MIG file is, and with why bytes are none; and so for lists of files.
-use Rattle.std.proofs.Common.{◌≡◌, ℕ, suc, ◌+◌, true, false, inl, inr, List, [], ◌∷◌}
+use Rattle.std.proofs.Common.{◌≡◌, ℕ, suc, ◌+◌, false, inl, inr, List, [], ◌∷◌}
 use Rattle.std.proofs.Common.{◌++◌, length, Option, Some, None, Result, Ok, Err}
 use Rattle.std.proofs.Common.{refl, sym, ap, subst, ◌∙◌, arith}
-use Rattle.std.specs.Prelude.{IfOk, IfErr, ◌⊎◌}
+use Rattle.std.specs.Prelude.{IfOk, IfErr}
+use Rattle.std.specs.Option.{ok_or}
 use Rattle.std.specs.Str.{IsUtf8, is_utf8}
 use Rattle.std.proofs.lemmas.Bool.{cases_Bool, false_from_ne_true}
 use Rattle.std.proofs.lemmas.Str.{IsUtf8-from_is_utf8, is_utf8-from_IsUtf8}
 use Rattle.mrc_base.specs.declared.memory.OrMemory.{OrMemory}
 use Rattle.mrc_base.specs.declared.memory.OrMemory.TheVariants.{Fault, Memory}
-use Rattle.mrc_base.specs.Reading.{UnlessMemory}
-use Rattle.mrc_base.proofs.Steps.{ok_is, err_is_ok}
+use Rattle.mrc_base.specs.Reading.{◌>>=◌, UnlessMemory}
 use Rattle.mrc_mig_lex.specs.declared.fault.LexFault.{LexFault}
 use Rattle.mrc_mig_lex.specs.Tokens.{Lexeme}
 use Rattle.mrc_mig_lex.specs.Parts.{HasTokens}
 use Rattle.mrc_mig_lex.specs.Lexing.{tokens_of}
 use Rattle.mrc_mig_lex.proofs.PartLaws.{has_tokens, only_tokens}
+use Rattle.mrc_model.proofs.Maps.{not_None}
 use Rattle.mrc_mig_parse.specs.Files.{Meaning, meaning_of}
 use Rattle.mrc_mig_parse.specs.Grammar.{IsFile}
 use Rattle.mrc_mig_parse.proofs.FilePhrases.{read_is_file, file_is_read}
@@ -22,20 +23,15 @@ use Rattle.mrc_interface.specs.declared.fault.InterfaceFault.{InterfaceFault}
 use Rattle.mrc_interface.specs.Tables.{Table, table_of}
 use Rattle.mrc_interface.specs.Reading.{IsInterface, AreInterfaces, Reason, NoText, NoTokens}
 use Rattle.mrc_interface.specs.Reading.{NoFile, NoTable, IsReason, Refused, IsFirstRefused}
-use Rattle.mrc_interface.specs.Reading.{interface_of, interfaces_from, interfaces_of, GivesAs}
+use Rattle.mrc_interface.specs.Reading.{step, interface_of, interfaces_from, interfaces_of, GivesAs}
 
--- an answer is one answer
-one_fault : {A F : Type 0} (x y : F) (r : Result A F) → r ≡ Err x → r ≡ Err y → x ≡ y
-one_fault x y r e f = let same = sym e ∙ f in cc
-
-one_value : {A F : Type 0} (x y : A) (r : Result A F) → r ≡ Ok x → r ≡ Ok y → x ≡ y
-one_value x y r e f = ok_is x y (sym e ∙ f)
-
-not_both : {A F P : Type 0} (x : A) (f : F) (r : Result A F) → r ≡ Err f → r ≡ Ok x → P
-not_both x f r e g = err_is_ok f x (sym e ∙ g)
+-- what an answer tells: this of a value, and that of a fault
+abbrev pub Tells : {A F : Type 0} → (A → Type 0) → (F → Type 0) → Result A F → Type 0
+Tells P Q (Ok x) = P x
+Tells P Q (Err fault) = Q fault
 
 -- bytes that are no text
-no_text : (bytes : List ℕ) → (IsUtf8 bytes → ⊥) → is_utf8 bytes ≡ false
+pub no_text : (bytes : List ℕ) → (IsUtf8 bytes → ⊥) → is_utf8 bytes ≡ false
 no_text bytes not_text =
     false_from_ne_true (is_utf8 bytes) (λ e. not_text (IsUtf8-from_is_utf8 bytes e))
 
@@ -75,77 +71,47 @@ reason_read bytes (NoTable fault) is =
       is.5,
     ) refl
 
--- bytes have a table, or there is a reason
-abbrev HasAnswer : List ℕ → Type 0
-HasAnswer bytes =
-    ((table : Table) × IsInterface bytes table) ⊎ ((reason : Reason) × IsReason bytes reason)
-
+-- each step of the reading tells its part of what the bytes are
 with_subsystem : (bytes : List ℕ) → IsUtf8 bytes → (tokens : List Lexeme) → HasTokens bytes tokens
-    → (m : Meaning) → IsFile tokens m → HasAnswer bytes
-with_subsystem bytes text tokens has m is =
-    let by : (r : Result Table InterfaceFault) → table_of m ≡ r → HasAnswer bytes = elim [
-      | Ok table ↦ λ e. inl (
-        table,
-        record {
-          utf8 = text;
-          tokens = tokens;
-          has = has;
-          subsystem = m;
-          is_file = is;
-          is_table = e;
-        },
-      )
-      | Err fault ↦ λ e. inr (NoTable fault, (text, tokens, m, has, is, e))
-    ] in
-    by (table_of m) refl
+    → (m : Meaning) → IsFile tokens m → (r : Result Table InterfaceFault) → table_of m ≡ r
+    → Tells (IsInterface bytes) (IsReason bytes) (step NoTable r)
+with_subsystem bytes text tokens has m is (Ok table) e = record {
+  utf8 = text;
+  tokens = tokens;
+  has = has;
+  subsystem = m;
+  is_file = is;
+  is_table = e;
+}
+with_subsystem bytes text tokens has m is (Err fault) e = (text, tokens, m, has, is, e)
 
 with_tokens : (bytes : List ℕ) → IsUtf8 bytes → (tokens : List Lexeme) → HasTokens bytes tokens
-    → HasAnswer bytes
-with_tokens bytes text tokens has =
-    let by : (o : Option Meaning) → meaning_of tokens ≡ o → HasAnswer bytes = elim [
-      | None ↦ λ none. inr
-          (NoFile, (text, tokens, has, λ m is. not_read m (file_is_read tokens m is) none))
-      | Some m ↦ λ e. with_subsystem bytes text tokens has m (read_is_file tokens m e)
-    ] in
-    by (meaning_of tokens) refl
-  where
-    not_read : (m : Meaning) → meaning_of tokens ≡ Some m → meaning_of tokens ≡ None → ⊥
-    not_read m e none = let same = sym e ∙ none in absurd cc
+    → (o : Option Meaning) → meaning_of tokens ≡ o
+    → Tells (IsInterface bytes) (IsReason bytes)
+    (ok_or o NoFile >>= λ m. step NoTable (table_of m))
+with_tokens bytes text tokens has None none =
+    (text, tokens, has, λ m is. not_None m (sym (file_is_read tokens m is) ∙ none))
+with_tokens bytes text tokens has (Some m) e =
+    with_subsystem bytes text tokens has m (read_is_file tokens m e) (table_of m) refl
 
-with_text : (bytes : List ℕ) → IsUtf8 bytes → HasAnswer bytes
-with_text bytes text =
-    let by : (r : Result (List Lexeme) LexFault) → tokens_of bytes ≡ r → HasAnswer bytes = elim [
-      | Ok tokens ↦ λ e. with_tokens bytes text tokens (has_tokens bytes tokens e)
-      | Err fault ↦ λ e. inr (NoTokens fault, (text, e))
-    ] in
-    by (tokens_of bytes) refl
+with_text : (bytes : List ℕ) → IsUtf8 bytes → (r : Result (List Lexeme) LexFault)
+    → tokens_of bytes ≡ r
+    → Tells (IsInterface bytes) (IsReason bytes)
+    (step NoTokens r >>= λ tokens. ok_or (meaning_of tokens) NoFile
+    >>= λ m. step NoTable (table_of m))
+with_text bytes text (Ok tokens) e =
+    with_tokens bytes text tokens (has_tokens bytes tokens e) (meaning_of tokens) refl
+with_text bytes text (Err fault) e = (text, e)
 
-has_answer : (bytes : List ℕ) → HasAnswer bytes
-has_answer bytes = elim (cases_Bool (is_utf8 bytes)) [
-  | inl is ↦ with_text bytes (IsUtf8-from_is_utf8 bytes is)
-  | inr not_text ↦ inr (NoText, λ text. both (is_utf8-from_IsUtf8 bytes text) not_text)
-]
-  where
-    both : is_utf8 bytes ≡ true → is_utf8 bytes ≡ false → ⊥
-    both e not_text = let same = sym e ∙ not_text in absurd cc
-
--- what is read is the table that bytes have
-pub read_interface_is : (bytes : List ℕ) (table : Table) → interface_of bytes ≡ Ok table
-    → IsInterface bytes table
-read_interface_is bytes table e = elim (has_answer bytes) [
-  | inl is ↦ subst (IsInterface bytes)
-      (one_value is.0 table (interface_of bytes) (interface_read bytes is.0 is.1) e) is.1
-  | inr other ↦ not_both table other.0 (interface_of bytes) (reason_read bytes other.0 other.1) e
-]
-
--- what is read is the reason why they have none
-pub read_reason_is : (bytes : List ℕ) (reason : Reason) → interface_of bytes ≡ Err reason
-    → IsReason bytes reason
-read_reason_is bytes reason e = elim (has_answer bytes) [
-  | inl is ↦ not_both is.0 reason (interface_of bytes) e (interface_read bytes is.0 is.1)
-  | inr other ↦ subst (IsReason bytes)
-      (one_fault other.0 reason (interface_of bytes) (reason_read bytes other.0 other.1) e) other.1
-]
+-- what is read tells what the bytes are: this is their table, or the reason why they have none
+pub told : (bytes : List ℕ) (r : Result Table Reason) → interface_of bytes ≡ r
+    → Tells (IsInterface bytes) (IsReason bytes) r
+told bytes r e = subst (Tells (IsInterface bytes) (IsReason bytes)) e
+    (elim (cases_Bool (is_utf8 bytes)) [
+      | inl is ↦ rw is (with_text bytes (IsUtf8-from_is_utf8 bytes is) (tokens_of bytes) refl)
+      | inr not_text ↦ rw not_text (λ text. let same = sym (is_utf8-from_IsUtf8 bytes text)
+          ∙ not_text in cc)
+    ])
 
 -- the tables of files are read, whatever stands before them
 tables_read : (n : ℕ) (files : List (List ℕ)) (tables : List Table) → AreInterfaces files tables
@@ -189,92 +155,81 @@ first_read files refused is =
     ∙ refused_read 0 is.before is.bytes is.after is.tables refused.reason is.sound is.reason
     ∙ ap (λ (k : ℕ). Err (record { file = k; reason = refused.reason })) (none_before ∙ is.place)
 
--- all files have tables, or there is a first that is refused
-abbrev HaveAnswer : List (List ℕ) → Type 0
-HaveAnswer files =
-    ((tables : List Table) × AreInterfaces files tables)
-    ⊎ ((refused : Refused) × IsFirstRefused files refused)
+-- this is the first of the files that is refused, behind n others
+abbrev IsFirstFrom : ℕ → List (List ℕ) → Refused → Type 0
+IsFirstFrom n files refused = (k : ℕ) × (n + k ≡ refused.file)
+    × IsFirstRefused files (record { file = k; reason = refused.reason })
 
--- one file more in front
-one_more : (bytes : List ℕ) (files : List (List ℕ)) (table : Table) → IsInterface bytes table
-    → HaveAnswer files → HaveAnswer (bytes ∷ files)
-one_more bytes files table is (inl are) = inl (table ∷ are.0, (is, are.1))
-one_more bytes files table is (inr first) = inr (
-  record { file = suc first.0.file; reason = first.0.reason },
-  record {
-    before = bytes ∷ first.1.before;
-    bytes = first.1.bytes;
-    after = first.1.after;
-    parts = ap (λ (others : List (List ℕ)). bytes ∷ others) first.1.parts;
-    place = ap suc first.1.place;
-    tables = table ∷ first.1.tables;
-    sound = (is, first.1.sound);
-    reason = first.1.reason;
-  },
-)
+-- what is read tells of each file what it is
+all_told : (n : ℕ) (files : List (List ℕ))
+    → Tells (AreInterfaces files) (IsFirstFrom n files) (interfaces_from n files)
+all_told n [] = tt
+all_told n (bytes ∷ files) = by (interface_of bytes) (told bytes (interface_of bytes) refl)
+    (interfaces_from (n + 1) files) (all_told (n + 1) files)
+  where
+    by : (r : Result Table Reason) → Tells (IsInterface bytes) (IsReason bytes) r
+        → (rs : Result (List Table) Refused)
+        → Tells (AreInterfaces files) (IsFirstFrom (n + 1) files) rs
+        → Tells (AreInterfaces (bytes ∷ files)) (IsFirstFrom n (bytes ∷ files))
+        (step (λ reason. record { file = n; reason = reason }) r
+        >>= λ table. rs >>= λ tables. Ok (table ∷ tables))
+    by (Ok table) is (Ok tables) are = (is, are)
+    by (Ok table) is (Err refused) (k, place, first) = (
+      suc k,
+      omega (arith, place),
+      record {
+        before = bytes ∷ first.before;
+        bytes = first.bytes;
+        after = first.after;
+        parts = ap (λ (others : List (List ℕ)). bytes ∷ others) first.parts;
+        place = ap suc first.place;
+        tables = table ∷ first.tables;
+        sound = (is, first.sound);
+        reason = first.reason;
+      },
+    )
+    by (Err reason) is rs others = (
+      0,
+      omega arith,
+      record {
+        before = [];
+        bytes = bytes;
+        after = files;
+        parts = refl;
+        place = refl;
+        tables = [];
+        sound = tt;
+        reason = is;
+      },
+    )
 
-have_answer : (files : List (List ℕ)) → HaveAnswer files
-have_answer [] = inl ([], tt)
-have_answer (bytes ∷ files) = elim (has_answer bytes) [
-  | inl is ↦ one_more bytes files is.0 is.1 (have_answer files)
-  | inr other ↦ inr (
-    record { file = 0; reason = other.0 },
-    record {
-      before = [];
-      bytes = bytes;
-      after = files;
-      parts = refl;
-      place = refl;
-      tables = [];
-      sound = tt;
-      reason = other.1;
-    },
-  )
-]
+-- what is read are the tables of the files, or the first that is refused
+pub files_told : (files : List (List ℕ)) (r : Result (List Table) Refused) → interfaces_of files ≡ r
+    → Tells (AreInterfaces files) (IsFirstRefused files) r
+files_told files r e = by r (subst (Tells (AreInterfaces files) (IsFirstFrom 0 files)) e
+    (all_told 0 files))
+  where
+    by : (r : Result (List Table) Refused) → Tells (AreInterfaces files) (IsFirstFrom 0 files) r
+        → Tells (AreInterfaces files) (IsFirstRefused files) r
+    by (Ok tables) are = are
+    by (Err refused) (k, place, first) =
+        let none_before : k ≡ refused.file = omega (arith, place) in
+        subst (λ (k : ℕ). IsFirstRefused files (record { file = k; reason = refused.reason }))
+        none_before first
 
 -- what is read are the tables of the files
 pub read_interfaces_are : (files : List (List ℕ)) (tables : List Table)
     → interfaces_of files ≡ Ok tables
     → AreInterfaces files tables
-read_interfaces_are files tables e = elim (have_answer files) [
-  | inl are ↦ subst (AreInterfaces files)
-      (one_value are.0 tables (interfaces_of files) (interfaces_read files are.0 are.1) e) are.1
-  | inr first ↦ not_both tables first.0 (interfaces_of files) (first_read files first.0 first.1) e
-]
+read_interfaces_are files tables e = files_told files (Ok tables) e
 
--- what is read is the first that is refused
-pub read_first_is : (files : List (List ℕ)) (refused : Refused)
-    → interfaces_of files ≡ Err refused
-    → IsFirstRefused files refused
-read_first_is files refused e = elim (have_answer files) [
-  | inl are ↦ not_both are.0 refused (interfaces_of files) e (interfaces_read files are.0 are.1)
-  | inr first ↦ subst (IsFirstRefused files)
-      (one_fault first.0 refused (interfaces_of files) (first_read files first.0 first.1) e) first.1
-]
-
--- what holds of what is given holds of what is answered
-pub as_ok : {A B E F : Type 0} (P : B → Type 0) (view : A → B) (told : F → E)
+-- what is told of what is given holds of what is answered
+pub as_told : {A B E F : Type 0} (P : B → Type 0) (Q : E → Type 0) (view : A → B) (told : F → E)
     (r : Result A (OrMemory F)) (given : Result B E)
-    → ((y : B) → given ≡ Ok y → P y)
+    → ((s : Result B E) → given ≡ s → Tells P Q s)
     → GivesAs view told r given
-    → IfOk r (λ x. P (view x))
-as_ok P view told (Ok x) given holds gives = holds (view x) gives
-as_ok P view told (Err refusal) given holds gives = tt
-
--- and of what a fault tells
-pub as_err : {A B E F : Type 0} (P : E → Type 0) (view : A → B) (told : F → E)
-    (r : Result A (OrMemory F)) (given : Result B E)
-    → ((e : E) → given ≡ Err e → P e)
-    → GivesAs view told r given
-    → IfErr r (UnlessMemory (λ fault. P (told fault)))
-as_err P view told (Ok x) given holds gives = tt
-as_err P view told (Err (Fault fault)) given holds gives = holds (told fault) gives
-as_err P view told (Err Memory) given holds gives = tt
-
--- what is given is given by whatever is the same
-pub as_same : {A B E F : Type 0} (view : A → B) (told : F → E)
-    (r : Result A (OrMemory F)) (given other : Result B E)
-    → given ≡ other
-    → GivesAs view told r given
-    → GivesAs view told r other
-as_same view told r given other same gives = subst (GivesAs view told r) same gives
+    → IfOk r (λ x. P (view x)) × IfErr r (UnlessMemory (λ fault. Q (told fault)))
+as_told P Q view told (Ok x) given tells gives = (tells (Ok (view x)) gives, tt)
+as_told P Q view told (Err (Fault fault)) given tells gives =
+    (tt, tells (Err (told fault)) gives)
+as_told P Q view told (Err Memory) given tells gives = (tt, tt)

@@ -15,6 +15,7 @@ use Rattle.mrc_interface.specs.declared.form.FormKind.{FormKind}
 use Rattle.mrc_interface.specs.declared.form.FormKind.TheVariants.{Request, Reply}
 use Rattle.mrc_interface.specs.Forms.{Slot, slot_by, slots_from, body, form_of}
 use Rattle.mrc_interface.specs.Laws.{HasSlot}
+use Rattle.mrc_interface.proofs.Finding.{by_function}
 
 -- a slot of this number and disposition is among these
 abbrev HasSlotIn : List Slot → ℕ → Disp → Type 0
@@ -87,17 +88,9 @@ IsPortArgument arguments i d = (argument : Shape) × (slice_get arguments i ≡ 
 item_of_argument : (items : List Item) (j : ℕ) (d : Disp)
     → IsPortArgument (map (λ item. item.shape) items) j d → IsPortAt items j d
 item_of_argument items j d p =
-    let by : (o : Option Item) → slice_get items j ≡ o
-    → option_map (λ (item : Item). item.shape) o ≡ Some p.0 → IsPortAt items j d = elim [
-      | None ↦ λ at e. absurd (not_None p.0 (sym e))
-      | Some item ↦ λ at e. (
-        item,
-        at,
-        ap (λ (k : Shape). disp_of_number k.name) (same_Some _ _ e)
-            ∙ p.2,
-      )
-    ] in
-    by (slice_get items j) refl (sym (slice_get-map (λ (item : Item). item.shape) items j) ∙ p.1)
+    let (item, at, is) = by_function (λ (item : Item). item.shape) (slice_get items j) p.0
+    (sym (slice_get-map (λ (item : Item). item.shape) items j) ∙ p.1) in
+    (item, at, ap (λ (k : Shape). disp_of_number k.name) is ∙ p.2)
 
 argument_of_item : (items : List Item) (j : ℕ) (d : Disp) → IsPortAt items j d
     → IsPortArgument (map (λ item. item.shape) items) j d

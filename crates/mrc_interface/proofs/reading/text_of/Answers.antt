@@ -1,8 +1,7 @@
 -- What the library's test for UTF-8 says.
 use Rattle.std.proofs.Common.{ap, sym, refl, Ok}
-use Rattle.std.specs.Str.{is_utf8}
-use Rattle.std.proofs.lemmas.Bool.{false_from_ne_true}
-use Rattle.std.proofs.lemmas.Str.{IsUtf8-from_is_utf8, is_utf8-from_IsUtf8}
+use Rattle.std.proofs.lemmas.Str.{is_utf8-from_IsUtf8}
+use Rattle.mrc_interface.proofs.ReadingLaws.{no_text}
 use Rattle.mrc_interface.proofs.reading.text_of.Goals as goal
 
 pub returns-in-Ok : goal.returns-in-Ok
@@ -11,6 +10,4 @@ returns-in-Ok c =
     (ap (λ text. Ok text) (sym c.in-Ok.ensures.cases.0))
 
 pub returns-in-Err : goal.returns-in-Err
-returns-in-Err c =
-    rw (false_from_ne_true (is_utf8 c.args.bytes.now)
-    (λ e. c.in-Err.ensures.cases.0 (IsUtf8-from_is_utf8 c.args.bytes.now e))) refl
+returns-in-Err c = rw (no_text c.args.bytes.now c.in-Err.ensures.cases.0) refl
