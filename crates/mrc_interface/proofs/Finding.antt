@@ -89,8 +89,8 @@ statement_of_reply n (SimpleRoutine items) form (here) is = absurd is
 statement_of_reply n (SimpleRoutine items) form (later h) is = elim h [ ]
 statement_of_reply n Skip form h is = elim h [ ]
 
--- How the forms of a kind are picked of rows: that of a statement's row is the one of this kind that
--- the statement has, with the id that it takes.
+-- How the forms of a kind are picked of rows: that of a statement's row is the one of this kind
+-- that the statement has, with the id that it takes.
 pub record Picks (pick : Row → Option Form) (Of : FormKind → Type 0) (id_of : ℕ → ℕ) : Type 0 where
   pub picked : (n : ℕ) (s : Statement) (form : Form) → pick (row_of n s) ≡ Some form
       → IsIn form (forms_at n s) × Of form.kind × (form.id ≡ id_of n)

@@ -1,5 +1,5 @@
 -- Slots, and the arguments that they are.
-use Rattle.std.proofs.Common.{◌≡◌, ℕ, zero, suc, ◌+◌, inl, inr, List, [], ◌∷◌, ◌++◌, map, Option}
+use Rattle.std.proofs.Common.{◌≡◌, ℕ, zero, suc, ◌+◌, List, [], ◌∷◌, ◌++◌, map, Option}
 use Rattle.std.proofs.Common.{Some, None, refl, sym, ap, ◌∙◌, subst, arith}
 use Rattle.std.specs.Prelude.{slice_get}
 use Rattle.std.specs.Option.{option_map}
@@ -8,7 +8,6 @@ use Rattle.mrc_base.specs.declared.Disp.{Disp}
 use Rattle.mrc_model.specs.IsIn.{IsIn, here, later}
 use Rattle.mrc_base.specs.Disposition.{disp_of_number}
 use Rattle.mrc_model.proofs.Maps.{same_Some, not_None}
-use Rattle.mrc_model.proofs.FirstHeld.{in_cons}
 use Rattle.mrc_mig_parse.specs.declared.subsystem.Shape.{Shape}
 use Rattle.mrc_mig_parse.specs.Arguments.{Item}
 use Rattle.mrc_interface.specs.declared.form.FormKind.{FormKind}
@@ -31,32 +30,18 @@ pub slot_is_port : (n : ℕ) (items : List Item) (i : ℕ) (d : Disp)
     → HasSlotIn (slots_from n items) i d → (j : ℕ) × (n + j ≡ i) × IsPortAt items j d
 slot_is_port n [] i d h = elim h.1 [ ]
 slot_is_port n (item ∷ items) i d h =
-    let later_on : HasSlotIn (slots_from (n + 1) items) i d → (j : ℕ) × (n + j ≡ i)
-    × IsPortAt (item ∷ items) j d =
-    λ more. let r = slot_is_port (n + 1) items i d more in
-    (suc r.0, (let e = r.1 in omega arith), r.2) in
-    let by : (o : Option Disp) → disp_of_number item.shape.name ≡ o
-    → HasSlotIn (slot_by n item.type_name o ++ slots_from (n + 1) items) i d
-    → (j : ℕ) × (n + j ≡ i) × IsPortAt (item ∷ items) j d = elim [
-      | None ↦ λ is more. later_on more
-      | Some x ↦ λ is more. elim
-          (in_cons more.0 (record { argument = n; disposition = x; type_name = item.type_name })
-          (slots_from (n + 1) items) more.1) [
-            | inl same ↦ (
-              0,
-              (let e : n ≡ i = sym (ap (λ (s : Slot). s.argument) same)
-                  ∙ more.2 in omega arith),
-              (
-                item,
-                refl,
-                is
-                    ∙ ap Some (sym (ap (λ (s : Slot). s.disposition) same) ∙ more.3),
-              ),
-            )
-            | inr there ↦ later_on (more.0, there, more.2, more.3)
-          ]
-    ] in
-    by (disp_of_number item.shape.name) refl h
+    by (disp_of_number item.shape.name) refl h (λ more.
+    let (j, e, is) = slot_is_port (n + 1) items i d more in (suc j, omega (arith, e), is))
+  where
+    by : (o : Option Disp) → disp_of_number item.shape.name ≡ o
+        → HasSlotIn (slot_by n item.type_name o ++ slots_from (n + 1) items) i d
+        → (HasSlotIn (slots_from (n + 1) items) i d
+        → (j : ℕ) × (n + j ≡ i) × IsPortAt (item ∷ items) j d)
+        → (j : ℕ) × (n + j ≡ i) × IsPortAt (item ∷ items) j d
+    by None is more later_on = later_on more
+    by (Some x) is (slot, here, e, of) later_on =
+        (0, omega (arith, e), (item, refl, is ∙ ap Some of))
+    by (Some x) is (slot, later there, e, of) later_on = later_on (slot, there, e, of)
 
 -- each item of a disposition is a slot
 pub port_is_slot : (n : ℕ) (items : List Item) (j : ℕ) (d : Disp) → IsPortAt items j d

@@ -70,17 +70,6 @@ number_read : (n : ℕ) (token : Lexeme) (rest : List Lexeme) → Is (Number n) 
 unfolding number_at first_of tail_of
 number_read n token rest is = rw is.seen refl
 
--- a heading's tokens, one phrase after the other
-joined_heading : (tokens a b c d rest sides : List Lexeme) (word name number semicolon : Lexeme)
-    → tokens ≡ word ∷ a → a ≡ sides ++ b → b ≡ name ∷ c → c ≡ number ∷ d → d ≡ semicolon ∷ rest
-    → tokens ≡ (word ∷ (sides ++ name ∷ number ∷ semicolon ∷ [])) ++ rest
-joined_heading tokens a b c d rest sides word name number semicolon with_word with_sides with_name
-    with_number with_semicolon =
-    let regroup : (sides ++ name ∷ number ∷ semicolon ∷ []) ++ rest
-    ≡ sides ++ name ∷ number ∷ semicolon ∷ rest =
-    append_assoc sides (name ∷ number ∷ semicolon ∷ []) rest in
-    cc
-
 heading_is_by : (tokens : List Lexeme) (found : (List ℕ × ℕ) × List Lexeme) (symbol : Symbol)
     → first_of tokens ≡ symbol → heading_by symbol tokens ≡ Some found
     → Leads (λ w. IsHeading w found.0.0 found.0.1) tokens found.1
@@ -95,12 +84,12 @@ heading_is_by tokens found (Word words.Subsystem) is e =
     let named = name_is behind name.0 name.1 in
     let number = number_is name.0.1 base.0 base.1 in
     let semicolon = sign_is Semicolon base.0.1 end.0 end.1 in
+    let regroup = append_assoc sides.0 (named.0 ∷ number.0 ∷ semicolon.0 ∷ []) end.0 in
     let written : List Lexeme =
     word.token ∷ (sides.0 ++ named.0 ∷ number.0 ∷ semicolon.0 ∷ []) in
     subst (λ f. Leads (λ w. IsHeading w f.0.0 f.0.1) tokens f.1) (same_Some _ _ end.2) (
       written,
-      joined_heading tokens (tail_of tokens) behind name.0.1 base.0.1 end.0 sides.0 word.token
-          named.0 number.0 semicolon.0 word.splits sides.1 named.1 number.1 semicolon.1,
+      cc (regroup, word.splits, sides.1, named.1, number.1, semicolon.1),
       subst (λ n. IsHeading written n base.0.0) named.3
           (heading word.is sides.2 named.2 number.2 semicolon.2),
     )

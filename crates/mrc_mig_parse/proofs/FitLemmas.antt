@@ -43,10 +43,7 @@ abbrev number_fits : ℕ → Bool
 number_fits n = nat_lt 0 n && nat_le n limit_of_items
 
 some_there : (n : ℕ) → (n == 0) ≡ false → nat_lt 0 n ≡ true
-some_there n some = lt-ltb 0 n (ne_zero n (eqb-false n 0 some))
-  where
-    ne_zero : (n : ℕ) → (n ≡ 0 → ⊥) → 0 < n
-    ne_zero n other = omega (arith, other)
+some_there n some = lt-ltb 0 n (let other = eqb-false n 0 some in omega (arith, other))
 
 times_fits : (around : Around) (n m : ℕ) → times around n ≡ Some m → number_fits m ≡ true
 unfolding times
@@ -102,31 +99,29 @@ plain_fits bytes name size e = entry_passes basic_fits basics bytes (Plain name 
 abbrev types_fit : List (List ℕ × Shape) → Bool
 types_fit types = list_all (λ (e : List ℕ × Shape). shape_fits e.1) types
 
-whole_fits : (name size number : ℕ) → size_fits name size ≡ true → number_fits number ≡ true
-    → (size_fits name size && number_fits number) ≡ true
-whole_fits name size number fits few =
-    and_from (size_fits name size) (number_fits number) fits few
-
 nested_fits : (around : Around) (shape whole : Shape) → shape_fits shape ≡ true
     → nested around shape ≡ Some whole → shape_fits whole ≡ true
 unfolding nested
 nested_fits around shape whole fits e =
     let (apart, more) = behind_guard (not (around.is_inside && shape.is_bound)) _ whole e in
     let (number, counted, last) = in_two (times around shape.number) _ whole more in
-    let (own_size, few) = and_parts (size_fits shape.name shape.size) (number_fits shape.number) fits in
+    let (own_size, few) =
+    and_parts (size_fits shape.name shape.size) (number_fits shape.number) fits in
     subst (λ s. shape_fits s ≡ true) (same_Some _ whole last)
-    (whole_fits shape.name shape.size number own_size (times_fits around shape.number number counted))
+    (and_from (size_fits shape.name shape.size) (number_fits number) own_size
+    (times_fits around shape.number number counted))
 
 inner_fits : {types : List (List ℕ × Shape)} {wanted : Use} {around : Around}
     {tokens : List Lexeme} {shape : Shape} → IsInnerType types wanted around tokens shape
     → types_fit types ≡ true → number_fits around.number ≡ true → shape_fits shape ≡ true
 inner_fits {around = around} (basic {word = word} {name} {size} is found fits) all few =
-    whole_fits name size around.number (plain_fits word.bytes name size found) few
+    and_from (size_fits name size) (number_fits around.number)
+    (plain_fits word.bytes name size found) few
 inner_fits {around = around}
     (sized {name = name} {size = size} opens word found item comma expression fits closes) all few =
-    whole_fits name size around.number fits few
+    and_from (size_fits name size) (number_fits around.number) fits few
 inner_fits {around = around} (string {inner = inner} word fits dimension) all few =
-    whole_fits 12 8 inner.number refl (variable_fits dimension)
+    and_from (size_fits 12 8) (number_fits inner.number) refl (variable_fits dimension)
 inner_fits {types} {around = around}
     (declared {name = name} {shape} {whole} is other found fits nests) all few =
     nested_fits around shape whole (entry_passes shape_fits types name.bytes shape all found) nests

@@ -1,6 +1,6 @@
 -- Statements that are read are spelled.
 use Rattle.std.proofs.Common.{◌≡◌, ℕ, ◌<◌, Bool, true, false, List, [], ◌∷◌, ◌++◌, length, Option}
-use Rattle.std.proofs.Common.{Some, refl, ap, ◌∙◌, subst, append_assoc}
+use Rattle.std.proofs.Common.{Some, refl, sym, ap, ◌∙◌, subst, append_assoc}
 use Rattle.std.proofs.lemmas.Option.{same_Some}
 use Rattle.mrc_base.specs.Limits.{limit_of_ids}
 use Rattle.mrc_mig_lex.specs.Tokens.{Lexeme}
@@ -27,35 +27,13 @@ use Rattle.mrc_mig_parse.proofs.PhraseLemmas.{front, sign_is, name_is}
 use Rattle.mrc_mig_parse.proofs.ManyPhrases.{Leads}
 use Rattle.mrc_mig_parse.proofs.OptionPhrases.{options_is}
 use Rattle.mrc_mig_parse.proofs.TypePhrases.{type_is}
+use Rattle.mrc_mig_parse.proofs.StatementReadings.{regroup_declaration}
 use Rattle.mrc_mig_parse.proofs.ArgumentListPhrases.{arguments_are}
 use Rattle.mrc_mig_parse.proofs.LinePhrases.{directive_is}
 
 -- these tokens begin with a statement
 abbrev StatementIs : State → List Lexeme → State × List Lexeme → Type 0
 StatementIs s tokens found = Leads (λ w. IsStatement s w found.0) tokens found.1
-
--- a declaration's tokens, one phrase after the other
-joined_declaration : (tokens a b c d e rest type options : List Lexeme)
-    (word name equals semicolon : Lexeme) → tokens ≡ word ∷ a → a ≡ name ∷ b → b ≡ equals ∷ c
-    → c ≡ type ++ d → d ≡ options ++ e → e ≡ semicolon ∷ rest
-    → tokens ≡ (word ∷ name ∷ equals ∷ (type ++ options ++ semicolon ∷ [])) ++ rest
-joined_declaration tokens a b c d e rest type options word name equals semicolon with_word with_name
-    with_equals with_type with_options with_semicolon =
-    let regroup : (type ++ options ++ semicolon ∷ []) ++ rest ≡ (type ++ options)
-    ++ semicolon ∷ rest = append_assoc (type ++ options) (semicolon ∷ []) rest in
-    let regroup_type = append_assoc type options (semicolon ∷ rest) in
-    cc
-
--- a routine's tokens likewise
-joined_routine : (tokens a b c d rest arguments : List Lexeme)
-    (name opens closes semicolon : Lexeme) → tokens ≡ name ∷ a → a ≡ opens ∷ b → b ≡ arguments ++ c
-    → c ≡ closes ∷ d → d ≡ semicolon ∷ rest
-    → tokens ≡ (name ∷ opens ∷ (arguments ++ closes ∷ semicolon ∷ [])) ++ rest
-joined_routine tokens a b c d rest arguments name opens closes semicolon with_name with_opens
-    with_arguments with_closes with_semicolon =
-    let regroup : (arguments ++ closes ∷ semicolon ∷ []) ++ rest ≡ arguments
-    ++ closes ∷ semicolon ∷ rest = append_assoc arguments (closes ∷ semicolon ∷ []) rest in
-    cc
 
 declaration_is : (s : State) (tokens : List Lexeme) (found : State × List Lexeme)
     → first_of tokens ≡ Word words.Type → declaration_at s (tail_of tokens) ≡ Some found
@@ -76,9 +54,10 @@ declaration_is s tokens found is e =
     let semicolon = sign_is Semicolon after.0 end.0 end.1 in
     let written : List Lexeme =
     word.token ∷ named.0 ∷ equals.0 ∷ (type.0 ++ options.0 ++ semicolon.0 ∷ []) in
-    let joined : tokens ≡ written ++ end.0 = joined_declaration tokens (tail_of tokens) name.0.1
-    before.0 shape.0.1 after.0 end.0 type.0 options.0 word.token named.0 equals.0 semicolon.0
-    word.splits named.1 equals.1 type.1 options.1 semicolon.1 in
+    let regroup = regroup_declaration type.0 options.0 semicolon.0 end.0 in
+    let joined : tokens ≡ written ++ end.0 = word.splits ∙ ap (λ t. word.token ∷ t) (named.1
+    ∙ ap (λ t. named.0 ∷ t) (equals.1 ∙ ap (λ t. equals.0 ∷ t) (type.1
+    ∙ ap (λ t. type.0 ++ t) (options.1 ∙ ap (λ t. options.0 ++ t) semicolon.1) ∙ sym regroup))) in
     let fresh = ap (λ b. is_declared b s.types) named.3 ∙ new.0 in
     subst (λ f. StatementIs s tokens f) (same_Some _ _ end.2) (
       written,
@@ -108,9 +87,10 @@ routine_is is_simple s tokens found e =
     let closes = sign_is CloseParenthesis all.0.1 closed.0 closed.1 in
     let semicolon = sign_is Semicolon closed.0 end.0 end.1 in
     let written : List Lexeme = named.0 ∷ opens.0 ∷ (arguments.0 ++ closes.0 ∷ semicolon.0 ∷ []) in
-    let joined : tokens ≡ written ++ end.0 = joined_routine tokens name.0.1 inside.0 all.0.1
-    closed.0 end.0 arguments.0 named.0 opens.0 closes.0 semicolon.0 named.1 opens.1 arguments.1
-    closes.1 semicolon.1 in
+    let regroup = append_assoc arguments.0 (closes.0 ∷ semicolon.0 ∷ []) end.0 in
+    let joined : tokens ≡ written ++ end.0 = named.1 ∙ ap (λ t. named.0 ∷ t) (opens.1
+    ∙ ap (λ t. opens.0 ∷ t) (arguments.1 ∙ ap (λ t. arguments.0 ++ t) (closes.1
+    ∙ ap (λ t. closes.0 ∷ t) semicolon.1) ∙ sym regroup)) in
     let new_name = ap (λ b. is_routine b s.routines) named.3 ∙ new.0 in
     subst (λ f. Leads (λ w. IsRoutine is_simple s w f.0.0 f.0.1) tokens f.1) (same_Some _ _ end.2) (
       written,
@@ -119,28 +99,34 @@ routine_is is_simple s tokens found e =
           (routine_named named.2 new_name opens.2 arguments.2 closes.2 items.1 semicolon.2),
     )
 
+-- a statement that begins with this word, and what stands behind it
+behind_word : {P : List Lexeme → Type 0} (word : Reserved) (s t : State) (tokens rest : List Lexeme)
+    → first_of tokens ≡ Word word → Leads P (tail_of tokens) rest
+    → ((first : Lexeme) (written : List Lexeme) → Is (Word word) first → P written
+    → IsStatement s (first ∷ written) t) → StatementIs s tokens (t, rest)
+behind_word word s t tokens rest is others made =
+    let first = front (Word word) tokens refl is in (
+      first.token ∷ others.0,
+      first.splits ∙ ap (λ t. first.token ∷ t) others.1,
+      made first.token others.0 first.is others.2,
+    )
+
 -- a statement that takes an id
 row_is : (word : Reserved) (s : State) (tokens : List Lexeme) (found : State × List Lexeme)
     → length s.rows < limit_of_ids → first_of tokens ≡ Word word
     → row_by word s (tail_of tokens) ≡ Some found → StatementIs s tokens found
 row_is words.Routine s tokens found few is e =
     let (read, routined, last) = in_two _ _ found e in
-    let word = front (Word words.Routine) tokens refl is in
-    let r = routine_is false s (tail_of tokens) read routined in
-    subst (λ f. StatementIs s tokens f) (same_Some _ _ last) (
-      word.token ∷ r.0,
-      word.splits ∙ ap (λ t. word.token ∷ t) r.1,
-      routine word.is few r.2,
-    )
+    subst (λ f. StatementIs s tokens f) (same_Some _ _ last)
+    (behind_word words.Routine s _ tokens read.1 is
+    (routine_is false s (tail_of tokens) read routined)
+    (λ first written begins r. routine begins few r))
 row_is words.SimpleRoutine s tokens found few is e =
     let (read, routined, last) = in_two _ _ found e in
-    let word = front (Word words.SimpleRoutine) tokens refl is in
-    let r = routine_is true s (tail_of tokens) read routined in
-    subst (λ f. StatementIs s tokens f) (same_Some _ _ last) (
-      word.token ∷ r.0,
-      word.splits ∙ ap (λ t. word.token ∷ t) r.1,
-      simple_routine word.is few r.2,
-    )
+    subst (λ f. StatementIs s tokens f) (same_Some _ _ last)
+    (behind_word words.SimpleRoutine s _ tokens read.1 is
+    (routine_is true s (tail_of tokens) read routined)
+    (λ first written begins r. simple_routine begins few r))
 row_is words.Skip s tokens found few is e =
     let read = in_two (after_sign Semicolon (tail_of tokens)) _ found e in
     let word = front (Word words.Skip) tokens refl is in
@@ -198,10 +184,9 @@ unchanged_is : (word : Reserved) (s : State) (tokens : List Lexeme) (found : Sta
     → unchanged s read ≡ Some found → StatementIs s tokens found
 unchanged_is word s tokens found read is noted e =
     let (rest, ended, last) = in_two read _ found e in
-    let first = front (Word word) tokens refl is in
-    let n = noted rest ended in
     subst (λ f. StatementIs s tokens f) (same_Some _ _ last)
-    (first.token ∷ n.0, first.splits ∙ ap (λ t. first.token ∷ t) n.1, note first.is n.2)
+    (behind_word word s s tokens rest is (noted rest ended)
+    (λ first written begins n. note begins n))
 
 worded_is : (word : Reserved) (s : State) (tokens : List Lexeme) (found : State × List Lexeme)
     → first_of tokens ≡ Word word → worded_by word s tokens ≡ Some found

@@ -77,7 +77,7 @@ unfolding row_at tail_of
 counted_read word s first others read few e = let less = lt-ltb (length s.rows) limit_of_ids few in
     rw less e
 
-regroup_declaration : (type options : List Lexeme) (semicolon : Lexeme) (rest : List Lexeme)
+pub regroup_declaration : (type options : List Lexeme) (semicolon : Lexeme) (rest : List Lexeme)
     → (type ++ options ++ semicolon ∷ []) ++ rest ≡ type ++ (options ++ semicolon ∷ rest)
 regroup_declaration type options semicolon rest = append_assoc (type ++ options) (semicolon ∷ [])
     rest ∙ append_assoc type options (semicolon ∷ rest)
