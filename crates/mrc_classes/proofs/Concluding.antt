@@ -1,10 +1,10 @@
--- The parts of what follows from a fact are the instances that have it as a premise.
-use Rattle.std.proofs.Common.{◌≡◌, ℕ, ◌+◌, ◌-◌, ◌<◌, Bool, true, List, [], ◌∷◌, refl, ap, ◌∙◌}
-use Rattle.std.proofs.Common.{sym, subst, IsTrue, ◌⊎◌, inl, inr, arith, ◌&&◌, nat_le}
+-- What follows from new facts with those of a set stands at the places, and nothing else does.
+use Rattle.std.proofs.Common.{◌≡◌, ℕ, ◌+◌, ◌<◌, Bool, true, List, [], ◌∷◌, refl}
+use Rattle.std.proofs.Common.{sym, subst, IsTrue, ◌⊎◌, inl, inr, arith, ◌&&◌}
 use Rattle.std.proofs.Common.{nat_lt, length, Some}
 use Rattle.std.specs.List.{AllByRecursion}
-use Rattle.std.proofs.lemmas.Bool.{and_parts, and_from, or_cases, or_left, or_right, le-leb}
-use Rattle.std.proofs.lemmas.Bool.{leb-true, ltb-true, lt-ltb}
+use Rattle.std.proofs.lemmas.Bool.{and_parts, and_from, or_cases, or_left, or_right}
+use Rattle.std.proofs.lemmas.Bool.{ltb-true, lt-ltb}
 use Rattle.mrc_base.specs.declared.PortRight.{PortRight}
 use Rattle.mrc_base.specs.declared.PortRight.TheVariants.{Send, Receive, SendOnce}
 use Rattle.mrc_base.specs.declared.Disp.{Disp}
@@ -16,23 +16,16 @@ use Rattle.mrc_model.specs.Wiring.{Wiring, Shape, Form, form_shapes, forms, admi
 use Rattle.mrc_model.specs.Wiring.{kernel_class, accepts_routine, accepts_destroyed}
 use Rattle.mrc_model.specs.Rules.{Has, InRange, CanSendBy, by_send, by_once, Rule, k1, k2, k3_send}
 use Rattle.mrc_model.specs.Rules.{k3_once, k4, k5, k6, k7_up, k7_down, k8, k9, k10}
-use Rattle.mrc_model.specs.Conclusions.{same_right, can_send}
-use Rattle.mrc_model.proofs.Concluding.{same_right_is}
+use Rattle.mrc_model.specs.Conclusions.{can_send}
 use Rattle.mrc_wiring.specs.Slots.{takes}
 use Rattle.mrc_wiring.proofs.Takers.{IsTaker, taken, taker}
 use Rattle.mrc_slots.specs.Passing.{passes, is_passed}
 use Rattle.mrc_slots.proofs.Passing.{by_slot, by_reply, passed_by}
-use Rattle.mrc_facts.specs.Order.{first_number, second_number}
 use Rattle.mrc_classes.specs.Growing.{Only, If, Below}
 use Rattle.mrc_classes.specs.Following.{IsConsequence}
-use Rattle.mrc_classes.specs.Parts.{EachRight, SentTo, SentBy, BySend, BySent, ByRequests}
-use Rattle.mrc_classes.specs.Parts.{SharedAt, are_linked, is_link, ByLink}
-use Rattle.mrc_classes.specs.Parts.{ReceivedAt, ByReceive, ByHold, ByFact, OfFact}
-use Rattle.mrc_classes.specs.Parts.{CarriedToItself, ByItself}
-
--- all that follows from a fact with those of a set
-abbrev pub EachPart : Wiring → (Fact → Bool) → Fact → Fact → Type 0
-EachPart W S f g = (ByFact W S f g ⊎ ByItself W f g) ⊎ OfFact W S f g
+use Rattle.mrc_classes.specs.Parts.{EachRight, SentTo, can_send_to, Sent, RequestAt, ReceivedAt}
+use Rattle.mrc_classes.specs.Parts.{NotifiedAt, Received, SharedAt, are_linked, Shared, Weaker}
+use Rattle.mrc_classes.specs.Parts.{ReturnedAt, ByHold, AtClass, OfTask, AtTask, AtPlace}
 
 pub sends : {r : PortRight} → CanSendBy r → can_send r ≡ true
 sends by_send = refl
@@ -57,36 +50,15 @@ which P g (inl p) = (Send, p)
 which P g (inr (inl p)) = (Receive, p)
 which P g (inr (inr p)) = (SendOnce, p)
 
--- the right of a hold
-abbrev held_right : Fact → PortRight
-held_right (Hold t c r) = r
-held_right (Carry d c r) = r
-held_right (Backup c d) = Send
-
 -- the class of a task's kernel port is one of the classes
 pub kernel_there : (W : Wiring) (u : ℕ) → u < W.tasks → kernel_class W u < classes W
 kernel_there W u low =
     let h : W.ports + u < W.ports + W.tasks + length W.births = omega (arith, low) in h
 
--- it is the class of a link
-link_there : (W : Wiring) (u : ℕ) → u < W.tasks → is_link W (kernel_class W u) Send ≡ true
-link_there W u below =
-    and_from (nat_le W.ports (W.ports + u)) (nat_lt (W.ports + u) (W.ports + W.tasks))
-    (le-leb W.ports (W.ports + u) (omega arith))
-    (lt-ltb (W.ports + u) (W.ports + W.tasks) (omega arith))
-
-kernel_task : (W : Wiring) (c : ℕ) (r : PortRight)
-    → is_link W c r ≡ true
-    → (r ≡ Send) × (c ≡ kernel_class W (c - W.ports)) × (c - W.ports < W.tasks)
-kernel_task W c r h =
-    let a = and_parts (same_right r Send) (nat_le W.ports c && nat_lt c (W.ports + W.tasks)) h in
-    let b = and_parts (nat_le W.ports c) (nat_lt c (W.ports + W.tasks)) a.1 in
-    let low = leb-true W.ports c b.0 in
-    let high = ltb-true c (W.ports + W.tasks) b.1 in
-    let is : c ≡ W.ports + (c - W.ports) = omega arith in
-    (same_right_is r Send a.0, is, omega arith)
-
--- a fact that is both premises
+-- so is that of the task's number
+task_there : (W : Wiring) (t : ℕ) → t < W.tasks → t < classes W
+task_there W t low =
+    let h : t < W.ports + W.tasks + length W.births = omega (arith, low) in h
 
 pub passed_over : (W : Wiring) (d c : ℕ) (q give : PortRight)
     → d < classes W
@@ -98,87 +70,35 @@ passed_over W d c q give low high pass =
     (lt-ltb d (classes W) low)
     (and_from (nat_lt c (classes W)) (passes W d c q give) (lt-ltb c (classes W) high) pass)
 
-itself : (W : Wiring) (c : ℕ) (r give : PortRight)
-    → c < classes W
+-- who can send
+can_send_by : (A : Fact → Bool) (t d : ℕ) (r : PortRight)
     → can_send r ≡ true
-    → passes W c c r give ≡ true
-    → EachRight (CarriedToItself W c r) (Carry c c give)
-itself W c r give low can pass =
-    each (CarriedToItself W c r) give (Carry c c give) (record {
-      there = and_from (can_send r) (is_passed W c c r give) can
-          (passed_over W c c r give low low pass);
-      is = refl;
-    })
+    → IsTrue (A (Hold t d r))
+    → IsTrue (can_send_to A t d)
+can_send_by A t d Send can held = or_left (A (Hold t d Send)) (A (Hold t d SendOnce)) held
+can_send_by A t d Receive can held = absurd cc
+can_send_by A t d SendOnce can held = or_right (A (Hold t d Send)) (A (Hold t d SendOnce)) held
 
--- by the one that can send
-sent_to_itself : (W : Wiring) (t d c : ℕ) (r q give : PortRight)
-    → d < classes W
-    → can_send r ≡ true
-    → passes W d c q give ≡ true
-    → Hold t c q ≡ Hold t d r
-    → EachRight (CarriedToItself W d r) (Carry d c give)
-sent_to_itself W t d c r q give low can pass e =
-    let class : c ≡ d = ap second_number e in
-    let right : q ≡ r = ap held_right e in
-    subst (λ k. EachRight (CarriedToItself W d r) (Carry d k give)) (sym class)
-    (itself W d r give low can (subst (λ k. passes W d k r give ≡ true) class
-    (subst (λ y. passes W d c y give ≡ true) right pass)))
+sender_right : (A : Fact → Bool) (t d : ℕ)
+    → IsTrue (can_send_to A t d)
+    → (r : PortRight) × (can_send r ≡ true) × IsTrue (A (Hold t d r))
+sender_right A t d can = elim (or_cases (A (Hold t d Send)) (A (Hold t d SendOnce)) can) [
+  | inl held ↦ (Send, refl, held)
+  | inr held ↦ (SendOnce, refl, held)
+]
 
--- by the one that is sent
-sent_by_itself : (W : Wiring) (t d c : ℕ) (r q give : PortRight)
-    → c < classes W
-    → can_send r ≡ true
-    → passes W d c q give ≡ true
-    → Hold t d r ≡ Hold t c q
-    → EachRight (CarriedToItself W c q) (Carry d c give)
-sent_by_itself W t d c r q give low can pass e =
-    let class : d ≡ c = ap second_number e in
-    let right : r ≡ q = ap held_right e in
-    subst (λ k. EachRight (CarriedToItself W c q) (Carry k c give)) (sym class)
-    (itself W c q give low (subst (λ y. can_send y ≡ true) right can)
-    (subst (λ k. passes W k c q give ≡ true) class pass))
-
--- by the link, with what is shared
-link_by_itself : (W : Wiring) (u v c : ℕ) (r : PortRight)
-    → u < W.tasks
-    → v ≡ u
-    → c ≡ kernel_class W u
-    → r ≡ Send
-    → Only (is_link W (kernel_class W u) Send)
-    (Hold (kernel_class W u - W.ports) (kernel_class W u) Send) (Hold v c r)
-link_by_itself W u v c r below task class right = record {
-  there = link_there W u below;
-  is = ap (λ n. Hold n c r) (let e : v ≡ W.ports + u - W.ports = omega arith in e)
-      ∙ (ap (λ n. Hold (kernel_class W u - W.ports) n r) class
-      ∙ ap (λ y. Hold (kernel_class W u - W.ports) (kernel_class W u) y) right);
-}
-
--- by what is shared, with the link
-shared_by_itself : (W : Wiring) (u v c : ℕ) (r : PortRight)
-    → u < W.tasks
-    → v ≡ u
-    → kernel_class W u ≡ c
-    → Send ≡ r
-    → Only (is_link W c r) (Hold (c - W.ports) c r) (Hold v c r)
-shared_by_itself W u v c r below task class right =
-    subst (λ y. Only (is_link W c y) (Hold (c - W.ports) c y) (Hold v c y)) right
-    (subst (λ n. Only (is_link W n Send) (Hold (n - W.ports) n Send) (Hold v n Send)) class
-    (link_by_itself W u v (kernel_class W u) Send below task refl refl))
-
-module _ (W : Wiring) (S : Fact → Bool) where
-  -- two holds of one task
+-- what the premises of a rule conclude, the first of A and the second of B
+module _ (W : Wiring) (A B : Fact → Bool) where
   to_class : (t d c : ℕ) (r q give : PortRight)
-      → InRange W (Hold t d r)
       → c < classes W
       → can_send r ≡ true
       → passes W d c q give ≡ true
-      → (Hold t c q ≡ Hold t d r) ⊎ IsTrue (S (Hold t c q))
-      → EachPart W S (Hold t d r) (Carry d c give)
-  to_class t d c r q give within low can pass (inl e) =
-      inl (inr (inl (sent_to_itself W t d c r q give within.1 can pass e)))
-  to_class t d c r q give within low can pass (inr held) = inl (inl (inl (record {
-    there = can;
-    at = each (SentTo W S t d) q (Carry d c give) (record {
+      → IsTrue (A (Hold t d r))
+      → IsTrue (B (Hold t c q))
+      → ByHold W A B t d (Carry d c give)
+  to_class t d c r q give low can pass sender held = inl (record {
+    there = can_send_by A t d r can sender;
+    at = each (SentTo W B t d) q (Carry d c give) (record {
       class = c;
       below = low;
       held = held;
@@ -186,215 +106,224 @@ module _ (W : Wiring) (S : Fact → Bool) where
       passed = pass;
       is = refl;
     });
-  })))
+  })
 
-  of_class : (t d c : ℕ) (r q give : PortRight)
-      → InRange W (Hold t c q)
+  asked : (t c d : ℕ)
       → d < classes W
-      → can_send r ≡ true
-      → passes W d c q give ≡ true
-      → (Hold t d r ≡ Hold t c q) ⊎ IsTrue (S (Hold t d r))
-      → EachPart W S (Hold t c q) (Carry d c give)
-  of_class t d c r q give within low can pass (inl e) =
-      inl (inr (inl (sent_by_itself W t d c r q give within.1 can pass e)))
-  of_class t d c r q give within low can pass (inr held) = inr (by r can held)
-    where
-      by : (y : PortRight)
-          → can_send y ≡ true
-          → IsTrue (S (Hold t d y))
-          → BySent W S t c q (Carry d c give)
-      by Send can held = inl (record {
-        to = d;
-        below = low;
-        held = held;
-        give = give;
-        passed = pass;
-        is = refl;
-      })
-      by Receive can held = absurd cc
-      by SendOnce can held = inr (record {
-        to = d;
-        below = low;
-        held = held;
-        give = give;
-        passed = pass;
-        is = refl;
-      })
-
-  in_receive : (t c : ℕ) (g : Fact) → ByReceive W S t c g → EachPart W S (Hold t c Receive) g
-  in_receive t c g p = inl (inl (inr (inr (inr (inl (record { there = refl; at = p }))))))
-
-  in_link : (t u : ℕ) (g : Fact)
-      → u < W.tasks
-      → ByLink W S t u g
-      → EachPart W S (Hold t (kernel_class W u) Send) g
-  in_link t u g below p =
-      let e : W.ports + u - W.ports ≡ u = omega arith in
-      inl (inl (inr (inr (inr (inr (record {
-        there = link_there W u below;
-        at = subst (λ k. ByLink W S t k g) (sym e) p;
-      }))))))
-
-  in_partner : (t u c : ℕ) (q : PortRight)
-      → u < W.tasks
-      → IsTrue (are_linked W S t u)
-      → EachPart W S (Hold t c q) (Hold u c q)
-  in_partner t u c q below there = inl (inl (inr (inr (inl (record {
-    place = u;
-    below = below;
-    at = record { there = there; is = refl };
-  })))))
-
-  received : (t d c : ℕ) (r : PortRight)
-      → c < classes W
-      → IsTrue (S (Carry d c r))
-      → Below (classes W) (ReceivedAt S t d) (Hold t c r)
-  received t d c r low there = record {
-    place = c;
-    below = low;
-    at = each (λ q. Only (S (Carry d c q)) (Hold t c q)) r (Hold t c r)
-        (record { there = there; is = refl });
-  }
-
-  shared : (t u c : ℕ) (r : PortRight)
-      → c < classes W
-      → IsTrue (S (Hold u c r))
-      → Below (classes W) (SharedAt S t u) (Hold t c r)
-  shared t u c r low there = record {
-    place = c;
-    below = low;
-    at = each (λ q. Only (S (Hold u c q)) (Hold t c q)) r (Hold t c r)
-        (record { there = there; is = refl });
-  }
-
-  takes_by : (d c : ℕ) (f : Form) (s : Shape) (x : Disp)
-      → IsIn f (forms W d)
-      → IsIn s (form_shapes f)
-      → disp_of_number s.name ≡ Some x
-      → admits W s.sort c ≡ true
-      → passes W d c (needed x) (given x) ≡ true
-  takes_by d c f s x label slot is fits = by_slot W d c x (taken W d x c (record {
-    form = f;
-    slot = s;
-    labelled = label;
-    among = slot;
-    disposition = is;
-    admitted = fits;
-  }))
-
-  -- each instance is in a part, by each of its premises
-  pub part_of : (k : ℕ) (premises : List Fact) (f g : Fact)
-      → Rule W k premises g
-      → IsIn f premises
-      → AllByRecursion (λ p. InRange W p × ((p ≡ f) ⊎ Has S p)) premises
-      → InRange W g
-      → EachPart W S f g
-  part_of k premises f g (k1 t p held is) at all within = absurd (not_in at)
-  part_of k premises f g (k2 kind is) at all within = absurd (not_in at)
-  part_of k premises f g (k3_send {t} {c}) here all within =
-      in_receive t c (Hold t c Send) (inl (record { there = refl; is = refl }))
-  part_of k premises f g (k3_send {t} {c}) (later at) all within = absurd (not_in at)
-  part_of k premises f g (k3_once {t} {c}) here all within =
-      in_receive t c (Hold t c SendOnce) (inr (inl (record { there = refl; is = refl })))
-  part_of k premises f g (k3_once {t} {c}) (later at) all within = absurd (not_in at)
-  part_of k premises f g (k4 {t} {d} {c} {r} {f = h} {s} {x} can label slot is fits) here all
-      within =
-      to_class t d c r (needed x) (given x) all.0.0 within.1 (sends can)
-      (takes_by d c h s x label slot is fits) all.1.0.1
-  part_of k premises f g (k4 {t} {d} {c} {r} {f = h} {s} {x} can label slot is fits) (later here)
-      all within =
-      of_class t d c r (needed x) (given x) all.1.0.0 within.0 (sends can)
-      (takes_by d c h s x label slot is fits) all.0.1
-  part_of k premises f g (k4 can label slot is fits) (later (later at)) all within =
-      absurd (not_in at)
-  part_of k premises f g (k5 {t} {d} {c} {r} can side) here all within =
-      to_class t d c r SendOnce SendOnce all.0.0 within.1 (sends can) (by_reply W d c side)
-      all.1.0.1
-  part_of k premises f g (k5 {t} {d} {c} {r} can side) (later here) all within =
-      of_class t d c r SendOnce SendOnce all.1.0.0 within.0 (sends can) (by_reply W d c side)
-      all.0.1
-  part_of k premises f g (k5 can side) (later (later at)) all within = absurd (not_in at)
-  part_of k premises f g (k6 {t} {d} {c} {r}) here all within = elim all.1.0.1 [
-    | inl e ↦ absurd cc
-    | inr there ↦ in_receive t d (Hold t c r) (inr (inr (inl (received t d c r within.1 there))))
-  ]
-  part_of k premises f g (k6 {t} {d} {c} {r}) (later here) all within = elim all.0.1 [
-    | inl e ↦ absurd cc
-    | inr there ↦ inl (inl (record {
-      place = t;
-      below = within.0;
-      at = record { there = there; is = refl };
-    }))
-  ]
-  part_of k premises f g (k6 {t} {d} {c} {r}) (later (later at)) all within = absurd (not_in at)
-  part_of k premises f g (k7_up {t} {u} {c} {r}) here all within = elim all.1.0.1 [
-    | inl e ↦ inl (inr (inr (link_by_itself W u t c r all.1.0.0.0 (sym (ap first_number e))
-        (ap second_number e) (ap held_right e))))
-    | inr there ↦ in_link t u (Hold t c r) all.1.0.0.0 (inl (shared t u c r within.1 there))
-  ]
-  part_of k premises f g (k7_up {t} {u} {c} {r}) (later here) all within = elim all.0.1 [
-    | inl e ↦ inl (inr (inr (shared_by_itself W u t c r all.1.0.0.0 (ap first_number e)
-        (ap second_number e) (ap held_right e))))
-    | inr there ↦ in_partner u t c r within.0
-        (or_right (S (Hold u (kernel_class W t) Send)) (S (Hold t (kernel_class W u) Send)) there)
-  ]
-  part_of k premises f g (k7_up {t} {u} {c} {r}) (later (later at)) all within = absurd (not_in at)
-  part_of k premises f g (k7_down {t} {u} {c} {r}) here all within = elim all.1.0.1 [
-    | inl e ↦ inl (inr (inr (link_by_itself W u u c r within.0 refl (ap second_number e)
-        (ap held_right e))))
-    | inr there ↦ in_link t u (Hold u c r) within.0 (inr (shared u t c r within.1 there))
-  ]
-  part_of k premises f g (k7_down {t} {u} {c} {r}) (later here) all within = elim all.0.1 [
-    | inl e ↦ inl (inr (inr (shared_by_itself W u u c r within.0 refl (ap second_number e)
-        (ap held_right e))))
-    | inr there ↦ in_partner t u c r within.0
-        (or_left (S (Hold t (kernel_class W u) Send)) (S (Hold u (kernel_class W t) Send)) there)
-  ]
-  part_of k premises f g k7_down (later (later at)) all within = absurd (not_in at)
-  part_of k premises f g (k8 {t} {c} {d} side) here all within = elim all.1.0.1 [
-    | inl e ↦ absurd (let same : SendOnce ≡ Receive = ap held_right e in cc)
-    | inr there ↦ inl (inl (inr (inl (inl (record {
-      there = refl;
-      at = record {
-        place = d;
-        below = within.1;
-        at = record {
-          there = and_from (S (Hold t d SendOnce)) (accepts_destroyed W d) there side;
-          is = refl;
-        };
-      };
-    })))))
-  ]
-  part_of k premises f g (k8 {t} {c} {d} side) (later here) all within = elim all.0.1 [
-    | inl e ↦ absurd (let same : Receive ≡ SendOnce = ap held_right e in cc)
-    | inr there ↦ inl (inl (inr (inl (inr (record {
-      there = side;
-      at = record { place = c; below = within.0; at = record { there = there; is = refl } };
-    })))))
-  ]
-  part_of k premises f g (k8 side) (later (later at)) all within = absurd (not_in at)
-  part_of k premises f g (k9 {c} {d}) here all within =
-      inl (inl (inl (record { there = refl; is = refl })))
-  part_of k premises f g (k9 {c} {d}) (later at) all within = absurd (not_in at)
-  part_of k premises f g (k10 {t} {c} {d}) here all within = elim all.1.0.1 [
-    | inl e ↦ absurd cc
-    | inr there ↦ in_receive t c (Hold t d SendOnce) (inr (inr (inr (record {
+      → accepts_destroyed W d ≡ true
+      → IsTrue (A (Hold t c Receive))
+      → IsTrue (B (Hold t d SendOnce))
+      → ByHold W A B t c (Backup c d)
+  asked t c d low side there once = inr (record {
+    there = there;
+    at = inl (record {
       place = d;
-      below = within.1;
-      at = record { there = there; is = refl };
-    }))))
-  ]
-  part_of k premises f g (k10 {t} {c} {d}) (later here) all within = elim all.0.1 [
-    | inl e ↦ absurd cc
-    | inr there ↦ inl (inl (inr (record {
-      place = t;
-      below = within.0;
-      at = record { there = there; is = refl };
-    })))
-  ]
-  part_of k premises f g (k10 {t} {c} {d}) (later (later at)) all within = absurd (not_in at)
+      below = low;
+      at = record {
+        there = and_from (B (Hold t d SendOnce)) (accepts_destroyed W d) once side;
+        is = refl;
+      };
+    });
+  })
 
--- and each part is an instance's
+  carried : (t d c : ℕ) (r : PortRight)
+      → c < classes W
+      → IsTrue (A (Hold t d Receive))
+      → IsTrue (B (Carry d c r))
+      → ByHold W A B t d (Hold t c r)
+  carried t d c r low there carry = inr (record {
+    there = there;
+    at = inr (inl (record {
+      place = c;
+      below = low;
+      at = each (λ q. Only (B (Carry d c q)) (Hold t c q)) r (Hold t c r)
+          (record { there = carry; is = refl });
+    }));
+  })
+
+  told : (t c d : ℕ)
+      → d < classes W
+      → IsTrue (A (Hold t c Receive))
+      → IsTrue (B (Backup c d))
+      → ByHold W A B t c (Hold t d SendOnce)
+  told t c d low there request = inr (record {
+    there = there;
+    at = inr (inr (record {
+      place = d;
+      below = low;
+      at = record { there = request; is = refl };
+    }));
+  })
+
+  linked : (t u c : ℕ) (r : PortRight)
+      → c < classes W
+      → IsTrue (are_linked W A t u)
+      → IsTrue (B (Hold u c r))
+      → Shared W A B t u (Hold t c r)
+  linked t u c r low there held = record {
+    there = there;
+    at = record {
+      place = c;
+      below = low;
+      at = each (λ q. Only (B (Hold u c q)) (Hold t c q)) r (Hold t c r)
+          (record { there = held; is = refl });
+    };
+  }
+
+takes_by : (W : Wiring) (d c : ℕ) (f : Form) (s : Shape) (x : Disp)
+    → IsIn f (forms W d)
+    → IsIn s (form_shapes f)
+    → disp_of_number s.name ≡ Some x
+    → admits W s.sort c ≡ true
+    → passes W d c (needed x) (given x) ≡ true
+takes_by W d c f s x label slot is fits = by_slot W d c x (taken W d x c (record {
+  form = f;
+  slot = s;
+  labelled = label;
+  among = slot;
+  disposition = is;
+  admitted = fits;
+}))
+
+module _ (W : Wiring) (S N : Fact → Bool) where
+  -- the fact stands at a place
+  abbrev HasPlace : Fact → Type 0
+  HasPlace g = (p : ℕ) × (p < classes W) × AtPlace W S N p g
+
+  at_task : (t : ℕ) (g : Fact) → t < W.tasks → AtTask W S N t g → HasPlace g
+  at_task t g low x =
+      (t, task_there W t low, inl (record { there = lt-ltb t W.tasks low; at = x }))
+
+  at_class : (t c : ℕ) (g : Fact)
+      → InRange W (Hold t c Receive)
+      → AtClass W S N t c g
+      → HasPlace g
+  at_class t c g within x =
+      at_task t g within.0 (inl (record { place = c; below = within.1; at = x }))
+
+  -- a new fact is the first premise, or the second
+  by_first : (t c : ℕ) (g : Fact)
+      → InRange W (Hold t c Receive)
+      → ByHold W N S t c g
+      → HasPlace g
+  by_first t c g within x = at_class t c g within (inr (inr x))
+
+  by_second : (t c : ℕ) (g : Fact)
+      → InRange W (Hold t c Receive)
+      → ByHold W S N t c g
+      → HasPlace g
+  by_second t c g within x = at_class t c g within (inr (inl x))
+
+  of_task : (t u : ℕ) (g : Fact)
+      → t < W.tasks
+      → u < W.tasks
+      → OfTask W S N t u g
+      → HasPlace g
+  of_task t u g low below x =
+      at_task t g low (inr (record { place = u; below = below; at = x }))
+
+  module _ (among : (f : Fact) → IsTrue (N f) → IsTrue (S f)) where
+    -- the other premises are in the set
+    known : (f q : Fact) → IsTrue (N f) → (q ≡ f) ⊎ IsTrue (S q) → IsTrue (S q)
+    known f q new (inl e) = subst (λ x. IsTrue (S x)) (sym e) (among f new)
+    known f q new (inr there) = there
+
+    -- each instance stands at a place, by each of its premises
+    place_of : (k : ℕ) (premises : List Fact) (f g : Fact)
+        → Rule W k premises g
+        → IsIn f premises
+        → AllByRecursion (λ p. InRange W p × ((p ≡ f) ⊎ Has S p)) premises
+        → InRange W g
+        → IsTrue (N f)
+        → HasPlace g
+    place_of k premises f g (k1 t p held is) at all within new = absurd (not_in at)
+    place_of k premises f g (k2 kind is) at all within new = absurd (not_in at)
+    place_of k premises f g (k3_send {t} {c}) here all within new =
+        at_class t c (Hold t c Send) all.0.0
+        (inl (record { there = new; at = inl (record { there = refl; is = refl }) }))
+    place_of k premises f g (k3_send {t} {c}) (later at) all within new = absurd (not_in at)
+    place_of k premises f g (k3_once {t} {c}) here all within new =
+        at_class t c (Hold t c SendOnce) all.0.0
+        (inl (record { there = new; at = inr (record { there = refl; is = refl }) }))
+    place_of k premises f g (k3_once {t} {c}) (later at) all within new = absurd (not_in at)
+    place_of k premises f g (k4 {t} {d} {c} {r} {f = h} {s} {x} can label slot is fits) here all
+        within new =
+        by_first t d (Carry d c (given x)) all.0.0
+        (to_class W N S t d c r (needed x) (given x) within.1 (sends can)
+        (takes_by W d c h s x label slot is fits) new
+        (known f (Hold t c (needed x)) new all.1.0.1))
+    place_of k premises f g (k4 {t} {d} {c} {r} {f = h} {s} {x} can label slot is fits)
+        (later here) all within new =
+        by_second t d (Carry d c (given x)) all.0.0
+        (to_class W S N t d c r (needed x) (given x) within.1 (sends can)
+        (takes_by W d c h s x label slot is fits) (known f (Hold t d r) new all.0.1) new)
+    place_of k premises f g (k4 can label slot is fits) (later (later at)) all within new =
+        absurd (not_in at)
+    place_of k premises f g (k5 {t} {d} {c} {r} can side) here all within new =
+        by_first t d (Carry d c SendOnce) all.0.0
+        (to_class W N S t d c r SendOnce SendOnce within.1 (sends can) (by_reply W d c side) new
+        (known f (Hold t c SendOnce) new all.1.0.1))
+    place_of k premises f g (k5 {t} {d} {c} {r} can side) (later here) all within new =
+        by_second t d (Carry d c SendOnce) all.0.0
+        (to_class W S N t d c r SendOnce SendOnce within.1 (sends can) (by_reply W d c side)
+        (known f (Hold t d r) new all.0.1) new)
+    place_of k premises f g (k5 can side) (later (later at)) all within new = absurd (not_in at)
+    place_of k premises f g (k6 {t} {d} {c} {r}) here all within new =
+        by_first t d (Hold t c r) all.0.0
+        (carried W N S t d c r within.1 new (known f (Carry d c r) new all.1.0.1))
+    place_of k premises f g (k6 {t} {d} {c} {r}) (later here) all within new =
+        by_second t d (Hold t c r) all.0.0
+        (carried W S N t d c r within.1 (known f (Hold t d Receive) new all.0.1) new)
+    place_of k premises f g k6 (later (later at)) all within new = absurd (not_in at)
+    place_of k premises f g (k7_up {t} {u} {c} {r}) here all within new =
+        of_task t u (Hold t c r) within.0 all.1.0.0.0 (inr (linked W N S t u c r within.1
+        (or_left (N (Hold t (kernel_class W u) Send)) (N (Hold u (kernel_class W t) Send)) new)
+        (known f (Hold u c r) new all.1.0.1)))
+    place_of k premises f g (k7_up {t} {u} {c} {r}) (later here) all within new =
+        of_task t u (Hold t c r) within.0 all.1.0.0.0 (inl (linked W S N t u c r within.1
+        (or_left (S (Hold t (kernel_class W u) Send)) (S (Hold u (kernel_class W t) Send))
+        (known f (Hold t (kernel_class W u) Send) new all.0.1)) new))
+    place_of k premises f g k7_up (later (later at)) all within new = absurd (not_in at)
+    place_of k premises f g (k7_down {t} {u} {c} {r}) here all within new =
+        of_task u t (Hold u c r) within.0 all.0.0.0 (inr (linked W N S u t c r within.1
+        (or_right (N (Hold u (kernel_class W t) Send)) (N (Hold t (kernel_class W u) Send)) new)
+        (known f (Hold t c r) new all.1.0.1)))
+    place_of k premises f g (k7_down {t} {u} {c} {r}) (later here) all within new =
+        of_task u t (Hold u c r) within.0 all.0.0.0 (inl (linked W S N u t c r within.1
+        (or_right (S (Hold u (kernel_class W t) Send)) (S (Hold t (kernel_class W u) Send))
+        (known f (Hold t (kernel_class W u) Send) new all.0.1)) new))
+    place_of k premises f g k7_down (later (later at)) all within new = absurd (not_in at)
+    place_of k premises f g (k8 {t} {c} {d} side) here all within new =
+        by_first t c (Backup c d) all.0.0 (asked W N S t c d within.1 side new
+        (known f (Hold t d SendOnce) new all.1.0.1))
+    place_of k premises f g (k8 {t} {c} {d} side) (later here) all within new =
+        by_second t c (Backup c d) all.0.0 (asked W S N t c d within.1 side
+        (known f (Hold t c Receive) new all.0.1) new)
+    place_of k premises f g (k8 side) (later (later at)) all within new = absurd (not_in at)
+    place_of k premises f g (k9 {c} {d}) here all within new = (
+      c,
+      within.1,
+      inr (record { place = d; below = within.0; at = record { there = new; is = refl } }),
+    )
+    place_of k premises f g (k9 {c} {d}) (later at) all within new = absurd (not_in at)
+    place_of k premises f g (k10 {t} {c} {d}) here all within new =
+        by_first t c (Hold t d SendOnce) all.0.0
+        (told W N S t c d within.1 new (known f (Backup c d) new all.1.0.1))
+    place_of k premises f g (k10 {t} {c} {d}) (later here) all within new =
+        by_second t c (Hold t d SendOnce) all.0.0
+        (told W S N t c d within.1 (known f (Hold t c Receive) new all.0.1) new)
+    place_of k premises f g k10 (later (later at)) all within new = absurd (not_in at)
+
+    -- what follows from a new fact
+    pub to_place : (f g : Fact)
+        → IsTrue (N f)
+        → IsConsequence W (Has S) f g
+        → (p : ℕ) × (p < classes W) × AtPlace W S N p g
+    to_place f g new x =
+        place_of x.rule x.follows.premises f g x.follows.rule x.follows.among x.follows.known
+        x.follows.in_range new
+
+-- and what stands at a place is an instance's
 
 -- what two holds of one task conclude
 pass_rule : (W : Wiring) (t d c : ℕ) (r q give : PortRight)
@@ -419,213 +348,164 @@ pass_rule W t d c r q give can pass = elim (passed_by W d c q give pass) [
   )
 ]
 
-module _ (W : Wiring) (S : Fact → Bool) where
+module _ (W : Wiring) (S N : Fact → Bool) where
+  -- it follows from a new fact
+  abbrev IsFollowing : Fact → Type 0
+  IsFollowing g = (f : Fact) × IsTrue (N f) × IsConsequence W (Has S) f g
+
   one : {k : ℕ} {f g : Fact}
       → Rule W k (f ∷ []) g
       → InRange W f
       → InRange W g
-      → IsConsequence W (Has S) f g
-  one rule at within = record {
-    rule = _;
-    follows = record {
-      premises = _;
-      rule = rule;
-      among = here;
-      known = ((at, inl refl), tt);
-      in_range = within;
-    };
-  }
+      → IsTrue (N f)
+      → IsFollowing g
+  one {k} {f} {g} rule at within new = (
+    f,
+    new,
+    record {
+      rule = _;
+      follows = record {
+        premises = _;
+        rule = rule;
+        among = here;
+        known = ((at, inl refl), tt);
+        in_range = within;
+      };
+    },
+  )
 
-  two : {k : ℕ} {f h g : Fact}
+  first : (k : ℕ) (f h g : Fact)
       → Rule W k (f ∷ h ∷ []) g
       → InRange W f
-      → InRange W h × IsTrue (S h)
+      → InRange W h
       → InRange W g
-      → IsConsequence W (Has S) f g
-  two rule at other within = record {
-    rule = _;
-    follows = record {
-      premises = _;
-      rule = rule;
-      among = here;
-      known = ((at, inl refl), ((other.0, inr other.1), tt));
-      in_range = within;
-    };
-  }
+      → IsTrue (N f)
+      → IsTrue (S h)
+      → IsFollowing g
+  first k f h g rule at other within new there = (
+    f,
+    new,
+    record {
+      rule = _;
+      follows = record {
+        premises = _;
+        rule = rule;
+        among = here;
+        known = ((at, inl refl), ((other, inr there), tt));
+        in_range = within;
+      };
+    },
+  )
 
-  two_later : {k : ℕ} {f h g : Fact}
-      → Rule W k (h ∷ f ∷ []) g
+  second : (k : ℕ) (f h g : Fact)
+      → Rule W k (f ∷ h ∷ []) g
       → InRange W f
-      → InRange W h × IsTrue (S h)
+      → InRange W h
       → InRange W g
-      → IsConsequence W (Has S) f g
-  two_later rule at other within = record {
-    rule = _;
-    follows = record {
-      premises = _;
-      rule = rule;
-      among = later here;
-      known = ((other.0, inr other.1), ((at, inl refl), tt));
-      in_range = within;
-    };
-  }
+      → IsTrue (S f)
+      → IsTrue (N h)
+      → IsFollowing g
+  second k f h g rule at other within there new = (
+    h,
+    new,
+    record {
+      rule = _;
+      follows = record {
+        premises = _;
+        rule = rule;
+        among = later here;
+        known = ((at, inr there), ((other, inl refl), tt));
+        in_range = within;
+      };
+    },
+  )
 
-  twice : {k : ℕ} {f g : Fact}
-      → Rule W k (f ∷ f ∷ []) g
+  -- the first premise is of A, the second of B, and one of them is new
+  module _ (A B : Fact → Bool)
+      (two : (k : ℕ) (f h g : Fact)
+      → Rule W k (f ∷ h ∷ []) g
       → InRange W f
+      → InRange W h
       → InRange W g
-      → IsConsequence W (Has S) f g
-  twice rule at within = record {
-    rule = _;
-    follows = record {
-      premises = _;
-      rule = rule;
-      among = here;
-      known = ((at, inl refl), ((at, inl refl), tt));
-      in_range = within;
-    };
-  }
+      → IsTrue (A f)
+      → IsTrue (B h)
+      → IsFollowing g) where
+    by_sent : (t d : ℕ) (g : Fact)
+        → InRange W (Hold t d Receive)
+        → Sent W A B t d g
+        → IsFollowing g
+    by_sent t d g at x =
+        let s = sender_right A t d x.there in
+        let w = which (SentTo W B t d) g x.at in
+        let rule = pass_rule W t d w.1.class s.0 w.0 w.1.give s.1 w.1.passed in
+        subst IsFollowing (sym w.1.is)
+        (two _ _ _ _ rule.1 at (at.0, w.1.below) (at.1, w.1.below) s.2 w.1.held)
 
-  -- what class d takes
-  by_sent_to : (t d : ℕ) (r q : PortRight) (g : Fact)
-      → InRange W (Hold t d r)
-      → can_send r ≡ true
-      → SentTo W S t d q g
-      → IsConsequence W (Has S) (Hold t d r) g
-  by_sent_to t d r q g at can x =
-      let rule = pass_rule W t d x.class r q x.give can x.passed in
-      subst (λ y. IsConsequence W (Has S) (Hold t d r) y) (sym x.is)
-      (two rule.1 at ((at.0, x.below), x.held) (at.1, x.below))
+    by_received : (t c : ℕ) (g : Fact)
+        → InRange W (Hold t c Receive)
+        → Received W A B t c g
+        → IsFollowing g
+    by_received t c g at x = elim x.at [
+      | inl y ↦
+          let w = and_parts (B (Hold t y.place SendOnce)) (accepts_destroyed W y.place)
+          y.at.there in
+          subst IsFollowing (sym y.at.is)
+          (two _ _ _ _ (k8 w.1) at (at.0, y.below) (at.1, y.below) x.there w.0)
+      | inr (inl y) ↦
+          let w = which (λ q. Only (B (Carry c y.place q)) (Hold t y.place q)) g y.at in
+          subst IsFollowing (sym w.1.is)
+          (two _ _ _ _ k6 at (at.1, y.below) (at.0, y.below) x.there w.1.there)
+      | inr (inr y) ↦
+          subst IsFollowing (sym y.at.is)
+          (two _ _ _ _ k10 at (at.1, y.below) (at.0, y.below) x.there y.at.there)
+    ]
 
-  by_sent_by : (t c : ℕ) (q r : PortRight) (g : Fact)
-      → InRange W (Hold t c q)
-      → can_send r ≡ true
-      → SentBy W S t c q r g
-      → IsConsequence W (Has S) (Hold t c q) g
-  by_sent_by t c q r g at can x =
-      let rule = pass_rule W t x.to c r q x.give can x.passed in
-      subst (λ y. IsConsequence W (Has S) (Hold t c q) y) (sym x.is)
-      (two_later rule.1 at ((at.0, x.below), x.held) (x.below, at.1))
+    by_hold : (t c : ℕ) (g : Fact)
+        → InRange W (Hold t c Receive)
+        → ByHold W A B t c g
+        → IsFollowing g
+    by_hold t c g at (inl x) = by_sent t c g at x
+    by_hold t c g at (inr x) = by_received t c g at x
 
-  by_request : (t c : ℕ) (r : PortRight) (g : Fact)
-      → InRange W (Hold t c r)
-      → ByRequests W S t c r g
-      → IsConsequence W (Has S) (Hold t c r) g
-  by_request t c r g at (inl x) =
-      let w = and_parts (S (Hold t x.at.place SendOnce)) (accepts_destroyed W x.at.place)
-      x.at.at.there in
-      subst (λ y. IsConsequence W (Has S) (Hold t c y) g) (sym (same_right_is r Receive x.there))
-      (subst (λ y. IsConsequence W (Has S) (Hold t c Receive) y) (sym x.at.at.is)
-      (two (k8 w.1) at ((at.0, x.at.below), w.0) (at.1, x.at.below)))
-  by_request t c r g at (inr x) =
-      let w = and_parts (same_right r SendOnce) (accepts_destroyed W c) x.there in
-      subst (λ y. IsConsequence W (Has S) (Hold t c y) g) (sym (same_right_is r SendOnce w.0))
-      (subst (λ y. IsConsequence W (Has S) (Hold t c SendOnce) y) (sym x.at.at.is)
-      (two_later (k8 w.1) at ((at.0, x.at.below), x.at.at.there) (x.at.below, at.1)))
+    by_shared : (t u : ℕ) (g : Fact)
+        → t < W.tasks
+        → u < W.tasks
+        → Shared W A B t u g
+        → IsFollowing g
+    by_shared t u g low below x =
+        let y = x.at in
+        let w = which (λ q. Only (B (Hold u y.place q)) (Hold t y.place q)) g y.at in
+        subst IsFollowing (sym w.1.is)
+        (elim (or_cases (A (Hold t (kernel_class W u) Send)) (A (Hold u (kernel_class W t) Send))
+        x.there) [
+          | inl up ↦ two _ _ _ _ k7_up (low, kernel_there W u below) (below, y.below) (low, y.below) up
+              w.1.there
+          | inr down ↦ two _ _ _ _ k7_down (below, kernel_there W t low) (below, y.below) (low, y.below)
+              down w.1.there
+        ])
 
-  -- where t receives at class c
-  by_received : (t c : ℕ) (g : Fact)
+  of_class : (t c : ℕ) (g : Fact)
       → InRange W (Hold t c Receive)
-      → ByReceive W S t c g
-      → IsConsequence W (Has S) (Hold t c Receive) g
-  by_received t c g at (inl x) =
-      subst (λ y. IsConsequence W (Has S) (Hold t c Receive) y) (sym x.is) (one k3_send at at)
-  by_received t c g at (inr (inl x)) =
-      subst (λ y. IsConsequence W (Has S) (Hold t c Receive) y) (sym x.is) (one k3_once at at)
-  by_received t c g at (inr (inr (inl x))) =
-      let w = which (λ q. Only (S (Carry c x.place q)) (Hold t x.place q)) g x.at in
-      subst (λ y. IsConsequence W (Has S) (Hold t c Receive) y) (sym w.1.is)
-      (two k6 at ((at.1, x.below), w.1.there) (at.0, x.below))
-  by_received t c g at (inr (inr (inr x))) =
-      subst (λ y. IsConsequence W (Has S) (Hold t c Receive) y) (sym x.at.is)
-      (two k10 at ((at.1, x.below), x.at.there) (at.0, x.below))
+      → AtClass W S N t c g
+      → IsFollowing g
+  of_class t c g at (inl x) = elim x.at [
+    | inl y ↦ subst IsFollowing (sym y.is) (one k3_send at at x.there)
+    | inr y ↦ subst IsFollowing (sym y.is) (one k3_once at at x.there)
+  ]
+  of_class t c g at (inr (inl x)) = by_hold S N second t c g at x
+  of_class t c g at (inr (inr x)) = by_hold N S first t c g at x
 
-  -- where t holds the kernel port of u
-  by_shared : (t u : ℕ) (g : Fact)
-      → InRange W (Hold t (kernel_class W u) Send)
-      → u < W.tasks
-      → ByLink W S t u g
-      → IsConsequence W (Has S) (Hold t (kernel_class W u) Send) g
-  by_shared t u g at low (inl x) =
-      let w = which (λ q. Only (S (Hold u x.place q)) (Hold t x.place q)) g x.at in
-      subst (λ y. IsConsequence W (Has S) (Hold t (kernel_class W u) Send) y) (sym w.1.is)
-      (two k7_up at ((low, x.below), w.1.there) (at.0, x.below))
-  by_shared t u g at low (inr x) =
-      let w = which (λ q. Only (S (Hold t x.place q)) (Hold u x.place q)) g x.at in
-      subst (λ y. IsConsequence W (Has S) (Hold t (kernel_class W u) Send) y) (sym w.1.is)
-      (two k7_down at ((at.0, x.below), w.1.there) (low, x.below))
+  from_task : (t : ℕ) (g : Fact) → t < W.tasks → AtTask W S N t g → IsFollowing g
+  from_task t g low (inl x) = of_class t x.place g (low, x.below) x.at
+  from_task t g low (inr x) = elim x.at [
+    | inl y ↦ by_shared S N second t x.place g low x.below y
+    | inr y ↦ by_shared N S first t x.place g low x.below y
+  ]
 
-  of_hold : (t c : ℕ) (r : PortRight) (g : Fact)
-      → InRange W (Hold t c r)
-      → ByHold W S t c r g
-      → IsConsequence W (Has S) (Hold t c r) g
-  of_hold t c r g at (inl x) =
-      let w = which (SentTo W S t c) g x.at in by_sent_to t c r w.0 g at x.there w.1
-  of_hold t c r g at (inr (inl x)) = by_request t c r g at x
-  of_hold t c r g at (inr (inr (inl x))) =
-      subst (λ y. IsConsequence W (Has S) (Hold t c r) y) (sym x.at.is)
-      (elim (or_cases (S (Hold t (kernel_class W x.place) Send))
-      (S (Hold x.place (kernel_class W t) Send)) x.at.there) [
-        | inl down ↦ two_later k7_down at ((at.0, kernel_there W x.place x.below), down)
-            (x.below, at.1)
-        | inr up ↦ two_later k7_up at ((x.below, kernel_there W t at.0), up) (x.below, at.1)
-      ])
-  of_hold t c r g at (inr (inr (inr (inl x)))) =
-      subst (λ y. IsConsequence W (Has S) (Hold t c y) g) (sym (same_right_is r Receive x.there))
-      (by_received t c g at x.at)
-  of_hold t c r g at (inr (inr (inr (inr x)))) =
-      let k = kernel_task W c r x.there in
-      let at_link : InRange W (Hold t (kernel_class W (c - W.ports)) Send) =
-      (at.0, kernel_there W (c - W.ports) k.2) in
-      subst (λ y. IsConsequence W (Has S) (Hold t c y) g) (sym k.0)
-      (subst (λ n. IsConsequence W (Has S) (Hold t n Send) g) (sym k.1)
-      (by_shared t (c - W.ports) g at_link k.2 x.at))
-
-  -- where it is both premises
-  of_itself : (t c : ℕ) (r : PortRight) (g : Fact)
-      → InRange W (Hold t c r)
-      → ByItself W (Hold t c r) g
-      → IsConsequence W (Has S) (Hold t c r) g
-  of_itself t c r g at (inl x) =
-      let w = which (CarriedToItself W c r) g x in
-      let a = and_parts (can_send r) (is_passed W c c r w.0) w.1.there in
-      let b = and_parts (nat_lt c (classes W)) (nat_lt c (classes W) && passes W c c r w.0) a.1 in
-      let d = and_parts (nat_lt c (classes W)) (passes W c c r w.0) b.1 in
-      subst (λ y. IsConsequence W (Has S) (Hold t c r) y) (sym w.1.is)
-      (twice (pass_rule W t c c r r w.0 a.0 d.1).1 at (at.1, at.1))
-  of_itself t c r g at (inr x) =
-      let k = kernel_task W c r x.there in
-      let u = c - W.ports in
-      let rule : Rule W 7 (Hold t (kernel_class W u) Send ∷ Hold t c r ∷ []) (Hold u c r) =
-      k7_down in
-      subst (λ y. IsConsequence W (Has S) (Hold t c r) y) (sym x.is)
-      (twice (subst (λ y. Rule W 7 (Hold t c y ∷ Hold t c r ∷ []) (Hold u c r)) (sym k.0)
-      (subst (λ n. Rule W 7 (Hold t n Send ∷ Hold t c r ∷ []) (Hold u c r)) (sym k.1) rule)) at
-      (k.2, at.1))
-
-  of_facts : (f g : Fact) → InRange W f → ByFact W S f g → IsConsequence W (Has S) f g
-  of_facts (Hold t c r) g at p = of_hold t c r g at p
-  of_facts (Carry d c r) g at x =
-      subst (λ y. IsConsequence W (Has S) (Carry d c r) y) (sym x.at.is)
-      (two_later k6 at ((x.below, at.0), x.at.there) (x.below, at.1))
-  of_facts (Backup c d) g at (inl x) =
-      subst (λ y. IsConsequence W (Has S) (Backup c d) y) (sym x.is) (one k9 at (at.1, at.0))
-  of_facts (Backup c d) g at (inr x) =
-      subst (λ y. IsConsequence W (Has S) (Backup c d) y) (sym x.at.is)
-      (two_later k10 at ((x.below, at.0), x.at.there) (x.below, at.1))
-
-  of_twice : (f g : Fact) → InRange W f → ByItself W f g → IsConsequence W (Has S) f g
-  of_twice (Hold t c r) g at p = of_itself t c r g at p
-  of_twice (Carry d c r) g at p = absurd p
-  of_twice (Backup c d) g at p = absurd p
-
-  of_sent : (f g : Fact) → InRange W f → OfFact W S f g → IsConsequence W (Has S) f g
-  of_sent (Hold t c r) g at (inl x) = by_sent_by t c r Send g at refl x
-  of_sent (Hold t c r) g at (inr x) = by_sent_by t c r SendOnce g at refl x
-  of_sent (Carry d c r) g at p = absurd p
-  of_sent (Backup c d) g at p = absurd p
-
-  pub of_part : (f g : Fact) → InRange W f → EachPart W S f g → IsConsequence W (Has S) f g
-  of_part f g at (inl (inl p)) = of_facts f g at p
-  of_part f g at (inl (inr p)) = of_twice f g at p
-  of_part f g at (inr p) = of_sent f g at p
+  pub from_place : (p : ℕ) (g : Fact)
+      → p < classes W
+      → AtPlace W S N p g
+      → (f : Fact) × IsTrue (N f) × IsConsequence W (Has S) f g
+  from_place p g below (inl x) = from_task p g (ltb-true p W.tasks x.there) x.at
+  from_place p g below (inr x) =
+      subst IsFollowing (sym x.at.is) (one k9 (below, x.below) (x.below, below) x.at.there)

@@ -1,15 +1,20 @@
--- What follows from a fact and those of a set is what the parts of the fact conclude.
-use Rattle.std.proofs.Common.{Bool, List, [], ◌∷◌, IsTrue, ◌≡◌, ◌⊎◌, inl, inr}
+-- What follows from a fact with those of a set stands at the places, with the fact as the only new
+-- one.
+use Rattle.std.proofs.Common.{Bool, true, false, List, [], ◌∷◌, IsTrue, ◌≡◌, ◌⊎◌, inl, inr, ℕ}
+use Rattle.std.proofs.Common.{refl, sym, subst}
+use Rattle.std.specs.Prelude.{◌||◌}
 use Rattle.std.specs.List.{AllByRecursion}
+use Rattle.std.proofs.lemmas.Bool.{or_cases, or_left, or_right}
 use Rattle.mrc_base.specs.declared.Fact.{Fact}
-use Rattle.mrc_model.specs.IsIn.{IsIn, here, later}
-use Rattle.mrc_model.specs.Wiring.{Wiring}
+use Rattle.mrc_model.specs.Wiring.{Wiring, classes}
 use Rattle.mrc_model.specs.Rules.{Has, InRange}
+use Rattle.mrc_facts.specs.Order.{is_same}
 use Rattle.mrc_facts.specs.Sets.{has}
-use Rattle.mrc_classes.specs.Growing.{Added, nothing}
+use Rattle.mrc_facts.proofs.Total.{equal_from_same, same_itself}
+use Rattle.mrc_classes.specs.Growing.{Added, Below}
 use Rattle.mrc_classes.specs.Following.{IsConsequence, IsListOf}
-use Rattle.mrc_classes.proofs.Adding.{added_none, added_as}
-use Rattle.mrc_classes.proofs.Concluding.{EachPart, part_of, of_part}
+use Rattle.mrc_classes.specs.Parts.{AtPlace}
+use Rattle.mrc_classes.proofs.Concluding.{to_place, from_place}
 
 -- for each element
 pub all_as : (P Q : Fact → Type 0) (fs : List Fact)
@@ -19,41 +24,59 @@ pub all_as : (P Q : Fact → Type 0) (fs : List Fact)
 all_as P Q [] f all = tt
 all_as P Q (x ∷ xs) f all = (f x all.0, all_as P Q xs f all.1)
 
-one_of_all : (P : Fact → Type 0) (f : Fact) (fs : List Fact) → IsIn f fs → AllByRecursion P fs → P f
-one_of_all P f [] at all = elim at [ ]
-one_of_all P f (x ∷ xs) here all = all.0
-one_of_all P f (x ∷ xs) (later at) all = one_of_all P f xs at all.1
+pub or_nothing : (b : Bool) → (b || false) ≡ b
+or_nothing true = refl
+or_nothing false = refl
 
-module _ (W : Wiring) (S : Fact → Bool) (p : Fact) where
-  -- the fact is over the tasks and classes
-  pub premise_there : (g : Fact) → IsConsequence W (Has S) p g → InRange W p
-  premise_there g x =
-      (one_of_all (λ q. InRange W q × ((q ≡ p) ⊎ Has S q)) p x.follows.premises
-      x.follows.among x.follows.known).0
+-- the other premises are in another set
+consequence_as : (W : Wiring) (S T : Fact → Bool) (p g : Fact)
+    → ((q : Fact) → IsTrue (S q) → (q ≡ p) ⊎ IsTrue (T q))
+    → IsConsequence W (Has S) p g
+    → IsConsequence W (Has T) p g
+consequence_as W S T p g other x = record {
+  rule = x.rule;
+  follows = record {
+    premises = x.follows.premises;
+    rule = x.follows.rule;
+    among = x.follows.among;
+    known = all_as (λ q. InRange W q × ((q ≡ p) ⊎ Has S q))
+        (λ q. InRange W q × ((q ≡ p) ⊎ Has T q)) x.follows.premises
+        (λ q h. (h.0, elim h.1 [ inl e ↦ inl e | inr there ↦ other q there ]))
+        x.follows.known;
+    in_range = x.follows.in_range;
+  };
+}
 
-  -- the parts are the consequences
-  pub parts_follow : (F G : Fact → Bool)
-      → InRange W p
-      → Added F G (EachPart W S p)
-      → Added F G (IsConsequence W (Has S) p)
-  parts_follow F G within parts =
-      added_as F G (EachPart W S p) (IsConsequence W (Has S) p) parts
-      (λ g part. of_part W S p g within part)
-      (λ g x. part_of W S x.rule x.follows.premises p g x.follows.rule x.follows.among
-      x.follows.known x.follows.in_range)
+-- the fact is put into the set, and it is the only new one
+module _ (W : Wiring) (S All New : Fact → Bool) (p : Fact)
+    (put : (g : Fact) → All g ≡ (is_same g p || S g))
+    (only : (g : Fact) → New g ≡ is_same g p) where
+  among : (f : Fact) → IsTrue (New f) → IsTrue (All f)
+  among f new =
+      subst IsTrue (sym (put f)) (or_left (is_same f p) (S f) (subst IsTrue (only f) new))
 
-  -- nothing follows from a fact that is not over the tasks and classes
-  pub nothing_follows : (F : Fact → Bool)
-      → (InRange W p → ⊥)
-      → Added F F (IsConsequence W (Has S) p)
-  nothing_follows F out =
-      added_none F (IsConsequence W (Has S) p) (λ g x. out (premise_there g x))
+  to : (g : Fact) → IsConsequence W (Has S) p g → Below (classes W) (AtPlace W All New) g
+  to g x =
+      let at = to_place W All New among p g (subst IsTrue (sym (only p)) (same_itself p))
+      (consequence_as W S All p g
+      (λ q there. inr (subst IsTrue (sym (put q)) (or_right (is_same q p) (S q) there))) x) in
+      record { place = at.0; below = at.1; at = at.2 }
 
--- what is added to nothing is the whole list
-pub whole_list : (F : Fact → Type 0) (facts : List Fact)
-    → Added nothing (has facts) F
-    → IsListOf F facts
-whole_list F facts added g = (
-  (λ h. elim (added.new g h) [ inl none ↦ absurd cc | inr at ↦ at ]),
-  (λ at. added.all g at),
-)
+  back : (g : Fact) → Below (classes W) (AtPlace W All New) g → IsConsequence W (Has S) p g
+  back g x =
+      let f = from_place W All New x.place g x.below x.at in
+      let e = equal_from_same f.0 p (subst IsTrue (only f.0) f.1) in
+      consequence_as W All S p g
+      (λ q there. elim (or_cases (is_same q p) (S q) (subst IsTrue (put q) there)) [
+        | inl same ↦ inl (equal_from_same q p same)
+        | inr old ↦ inr old
+      ])
+      (subst (λ y. IsConsequence W (Has All) y g) e f.2)
+
+  pub places_listed : (found : List Fact)
+      → Added (has []) (has found) (Below (classes W) (AtPlace W All New))
+      → IsListOf (IsConsequence W (Has S) p) found
+  places_listed found added g = (
+    (λ h. elim (added.new g h) [ inl none ↦ absurd cc | inr at ↦ back g at ]),
+    (λ x. added.all g (to g x)),
+  )

@@ -5,19 +5,21 @@ use Rattle.std.specs.Prelude.{◌||◌}
 use Rattle.std.proofs.lemmas.Bool.{and_parts, and_from, or_cases, or_left, or_right, false≢true}
 use Rattle.std.proofs.lemmas.Bool.{ltb-true, lt-ltb, eq-eqb, eqb-true}
 use Rattle.mrc_base.specs.declared.PortRight.{PortRight}
+use Rattle.mrc_base.specs.declared.PortRight.TheVariants.{SendOnce}
 use Rattle.mrc_base.specs.declared.Fact.{Fact}
 use Rattle.mrc_base.specs.declared.Fact.TheVariants.{Hold, Carry, Backup}
-use Rattle.mrc_model.specs.Wiring.{Wiring, classes}
+use Rattle.mrc_model.specs.Wiring.{Wiring, classes, accepts_destroyed}
+use Rattle.mrc_model.specs.Conclusions.{same_right}
+use Rattle.mrc_model.proofs.Concluding.{same_right_is}
 use Rattle.mrc_bits.specs.Bits.{is_set}
 use Rattle.mrc_rows.specs.Rows.{is_within, IsWithin, place_of}
 use Rattle.mrc_rows.specs.Joining.{right_place, is_of, is_in_both}
 use Rattle.mrc_rows.specs.declared.joining.Row.{Row}
-use Rattle.mrc_rows.specs.declared.joining.Row.TheVariants.{Holds, Carries}
+use Rattle.mrc_rows.specs.declared.joining.Row.TheVariants.{Holds, Carries, Backups}
 use Rattle.mrc_slots.specs.Passing.{passes, is_passed}
 use Rattle.mrc_facts.specs.Sets.{has}
 use Rattle.mrc_classes.specs.Growing.{Added, Only, Below}
-use Rattle.mrc_classes.specs.Spreading.{has_turned}
-use Rattle.mrc_classes.specs.Parts.{EachRight, SentTo, SentBy, SharedAt, ReceivedAt}
+use Rattle.mrc_classes.specs.Parts.{EachRight, SentTo, SharedAt, ReceivedAt, RequestAt, NotifiedAt}
 use Rattle.mrc_classes.proofs.Adding.{added_as}
 use Rattle.mrc_classes.proofs.Concluding.{each, which, passed_over}
 
@@ -73,6 +75,10 @@ carry_within : (d c : ℕ) (r : PortRight) → d < 1344 → c < 1344 → IsWithi
 carry_within d c r low high =
     and_from (nat_lt d 1344) (nat_lt c 1344) (lt-ltb d 1344 low) (lt-ltb c 1344 high)
 
+backup_within : (c d : ℕ) → c < 1344 → d < 1344 → IsWithin (Backup c d)
+backup_within c d low high =
+    and_from (nat_lt c 1344) (nat_lt d 1344) (lt-ltb c 1344 low) (lt-ltb d 1344 high)
+
 -- the mask has the classes on which task t holds the right q
 abbrev pub AreClasses : List Fact → ℕ → PortRight → List ℕ → Type 0
 AreClasses facts t q mask =
@@ -119,57 +125,6 @@ module _ (W : Wiring) (facts : List Fact) (t : ℕ) (low : t < 64) (few : classe
           (passed_over W d x.class q x.give below x.below x.passed)
           (and_from (is_within (Hold t x.class x.give)) (has facts (Hold t x.class q))
           (held_within t x.class x.give low (let h = x.below in omega (arith, h, few))) x.held)))
-
-  -- what the classes take on which it holds a right, as turned facts
-  pub sent_by_added : (c : ℕ) (q by : PortRight) (more mask : List ℕ)
-      → c < classes W
-      → ((d : ℕ) (give : PortRight)
-      → is_set more (right_place d give) ≡ is_passed W d c q give)
-      → AreClasses facts t by mask
-      → (before after : List Fact)
-      → ((g : Fact) → has after g ≡ (has before g || joined (Carries c) more mask g))
-      → Added (has_turned before) (has_turned after) (SentBy W (has facts) t c q by)
-  sent_by_added c q by more mask below of_more of_mask before after put =
-      added_as (has_turned before) (has_turned after) _ _
-      (added_test (has_turned before) (has_turned after) added each_put) there back
-    where
-      added : Fact → Bool
-      added (Hold u e r) = false
-      added (Carry d e r) = joined (Carries c) more mask (Carry e d r)
-      added (Backup e d) = false
-
-      each_put : (g : Fact) → has_turned after g ≡ (has_turned before g || added g)
-      each_put (Hold u e r) = refl
-      each_put (Carry d e r) = put (Carry e d r)
-      each_put (Backup e d) = refl
-
-      there : (g : Fact) → IsTrue (added g) → SentBy W (has facts) t c q by g
-      there (Hold u e r) h = absurd (false≢true h)
-      there (Carry d e r) h =
-          let a = and_parts (e == c) (is_in_both more mask (right_place d r)) h in
-          let b = both_there more mask d r (is_passed W d c q r)
-          (is_within (Hold t d r) && has facts (Hold t d by)) (of_more d r) (of_mask d r) a.1 in
-          let p = over_classes W d c q r b.0 in
-          record {
-            to = d;
-            below = p.0;
-            held = (and_parts (is_within (Hold t d r)) (has facts (Hold t d by)) b.1).1;
-            give = r;
-            passed = p.2;
-            is = ap (λ k. Carry d k r) (eqb-true e c a.0);
-          }
-      there (Backup e d) h = absurd (false≢true h)
-
-      back : (g : Fact) → SentBy W (has facts) t c q by g → IsTrue (added g)
-      back g x =
-          subst (λ y. IsTrue (added y)) (sym x.is)
-          (and_from (c == c) (is_in_both more mask (right_place x.to x.give)) (eq-eqb c c refl)
-          (there_both more mask x.to x.give (is_passed W x.to c q x.give)
-          (is_within (Hold t x.to x.give) && has facts (Hold t x.to by))
-          (of_more x.to x.give) (of_mask x.to x.give)
-          (passed_over W x.to c q x.give x.below below x.passed)
-          (and_from (is_within (Hold t x.to x.give)) (has facts (Hold t x.to by))
-          (held_within t x.to x.give low (let h = x.below in omega (arith, h, few))) x.held)))
 
 -- the words have all rights on the wiring's classes
 abbrev pub AreAll : Wiring → List ℕ → Type 0
@@ -252,3 +207,101 @@ received_added W facts t d more mask low few all words F G put =
     (λ c r. words (Carry d c r) (eq-eqb d d refl))
     (λ c r below. carry_within d c r (omega (arith, low, few)) (omega (arith, below, few))) t F G
     put
+
+-- the requests that ports of class c be told to the classes on which task t has send-once rights
+pub requested_added : (W : Wiring) (facts : List Fact) (t c : ℕ) (more mask : List ℕ)
+    → t < 64
+    → classes W ≤ 1344
+    → ((d : ℕ) → is_set more d ≡ (nat_lt d (classes W) && accepts_destroyed W d))
+    → ((d : ℕ) → is_set mask d ≡ (is_within (Backup t d) && has facts (Hold t d SendOnce)))
+    → (F G : Fact → Bool)
+    → ((g : Fact) → G g ≡ (F g || joined (Backups c) more mask g))
+    → Added F G (Below (classes W) (RequestAt W (has facts) t c))
+requested_added W facts t c more mask low few of_more of_mask F G put =
+    added_as F G _ _ (added_test F G (joined (Backups c) more mask) put) there back
+  where
+    Asked : Fact → Type 0
+    Asked = Below (classes W) (RequestAt W (has facts) t c)
+
+    there : (g : Fact) → IsTrue (joined (Backups c) more mask g) → Asked g
+    there (Hold u e r) h = absurd (false≢true h)
+    there (Carry e d r) h = absurd (false≢true h)
+    there (Backup e d) h =
+        let a = and_parts (e == c) (is_in_both more mask d) h in
+        let b = and_parts (is_set more d) (is_set mask d) a.1 in
+        let m = and_parts (nat_lt d (classes W)) (accepts_destroyed W d) (sym (of_more d) ∙ b.0) in
+        let n = and_parts (is_within (Backup t d)) (has facts (Hold t d SendOnce))
+        (sym (of_mask d) ∙ b.1) in
+        record {
+          place = d;
+          below = ltb-true d (classes W) m.0;
+          at = record {
+            there = and_from (has facts (Hold t d SendOnce)) (accepts_destroyed W d) n.1 m.1;
+            is = ap (λ k. Backup k d) (eqb-true e c a.0);
+          };
+        }
+
+    back : (g : Fact) → Asked g → IsTrue (joined (Backups c) more mask g)
+    back g x =
+        let d = x.place in
+        let w = and_parts (has facts (Hold t d SendOnce)) (accepts_destroyed W d) x.at.there in
+        subst (λ y. IsTrue (joined (Backups c) more mask y)) (sym x.at.is)
+        (and_from (c == c) (is_in_both more mask d) (eq-eqb c c refl)
+        (and_from (is_set more d) (is_set mask d)
+        (of_more d ∙ and_from (nat_lt d (classes W)) (accepts_destroyed W d)
+        (lt-ltb d (classes W) x.below) w.1)
+        (of_mask d ∙ and_from (is_within (Backup t d)) (has facts (Hold t d SendOnce))
+        (backup_within t d (omega (arith, low))
+        (let h = x.below in omega (arith, h, few))) w.0)))
+
+-- the rights of earlier requests on ports of class c, for task t
+pub notified_added : (W : Wiring) (facts : List Fact) (t c : ℕ) (more mask : List ℕ)
+    → c < classes W
+    → classes W ≤ 1344
+    → AreAll W more
+    → ((d : ℕ) (any : PortRight)
+    → is_set mask (right_place d any)
+    ≡ (is_within (Carry c d any) && (same_right any SendOnce && has facts (Backup c d))))
+    → (F G : Fact → Bool)
+    → ((g : Fact) → G g ≡ (F g || joined (Holds t) more mask g))
+    → Added F G (Below (classes W) (NotifiedAt (has facts) t c))
+notified_added W facts t c more mask low few all of_mask F G put =
+    added_as F G _ _ (added_test F G (joined (Holds t) more mask) put) there back
+  where
+    Told : Fact → Type 0
+    Told = Below (classes W) (NotifiedAt (has facts) t c)
+
+    there : (g : Fact) → IsTrue (joined (Holds t) more mask g) → Told g
+    there (Hold u d r) h =
+        let a = and_parts (u == t) (is_in_both more mask (right_place d r)) h in
+        let b = both_there more mask d r (nat_lt d (classes W))
+        (is_within (Carry c d r) && (same_right r SendOnce && has facts (Backup c d)))
+        (all d r) (of_mask d r) a.1 in
+        let e = and_parts (is_within (Carry c d r))
+        (same_right r SendOnce && has facts (Backup c d)) b.1 in
+        let f = and_parts (same_right r SendOnce) (has facts (Backup c d)) e.1 in
+        record {
+          place = d;
+          below = ltb-true d (classes W) b.0;
+          at = record {
+            there = f.1;
+            is = ap (λ k. Hold k d r) (eqb-true u t a.0)
+                ∙ ap (λ y. Hold t d y) (same_right_is r SendOnce f.0);
+          };
+        }
+    there (Carry e d r) h = absurd (false≢true h)
+    there (Backup e d) h = absurd (false≢true h)
+
+    back : (g : Fact) → Told g → IsTrue (joined (Holds t) more mask g)
+    back g x =
+        let d = x.place in
+        subst (λ y. IsTrue (joined (Holds t) more mask y)) (sym x.at.is)
+        (and_from (t == t) (is_in_both more mask (right_place d SendOnce)) (eq-eqb t t refl)
+        (there_both more mask d SendOnce (nat_lt d (classes W))
+        (is_within (Carry c d SendOnce) && (same_right SendOnce SendOnce && has facts (Backup c d)))
+        (all d SendOnce) (of_mask d SendOnce) (lt-ltb d (classes W) x.below)
+        (and_from (is_within (Carry c d SendOnce))
+        (same_right SendOnce SendOnce && has facts (Backup c d))
+        (carry_within c d SendOnce (omega (arith, low, few))
+        (let h = x.below in omega (arith, h, few)))
+        x.at.there)))

@@ -20,13 +20,13 @@ use Rattle.mrc_model.proofs.Concluding.{same_right_is}
 use Rattle.mrc_wiring.specs.Slots.{takes}
 use Rattle.mrc_wiring.proofs.Takers.{taker}
 use Rattle.mrc_facts.specs.Sets.{has}
-use Rattle.mrc_classes.specs.Parts.{are_linked}
+use Rattle.mrc_classes.specs.Parts.{are_linked, can_send_to}
 use Rattle.mrc_classes.specs.Following.{IsListOf, IsFirstFact, IsHeldAtFirst}
 use Rattle.mrc_classes.specs.declared.rule_names.RuleName.{RuleName}
 use Rattle.mrc_classes.specs.declared.rule_names.RuleName.TheVariants.{First, Births, Weaker, Slot}
 use Rattle.mrc_classes.specs.declared.rule_names.RuleName.TheVariants.{Reply, Received, KernelPort}
 use Rattle.mrc_classes.specs.declared.rule_names.RuleName.TheVariants.{Request, Notice, Returned}
-use Rattle.mrc_classes.specs.Lacks.{conclusion, can_send_to, Concludes, IsBirthClass, IsReceiver}
+use Rattle.mrc_classes.specs.Lacks.{conclusion, Concludes, IsBirthClass, IsReceiver}
 use Rattle.mrc_classes.specs.declared.instances.FewFacts.{FewFacts}
 use Rattle.mrc_classes.specs.declared.instances.FewFacts.TheVariants.{Empty, One, Two}
 use Rattle.mrc_classes.specs.Instances.{premise_list, IsInstance, IsSending}

@@ -2,7 +2,6 @@ pub mod Adding
 pub mod Concluding
 pub mod Joined
 pub mod Spreads
-pub mod Turning
 pub mod Following
 pub mod Beginning
 pub mod Missed

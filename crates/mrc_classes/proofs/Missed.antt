@@ -25,7 +25,8 @@ use Rattle.mrc_classes.specs.declared.rule_names.RuleName.TheVariants.{First, Bi
 use Rattle.mrc_classes.specs.declared.rule_names.RuleName.TheVariants.{Reply, Received, KernelPort}
 use Rattle.mrc_classes.specs.declared.rule_names.RuleName.TheVariants.{Request, Notice, Returned}
 use Rattle.mrc_classes.specs.declared.lacking.Missing.{Missing}
-use Rattle.mrc_classes.specs.Lacks.{conclusion, rows, can_send_to, Concludes, Lacks}
+use Rattle.mrc_classes.specs.Lacks.{conclusion, rows, Concludes, Lacks}
+use Rattle.mrc_classes.specs.Parts.{can_send_to}
 use Rattle.mrc_classes.specs.Lacks.{LacksNothing, IsFirstLack}
 use Rattle.mrc_classes.specs.Missing.{rule_number, IsMissing, IsFirstMissing, IsAnswer}
 use Rattle.mrc_classes.proofs.Beginning.{first_hold_is}

@@ -13,7 +13,7 @@ use Rattle.mrc_model.specs.Conclusions.{same_right}
 use Rattle.mrc_wiring.specs.Slots.{takes}
 use Rattle.mrc_facts.specs.Order.{right_number}
 use Rattle.mrc_classes.specs.Following.{IsHeldAtFirst}
-use Rattle.mrc_classes.specs.Parts.{are_linked}
+use Rattle.mrc_classes.specs.Parts.{are_linked, can_send_to}
 use Rattle.mrc_classes.specs.declared.rule_names.RuleName.{RuleName}
 use Rattle.mrc_classes.specs.declared.rule_names.RuleName.TheVariants.{First, Births, Weaker, Slot}
 use Rattle.mrc_classes.specs.declared.rule_names.RuleName.TheVariants.{Reply, Received, KernelPort}
@@ -44,10 +44,6 @@ rows W KernelPort = W.tasks
 rows W Request = classes W
 rows W Notice = classes W
 rows W Returned = W.tasks
-
--- task t can send to class d
-abbrev pub can_send_to : (Fact → Bool) → ℕ → ℕ → Bool
-can_send_to S t d = S (Hold t d Send) || S (Hold t d SendOnce)
 
 -- some task can send to class d, and holds q on class c
 abbrev pub IsSender : Wiring → (Fact → Bool) → ℕ → ℕ → PortRight → Type 0

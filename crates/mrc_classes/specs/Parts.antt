@@ -1,15 +1,14 @@
--- What follows from a fact with those of a set, rule by rule and place by place. W is the wiring,
--- S tells the facts of the set. This profile's own choice.
-use Rattle.std.specs.Prelude.{◌≡◌, ℕ, ◌-◌, ◌<◌, ◌⊎◌, Bool, true, ◌&&◌, ◌||◌, List, Some, IsTrue}
+-- What follows from new facts with those of a set, rule by rule and place by place. W is the
+-- wiring. This profile's own choice.
+use Rattle.std.specs.Prelude.{◌≡◌, ℕ, ◌<◌, ◌⊎◌, Bool, true, ◌&&◌, ◌||◌, nat_lt, List, Some, IsTrue}
 use Rattle.mrc_base.specs.declared.PortRight.{PortRight}
 use Rattle.mrc_base.specs.declared.PortRight.TheVariants.{Send, Receive, SendOnce}
 use Rattle.mrc_base.specs.declared.Fact.{Fact}
 use Rattle.mrc_base.specs.declared.Fact.TheVariants.{Hold, Carry, Backup}
 use Rattle.mrc_model.specs.IsIn.{IsIn}
-use Rattle.mrc_model.specs.Wiring.{Wiring, classes, births_class, kernel_class, is_kernel_class}
+use Rattle.mrc_model.specs.Wiring.{Wiring, classes, births_class, kernel_class}
 use Rattle.mrc_model.specs.Wiring.{accepts_destroyed}
-use Rattle.mrc_model.specs.Conclusions.{same_right, can_send}
-use Rattle.mrc_slots.specs.Passing.{passes, is_passed}
+use Rattle.mrc_slots.specs.Passing.{passes}
 use Rattle.mrc_classes.specs.Growing.{Only, If, Below}
 
 -- without premises
@@ -33,124 +32,90 @@ pub record IsBirth (W : Wiring) (c : ℕ) (g : Fact) : Type 0 where
   pub birth : births_class W task kind ≡ Some c
   pub is : g ≡ Hold task c Receive
 
--- of a task that holds a right on a class
+-- of two sets: S tells the facts of the one, T those of the other
 
 -- one for each of the three rights
 abbrev pub EachRight : (PortRight → Fact → Type 0) → Fact → Type 0
 EachRight P g = P Send g ⊎ (P Receive g ⊎ P SendOnce g)
 
 -- what class d takes of what t holds by the right q: by a slot, or as a reply right
-pub record SentTo (W : Wiring) (S : Fact → Bool) (t d : ℕ) (q : PortRight) (g : Fact) : Type 0 where
+pub record SentTo (W : Wiring) (T : Fact → Bool) (t d : ℕ) (q : PortRight) (g : Fact) : Type 0 where
   pub class : ℕ
   pub below : class < classes W
-  pub held : IsTrue (S (Hold t class q))
+  pub held : IsTrue (T (Hold t class q))
   pub give : PortRight
   pub passed : IsTrue (passes W d class q give)
   pub is : g ≡ Carry d class give
 
--- what the classes on which t holds the right r take of the right q on class c
-pub record SentBy (W : Wiring) (S : Fact → Bool) (t c : ℕ) (q r : PortRight) (g : Fact) : Type 0 where
-  pub to : ℕ
-  pub below : to < classes W
-  pub held : IsTrue (S (Hold t to r))
-  pub give : PortRight
-  pub passed : IsTrue (passes W to c q give)
-  pub is : g ≡ Carry to c give
+-- t can send to ports of class d
+abbrev pub can_send_to : (Fact → Bool) → ℕ → ℕ → Bool
+can_send_to S t d = S (Hold t d Send) || S (Hold t d SendOnce)
 
--- what is carried to class d, where t can send to it by the right r
-abbrev pub BySend : Wiring → (Fact → Bool) → ℕ → ℕ → PortRight → Fact → Type 0
-BySend W S t d r = If (can_send r) (EachRight (SentTo W S t d))
+-- what t can send to class d, by a hold of S, of its holds of T
+abbrev pub Sent : Wiring → (Fact → Bool) → (Fact → Bool) → ℕ → ℕ → Fact → Type 0
+Sent W S T t d = If (can_send_to S t d) (EachRight (SentTo W T t d))
 
--- what is carried of the right q on class c to each class to which t can send
-abbrev pub BySent : Wiring → (Fact → Bool) → ℕ → ℕ → PortRight → Fact → Type 0
-BySent W S t c q g = SentBy W S t c q Send g ⊎ SentBy W S t c q SendOnce g
-
--- the request that a port of class c be told to class d, where t receives at class c
+-- the request that a port of class c be told to class d, on which t holds a send-once right
 abbrev pub RequestAt : Wiring → (Fact → Bool) → ℕ → ℕ → ℕ → Fact → Type 0
-RequestAt W S t c d = Only (S (Hold t d SendOnce) && accepts_destroyed W d) (Backup c d)
+RequestAt W T t c d = Only (T (Hold t d SendOnce) && accepts_destroyed W d) (Backup c d)
 
--- the same, where t has a send-once right on class d
-abbrev pub RequestTo : (Fact → Bool) → ℕ → ℕ → ℕ → Fact → Type 0
-RequestTo S t d c = Only (S (Hold t c Receive)) (Backup c d)
+-- what t gets of class c, of what is carried to class d
+abbrev pub ReceivedAt : (Fact → Bool) → ℕ → ℕ → ℕ → Fact → Type 0
+ReceivedAt T t d c = EachRight (λ q. Only (T (Carry d c q)) (Hold t c q))
 
--- requests for port-destroyed notices
-abbrev pub ByRequests : Wiring → (Fact → Bool) → ℕ → ℕ → PortRight → Fact → Type 0
-ByRequests W S t c r g =
-    If (same_right r Receive) (Below (classes W) (RequestAt W S t c)) g
-    ⊎ If (same_right r SendOnce && accepts_destroyed W c) (Below (classes W) (RequestTo S t c)) g
+-- what t gets of an earlier request on a port of class c, which is told to class d
+abbrev pub NotifiedAt : (Fact → Bool) → ℕ → ℕ → ℕ → Fact → Type 0
+NotifiedAt T t c d = Only (T (Backup c d)) (Hold t d SendOnce)
 
--- of tasks of which one holds the kernel port of the other
+-- all that follows of T where t receives at class c by S
+abbrev pub Received : Wiring → (Fact → Bool) → (Fact → Bool) → ℕ → ℕ → Fact → Type 0
+Received W S T t c = If (S (Hold t c Receive)) (λ g.
+    Below (classes W) (RequestAt W T t c) g ⊎ (Below (classes W) (ReceivedAt T t c) g
+    ⊎ Below (classes W) (NotifiedAt T t c) g))
 
 -- what t gets of what u holds on class c
 abbrev pub SharedAt : (Fact → Bool) → ℕ → ℕ → ℕ → Fact → Type 0
-SharedAt S t u c = EachRight (λ q. Only (S (Hold u c q)) (Hold t c q))
+SharedAt T t u c = EachRight (λ q. Only (T (Hold u c q)) (Hold t c q))
 
 -- one of the two holds a send right to the other's kernel port
 abbrev pub are_linked : Wiring → (Fact → Bool) → ℕ → ℕ → Bool
 are_linked W S t u =
     S (Hold t (kernel_class W u) Send) || S (Hold u (kernel_class W t) Send)
 
--- what u gets of a hold of t
-abbrev pub PartnerAt : Wiring → (Fact → Bool) → ℕ → ℕ → PortRight → ℕ → Fact → Type 0
-PartnerAt W S t c q u = Only (are_linked W S t u) (Hold u c q)
+-- what t gets of all that u holds, where they are linked by S
+abbrev pub Shared : Wiring → (Fact → Bool) → (Fact → Bool) → ℕ → ℕ → Fact → Type 0
+Shared W S T t u = If (are_linked W S t u) (Below (classes W) (SharedAt T t u))
 
--- it is a send right to the kernel port of a task
-abbrev pub is_link : Wiring → ℕ → PortRight → Bool
-is_link W c r = same_right r Send && is_kernel_class W c
+-- of one set
 
--- what t and u get of one another, where t holds the kernel port of u
-abbrev pub ByLink : Wiring → (Fact → Bool) → ℕ → ℕ → Fact → Type 0
-ByLink W S t u g = Below (classes W) (SharedAt S t u) g ⊎ Below (classes W) (SharedAt S u t) g
+-- the weaker rights that t makes of a receive right
+abbrev pub Weaker : (Fact → Bool) → ℕ → ℕ → Fact → Type 0
+Weaker S t c = If (S (Hold t c Receive)) (λ g.
+    Only true (Hold t c Send) g ⊎ Only true (Hold t c SendOnce) g)
 
--- of receivers
+-- the receive right that comes with the notice of a request
+abbrev pub ReturnedAt : (Fact → Bool) → ℕ → ℕ → Fact → Type 0
+ReturnedAt S c d = Only (S (Backup c d)) (Carry d c Receive)
 
--- what t gets of class c, where it receives at class d
-abbrev pub ReceivedAt : (Fact → Bool) → ℕ → ℕ → ℕ → Fact → Type 0
-ReceivedAt S t d c = EachRight (λ q. Only (S (Carry d c q)) (Hold t c q))
+-- by place: N tells the new facts among those of S
 
--- the right of an earlier request on a port of class c, which is to class d
-abbrev pub NotifiedAt : (Fact → Bool) → ℕ → ℕ → ℕ → Fact → Type 0
-NotifiedAt S t c d = Only (S (Backup c d)) (Hold t d SendOnce)
+-- by a hold of t on class c
+abbrev pub ByHold : Wiring → (Fact → Bool) → (Fact → Bool) → ℕ → ℕ → Fact → Type 0
+ByHold W S T t c g = Sent W S T t c g ⊎ Received W S T t c g
 
--- what t gets, where it receives at class d and the right q on class c is to be had there
-abbrev pub ReceiverAt : (Fact → Bool) → ℕ → ℕ → PortRight → ℕ → Fact → Type 0
-ReceiverAt S d c q t = Only (S (Hold t d Receive)) (Hold t c q)
+-- at task t and class c
+abbrev pub AtClass : Wiring → (Fact → Bool) → (Fact → Bool) → ℕ → ℕ → Fact → Type 0
+AtClass W S N t c g = Weaker N t c g ⊎ (ByHold W S N t c g ⊎ ByHold W N S t c g)
 
--- all that follows where t receives at class c
-abbrev pub ByReceive : Wiring → (Fact → Bool) → ℕ → ℕ → Fact → Type 0
-ByReceive W S t c g =
-    Only true (Hold t c Send) g ⊎ (Only true (Hold t c SendOnce) g
-    ⊎ (Below (classes W) (ReceivedAt S t c) g ⊎ Below (classes W) (NotifiedAt S t c) g))
+-- for t, of task u
+abbrev pub OfTask : Wiring → (Fact → Bool) → (Fact → Bool) → ℕ → ℕ → Fact → Type 0
+OfTask W S N t u g = Shared W S N t u g ⊎ Shared W N S t u g
 
--- of a fact
+-- at task t
+abbrev pub AtTask : Wiring → (Fact → Bool) → (Fact → Bool) → ℕ → Fact → Type 0
+AtTask W S N t g = Below (classes W) (AtClass W S N t) g ⊎ Below W.tasks (OfTask W S N t) g
 
--- all that a hold is a premise of, but what is sent of it
-abbrev pub ByHold : Wiring → (Fact → Bool) → ℕ → ℕ → PortRight → Fact → Type 0
-ByHold W S t c r g =
-    BySend W S t c r g ⊎ (ByRequests W S t c r g ⊎ (Below W.tasks (PartnerAt W S t c r) g
-    ⊎ (If (same_right r Receive) (ByReceive W S t c) g
-    ⊎ If (is_link W c r) (ByLink W S t (c - W.ports)) g)))
-
--- all that a fact is a premise of, but what is sent of it
-abbrev pub ByFact : Wiring → (Fact → Bool) → Fact → Fact → Type 0
-ByFact W S (Hold t c r) g = ByHold W S t c r g
-ByFact W S (Carry d c r) g = Below W.tasks (ReceiverAt S d c r) g
-ByFact W S (Backup c d) g =
-    Only true (Carry d c Receive) g ⊎ Below W.tasks (ReceiverAt S c d SendOnce) g
-
--- what is sent of a hold
-abbrev pub OfFact : Wiring → (Fact → Bool) → Fact → Fact → Type 0
-OfFact W S (Hold t c r) g = BySent W S t c r g
-OfFact W S (Carry d c r) g = ⊥
-OfFact W S (Backup c d) g = ⊥
-
--- the right that class c takes of a right on itself
-abbrev pub CarriedToItself : Wiring → ℕ → PortRight → PortRight → Fact → Type 0
-CarriedToItself W c r give = Only (can_send r && is_passed W c c r give) (Carry c c give)
-
--- what a fact is both premises of
-abbrev pub ByItself : Wiring → Fact → Fact → Type 0
-ByItself W (Hold t c r) g =
-    EachRight (CarriedToItself W c r) g ⊎ Only (is_link W c r) (Hold (c - W.ports) c r) g
-ByItself W (Carry d c r) g = ⊥
-ByItself W (Backup c d) g = ⊥
+-- at the task of this number, where there is one, and at the class of this number
+abbrev pub AtPlace : Wiring → (Fact → Bool) → (Fact → Bool) → ℕ → Fact → Type 0
+AtPlace W S N p g =
+    If (nat_lt p W.tasks) (AtTask W S N p) g ⊎ Below (classes W) (ReturnedAt N p) g

@@ -13,8 +13,8 @@ ghost use Rattle.mrc_wiring.specs.Slots.{takes};
 ghost use Rattle.mrc_facts.specs.Order.{right_number};
 ghost use Rattle.mrc_facts.specs.Sets.{has};
 ghost use Rattle.mrc_classes.specs.Following.{IsListOf, IsHeldAtFirst};
-ghost use Rattle.mrc_classes.specs.Parts.{are_linked};
-ghost use Rattle.mrc_classes.specs.Lacks.{conclusion, rows, can_send_to, IsSender, IsCarriedBy};
+ghost use Rattle.mrc_classes.specs.Parts.{are_linked, can_send_to};
+ghost use Rattle.mrc_classes.specs.Lacks.{conclusion, rows, IsSender, IsCarriedBy};
 ghost use Rattle.mrc_classes.specs.Lacks.{IsReceiver, IsReceived, IsShared, IsReturned};
 ghost use Rattle.mrc_classes.specs.Lacks.{IsBirthClass, Concludes, Lacks, LacksNothing};
 ghost use Rattle.mrc_classes.specs.Lacks.{LacksNoneIn, IsRowLack, IsFirstLack};
@@ -130,7 +130,8 @@ fn is_birth_class(wired: &Wired, task: u16, class: u16) -> bool
 /// Whether the right is a receive right, and the class that of the task's births.
 pub(crate) fn is_birth(wired: &Wired, task: u16, class: u16, right: PortRight) -> bool
     ensures { IsTrue result ↔
-        (IsTrue (same_right right PortRight.Receive) × IsBirthClass (wiring_of wired.now) task class) }
+        (IsTrue (same_right right PortRight.Receive)
+        × IsBirthClass (wiring_of wired.now) task class) }
 {
     same_right(right, PortRight::Receive) && is_birth_class(wired, task, class)
 }
@@ -321,7 +322,8 @@ impl<'a> Search<'a> {
         })
     }
 
-    /// How many rows the rule has: one for each task, or one for each class, as its conclusions are.
+    /// How many rows the rule has: one for each task, or one for each class, as its conclusions
+    /// are.
     pub fn rows(&self, rule: RuleName) -> u16
         ensures { result ≡ rows self.now.wiring rule }
     {

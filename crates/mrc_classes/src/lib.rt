@@ -3,7 +3,6 @@
 
 mod conclude;
 mod first_facts;
-mod found;
 mod instances;
 mod lacking;
 mod premise_set;
@@ -11,9 +10,8 @@ mod rights;
 mod rule_names;
 mod searching;
 
-pub use conclude::{consequences, with_consequences};
+pub use conclude::{conclude_at, consequences};
 pub use first_facts::first_rules;
-pub use found::Found;
 pub use instances::{FewFacts, Instance, instance_of};
 pub use lacking::{Missing, Search, violation};
 pub use mrc_base::Fact;

@@ -1,24 +1,31 @@
 //! Sets of facts as premises: with the rows that what slots take is joined with.
 
-ghost use Rattle.std.specs.Prelude.{◌≡◌, ◌+◌, ◌≤◌, [], ℕ, true, false, length, not, if◌then◌else◌, ◌&&◌, ◌||◌};
-ghost use Rattle.std.specs.Prelude.{IsTrue, IfOk, OnOk, OnErr};
+ghost use Rattle.std.specs.Prelude.{◌≡◌, ◌+◌, ◌≤◌, ◌↔◌, ◌&&◌, ◌||◌, [], ℕ, true, false, length};
+ghost use Rattle.std.specs.Prelude.{not};
+ghost use Rattle.std.specs.Prelude.{IsTrue, IsNone, IfOk, OnOk, OnErr, IfSome, IfNone};
+ghost use Rattle.std.specs.Prelude.{if◌then◌else◌};
 ghost use Rattle.mrc_base.specs.declared.Fact.{Fact};
 ghost use Rattle.mrc_base.specs.declared.PortRight.{PortRight};
 ghost use Rattle.mrc_bits.specs.Bits.{is_set};
 ghost use Rattle.mrc_facts.specs.Order.{is_same};
-ghost use Rattle.mrc_facts.specs.Sets.{has, with_fact, after, IsAscending};
+ghost use Rattle.mrc_facts.specs.Sets.{has, with_fact, first, after, IsAscending};
+ghost use Rattle.mrc_facts.specs.Laws.{IsLeast, IsNext, NoneAfter};
+ghost use Rattle.mrc_model.specs.Conclusions.{same_right};
 ghost use Rattle.mrc_rows.specs.Rows.{is_within, place_of};
 ghost use Rattle.mrc_rows.specs.Joining.{right_place, is_of};
 ghost use Rattle.mrc_classes.specs.Spreading.{IsSpread, AreSpread, is_held_on, IsFilled};
+ghost use Rattle.mrc_classes.specs.Spreading.{AreAsked, AreTold};
 
-use crate::rights::hold;
+use crate::rights::{backup, carry, hold};
 use mrc_base::{Fact, PortRight};
 use mrc_rows::{Facts, Row};
 use std::alloc::{AllocError, Global};
 use std::marker::Model;
 
-/// A set of facts, as premises. Beside it stands a set for each right, which has all three rights
-/// where a task holds this one.
+/// A set of facts, as premises. Beside it stand a set for each right, which has all three rights
+/// where a task holds this one. Those for send and receive rights have more: the one the classes on
+/// which each task holds a send-once right, as backups of the task's number, the other the backups,
+/// as carries of send-once rights.
 #[derive(Debug, Drop)]
 pub struct Premises {
     facts: Facts,
@@ -94,7 +101,8 @@ fn put_both(
     facts.insert(fact)
 }
 
-/// Puts a hold into the set, and all rights of its task on its class into the one beside it.
+/// Puts a hold that the set lacks into it, and all rights of its task on its class into the one
+/// beside it.
 fn put_hold(
     facts: &mut Facts,
     spread: &mut Facts,
@@ -102,9 +110,13 @@ fn put_hold(
     class: u16,
     right: PortRight,
 ) -> Result<bool, AllocError>
-    requires { IsSpread right facts.old spread.old }
+    requires lacks { has facts.old (Fact.Hold task class right) ≡ false }
+    requires spread { IsSpread right facts.old spread.old }
     ensures spread { IsSpread right facts.new spread.new }
-    ensures added { IfOk result (λ added. added ≡ not (has facts.old (Fact.Hold task class right))) }
+    ensures others { (g : Fact) → is_held_on task class g ≡ false →
+        has spread.new g ≡ has spread.old g }
+    ensures added { IfOk result (λ added.
+        added ≡ not (has facts.old (Fact.Hold task class right))) }
     ensures ok { OnOk result (facts.new ≡ with_fact facts.old (Fact.Hold task class right)) }
     ensures err { OnErr result (facts.new ≡ facts.old) }
     ensures members { OnOk result ((g : Fact) →
@@ -113,13 +125,78 @@ fn put_hold(
         length facts.new ≡ length facts.old + (if added then 1 else 0)) }
     ensures ascending { IsAscending facts.new }
 {
-    let fact = hold(task, class, right);
-    if facts.has(&fact) {
-        return facts.insert(fact);
-    }
-    let put = put_both(facts, spread, fact, task, class);
+    let put = put_both(facts, spread, hold(task, class, right), task, class);
     if put.is_err() {
         remove_each(spread, task, class);
+    }
+    put
+}
+
+/// Puts a send-once right that the set lacks into it, all rights of its task on its class into the
+/// one beside it, and the class into the one for send rights.
+fn put_once(
+    facts: &mut Facts,
+    once: &mut Facts,
+    send: &mut Facts,
+    task: u16,
+    class: u16,
+) -> Result<bool, AllocError>
+    requires lacks { has facts.old (Fact.Hold task class PortRight.SendOnce) ≡ false }
+    requires spread { IsSpread PortRight.SendOnce facts.old once.old }
+    requires send { IsSpread PortRight.Send facts.old send.old }
+    requires asked { AreAsked facts.old send.old }
+    ensures spread { IsSpread PortRight.SendOnce facts.new once.new }
+    ensures send { IsSpread PortRight.Send facts.new send.new }
+    ensures asked { AreAsked facts.new send.new }
+    ensures added { IfOk result (λ added.
+        added ≡ not (has facts.old (Fact.Hold task class PortRight.SendOnce))) }
+    ensures ok { OnOk result
+        (facts.new ≡ with_fact facts.old (Fact.Hold task class PortRight.SendOnce)) }
+    ensures err { OnErr result (facts.new ≡ facts.old) }
+    ensures members { OnOk result ((g : Fact) → has facts.new g
+        ≡ (is_same g (Fact.Hold task class PortRight.SendOnce) || has facts.old g)) }
+    ensures len { IfOk result (λ added.
+        length facts.new ≡ length facts.old + (if added then 1 else 0)) }
+    ensures ascending { IsAscending facts.new }
+{
+    let _count = facts.len();
+    let class_asked = backup(task, class);
+    let _new = send.insert(class_asked)?;
+    let put = put_hold(facts, once, task, class, PortRight::SendOnce);
+    if put.is_err() {
+        send.remove(&class_asked);
+    }
+    put
+}
+
+/// Puts a backup that the set lacks into it, and the carry of a send-once right that tells it into
+/// the one for receive rights.
+fn put_backup(
+    facts: &mut Facts,
+    receive: &mut Facts,
+    class: u16,
+    notify: u16,
+) -> Result<bool, AllocError>
+    requires lacks { has facts.old (Fact.Backup class notify) ≡ false }
+    requires spread { IsSpread PortRight.Receive facts.old receive.old }
+    requires told { AreTold facts.old receive.old }
+    ensures spread { IsSpread PortRight.Receive facts.new receive.new }
+    ensures told { AreTold facts.new receive.new }
+    ensures added { IfOk result (λ added. added ≡ not (has facts.old (Fact.Backup class notify))) }
+    ensures ok { OnOk result (facts.new ≡ with_fact facts.old (Fact.Backup class notify)) }
+    ensures err { OnErr result (facts.new ≡ facts.old) }
+    ensures members { OnOk result ((g : Fact) →
+        has facts.new g ≡ (is_same g (Fact.Backup class notify) || has facts.old g)) }
+    ensures len { IfOk result (λ added.
+        length facts.new ≡ length facts.old + (if added then 1 else 0)) }
+    ensures ascending { IsAscending facts.new }
+{
+    let _count = facts.len();
+    let right_told = carry(class, notify, PortRight::SendOnce);
+    let _new = receive.insert(right_told)?;
+    let put = facts.insert(backup(class, notify));
+    if put.is_err() {
+        receive.remove(&right_told);
     }
     put
 }
@@ -158,6 +235,13 @@ impl Premises {
         self.facts.len()
     }
 
+    /// Whether the set has no fact.
+    pub fn is_empty(&self) -> bool
+        ensures { IsTrue result ↔ (self.now ≡ []) }
+    {
+        self.facts.is_empty()
+    }
+
     /// Whether the set has the fact.
     pub fn has(&self, fact: &Fact) -> bool
         ensures { result ≡ has self.now fact.now }
@@ -176,6 +260,10 @@ impl Premises {
             length self.new ≡ length self.old + (if added then 1 else 0)) }
         ensures ascending { IsAscending self.new }
     {
+        let _count = self.facts.len();
+        if self.facts.has(&fact) {
+            return Ok(false);
+        }
         match fact {
             Fact::Hold { task, class, right } => match right {
                 PortRight::Send => {
@@ -185,10 +273,19 @@ impl Premises {
                     put_hold(&mut self.facts, &mut self.receive, task, class.0, right)
                 }
                 PortRight::SendOnce => {
-                    put_hold(&mut self.facts, &mut self.once, task, class.0, right)
+                    put_once(
+                        &mut self.facts,
+                        &mut self.once,
+                        &mut self.send,
+                        task,
+                        class.0,
+                    )
                 }
             },
-            Fact::Carry { .. } | Fact::Backup { .. } => self.facts.insert(fact),
+            Fact::Backup { class, notify } => {
+                put_backup(&mut self.facts, &mut self.receive, class.0, notify.0)
+            }
+            Fact::Carry { .. } => self.facts.insert(fact),
         }
     }
 
@@ -204,12 +301,55 @@ impl Premises {
         }
     }
 
+    /// The classes on which the task holds a send-once right.
+    pub(crate) fn once_classes(&self, task: u16) -> &[u64]
+        ensures { (d : ℕ) → is_set result.now d ≡ (is_within (Fact.Backup task d)
+            && has self.now (Fact.Hold task d PortRight.SendOnce)) }
+    {
+        self.send.words(Row::Backups(task))
+    }
+
+    /// The classes to which an earlier request on a port of the class is told, at the places of
+    /// send-once rights on them.
+    pub(crate) fn told_of(&self, class: u16) -> &[u64]
+        ensures { (d : ℕ) (any : PortRight) → is_set result.now (right_place d any)
+            ≡ (is_within (Fact.Carry class d any)
+            && (same_right any PortRight.SendOnce && has self.now (Fact.Backup class d))) }
+    {
+        self.receive.words(Row::Carries(class))
+    }
+
     /// The words of a row of the set itself.
     pub(crate) fn words(&self, row: Row) -> &[u64]
         ensures { (g : Fact) → is_of row g ≡ true →
             is_set result.now (place_of g) ≡ (is_within g && has self.now g) }
     {
         self.facts.words(row)
+    }
+
+    /// The least fact.
+    pub fn first(&self) -> Option<Fact>
+        ensures exact { result ≡ first self.now }
+        ensures least { IfSome result (IsLeast self.now) }
+        ensures none { IsNone result ↔ (self.now ≡ []) }
+    {
+        self.facts.first()
+    }
+
+    /// The least fact that is greater than this one, which need not be in the set.
+    pub fn after(&self, fact: Fact) -> Option<Fact>
+        ensures exact { result ≡ after self.now fact }
+        ensures least { IfSome result (IsNext self.now fact) }
+        ensures none { IfNone result (NoneAfter self.now fact) }
+    {
+        self.facts.after(fact)
+    }
+
+    /// The set itself.
+    pub fn facts(&self) -> &Facts
+        ensures { result.now ≡ self.now }
+    {
+        &self.facts
     }
 
     /// The set alone.

@@ -1,12 +1,11 @@
 //! Facts from numbers, tests on rights, and what a wiring's numbers say.
 
-ghost use Rattle.std.specs.Prelude.{◌≡◌, ◌+◌, ◌-◌, ◌<◌, ◌↔◌, false, IsTrue, IfSome, IfNone};
+ghost use Rattle.std.specs.Prelude.{◌≡◌, ◌<◌, ◌↔◌, IsTrue};
 ghost use Rattle.mrc_base.specs.declared.Fact.{Fact};
 ghost use Rattle.mrc_model.specs.Wiring.{classes, kernel_class};
 ghost use Rattle.mrc_model.specs.Rules.{InRange};
-ghost use Rattle.mrc_model.specs.Conclusions.{same_right, can_send};
+ghost use Rattle.mrc_model.specs.Conclusions.{same_right};
 ghost use Rattle.mrc_wiring.specs.Table.{wiring_of};
-ghost use Rattle.mrc_classes.specs.Parts.{is_link};
 
 use mrc_base::{ClassId, Fact, PortRight};
 use mrc_wiring::Wired;
@@ -50,15 +49,6 @@ pub(crate) fn same_right(one: PortRight, other: PortRight) -> bool
     }
 }
 
-pub(crate) fn can_send(right: PortRight) -> bool
-    ensures { result ≡ can_send right }
-{
-    match right {
-        PortRight::Send | PortRight::SendOnce => true,
-        PortRight::Receive => false,
-    }
-}
-
 /// Whether the fact is over the wiring's tasks and classes.
 pub(crate) fn is_in_range(wired: &Wired, fact: &Fact) -> bool
     ensures { IsTrue result ↔ InRange (wiring_of wired.now) fact.now }
@@ -83,23 +73,4 @@ pub(crate) fn kernel_port(wired: &Wired, task: u16) -> u16
 {
     let _classes = wired.classes();
     wired.ports() + task
-}
-
-/// The task to whose kernel port this is a send right.
-pub(crate) fn linked_task(wired: &Wired, class: u16, right: PortRight) -> Option<u16>
-    ensures some { IfSome result (λ u. (u ≡ class - (wiring_of wired.now).ports)
-        × IsTrue (is_link (wiring_of wired.now) class right)) }
-    ensures none { IfNone result (is_link (wiring_of wired.now) class right ≡ false) }
-{
-    match right {
-        PortRight::Send => {
-            let ports = wired.ports();
-            if ports <= class && class < ports + wired.tasks() {
-                Some(class - ports)
-            } else {
-                None
-            }
-        }
-        PortRight::Receive | PortRight::SendOnce => None,
-    }
 }

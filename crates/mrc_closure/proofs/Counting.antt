@@ -1,6 +1,6 @@
 -- How many facts there can be over a wiring's tasks and classes, and so how many rounds.
 use Rattle.std.proofs.Common.{◌≡◌, ℕ, ◌+◌, ◌*◌, ◌-◌, ◌^◌, ◌<◌, ◌≤◌, false, List, []}
-use Rattle.std.proofs.Common.{◌∷◌, length, refl, IsTrue, inl, inr, arith}
+use Rattle.std.proofs.Common.{◌∷◌, length, refl, subst, IsTrue, inl, inr, arith}
 use Rattle.std.proofs.lemmas.Bool.{or_left, or_right, and_parts}
 use Rattle.mrc_base.specs.declared.Fact.{Fact}
 use Rattle.mrc_base.specs.declared.Fact.TheVariants.{Hold, Carry, Backup}
@@ -12,8 +12,10 @@ use Rattle.mrc_facts.specs.Order.{last_byte}
 use Rattle.mrc_facts.specs.Sets.{has, are_ascending, IsAscending}
 use Rattle.mrc_facts.proofs.Total.{same_itself}
 use Rattle.mrc_facts.proofs.Comparing.{cmp_less, last_less}
+use Rattle.mrc_wiring.specs.Table.{Table, wiring_of}
 use Rattle.mrc_closure.specs.Merging.{Merged}
-use Rattle.mrc_closure.proofs.Keeping.{some, IsRound}
+use Rattle.mrc_closure.specs.Least.{IsLeastList}
+use Rattle.mrc_closure.proofs.Keeping.{some, IsRound, at_rest}
 
 -- a number that rises with the order of facts
 abbrev pub code : Fact → ℕ
@@ -137,3 +139,18 @@ fewer W small facts new found facts_then new_then one round m =
         → 2 * (2 ^ 32 - length facts_then) + some xs < 2 * (2 ^ 32 - length facts) + some new
     rest h [] e = omega (arith, h, e, one)
     rest h (x ∷ xs) e = omega (arith, h, e, one)
+
+-- a wiring has as few classes as it tells
+pub small_at : (table : Table) (n : ℕ) → n ≡ classes (wiring_of table) → n < 2 ^ 14
+    → IsSmall (wiring_of table)
+small_at table n is low = small_of (wiring_of table) (subst (λ k. k < 2 ^ 14) is low)
+
+-- no new fact is left
+pub least_list : (W : Wiring) → IsSmall W → (facts new : List Fact) → new ≡ [] → IsRound W facts new
+    → IsLeastList W facts
+least_list W small facts new none round = record {
+  least = at_rest W facts (subst (IsRound W facts) none round);
+  in_range = λ f h. (round.derived f h).0;
+  ascending = round.ascending;
+  few = few W small facts round.ascending (λ f h. (round.derived f h).0);
+}

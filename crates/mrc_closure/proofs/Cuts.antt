@@ -1,13 +1,17 @@
 -- Where a list is cut at one of its elements, and the members of lists of facts.
-use Rattle.std.proofs.Common.{◌≡◌, ◌+◌, ℕ, Bool, true, false, List, [], ◌∷◌, ◌++◌, refl, sym, ap}
-use Rattle.std.proofs.Common.{subst, ◌∙◌, IsTrue, ◌⊎◌, inl, inr}
-use Rattle.std.specs.Prelude.{◌||◌}
-use Rattle.std.proofs.lemmas.Bool.{or_cases, or_left, or_right}
+use Rattle.std.proofs.Common.{◌≡◌, List, [], ◌∷◌, ◌++◌, refl, sym, ap, subst, ◌∙◌, IsTrue, ◌⊎◌}
+use Rattle.std.proofs.Common.{inl, inr, take, Option, Some, None, append_assoc}
+use Rattle.std.specs.Ordering.{is_lt}
+use Rattle.std.specs.List.Sorted.{IsStrictlySortedBy}
+use Rattle.std.specs.declared.cmp.Ordering.TheVariants.{Less}
+use Rattle.std.proofs.lemmas.Bool.{and_parts, or_cases, or_left, or_right, true≢false}
 use Rattle.mrc_base.specs.declared.Fact.{Fact}
-use Rattle.mrc_model.specs.IsIn.{IsIn, here, later}
-use Rattle.mrc_facts.specs.Order.{is_same}
-use Rattle.mrc_facts.specs.Sets.{has}
-use Rattle.mrc_facts.proofs.Total.{equal_from_same, same_itself}
+use Rattle.mrc_facts.specs.Order.{fact_cmp, is_before, is_same}
+use Rattle.mrc_facts.specs.Sets.{has, begins_after, are_ascending, IsAscending}
+use Rattle.mrc_facts.proofs.Members.{at_member, sorted}
+use Rattle.mrc_facts.proofs.Total.{equal_from_same, not_before_itself, same_itself}
+use Rattle.mrc_facts.proofs.Walking.{place, walk_ends, IsStep}
+use Rattle.mrc_closure.specs.Orders.{IsOnce}
 
 pub cut_none : {X : Type 0} → (before : List X) (x : X) (behind : List X)
     → [] ≡ before ++ x ∷ behind
@@ -83,20 +87,40 @@ cut_longer {X} xs ys before x rest e =
     go [] = refl
     go (z ∷ zs) = ap (λ ws. z ∷ ws) (go zs)
 
+-- the facts of a walk, behind those of a list
+
+pub behind_none : (facts list : List Fact) (next : Option Fact)
+    → place facts next ≡ 0
+    → list ≡ list ++ take (place facts next) facts
+behind_none facts list next at =
+    sym (append-none list) ∙ ap (λ n. list ++ take n facts) (sym at)
+  where
+    append-none : (fs : List Fact) → fs ++ [] ≡ fs
+    append-none [] = refl
+    append-none (f ∷ fs) = ap (λ gs. f ∷ gs) (append-none fs)
+
+pub behind_more : (facts first list : List Fact) (next : Option Fact) (f : Fact)
+    → next ≡ Some f
+    → list ≡ first ++ take (place facts next) facts
+    → (next_then : Option Fact)
+    → IsStep facts f next_then
+    → (longer : List Fact)
+    → longer ≡ list ++ f ∷ []
+    → longer ≡ first ++ take (place facts next_then) facts
+behind_more facts first list next f is so_far next_then step longer pushed =
+    pushed ∙ (ap (λ fs. fs ++ f ∷ []) (so_far ∙ ap (λ o. first ++ take (place facts o) facts) is)
+    ∙ (append_assoc first (take (place facts (Some f)) facts) (f ∷ [])
+    ∙ ap (λ fs. first ++ fs) (sym step.taken)))
+
+pub behind_all : (facts first list : List Fact) (next : Option Fact)
+    → next ≡ None
+    → list ≡ first ++ take (place facts next) facts
+    → list ≡ first ++ facts
+behind_all facts first list next is so_far =
+    so_far ∙ (ap (λ o. first ++ take (place facts o) facts) is
+    ∙ ap (λ fs. first ++ fs) (walk_ends facts))
+
 -- members
-
-pub in_of_has : (g : Fact) (fs : List Fact) → IsTrue (has fs g) → IsIn g fs
-in_of_has g [] h = absurd cc
-in_of_has g (f ∷ fs) h =
-    elim (or_cases (is_same g f) (has fs g) h) [
-      | inl same ↦ subst (λ x. IsIn x (f ∷ fs)) (sym (equal_from_same g f same)) here
-      | inr rest ↦ later (in_of_has g fs rest)
-    ]
-
-pub has_of_in : (g : Fact) (fs : List Fact) → IsIn g fs → IsTrue (has fs g)
-has_of_in g [] at = elim at [ ]
-has_of_in g (f ∷ fs) here = or_left (is_same f f) (has fs f) (same_itself f)
-has_of_in g (f ∷ fs) (later at) = or_right (is_same g f) (has fs g) (has_of_in g fs at)
 
 pub has_append : (fs gs : List Fact) (g : Fact)
     → IsTrue (has (fs ++ gs) g)
@@ -123,3 +147,25 @@ pub has_right : (fs gs : List Fact) (g : Fact) → IsTrue (has gs g) → IsTrue 
 has_right [] gs g h = h
 has_right (f ∷ fs) gs g h =
     or_right (is_same g f) (has (fs ++ gs) g) (has_right fs gs g h)
+
+-- no fact stands twice in an ascending list
+pub once_ascending : (fs : List Fact) → IsAscending fs → IsOnce fs
+unfolding IsStrictlySortedBy
+once_ascending fs up [] f later e h = absurd cc
+once_ascending [] up (x ∷ earlier) f later e h = absurd cc
+once_ascending (y ∷ fs) up (x ∷ earlier) f later e h =
+    let same : y ≡ x = cc in
+    let rest : fs ≡ earlier ++ f ∷ later = cc in
+    let there : IsTrue (has fs f) = subst (λ gs. IsTrue (has gs f)) (sym rest)
+    (has_right earlier (f ∷ later) f (or_left (is_same f f) (has later f) (same_itself f))) in
+    elim (or_cases (is_same f x) (has earlier f) h) [
+      | inl again ↦ apart y f (ap is_lt
+          (at_member (λ g. fact_cmp y g ≡ Less) fs (sorted (y ∷ fs) up).0 f there))
+          (equal_from_same f x again ∙ sym same)
+      | inr before ↦ once_ascending fs (and_parts (begins_after y fs) (are_ascending fs) up).1
+          earlier f later rest before
+    ]
+  where
+    apart : (a b : Fact) → IsTrue (is_before a b) → b ≡ a → ⊥
+    apart a b low e =
+        true≢false (sym (subst (λ (z : Fact). IsTrue (is_before a z)) e low) ∙ not_before_itself a)

@@ -1,28 +1,27 @@
 -- The order in which rounds find facts, and the links that are taken of it.
-use Rattle.std.proofs.Common.{◌≡◌, ℕ, Bool, true, false, List, [], ◌∷◌, ◌++◌, refl, sym, ap}
+use Rattle.std.proofs.Common.{◌≡◌, Bool, true, false, List, [], ◌∷◌, ◌++◌, refl, sym, ap}
 use Rattle.std.proofs.Common.{subst, ◌∙◌, IsTrue, ◌⊎◌, inl, inr}
-use Rattle.std.specs.Prelude.{not, ◌&&◌, ◌||◌, ◌↔◌}
+use Rattle.std.specs.Prelude.{not, ◌&&◌, ◌||◌}
 use Rattle.std.specs.List.{AllByRecursion}
 use Rattle.std.proofs.lemmas.Bool.{or_cases, or_left, or_right, and_parts, and_from}
 use Rattle.mrc_base.specs.declared.Fact.{Fact}
 use Rattle.mrc_model.specs.IsIn.{IsIn, here, later}
 use Rattle.mrc_model.specs.Wiring.{Wiring}
-use Rattle.mrc_model.specs.Rules.{Has, InRange, Rule, Follows, Instance, Derives, EndsIn}
-use Rattle.mrc_model.specs.Rules.{IsDerivation, Least, Closed, IsLeast}
+use Rattle.mrc_model.specs.Rules.{Has, InRange, Rule, Instance, Derives, EndsIn}
+use Rattle.mrc_model.specs.Rules.{IsDerivation}
 use Rattle.mrc_facts.specs.Order.{is_same}
-use Rattle.mrc_facts.specs.Sets.{has}
-use Rattle.mrc_classes.specs.Following.{IsConsequence, IsFirstFact, IsListOf}
-use Rattle.mrc_classes.specs.Instances.{premise_list, IsInstance}
+use Rattle.mrc_facts.specs.Sets.{has, IsAscending}
+use Rattle.mrc_classes.specs.Following.{IsFirstFact, IsListOf}
+use Rattle.mrc_classes.specs.Instances.{premise_list}
 use Rattle.mrc_facts.proofs.Total.{equal_from_same, same_itself}
 use Rattle.mrc_classes.proofs.Following.{all_as}
 use Rattle.mrc_closure.specs.declared.chains.Link.{Link}
 use Rattle.mrc_closure.specs.Merging.{FromOne, Merged}
 use Rattle.mrc_closure.specs.Orders.{IsFollowing, IsOnce, IsOrder, HaveSame, link_instance}
 use Rattle.mrc_closure.specs.Orders.{backward, HasLink, IsLinked}
-use Rattle.mrc_closure.proofs.Cuts.{cut_none, IsCutLeft, IsCutRight, cut_append, cut_push}
-use Rattle.mrc_closure.proofs.Cuts.{cut_longer, in_of_has, has_of_in, has_append, has_left}
-use Rattle.mrc_closure.proofs.Cuts.{has_right}
-use Rattle.mrc_closure.proofs.Keeping.{IsRound, decide}
+use Rattle.mrc_closure.proofs.Cuts.{cut_none, cut_append}
+use Rattle.mrc_closure.proofs.Cuts.{cut_longer, has_append, has_left, has_right, once_ascending}
+use Rattle.mrc_closure.proofs.Keeping.{decide, new_found, new_lacked, new_there, old_or_new}
 
 -- what follows from a set follows from a larger one
 following_more : (W : Wiring) (S T : Fact → Bool) (f : Fact)
@@ -49,32 +48,45 @@ pub record IsOrdered (W : Wiring) (facts order new : List Fact) : Type 0 where
   pub of_facts : (g : Fact) → IsTrue (has facts g) → IsTrue (has order g) ⊎ IsTrue (has new g)
   pub in_facts : (g : Fact) → IsTrue (has order g) → IsTrue (has facts g)
   pub new_facts : (g : Fact) → IsTrue (has new g) → IsTrue (has facts g)
-  pub new_once : IsOnce new
   pub new_behind : (g : Fact) → IsTrue (has new g) → IsTrue (has order g) → ⊥
   pub follow : (g : Fact) → IsTrue (has new g) → IsFollowing W (has order) g
 
-pub order_begun : (W : Wiring) (first facts new : List Fact)
+order_begun_from : (W : Wiring) (first facts new : List Fact)
     → IsListOf (IsFirstFact W) first
     → Merged [] first facts new
     → IsOrdered W facts [] new
-order_begun W first facts new begins m = record {
+order_begun_from W first facts new begins m = record {
   in_order = λ before f behind e. absurd (cut_none before f behind e);
   once = λ before f behind e. absurd (cut_none before f behind e);
-  of_facts = λ g h. inr (has_of_in g new (m.new_ones.all g (subst IsTrue (m.members g) h) refl));
+  of_facts = λ g h. elim (old_or_new [] first facts new m g h) [
+    | inl none ↦ inl none
+    | inr at ↦ inr at.1
+  ];
   in_facts = λ g h. absurd cc;
-  new_facts = λ g h. subst IsTrue (sym (m.members g))
-      (m.new_ones.there g (in_of_has g new h)).0;
-  new_once = m.new_ones.once;
+  new_facts = new_there [] first facts new m;
   new_behind = λ g h none. absurd cc;
-  follow = λ g h. let x = (begins g).0 (m.new_ones.there g (in_of_has g new h)).0 in
+  follow = λ g h. let x = (begins g).0 (new_found [] first facts new m g h) in
       record {
         rule = x.rule;
         follows = record { premises = []; rule = x.instance; known = tt; in_range = x.in_range };
       };
 }
 
+-- nothing was found yet
+pub order_begun : (W : Wiring) (before first facts order new : List Fact)
+    → before ≡ []
+    → order ≡ []
+    → IsListOf (IsFirstFact W) first
+    → Merged before first facts new
+    → IsOrdered W facts order new
+order_begun W before first facts order new none empty begins m =
+    subst (λ fs. IsOrdered W facts fs new) (sym empty)
+    (order_begun_from W first facts new begins
+    (subst (λ fs. Merged fs first facts new) none m))
+
 -- the order with the new facts
-module _ (W : Wiring) (facts order new : List Fact) (o : IsOrdered W facts order new) where
+module _ (W : Wiring) (facts order new : List Fact) (o : IsOrdered W facts order new)
+    (ascending : IsAscending new) where
   order_more : IsOrder W (order ++ new)
   order_more before f behind e =
       elim (cut_append order new before f behind e) [
@@ -97,7 +109,7 @@ module _ (W : Wiring) (facts order new : List Fact) (o : IsOrdered W facts order
             (or_left (is_same f f) (has behind f) (same_itself f))) in
             elim (has_append order at.between f (subst (λ fs. IsTrue (has fs f)) at.start h)) [
               | inl old ↦ o.new_behind f at_new old
-              | inr again ↦ o.new_once at.between f behind at.is again
+              | inr again ↦ once_ascending new ascending at.between f behind at.is again
             ]
       ]
 
@@ -121,23 +133,17 @@ module _ (W : Wiring) (facts order new : List Fact) (o : IsOrdered W facts order
   order_gone_on found facts_then new_then found_is m = record {
     in_order = order_more;
     once = once_more;
-    of_facts = λ g h. elim (decide (has facts g)) [
+    of_facts = λ g h. elim (old_or_new facts found facts_then new_then m g h) [
       | inl old ↦ inl (all_facts g old)
-      | inr lacked ↦ elim (or_cases (has facts g) (has found g) (subst IsTrue (m.members g) h)) [
-        | inl old ↦ inl (all_facts g old)
-        | inr got ↦ inr (has_of_in g new_then (m.new_ones.all g got lacked))
-      ]
+      | inr at ↦ inr at.1
     ];
     in_facts = λ g h. subst IsTrue (sym (m.members g))
         (or_left (has facts g) (has found g) (no_more g h));
-    new_facts = λ g h. subst IsTrue (sym (m.members g))
-        (or_right (has facts g) (has found g)
-        (m.new_ones.there g (in_of_has g new_then h)).0);
-    new_once = m.new_ones.once;
-    new_behind = λ g h old. let lacked = (m.new_ones.there g (in_of_has g new_then h)).1 in
+    new_facts = new_there facts found facts_then new_then m;
+    new_behind = λ g h old. let lacked = new_lacked facts found facts_then new_then m g h in
         let there = no_more g old in
         absurd cc;
-    follow = λ g h. followed g ((found_is g).0 (m.new_ones.there g (in_of_has g new_then h)).0);
+    follow = λ g h. followed g ((found_is g).0 (new_found facts found facts_then new_then m g h));
   }
     where
       known : (x : Fact) (p : Fact)
@@ -158,7 +164,7 @@ module _ (W : Wiring) (facts order new : List Fact) (o : IsOrdered W facts order
               rule = c.rule;
               known = all_as (λ q. InRange W q × ((q ≡ x.premise) ⊎ Has (has facts) q))
                   (λ q. InRange W q × Has (has (order ++ new)) q) c.premises
-                  (λ p h. (h.0, known x.premise p (has_of_in x.premise new x.there) h.1))
+                  (λ p h. (h.0, known x.premise p x.there h.1))
                   c.known;
               in_range = c.in_range;
             };

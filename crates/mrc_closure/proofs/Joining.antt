@@ -1,6 +1,6 @@
 -- Facts of the element at each place of a list that grows at its end, or is taken from the front.
-use Rattle.std.proofs.Common.{◌≡◌, ◌+◌, ℕ, zero, suc, List, [], ◌∷◌, ◌++◌, Option, Some, None}
-use Rattle.std.proofs.Common.{length, slice_get, refl, sym, ap, ◌∙◌, subst, arith}
+use Rattle.std.proofs.Common.{◌≡◌, ◌+◌, ℕ, zero, suc, List, [], ◌∷◌, ◌++◌, Some}
+use Rattle.std.proofs.Common.{length, slice_get, sym, ap, ◌∙◌, subst, arith}
 
 -- the one element of a list
 only_there : {X : Type 0} (P : ℕ → X → Type 0) (x : X) → P 0 x

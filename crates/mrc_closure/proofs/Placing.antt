@@ -1,13 +1,13 @@
 -- The links of a derivation as steps, each with the places of its premises.
-use Rattle.std.proofs.Common.{◌≡◌, ℕ, zero, suc, ◌+◌, ◌<◌, Bool, List, [], ◌∷◌, ◌++◌, length, refl, sym}
-use Rattle.std.proofs.Common.{ap, subst, ◌∙◌, IsTrue, ◌⊎◌, inl, inr, arith, Some, None}
+use Rattle.std.proofs.Common.{◌≡◌, ℕ, zero, suc, ◌<◌, Bool, List, [], ◌∷◌, ◌++◌, length, refl, sym}
+use Rattle.std.proofs.Common.{ap, subst, ◌∙◌, ◌⊎◌, inl, inr, arith, Some, None}
 use Rattle.std.specs.Prelude.{Option, IfNone}
 use Rattle.std.specs.List.{AllByRecursion, slice_get}
 use Rattle.mrc_base.specs.declared.Fact.{Fact}
 use Rattle.mrc_model.specs.IsIn.{IsIn, here, later}
 use Rattle.mrc_model.specs.Wiring.{Wiring}
 use Rattle.mrc_model.specs.Rules.{Has, InRange, Rule, Instance, Derives, EndsIn}
-use Rattle.mrc_model.specs.Rules.{IsDerivation, Least, Closed}
+use Rattle.mrc_model.specs.Rules.{IsDerivation, Closed}
 use Rattle.mrc_classes.specs.Missing.{rule_number}
 use Rattle.mrc_classes.specs.Instances.{premise_list}
 use Rattle.mrc_classes.specs.declared.instances.FewFacts.{FewFacts}
@@ -19,7 +19,7 @@ use Rattle.mrc_closure.specs.Chains.{place_list, IsAt, AreAt, IsStep, AreSteps, 
 use Rattle.mrc_closure.specs.Chains.{ChainsAreLeast}
 use Rattle.mrc_closure.specs.Orders.{link_instance, backward, HasStep, IsPlaced}
 use Rattle.std.proofs.lemmas.List.{length-append}
-use Rattle.mrc_closure.proofs.Cuts.{cut_none, IsCutLeft, cut_push, cut_longer}
+use Rattle.mrc_closure.proofs.Cuts.{cut_none, cut_push, cut_longer}
 use Rattle.mrc_closure.proofs.Deriving.{backward_push}
 
 get_left : (xs ys : List Step) (n : ℕ) (s : Step)

@@ -1,37 +1,32 @@
--- How the new facts of a round are dealt out among workers, and what follows from those of one.
--- This profile's own choice.
-use Rattle.std.specs.Prelude.{◌≡◌, ◌↔◌, ℕ, ◌<◌, ◌%◌, List, Some, slice_get, Result, IfOk, IsTrue}
+-- How the places of a round are dealt out among workers, and what follows at those of one. The
+-- places are the numbers below that of the classes: at each stand the task and the class of this
+-- number. This profile's own choice.
+use Rattle.std.specs.Prelude.{◌≡◌, ℕ, ◌<◌, ◌%◌, List, Result, IfOk}
 use Rattle.std.specs.declared.alloc.AllocError.{AllocError}
 use Rattle.mrc_base.specs.declared.Fact.{Fact}
-use Rattle.mrc_model.specs.IsIn.{IsIn}
-use Rattle.mrc_model.specs.Wiring.{Wiring}
-use Rattle.mrc_model.specs.Rules.{Has}
+use Rattle.mrc_model.specs.Wiring.{Wiring, classes}
 use Rattle.mrc_facts.specs.Sets.{has}
-use Rattle.mrc_classes.specs.Following.{IsConsequence, IsListOf}
+use Rattle.mrc_classes.specs.Growing.{Below}
+use Rattle.mrc_classes.specs.Following.{IsListOf}
+use Rattle.mrc_classes.specs.Parts.{AtPlace}
 
--- the fact stands at a place that is this worker's turn
-pub record IsDealt (new : List Fact) (worker workers : ℕ) (f : Fact) : Type 0 where
-  pub place : ℕ
-  pub there : slice_get new place ≡ Some f
+-- it follows from a new fact at the place, and the place is this worker's turn
+pub record AtTurn (W : Wiring) (facts new : List Fact) (worker workers place : ℕ) (g : Fact)
+    : Type 0 where
   pub turn : place % workers ≡ worker
+  pub at : AtPlace W (has facts) (has new) place g
 
--- these are the facts of the worker
-abbrev pub IsChunk : List Fact → ℕ → ℕ → List Fact → Type 0
-IsChunk new worker workers chunk = (f : Fact) → IsIn f chunk ↔ IsDealt new worker workers f
+-- it follows from a new fact at one of the worker's places
+unfoldable pub FromDealt : Wiring → List Fact → List Fact → ℕ → ℕ → Fact → Type 0
+FromDealt W facts new worker workers = Below (classes W) (AtTurn W facts new worker workers)
 
--- it follows from a fact of the worker, with those of the set
-pub record FromDealt (W : Wiring) (facts new : List Fact) (worker workers : ℕ) (g : Fact) : Type 0 where
-  pub premise : Fact
-  pub there : IsDealt new worker workers premise
-  pub consequence : IsConsequence W (Has (has facts)) premise g
-
--- it follows from a fact of one of the first n workers
+-- it follows from a new fact at a place of one of the first n workers
 pub record FromFirst (W : Wiring) (facts new : List Fact) (n workers : ℕ) (g : Fact) : Type 0 where
   pub worker : ℕ
   pub below : worker < n
   pub from : FromDealt W facts new worker workers g
 
--- what a worker found is what follows from its facts
+-- what a worker found is what follows at its places
 abbrev pub IsFind : Wiring → List Fact → List Fact → ℕ → ℕ → Result (List Fact) AllocError → Type 0
 IsFind W facts new worker workers found =
     IfOk found (IsListOf (FromDealt W facts new worker workers))

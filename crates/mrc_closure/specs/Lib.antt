@@ -1,4 +1,5 @@
 pub mod Merging
+pub mod Least
 pub mod Laws
 pub mod Chains
 pub mod Orders

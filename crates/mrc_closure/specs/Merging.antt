@@ -1,27 +1,36 @@
 -- A round: what follows from its new facts, and what is new of that. This profile's own choice.
-use Rattle.std.specs.Prelude.{◌≡◌, ◌+◌, Bool, false, ◌||◌, List, length, IsTrue}
+use Rattle.std.specs.Prelude.{◌≡◌, ◌+◌, not, ◌&&◌, ◌||◌, List, length, IsTrue}
 use Rattle.mrc_base.specs.declared.Fact.{Fact}
-use Rattle.mrc_model.specs.IsIn.{IsIn}
 use Rattle.mrc_model.specs.Wiring.{Wiring}
 use Rattle.mrc_model.specs.Rules.{Has}
-use Rattle.mrc_facts.specs.Sets.{has}
-use Rattle.mrc_classes.specs.Following.{IsConsequence}
-use Rattle.mrc_closure.specs.Orders.{IsOnce}
+use Rattle.mrc_facts.specs.Order.{is_same}
+use Rattle.mrc_facts.specs.Sets.{has, IsAscending}
+use Rattle.mrc_classes.specs.Following.{IsConsequence, IsListOf}
 
 -- it follows from one of the new facts, with those of the set
 pub record FromOne (W : Wiring) (facts new : List Fact) (g : Fact) : Type 0 where
   pub premise : Fact
-  pub there : IsIn premise new
+  pub there : IsTrue (has new premise)
   pub consequence : IsConsequence W (Has (has facts)) premise g
 
--- the list has those of the found facts that the set lacked, each once
-pub record IsNew (before found : Fact → Bool) (new : List Fact) : Type 0 where
-  pub there : (g : Fact) → IsIn g new → IsTrue (found g) × (before g ≡ false)
-  pub all : (g : Fact) → IsTrue (found g) → before g ≡ false → IsIn g new
-  pub once : IsOnce new
-
--- a set with the found facts put into it: the list has those that are new there
+-- A set with the found facts put into it: those of them that it lacked are the new ones. It has
+-- become longer by as many.
 pub record Merged (before found after new : List Fact) : Type 0 where
   pub members : (g : Fact) → has after g ≡ (has before g || has found g)
-  pub new_ones : IsNew (has before) (has found) new
+  pub new_ones : (g : Fact) → has new g ≡ (has found g && not (has before g))
   pub len : length after ≡ length before + length new
+
+-- A fact was put into a set, and among the new ones where the set lacked it. Where the new ones had
+-- it only if the set did, both have become longer by as many.
+pub record IsPut (f : Fact) (before after new new_then : List Fact) : Type 0 where
+  pub members : (g : Fact) → has after g ≡ (is_same g f || has before g)
+  pub new_ones : (g : Fact) → has new_then g ≡ ((is_same g f && not (has before f)) || has new g)
+  pub len : (IsTrue (has new f) → IsTrue (has before f))
+      → length after + length new ≡ length before + length new_then
+
+-- All that follows was found and put into a set. What was new there is what is new now.
+pub record IsNextRound (Follows : Fact → Type 0) (before after new : List Fact) : Type 0 where
+  pub found : List Fact
+  pub all : IsListOf Follows found
+  pub merged : Merged before found after new
+  pub ascending : IsAscending after

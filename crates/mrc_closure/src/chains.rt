@@ -1,19 +1,20 @@
 //! Derivations of a fact.
 
-ghost use Rattle.std.specs.Prelude.{◌≡◌, [], ◌||◌, ℕ, IsTrue, OnOk, IfOk, IfSome, IfNone};
+ghost use Rattle.std.specs.Prelude.{◌≡◌, [], ◌∷◌, ◌++◌, ◌||◌, ℕ, IsTrue, OnOk, IfOk};
+ghost use Rattle.std.specs.Prelude.{IfSome, IfNone};
 ghost use Rattle.std.specs.List.{AllByRecursion};
 ghost use Rattle.mrc_base.specs.declared.Fact.{Fact};
 ghost use Rattle.mrc_model.specs.Rules.{IsLeast, Least, IsDerivation};
 ghost use Rattle.mrc_model.specs.Wiring.{Wiring};
 ghost use Rattle.mrc_wiring.specs.Table.{wiring_of};
-ghost use Rattle.mrc_facts.specs.Sets.{has};
+ghost use Rattle.mrc_facts.specs.Sets.{has, after, IsAscending};
 ghost use Rattle.mrc_classes.specs.Following.{IsListOf, IsFirstFact};
 ghost use Rattle.mrc_classes.specs.Instances.{premise_list};
 ghost use Rattle.mrc_closure.specs.Chains.{place_list, IsAt, AreAt, IsChain};
 ghost use Rattle.mrc_closure.specs.Orders.{IsFollowing, IsOnce, IsOrder, HaveSame};
 ghost use Rattle.mrc_closure.specs.Orders.{IsLinked, IsPlaced, backward};
 
-use crate::rounds::{merge, round};
+use crate::rounds::{merge, next_round};
 use mrc_base::Fact;
 use mrc_classes::{Facts, FewFacts, Instance, Premises, RuleName, Slots, first_rules, instance_of};
 use mrc_wiring::Wired;
@@ -82,6 +83,54 @@ struct Derived {
     order: Vec<Fact>,
 }
 
+/// Puts the fact at the end of the list, and answers the next one of the set.
+fn list_one(list: &mut Vec<Fact>, facts: &Premises, fact: &Fact) -> Result<Option<Fact>, AllocError>
+    ensures pushed { OnOk result (list.new.items ≡ list.old.items ++ fact.now ∷ []) }
+    ensures next { IfOk result (λ next. next ≡ after facts.now fact.now) }
+{
+    list.push(*fact)?;
+    Ok(facts.after(*fact))
+}
+
+/// Puts the facts of the set at the end of the list, in their order.
+fn list_all(list: &mut Vec<Fact>, facts: &Premises) -> Result<(), AllocError>
+    ensures listed { OnOk result (list.new.items ≡ list.old.items ++ facts.now) }
+    ensures ascending { IsAscending facts.now }
+{
+    let _count = facts.len();
+    let mut next = facts.first();
+    while let Some(fact) = next {
+        next = list_one(list, facts, &fact)?;
+    }
+    Ok(())
+}
+
+/// The rounds from the first facts on, until one has nothing new. Answers the facts in the order of
+/// the rounds.
+fn rounds_in_order(
+    alloc: Global,
+    slots: &Slots,
+    first: &Facts,
+    facts: &mut Premises,
+) -> Result<Vec<Fact>, AllocError>
+    requires empty { facts.old ≡ [] }
+    requires first { IsListOf (IsFirstFact (wiring_of slots.now)) first.now }
+    ensures least { OnOk result (IsLeast (wiring_of slots.now) (has facts.new)) }
+    ensures order { IfOk result (λ order. IsOrder (wiring_of slots.now) order.items) }
+    ensures once { IfOk result (λ order. IsOnce order.items) }
+    ensures same { IfOk result (λ order. HaveSame facts.new order.items) }
+{
+    let _classes = slots.classes();
+    let mut new = Premises::new(alloc);
+    let mut order = Vec::new(alloc);
+    merge(alloc, facts, &mut new, first)?;
+    while !new.is_empty() {
+        list_all(&mut order, &new)?;
+        next_round(alloc, slots, facts, &mut new)?;
+    }
+    Ok(order)
+}
+
 /// The facts of the least closed set, round by round.
 fn derive_all(alloc: Global, wired: &Wired, first: &Facts) -> Result<Derived, AllocError>
     requires { IsListOf (IsFirstFact (wiring_of wired.now)) first.now }
@@ -90,16 +139,9 @@ fn derive_all(alloc: Global, wired: &Wired, first: &Facts) -> Result<Derived, Al
     ensures once { IfOk result (λ d. IsOnce d.order.items) }
     ensures same { IfOk result (λ d. HaveSame d.facts d.order.items) }
 {
-    let _classes = wired.classes();
     let slots = Slots::new(alloc, wired)?;
     let mut facts = Premises::new(alloc);
-    let mut order = Vec::new(alloc);
-    let mut new = merge(alloc, &mut facts, first)?;
-    while !new.is_empty() {
-        order.extend_from_slice(new.as_slice())?;
-        let found = round(alloc, &slots, &facts, new.as_slice())?;
-        new = merge(alloc, &mut facts, &found)?;
-    }
+    let order = rounds_in_order(alloc, &slots, first, &mut facts)?;
     Ok(Derived {
         facts: facts.into_facts(),
         order,

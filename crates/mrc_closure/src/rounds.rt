@@ -1,103 +1,145 @@
 //! The least closed set, in rounds.
 
-ghost use Rattle.std.specs.Prelude.{◌≡◌, ◌^◌, ◌<◌, ◌++◌, ◌∷◌, [], length, IfOk, OnOk, IsTrue};
+ghost use Rattle.std.specs.Prelude.{◌≡◌, ◌<◌, [], IfOk, OnOk};
+ghost use Rattle.mrc_base.specs.declared.Fact.{Fact};
 ghost use Rattle.mrc_model.specs.Wiring.{classes};
-ghost use Rattle.mrc_model.specs.Rules.{InRange, IsLeast};
+ghost use Rattle.mrc_model.specs.Rules.{IsLeast};
 ghost use Rattle.mrc_wiring.specs.Table.{wiring_of};
 ghost use Rattle.mrc_facts.specs.Sets.{has, after, IsAscending};
-ghost use Rattle.mrc_classes.specs.Following.{IsListOf};
+ghost use Rattle.mrc_classes.specs.Growing.{Added};
+ghost use Rattle.mrc_classes.specs.Following.{IsListOf, IsFirstFact};
 ghost use Rattle.mrc_certificate.specs.Spelling.{content};
-ghost use Rattle.mrc_closure.specs.Merging.{FromOne, Merged};
+ghost use Rattle.mrc_closure.specs.Merging.{Merged, IsPut, IsNextRound};
+ghost use Rattle.mrc_closure.specs.Dealing.{AtTurn, FromDealt, IsFind};
+ghost use Rattle.mrc_closure.specs.Least.{IsLeastList};
 
 use mrc_base::Fact;
 use mrc_certificate::Draft;
-use mrc_classes::{Facts, Found, Premises, Slots, first_rules, with_consequences};
+use mrc_classes::{Facts, Premises, Slots, conclude_at, first_rules};
 use mrc_wiring::Wired;
 use std::alloc::{AllocError, Global};
 
-/// What follows from one of the new facts, with those of the set.
+/// Puts what follows from a new fact at the place into the set, where this is the worker's turn.
+fn conclude_in_turn(
+    slots: &Slots,
+    facts: &Premises,
+    new: &Premises,
+    place: u16,
+    worker: usize,
+    workers: usize,
+    found: &mut Facts,
+) -> Result<(), AllocError>
+    requires { 0 < workers }
+    ensures { OnOk result (Added (has found.old) (has found.new)
+        (AtTurn (wiring_of slots.now) facts.now new.now worker workers place)) }
+{
+    if place as usize % workers == worker {
+        conclude_at(slots, facts, new, place, found)?;
+    }
+    Ok(())
+}
+
+/// What follows from a new fact, with those of the set, at the places of one of so many workers:
+/// at each task and class whose number leaves the worker's, divided by the number of workers.
 pub(crate) fn round(
     alloc: Global,
     slots: &Slots,
     facts: &Premises,
-    new: &[Fact],
+    new: &Premises,
+    worker: usize,
+    workers: usize,
 ) -> Result<Facts, AllocError>
-    ensures { IfOk result (IsListOf (FromOne (wiring_of slots.now) facts.now new.now)) }
+    requires { 0 < workers }
+    ensures { IsFind (wiring_of slots.now) facts.now new.now worker workers result }
 {
-    let mut found = Found::new(alloc);
-    for fact in new {
-        found = with_consequences(slots, facts, *fact, found)?;
+    let mut found = Facts::new(alloc);
+    for place in 0..slots.classes() {
+        conclude_in_turn(slots, facts, new, place, worker, workers, &mut found)?;
     }
-    found.flat()
+    Ok(found)
 }
 
-/// Puts the fact at the end of the list, and answers the next one of the set.
-fn list_one(list: &mut Vec<Fact>, facts: &Facts, fact: &Fact) -> Result<Option<Fact>, AllocError>
-    ensures pushed { OnOk result (list.new.items ≡ list.old.items ++ fact.now ∷ []) }
-    ensures next { IfOk result (λ next. next ≡ after facts.now fact.now) }
-{
-    list.push(*fact)?;
-    Ok(facts.after(*fact))
-}
-
-/// The facts of the set in their order.
-fn listed(alloc: Global, facts: &Facts) -> Result<Vec<Fact>, AllocError>
-    ensures { IfOk result (λ list. list.items ≡ facts.now) }
-{
-    let mut list = Vec::with_capacity(alloc, facts.len())?;
-    let mut next = facts.first();
-    while let Some(fact) = next {
-        next = list_one(&mut list, facts, &fact)?;
-    }
-    Ok(list)
-}
-
-/// Puts the listed facts into the set, and answers those that are new there.
-fn put_all(alloc: Global, facts: &mut Premises, list: &[Fact]) -> Result<Vec<Fact>, AllocError>
-    ensures merged { IfOk result (λ new. Merged facts.old list.now facts.new new.items) }
+/// Puts a found fact into the set, and among the new ones where it is new there. Answers the next
+/// found one.
+fn put_one(
+    facts: &mut Premises,
+    new: &mut Premises,
+    found: &Facts,
+    fact: &Fact,
+) -> Result<Option<Fact>, AllocError>
+    ensures put { OnOk result (IsPut fact.now facts.old facts.new new.old new.new) }
     ensures ascending { IsAscending facts.new }
+    ensures next { IfOk result (λ next. next ≡ after found.now fact.now) }
 {
     let _count = facts.len();
-    let mut new = Vec::new(alloc);
-    for fact in list {
-        if facts.insert(*fact)? {
-            new.push(*fact)?;
-        }
+    if facts.insert(*fact)? {
+        let _new = new.insert(*fact)?;
     }
-    Ok(new)
+    Ok(found.after(*fact))
 }
 
-/// Puts the found facts into the set, and answers those that are new there.
+/// Puts the found facts into the set. Those that are new there take the place of the new ones.
 pub(crate) fn merge(
     alloc: Global,
     facts: &mut Premises,
+    new: &mut Premises,
     found: &Facts,
-) -> Result<Vec<Fact>, AllocError>
-    ensures merged { IfOk result (λ new. Merged facts.old found.now facts.new new.items) }
+) -> Result<(), AllocError>
+    ensures merged { OnOk result (Merged facts.old found.now facts.new new.new) }
     ensures ascending { IsAscending facts.new }
 {
-    let _count = facts.len();
-    let list = listed(alloc, found)?;
-    put_all(alloc, facts, list.as_slice())
+    let _counts = (facts.len(), found.len());
+    *new = Premises::new(alloc);
+    let mut next = found.first();
+    while let Some(fact) = next {
+        next = put_one(facts, new, found, &fact)?;
+    }
+    Ok(())
 }
 
-/// The least closed set. Each round has what follows from the facts that the round before found.
-fn least_set(alloc: Global, wired: &Wired) -> Result<Facts, AllocError>
-    ensures least { IfOk result (λ facts. IsLeast (wiring_of wired.now) (has facts)) }
-    ensures in_range { IfOk result (λ facts. (f : Fact) → IsTrue (has facts f) →
-        InRange (wiring_of wired.now) f) }
-    ensures ascending { IfOk result IsAscending }
-    ensures few { IfOk result (λ facts. length facts < 2 ^ 32) }
+/// A round in this thread alone: puts what follows from the new facts, with those of the set, into
+/// it. Those that are new there take the place of the new ones.
+pub(crate) fn next_round(
+    alloc: Global,
+    slots: &Slots,
+    facts: &mut Premises,
+    new: &mut Premises,
+) -> Result<(), AllocError>
+    ensures { OnOk result (IsNextRound
+        (FromDealt (wiring_of slots.now) facts.old new.old 0 1) facts.old facts.new new.new) }
 {
-    let _classes = wired.classes();
-    let slots = Slots::new(alloc, wired)?;
-    let mut facts = Premises::new(alloc);
-    let first = first_rules(alloc, wired)?;
-    let mut new = merge(alloc, &mut facts, &first)?;
+    let found = round(alloc, slots, facts, new, 0, 1)?;
+    merge(alloc, facts, new, &found)
+}
+
+/// The rounds from the first facts on, until one has nothing new.
+fn all_rounds(
+    alloc: Global,
+    slots: &Slots,
+    first: &Facts,
+    facts: &mut Premises,
+) -> Result<(), AllocError>
+    requires empty { facts.old ≡ [] }
+    requires first { IsListOf (IsFirstFact (wiring_of slots.now)) first.now }
+    ensures { OnOk result (IsLeastList (wiring_of slots.now) facts.new) }
+{
+    let _classes = slots.classes();
+    let mut new = Premises::new(alloc);
+    merge(alloc, facts, &mut new, first)?;
     while !new.is_empty() {
-        let found = round(alloc, &slots, &facts, new.as_slice())?;
-        new = merge(alloc, &mut facts, &found)?;
+        next_round(alloc, slots, facts, &mut new)?;
     }
+    Ok(())
+}
+
+/// The least closed set.
+fn least_set(alloc: Global, wired: &Wired) -> Result<Facts, AllocError>
+    ensures { IfOk result (IsLeastList (wiring_of wired.now)) }
+{
+    let slots = Slots::new(alloc, wired)?;
+    let first = first_rules(alloc, wired)?;
+    let mut facts = Premises::new(alloc);
+    all_rounds(alloc, &slots, &first, &mut facts)?;
     Ok(facts.into_facts())
 }
 

@@ -1,18 +1,19 @@
 //! The least closed set, by several workers.
 
-ghost use Rattle.std.specs.Prelude.{◌≡◌, ◌⊎◌, ◌||◌, MatchResult, IfErr, Err, ◌+◌, ◌<◌, ◌≤◌, ◌^◌, ◌↔◌, ℕ, [], length, IfOk, OnOk, IsTrue};
-ghost use Rattle.std.specs.Prelude.{Some, slice_get, vec_capacity, vec_len};
+ghost use Rattle.std.specs.Prelude.{◌≡◌, ◌⊎◌, ◌||◌, ◌<◌, ◌≤◌, ℕ, [], Some, Err, MatchResult};
+ghost use Rattle.std.specs.Prelude.{IfErr, IfOk, OnOk, IsTrue, slice_get, vec_capacity, vec_len};
 ghost use Rattle.mrc_base.specs.declared.Fact.{Fact};
 ghost use Rattle.mrc_wiring.specs.Table.{wiring_of};
 ghost use Rattle.mrc_model.specs.Wiring.{classes};
-ghost use Rattle.mrc_model.specs.Rules.{InRange, IsLeast};
-ghost use Rattle.mrc_facts.specs.Sets.{has, IsAscending};
+ghost use Rattle.mrc_model.specs.Rules.{IsLeast};
+ghost use Rattle.mrc_facts.specs.Sets.{has};
 ghost use Rattle.mrc_certificate.specs.Spelling.{content};
 ghost use Rattle.mrc_base.specs.declared.memory.OrMemory.TheVariants.{Fault, Memory};
 ghost use Rattle.mrc_closure.specs.declared.workers.MakeFault.TheVariants.{Workers};
-ghost use Rattle.mrc_classes.specs.Following.{IsListOf};
-ghost use Rattle.mrc_closure.specs.Merging.{FromOne};
-ghost use Rattle.mrc_closure.specs.Dealing.{IsChunk, FromDealt, FromFirst, IsFind};
+ghost use Rattle.mrc_classes.specs.Following.{IsListOf, IsFirstFact};
+ghost use Rattle.mrc_closure.specs.Merging.{IsNextRound};
+ghost use Rattle.mrc_closure.specs.Dealing.{FromFirst, IsFind};
+ghost use Rattle.mrc_closure.specs.Least.{IsLeastList};
 ghost use Rattle.mrc_closure.specs.Working.{IsWorking};
 
 use crate::rounds::{merge, round};
@@ -27,73 +28,38 @@ use std::thread;
 use std::thread::{Promise, PromisedHandle, Scope, Threads};
 use thiserror::Error;
 
-/// What each worker enters once, before its first chunk.
+/// What each worker enters once, before its first place.
 pub trait Gate: Sync {
     /// Lets in the worker of this number.
     fn enter(&self, worker: usize);
 }
 
-/// The worker's facts: one of so many, in turn.
-fn chunk(
-    alloc: Global,
-    new: &Vec<Fact>,
-    worker: usize,
-    workers: usize,
-) -> Result<Vec<Fact>, AllocError>
-    requires { 0 < workers }
-    ensures { IfOk result (λ chunk. IsChunk new.now.items worker workers chunk.items) }
-{
-    let mut chunk = Vec::new(alloc);
-    for place in 0..new.len() {
-        if place % workers == worker {
-            chunk.push(new[place])?;
-        }
-    }
-    Ok(chunk)
-}
-
-/// What follows from the worker's facts, with those of the set.
-fn work(
-    alloc: Global,
-    slots: &Slots,
-    facts: &Premises,
-    new: &Vec<Fact>,
-    worker: usize,
-    workers: usize,
-) -> Result<Facts, AllocError>
-    requires { 0 < workers }
-    ensures { IsFind (wiring_of slots.now) facts.now new.now.items worker workers result }
-{
-    let chunk = chunk(alloc, new, worker, workers)?;
-    round(alloc, slots, facts, chunk.as_slice())
-}
-
-/// What a worker promises: all that follows from its facts.
+/// What a worker promises: all that follows at its places.
 #[derive(Drop)]
 struct Part {
     wired: Snapshot<Wired>,
     facts: Snapshot<Premises>,
-    new: Snapshot<Vec<Fact>>,
+    new: Snapshot<Premises>,
     worker: usize,
     workers: usize,
 }
 
 impl Promise<Result<Facts, AllocError>> for Part {
     ghost kept_by = { λ p r.
-        IsFind (wiring_of p.wired.value) p.facts.value p.new.value.items p.worker p.workers r };
+        IsFind (wiring_of p.wired.value) p.facts.value p.new.value p.worker p.workers r };
 }
 
-/// A worker at its chunk.
+/// A worker at its places.
 type Working = PromisedHandle<Result<Facts, AllocError>, Part>;
 
-/// Starts a worker. Where it is to enter the gate it does so before its chunk.
+/// Starts a worker. Where it is to enter the gate it does so before its first place.
 fn start<'s, E, R: Threads + Wait + Sync, G: Gate>(
     scope: &Scope<'s, E>,
     rt: &'s R,
     alloc: Global,
     slots: &'s Slots,
     facts: &'s Premises,
-    new: &'s Vec<Fact>,
+    new: &'s Premises,
     gate: &'s G,
     entering: bool,
     worker: usize,
@@ -101,7 +67,7 @@ fn start<'s, E, R: Threads + Wait + Sync, G: Gate>(
 ) -> Result<Working, AllocError>
     requires { 0 < workers }
     ensures { IfOk result (λ h.
-        IsWorking slots.now facts.now new.now.items worker workers h.promise) }
+        IsWorking slots.now facts.now new.now worker workers h.promise) }
 {
     let promise = Part {
         wired: Snapshot::of(slots.wired()),
@@ -112,13 +78,13 @@ fn start<'s, E, R: Threads + Wait + Sync, G: Gate>(
     };
     let job = move || -> Result<Facts, AllocError>
         requires { 0 < workers }
-        ensures { IsFind (wiring_of slots.entry.now) facts.entry.now new.entry.now.items
+        ensures { IsFind (wiring_of slots.entry.now) facts.entry.now new.entry.now
             worker workers result }
     {
         if entering {
             gate.enter(worker);
         }
-        work(alloc, slots, facts, new, worker, workers)
+        round(alloc, slots, facts, new, worker, workers)
     };
     match scope.spawn_with(promise, job) {
         Ok(handle) => Ok(handle),
@@ -133,7 +99,7 @@ fn start_all<'s, E, R: Threads + Wait + Sync, G: Gate>(
     alloc: Global,
     slots: &'s Slots,
     facts: &'s Premises,
-    new: &'s Vec<Fact>,
+    new: &'s Premises,
     gate: &'s G,
     entering: bool,
     workers: usize,
@@ -142,7 +108,7 @@ fn start_all<'s, E, R: Threads + Wait + Sync, G: Gate>(
     requires empty { working.old.items ≡ [] }
     requires room { workers ≤ vec_capacity working.old }
     ensures each { (k : ℕ) (h : _) → slice_get working.new.items k ≡ Some h →
-        IsWorking slots.now facts.now new.now.items k workers h.promise }
+        IsWorking slots.now facts.now new.now k workers h.promise }
     ensures all { IsTrue result → vec_len working.new ≡ workers }
 {
     for worker in 0..workers {
@@ -175,7 +141,7 @@ fn take_in(whole: bool, all: &mut Facts, found: Result<Facts, AllocError>) -> bo
     }
 }
 
-/// Joins all workers. Where each has found all that follows from its facts, answers what they
+/// Joins all workers. Where each has found all that follows at its places, answers what they
 /// found.
 fn join_all<R: Threads>(
     rt: &R,
@@ -183,13 +149,13 @@ fn join_all<R: Threads>(
     working: Vec<Working>,
     slots: &Slots,
     facts: &Premises,
-    new: &Vec<Fact>,
+    new: &Premises,
     workers: usize,
 ) -> Result<Facts, AllocError>
     requires { (k : ℕ) (h : _) → slice_get working.items k ≡ Some h →
-        IsWorking slots.now facts.now new.now.items k workers h.promise }
+        IsWorking slots.now facts.now new.now k workers h.promise }
     ensures { IfOk result (IsListOf
-        (FromFirst (wiring_of slots.now) facts.now new.now.items (vec_len working) workers)) }
+        (FromFirst (wiring_of slots.now) facts.now new.now (vec_len working) workers)) }
 {
     let mut all = Facts::new(alloc);
     let mut whole = true;
@@ -207,14 +173,14 @@ fn round_in<'s, E, R: Threads + Wait + Sync, G: Gate>(
     alloc: Global,
     slots: &'s Slots,
     facts: &'s Premises,
-    new: &'s Vec<Fact>,
+    new: &'s Premises,
     gate: &'s G,
     entering: bool,
     workers: usize,
 ) -> Result<Facts, AllocError>
     requires { 0 < workers }
     ensures { IfOk result (IsListOf
-        (FromOne (wiring_of slots.now) facts.now new.now.items)) }
+        (FromFirst (wiring_of slots.now) facts.now new.now workers workers)) }
 {
     let mut working = Vec::with_capacity(alloc, workers)?;
     let started = start_all(
@@ -233,34 +199,80 @@ fn round_in<'s, E, R: Threads + Wait + Sync, G: Gate>(
     if started { found } else { Err(AllocError) }
 }
 
-/// What follows from one of the new facts, with those of the set, by so many workers. All have
-/// ended where it answers.
+/// What follows from the new facts, with those of the set, at the places of so many workers: at all
+/// places. All workers have ended where it answers.
 fn round_by<R: Threads + Wait + Sync, G: Gate>(
     rt: &R,
     alloc: Global,
     slots: &Slots,
     facts: &Premises,
-    new: &Vec<Fact>,
+    new: &Premises,
     gate: &G,
     entering: bool,
     workers: usize,
 ) -> Result<Facts, AllocError>
     requires { 0 < workers }
     ensures { IfOk result (IsListOf
-        (FromOne (wiring_of slots.now) facts.now new.now.items)) }
+        (FromFirst (wiring_of slots.now) facts.now new.now workers workers)) }
 {
     thread::scope(
         thread::scope_env(),
         rt,
         |scope| -> Result<Facts, AllocError>
             requires { 0 < workers }
-            ensures { IfOk result (IsListOf
-                (FromOne (wiring_of slots.entry.now) facts.entry.now new.entry.now.items)) }
+            ensures { IfOk result (IsListOf (FromFirst (wiring_of slots.entry.now)
+                facts.entry.now new.entry.now workers workers)) }
         { round_in(scope, rt, alloc, slots, facts, new, gate, entering, workers) },
     )
 }
 
-/// The least closed set, by so many workers. Each enters the gate in the first round.
+/// A round by so many workers: puts what follows from the new facts, with those of the set, into
+/// it. Those that are new there take the place of the new ones.
+fn next_round_by<R: Threads + Wait + Sync, G: Gate>(
+    rt: &R,
+    alloc: Global,
+    slots: &Slots,
+    facts: &mut Premises,
+    new: &mut Premises,
+    gate: &G,
+    entering: bool,
+    workers: usize,
+) -> Result<(), AllocError>
+    requires { 0 < workers }
+    ensures { OnOk result (IsNextRound (FromFirst (wiring_of slots.now)
+        facts.old new.old workers workers) facts.old facts.new new.new) }
+{
+    let found = round_by(rt, alloc, slots, facts, new, gate, entering, workers)?;
+    merge(alloc, facts, new, &found)
+}
+
+/// The rounds from the first facts on, by so many workers, until one has nothing new. Each worker
+/// enters the gate in the first round.
+fn all_rounds_by<R: Threads + Wait + Sync, G: Gate>(
+    rt: &R,
+    alloc: Global,
+    slots: &Slots,
+    first: &Facts,
+    facts: &mut Premises,
+    gate: &G,
+    workers: usize,
+) -> Result<(), AllocError>
+    requires some { 0 < workers }
+    requires empty { facts.old ≡ [] }
+    requires first { IsListOf (IsFirstFact (wiring_of slots.now)) first.now }
+    ensures { OnOk result (IsLeastList (wiring_of slots.now) facts.new) }
+{
+    let _classes = slots.classes();
+    let mut new = Premises::new(alloc);
+    merge(alloc, facts, &mut new, first)?;
+    next_round_by(rt, alloc, slots, facts, &mut new, gate, true, workers)?;
+    while !new.is_empty() {
+        next_round_by(rt, alloc, slots, facts, &mut new, gate, false, workers)?;
+    }
+    Ok(())
+}
+
+/// The least closed set, by so many workers.
 fn least_by<R: Threads + Wait + Sync, G: Gate>(
     rt: &R,
     alloc: Global,
@@ -269,23 +281,12 @@ fn least_by<R: Threads + Wait + Sync, G: Gate>(
     gate: &G,
 ) -> Result<Facts, AllocError>
     requires { 0 < workers }
-    ensures least { IfOk result (λ facts. IsLeast (wiring_of wired.now) (has facts)) }
-    ensures in_range { IfOk result (λ facts. (f : Fact) → IsTrue (has facts f) →
-        InRange (wiring_of wired.now) f) }
-    ensures ascending { IfOk result IsAscending }
-    ensures few { IfOk result (λ facts. length facts < 2 ^ 32) }
+    ensures { IfOk result (IsLeastList (wiring_of wired.now)) }
 {
-    let _classes = wired.classes();
     let slots = Slots::new(alloc, wired)?;
-    let mut facts = Premises::new(alloc);
     let first = first_rules(alloc, wired)?;
-    let mut new = merge(alloc, &mut facts, &first)?;
-    let found = round_by(rt, alloc, &slots, &facts, &new, gate, true, workers)?;
-    new = merge(alloc, &mut facts, &found)?;
-    while !new.is_empty() {
-        let found = round_by(rt, alloc, &slots, &facts, &new, gate, false, workers)?;
-        new = merge(alloc, &mut facts, &found)?;
-    }
+    let mut facts = Premises::new(alloc);
+    all_rounds_by(rt, alloc, &slots, &first, &mut facts, gate, workers)?;
     Ok(facts.into_facts())
 }
 
@@ -299,7 +300,7 @@ pub enum MakeFault {
 
 /// The certificate of the wiring: the least set that is closed under the ten rules, with the
 /// wiring's numbers of tasks and classes. By 1 to 64 workers, each of which enters the gate once,
-/// with its number from 0 on, before its first chunk. A thread that can't be started is told as
+/// with its number from 0 on, before its first place. A thread that can't be started is told as
 /// want of memory. All workers have ended where it answers.
 pub fn make<R: Threads + Wait + Sync, G: Gate>(
     rt: &R,

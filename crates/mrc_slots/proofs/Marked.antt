@@ -15,7 +15,7 @@ use Rattle.mrc_rows.proofs.Rows.{words_at, words_past, no_bit, right_there}
 use Rattle.mrc_rows.proofs.Joins.{class_of_place, right_of_place, next_below}
 use Rattle.mrc_model.specs.Wiring.{Wiring, classes}
 use Rattle.mrc_slots.specs.Passing.{passes, is_passed}
-use Rattle.mrc_slots.specs.Masks.{IsMask, AreMasks, is_any, is_taken, is_taker, is_turned}
+use Rattle.mrc_slots.specs.Masks.{IsMask, AreMasks, is_any, is_taken}
 
 abbrev Row : Type 0
 Row = Vec ℕ Global
@@ -133,25 +133,9 @@ below_place n c r =
       | inr high ↦ le-ltb (right_place c r) (3 * n) (omega arith) ∙ sym (le-ltb c n high)
     ]
 
-third_below : (n p : ℕ) → nat_lt (p / 3) n ≡ nat_lt p (3 * n)
-third_below n p = elim (cases_lt (p / 3) n) [
-  | inl low ↦ lt-ltb (p / 3) n low ∙ sym (lt-ltb p (3 * n) (omega arith))
-  | inr high ↦ le-ltb (p / 3) n high ∙ sym (le-ltb p (3 * n) (omega arith))
-]
-
 and_both : (a b c d s t : Bool) → a ≡ b → c ≡ d → s ≡ t → (a && (c && s)) ≡ (b && (d && t))
 and_both a b c d s t x y z =
     ap (λ i. i && (c && s)) x ∙ (ap (λ i. b && (i && s)) y ∙ ap (λ i. b && (d && i)) z)
-
-and_turned : (a b t : Bool) → (a && (b && t)) ≡ (b && (a && t))
-and_turned true b t = refl
-and_turned false true t = refl
-and_turned false false t = refl
-
-and_twice : (a b t : Bool) → (a && (b && (b && (a && t)))) ≡ (a && (b && t))
-and_twice true true t = refl
-and_twice true false t = refl
-and_twice false b t = refl
 
 same_passes : (W : Wiring) (d e c b : ℕ) (q r g h : PortRight) → d ≡ e → c ≡ b → q ≡ r → g ≡ h
     → passes W d c q g ≡ passes W e b r h
@@ -184,29 +168,3 @@ module _ (W : Wiring) (rows : List Row) where
       ∙ and_both _ _ _ _ _ _ (below_place (classes W) d held) (below_place (classes W) c give)
       (same_passes W _ d _ c _ held _ give (class_of_place d held) (class_of_place c give)
       (right_of_place d held) (right_of_place c give))
-
-  pub taker_bit : AreMasks (is_taker W) (3 * classes W) (3 * classes W) rows
-      → (d c : ℕ) (held give : PortRight)
-      → is_set (words_of rows (right_place c held)) (right_place d give)
-      ≡ is_passed W d c held give
-  taker_bit masks d c held give =
-      masks.bits (right_place c held) (right_place d give)
-      ∙ (and_both _ _ _ _ _ _ (below_place (classes W) c held) (below_place (classes W) d give)
-      (same_passes W _ d _ c _ held _ give (class_of_place d give) (class_of_place c held)
-      (right_of_place c held) (right_of_place d give))
-      ∙ and_turned (nat_lt c (classes W)) (nat_lt d (classes W)) (passes W d c held give))
-
--- the rows of what is taken, turned
-pub turned : (W : Wiring) (taken takers : List Row)
-    → AreMasks (is_taken W) (3 * classes W) (3 * classes W) taken
-    → AreMasks (is_turned taken) (3 * classes W) (3 * classes W) takers
-    → AreMasks (is_taker W) (3 * classes W) (3 * classes W) takers
-turned W taken takers masks turn = record {
-  few = turn.few;
-  bits = λ k p.
-      turn.bits k p
-      ∙ (ap (λ b. nat_lt k (3 * classes W) && (nat_lt p (3 * classes W) && b))
-      (taken_bit W taken masks (p / 3) (k / 3) (right_at k) (right_at p)
-      ∙ and_both _ _ _ _ _ _ (third_below (classes W) p) (third_below (classes W) k) refl)
-      ∙ and_twice (nat_lt k (3 * classes W)) (nat_lt p (3 * classes W)) (is_taker W k p));
-}

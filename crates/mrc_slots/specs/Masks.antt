@@ -5,7 +5,7 @@ use Rattle.std.specs.declared.alloc.Global.{Global}
 use Rattle.mrc_bits.specs.Bits.{is_set}
 use Rattle.mrc_rows.specs.Rows.{words_of}
 use Rattle.mrc_rows.specs.Joining.{right_place, right_at}
-use Rattle.mrc_model.specs.Wiring.{Wiring, classes}
+use Rattle.mrc_model.specs.Wiring.{Wiring, classes, accepts_destroyed}
 use Rattle.mrc_slots.specs.Passing.{passes}
 
 -- the bits of the row are the places below n that pass the test
@@ -26,25 +26,17 @@ pub record AreMasks
 abbrev pub is_taken : Wiring → ℕ → ℕ → Bool
 is_taken W k p = passes W (k / 3) (p / 3) (right_at k) (right_at p)
 
--- the same with the two classes turned
-abbrev pub is_taker : Wiring → ℕ → ℕ → Bool
-is_taker W k p = passes W (p / 3) (k / 3) (right_at k) (right_at p)
-
--- the bit of the rows of what is taken that says so
-abbrev pub is_turned : List (Vec ℕ Global) → ℕ → ℕ → Bool
-is_turned taken k p =
-    is_set (words_of taken (right_place (p / 3) (right_at k))) (right_place (k / 3) (right_at p))
-
 -- each place
 abbrev pub is_any : ℕ → Bool
 is_any p = true
 
--- what each class takes, who takes each, and the places of all rights on classes
+-- what each class takes, the places of all rights on classes, and the classes that accept
+-- port-destroyed notices
 pub record HasMasks
     (W : Wiring)
-    (rows turned : List (Vec ℕ Global))
-    (places : List ℕ)
+    (rows : List (Vec ℕ Global))
+    (places accepting : List ℕ)
     : Type 0 where
   pub taken : AreMasks (is_taken W) (3 * classes W) (3 * classes W) rows
-  pub takers : AreMasks (is_taker W) (3 * classes W) (3 * classes W) turned
   pub all : IsMask is_any (3 * classes W) places
+  pub notified : IsMask (accepts_destroyed W) (classes W) accepting

@@ -5,14 +5,14 @@ ghost use Rattle.std.specs.Prelude.{length, replicate, vec_len};
 ghost use Rattle.mrc_bits.specs.Bits.{is_set};
 ghost use Rattle.mrc_rows.specs.Rows.{words_of};
 ghost use Rattle.mrc_rows.specs.Joining.{right_place, right_at};
-ghost use Rattle.mrc_model.specs.Wiring.{classes};
+ghost use Rattle.mrc_model.specs.Wiring.{classes, accepts_destroyed};
 ghost use Rattle.mrc_wiring.specs.Table.{wiring_of};
 ghost use Rattle.mrc_slots.specs.Passing.{passes};
-ghost use Rattle.mrc_slots.specs.Masks.{IsMask, AreMasks, is_any, is_taken, is_turned};
+ghost use Rattle.mrc_slots.specs.Masks.{IsMask, AreMasks, is_any, is_taken};
 
 use crate::taking::passes;
-use mrc_base::PortRight;
-use mrc_bits::{has_bit, set_bit};
+use mrc_base::{ClassId, PortRight};
+use mrc_bits::set_bit;
 use mrc_rows::{right_at, right_place};
 use mrc_wiring::Wired;
 use std::alloc::{AllocError, Global};
@@ -58,6 +58,20 @@ pub(crate) fn all_places(alloc: Global, places: u16) -> Result<Vec<u64>, AllocEr
     Ok(row)
 }
 
+/// The classes that accept port-destroyed notices.
+pub(crate) fn notified_row(alloc: Global, wired: &Wired) -> Result<Vec<u64>, AllocError>
+    ensures { IfOk result (λ row. IsMask (accepts_destroyed (wiring_of wired.now))
+        (classes (wiring_of wired.now)) row.items) }
+{
+    let count = wired.classes();
+    let mut row = zeros(alloc, count)?;
+    for class in 0..count {
+        let test = wired.accepts_destroyed(ClassId(class));
+        mark(&mut row, class as usize, test);
+    }
+    Ok(row)
+}
+
 /// What class `to` takes of rights `held`: the places of the rights on classes as which they come.
 fn taken_row(alloc: Global, wired: &Wired, to: u16, held: PortRight) -> Result<Vec<u64>, AllocError>
     ensures { IfOk result (λ row. IsMask
@@ -83,48 +97,6 @@ pub(crate) fn taken_rows(alloc: Global, wired: &Wired) -> Result<Vec<Vec<u64>>, 
     for number in 0..3 * wired.classes() {
         let held = right_at(number as usize);
         let row = taken_row(alloc, wired, number / 3, held)?;
-        rows.push(row)?;
-    }
-    Ok(rows)
-}
-
-/// The classes that take a right `held` on the class, read from what each takes: the places of
-/// those classes with the rights as which it comes there.
-fn takers_row(
-    alloc: Global,
-    taken: &[Vec<u64>],
-    places: u16,
-    class: u16,
-    held: PortRight,
-) -> Result<Vec<u64>, AllocError>
-    requires { places ≤ 4000 }
-    ensures { IfOk result (λ row. IsMask
-        (λ p. is_set (words_of taken.now (right_place (p / 3) held))
-        (right_place class (right_at p)))
-        places row.items) }
-{
-    let mut row = zeros(alloc, places)?;
-    for place in 0..places {
-        let from = row_at(taken, right_place(place / 3, held));
-        let test = has_bit(from, right_place(class, right_at(place as usize)));
-        mark(&mut row, place as usize, test);
-    }
-    Ok(row)
-}
-
-/// The classes that take each right on each class, read from what each takes.
-pub(crate) fn takers_rows(
-    alloc: Global,
-    taken: &[Vec<u64>],
-    places: u16,
-) -> Result<Vec<Vec<u64>>, AllocError>
-    requires { places ≤ 4000 }
-    ensures { IfOk result (λ rows. AreMasks (is_turned taken.now) places places rows.items) }
-{
-    let mut rows = Vec::new(alloc);
-    for number in 0..places {
-        let held = right_at(number as usize);
-        let row = takers_row(alloc, taken, places, number / 3, held)?;
         rows.push(row)?;
     }
     Ok(rows)

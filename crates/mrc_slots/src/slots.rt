@@ -1,31 +1,31 @@
 //! A wiring, with what its classes take as rows of bits.
 
-ghost use Rattle.std.specs.Prelude.{◌≡◌, ◌+◌, ◌*◌, ◌≤◌, ℕ, IfOk, length, nat_lt};
+ghost use Rattle.std.specs.Prelude.{◌≡◌, ◌+◌, ◌*◌, ◌≤◌, ◌&&◌, ℕ, IfOk, length, nat_lt};
 ghost use Rattle.mrc_base.specs.declared.PortRight.{PortRight};
 ghost use Rattle.mrc_base.specs.Limits.{limit_of_tasks, limit_of_wired_ports};
 ghost use Rattle.mrc_bits.specs.Bits.{is_set};
 ghost use Rattle.mrc_rows.specs.Joining.{right_place};
 ghost use Rattle.mrc_wiring.specs.Table.{wiring_of};
-ghost use Rattle.mrc_model.specs.Wiring.{classes, accepts_routine, accepts_destroyed};
+ghost use Rattle.mrc_model.specs.Wiring.{classes, accepts_destroyed};
 ghost use Rattle.mrc_slots.specs.Passing.{is_passed};
 ghost use Rattle.mrc_slots.specs.Masks.{HasMasks};
 
-use crate::masks::{all_places, row_at, taken_rows, takers_rows};
-use mrc_base::{ClassId, PortRight};
-use mrc_bits::has_bit;
+use crate::masks::{all_places, notified_row, row_at, taken_rows};
+use mrc_base::PortRight;
 use mrc_rows::right_place;
 use mrc_wiring::Wired;
 use std::alloc::{AllocError, Global};
 use std::marker::Model;
 
 /// A wiring, with what its classes take in rows of bits: a row for each class and right, by places
-/// of rights on classes.
+/// of rights on classes. Beside those stand the places of all rights on classes, and the classes
+/// that accept port-destroyed notices.
 #[derive(Drop)]
 pub struct Slots {
     wired: Wired,
     taken: Vec<Vec<u64>>,
-    takers: Vec<Vec<u64>>,
     all: Vec<u64>,
+    notified: Vec<u64>,
 }
 
 impl Model for Slots {
@@ -36,25 +36,25 @@ impl Model for Slots {
 
     ghost view = { λ s. s.wired };
 
-    ghost invariant = { λ s. HasMasks (wiring_of s.wired) s.taken.items s.takers.items s.all.items };
+    ghost invariant = { λ s.
+        HasMasks (wiring_of s.wired) s.taken.items s.all.items s.notified.items };
 }
 
 impl Slots {
-    /// A copy of the wiring, with a row for each class and right of what the class takes and of who
-    /// takes it.
+    /// A copy of the wiring, with a row for each class and right of what the class takes.
     pub fn new(alloc: Global, wired: &Wired) -> Result<Slots, AllocError>
         ensures { IfOk result (λ slots. slots ≡ wired.now) }
     {
         let wired = wired.copy(alloc)?;
         let taken = taken_rows(alloc, &wired)?;
         let places = 3 * wired.classes();
-        let takers = takers_rows(alloc, taken.as_slice(), places)?;
         let all = all_places(alloc, places)?;
+        let notified = notified_row(alloc, &wired)?;
         Ok(Slots {
             wired,
             taken,
-            takers,
             all,
+            notified,
         })
     }
 
@@ -68,23 +68,6 @@ impl Slots {
         row_at(self.taken.as_slice(), right_place(to, held))
     }
 
-    /// The classes that take a right `held` on the class: the bit at the place of `give` on a class
-    /// is set where that class takes it, and it comes there as `give`.
-    pub fn takers_of(&self, class: u16, held: PortRight) -> &[u64]
-        ensures takers { (d : ℕ) (give : PortRight) → is_set result.now (right_place d give)
-            ≡ is_passed (wiring_of self.now) d class held give }
-        ensures few { length result.now ≤ 63 }
-    {
-        row_at(self.takers.as_slice(), right_place(class, held))
-    }
-
-    /// Whether class `to` takes a right `held` on the class, which comes there as `give`.
-    pub fn passes(&self, to: u16, class: u16, held: PortRight, give: PortRight) -> bool
-        ensures { result ≡ is_passed (wiring_of self.now) to class held give }
-    {
-        has_bit(self.taken_by(to, held), right_place(class, give))
-    }
-
     /// The places of all rights on the wiring's classes.
     pub fn all(&self) -> &[u64]
         ensures shown { (c : ℕ) (r : PortRight) →
@@ -92,6 +75,15 @@ impl Slots {
         ensures few { length result.now ≤ 63 }
     {
         self.all.as_slice()
+    }
+
+    /// The classes that accept port-destroyed notices.
+    pub fn notified(&self) -> &[u64]
+        ensures shown { (d : ℕ) → is_set result.now d ≡ (nat_lt d (classes (wiring_of self.now))
+            && accepts_destroyed (wiring_of self.now) d) }
+        ensures few { length result.now ≤ 63 }
+    {
+        self.notified.as_slice()
     }
 
     /// The wiring itself.
@@ -115,19 +107,5 @@ impl Slots {
         ensures within { result ≤ limit_of_wired_ports + 2 * limit_of_tasks }
     {
         self.wired.classes()
-    }
-
-    /// Whether the class accepts requests of an interface that has a routine.
-    pub fn accepts_routine(&self, class: ClassId) -> bool
-        ensures { result ≡ accepts_routine (wiring_of self.now) class }
-    {
-        self.wired.accepts_routine(class)
-    }
-
-    /// Whether a port of the class may be named in a port-destroyed request.
-    pub fn accepts_destroyed(&self, class: ClassId) -> bool
-        ensures { result ≡ accepts_destroyed (wiring_of self.now) class }
-    {
-        self.wired.accepts_destroyed(class)
     }
 }

@@ -1,22 +1,29 @@
-use Rattle.std.proofs.Common.{List, subst}
+use Rattle.std.proofs.Common.{◌≡◌, ◌∙◌, Bool, List, [], false, ap, subst, sym}
+use Rattle.std.specs.Prelude.{◌||◌}
 use Rattle.mrc_base.specs.declared.Fact.{Fact}
-use Rattle.mrc_model.specs.Rules.{Has}
+use Rattle.mrc_model.specs.Wiring.{classes}
 use Rattle.mrc_wiring.specs.Table.{Table, wiring_of}
+use Rattle.mrc_facts.specs.Order.{is_same}
 use Rattle.mrc_facts.specs.Sets.{has}
-use Rattle.mrc_classes.specs.Following.{IsConsequence}
-use Rattle.mrc_classes.specs.Growing.{Added}
-use Rattle.mrc_classes.specs.Spreading.{has_found}
-use Rattle.mrc_classes.proofs.Turning.{found_listed}
+use Rattle.mrc_classes.specs.Growing.{Added, Below}
+use Rattle.mrc_classes.specs.Parts.{AtPlace}
+use Rattle.mrc_classes.proofs.Following.{places_listed, or_nothing}
 use Rattle.mrc_classes.proofs.conclude.consequences.Goals as goal
 
 pub returns : goal.returns
 returns c =
-    found_listed (IsConsequence (wiring_of c.args.wired.now) (Has (has c.args.facts.now))
-    c.args.fact) (has_found c.new-2.result) (has_found c.in_ok-found.found) c.flat.result
-    c.new-2.ensures
-    (subst (λ (fs : List Fact). Added (has_found c.new-2.result) (has_found c.in_ok-found.found)
-    (IsConsequence (wiring_of c.args.wired.now) (Has (has fs)) c.args.fact))
-    c.in_ok-premises.ensures
-    (subst (λ (table : Table). Added (has_found c.new-2.result) (has_found c.in_ok-found.found)
-    (IsConsequence (wiring_of table) (Has (has c.in_ok-premises.premises)) c.args.fact))
-    c.in_ok-slots.ensures c.in_ok-found.ensures)) c.flat.ensures
+    let all = has c.in_ok-all.all in
+    let new = has c.in_ok-new.new in
+    let found = c.conclude.new.found in
+    places_listed (wiring_of c.args.wired.now) (has c.args.facts.now) all new c.args.fact
+    (λ g. c.in_ok-all.ensures g
+    ∙ ap (λ (fs : List Fact). is_same g c.args.fact || has fs g) c.in_ok-of.ensures)
+    (λ g. c.in_ok-new.ensures g
+    ∙ (ap (λ (fs : List Fact). is_same g c.args.fact || has fs g) c.new-2.ensures
+    ∙ or_nothing (is_same g c.args.fact))) found
+    (subst (λ (fs : List Fact). Added (has fs) (has found)
+    (Below (classes (wiring_of c.args.wired.now)) (AtPlace (wiring_of c.args.wired.now) all new)))
+    c.new-found.ensures
+    (subst (λ (table : Table). Added (has c.new-found.result) (has found)
+    (Below (classes (wiring_of table)) (AtPlace (wiring_of table) all new)))
+    c.in_ok-slots.ensures c.in_ok-conclude.ensures))

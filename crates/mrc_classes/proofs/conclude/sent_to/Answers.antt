@@ -6,7 +6,7 @@ use Rattle.mrc_classes.proofs.conclude.sent_to.Goals as goal
 
 pub returns : goal.returns
 returns c =
-    sent_to_added (wiring_of c.args.wired.now) c.args.premises.now c.args.task
+    sent_to_added (wiring_of c.args.slots.now) c.args.premises.now c.args.task
     (omega (arith, c.requires.task, c.tasks.ensures.exact, c.tasks.ensures.within))
     (omega (arith, c.classes.ensures.exact, c.classes.ensures.within)) c.args.to c.args.held
     c.taken_by-taken.result.now c.classes_of.result.now c.requires.to

@@ -6,7 +6,7 @@ use Rattle.mrc_classes.proofs.conclude.share.Goals as goal
 
 pub returns : goal.returns
 returns c =
-    shared_added (wiring_of c.args.wired.now) c.args.premises.now c.args.task c.args.other
+    shared_added (wiring_of c.args.slots.now) c.args.premises.now c.args.task c.args.of
     c.all.result.now c.words-held.result.now
     (omega (arith, c.requires, c.tasks.ensures.exact, c.tasks.ensures.within))
     (omega (arith, c.classes.ensures.exact, c.classes.ensures.within)) c.all.ensures.shown

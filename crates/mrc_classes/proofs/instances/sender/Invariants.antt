@@ -1,7 +1,7 @@
 use Rattle.std.proofs.Common.{ℕ, ◌<◌, IsTrue}
 use Rattle.mrc_base.specs.declared.Fact.TheVariants.{Hold}
 use Rattle.mrc_facts.specs.Sets.{has}
-use Rattle.mrc_classes.specs.Lacks.{can_send_to}
+use Rattle.mrc_classes.specs.Parts.{can_send_to}
 use Rattle.mrc_classes.proofs.instances.sender.Given as goal
 
 -- no task so far can send there and holds the right

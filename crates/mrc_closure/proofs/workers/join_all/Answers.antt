@@ -1,4 +1,4 @@
-use Rattle.std.proofs.Common.{◌≡◌, ◌+◌, ◌-◌, ◌≤◌, vec_len, rules, sym, subst, List}
+use Rattle.std.proofs.Common.{◌≡◌, ◌+◌, ◌-◌, ◌≤◌, vec_len, rules, sym, subst}
 use Rattle.std.specs.Vec.Iter.{into_iter_items, into_iter_len}
 use Rattle.mrc_wiring.specs.Table.{wiring_of}
 use Rattle.mrc_classes.specs.Following.{IsListOf}
@@ -13,7 +13,7 @@ pub loop-one-preserved : goal.loop-one-preserved
 loop-one-preserved g c =
     let table = c.args.slots.now in
     let facts = c.args.facts.now in
-    let new = c.args.new.now.items in
+    let new = c.args.new.now in
     let total = vec_len c.args.working in
     let was = c.loop-one.invariant in
     let rest = into_iter_items c.loop-one.one-iterator in

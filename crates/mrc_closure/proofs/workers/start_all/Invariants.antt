@@ -1,4 +1,4 @@
--- Each worker so far is at its chunk.
+-- Each worker so far is at its places.
 use Rattle.std.proofs.Common.{◌≡◌, ◌≤◌, ℕ, Some, slice_get, vec_capacity, vec_len}
 use Rattle.mrc_closure.specs.Working.{IsWorking}
 use Rattle.mrc_closure.proofs.workers.start_all.Given as goal
@@ -7,4 +7,4 @@ abbrev pub invariant-loop-worker : goal.invariant-loop-worker
 invariant-loop-worker g l =
     (vec_len l.working ≡ l.worker) × (l.workers ≤ vec_capacity l.working)
     × ((k : ℕ) (h : _) → slice_get l.working.items k ≡ Some h
-    → IsWorking l.slots l.facts l.new.items k l.workers h.promise)
+    → IsWorking l.slots l.facts l.new k l.workers h.promise)

@@ -1,0 +1,11 @@
+use Rattle.std.proofs.Common.{◌+◌, ◌*◌, ◌-◌, ◌^◌, length}
+use Rattle.mrc_wiring.specs.Table.{wiring_of}
+use Rattle.mrc_closure.proofs.Keeping.{IsRound, some}
+use Rattle.mrc_closure.proofs.workers.all_rounds_by.Given as goal
+
+abbrev pub invariant-loop-alloc : goal.invariant-loop-alloc
+invariant-loop-alloc g l = IsRound (wiring_of l.slots) l.facts l.new
+
+-- a round that finds nothing new is the last
+abbrev pub decreases-loop-alloc : goal.decreases-loop-alloc
+decreases-loop-alloc g l = 2 * (2 ^ 32 - length l.facts) + some l.new
