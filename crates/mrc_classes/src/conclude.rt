@@ -432,13 +432,22 @@ fn conclude(
     Ok(())
 }
 
-/// The premises with the fact.
-fn with_fact(premises: Premises, fact: Fact) -> Result<Premises, AllocError>
-    ensures { IfOk result (λ all. (g : Fact) → has all g ≡ (is_same g fact || has premises g)) }
+/// What follows from the fact, with those of the set. The fact is put there.
+fn conclude_from(
+    alloc: Global,
+    slots: &Slots,
+    all: &mut Premises,
+    fact: &Fact,
+) -> Result<Facts, AllocError>
+    ensures { IfOk result
+        (IsListOf (IsConsequence (wiring_of slots.now) (Has (has all.old)) fact.now)) }
 {
-    let mut all = premises;
-    let _new = all.insert(fact)?;
-    Ok(all)
+    let _added = all.insert(*fact)?;
+    let mut new = Premises::new(alloc);
+    let _new = new.insert(*fact)?;
+    let mut found = Facts::new(alloc);
+    conclude(slots, all, &new, &mut found)?;
+    Ok(found)
 }
 
 /// The conclusions of the rules that have the fact among their premises, and their other premises
@@ -453,9 +462,6 @@ pub fn consequences(
         (IsListOf (IsConsequence (wiring_of wired.now) (Has (has facts.now)) fact)) }
 {
     let slots = Slots::new(alloc, wired)?;
-    let all = with_fact(Premises::of(alloc, facts)?, fact)?;
-    let new = with_fact(Premises::new(alloc), fact)?;
-    let mut found = Facts::new(alloc);
-    conclude(&slots, &all, &new, &mut found)?;
-    Ok(found)
+    let mut all = Premises::of(alloc, facts)?;
+    conclude_from(alloc, &slots, &mut all, &fact)
 }
