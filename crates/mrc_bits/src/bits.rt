@@ -1,8 +1,10 @@
 //! Rows of bits, in words of 64.
 ghost use Rattle.std.specs.Prelude.{◌≡◌, ℕ, ◌*◌, ◌+◌, ◌^◌, ◌<◌, ◌≤◌, ◌==◌, ◌||◌, ◌&&◌, length};
-ghost use Rattle.std.specs.Prelude.{slice_index, false, not, IfSome, IfNone};
+ghost use Rattle.std.specs.Prelude.{slice_index, false, not, nat_lt, IfOk, IfSome, IfNone};
 ghost use Rattle.std.specs.Int.{bit_at};
 ghost use Rattle.mrc_bits.specs.Bits.{is_set, is_fresh, IsNextBit, IsNextFresh, IsNextIn, NoneIn};
+
+use std::alloc::{AllocError, Global};
 
 /// Whether the bit is set.
 pub fn has_bit(words: &[u64], i: usize) -> bool
@@ -81,6 +83,20 @@ fn fresh_word(words: &[u64], more: &[u64], mask: &[u64], k: usize) -> u64
         (bit_at result i == 1) ≡ is_fresh words.now more.now mask.now (64 * k + i) }
 {
     (more[k] & mask[k]) & !word_at(words, k)
+}
+
+/// So many words, with the bits that `words` lacks.
+pub fn complement(alloc: Global, words: &[u64], count: usize) -> Result<Vec<u64>, AllocError>
+    requires { 64 * count < 2 ^ 64 }
+    ensures len { IfOk result (λ lacked. length lacked.items ≡ count) }
+    ensures bits { IfOk result (λ lacked. (i : ℕ) →
+        is_set lacked.items i ≡ (nat_lt i (64 * count) && not (is_set words.now i))) }
+{
+    let mut lacked = Vec::with_capacity(alloc, count)?;
+    for k in 0..count {
+        lacked.push_reserved(!word_at(words, k));
+    }
+    Ok(lacked)
 }
 
 /// The first bit from this one on that both `more` and `mask` have, and that is not set in `words`.

@@ -4,13 +4,14 @@ use Rattle.std.specs.Prelude.{IsTrue, not, ◌&&◌, ◌||◌}
 use Rattle.std.specs.List.{AllByRecursion}
 use Rattle.std.specs.Ordering.{is_lt}
 use Rattle.std.specs.declared.cmp.Ordering.TheVariants.{Less}
-use Rattle.std.proofs.lemmas.Bool.{cases_Bool, and_parts, and_from, or_cases, true≢false, false_from_ne_true}
+use Rattle.std.proofs.lemmas.Bool.{cases_Bool, and_parts, and_from, or_cases, or_left, or_right}
+use Rattle.std.proofs.lemmas.Bool.{true≢false, false_from_ne_true}
 use Rattle.std.specs.List.Sorted.{IsStrictlySortedBy}
 use Rattle.mrc_base.specs.declared.Fact.{Fact}
 use Rattle.mrc_facts.specs.Order.{fact_cmp, is_before, is_same}
 use Rattle.mrc_facts.specs.Sets.{has, without, begins_after, are_ascending, IsAscending}
 use Rattle.mrc_facts.proofs.Total.{fact_total, Less-is, not_before_itself, equal_from_same, same_itself}
-use Rattle.mrc_facts.proofs.Members.{sorted, at_member}
+use Rattle.mrc_facts.proofs.Members.{sorted, at_member, one_list}
 
 -- the first of an ascending list does not stand among the others
 first_once : (f : Fact) (fs : List Fact) → IsAscending (f ∷ fs) → has fs f ≡ false
@@ -69,3 +70,36 @@ ascending-without (x ∷ fs) f up =
       | true ↦ parts.1
       | false ↦ and_from (begins_after x (without fs f)) (are_ascending (without fs f)) (begins-without x fs f up) (ascending-without fs f parts.1)
     ]
+
+-- how many two sets have together that have no fact in common
+pub length-together : (a b c : List Fact) → IsAscending a → IsAscending b → IsAscending c
+    → ((g : Fact) → has c g ≡ (has a g || has b g))
+    → ((g : Fact) → IsTrue (has b g) → has a g ≡ false)
+    → length c ≡ length a + length b
+length-together a [] c up_a up_b up_c both apart =
+    let e = ap length (one_list c a up_c up_a (λ g. both g ∙ or_false (has a g))) in omega arith
+  where
+    or_false : (b : Bool) → (b || false) ≡ b
+    or_false true = refl
+    or_false false = refl
+length-together a (f ∷ fs) c up_a up_b up_c both apart =
+    let in_c : has c f ≡ true = both f ∙ or_right (has a f) (has (f ∷ fs) f) in_b in
+    let one = length-without c f in_c in
+    let rest = length-together a fs (without c f) up_a
+    (and_parts (begins_after f fs) (are_ascending fs) up_b).1 (ascending-without c f up_c)
+    (λ g. has-without c f up_c g ∙ (ap (λ b. not (is_same g f) && b) (both g)
+    ∙ left g (cases_Bool (is_same g f))))
+    (λ g there. apart g (or_right (is_same g f) (has fs g) there)) in
+    omega (arith, one, rest)
+  where
+    in_b : IsTrue (has (f ∷ fs) f)
+    in_b = or_left (is_same f f) (has fs f) (same_itself f)
+
+    left : (g : Fact) → (is_same g f ≡ true) ⊎ (is_same g f ≡ false)
+        → (not (is_same g f) && (has a g || (is_same g f || has fs g))) ≡ (has a g || has fs g)
+    left g (inl same) =
+        let e = equal_from_same g f same in
+        let in_a : has a g ≡ false = ap (has a) e ∙ apart f in_b in
+        let in_fs : has fs g ≡ false = ap (has fs) e ∙ first_once f fs up_b in
+        rw (same, in_a, in_fs) refl
+    left g (inr other) = rw other refl

@@ -1,7 +1,7 @@
 -- Rows of rights on classes of ports, and joining one.
 use Rattle.std.proofs.Common.{◌≡◌, ℕ, ◌+◌, ◌/◌, ◌%◌, ◌<◌, ◌≤◌, ◌==◌, Bool, true, false, IsTrue}
 use Rattle.std.proofs.Common.{refl, ap, sym, subst, ◌∙◌, inl, inr, arith}
-use Rattle.std.specs.Prelude.{◌||◌, ◌&&◌, nat_lt}
+use Rattle.std.specs.Prelude.{◌||◌, ◌&&◌, nat_lt, not}
 use Rattle.std.proofs.lemmas.Bool.{cases_eq, cases_order, cases_lt, cases_Bool, eq-eqb, ne_eqb}
 use Rattle.std.proofs.lemmas.Bool.{eqb-true, and_parts, and_from, lt-ltb, le-ltb}
 use Rattle.std.proofs.lemmas.Bool.{true≢false, false≢true, false_from_ne_true}
@@ -146,6 +146,21 @@ one_row true true here word there same shown =
 one_row true false here word there same shown = ap (λ b. b && there) (same refl)
 one_row false true here word there same shown = ap (λ b. b && word) (shown refl)
 one_row false false here word there same shown = refl
+
+-- and those of them that another row lacks
+pub one_unknown_row : (within of here word lacked there known : Bool) → (within ≡ true → of ≡ here)
+    → (of ≡ true → word ≡ (within && there))
+    → (of ≡ true → within ≡ true → lacked ≡ not known)
+    → (of && (word && lacked)) ≡ ((within && here) && (there && not known))
+one_unknown_row true true here word lacked there known same shown lack =
+    ap (λ b. b && lacked) (shown refl)
+    ∙ (ap (λ b. there && b) (lack refl refl)
+    ∙ ap (λ b. b && (there && not known)) (same refl))
+one_unknown_row true false here word lacked there known same shown lack =
+    ap (λ b. b && (there && not known)) (same refl)
+one_unknown_row false true here word lacked there known same shown lack =
+    ap (λ b. b && lacked) (shown refl)
+one_unknown_row false false here word lacked there known same shown lack = refl
 
 -- the rows before one that are joined
 

@@ -80,7 +80,7 @@ no_bit n i = ap (λ w. bit_at w (i % 64) == 1) zero_word ∙ ap (λ b. b == 1) (
       | inr past ↦ get_or_past (replicate n 0) (i / 64) 0 (subst (λ m. m ≤ i / 64) (sym (length-replicate n 0)) past)
     ]
 
-no_bit_in : (ws : List ℕ) (i : ℕ) → length ws ≡ 0 → is_set ws i ≡ false
+pub no_bit_in : (ws : List ℕ) (i : ℕ) → length ws ≡ 0 → is_set ws i ≡ false
 no_bit_in [] i e = ap (λ b. b == 1) (bit_at-zero (i % 64))
 no_bit_in (w ∷ ws) i e = absurd (omega arith)
 
@@ -606,3 +606,11 @@ shows_none rows e = subst (λ xs. Shows xs 0 []) (sym e) (record {
     nothing_shown : (a b : Bool) → b ≡ false → (a && b) ≡ false
     nothing_shown true b e = e
     nothing_shown false b e = refl
+
+-- a row is 63 words wide at most
+pub place_below : (f : Fact) → IsWithin f → place_of f < 64 * 63
+place_below f within = at (cases_lt (row_of f) 1408)
+  where
+    at : (row_of f < 1408) ⊎ (1408 ≤ row_of f) → place_of f < 64 * 63
+    at (inl low) = let w = wide (row_of f) low in let p = (placed f within).place in omega (arith, w, p)
+    at (inr high) = let w = narrow (row_of f) high in let p = (placed f within).place in omega (arith, w, p)

@@ -1,14 +1,15 @@
 -- Rows of facts, and how one is joined with another through a mask. This profile's own choice.
-use Rattle.std.specs.Prelude.{◌≡◌, ℕ, ◌+◌, ◌*◌, ◌%◌, ◌<◌, ◌≤◌, ◌==◌, ◌&&◌, nat_lt}
-use Rattle.std.specs.Prelude.{Bool, true, false, List, length, IsTrue, if◌then◌else◌}
+use Rattle.std.specs.Prelude.{◌≡◌, ℕ, ◌+◌, ◌*◌, ◌%◌, ◌<◌, ◌≤◌, ◌==◌, ◌&&◌, ◌||◌, nat_lt}
+use Rattle.std.specs.Prelude.{Bool, true, false, List, length, IsTrue, if◌then◌else◌, Vec}
+use Rattle.std.specs.declared.alloc.Global.{Global}
 use Rattle.mrc_base.specs.declared.PortRight.{PortRight}
 use Rattle.mrc_base.specs.declared.PortRight.TheVariants.{Send, Receive, SendOnce}
 use Rattle.mrc_base.specs.declared.Fact.{Fact}
 use Rattle.mrc_base.specs.declared.Fact.TheVariants.{Hold, Carry, Backup}
 use Rattle.mrc_facts.specs.Order.{right_number}
 use Rattle.mrc_facts.specs.Sets.{has}
-use Rattle.mrc_bits.specs.Bits.{is_set}
-use Rattle.mrc_rows.specs.Rows.{is_within, row_of, place_of, width_of}
+use Rattle.mrc_bits.specs.Bits.{is_set, is_fresh}
+use Rattle.mrc_rows.specs.Rows.{is_within, row_of, place_of, width_of, Shows}
 use Rattle.mrc_rows.specs.declared.joining.Row.{Row}
 use Rattle.mrc_rows.specs.declared.joining.Row.TheVariants.{Holds, Carries, Backups}
 
@@ -37,10 +38,39 @@ is_of (Backups c) (Backup e d) = e == c
 abbrev pub is_in_both : List ℕ → List ℕ → ℕ → Bool
 is_in_both more mask place = is_set more place && is_set mask place
 
+-- the fact has a place in the row of this number
+abbrev pub is_in_row : ℕ → Fact → Bool
+is_in_row number g = is_within g && row_of g == number
+
+-- the first bit from this one on and before the end that both have and the words lack
+pub record IsNextBefore (words more mask : List ℕ) (from end place : ℕ) : Type 0 where
+  pub from_there : from ≤ place
+  pub before_end : place < end
+  pub fresh : is_fresh words more mask place ≡ true
+  pub first : (j : ℕ) → from ≤ j → j < place → is_fresh words more mask j ≡ false
+
+-- there is none
+abbrev pub NoneBefore : List ℕ → List ℕ → List ℕ → ℕ → ℕ → Type 0
+NoneBefore words more mask from end =
+    (j : ℕ) → from ≤ j → j < end → is_fresh words more mask j ≡ false
+
+-- these rows show the facts, and those of one row whose bits both have
+pub record ShowJoined
+    (row : ℕ)
+    (more mask : List ℕ)
+    (facts : List Fact)
+    (rows : List (Vec ℕ Global))
+    (count : ℕ)
+    : Type 0 where
+  pub joined : List Fact
+  pub shows : Shows rows count joined
+  pub members : (g : Fact) → has joined g
+      ≡ (has facts g || (is_in_row row g && is_in_both more mask (place_of g)))
+
 -- the row is kept as the one of this number
 pub record IsNumber (row : Row) (number : ℕ) : Type 0 where
   pub there : number < 2752
-  pub at : (g : Fact) → is_of row g ≡ true → row_of g ≡ number
+  pub at : (g : Fact) → IsTrue (is_within g) → is_of row g ≡ (row_of g == number)
   pub within : (g : Fact) → is_of row g ≡ true
       → is_within g ≡ nat_lt (place_of g) (64 * width_of number)
 

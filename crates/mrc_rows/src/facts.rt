@@ -24,9 +24,9 @@ use std::marker::Model;
 /// wiring can have are bits of rows, all others stand in a list beside them.
 #[derive(Debug, Drop)]
 pub struct Facts {
-    rows: RowFacts,
+    pub(crate) rows: RowFacts,
     others: ListedFacts,
-    alloc: Global,
+    pub(crate) alloc: Global,
     ghost whole: { Whole rows others } by { whole_prop rows others },
 }
 
@@ -216,6 +216,55 @@ impl Facts {
         self.join_rows(other)?;
         self.join_listed(&other.others)?;
         Ok(())
+    }
+
+    /// The facts that have no place in a row.
+    pub fn others(&self) -> &ListedFacts
+        ensures { (g : Fact) → has result.now g ≡ (not (is_within g) && has self.now g) }
+    {
+        &self.others
+    }
+
+    /// Puts the fact into the set, unless the known ones have it, and answers the next one of the
+    /// list.
+    fn put_unknown(
+        &mut self,
+        list: &ListedFacts,
+        known: &Facts,
+        fact: &Fact,
+    ) -> Result<Option<Fact>, AllocError>
+        ensures put { OnOk result ((g : Fact) → has self.new g
+            ≡ ((is_same g fact.now && not (has known.now g)) || has self.old g)) }
+        ensures next { IfOk result (λ next. next ≡ after list.now fact.now) }
+    {
+        if !known.has(fact) {
+            let _new = self.insert(*fact)?;
+        }
+        Ok(list.after(*fact))
+    }
+
+    /// Puts the facts of the list into the set that the known ones lack.
+    fn join_unknown(&mut self, list: &ListedFacts, known: &Facts) -> Result<(), AllocError>
+        ensures { OnOk result ((g : Fact) → has self.new g
+            ≡ (has self.old g || (has list.now g && not (has known.now g)))) }
+    {
+        let _count = list.len();
+        let mut next = list.first();
+        while let Some(fact) = next {
+            next = self.put_unknown(list, known, &fact)?;
+        }
+        Ok(())
+    }
+
+    /// The facts of the set that the known ones lack.
+    pub fn lacking(&self, known: &Facts) -> Result<Facts, AllocError>
+        ensures { IfOk result (λ lacking. (g : Fact) → has lacking g
+            ≡ (has self.now g && not (has known.now g))) }
+    {
+        let mut lacking = Facts::new(self.alloc);
+        lacking.join_unknown_rows(self, known)?;
+        lacking.join_unknown(&self.others, known)?;
+        Ok(lacking)
     }
 
     /// Whether the set has each fact of the other one.

@@ -1,18 +1,18 @@
 //! Rows of facts, joined a word at a time.
 
 ghost use Rattle.std.specs.Prelude.{◌≡◌, ◌+◌, ◌*◌, ◌<◌, ◌≤◌, ◌^◌, ◌&&◌, ◌||◌, ◌==◌, length, true};
-ghost use Rattle.std.specs.Prelude.{OnOk, IfSome, IfNone};
+ghost use Rattle.std.specs.Prelude.{false, nat_lt, not, IfOk, OnOk, IfSome, IfNone};
 ghost use Rattle.mrc_base.specs.declared.Fact.{Fact};
 ghost use Rattle.mrc_facts.specs.Order.{is_same};
 ghost use Rattle.mrc_facts.specs.Sets.{has};
 ghost use Rattle.mrc_rows.specs.Rows.{IsWithin, is_within, row_of, place_of};
-ghost use Rattle.mrc_rows.specs.Joining.{right_place, right_at, is_of, is_in_both};
+ghost use Rattle.mrc_rows.specs.Joining.{right_place, right_at, is_of, is_in_both, is_in_row};
 ghost use Rattle.mrc_rows.specs.Joining.{IsNumber, HasNoNumber, IsNextNew, NoneNew};
 
 use crate::facts::Facts;
-use crate::row_facts::{number, right_of};
+use crate::row_facts::{number, right_of, width_of};
 use mrc_base::{ClassId, Fact, PortRight};
-use mrc_bits::next_fresh;
+use mrc_bits::{complement, next_fresh};
 use std::alloc::AllocError;
 
 /// A row of facts. Rows of holds and of carries have the same places, those of rights on classes.
@@ -66,8 +66,8 @@ pub(crate) fn number_of(row: Row) -> Option<usize>
     }
 }
 
-/// The fact of a place in the row.
-fn fact_of(row: Row, place: usize) -> Fact
+/// The fact of a place in the row. Rows that are kept have no other places.
+pub fn fact_of(row: Row, place: usize) -> Fact
     requires { place < 4032 }
     ensures { (g : Fact) → is_same g result ≡ (is_of row g && place_of g == place) }
 {
@@ -87,8 +87,9 @@ fn fact_of(row: Row, place: usize) -> Fact
     }
 }
 
-/// The row that is kept as the one of this number.
-fn row_at(number: usize) -> Row
+/// The row that is kept as the one of this number; 2,752 are: those of the holds of 64 tasks, those
+/// of the carries to 1,344 classes and those of the backups of each of these.
+pub fn row_at(number: usize) -> Row
     requires { number < 2752 }
     ensures { (g : Fact) → IsWithin g → is_of result g ≡ (row_of g == number) }
 {
@@ -103,7 +104,7 @@ fn row_at(number: usize) -> Row
 
 impl Facts {
     /// The first place from this one on that both have, and whose fact in the row the set lacks.
-    fn next_new(&self, row: Row, more: &[u64], mask: &[u64], from: usize) -> Option<usize>
+    pub fn next_new(&self, row: Row, more: &[u64], mask: &[u64], from: usize) -> Option<usize>
         requires { length more.now ≤ 63 }
         ensures found { IfSome result (IsNextNew self.now row more.now mask.now from) }
         ensures none { IfNone result (NoneNew self.now row more.now mask.now from) }
@@ -114,27 +115,50 @@ impl Facts {
     /// Puts the fact of a place in the row into the set.
     fn put_at(&mut self, row: Row, place: usize) -> Result<(), AllocError>
         requires { place < 4032 }
-        ensures { OnOk result ((g : Fact) →
+        ensures ok { OnOk result ((g : Fact) →
             has self.new g ≡ ((is_of row g && place_of g == place) || has self.old g)) }
+        ensures others { (g : Fact) → is_of row g ≡ false → has self.new g ≡ has self.old g }
     {
         let _new = self.insert(fact_of(row, place))?;
         Ok(())
+    }
+
+    /// Puts the facts of the row into the set that are kept as bits, and whose places both `more`
+    /// and `mask` have. Answers the place from which on facts of the row are not kept so.
+    fn join_kept(&mut self, row: Row, more: &[u64], mask: &[u64]) -> Result<usize, AllocError>
+        requires { length more.now ≤ 63 }
+        ensures ok { IfOk result (λ at. (g : Fact) → has self.new g ≡ (has self.old g
+            || (is_of row g && (is_in_both more.now mask.now (place_of g)
+            && nat_lt (place_of g) at)))) }
+        ensures others { (g : Fact) → is_of row g ≡ false → has self.new g ≡ has self.old g }
+    {
+        match number_of(row) {
+            Some(number) => {
+                self.rows.join(number, more, mask)?;
+                Ok(64 * width_of(number))
+            }
+            None => Ok(0),
+        }
     }
 
     /// Puts the facts of the row into the set whose places both `more` and `mask` have. Where
     /// memory runs out, some of them may be there.
     pub fn join(&mut self, row: Row, more: &[u64], mask: &[u64]) -> Result<(), AllocError>
         requires { length more.now ≤ 63 }
-        ensures { OnOk result ((g : Fact) → has self.new g
+        ensures ok { OnOk result ((g : Fact) → has self.new g
             ≡ (has self.old g || (is_of row g && is_in_both more.now mask.now (place_of g)))) }
+
+        // Facts of other rows are as before, also where memory runs out.
+        ensures others { (g : Fact) → is_of row g ≡ false → has self.new g ≡ has self.old g }
     {
-        let mut at = 0;
+        let mut at = self.join_kept(row, more, mask)?;
         while let Some(place) = self.next_new(row, more, mask, at) {
             self.put_at(row, place)?;
             at = place + 1;
         }
         Ok(())
     }
+
     /// Puts the facts of a row of the other set into the set.
     fn join_row(&mut self, number: usize, other: &Facts) -> Result<(), AllocError>
         requires { number < 2752 }
@@ -154,6 +178,34 @@ impl Facts {
     {
         for number in 0..2752 {
             self.join_row(number, other)?;
+        }
+        Ok(())
+    }
+
+    /// Puts the facts of a row into the set that `all` has and that the known ones lack.
+    fn join_unknown_row(
+        &mut self,
+        number: usize,
+        all: &Facts,
+        known: &Facts,
+    ) -> Result<(), AllocError>
+        requires { number < 2752 }
+        ensures { OnOk result ((g : Fact) → has self.new g ≡ (has self.old g
+            || (is_in_row number g && (has all.now g && not (has known.now g))))) }
+    {
+        let row = row_at(number);
+        let unknown = complement(self.alloc, known.words(row), 63)?;
+        self.join(row, all.words(row), unknown.as_slice())?;
+        Ok(())
+    }
+
+    /// Puts the facts of all rows into the set that `all` has and that the known ones lack.
+    pub(crate) fn join_unknown_rows(&mut self, all: &Facts, known: &Facts) -> Result<(), AllocError>
+        ensures { OnOk result ((g : Fact) → has self.new g ≡ (has self.old g
+            || (is_within g && (has all.now g && not (has known.now g))))) }
+    {
+        for number in 0..2752 {
+            self.join_unknown_row(number, all, known)?;
         }
         Ok(())
     }

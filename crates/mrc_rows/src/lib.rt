@@ -6,5 +6,5 @@ mod joining;
 mod row_facts;
 
 pub use facts::Facts;
-pub use joining::{Row, right_at, right_place};
+pub use joining::{Row, fact_of, right_at, right_place, row_at};
 pub use mrc_base::Fact;

@@ -1,19 +1,22 @@
 //! Sets of facts as rows of bits.
 ghost use Rattle.std.specs.Prelude.{◌≡◌, ◌+◌, ◌*◌, ◌==◌, ◌||◌, ◌&&◌, replicate, ◌<◌, ◌≤◌, ◌↔◌, []};
-ghost use Rattle.std.specs.Prelude.{length, not, OnOk, OnErr, IfOk, IfSome, IfNone, IsTrue};
+ghost use Rattle.std.specs.Prelude.{List, length, not, OnOk, OnErr, IfOk, IfSome, IfNone, IsTrue};
 ghost use Rattle.std.specs.Prelude.{if◌then◌else◌, ◌^◌};
 ghost use Rattle.mrc_base.specs.declared.Fact.{Fact};
 ghost use Rattle.mrc_facts.specs.Sets.{has, with_fact, first, after, IsAscending};
 ghost use Rattle.mrc_facts.specs.Order.{right_number, is_same};
-ghost use Rattle.mrc_rows.specs.Rows.{IsWithin, Shown, is_within, row_of, place_of, words_of};
+ghost use Rattle.mrc_rows.specs.Rows.{IsWithin, Shown, Shows, is_within, row_of, place_of};
+ghost use Rattle.mrc_rows.specs.Rows.{words_of};
 ghost use Rattle.mrc_rows.specs.Rows.{width_of, AreSized, SameBits, OneMoreBit, OneLessBit};
 ghost use Rattle.mrc_rows.specs.Rows.{IsNextPlace, NoPlace, IsFirstFrom, NoneFrom, start_row};
 ghost use Rattle.mrc_rows.specs.Rows.{start_place};
+ghost use Rattle.mrc_rows.specs.Joining.{is_in_both, is_in_row, IsNextBefore, NoneBefore};
+ghost use Rattle.mrc_rows.specs.Joining.{ShowJoined};
 ghost use Rattle.mrc_rows.specs.ShownProp.{shown_prop};
 ghost use Rattle.mrc_bits.specs.Bits.{is_set};
 
 use mrc_base::{ClassId, Fact, PortRight};
-use mrc_bits::{clear_bit, has_bit, next_bit, set_bit};
+use mrc_bits::{clear_bit, has_bit, next_bit, next_fresh, set_bit};
 use std::alloc::{AllocError, Global};
 use std::marker::Model;
 
@@ -88,7 +91,7 @@ fn place_of(fact: &Fact) -> usize
 }
 
 /// How many words a row has.
-fn width_of(row: usize) -> usize
+pub(crate) fn width_of(row: usize) -> usize
     ensures { result ≡ width_of row }
 {
     if row < 1408 { 63 } else { 21 }
@@ -131,6 +134,57 @@ fn clear_in_row(rows: &mut Vec<Vec<u64>>, row: usize, place: usize)
     ensures { OneLessBit rows.old.items rows.new.items row place }
 {
     clear_bit(rows[row].as_mut_slice(), place);
+}
+
+/// The words of a row.
+fn words_at(rows: &[Vec<u64>], row: usize) -> &[u64]
+    ensures { result.now ≡ words_of rows.now row }
+{
+    match rows.get(row) {
+        Some(row) => row.as_slice(),
+        None => &[],
+    }
+}
+
+/// The first place from this one on and before the end that both `more` and `mask` have, and whose
+/// bit the row lacks.
+fn next_before(
+    rows: &[Vec<u64>],
+    row: usize,
+    more: &[u64],
+    mask: &[u64],
+    from: usize,
+    end: usize,
+) -> Option<usize>
+    requires { length more.now ≤ 63 }
+    ensures found { IfSome result
+        (IsNextBefore (words_of rows.now row) more.now mask.now from end) }
+    ensures none { IfNone result
+        (NoneBefore (words_of rows.now row) more.now mask.now from end) }
+{
+    let place = next_fresh(words_at(rows, row), more, mask, from)?;
+    if place < end { Some(place) } else { None }
+}
+
+/// Sets each bit of a row that is made where both `more` and `mask` have it. Answers how many facts
+/// the rows show then, of those that they showed before.
+fn set_both(rows: &mut Vec<Vec<u64>>, shown: usize, row: usize, more: &[u64], mask: &[u64]) -> usize
+    requires row { row < 2752 }
+    requires made { length (words_of rows.old.items row) ≡ width_of row }
+    requires few { length more.now ≤ 63 }
+    requires shown { Shown rows.old.items shown }
+    ensures { (facts : List Fact) → Shows rows.old.items shown facts
+        → ShowJoined row more.now mask.now facts rows.new.items result }
+{
+    let end = 64 * width_of(row);
+    let mut count = shown;
+    let mut at = 0;
+    while let Some(place) = next_before(rows.as_slice(), row, more, mask, at, end) {
+        set_in_row(rows, row, place);
+        count += 1;
+        at = place + 1;
+    }
+    count
 }
 
 /// The first row that may have a fact behind this one, and the place where such begin in it.
@@ -251,6 +305,23 @@ impl RowFacts {
         set_in_row(&mut self.rows, row, place_of(&fact));
         self.count += 1;
         Ok(true)
+    }
+
+    /// Puts the facts of the row into the set whose places both `more` and `mask` have.
+    pub(crate) fn join(&mut self, row: usize, more: &[u64], mask: &[u64]) -> Result<(), AllocError>
+        requires row { row < 2752 }
+        requires few { length more.now ≤ 63 }
+        ensures ok { OnOk result ((g : Fact) → has self.new g
+            ≡ (has self.old g || (is_in_row row g && is_in_both more.now mask.now (place_of g)))) }
+        ensures err { OnErr result (self.new ≡ self.old) }
+        ensures ascending { IsAscending self.new }
+    {
+        if next_fresh(self.words(row), more, mask, 0).is_none() {
+            return Ok(());
+        }
+        make_row(self.alloc, &mut self.rows, row)?;
+        self.count = set_both(&mut self.rows, self.count, row, more, mask);
+        Ok(())
     }
 
     /// The empty set. It keeps the allocator.

@@ -10,4 +10,4 @@ returns c =
     c.all.result.now c.told_of.result.now c.requires.class
     (omega (arith, c.classes-within.ensures.exact, c.classes-within.ensures.within))
     c.all.ensures.shown c.told_of.ensures (has c.args.found.now) (has c.join.new.self)
-    c.in_ok-join.ensures
+    c.in_ok-join.ensures.ok

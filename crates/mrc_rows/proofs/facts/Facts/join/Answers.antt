@@ -6,10 +6,15 @@ use Rattle.mrc_rows.proofs.Joins.{joined_more}
 use Rattle.mrc_rows.proofs.facts.Facts.join.Goals as goal
 
 pub loop-place-preserved : goal.loop-place-preserved
-loop-place-preserved c = λ g.
+loop-place-preserved c =
     let next = c.in-Some.ensures.found in
-    joined_more (has c.args.self.now g) (has c.loop-place.self g) (has c.put_at.new.self g)
-    (is_of c.args.row g) (is_in_both c.args.more.now c.args.mask.now (place_of g)) (place_of g)
-    c.loop-place.at c.in-Some.place (c.loop-place.invariant g) (c.in_ok-put_at.ensures g)
-    (λ there e. ap (is_in_both c.args.more.now c.args.mask.now) e ∙ next.set)
-    (λ there above under both. next.first g there above under both) next.from_there
+    record {
+      joined = λ g. joined_more (has c.args.self.now g) (has c.loop-place.self g)
+          (has c.put_at.new.self g) (is_of c.args.row g)
+          (is_in_both c.args.more.now c.args.mask.now (place_of g)) (place_of g)
+          c.loop-place.at c.in-Some.place (c.loop-place.invariant.joined g)
+          (c.in_ok-put_at.ensures.ok g)
+          (λ there e. ap (is_in_both c.args.more.now c.args.mask.now) e ∙ next.set)
+          (λ there above under both. next.first g there above under both) next.from_there;
+      others = λ g of. c.put_at.ensures.others g of ∙ c.loop-place.invariant.others g of;
+    }

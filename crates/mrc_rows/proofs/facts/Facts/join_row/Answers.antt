@@ -11,7 +11,7 @@ pub returns : goal.returns
 returns c = λ g.
     let row = c.row_at-row.result in
     let words = c.words-words.result.now in
-    c.in_ok-join.ensures g
+    c.in_ok-join.ensures.ok g
     ∙ ap (λ b. has c.args.self.now g || b)
     (one_row (is_within g) (is_of row g) (row_of g == c.args.number) (is_set words (place_of g))
     (has c.args.other.now g) (c.row_at-row.ensures g) (c.words-words.ensures.shown g))
