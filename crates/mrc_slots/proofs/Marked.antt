@@ -1,5 +1,5 @@
 -- Rows of bits that say what classes take.
-use Rattle.std.proofs.Common.{◌≡◌, ℕ, ◌+◌, ◌*◌, ◌/◌, ◌≤◌, ◌==◌, Bool, true, false, Vec}
+use Rattle.std.proofs.Common.{◌≡◌, ℕ, ◌+◌, ◌*◌, ◌/◌, ◌<◌, ◌≤◌, ◌==◌, Bool, true, false, Vec}
 use Rattle.std.proofs.Common.{List, [], ◌∷◌, ◌++◌, length, replicate, Some, Option}
 use Rattle.std.proofs.Common.{refl, ap, sym, subst, ◌∙◌, inl, inr, arith}
 use Rattle.std.specs.Prelude.{◌||◌, ◌&&◌, nat_lt, unwrap_or, option_map}
@@ -13,9 +13,10 @@ use Rattle.mrc_rows.specs.Rows.{words_of}
 use Rattle.mrc_rows.specs.Joining.{right_place, right_at}
 use Rattle.mrc_rows.proofs.Rows.{words_at, words_past, no_bit, right_there}
 use Rattle.mrc_rows.proofs.Joins.{class_of_place, right_of_place, next_below}
-use Rattle.mrc_model.specs.Wiring.{Wiring, classes}
+use Rattle.mrc_model.specs.Wiring.{Wiring, classes, label}
 use Rattle.mrc_slots.specs.Passing.{passes, is_passed}
-use Rattle.mrc_slots.specs.Masks.{IsMask, AreMasks, is_any, is_taken}
+use Rattle.mrc_slots.specs.Masks.{IsMask, AreMasks, AreFirstRows, is_any, is_taken}
+use Rattle.mrc_slots.proofs.Passing.{same_label_passes}
 
 abbrev Row : Type 0
 Row = Vec ℕ Global
@@ -142,6 +143,45 @@ same_passes : (W : Wiring) (d e c b : ℕ) (q r g h : PortRight) → d ≡ e →
 same_passes W d e c b q r g h x y z w =
     ap (λ i. passes W i c q g) x
     ∙ (ap (λ i. passes W e i q g) y ∙ (ap (λ i. passes W e b i g) z ∙ ap (passes W e b r) w))
+
+-- the row of an earlier class with the same label
+
+pub same_row : (test : ℕ → ℕ → Bool) (m n j k : ℕ) (rows : List Row) (words : List ℕ)
+    → AreMasks test m n rows → j < m → ((p : ℕ) → test j p ≡ test k p)
+    → words ≡ words_of rows j → IsMask (test k) n words
+same_row test m n j k rows words masks below same is = record {
+  few = subst (λ ws. length ws ≤ 63) (sym is) (masks.few j);
+  bits = λ p. ap (λ ws. is_set ws p) is
+      ∙ (masks.bits j p ∙ (ap (λ b. b && (nat_lt p n && test j p)) (lt-ltb j m below)
+      ∙ ap (λ b. nat_lt p n && b) (same p)));
+}
+
+pub alike_taken : (W : Wiring) (d k : ℕ) → label W d ≡ label W (k / 3) → (p : ℕ)
+    → is_taken W (right_place d (right_at k)) p ≡ is_taken W k p
+alike_taken W d k same p =
+    same_passes W _ d _ (p / 3) _ (right_at k) _ (right_at p) (class_of_place d (right_at k)) refl
+    (right_of_place d (right_at k)) refl
+    ∙ same_label_passes W d (k / 3) (p / 3) (right_at k) (right_at p) same
+
+pub alike_below : (d k : ℕ) → d < k / 3 → right_place d (right_at k) < k
+alike_below d k below = let h = right_there (right_at k) in omega arith
+
+-- the first rows
+
+pub no_rows : (W : Wiring) (rows : List Row) → rows ≡ [] → AreFirstRows W 0 rows
+no_rows W rows e = record {
+  masks = no_masks (is_taken W) (3 * classes W) rows e;
+  len = ap length e;
+}
+
+pub one_more_row : (W : Wiring) (m : ℕ) (rows longer : List Row) (row : Row)
+    → AreFirstRows W m rows → IsMask (is_taken W m) (3 * classes W) row.items
+    → longer ≡ rows ++ row ∷ [] → AreFirstRows W (m + 1) longer
+one_more_row W m rows longer row first mask pushed = record {
+  masks = more_masks (is_taken W) m (3 * classes W) rows longer row first.masks first.len mask
+      pushed;
+  len = more_rows m rows longer row first.len pushed;
+}
 
 pub any_bit : (n : ℕ) (row : List ℕ) → IsMask is_any (3 * n) row → (c : ℕ) (r : PortRight)
     → is_set row (right_place c r) ≡ nat_lt c n

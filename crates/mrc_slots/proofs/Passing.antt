@@ -1,6 +1,7 @@
 -- What passes, by slots and as reply rights.
-use Rattle.std.proofs.Common.{◌≡◌, ℕ, Bool, true, false, refl, inl, inr, ◌⊎◌}
-use Rattle.std.specs.Prelude.{◌||◌}
+use Rattle.std.proofs.Common.{◌≡◌, ℕ, Bool, true, false, refl, ap, inl, inr, ◌⊎◌}
+use Rattle.std.specs.Prelude.{◌||◌, flat_map}
+use Rattle.std.specs.List.{list_any}
 use Rattle.std.proofs.lemmas.Bool.{or_cases, or_right, false≢true}
 use Rattle.mrc_base.specs.declared.PortRight.{PortRight}
 use Rattle.mrc_base.specs.declared.PortRight.TheVariants.{Send, Receive, SendOnce}
@@ -8,8 +9,9 @@ use Rattle.mrc_base.specs.declared.Disp.{Disp}
 use Rattle.mrc_base.specs.declared.Disp.TheVariants.{MoveReceive, MoveSend, MoveSendOnce, CopySend}
 use Rattle.mrc_base.specs.declared.Disp.TheVariants.{MakeSend, MakeSendOnce}
 use Rattle.mrc_base.specs.Disposition.{needed, given}
-use Rattle.mrc_model.specs.Wiring.{Wiring, accepts_routine}
-use Rattle.mrc_wiring.specs.Slots.{takes}
+use Rattle.mrc_model.specs.Wiring.{Wiring, label, forms, item_forms}
+use Rattle.mrc_model.specs.Wiring.{accepts_routine, has_routine}
+use Rattle.mrc_wiring.specs.Slots.{takes, form_takes}
 use Rattle.mrc_slots.specs.Passing.{passes}
 
 -- what a slot takes passes
@@ -54,3 +56,28 @@ passed_by W d c SendOnce SendOnce h = elim (or_cases (takes W d MoveSendOnce c) 
   | inl there ↦ inl (MoveSendOnce, (refl, (refl, there)))
   | inr reply ↦ inr (refl, (refl, reply))
 ]
+
+-- what a class takes depends on its label alone
+
+same_label_takes : (W : Wiring) (d e : ℕ) → label W d ≡ label W e → (x : Disp) (c : ℕ)
+    → takes W d x c ≡ takes W e x c
+unfolding takes forms
+same_label_takes W d e same x c =
+    ap (λ items. list_any (form_takes W x c) (flat_map (item_forms W) items)) same
+
+same_label_routine : (W : Wiring) (d e : ℕ) → label W d ≡ label W e
+    → accepts_routine W d ≡ accepts_routine W e
+unfolding accepts_routine
+same_label_routine W d e same = ap (list_any (has_routine W)) same
+
+pub same_label_passes : (W : Wiring) (d e c : ℕ) (held give : PortRight)
+    → label W d ≡ label W e → passes W d c held give ≡ passes W e c held give
+same_label_passes W d e c held give same =
+    let move_receive = same_label_takes W d e same MoveReceive c in
+    let move_send = same_label_takes W d e same MoveSend c in
+    let move_once = same_label_takes W d e same MoveSendOnce c in
+    let copy_send = same_label_takes W d e same CopySend c in
+    let make_send = same_label_takes W d e same MakeSend c in
+    let make_once = same_label_takes W d e same MakeSendOnce c in
+    let reply = same_label_routine W d e same in
+    cc

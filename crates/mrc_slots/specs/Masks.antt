@@ -4,7 +4,7 @@ use Rattle.std.specs.Prelude.{List, length, Vec}
 use Rattle.std.specs.declared.alloc.Global.{Global}
 use Rattle.mrc_bits.specs.Bits.{is_set}
 use Rattle.mrc_rows.specs.Rows.{words_of}
-use Rattle.mrc_rows.specs.Joining.{right_place, right_at}
+use Rattle.mrc_rows.specs.Joining.{right_at}
 use Rattle.mrc_model.specs.Wiring.{Wiring, classes, accepts_destroyed}
 use Rattle.mrc_slots.specs.Passing.{passes}
 
@@ -25,6 +25,11 @@ pub record AreMasks
 -- the class and the right of place k: whether the class takes the right of place p, as which one
 abbrev pub is_taken : Wiring → ℕ → ℕ → Bool
 is_taken W k p = passes W (k / 3) (p / 3) (right_at k) (right_at p)
+
+-- the first rows, this many, of what each class takes of each right
+pub record AreFirstRows (W : Wiring) (count : ℕ) (rows : List (Vec ℕ Global)) : Type 0 where
+  pub masks : AreMasks (is_taken W) count (3 * classes W) rows
+  pub len : length rows ≡ count
 
 -- each place
 abbrev pub is_any : ℕ → Bool

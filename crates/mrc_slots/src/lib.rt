@@ -1,6 +1,7 @@
 //! A wiring, with what its classes take as rows of bits.
 #![tactic(auto)]
 
+mod alike;
 mod masks;
 mod slots;
 mod taking;

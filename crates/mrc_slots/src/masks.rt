@@ -1,15 +1,17 @@
 //! What classes take, as rows of bits.
 
 ghost use Rattle.std.specs.Prelude.{◌≡◌, ◌+◌, ◌*◌, ◌/◌, ◌<◌, ◌≤◌, ◌==◌, ◌&&◌, ◌||◌, ℕ, IfOk};
-ghost use Rattle.std.specs.Prelude.{length, replicate, vec_len};
+ghost use Rattle.std.specs.Prelude.{length, replicate, vec_len, IfSome, OnOk};
+ghost use Rattle.mrc_base.specs.Limits.{limit_of_tasks, limit_of_wired_ports};
 ghost use Rattle.mrc_bits.specs.Bits.{is_set};
 ghost use Rattle.mrc_rows.specs.Rows.{words_of};
 ghost use Rattle.mrc_rows.specs.Joining.{right_place, right_at};
-ghost use Rattle.mrc_model.specs.Wiring.{classes, accepts_destroyed};
+ghost use Rattle.mrc_model.specs.Wiring.{classes, accepts_destroyed, label};
 ghost use Rattle.mrc_wiring.specs.Table.{wiring_of};
 ghost use Rattle.mrc_slots.specs.Passing.{passes};
-ghost use Rattle.mrc_slots.specs.Masks.{IsMask, AreMasks, is_any, is_taken};
+ghost use Rattle.mrc_slots.specs.Masks.{IsMask, AreMasks, AreFirstRows, is_any, is_taken};
 
+use crate::alike::alike_before;
 use crate::taking::passes;
 use mrc_base::{ClassId, PortRight};
 use mrc_bits::set_bit;
@@ -88,16 +90,56 @@ fn taken_row(alloc: Global, wired: &Wired, to: u16, held: PortRight) -> Result<V
     Ok(row)
 }
 
+/// The row of a class and a right, where those before it are made: a copy of the row of the class
+/// `like`, which accepts the same, or a new one.
+fn next_row(
+    alloc: Global,
+    wired: &Wired,
+    rows: &[Vec<u64>],
+    like: Option<u16>,
+    number: u16,
+) -> Result<Vec<u64>, AllocError>
+    requires made { AreFirstRows (wiring_of wired.now) number rows.now }
+    requires below { IfSome like (λ d. d < number / 3) }
+    requires alike { IfSome like
+        (λ d. label (wiring_of wired.now) d ≡ label (wiring_of wired.now) (number / 3)) }
+    ensures { IfOk result (λ row. IsMask (is_taken (wiring_of wired.now) number)
+        (3 * classes (wiring_of wired.now)) row.items) }
+{
+    let held = right_at(number as usize);
+    match like {
+        Some(class) => row_at(rows, right_place(class, held)).to_vec(alloc),
+        None => taken_row(alloc, wired, number / 3, held),
+    }
+}
+
+/// Adds the rows of a class, one for each right.
+fn add_rows(
+    alloc: Global,
+    wired: &Wired,
+    rows: &mut Vec<Vec<u64>>,
+    class: u16,
+) -> Result<(), AllocError>
+    requires few { class < limit_of_wired_ports + 2 * limit_of_tasks }
+    requires made { AreFirstRows (wiring_of wired.now) (3 * class) rows.old.items }
+    ensures { OnOk result (AreFirstRows (wiring_of wired.now) (3 * (class + 1)) rows.new.items) }
+{
+    let like = alike_before(wired, class);
+    for number in 3 * class..3 * (class + 1) {
+        let row = next_row(alloc, wired, rows.as_slice(), like, number)?;
+        rows.push(row)?;
+    }
+    Ok(())
+}
+
 /// What each class takes of each right.
 pub(crate) fn taken_rows(alloc: Global, wired: &Wired) -> Result<Vec<Vec<u64>>, AllocError>
     ensures { IfOk result (λ rows. AreMasks (is_taken (wiring_of wired.now))
         (3 * classes (wiring_of wired.now)) (3 * classes (wiring_of wired.now)) rows.items) }
 {
     let mut rows = Vec::new(alloc);
-    for number in 0..3 * wired.classes() {
-        let held = right_at(number as usize);
-        let row = taken_row(alloc, wired, number / 3, held)?;
-        rows.push(row)?;
+    for class in 0..wired.classes() {
+        add_rows(alloc, wired, &mut rows, class)?;
     }
     Ok(rows)
 }
