@@ -1,7 +1,7 @@
 //! Sets of facts as premises: with the rows that what slots take is joined with.
 
-ghost use Rattle.std.specs.Prelude.{◌≡◌, ◌+◌, ◌≤◌, ◌↔◌, ◌&&◌, ◌||◌, [], ℕ, true, false, length};
-ghost use Rattle.std.specs.Prelude.{not};
+ghost use Rattle.std.specs.Prelude.{◌≡◌, ◌+◌, ◌<◌, ◌≤◌, ◌==◌, ◌↔◌, ◌&&◌, ◌||◌, [], ℕ, true, false};
+ghost use Rattle.std.specs.Prelude.{not, length};
 ghost use Rattle.std.specs.Prelude.{IsTrue, IsNone, IfOk, OnOk, OnErr, IfSome, IfNone};
 ghost use Rattle.std.specs.Prelude.{if◌then◌else◌};
 ghost use Rattle.mrc_base.specs.declared.Fact.{Fact};
@@ -11,14 +11,16 @@ ghost use Rattle.mrc_facts.specs.Order.{is_same};
 ghost use Rattle.mrc_facts.specs.Sets.{has, with_fact, first, after, IsAscending};
 ghost use Rattle.mrc_facts.specs.Laws.{IsLeast, IsNext, NoneAfter};
 ghost use Rattle.mrc_model.specs.Conclusions.{same_right};
-ghost use Rattle.mrc_rows.specs.Rows.{is_within, place_of};
-ghost use Rattle.mrc_rows.specs.Joining.{right_place, is_of};
+ghost use Rattle.mrc_rows.specs.Rows.{is_within, row_of, place_of};
+ghost use Rattle.mrc_rows.specs.Joining.{right_place, is_of, is_in_both};
+ghost use Rattle.mrc_rows.specs.declared.joining.Row.TheVariants.{Carries};
 ghost use Rattle.mrc_classes.specs.Spreading.{IsSpread, AreSpread, is_held_on, IsFilled};
 ghost use Rattle.mrc_classes.specs.Spreading.{AreAsked, AreTold};
 
 use crate::rights::{backup, carry, hold};
 use mrc_base::{Fact, PortRight};
-use mrc_rows::{Facts, Row};
+use mrc_facts::ListedFacts;
+use mrc_rows::{Facts, Row, fact_of, row_at};
 use std::alloc::{AllocError, Global};
 use std::marker::Model;
 
@@ -287,6 +289,98 @@ impl Premises {
             }
             Fact::Carry { .. } => self.facts.insert(fact),
         }
+    }
+
+    /// Puts the fact of a place in the row into the set.
+    fn put_at(&mut self, row: Row, place: usize) -> Result<(), AllocError>
+        requires { place < 4032 }
+        ensures { OnOk result ((g : Fact) →
+            has self.new g ≡ ((is_of row g && place_of g == place) || has self.old g)) }
+    {
+        let _new = self.insert(fact_of(row, place))?;
+        Ok(())
+    }
+
+    /// Puts the facts of a row into the set, one by one.
+    fn put_row(&mut self, row: Row, words: &[u64]) -> Result<(), AllocError>
+        requires { length words.now ≤ 63 }
+        ensures { OnOk result ((g : Fact) → has self.new g
+            ≡ (has self.old g || (is_of row g && is_in_both words.now words.now (place_of g)))) }
+    {
+        let mut at = 0;
+        while let Some(place) = self.facts.next_new(row, words, words, at) {
+            self.put_at(row, place)?;
+            at = place + 1;
+        }
+        Ok(())
+    }
+
+    /// Puts the carries of a row into the set, which are all that is kept of them.
+    fn join_carries(&mut self, class: u16, words: &[u64]) -> Result<(), AllocError>
+        requires { length words.now ≤ 63 }
+        ensures { OnOk result ((g : Fact) → has self.new g ≡ (has self.old g
+            || (is_of (Carries class) g && is_in_both words.now words.now (place_of g)))) }
+    {
+        self.facts.join(Row::Carries(class), words, words)?;
+        Ok(())
+    }
+
+    /// Puts the facts of a row of the other set into the set.
+    fn join_row(&mut self, number: usize, other: &Facts) -> Result<(), AllocError>
+        requires { number < 2752 }
+        ensures { OnOk result ((g : Fact) → has self.new g
+            ≡ (has self.old g || ((is_within g && row_of g == number) && has other.now g))) }
+    {
+        let row = row_at(number);
+        let words = other.words(row);
+        match row {
+            Row::Carries(class) => self.join_carries(class, words)?,
+            _ => self.put_row(row, words)?,
+        }
+        Ok(())
+    }
+
+    /// Puts the facts of all rows of the other set into the set.
+    fn join_rows(&mut self, other: &Facts) -> Result<(), AllocError>
+        ensures { OnOk result ((g : Fact) → has self.new g
+            ≡ (has self.old g || (is_within g && has other.now g))) }
+    {
+        for number in 0..2752 {
+            self.join_row(number, other)?;
+        }
+        Ok(())
+    }
+
+    /// Puts the fact into the set, and answers the next one of the list.
+    fn put_listed(&mut self, list: &ListedFacts, fact: &Fact) -> Result<Option<Fact>, AllocError>
+        ensures put { OnOk result ((g : Fact) →
+            has self.new g ≡ (is_same g fact.now || has self.old g)) }
+        ensures next { IfOk result (λ next. next ≡ after list.now fact.now) }
+    {
+        let _new = self.insert(*fact)?;
+        Ok(list.after(*fact))
+    }
+
+    /// Puts the facts of the list into the set.
+    fn join_listed(&mut self, list: &ListedFacts) -> Result<(), AllocError>
+        ensures { OnOk result ((g : Fact) → has self.new g ≡ (has self.old g || has list.now g)) }
+    {
+        let _count = list.len();
+        let mut next = list.first();
+        while let Some(fact) = next {
+            next = self.put_listed(list, &fact)?;
+        }
+        Ok(())
+    }
+
+    /// Puts the facts of the other set into the set. Where memory runs out, some of them may be
+    /// there.
+    pub fn join(&mut self, other: &Facts) -> Result<(), AllocError>
+        ensures { OnOk result ((g : Fact) → has self.new g ≡ (has self.old g || has other.now g)) }
+    {
+        self.join_rows(other)?;
+        self.join_listed(other.others())?;
+        Ok(())
     }
 
     /// The classes on which the task holds the right: all three places of each are set.

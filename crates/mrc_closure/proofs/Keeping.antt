@@ -1,6 +1,6 @@
 -- A round keeps what the loop keeps, and the last one leaves the least closed set.
 use Rattle.std.proofs.Common.{◌≡◌, ℕ, not, Bool, true, false, List, []}
-use Rattle.std.proofs.Common.{◌∷◌, ◌++◌, take, Option, Some, None}
+use Rattle.std.proofs.Common.{◌∷◌, ◌+◌, length}
 use Rattle.std.proofs.Common.{refl, ap, sym, subst, ◌∙◌}
 use Rattle.std.proofs.Common.{IsTrue, ◌⊎◌, inl, inr, arith}
 use Rattle.std.specs.Prelude.{◌&&◌, ◌||◌, ◌↔◌}
@@ -10,13 +10,11 @@ use Rattle.mrc_base.specs.declared.Fact.{Fact}
 use Rattle.mrc_model.specs.IsIn.{IsIn, here, later}
 use Rattle.mrc_model.specs.Wiring.{Wiring}
 use Rattle.mrc_model.specs.Rules.{Has, InRange, Rule, Closed, Least, IsLeast}
-use Rattle.mrc_facts.specs.Order.{is_same}
 use Rattle.mrc_facts.specs.Sets.{has, IsAscending}
 use Rattle.mrc_classes.specs.Following.{IsConsequence, IsFirstFact, IsListOf}
-use Rattle.mrc_facts.proofs.Total.{equal_from_same}
-use Rattle.mrc_facts.proofs.Walking.{has_more, place, walk_ends, IsStep}
+use Rattle.mrc_facts.proofs.Removing.{length-together}
 use Rattle.mrc_classes.proofs.Following.{all_as}
-use Rattle.mrc_closure.specs.Merging.{FromOne, Merged, IsPut}
+use Rattle.mrc_closure.specs.Merging.{FromOne, Merged}
 
 -- tests
 
@@ -35,91 +33,35 @@ or_false : (b : Bool) → (b || false) ≡ b
 or_false true = refl
 or_false false = refl
 
-or_swap : (a b c : Bool) → (a || (b || c)) ≡ (b || (a || c))
-or_swap true true c = refl
-or_swap true false c = refl
-or_swap false b c = refl
-
 -- merging
 
-pub merged_none : (before : List Fact) → Merged before [] before []
-merged_none before = record {
-  members = λ g. sym (or_false (has before g));
-  new_ones = λ g. refl;
-  len = omega arith;
-}
+-- what others lack is put into them
+pub merged_by : (before found unknown none new after_it : List Fact)
+    → none ≡ []
+    → IsAscending before → IsAscending new → IsAscending after_it
+    → ((g : Fact) → has unknown g ≡ (has found g && not (has before g)))
+    → ((g : Fact) → has new g ≡ (has none g || has unknown g))
+    → ((g : Fact) → has after_it g ≡ (has before g || has unknown g))
+    → Merged before found after_it new
+merged_by before found unknown none new after_it empty up up_new up_after lacked in_new in_after =
+    record {
+      members = λ g. in_after g ∙ (ap (λ b. has before g || b) (lacked g)
+          ∙ whole (has before g) (has found g));
+      new_ones = λ g. is_new g ∙ lacked g;
+      len = length-together before new after_it up up_new up_after
+          (λ g. in_after g ∙ ap (λ b. has before g || b) (sym (is_new g)))
+          (λ g there. false_from (has before g)
+          (and_parts (has found g) (not (has before g))
+          (subst IsTrue (is_new g ∙ lacked g) there)).1);
+    }
+  where
+    is_new : (g : Fact) → has new g ≡ has unknown g
+    is_new g = in_new g ∙ ap (λ fs. has fs g || has unknown g) empty
 
--- one more found fact
-module _ (before done after new : List Fact) (m : Merged before done after new)
-    (f : Fact) (after_it new_then : List Fact) (put : IsPut f after after_it new new_then) where
-  new_bool : (same b d bf df : Bool)
-      → (same ≡ true → (b ≡ bf) × (d ≡ df))
-      → ((same && not (bf || df)) || (d && not b)) ≡ ((same || d) && not b)
-  new_bool false b d bf df e = refl
-  new_bool true b d bf df e =
-      let p = e refl in
-      subst (λ x. ((true && not (x || df)) || (d && not b)) ≡ ((true || d) && not b)) p.0
-      (subst (λ x. ((true && not (b || x)) || (d && not b)) ≡ ((true || d) && not b)) p.1
-      (at b d))
-    where
-      at : (b d : Bool) → (not (b || d) || (d && not b)) ≡ not b
-      at true true = refl
-      at true false = refl
-      at false true = refl
-      at false false = refl
-
-  among : IsTrue (has new f) → IsTrue (has after f)
-  among h =
-      subst IsTrue (sym (m.members f)) (or_right (has before f) (has done f)
-      (and_parts (has done f) (not (has before f)) (subst IsTrue (m.new_ones f) h)).0)
-
-  pub merged_more : Merged before (done ++ f ∷ []) after_it new_then
-  merged_more = record {
-    members = λ g. put.members g ∙ (ap (λ b. is_same g f || b) (m.members g)
-        ∙ (or_swap (is_same g f) (has before g) (has done g)
-        ∙ ap (λ b. has before g || b) (sym (has_more done f g))));
-    new_ones = λ g. put.new_ones g ∙ (ap (λ b. (is_same g f && not b) || has new g) (m.members f)
-        ∙ (ap (λ b. (is_same g f && not (has before f || has done f)) || b) (m.new_ones g)
-        ∙ (new_bool (is_same g f) (has before g) (has done g) (has before f) (has done f)
-        (λ same. let e = equal_from_same g f same in
-        (ap (has before) e, ap (has done) e))
-        ∙ ap (λ b. b && not (has before g)) (sym (has_more done f g)))));
-    len = let h = put.len among in omega (arith, h, m.len);
-  }
-
--- the walk over the found facts
-
-pub merged_first : (before found : List Fact) (next : Option Fact) (new : List Fact)
-    → place found next ≡ 0
-    → new ≡ []
-    → Merged before (take (place found next) found) before new
-merged_first before found next new at none =
-    subst (λ n. Merged before (take n found) before new) (sym at)
-    (subst (λ fs. Merged before (take 0 found) before fs) (sym none) (merged_none before))
-
-pub merged_next : (before found : List Fact) (next : Option Fact) (f : Fact)
-    → next ≡ Some f
-    → (after new : List Fact)
-    → Merged before (take (place found next) found) after new
-    → (next_then : Option Fact)
-    → IsStep found f next_then
-    → (after_it new_then : List Fact)
-    → IsPut f after after_it new new_then
-    → Merged before (take (place found next_then) found) after_it new_then
-merged_next before found next f is after new m next_then step after_it new_then put =
-    subst (λ fs. Merged before fs after_it new_then) (sym step.taken)
-    (merged_more before (take (place found (Some f)) found) after new
-    (subst (λ o. Merged before (take (place found o) found) after new) is m) f after_it new_then
-    put)
-
-pub merged_all : (before found : List Fact) (next : Option Fact)
-    → next ≡ None
-    → (after new : List Fact)
-    → Merged before (take (place found next) found) after new
-    → Merged before found after new
-merged_all before found next is after new m =
-    subst (λ fs. Merged before fs after new) (walk_ends found)
-    (subst (λ o. Merged before (take (place found o) found) after new) is m)
+    whole : (a b : Bool) → (a || (b && not a)) ≡ (a || b)
+    whole true b = refl
+    whole false true = refl
+    whole false false = refl
 
 -- what is new
 

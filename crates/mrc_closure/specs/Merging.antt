@@ -3,7 +3,6 @@ use Rattle.std.specs.Prelude.{◌≡◌, ◌+◌, not, ◌&&◌, ◌||◌, List,
 use Rattle.mrc_base.specs.declared.Fact.{Fact}
 use Rattle.mrc_model.specs.Wiring.{Wiring}
 use Rattle.mrc_model.specs.Rules.{Has}
-use Rattle.mrc_facts.specs.Order.{is_same}
 use Rattle.mrc_facts.specs.Sets.{has, IsAscending}
 use Rattle.mrc_classes.specs.Following.{IsConsequence, IsListOf}
 
@@ -19,14 +18,6 @@ pub record Merged (before found after new : List Fact) : Type 0 where
   pub members : (g : Fact) → has after g ≡ (has before g || has found g)
   pub new_ones : (g : Fact) → has new g ≡ (has found g && not (has before g))
   pub len : length after ≡ length before + length new
-
--- A fact was put into a set, and among the new ones where the set lacked it. Where the new ones had
--- it only if the set did, both have become longer by as many.
-pub record IsPut (f : Fact) (before after new new_then : List Fact) : Type 0 where
-  pub members : (g : Fact) → has after g ≡ (is_same g f || has before g)
-  pub new_ones : (g : Fact) → has new_then g ≡ ((is_same g f && not (has before f)) || has new g)
-  pub len : (IsTrue (has new f) → IsTrue (has before f))
-      → length after + length new ≡ length before + length new_then
 
 -- All that follows was found and put into a set. What was new there is what is new now.
 pub record IsNextRound (Follows : Fact → Type 0) (before after new : List Fact) : Type 0 where

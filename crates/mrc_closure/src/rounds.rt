@@ -5,11 +5,11 @@ ghost use Rattle.mrc_base.specs.declared.Fact.{Fact};
 ghost use Rattle.mrc_model.specs.Wiring.{classes};
 ghost use Rattle.mrc_model.specs.Rules.{IsLeast};
 ghost use Rattle.mrc_wiring.specs.Table.{wiring_of};
-ghost use Rattle.mrc_facts.specs.Sets.{has, after, IsAscending};
+ghost use Rattle.mrc_facts.specs.Sets.{has, IsAscending};
 ghost use Rattle.mrc_classes.specs.Growing.{Added};
 ghost use Rattle.mrc_classes.specs.Following.{IsListOf, IsFirstFact};
 ghost use Rattle.mrc_certificate.specs.Spelling.{content};
-ghost use Rattle.mrc_closure.specs.Merging.{Merged, IsPut, IsNextRound};
+ghost use Rattle.mrc_closure.specs.Merging.{Merged, IsNextRound};
 ghost use Rattle.mrc_closure.specs.Dealing.{AtTurn, FromDealt, IsFind};
 ghost use Rattle.mrc_closure.specs.Least.{IsLeastList};
 
@@ -59,25 +59,6 @@ pub(crate) fn round(
     Ok(found)
 }
 
-/// Puts a found fact into the set, and among the new ones where it is new there. Answers the next
-/// found one.
-fn put_one(
-    facts: &mut Premises,
-    new: &mut Premises,
-    found: &Facts,
-    fact: &Fact,
-) -> Result<Option<Fact>, AllocError>
-    ensures put { OnOk result (IsPut fact.now facts.old facts.new new.old new.new) }
-    ensures ascending { IsAscending facts.new }
-    ensures next { IfOk result (λ next. next ≡ after found.now fact.now) }
-{
-    let _count = facts.len();
-    if facts.insert(*fact)? {
-        let _new = new.insert(*fact)?;
-    }
-    Ok(found.after(*fact))
-}
-
 /// Puts the found facts into the set. Those that are new there take the place of the new ones.
 pub(crate) fn merge(
     alloc: Global,
@@ -86,14 +67,14 @@ pub(crate) fn merge(
     found: &Facts,
 ) -> Result<(), AllocError>
     ensures merged { OnOk result (Merged facts.old found.now facts.new new.new) }
-    ensures ascending { IsAscending facts.new }
+    ensures ascending { OnOk result (IsAscending facts.new) }
 {
-    let _counts = (facts.len(), found.len());
+    let _count = facts.len();
+    let unknown = found.lacking(facts.facts())?;
     *new = Premises::new(alloc);
-    let mut next = found.first();
-    while let Some(fact) = next {
-        next = put_one(facts, new, found, &fact)?;
-    }
+    new.join(&unknown)?;
+    facts.join(&unknown)?;
+    let _counts = (facts.len(), new.len());
     Ok(())
 }
 

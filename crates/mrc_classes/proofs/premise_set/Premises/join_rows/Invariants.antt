@@ -1,0 +1,11 @@
+use Rattle.std.proofs.Common.{◌≡◌}
+use Rattle.std.specs.Prelude.{◌||◌, ◌&&◌}
+use Rattle.mrc_base.specs.declared.Fact.{Fact}
+use Rattle.mrc_facts.specs.Sets.{has}
+use Rattle.mrc_rows.specs.Joining.{is_kept_before}
+use Rattle.mrc_classes.proofs.premise_set.Premises.join_rows.Given as goal
+
+-- the rows up to here are joined
+abbrev pub invariant-loop-number : goal.invariant-loop-number
+invariant-loop-number l =
+    (g : Fact) → has l.self g ≡ (has l.fn.self g || (is_kept_before l.number g && has l.other g))
