@@ -1,6 +1,6 @@
 -- The lines of a chain, one by one.
-use Rattle.std.proofs.Common.{◌≡◌, ℕ, ◌+◌, ◌<◌, ◌≤◌, List, [], ◌∷◌, ◌++◌, length, take, refl, sym, ap}
-use Rattle.std.proofs.Common.{◌∙◌, subst, add-zero, slice_index_or, arith}
+use Rattle.std.proofs.Common.{◌≡◌, ℕ, ◌+◌, ◌<◌, List, [], ◌∷◌, ◌++◌, length, take, refl, sym, ap}
+use Rattle.std.proofs.Common.{◌∙◌, add-zero, slice_index_or, arith}
 use Rattle.std.proofs.lemmas.List.{take_more, length-take-le}
 use Rattle.mrc_wiring.specs.Table.{Table}
 use Rattle.mrc_closure.specs.declared.chains.Step.{Step}

@@ -1,5 +1,5 @@
 -- From the checker's answer, and what is told of it, to what the texts say.
-use Rattle.std.proofs.Common.{◌≡◌, ◌⊎◌, ℕ, List, [], Result, Ok, Err, refl, sym, ◌∙◌, inl, inr}
+use Rattle.std.proofs.Common.{◌≡◌, ◌⊎◌, ℕ, List, [], Result, Ok, Err, inl, inr}
 use Rattle.std.proofs.Common.{string_bytes, arith, codes, map, subst, Vec, Global}
 use Rattle.std.specs.Prelude.{IfOk, IfErr, Option}
 use Rattle.std.specs.Io.KnownBytes.{Appends}
@@ -22,7 +22,9 @@ use Rattle.machcheck.specs.Files.{Held, IsFirstUnread}
 use Rattle.machcheck.specs.Texts.{CheckTexts, LiveTexts, AreAccepted, said_by}
 use Rattle.machcheck.specs.Told.{status_of, out_of, fault_line, IsError, IsFaultOf}
 use Rattle.machcheck.specs.Told.{ToldMemory, ToldFault, ToldNo, ToldOfScript, UnreadTold}
-use Rattle.machcheck.specs.Told.{ToldUnread, SomeFiles, WentOut}
+use Rattle.machcheck.specs.Told.{ToldUnread}
+use Rattle.machcheck.specs.declared.command.Command.{Command}
+use Rattle.machcheck.specs.Commands.{SomeCommand, WentOut}
 
 -- what is told of an answer, where there is memory for it
 pub record Verdict {E : Type 0} (files : CheckFiles) (answer : Result Case (OrMemory TextsFault))
@@ -158,13 +160,13 @@ unread_fault held files file fault (Ok told) Other first h =
       | inr unread ↦ inr (inl unread)
     ]
 
--- what is told of some files goes out
-pub went_out : {F : Type 0} (Tells : F → Told → Type 0) (told : Told) (old new : Option (List ℕ))
-    → SomeFiles Tells told
+-- what is told of a command goes out
+pub went_out : (Tells : Command → Told → Type 0) (told : Told) (old new : Option (List ℕ))
+    → SomeCommand Tells told
     → Appends old new (string_bytes told.out)
     → WentOut Tells old new
 went_out Tells told old new said out =
-    record { files = said.0; told = told; tells = said.1; out = out }
+    record { command = said.0; told = told; tells = said.1; out = out }
 
 -- what is accepted, by its parts
 pub accepted_by_parts : (texts : CheckTexts) (case : Case) (defs : List (Vec ℕ Global))

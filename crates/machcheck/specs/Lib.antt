@@ -3,3 +3,4 @@ pub mod Texts
 pub mod Told
 pub mod CommandLine
 pub mod Explained
+pub mod Commands

@@ -1,11 +1,10 @@
 -- What the program tells of an answer of the checker, of a certificate that it makes, and of a
 -- replay: the status, and the texts on standard output and on standard error. This profile's own
 -- choice.
-use Rattle.std.specs.Prelude.{◌≡◌, ◌⊎◌, ◌<◌, ℕ, true, List, [], ◌++◌, Option, Result, Ok, Err}
+use Rattle.std.specs.Prelude.{◌≡◌, ◌⊎◌, ◌<◌, ℕ, true, List, [], ◌++◌, Result, Ok, Err}
 use Rattle.std.specs.Prelude.{codes}
 use Rattle.std.specs.Prelude.{decimal}
 use Rattle.std.specs.Prelude.{string_bytes, get_or, length}
-use Rattle.std.specs.Io.KnownBytes.{Appends}
 use Rattle.mrc_wiring.specs.Table.{Table}
 use Rattle.mrc_check.specs.declared.verdict.Why.{Why}
 use Rattle.mrc_base.specs.declared.memory.OrMemory.{OrMemory}
@@ -320,16 +319,3 @@ abbrev pub FaultOfLive : Held → LiveFiles → Told → Type 0
 FaultOfLive held files told = ToldMemory told
     ⊎ (ToldUnread held (live_names files) told
     ⊎ OfFiles live_list (ToldUnserved files) held (live_names files) told)
-
--- it is told of some files
-abbrev pub SomeFiles : {F : Type 0} → (F → Told → Type 0) → Told → Type 0
-SomeFiles {F} Tells told = (files : F) × Tells files told
-
--- what the program told of files that the command names, and that standard output took all of it:
--- it held `old`, and holds `new`
-pub record WentOut {F : Type 0} (Tells : F → Told → Type 0) (old new : Option (List ℕ))
-    : Type 0 where
-  pub files : F
-  pub told : Told
-  pub tells : Tells files told
-  pub out : Appends old new (string_bytes told.out)

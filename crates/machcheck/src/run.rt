@@ -9,9 +9,8 @@ ghost use Rattle.machcheck.specs.Texts.{AreAccepted, said_by, check_list};
 ghost use Rattle.std.specs.List.{All};
 ghost use Rattle.machcheck.specs.Files.{AreHeld, Exceeds, Fits, IsFirstUnread, check_names};
 ghost use Rattle.machcheck.specs.Told.{ToldYes, ToldNo, ToldMemory, ToldFault, YesOfFiles};
-ghost use Rattle.machcheck.specs.Told.{NoOfFiles, FaultOfFiles, MadeOfFiles, ReplayOfFiles};
-ghost use Rattle.machcheck.specs.Told.{LiveOfFiles, NoOfLive, SomeFiles, WentOut};
-ghost use Rattle.machcheck.specs.Explained.{ChainOfFiles, NoneOfFiles};
+ghost use Rattle.machcheck.specs.Told.{NoOfFiles, FaultOfFiles};
+ghost use Rattle.machcheck.specs.Commands.{DoneOf, NoOf, FaultOf, IsMake, SomeCommand, WentOut};
 ghost use Rattle.machcheck.specs.CommandLine.{AsksHelp};
 
 use crate::command::{CheckFiles, Command, NoCommand, read};
@@ -144,6 +143,34 @@ fn check_files<F: Folder, R: Threads + Sync>(
     }
 }
 
+/// What is told of a command. It is right of what the files held, so far as that is known.
+fn answer<F: Folder, R: Threads + Wait + Sync>(
+    rt: &R,
+    folder: &mut F,
+    alloc: Global,
+    command: &Command<'_>,
+) -> Result<Told, AllocError>
+    ensures status { IfOk result (λ told. told.status ≤ 2) }
+    ensures done { IfOk result (λ told. told.status ≡ 0
+        → DoneOf (F.held folder.old) (F.held folder.new) command.now told) }
+    ensures no { IfOk result (λ told. told.status ≡ 1
+        → NoOf (F.held folder.old) command.now told) }
+    ensures fault { IfOk result (λ told. told.status ≡ 2
+        → FaultOf (F.held folder.old) command.now told) }
+    ensures silent { IfOk result (λ told. told.status ≡ 2 → string_bytes told.out ≡ []) }
+    // A file is changed where a certificate is told, and nowhere else.
+    ensures kept { IsOkAnd result (λ told. (told.status ≡ 0) × IsMake command.now)
+        ⊎ (F.held folder.new ≡ F.held folder.old) }
+{
+    match command {
+        Command::Check(files) => check_files(rt, folder, alloc, files),
+        Command::Make(files) => make_files(rt, folder, alloc, files),
+        Command::Explain(files) => explain_files(folder, alloc, files),
+        Command::Replay(files) => replay_files(folder, alloc, files),
+        Command::Live(files) => live_files(rt, folder, alloc, files),
+    }
+}
+
 /// What is told of the words of a command line.
 fn told<F: Folder, R: Threads + Wait + Sync>(
     rt: &R,
@@ -152,27 +179,16 @@ fn told<F: Folder, R: Threads + Wait + Sync>(
     words: &[String],
 ) -> Result<Told, AllocError>
     ensures status { IfOk result (λ told. told.status ≤ 2) }
-    // Status 0 is that of a yes, of a certificate that was made, of a replay, of a chain or of a
-    // journal, unless the words ask for help or the version.
+    // Status 0 is that of what a command asks for, unless the words ask for help or the version.
     ensures yes { IfOk result (λ told. told.status ≡ 0
-        → SomeFiles (YesOfFiles (F.held folder.old)) told
-        ⊎ (SomeFiles (MadeOfFiles (F.held folder.old) (F.held folder.new)) told
-        ⊎ (SomeFiles (ReplayOfFiles (F.held folder.old)) told
-        ⊎ (SomeFiles (ChainOfFiles (F.held folder.old)) told
-        ⊎ (SomeFiles (LiveOfFiles (F.held folder.old)) told
-        ⊎ AsksHelp (map string_bytes words.now)))))) }
+        → SomeCommand (DoneOf (F.held folder.old) (F.held folder.new)) told
+        ⊎ AsksHelp (map string_bytes words.now)) }
     ensures no { IfOk result (λ told. told.status ≡ 1
-        → SomeFiles (NoOfFiles (F.held folder.old)) told
-        ⊎ (SomeFiles (NoneOfFiles (F.held folder.old)) told
-        ⊎ SomeFiles (NoOfLive (F.held folder.old)) told)) }
+        → SomeCommand (NoOf (F.held folder.old)) told) }
     ensures fault { IfOk result (λ told. told.status ≡ 2 → string_bytes told.out ≡ []) }
 {
     match read(alloc, words) {
-        Ok(Command::Check(files)) => check_files(rt, folder, alloc, &files),
-        Ok(Command::Make(files)) => make_files(rt, folder, alloc, &files),
-        Ok(Command::Explain(files)) => explain_files(folder, alloc, &files),
-        Ok(Command::Replay(files)) => replay_files(folder, alloc, &files),
-        Ok(Command::Live(files)) => live_files(rt, folder, alloc, &files),
+        Ok(command) => answer(rt, folder, alloc, &command),
         Err(NoCommand::Told(told)) => Ok(told),
         Err(NoCommand::Memory) => memory(alloc),
     }
@@ -219,19 +235,13 @@ pub fn run<F: Folder, R: Threads + Wait + Sync, O: Write, E: Write>(
     // With status 0 a yes, the making of a certificate, a replay, a chain or a journal went out
     // that is right of what the files held, unless the words ask for help or the version.
     ensures yes { result ≡ 0
-        → WentOut (YesOfFiles (F.held folder.old)) (O.contents out.old) (O.contents out.new)
-        ⊎ (WentOut (MadeOfFiles (F.held folder.old) (F.held folder.new)) (O.contents out.old)
-        (O.contents out.new)
-        ⊎ (WentOut (ReplayOfFiles (F.held folder.old)) (O.contents out.old) (O.contents out.new)
-        ⊎ (WentOut (ChainOfFiles (F.held folder.old)) (O.contents out.old) (O.contents out.new)
-        ⊎ (WentOut (LiveOfFiles (F.held folder.old)) (O.contents out.old) (O.contents out.new)
-        ⊎ AsksHelp (map string_bytes words.now))))) }
+        → WentOut (DoneOf (F.held folder.old) (F.held folder.new))
+        (O.contents out.old) (O.contents out.new)
+        ⊎ AsksHelp (map string_bytes words.now) }
     // With status 1 a no went out, or that no chain leads to a fact, that is right of what the
     // files hold.
     ensures no { result ≡ 1
-        → WentOut (NoOfFiles (F.held folder.old)) (O.contents out.old) (O.contents out.new)
-        ⊎ (WentOut (NoneOfFiles (F.held folder.old)) (O.contents out.old) (O.contents out.new)
-        ⊎ WentOut (NoOfLive (F.held folder.old)) (O.contents out.old) (O.contents out.new)) }
+        → WentOut (NoOf (F.held folder.old)) (O.contents out.old) (O.contents out.new) }
 {
     match told(rt, folder, alloc, words) {
         Ok(told) => write_told(alloc, &told, out, err),
@@ -257,19 +267,13 @@ pub fn start<F: Folder, R: Threads + Wait + Sync, O: Write, E: Write>(
     // With status 0 a yes, the making of a certificate, a replay, a chain or a journal went out
     // that is right of what the files held, unless the words ask for help or the version.
     ensures yes { result ≡ 0
-        → WentOut (YesOfFiles (F.held folder.old)) (O.contents out.old) (O.contents out.new)
-        ⊎ (WentOut (MadeOfFiles (F.held folder.old) (F.held folder.new)) (O.contents out.old)
-        (O.contents out.new)
-        ⊎ (WentOut (ReplayOfFiles (F.held folder.old)) (O.contents out.old) (O.contents out.new)
-        ⊎ (WentOut (ChainOfFiles (F.held folder.old)) (O.contents out.old) (O.contents out.new)
-        ⊎ (WentOut (LiveOfFiles (F.held folder.old)) (O.contents out.old) (O.contents out.new)
-        ⊎ IsOkAnd words (λ given. AsksHelp (map string_bytes given.items)))))) }
+        → WentOut (DoneOf (F.held folder.old) (F.held folder.new))
+        (O.contents out.old) (O.contents out.new)
+        ⊎ IsOkAnd words (λ given. AsksHelp (map string_bytes given.items)) }
     // With status 1 a no went out, or that no chain leads to a fact, that is right of what the
     // files hold.
     ensures no { result ≡ 1
-        → WentOut (NoOfFiles (F.held folder.old)) (O.contents out.old) (O.contents out.new)
-        ⊎ (WentOut (NoneOfFiles (F.held folder.old)) (O.contents out.old) (O.contents out.new)
-        ⊎ WentOut (NoOfLive (F.held folder.old)) (O.contents out.old) (O.contents out.new)) }
+        → WentOut (NoOf (F.held folder.old)) (O.contents out.old) (O.contents out.new) }
 {
     match words {
         Ok(words) => run(rt, folder, alloc, words.as_slice(), out, err),

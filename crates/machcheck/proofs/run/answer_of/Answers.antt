@@ -1,4 +1,4 @@
-use Rattle.std.proofs.Common.{◌≡◌, ℕ, map, ap, sym, ◌∙◌, Vec, Global}
+use Rattle.std.proofs.Common.{ℕ, map, ap, sym, ◌∙◌, Vec, Global}
 use Rattle.machcheck.specs.Texts.{CheckTexts}
 use Rattle.machcheck.specs.contracts.run.CheckBytes.{the_view}
 use Rattle.machcheck.proofs.ToldLaws.{accepted_by_parts}

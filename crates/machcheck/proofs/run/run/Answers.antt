@@ -13,19 +13,7 @@ returns-in-Ok-clause-yes g c zero_is =
     elim (c.in-Ok.ensures.yes (is_told c.write_told.result c.in-Ok.told.status 0
     c.write_told.ensures.status zero_is (omega arith))) [
       | inl said ↦ inl (went_out _ c.in-Ok.told _ _ said out)
-      | inr others ↦ inr (elim others [
-        | inl said ↦ inl (went_out _ c.in-Ok.told _ _ said out)
-        | inr fewer ↦ inr (elim fewer [
-          | inl said ↦ inl (went_out _ c.in-Ok.told _ _ said out)
-          | inr last ↦ inr (elim last [
-            | inl said ↦ inl (went_out _ c.in-Ok.told _ _ said out)
-            | inr live ↦ inr (elim live [
-              | inl said ↦ inl (went_out _ c.in-Ok.told _ _ said out)
-              | inr help ↦ inr help
-            ])
-          ])
-        ])
-      ])
+      | inr help ↦ inr help
     ]
 
 pub returns-in-Ok-clause-no : goal.returns-in-Ok-clause-no
@@ -33,10 +21,4 @@ returns-in-Ok-clause-no g c one_is =
     let no = c.in-Ok.ensures.no (is_told c.write_told.result c.in-Ok.told.status 1
     c.write_told.ensures.status one_is (omega arith)) in
     let out = c.write_told.ensures.out (λ two. absurd (omega arith)) in
-    elim no [
-      | inl said ↦ inl (went_out _ c.in-Ok.told _ _ said out)
-      | inr others ↦ inr (elim others [
-        | inl none ↦ inl (went_out _ c.in-Ok.told _ _ none out)
-        | inr live ↦ inr (went_out _ c.in-Ok.told _ _ live out)
-      ])
-    ]
+    went_out _ c.in-Ok.told _ _ no out
