@@ -162,6 +162,17 @@ one_unknown_row false true here word lacked there known same shown lack =
     ap (λ b. b && lacked) (shown refl)
 one_unknown_row false false here word lacked there known same shown lack = refl
 
+-- no word of the row is there, so nothing is put
+pub empty_unknown_row : (within of here word there known old : Bool) → (within ≡ true → of ≡ here)
+    → (of ≡ true → word ≡ (within && there)) → word ≡ false
+    → old ≡ (old || ((within && here) && (there && not known)))
+empty_unknown_row within of here word there known true same shown none = refl
+empty_unknown_row false of here word there known false same shown none = refl
+empty_unknown_row true of false word there known false same shown none = refl
+empty_unknown_row true of true word false known false same shown none = refl
+empty_unknown_row true of true word true known false same shown none =
+    absurd (true≢false (sym (shown (same refl)) ∙ none))
+
 -- the rows before one that are joined
 
 pub none_before : (g : Fact) (had there : Bool) → had ≡ (had || (is_kept_before 0 g && there))

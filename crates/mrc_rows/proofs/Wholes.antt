@@ -1,14 +1,14 @@
 -- The two halves of a set of facts.
-use Rattle.std.proofs.Common.{◌≡◌, ℕ, zero, suc, ◌+◌, ◌-◌, ◌<◌, ◌++◌, take, Bool, true, false, cond, List, [], ◌∷◌, length, refl, ap, sym, subst, ◌∙◌, ◌⊎◌, inl, inr, arith}
+use Rattle.std.proofs.Common.{◌≡◌, ℕ, zero, suc, ◌+◌, ◌++◌, take, Bool, true, false, cond, List, [], ◌∷◌, length, refl, ap, sym, subst, ◌∙◌, inl, inr, arith}
 use Rattle.std.specs.Prelude.{IsTrue, not, ◌&&◌, ◌||◌, Option, Some, None, IfSome, IsNone, ◌↔◌, Result, Ok, Err, IfOk, OnOk, OnErr}
-use Rattle.std.specs.Ordering.{is_lt, is_eq, ordering_reverse}
+use Rattle.std.specs.Ordering.{is_lt}
 use Rattle.std.specs.declared.cmp.Ordering.TheVariants.{Less, Equal, Greater}
 use Rattle.std.proofs.lemmas.Bool.{cases_Bool, and_parts, and_from, or_cases, or_left, or_right, true≢false, false≢true, false_from_ne_true}
 use Rattle.mrc_base.specs.declared.Fact.{Fact}
 use Rattle.mrc_facts.specs.Order.{fact_cmp, is_before, is_same}
 use Rattle.mrc_facts.specs.Sets.{has, with_fact, without, first, after, begins_after, are_ascending, IsAscending}
 use Rattle.mrc_facts.specs.Laws.{IsLeast, IsNext}
-use Rattle.mrc_facts.proofs.Total.{fact_total, exact, equal_from_same, same_itself, not_before}
+use Rattle.mrc_facts.proofs.Total.{fact_total, equal_from_same}
 use Rattle.mrc_facts.proofs.Members.{one_list, has-with_fact, first_is_least, after_is_next, none_after}
 use Rattle.mrc_facts.proofs.Walking.{place, IsStep, has_more, walk_ends}
 use Rattle.mrc_facts.proofs.Removing.{has-without, ascending-without, length-without}

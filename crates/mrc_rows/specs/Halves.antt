@@ -1,5 +1,5 @@
 -- A set of facts in two halves: rows of bits, and a list of those that have no place in them.
-use Rattle.std.specs.Prelude.{◌≡◌, ◌+◌, Bool, false, ◌||◌, List, length, IsTrue, Option, Some, None}
+use Rattle.std.specs.Prelude.{◌≡◌, ◌+◌, false, ◌||◌, List, length, IsTrue, Option, Some, None}
 use Rattle.std.specs.Prelude.{if◌then◌else◌}
 use Rattle.mrc_base.specs.declared.Fact.{Fact}
 use Rattle.mrc_facts.specs.Order.{is_before}

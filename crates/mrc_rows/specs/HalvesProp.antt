@@ -1,5 +1,5 @@
 -- Two halves are one list of facts.
-use Rattle.std.proofs.Common.{◌≡◌, List, sym, ◌∙◌}
+use Rattle.std.proofs.Common.{List, sym, ◌∙◌}
 use mathlib.Core.HLevel.{Σ_prop_path}
 use mathlib.Core.Bool.{Bool-set}
 use Rattle.std.proofs.Props.{props}

@@ -1,5 +1,5 @@
 -- Rows show one list of facts.
-use Rattle.std.proofs.Common.{◌≡◌, ℕ, List, Vec, sym, ◌∙◌}
+use Rattle.std.proofs.Common.{ℕ, List, Vec, sym, ◌∙◌}
 use Rattle.std.specs.declared.alloc.Global.{Global}
 use mathlib.Core.HLevel.{Σ_prop_path}
 use mathlib.Core.Bool.{Bool-set}

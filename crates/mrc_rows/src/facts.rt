@@ -62,6 +62,16 @@ fn earlier(one: Option<Fact>, other: Option<Fact>) -> Option<Fact>
     }
 }
 
+/// The least fact of the list that is greater than this one. Most lists are empty.
+fn listed_after(list: &ListedFacts, fact: Fact) -> Option<Fact>
+    ensures { result ≡ after list.now fact }
+{
+    if list.len() == 0 {
+        return None;
+    }
+    list.after(fact)
+}
+
 impl Facts {
     /// The empty set. It keeps the allocator.
     pub fn new(alloc: Global) -> Facts
@@ -161,7 +171,7 @@ impl Facts {
         ensures least { IfSome result (IsNext self.now fact) }
         ensures none { IfNone result (NoneAfter self.now fact) }
     {
-        earlier(self.rows.after(&fact), self.others.after(fact))
+        earlier(self.rows.after(&fact), listed_after(&self.others, fact))
     }
 
     /// Puts the fact into the copy, and answers the next one.

@@ -194,8 +194,12 @@ impl Facts {
             || (is_in_row number g && (has all.now g && not (has known.now g))))) }
     {
         let row = row_at(number);
+        let words = all.words(row);
+        if words.is_empty() {
+            return Ok(());
+        }
         let unknown = complement(self.alloc, known.words(row), 63)?;
-        self.join(row, all.words(row), unknown.as_slice())?;
+        self.join(row, words, unknown.as_slice())?;
         Ok(())
     }
 

@@ -1,7 +1,7 @@
-use Rattle.std.proofs.Common.{◌≡◌, ◌<◌, sym, ap, ◌∙◌, length, ◌==◌, arith, replicate}
+use Rattle.std.proofs.Common.{◌≡◌, ◌<◌, sym, ap, ◌∙◌, length, arith, replicate}
 use Rattle.std.proofs.lemmas.Bool.{eqb-true, eqb-false}
 use Rattle.mrc_rows.specs.Rows.{words_of}
-use Rattle.mrc_rows.proofs.Rows.{same_pushed, same_made, made, made_before, words_at}
+use Rattle.mrc_rows.proofs.Rows.{same_made, made, made_before, words_at}
 use Rattle.mrc_rows.proofs.row_facts.make_row.Goals as goal
 
 pub returns-in_ok-rows-clause-same : goal.returns-in_ok-rows-clause-same

@@ -1,4 +1,4 @@
-use Rattle.std.proofs.Common.{◌≡◌, ℕ, ◌<◌, ◌≤◌, ◌⊎◌, false}
+use Rattle.std.proofs.Common.{◌≡◌, ℕ, ◌<◌, ◌⊎◌, false}
 use Rattle.mrc_bits.specs.Bits.{is_set}
 use Rattle.mrc_rows.specs.Rows.{words_of, IsFrom}
 use Rattle.mrc_rows.proofs.row_facts.next_place.Given as goal

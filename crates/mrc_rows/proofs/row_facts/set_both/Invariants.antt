@@ -1,4 +1,4 @@
-use Rattle.std.proofs.Common.{◌≡◌, ◌*◌, ◌-◌, ◌≤◌, length, List}
+use Rattle.std.proofs.Common.{◌≡◌, ◌-◌, length, List}
 use Rattle.mrc_base.specs.declared.Fact.{Fact}
 use Rattle.mrc_rows.specs.Rows.{words_of, width_of, Shows}
 use Rattle.mrc_rows.proofs.Kept.{ShowSoFar}

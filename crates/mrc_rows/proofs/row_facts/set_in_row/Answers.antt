@@ -1,8 +1,6 @@
-use Rattle.std.proofs.Common.{◌≡◌, List, ℕ, ◌<◌, ◌*◌, ◌==◌, sym, ap, subst, ◌∙◌, length, take, drop, ◌++◌}
+use Rattle.std.proofs.Common.{◌≡◌, List, ℕ, ◌<◌, ◌==◌, sym, ap, ◌∙◌, length, take, drop, ◌++◌}
 use Rattle.std.specs.Prelude.{◌||◌}
-use Rattle.std.proofs.lemmas.Bool.{cases_lt}
 use Rattle.mrc_bits.specs.Bits.{is_set}
-use Rattle.mrc_rows.specs.Rows.{words_of}
 use Rattle.mrc_rows.proofs.Rows.{one_more_bit, words_at, row_there, refilled}
 use Rattle.std.specs.Vec.{with_items}
 use Rattle.mrc_rows.proofs.row_facts.set_in_row.Goals as goal

@@ -6,7 +6,7 @@ use Rattle.mrc_rows.proofs.facts.Facts.after.Goals as goal
 pub returns-clause-exact : goal.returns-clause-exact
 returns-clause-exact c =
     let old = whole_as c.self.inside.rows c.self.inside.others c.self.inside.whole c.args.self.now c.self.view_is in
-    c.earlier.ensures ∙ (both_answers c.after.result c.after-2.result _ _ c.after.ensures c.after-2.ensures ∙ after_of_both c.self.inside.rows c.self.inside.others c.args.self.now c.args.fact old)
+    c.earlier.ensures ∙ (both_answers c.after.result c.listed_after.result _ _ c.after.ensures c.listed_after.ensures ∙ after_of_both c.self.inside.rows c.self.inside.others c.args.self.now c.args.fact old)
 
 pub returns-clause-least : goal.returns-clause-least
 returns-clause-least c =

@@ -1,4 +1,3 @@
-use Rattle.std.proofs.Common.{◌≡◌, sym, ap, ◌∙◌, subst, take}
 use Rattle.mrc_facts.proofs.Walking.{walk_begins, walk_goes_on, at_some, taken_some, taken_none, less_some}
 use Rattle.mrc_rows.proofs.Wholes.{put_next, begins_copied}
 use Rattle.mrc_rows.proofs.facts.Facts.copy.Goals as goal

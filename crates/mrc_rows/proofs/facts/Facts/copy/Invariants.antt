@@ -1,7 +1,4 @@
-use Rattle.std.proofs.Common.{◌≡◌, ◌-◌, ◌<◌, length, take}
-use Rattle.std.specs.Prelude.{Bool}
-use Rattle.mrc_base.specs.declared.Fact.{Fact}
-use Rattle.mrc_facts.specs.Sets.{has, IsAscending}
+use Rattle.std.proofs.Common.{◌≡◌, ◌-◌, length, take}
 use Rattle.mrc_facts.proofs.Walking.{place, IsNextAt}
 use Rattle.mrc_rows.proofs.facts.Facts.copy.Given as goal
 

@@ -1,7 +1,4 @@
-use Rattle.std.proofs.Common.{subst, sym, ◌∙◌}
-use Rattle.std.specs.Prelude.{IfSome}
-use Rattle.mrc_facts.specs.Laws.{IsLeast}
-use Rattle.mrc_facts.proofs.Members.{first_is_least}
+use Rattle.std.proofs.Common.{◌∙◌}
 use Rattle.mrc_rows.proofs.Wholes.{whole_as, first_of_both, least_answer, none_answer, both_answers}
 use Rattle.mrc_rows.proofs.facts.Facts.first.Goals as goal
 

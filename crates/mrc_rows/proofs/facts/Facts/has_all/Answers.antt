@@ -1,4 +1,4 @@
-use Rattle.std.proofs.Common.{◌≡◌, sym, ap, ◌∙◌, subst, take}
+use Rattle.std.proofs.Common.{sym, ◌∙◌}
 use Rattle.mrc_facts.proofs.Walking.{walk_begins, walk_goes_on, walk_at, at_some, less_some}
 use Rattle.mrc_rows.proofs.Wholes.{had_more, had_first, not_had, had_some}
 use Rattle.mrc_rows.proofs.facts.Facts.has_all.Goals as goal

@@ -1,14 +1,21 @@
-use Rattle.std.proofs.Common.{◌≡◌, ◌*◌, ◌∙◌, ap, subst, arith, true}
-use Rattle.std.specs.Prelude.{◌||◌, ◌&&◌, ◌==◌, nat_lt, not}
-use Rattle.std.proofs.lemmas.Bool.{lt-ltb}
-use Rattle.mrc_base.specs.declared.Fact.{Fact}
+use Rattle.std.proofs.Common.{◌≡◌, ◌*◌, ◌∙◌, ap, sym, true}
+use Rattle.std.specs.Prelude.{◌||◌, ◌&&◌, ◌==◌, not}
+use Rattle.std.proofs.lemmas.Bool.{lt-ltb, eqb-true}
 use Rattle.mrc_facts.specs.Sets.{has}
 use Rattle.mrc_bits.specs.Bits.{is_set}
-use Rattle.mrc_rows.specs.Rows.{IsWithin, is_within, row_of, place_of}
-use Rattle.mrc_rows.specs.Joining.{is_of, is_in_both}
-use Rattle.mrc_rows.proofs.Rows.{place_below}
-use Rattle.mrc_rows.proofs.Joins.{one_unknown_row}
+use Rattle.mrc_rows.specs.Rows.{is_within, row_of, place_of}
+use Rattle.mrc_rows.specs.Joining.{is_of}
+use Rattle.mrc_rows.proofs.Rows.{place_below, no_bit_in}
+use Rattle.mrc_rows.proofs.Joins.{one_unknown_row, empty_unknown_row}
 use Rattle.mrc_rows.proofs.facts.Facts.join_unknown_row.Goals as goal
+
+pub returns-then-is_empty : goal.returns-then-is_empty
+returns-then-is_empty c = λ g.
+    let words = c.words-words.result.now in
+    empty_unknown_row (is_within g) (is_of c.row_at-row.result g) (row_of g == c.args.number)
+    (is_set words (place_of g)) (has c.args.all.now g) (has c.args.known.now g)
+    (has c.args.self.now g) (c.row_at-row.ensures g) (c.words-words.ensures.shown g)
+    (no_bit_in words (place_of g) (eqb-true _ _ (sym c.is_empty.ensures ∙ c.if-is_empty.true)))
 
 pub returns : goal.returns
 returns c = λ g.
@@ -25,6 +32,6 @@ returns c = λ g.
     c.in_ok-join.ensures.ok g
     ∙ ap (λ b. has c.args.self.now g || b)
     (one_unknown_row (is_within g) (is_of row g) (row_of g == c.args.number)
-    (is_set c.words-2.result.now (place_of g)) (is_set mask (place_of g))
-    (has c.args.all.now g) (has known g) (c.row_at-row.ensures g) (c.words-2.ensures.shown g)
+    (is_set c.words-words.result.now (place_of g)) (is_set mask (place_of g))
+    (has c.args.all.now g) (has known g) (c.row_at-row.ensures g) (c.words-words.ensures.shown g)
     lacked)

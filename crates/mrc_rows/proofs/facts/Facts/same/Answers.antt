@@ -1,4 +1,4 @@
-use Rattle.std.proofs.Common.{List, subst, sym}
+use Rattle.std.proofs.Common.{List, subst}
 use Rattle.std.specs.Prelude.{IsTrue}
 use Rattle.mrc_base.specs.declared.Fact.{Fact}
 use Rattle.mrc_facts.specs.Sets.{has}

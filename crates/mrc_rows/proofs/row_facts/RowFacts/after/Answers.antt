@@ -1,4 +1,4 @@
-use Rattle.std.proofs.Common.{Option, subst, sym}
+use Rattle.std.proofs.Common.{subst}
 use Rattle.std.specs.Prelude.{IfSome, IfNone}
 use Rattle.mrc_rows.specs.Rows.{IsFirstFrom, NoneFrom, start_row, start_place}
 use Rattle.mrc_rows.proofs.Rows.{shown_as, is_after}

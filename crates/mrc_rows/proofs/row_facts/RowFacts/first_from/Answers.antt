@@ -1,4 +1,4 @@
-use Rattle.std.proofs.Common.{ℕ, List, Vec, sym, subst, ap}
+use Rattle.std.proofs.Common.{ℕ, List, Vec, sym, subst}
 use Rattle.std.specs.declared.alloc.Global.{Global}
 use Rattle.mrc_rows.specs.Rows.{IsNextPlace, row_of, place_of}
 use Rattle.mrc_rows.proofs.Rows.{shown_as, first_from_place}

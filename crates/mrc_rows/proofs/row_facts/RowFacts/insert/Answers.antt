@@ -1,7 +1,6 @@
-use Rattle.std.proofs.Common.{◌≡◌, List, ℕ, ◌+◌, true, false, sym, ap, subst, ◌∙◌, arith, rules}
-use Rattle.mrc_base.specs.declared.Fact.{Fact}
-use Rattle.mrc_facts.specs.Sets.{has, with_fact}
-use Rattle.mrc_rows.specs.Rows.{Shows, row_of, place_of, words_of}
+use Rattle.std.proofs.Common.{◌+◌, sym, ◌∙◌, arith, rules}
+use Rattle.mrc_facts.specs.Sets.{with_fact}
+use Rattle.mrc_rows.specs.Rows.{Shows}
 use Rattle.mrc_rows.proofs.Rows.{with_there, view_of, shown_as, at_places, shows_same, shows_more, few_shown}
 use Rattle.mrc_rows.proofs.row_facts.RowFacts.insert.Goals as goal
 
