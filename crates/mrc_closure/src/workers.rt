@@ -226,7 +226,16 @@ fn round_by<R: Threads + Wait + Sync, G: Gate>(
     )
 }
 
-/// Puts the facts into both sets, into each by a thread.
+/// Puts the facts into the set, by a thread for which this one waits.
+fn join_apart<R: Threads + Sync>(rt: &R, set: &mut Premises, more: &Facts) -> Result<(), AllocError>
+    ensures { OnOk result ((g : Fact) → has set.new g ≡ (has set.old g || has more.now g)) }
+{
+    let (joined, ()) = join_mut(rt, &mut || set.join(more), &mut || ());
+    joined
+}
+
+/// Puts the facts into both sets, into each by a thread of its own. This one waits, since a thread
+/// that is begun by one which goes on working may have to wait for its processor.
 fn join_both<R: Threads + Sync>(
     rt: &R,
     facts: &mut Premises,
@@ -237,7 +246,11 @@ fn join_both<R: Threads + Sync>(
         has facts.new g ≡ (has facts.old g || has more.now g)) }
     ensures new { OnOk result ((g : Fact) → has new.new g ≡ (has new.old g || has more.now g)) }
 {
-    let (one, other) = join_mut(rt, &mut || new.join(more), &mut || facts.join(more));
+    let (one, other) = join_mut(
+        rt,
+        &mut || new.join(more),
+        &mut || join_apart(rt, facts, more),
+    );
     one?;
     other
 }
