@@ -10,7 +10,7 @@ use Rattle.std.proofs.lemmas.List.{get_or-set_same, get_or-set_other, get_or_pas
 use Rattle.mrc_bits.specs.Bits.{is_set, is_fresh, IsNextIn, NoneIn, IsNextFresh}
 
 -- a bit is 0 or 1
-bit_cases : (n i : ℕ) → (bit_at n i ≡ 0) ⊎ (bit_at n i ≡ 1)
+pub bit_cases : (n i : ℕ) → (bit_at n i ≡ 0) ⊎ (bit_at n i ≡ 1)
 bit_cases n i = elim (cases_eq (bit_at n i) 0) [ inl e ↦ inl e | inr other ↦ let h = bit_at-lt n i in inr (omega arith) ]
 
 -- a shift by k

@@ -1,8 +1,9 @@
 //! Rows of bits, in words of 64.
-ghost use Rattle.std.specs.Prelude.{◌≡◌, ℕ, ◌*◌, ◌+◌, ◌^◌, ◌<◌, ◌≤◌, ◌==◌, ◌||◌, ◌&&◌, length};
+ghost use Rattle.std.specs.Prelude.{◌≡◌, ◌⊎◌, ℕ, ◌*◌, ◌+◌, ◌/◌, ◌^◌, ◌<◌, ◌≤◌, ◌==◌, ◌||◌, ◌&&◌, length};
 ghost use Rattle.std.specs.Prelude.{slice_index, false, not, nat_lt, IfOk, IfSome, IfNone};
 ghost use Rattle.std.specs.Int.{bit_at};
-ghost use Rattle.mrc_bits.specs.Bits.{is_set, is_fresh, IsNextBit, IsNextFresh, IsNextIn, NoneIn};
+ghost use Rattle.mrc_bits.specs.Bits.{is_set, is_fresh, fresh_count};
+ghost use Rattle.mrc_bits.specs.Bits.{IsNextBit, IsNextFresh, IsNextIn, NoneIn};
 
 use std::alloc::{AllocError, Global};
 
@@ -116,4 +117,47 @@ pub fn next_fresh(words: &[u64], more: &[u64], mask: &[u64], from: usize) -> Opt
         start = 0;
     }
     None
+}
+
+/// Sets the bits of a word of the row that both `more` and `mask` have. Answers how many of them
+/// were not set.
+fn join_word(words: &mut [u64], more: &[u64], mask: &[u64], k: usize) -> usize
+    requires words { k < length words.old }
+    requires more { k < length more.now }
+    requires mask { k < length mask.now }
+    ensures bits { (i : ℕ) → is_set words.new i
+        ≡ (is_set words.old i || (i / 64 == k && is_fresh words.old more.now mask.now i)) }
+    ensures fresh { result ≡ fresh_count words.old more.now mask.now (64 * k) 64 }
+{
+    let fresh = (more[k] & mask[k]) & !words[k];
+    words[k] |= fresh;
+    fresh.count_ones() as usize
+}
+
+/// The least of three numbers.
+fn least(one: usize, other: usize, third: usize) -> usize
+    ensures one { result ≤ one }
+    ensures other { result ≤ other }
+    ensures third { result ≤ third }
+    ensures is { (result ≡ one) ⊎ ((result ≡ other) ⊎ (result ≡ third)) }
+{
+    let two = if one < other { one } else { other };
+    if two < third { two } else { third }
+}
+
+/// Sets the bits of the row that both `more` and `mask` have. The row gets no longer. Answers how
+/// many of them were not set.
+pub fn join_bits(words: &mut [u64], more: &[u64], mask: &[u64]) -> usize
+    requires { 64 * length words.old < 2 ^ 64 }
+    ensures bits { (i : ℕ) → is_set words.new i ≡ (is_set words.old i
+        || (nat_lt i (64 * length words.old) && (is_set more.now i && is_set mask.now i))) }
+    ensures fresh { result
+        ≡ fresh_count words.old more.now mask.now 0 (64 * length words.old) }
+{
+    let end = least(words.len(), more.len(), mask.len());
+    let mut count = 0;
+    for k in 0..end {
+        count += join_word(words, more, mask, k);
+    }
+    count
 }

@@ -3,4 +3,4 @@
 
 mod bits;
 
-pub use bits::{clear_bit, complement, has_bit, next_bit, next_fresh, set_bit};
+pub use bits::{clear_bit, complement, has_bit, join_bits, next_bit, next_fresh, set_bit};

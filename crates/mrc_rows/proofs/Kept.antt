@@ -1,11 +1,12 @@
 -- A row of bits that is joined with another one through a mask.
 use Rattle.std.proofs.Common.{◌≡◌, ℕ, ◌+◌, ◌*◌, ◌/◌, ◌<◌, ◌≤◌, ◌==◌, Bool, true, false, Vec, List, length}
-use Rattle.std.proofs.Common.{[], ◌∷◌, Result, Ok, Err}
-use Rattle.std.proofs.Common.{◌-◌, refl, ap, sym, subst, ◌∙◌, inl, inr, arith, IsTrue}
+use Rattle.std.proofs.Common.{[], ◌∷◌, Result, Ok, Err, zero, suc}
+use Rattle.std.proofs.Common.{◌-◌, slice_set, refl, ap, sym, subst, ◌∙◌, inl, inr, arith, IsTrue}
 use Rattle.std.specs.Prelude.{◌||◌, ◌&&◌, nat_lt, not, OnOk, OnErr}
 use Rattle.std.specs.declared.alloc.Global.{Global}
-use Rattle.std.proofs.lemmas.Bool.{cases_lt, cases_Bool, and_from, and_parts, eqb-true}
-use Rattle.std.proofs.lemmas.Bool.{eq-eqb, lt-ltb, le-ltb, or_cases, or_left, or_right}
+use Rattle.std.proofs.lemmas.Bool.{cases_lt, cases_order, cases_Bool, and_from, and_parts, eqb-true}
+use Rattle.std.proofs.lemmas.List.{length-set}
+use Rattle.std.proofs.lemmas.Bool.{cases_eq, ne_eqb, eq-eqb, lt-ltb, le-ltb, or_cases, or_left, or_right}
 use Rattle.std.proofs.lemmas.Bool.{true≢false, false≢true, false_from_ne_true}
 use Rattle.mrc_base.specs.declared.Fact.{Fact}
 use Rattle.mrc_base.specs.declared.Fact.TheVariants.{Hold, Carry, Backup}
@@ -13,15 +14,15 @@ use Rattle.mrc_facts.specs.Order.{is_same}
 use Rattle.mrc_facts.specs.Sets.{has, with_fact, begins_after, are_ascending, IsAscending}
 use Rattle.mrc_facts.proofs.Members.{has-with_fact, one_list}
 use Rattle.mrc_facts.proofs.Total.{equal_from_same, same_itself}
-use Rattle.mrc_bits.specs.Bits.{is_set, is_fresh}
+use Rattle.mrc_bits.specs.Bits.{is_set, is_fresh, fresh_count}
+use Rattle.mrc_bits.proofs.Counts.{fresh_none, fresh_yes, fresh_no}
 use Rattle.mrc_rows.specs.Rows.{is_within, IsWithin, row_of, place_of, words_of, width_of, Shows}
-use Rattle.mrc_rows.specs.Rows.{OneMoreBit}
-use Rattle.mrc_rows.specs.Joining.{right_at, is_in_row, is_in_both, IsNextBefore, NoneBefore}
-use Rattle.mrc_rows.specs.Joining.{ShowJoined, is_of, IsNumber}
+use Rattle.mrc_rows.specs.Joining.{right_at, is_in_row, is_in_both, JoinedBits, ShowJoined}
+use Rattle.mrc_rows.specs.Joining.{is_of, IsNumber}
 use Rattle.mrc_rows.specs.Halves.{IsWhole, Whole}
 use Rattle.mrc_rows.specs.declared.joining.Row.{Row as Rows}
-use Rattle.mrc_rows.proofs.Rows.{placed, same_place, shows_more, made_before, no_bit_in}
-use Rattle.mrc_rows.proofs.Rows.{ascending_with}
+use Rattle.mrc_rows.proofs.Rows.{words_set, words_other}
+use Rattle.mrc_rows.proofs.Rows.{placed, same_place, ascending_with, length_with}
 use Rattle.mrc_rows.proofs.Wholes.{whole_with_other}
 use Rattle.mrc_rows.proofs.Joins.{place_is, joined_more}
 
@@ -89,35 +90,45 @@ same_at row place f g within at_row at = elim (cases_Bool (is_within g)) [
       ∙ rw outside refl
 ]
 
--- what is joined before a place
-pub record ShowSoFar
-    (row : ℕ)
-    (more mask : List ℕ)
-    (facts : List Fact)
-    (rows : List Row)
-    (count at : ℕ)
-    : Type 0 where
-  pub joined : List Fact
-  pub shows : Shows rows count joined
-  pub members : (g : Fact) → has joined g ≡ (has facts g
-      || (is_in_row row g && (is_in_both more mask (place_of g) && nat_lt (place_of g) at)))
-
-pub none_joined : (row : ℕ) (more mask : List ℕ) (facts : List Fact) (rows : List Row) (count : ℕ)
-    → Shows rows count facts → ShowSoFar row more mask facts rows count 0
-none_joined row more mask facts rows count shows = record {
-  joined = facts;
-  shows = shows;
-  members = λ g. sym (ap (λ b. has facts g
-      || (is_in_row row g && (is_in_both more mask (place_of g) && b)))
-      (le-ltb (place_of g) 0 (omega arith))
-      ∙ nothing (has facts g) (is_in_row row g) (is_in_both more mask (place_of g)));
+-- the words of one row are changed
+pub joined_bits : (rows : List Row) (k : ℕ) (row : Row) (more mask : List ℕ) → k < length rows
+    → length row.items ≡ length (words_of rows k)
+    → ((i : ℕ) → is_set row.items i ≡ (is_set (words_of rows k) i
+    || (nat_lt i (64 * length (words_of rows k)) && is_in_both more mask i)))
+    → JoinedBits rows (slice_set rows k row) k more mask
+joined_bits rows k row more mask below as_long put = record {
+  same = λ j i. elim (cases_eq j k) [
+    | inl e ↦ rw (eq-eqb j k e, e, words_set rows k row below) (put i)
+    | inr other ↦ rw (ne_eqb j k other, words_other rows k j row other)
+        (sym (or_false (is_set (words_of rows j) i)))
+  ];
+  sized = λ s j. elim (cases_eq j k) [
+    | inl e ↦ subst (λ n. IsTrue (n == 0 || n == width_of j))
+        (sym (ap (λ n. length (words_of (slice_set rows k row) n)) e
+        ∙ (ap length (words_set rows k row below)
+        ∙ (as_long ∙ ap (λ n. length (words_of rows n)) (sym e))))) (s j)
+    | inr other ↦ subst (λ ws. IsTrue (length ws == 0 || length ws == width_of j))
+        (sym (words_other rows k j row other)) (s j)
+  ];
+  few_rows = λ h. let e = length-set rows k row in omega arith;
 }
   where
-    nothing : (had in_row in_more : Bool) → (had || (in_row && (in_more && false))) ≡ had
-    nothing true in_row in_more = refl
-    nothing false true true = refl
-    nothing false true false = refl
-    nothing false false in_more = refl
+    or_false : (b : Bool) → (b || false) ≡ b
+    or_false true = refl
+    or_false false = refl
+
+-- what is joined of the places before one
+record JoinedBefore
+    (row : ℕ)
+    (words more mask : List ℕ)
+    (facts : List Fact)
+    (count end : ℕ)
+    : Type 0 where
+  joined : List Fact
+  ascending : IsAscending joined
+  len : length joined ≡ count + fresh_count words more mask 0 end
+  members : (g : Fact) → has joined g ≡ (has facts g
+      || (is_in_row row g && (is_in_both more mask (place_of g) && nat_lt (place_of g) end)))
 
 -- a bit that both have and that is not fresh is set
 not_fresh : (words more mask : List ℕ) (p : ℕ) → is_fresh words more mask p ≡ false
@@ -153,86 +164,163 @@ shown_there rows count facts shows g row there =
     in_parts true b e = (refl, e)
     in_parts false b e = absurd (false≢true e)
 
-module _ (row : ℕ) (more mask : List ℕ) (facts : List Fact) (rows : List Row) (count at : ℕ)
-    (so_far : ShowSoFar row more mask facts rows count at) where
-  -- one more bit
-  pub one_joined : (end place : ℕ) (after_it : List Row) → row < 2752 → end ≡ 64 * width_of row
-      → IsNextBefore (words_of rows row) more mask at end place
-      → OneMoreBit rows after_it row place
-      → ShowSoFar row more mask facts after_it (count + 1) (place + 1)
-  one_joined end place after_it there last next put =
-      let here = at_place row place there (subst (λ n. place < n) last next.before_end) in
-      let fresh = fresh_both (words_of rows row) more mask place next.fresh in
-      let lacked : has so_far.joined here.fact ≡ false = so_far.shows.same here.fact
-      ∙ (ap (λ b. b && is_set (words_of rows (row_of here.fact)) (place_of here.fact))
-      here.within
-      ∙ (ap (λ k. is_set (words_of rows k) (place_of here.fact)) here.row_is
-      ∙ (ap (is_set (words_of rows row)) here.place_is ∙ fresh.1))) in
-      let put_here = subst (λ k. OneMoreBit rows after_it k (place_of here.fact))
-      (sym here.row_is)
-      (subst (λ i. OneMoreBit rows after_it row i) (sym here.place_is) put) in
-      record {
-        joined = with_fact so_far.joined here.fact;
-        shows = shows_more rows after_it count so_far.joined here.fact here.within lacked put_here
-            so_far.shows;
-        members = λ g. joined_more (has facts g) (has so_far.joined g)
-            (has (with_fact so_far.joined here.fact) g) (is_in_row row g)
-            (is_in_both more mask (place_of g)) (place_of g) at place (so_far.members g)
-            (has-with_fact so_far.joined here.fact g ∙ ap (λ b. b || has so_far.joined g)
-            (same_at row place here.fact g here.within here.row_is here.place_is))
-            (λ in_row same. ap (is_in_both more mask) same ∙ fresh.0)
-            (λ in_row low below both. shown_there rows count so_far.joined so_far.shows g row
-            in_row ∙ not_fresh (words_of rows row) more mask (place_of g)
-            (next.first (place_of g) low below) both)
-            next.from_there;
-      }
+-- one place more, of which nothing is new
+passed : (had now in_row in_more : Bool) (p at : ℕ)
+    → now ≡ (had || (in_row && (in_more && nat_lt p at)))
+    → (in_row ≡ true → in_more ≡ true → p ≡ at → had ≡ true)
+    → now ≡ (had || (in_row && (in_more && nat_lt p (at + 1))))
+passed true now in_row in_more p at is old = is
+passed false now false in_more p at is old = is
+passed false now true false p at is old = is
+passed false now true true p at is old = elim (cases_order p at) [
+  | inl same ↦ absurd (false≢true (old refl refl same))
+  | inr (inl low) ↦ is ∙ (lt-ltb p at low ∙ sym (lt-ltb p (at + 1) (omega arith)))
+  | inr (inr high) ↦ is ∙ (le-ltb p at (omega arith) ∙ sym (le-ltb p (at + 1) (omega arith)))
+]
 
-  -- no bit is left
-  pub all_joined : (end : ℕ) → end ≡ 64 * width_of row
-      → NoneBefore (words_of rows row) more mask at end
-      → ShowJoined row more mask facts rows count
-  all_joined end last none = record {
-    joined = so_far.joined;
-    shows = so_far.shows;
-    members = λ g. whole (has facts g) (has so_far.joined g) (is_in_row row g)
-        (is_in_both more mask (place_of g)) (place_of g) (so_far.members g)
-        (λ in_row both high. shown_there rows count so_far.joined so_far.shows g row in_row
-        ∙ not_fresh (words_of rows row) more mask (place_of g)
-        (none (place_of g) high (below g in_row)) both);
+module _ (row : ℕ) (more mask : List ℕ) (facts : List Fact) (rows : List Row) (count : ℕ)
+    (there : row < 2752) (shows : Shows rows count facts) where
+  none_before : JoinedBefore row (words_of rows row) more mask facts count 0
+  none_before = record {
+    joined = facts;
+    ascending = shows.ascending;
+    len = let none = fresh_none (words_of rows row) more mask 0 0
+        (λ i low high. absurd (omega arith)) in let len = shows.len in omega (arith, none, len);
+    members = λ g. sym (ap (λ b. has facts g
+        || (is_in_row row g && (is_in_both more mask (place_of g) && b)))
+        (le-ltb (place_of g) 0 (omega arith))
+        ∙ nothing (has facts g) (is_in_row row g) (is_in_both more mask (place_of g)));
   }
     where
-      below : (g : Fact) → is_in_row row g ≡ true → place_of g < end
+      nothing : (had in_row in_more : Bool) → (had || (in_row && (in_more && false))) ≡ had
+      nothing true in_row in_more = refl
+      nothing false true true = refl
+      nothing false true false = refl
+      nothing false false in_more = refl
+
+  -- a fresh bit more
+  fresh_joined : (at : ℕ) → at < 64 * width_of row
+      → is_fresh (words_of rows row) more mask at ≡ true
+      → JoinedBefore row (words_of rows row) more mask facts count at
+      → JoinedBefore row (words_of rows row) more mask facts count (at + 1)
+  fresh_joined at below fresh before =
+      let here = at_place row at there below in
+      let both = fresh_both (words_of rows row) more mask at fresh in
+      let in_row = here_in_row here.fact row here.within here.row_is in
+      let old : has facts here.fact ≡ false = shown_there rows count facts shows here.fact row in_row
+      ∙ (ap (is_set (words_of rows row)) here.place_is ∙ both.1) in
+      let lacked : has before.joined here.fact ≡ false = before.members here.fact
+      ∙ not_yet (has facts here.fact) (is_in_row row here.fact)
+      (is_in_both more mask (place_of here.fact)) (nat_lt (place_of here.fact) at) old
+      (le-ltb (place_of here.fact) at (let e = here.place_is in omega (arith, e))) in
+      record {
+        joined = with_fact before.joined here.fact;
+        ascending = ascending_with before.joined here.fact before.ascending;
+        len = let one = length_with before.joined here.fact lacked in
+            let so_far = before.len in
+            let more = fresh_yes (words_of rows row) more mask at fresh in
+            omega (arith, one, so_far, more);
+        members = λ g. joined_more (has facts g) (has before.joined g)
+            (has (with_fact before.joined here.fact) g) (is_in_row row g)
+            (is_in_both more mask (place_of g)) (place_of g) at at (before.members g)
+            (has-with_fact before.joined here.fact g ∙ ap (λ b. b || has before.joined g)
+            (same_at row at here.fact g here.within here.row_is here.place_is))
+            (λ in_row same. ap (is_in_both more mask) same ∙ both.0)
+            (λ in_row low below both. absurd (omega arith))
+            (omega arith);
+      }
+    where
+      here_in_row : (f : Fact) (k : ℕ) → IsWithin f → row_of f ≡ k → is_in_row k f ≡ true
+      here_in_row f k within is = and_from _ _ within (eq-eqb (row_of f) k is)
+
+      not_yet : (had in_row in_more low : Bool) → had ≡ false → low ≡ false
+          → (had || (in_row && (in_more && low))) ≡ false
+      not_yet had true true low e d = rw (e, d) refl
+      not_yet had true false low e d = rw e refl
+      not_yet had false in_more low e d = rw e refl
+
+  -- a place more that is not fresh
+  old_joined : (at : ℕ) → is_fresh (words_of rows row) more mask at ≡ false
+      → JoinedBefore row (words_of rows row) more mask facts count at
+      → JoinedBefore row (words_of rows row) more mask facts count (at + 1)
+  old_joined at old before = record {
+    joined = before.joined;
+    ascending = before.ascending;
+    len = let so_far = before.len in let same = fresh_no (words_of rows row) more mask at old in
+        omega (arith, so_far, same);
+    members = λ g. passed (has facts g) (has before.joined g) (is_in_row row g)
+        (is_in_both more mask (place_of g)) (place_of g) at (before.members g)
+        (λ in_row both same. shown_there rows count facts shows g row in_row
+        ∙ (ap (is_set (words_of rows row)) same
+        ∙ not_fresh (words_of rows row) more mask at old
+        (ap (is_in_both more mask) (sym same) ∙ both)));
+  }
+
+  joined_before : (end : ℕ) → end ≤ 64 * width_of row
+      → JoinedBefore row (words_of rows row) more mask facts count end
+  joined_before zero below = none_before
+  joined_before (suc at) below =
+      let before = joined_before at (omega arith) in
+      let e : at + 1 ≡ suc at = omega arith in
+      subst (JoinedBefore row (words_of rows row) more mask facts count) e
+      (elim (cases_Bool (is_fresh (words_of rows row) more mask at)) [
+        | inl fresh ↦ fresh_joined at (omega arith) fresh before
+        | inr old ↦ old_joined at old before
+      ])
+
+  -- all of the row
+  pub all_joined : (after_it : List Row) → length (words_of rows row) ≡ width_of row
+      → JoinedBits rows after_it row more mask
+      → ShowJoined row more mask facts after_it (count
+      + fresh_count (words_of rows row) more mask 0 (64 * length (words_of rows row)))
+  all_joined after_it made put =
+      let end : 64 * length (words_of rows row) ≤ 64 * width_of row = omega arith in
+      let all = joined_before (64 * length (words_of rows row)) end in
+      record {
+        joined = all.joined;
+        shows = record {
+          same = λ g. all.members g ∙ (ap (λ b. b || (is_in_row row g
+              && (is_in_both more mask (place_of g) && low g))) (shows.same g)
+              ∙ (shown (is_within g) (is_set (words_of rows (row_of g)) (place_of g))
+              (row_of g == row) (is_in_both more mask (place_of g)) (low g)
+              ∙ sym (ap (λ b. is_within g && b) (put.same (row_of g) (place_of g)))));
+          ascending = all.ascending;
+          len = all.len;
+          few_rows = put.few_rows shows.few_rows;
+          sized = put.sized shows.sized;
+        };
+        members = λ g. all.members g ∙ whole (has facts g) (is_in_row row g)
+            (is_in_both more mask (place_of g)) (low g) (below g);
+      }
+    where
+      low : Fact → Bool
+      low g = nat_lt (place_of g) (64 * length (words_of rows row))
+
+      shown : (within old here both low : Bool)
+          → ((within && old) || ((within && here) && (both && low)))
+          ≡ (within && (old || (here && (low && both))))
+      shown true true here both low = refl
+      shown true false true true true = refl
+      shown true false true true false = refl
+      shown true false true false true = refl
+      shown true false true false false = refl
+      shown true false false both low = refl
+      shown false old here both low = refl
+
+      whole : (had in_row both low : Bool) → (in_row ≡ true → low ≡ true)
+          → (had || (in_row && (both && low))) ≡ (had || (in_row && both))
+      whole true in_row both low is = refl
+      whole false true true low is = is refl
+      whole false true false low is = refl
+      whole false false both low is = refl
+
+      below : (g : Fact) → is_in_row row g ≡ true → low g ≡ true
       below g in_row =
           let parts = and_parts (is_within g) (row_of g == row) in_row in
           let p = (placed g parts.0).place in
-          subst (λ n. place_of g < n) (sym last)
-          (subst (λ k. place_of g < 64 * width_of k) (eqb-true (row_of g) row parts.1) p)
-
-      whole : (had now in_row in_more : Bool) (p : ℕ)
-          → now ≡ (had || (in_row && (in_more && nat_lt p at)))
-          → (in_row ≡ true → in_more ≡ true → at ≤ p → now ≡ true)
-          → now ≡ (had || (in_row && in_more))
-      whole had now false in_more p is past = is
-      whole had now true false p is past = is
-      whole had now true true p is past = elim (cases_lt p at) [
-        | inl low ↦ is ∙ ap (λ b. had || b) (lt-ltb p at low)
-        | inr high ↦ past refl refl high ∙ sym (or_true had)
-      ]
-        where
-          or_true : (b : Bool) → (b || true) ≡ true
-          or_true true = refl
-          or_true false = refl
-
--- a row with a bit is as wide as rows are made
-pub still_made : (rows after_it : List Row) (row place count : ℕ) (facts : List Fact)
-    → OneMoreBit rows after_it row place → Shows after_it count facts
-    → length (words_of after_it row) ≡ width_of row
-still_made rows after_it row place count facts put shows =
-    made_before after_it row shows.sized
-    (λ none. true≢false (sym set ∙ no_bit_in (words_of after_it row) place none))
-  where
-    set : is_set (words_of after_it row) place ≡ true
-    set = put.same row place ∙ rw (eq-eqb row row refl, eq-eqb place place refl) refl
+          lt-ltb (place_of g) (64 * length (words_of rows row))
+          (subst (λ n. place_of g < 64 * n) (sym made)
+          (subst (λ k. place_of g < 64 * width_of k) (eqb-true (row_of g) row parts.1) p))
 
 -- both halves of a set whose rows have changed
 

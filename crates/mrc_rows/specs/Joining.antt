@@ -8,8 +8,8 @@ use Rattle.mrc_base.specs.declared.Fact.{Fact}
 use Rattle.mrc_base.specs.declared.Fact.TheVariants.{Hold, Carry, Backup}
 use Rattle.mrc_facts.specs.Order.{right_number}
 use Rattle.mrc_facts.specs.Sets.{has}
-use Rattle.mrc_bits.specs.Bits.{is_set, is_fresh}
-use Rattle.mrc_rows.specs.Rows.{is_within, row_of, place_of, width_of, Shows}
+use Rattle.mrc_bits.specs.Bits.{is_set}
+use Rattle.mrc_rows.specs.Rows.{is_within, row_of, place_of, words_of, width_of, AreSized, Shows}
 use Rattle.mrc_rows.specs.declared.joining.Row.{Row}
 use Rattle.mrc_rows.specs.declared.joining.Row.TheVariants.{Holds, Carries, Backups}
 
@@ -42,17 +42,14 @@ is_in_both more mask place = is_set more place && is_set mask place
 abbrev pub is_in_row : ℕ → Fact → Bool
 is_in_row number g = is_within g && row_of g == number
 
--- the first bit from this one on and before the end that both have and the words lack
-pub record IsNextBefore (words more mask : List ℕ) (from end place : ℕ) : Type 0 where
-  pub from_there : from ≤ place
-  pub before_end : place < end
-  pub fresh : is_fresh words more mask place ≡ true
-  pub first : (j : ℕ) → from ≤ j → j < place → is_fresh words more mask j ≡ false
-
--- there is none
-abbrev pub NoneBefore : List ℕ → List ℕ → List ℕ → ℕ → ℕ → Type 0
-NoneBefore words more mask from end =
-    (j : ℕ) → from ≤ j → j < end → is_fresh words more mask j ≡ false
+-- the rows have the bits that they had, and those of one row that both have, as far as it goes
+pub record JoinedBits (before after : List (Vec ℕ Global)) (row : ℕ) (more mask : List ℕ)
+    : Type 0 where
+  pub same : (k i : ℕ) → is_set (words_of after k) i ≡ (is_set (words_of before k) i
+      || (k == row
+      && (nat_lt i (64 * length (words_of before row)) && is_in_both more mask i)))
+  pub sized : AreSized before → AreSized after
+  pub few_rows : length before ≤ 2752 → length after ≤ 2752
 
 -- these rows show the facts, and those of one row whose bits both have
 pub record ShowJoined

@@ -100,6 +100,7 @@ impl Facts {
     }
 
     /// Whether the set has the fact.
+    #[inline(always)]
     pub fn has(&self, fact: &Fact) -> bool
         ensures { result ≡ has self.now fact.now }
     {

@@ -10,13 +10,12 @@ ghost use Rattle.mrc_rows.specs.Rows.{words_of};
 ghost use Rattle.mrc_rows.specs.Rows.{width_of, AreSized, SameBits, OneMoreBit, OneLessBit};
 ghost use Rattle.mrc_rows.specs.Rows.{IsNextPlace, NoPlace, IsFirstFrom, NoneFrom, start_row};
 ghost use Rattle.mrc_rows.specs.Rows.{start_place};
-ghost use Rattle.mrc_rows.specs.Joining.{is_in_both, is_in_row, IsNextBefore, NoneBefore};
-ghost use Rattle.mrc_rows.specs.Joining.{ShowJoined};
+ghost use Rattle.mrc_rows.specs.Joining.{is_in_both, is_in_row, JoinedBits, ShowJoined};
 ghost use Rattle.mrc_rows.specs.ShownProp.{shown_prop};
-ghost use Rattle.mrc_bits.specs.Bits.{is_set};
+ghost use Rattle.mrc_bits.specs.Bits.{is_set, fresh_count};
 
 use mrc_base::{ClassId, Fact, PortRight};
-use mrc_bits::{clear_bit, has_bit, next_bit, next_fresh, set_bit};
+use mrc_bits::{clear_bit, has_bit, join_bits, next_bit, next_fresh, set_bit};
 use std::alloc::{AllocError, Global};
 use std::marker::Model;
 
@@ -136,34 +135,16 @@ fn clear_in_row(rows: &mut Vec<Vec<u64>>, row: usize, place: usize)
     clear_bit(rows[row].as_mut_slice(), place);
 }
 
-/// The words of a row.
-fn words_at(rows: &[Vec<u64>], row: usize) -> &[u64]
-    ensures { result.now ≡ words_of rows.now row }
+/// Sets the bits of a row that both `more` and `mask` have, as far as it goes. Answers how many of
+/// them were not set.
+fn join_in_row(rows: &mut Vec<Vec<u64>>, row: usize, more: &[u64], mask: &[u64]) -> usize
+    requires there { row < length rows.old.items }
+    requires few { 64 * length (words_of rows.old.items row) < 2 ^ 64 }
+    ensures joined { JoinedBits rows.old.items rows.new.items row more.now mask.now }
+    ensures fresh { result ≡ fresh_count (words_of rows.old.items row) more.now mask.now 0
+        (64 * length (words_of rows.old.items row)) }
 {
-    match rows.get(row) {
-        Some(row) => row.as_slice(),
-        None => &[],
-    }
-}
-
-/// The first place from this one on and before the end that both `more` and `mask` have, and whose
-/// bit the row lacks.
-fn next_before(
-    rows: &[Vec<u64>],
-    row: usize,
-    more: &[u64],
-    mask: &[u64],
-    from: usize,
-    end: usize,
-) -> Option<usize>
-    requires { length more.now ≤ 63 }
-    ensures found { IfSome result
-        (IsNextBefore (words_of rows.now row) more.now mask.now from end) }
-    ensures none { IfNone result
-        (NoneBefore (words_of rows.now row) more.now mask.now from end) }
-{
-    let place = next_fresh(words_at(rows, row), more, mask, from)?;
-    if place < end { Some(place) } else { None }
+    join_bits(rows[row].as_mut_slice(), more, mask)
 }
 
 /// Sets each bit of a row that is made where both `more` and `mask` have it. Answers how many facts
@@ -171,20 +152,11 @@ fn next_before(
 fn set_both(rows: &mut Vec<Vec<u64>>, shown: usize, row: usize, more: &[u64], mask: &[u64]) -> usize
     requires row { row < 2752 }
     requires made { length (words_of rows.old.items row) ≡ width_of row }
-    requires few { length more.now ≤ 63 }
     requires shown { Shown rows.old.items shown }
     ensures { (facts : List Fact) → Shows rows.old.items shown facts
         → ShowJoined row more.now mask.now facts rows.new.items result }
 {
-    let end = 64 * width_of(row);
-    let mut count = shown;
-    let mut at = 0;
-    while let Some(place) = next_before(rows.as_slice(), row, more, mask, at, end) {
-        set_in_row(rows, row, place);
-        count += 1;
-        at = place + 1;
-    }
-    count
+    shown + join_in_row(rows, row, more, mask)
 }
 
 /// The first row that may have a fact behind this one, and the place where such begin in it.
@@ -316,7 +288,8 @@ impl RowFacts {
         ensures err { OnErr result (self.new ≡ self.old) }
         ensures ascending { IsAscending self.new }
     {
-        if next_fresh(self.words(row), more, mask, 0).is_none() {
+        let words = self.words(row);
+        if words.is_empty() && next_fresh(words, more, mask, 0).is_none() {
             return Ok(());
         }
         make_row(self.alloc, &mut self.rows, row)?;
