@@ -13,19 +13,18 @@ use Rattle.mrc_base.specs.declared.Fact.{Fact}
 use Rattle.mrc_base.specs.declared.Fact.TheVariants.{Hold, Carry, Backup}
 use Rattle.mrc_model.specs.IsIn.{IsIn, here, later}
 use Rattle.mrc_model.specs.Wiring.{Wiring, Shape, Form, form_shapes, forms, admits, classes}
-use Rattle.mrc_model.specs.Wiring.{kernel_class, accepts_routine, accepts_destroyed}
+use Rattle.mrc_model.specs.Wiring.{kernel_class, accepts_destroyed}
 use Rattle.mrc_model.specs.Rules.{Has, InRange, CanSendBy, by_send, by_once, Rule, k1, k2, k3_send}
 use Rattle.mrc_model.specs.Rules.{k3_once, k4, k5, k6, k7_up, k7_down, k8, k9, k10}
 use Rattle.mrc_model.specs.Conclusions.{can_send}
-use Rattle.mrc_wiring.specs.Slots.{takes}
-use Rattle.mrc_wiring.proofs.Takers.{IsTaker, taken, taker}
+use Rattle.mrc_wiring.proofs.Takers.{taken, taker}
 use Rattle.mrc_slots.specs.Passing.{passes, is_passed}
 use Rattle.mrc_slots.proofs.Passing.{by_slot, by_reply, passed_by}
-use Rattle.mrc_classes.specs.Growing.{Only, If, Below}
+use Rattle.mrc_classes.specs.Growing.{Only}
 use Rattle.mrc_classes.specs.Following.{IsConsequence}
-use Rattle.mrc_classes.specs.Parts.{EachRight, SentTo, can_send_to, Sent, RequestAt, ReceivedAt}
-use Rattle.mrc_classes.specs.Parts.{NotifiedAt, Received, SharedAt, are_linked, Shared, Weaker}
-use Rattle.mrc_classes.specs.Parts.{ReturnedAt, ByHold, AtClass, OfTask, AtTask, AtPlace}
+use Rattle.mrc_classes.specs.Parts.{EachRight, SentTo, can_send_to, Sent}
+use Rattle.mrc_classes.specs.Parts.{Received, are_linked, Shared}
+use Rattle.mrc_classes.specs.Parts.{ByHold, AtClass, OfTask, AtTask, AtPlace}
 
 pub sends : {r : PortRight} → CanSendBy r → can_send r ≡ true
 sends by_send = refl

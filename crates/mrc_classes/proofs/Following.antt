@@ -1,6 +1,6 @@
 -- What follows from a fact with those of a set stands at the places, with the fact as the only new
 -- one.
-use Rattle.std.proofs.Common.{Bool, true, false, List, [], ◌∷◌, IsTrue, ◌≡◌, ◌⊎◌, inl, inr, ℕ}
+use Rattle.std.proofs.Common.{Bool, true, false, List, [], ◌∷◌, IsTrue, ◌≡◌, ◌⊎◌, inl, inr}
 use Rattle.std.proofs.Common.{refl, sym, subst}
 use Rattle.std.specs.Prelude.{◌||◌}
 use Rattle.std.specs.List.{AllByRecursion}

@@ -1,6 +1,6 @@
 -- Rows that are joined with what slots take, and with one another.
-use Rattle.std.proofs.Common.{◌≡◌, ℕ, ◌+◌, ◌<◌, ◌≤◌, Bool, true, false, List, refl, ap, sym, subst}
-use Rattle.std.proofs.Common.{◌∙◌, IsTrue, ◌⊎◌, inl, inr, arith, ◌==◌, ◌&&◌, nat_lt}
+use Rattle.std.proofs.Common.{◌≡◌, ℕ, ◌<◌, ◌≤◌, Bool, true, List, refl, ap, sym, subst}
+use Rattle.std.proofs.Common.{◌∙◌, IsTrue, arith, ◌==◌, ◌&&◌, nat_lt}
 use Rattle.std.specs.Prelude.{◌||◌}
 use Rattle.std.proofs.lemmas.Bool.{and_parts, and_from, or_cases, or_left, or_right, false≢true}
 use Rattle.std.proofs.lemmas.Bool.{ltb-true, lt-ltb, eq-eqb, eqb-true}

@@ -1,10 +1,8 @@
 -- The instances that are found are instances of the ten rules, and where none is found there is
 -- none.
-use Rattle.std.proofs.Common.{◌≡◌, ℕ, ◌<◌, Bool, true, false, List, [], ◌∷◌, refl, sym, subst}
+use Rattle.std.proofs.Common.{◌≡◌, ℕ, ◌<◌, Bool, true, false, refl, sym, subst}
 use Rattle.std.proofs.Common.{IsTrue, ◌⊎◌, inl, inr, if◌then◌else◌}
 use Rattle.std.specs.Prelude.{◌||◌, Option, Some, None, IfNone}
-use Rattle.std.specs.List.{AllByRecursion}
-use Rattle.std.proofs.lemmas.Bool.{or_cases}
 use Rattle.mrc_base.specs.declared.PortRight.{PortRight}
 use Rattle.mrc_base.specs.declared.PortRight.TheVariants.{Send, Receive, SendOnce}
 use Rattle.mrc_base.specs.declared.Disp.{Disp}
@@ -13,15 +11,13 @@ use Rattle.mrc_base.specs.declared.Fact.{Fact}
 use Rattle.mrc_base.specs.declared.Fact.TheVariants.{Hold, Carry, Backup}
 use Rattle.mrc_model.specs.Wiring.{Wiring, classes, kernel_class, accepts_routine}
 use Rattle.mrc_model.specs.Wiring.{accepts_destroyed}
-use Rattle.mrc_model.specs.Rules.{Has, InRange, Follows, CanSendBy, by_send, by_once, Rule}
-use Rattle.mrc_model.specs.Rules.{k1, k2, k3_send, k3_once, k4, k5, k6, k7_up, k7_down, k8, k9, k10}
+use Rattle.mrc_model.specs.Rules.{Has, InRange, Follows, CanSendBy, by_send, by_once}
+use Rattle.mrc_model.specs.Rules.{k2, k3_send, k3_once, k4, k5, k6, k7_up, k7_down, k8, k9, k10}
 use Rattle.mrc_model.specs.Conclusions.{same_right}
-use Rattle.mrc_model.proofs.Concluding.{same_right_is}
 use Rattle.mrc_wiring.specs.Slots.{takes}
 use Rattle.mrc_wiring.proofs.Takers.{taker}
-use Rattle.mrc_facts.specs.Sets.{has}
 use Rattle.mrc_classes.specs.Parts.{are_linked, can_send_to}
-use Rattle.mrc_classes.specs.Following.{IsListOf, IsFirstFact, IsHeldAtFirst}
+use Rattle.mrc_classes.specs.Following.{IsFirstFact}
 use Rattle.mrc_classes.specs.declared.rule_names.RuleName.{RuleName}
 use Rattle.mrc_classes.specs.declared.rule_names.RuleName.TheVariants.{First, Births, Weaker, Slot}
 use Rattle.mrc_classes.specs.declared.rule_names.RuleName.TheVariants.{Reply, Received, KernelPort}
@@ -29,10 +25,10 @@ use Rattle.mrc_classes.specs.declared.rule_names.RuleName.TheVariants.{Request, 
 use Rattle.mrc_classes.specs.Lacks.{conclusion, Concludes, IsBirthClass, IsReceiver}
 use Rattle.mrc_classes.specs.declared.instances.FewFacts.{FewFacts}
 use Rattle.mrc_classes.specs.declared.instances.FewFacts.TheVariants.{Empty, One, Two}
-use Rattle.mrc_classes.specs.Instances.{premise_list, IsInstance, IsSending}
+use Rattle.mrc_classes.specs.Instances.{IsInstance, IsSending}
 use Rattle.mrc_classes.proofs.Beginning.{first_hold_is, begins}
 use Rattle.mrc_classes.proofs.Concluding.{kernel_there}
-use Rattle.mrc_classes.proofs.Missed.{IsTested, tested}
+use Rattle.mrc_classes.proofs.Missed.{tested}
 
 module _ (W : Wiring) (S : Fact → Bool) where
   -- at the places that the fact tells

@@ -7,3 +7,4 @@ pub mod Beginning
 pub mod Missed
 pub mod Justified
 pub mod FirstPassing
+pub mod Widened

@@ -1,7 +1,7 @@
 -- The sets that are kept beside a set of premises.
-use Rattle.std.proofs.Common.{◌≡◌, ℕ, Bool, true, false, List, [], ◌∷◌, refl, ap, sym, subst}
-use Rattle.std.proofs.Common.{◌∙◌, IsTrue, ◌⊎◌, inl, inr, ◌==◌, ◌&&◌}
-use Rattle.std.specs.Prelude.{◌||◌, not, cond, Result, Ok, Err, OnOk, OnErr}
+use Rattle.std.proofs.Common.{◌≡◌, ℕ, Bool, true, false, List, refl, ap, sym, subst}
+use Rattle.std.proofs.Common.{◌∙◌, inl, inr, ◌==◌, ◌&&◌}
+use Rattle.std.specs.Prelude.{◌||◌, not, cond}
 use Rattle.std.proofs.lemmas.Bool.{cases_Bool, and_parts, and_from, true≢false, false≢true}
 use Rattle.std.proofs.lemmas.Bool.{eq-eqb, eqb-true, false_from_ne_true}
 use Rattle.mrc_base.specs.declared.PortRight.{PortRight}
@@ -15,7 +15,7 @@ use Rattle.mrc_rows.specs.declared.joining.Row.TheVariants.{Holds}
 use Rattle.mrc_facts.specs.Order.{is_same, first_number, second_number}
 use Rattle.mrc_facts.specs.Sets.{has}
 use Rattle.mrc_facts.proofs.Total.{equal_from_same, same_itself}
-use Rattle.mrc_classes.specs.Spreading.{IsSpread, AreSpread, is_held_on, IsFilled}
+use Rattle.mrc_classes.specs.Spreading.{IsSpread, is_held_on, IsFilled}
 
 -- a test that fails
 not_same : (f g : Fact) → (f ≡ g → ⊥) → is_same f g ≡ false

@@ -1,8 +1,8 @@
 -- Which facts a rule concludes from a set, by its row, its class and its right. W is the wiring, S
 -- tells the facts of the set. This profile's own choice.
-use Rattle.std.specs.Prelude.{◌≡◌, ℕ, ◌<◌, Bool, false, not, ◌||◌, Some, IsTrue}
+use Rattle.std.specs.Prelude.{◌≡◌, ℕ, ◌<◌, Bool, false, not, Some, IsTrue}
 use Rattle.mrc_base.specs.declared.PortRight.{PortRight}
-use Rattle.mrc_base.specs.declared.PortRight.TheVariants.{Send, Receive, SendOnce}
+use Rattle.mrc_base.specs.declared.PortRight.TheVariants.{Receive, SendOnce}
 use Rattle.mrc_base.specs.declared.Disp.{Disp}
 use Rattle.mrc_base.specs.Disposition.{needed, given}
 use Rattle.mrc_base.specs.declared.Fact.{Fact}

@@ -1,6 +1,6 @@
 -- Sets that are kept beside a set of facts, so that its rows can be joined with what slots take and
 -- with what classes accept. This profile's own choice.
-use Rattle.std.specs.Prelude.{◌≡◌, ℕ, Bool, false, ◌&&◌, ◌||◌, ◌==◌, List, if◌then◌else◌}
+use Rattle.std.specs.Prelude.{◌≡◌, ℕ, Bool, false, ◌&&◌, ◌==◌, List, if◌then◌else◌}
 use Rattle.mrc_base.specs.declared.PortRight.{PortRight}
 use Rattle.mrc_base.specs.declared.PortRight.TheVariants.{Send, Receive, SendOnce}
 use Rattle.mrc_base.specs.declared.Fact.{Fact}
@@ -24,6 +24,11 @@ abbrev pub AreTold : List Fact → List Fact → Type 0
 AreTold facts told =
     (c d : ℕ) (any : PortRight)
     → has told (Carry c d any) ≡ (same_right any SendOnce && has facts (Backup c d))
+
+-- the second set has the holds of the first, and no others
+abbrev pub HaveSameHolds : List Fact → List Fact → Type 0
+HaveSameHolds before after =
+    (t c : ℕ) (r : PortRight) → has after (Hold t c r) ≡ has before (Hold t c r)
 
 -- a set for each of the three rights; beside the holds of the first stand the classes of send-once
 -- rights, beside those of the second the backups

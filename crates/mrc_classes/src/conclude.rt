@@ -1,6 +1,6 @@
 //! What follows from new facts, with those of a set.
 
-ghost use Rattle.std.specs.Prelude.{◌≡◌, ◌<◌, ◌⊎◌, ◌||◌, true, nat_lt, OnOk, IfOk};
+ghost use Rattle.std.specs.Prelude.{◌≡◌, ◌<◌, ◌⊎◌, ◌||◌, ℕ, true, false, nat_lt, OnOk, IfOk, IsTrue};
 ghost use Rattle.mrc_base.specs.declared.Fact.{Fact};
 ghost use Rattle.mrc_model.specs.Wiring.{classes};
 ghost use Rattle.mrc_model.specs.Rules.{Has};
@@ -9,11 +9,11 @@ ghost use Rattle.mrc_facts.specs.Order.{is_same};
 ghost use Rattle.mrc_facts.specs.Sets.{has};
 ghost use Rattle.mrc_classes.specs.Growing.{Added, Only, If, Below};
 ghost use Rattle.mrc_classes.specs.Following.{IsConsequence, IsListOf};
-ghost use Rattle.mrc_classes.specs.Parts.{EachRight, SentTo, Sent, RequestAt, ReceivedAt};
+ghost use Rattle.mrc_classes.specs.Parts.{can_send_to, EachRight, SentTo, Sent, RequestAt, ReceivedAt};
 ghost use Rattle.mrc_classes.specs.Parts.{NotifiedAt, Received, SharedAt, Shared, Weaker};
 ghost use Rattle.mrc_classes.specs.Parts.{ReturnedAt, ByHold, AtClass, OfTask, AtTask, AtPlace};
 
-use crate::lacking::{are_linked, can_send_to};
+use crate::lacking::are_linked;
 use crate::premise_set::Premises;
 use crate::rights::{backup, carry, hold};
 use mrc_base::{Fact, PortRight};
@@ -71,6 +71,15 @@ fn all_sent_to(
     Ok(())
 }
 
+/// Whether the task can send to class `to`, where rows have both.
+fn can_send(premises: &Premises, task: u16, to: u16) -> bool
+    requires task { task < 64 }
+    requires to { to < 1344 }
+    ensures { result ≡ can_send_to (has premises.now) task to }
+{
+    premises.holds(task, to, PortRight::Send) || premises.holds(task, to, PortRight::SendOnce)
+}
+
 /// What the task can send to class `to`, by a hold of the one set, of its holds of the other.
 fn sent(
     slots: &Slots,
@@ -85,7 +94,8 @@ fn sent(
     ensures { OnOk result (Added (has found.old) (has found.new)
         (Sent (wiring_of slots.now) (has one.now) (has other.now) task to)) }
 {
-    if can_send_to(one.facts(), task, to) {
+    let _within = (slots.tasks(), slots.classes());
+    if can_send(one, task, to) {
         all_sent_to(slots, other, task, to, found)?;
     }
     Ok(())
@@ -183,7 +193,8 @@ fn received(
     ensures { OnOk result (Added (has found.old) (has found.new)
         (Received (wiring_of slots.now) (has one.now) (has other.now) task class)) }
 {
-    if one.has(&hold(task, class, PortRight::Receive)) {
+    let _within = (slots.tasks(), slots.classes());
+    if one.holds(task, class, PortRight::Receive) {
         all_received(slots, other, task, class, found)?;
     }
     Ok(())
@@ -221,10 +232,12 @@ fn all_weaker(task: u16, class: u16, found: &mut Facts) -> Result<(), AllocError
 
 /// The same, where the task receives at the class.
 fn weaker(premises: &Premises, task: u16, class: u16, found: &mut Facts) -> Result<(), AllocError>
+    requires task { task < 64 }
+    requires class { class < 1344 }
     ensures { OnOk result (Added (has found.old) (has found.new)
         (Weaker (has premises.now) task class)) }
 {
-    if premises.has(&hold(task, class, PortRight::Receive)) {
+    if premises.holds(task, class, PortRight::Receive) {
         all_weaker(task, class, found)?;
     }
     Ok(())
@@ -244,6 +257,7 @@ fn at_class(
     ensures { OnOk result (Added (has found.old) (has found.new)
         (AtClass (wiring_of slots.now) (has all.now) (has new.now) task class)) }
 {
+    let _within = (slots.tasks(), slots.classes());
     weaker(new, task, class, found)?;
     by_hold(slots, all, new, task, class, found)?;
     by_hold(slots, new, all, task, class, found)?;
@@ -380,6 +394,14 @@ fn if_task(
     Ok(())
 }
 
+/// Whether there is no request on ports of the class, by the row of those alone.
+fn asks_nothing(premises: &Premises, class: u16) -> bool
+    ensures { IsTrue result → (d : ℕ) → d < 1344 →
+        has premises.now (Fact.Backup class d) ≡ false }
+{
+    class < 1344 && premises.words(Row::Backups(class)).is_empty()
+}
+
 /// The receive rights of the class that come with the notices of requests.
 fn returned(
     slots: &Slots,
@@ -390,7 +412,11 @@ fn returned(
     ensures { OnOk result (Added (has found.old) (has found.new)
         (Below (classes (wiring_of slots.now)) (ReturnedAt (has premises.now) class))) }
 {
-    for notify in 0..slots.classes() {
+    let count = slots.classes();
+    if asks_nothing(premises, class) {
+        return Ok(());
+    }
+    for notify in 0..count {
         let asked = premises.has(&backup(class, notify));
         put_if(asked, found, carry(notify, class, PortRight::Receive))?;
     }

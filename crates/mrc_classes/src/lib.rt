@@ -9,6 +9,7 @@ mod premise_set;
 mod rights;
 mod rule_names;
 mod searching;
+mod wider;
 
 pub use conclude::{conclude_at, consequences};
 pub use first_facts::first_rules;

@@ -13,14 +13,17 @@ ghost use Rattle.mrc_facts.specs.Laws.{IsLeast, IsNext, NoneAfter};
 ghost use Rattle.mrc_model.specs.Conclusions.{same_right};
 ghost use Rattle.mrc_rows.specs.Rows.{is_within, row_of, place_of};
 ghost use Rattle.mrc_rows.specs.Joining.{right_place, is_of, is_in_both};
-ghost use Rattle.mrc_rows.specs.declared.joining.Row.TheVariants.{Carries};
+ghost use Rattle.mrc_rows.specs.declared.joining.Row.TheVariants.{Holds, Carries, Backups};
 ghost use Rattle.mrc_classes.specs.Spreading.{IsSpread, AreSpread, is_held_on, IsFilled};
-ghost use Rattle.mrc_classes.specs.Spreading.{AreAsked, AreTold};
+ghost use Rattle.mrc_classes.specs.Spreading.{AreAsked, AreTold, HaveSameHolds};
+ghost use Rattle.mrc_classes.specs.Widening.{is_wider};
 
 use crate::rights::{backup, carry, hold};
+use crate::wider::{Wider, wider_row};
 use mrc_base::{Fact, PortRight};
+use mrc_bits::has_bit;
 use mrc_facts::ListedFacts;
-use mrc_rows::{Facts, Row, fact_of, row_at};
+use mrc_rows::{Facts, Row, right_place, row_at};
 use std::alloc::{AllocError, Global};
 use std::marker::Model;
 
@@ -34,6 +37,7 @@ pub struct Premises {
     send: Facts,
     receive: Facts,
     once: Facts,
+    alloc: Global,
 }
 
 impl Model for Premises {
@@ -203,6 +207,87 @@ fn put_backup(
     put
 }
 
+/// Puts into a row of the set what is made of these words.
+fn join_wider(
+    alloc: Global,
+    set: &mut Facts,
+    row: Row,
+    wider: Wider,
+    words: &[u64],
+) -> Result<(), AllocError>
+    requires { length words.now ≤ 63 }
+    ensures ok { OnOk result ((g : Fact) → has set.new g
+        ≡ (has set.old g || (is_of row g && is_wider wider words.now (place_of g)))) }
+    ensures others { (g : Fact) → is_of row g ≡ false → has set.new g ≡ has set.old g }
+{
+    let made = wider_row(alloc, wider, words)?;
+    set.join(row, made.as_slice(), made.as_slice())
+}
+
+/// Puts the holds of a task into the set, and what is kept of them into those beside it. Where
+/// memory runs out, these may have some of that.
+fn put_holds(
+    alloc: Global,
+    facts: &mut Facts,
+    send: &mut Facts,
+    receive: &mut Facts,
+    once: &mut Facts,
+    task: u16,
+    words: &[u64],
+) -> Result<(), AllocError>
+    requires few { length words.now ≤ 63 }
+    requires spread { AreSpread facts.old send.old receive.old once.old }
+    ensures spread { OnOk result (AreSpread facts.new send.new receive.new once.new) }
+    ensures members { OnOk result ((g : Fact) → has facts.new g ≡ (has facts.old g
+        || (is_of (Holds task) g && is_in_both words.now words.now (place_of g)))) }
+{
+    let row = Row::Holds(task);
+    join_wider(alloc, send, row, Wider::EachRight(PortRight::Send), words)?;
+    join_wider(alloc, send, Row::Backups(task), Wider::OnceClasses, words)?;
+    join_wider(
+        alloc,
+        receive,
+        row,
+        Wider::EachRight(PortRight::Receive),
+        words,
+    )?;
+    join_wider(
+        alloc,
+        once,
+        row,
+        Wider::EachRight(PortRight::SendOnce),
+        words,
+    )?;
+    facts.join(row, words, words)
+}
+
+/// Puts the backups of a class into the set, and the carries that tell them into the one for
+/// receive rights. Where memory runs out, this may have some of those.
+fn put_backups(
+    alloc: Global,
+    facts: &mut Facts,
+    receive: &mut Facts,
+    class: u16,
+    words: &[u64],
+) -> Result<(), AllocError>
+    requires few { length words.now ≤ 63 }
+    requires narrow { (d : ℕ) → is_set words.now d ≡ true → d < 1344 }
+    requires told { AreTold facts.old receive.old }
+    ensures told { OnOk result (AreTold facts.new receive.new) }
+    ensures holds { OnOk result (HaveSameHolds receive.old receive.new) }
+    ensures members { OnOk result ((g : Fact) → has facts.new g ≡ (has facts.old g
+        || (is_of (Backups class) g && is_in_both words.now words.now (place_of g)))) }
+{
+    join_wider(
+        alloc,
+        receive,
+        Row::Carries(class),
+        Wider::OnceRights,
+        words,
+    )?;
+    facts.join(Row::Backups(class), words, words)
+}
+
 impl Premises {
     /// The empty set. It keeps the allocator.
     pub fn new(alloc: Global) -> Premises
@@ -213,6 +298,7 @@ impl Premises {
             send: Facts::new(alloc),
             receive: Facts::new(alloc),
             once: Facts::new(alloc),
+            alloc,
         }
     }
 
@@ -249,6 +335,18 @@ impl Premises {
         ensures { result ≡ has self.now fact.now }
     {
         self.facts.has(fact)
+    }
+
+    /// Whether the task holds the right on the class, where rows have both.
+    pub(crate) fn holds(&self, task: u16, class: u16, right: PortRight) -> bool
+        requires task { task < 64 }
+        requires class { class < 1344 }
+        ensures { result ≡ has self.now (Fact.Hold task class right) }
+    {
+        has_bit(
+            self.facts.words(Row::Holds(task)),
+            right_place(class, right),
+        )
     }
 
     /// Puts the fact into the set, and answers whether it is new there.
@@ -291,28 +389,39 @@ impl Premises {
         }
     }
 
-    /// Puts the fact of a place in the row into the set.
-    fn put_at(&mut self, row: Row, place: usize) -> Result<(), AllocError>
-        requires { place < 4032 }
-        ensures { OnOk result ((g : Fact) →
-            has self.new g ≡ ((is_of row g && place_of g == place) || has self.old g)) }
+    /// Puts the holds of a task into the set. Where memory runs out, it has no fact then.
+    fn join_holds(&mut self, task: u16, words: &[u64]) -> Result<(), AllocError>
+        requires { length words.now ≤ 63 }
+        ensures { OnOk result ((g : Fact) → has self.new g ≡ (has self.old g
+            || (is_of (Holds task) g && is_in_both words.now words.now (place_of g)))) }
     {
-        let _new = self.insert(fact_of(row, place))?;
-        Ok(())
+        let put = put_holds(
+            self.alloc,
+            &mut self.facts,
+            &mut self.send,
+            &mut self.receive,
+            &mut self.once,
+            task,
+            words,
+        );
+        if put.is_err() {
+            *self = Premises::new(self.alloc);
+        }
+        put
     }
 
-    /// Puts the facts of a row into the set, one by one.
-    fn put_row(&mut self, row: Row, words: &[u64]) -> Result<(), AllocError>
-        requires { length words.now ≤ 63 }
-        ensures { OnOk result ((g : Fact) → has self.new g
-            ≡ (has self.old g || (is_of row g && is_in_both words.now words.now (place_of g)))) }
+    /// Puts the backups of a class into the set. Where memory runs out, it has no fact then.
+    fn join_backups(&mut self, class: u16, words: &[u64]) -> Result<(), AllocError>
+        requires few { length words.now ≤ 63 }
+        requires narrow { (d : ℕ) → is_set words.now d ≡ true → d < 1344 }
+        ensures { OnOk result ((g : Fact) → has self.new g ≡ (has self.old g
+            || (is_of (Backups class) g && is_in_both words.now words.now (place_of g)))) }
     {
-        let mut at = 0;
-        while let Some(place) = self.facts.next_new(row, words, words, at) {
-            self.put_at(row, place)?;
-            at = place + 1;
+        let put = put_backups(self.alloc, &mut self.facts, &mut self.receive, class, words);
+        if put.is_err() {
+            *self = Premises::new(self.alloc);
         }
-        Ok(())
+        put
     }
 
     /// Puts the carries of a row into the set, which are all that is kept of them.
@@ -333,11 +442,14 @@ impl Premises {
     {
         let row = row_at(number);
         let words = other.words(row);
-        match row {
-            Row::Carries(class) => self.join_carries(class, words)?,
-            _ => self.put_row(row, words)?,
+        if words.is_empty() {
+            return Ok(());
         }
-        Ok(())
+        match row {
+            Row::Holds(task) => self.join_holds(task, words),
+            Row::Carries(class) => self.join_carries(class, words),
+            Row::Backups(class) => self.join_backups(class, words),
+        }
     }
 
     /// Puts the facts of all rows of the other set into the set.
@@ -374,7 +486,7 @@ impl Premises {
     }
 
     /// Puts the facts of the other set into the set. Where memory runs out, some of them may be
-    /// there.
+    /// there, or no fact at all.
     pub fn join(&mut self, other: &Facts) -> Result<(), AllocError>
         ensures { OnOk result ((g : Fact) → has self.new g ≡ (has self.old g || has other.now g)) }
     {

@@ -1,5 +1,5 @@
-use Rattle.std.proofs.Common.{◌≡◌, true, false, IsTrue}
-use Rattle.mrc_base.specs.declared.PortRight.TheVariants.{Send, Receive, SendOnce}
+use Rattle.std.proofs.Common.{◌≡◌, true, IsTrue}
+use Rattle.mrc_base.specs.declared.PortRight.TheVariants.{Receive}
 use Rattle.mrc_model.specs.Conclusions.{same_right}
 use Rattle.mrc_wiring.specs.Table.{wiring_of}
 use Rattle.mrc_facts.specs.Sets.{has}

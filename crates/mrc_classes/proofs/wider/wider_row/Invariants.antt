@@ -1,0 +1,13 @@
+use Rattle.std.proofs.Common.{◌≡◌, ◌-◌, length}
+use Rattle.mrc_classes.proofs.Widened.{WiderSoFar}
+use Rattle.mrc_classes.proofs.wider.wider_row.Given as goal
+
+-- the bits before this one are taken over
+abbrev pub invariant-loop-place : goal.invariant-loop-place
+invariant-loop-place l = record {
+  len : length l.row.items ≡ 63;
+  so_far : WiderSoFar l.wider l.words l.row.items l.at;
+}
+
+abbrev pub decreases-loop-place : goal.decreases-loop-place
+decreases-loop-place l = 4032 - l.at
