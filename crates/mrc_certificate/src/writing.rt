@@ -20,10 +20,9 @@ fn put_fact(out: &mut Vec<u8>, fact: &Fact) -> Result<(), AllocError>
         } => (2, destination.0, class.0, right as u8),
         Fact::Backup { class, notify } => (3, class.0, notify.0, 0),
     };
-    out.push(kind)?;
-    out.extend_from_slice(&first.to_be_bytes())?;
-    out.extend_from_slice(&second.to_be_bytes())?;
-    out.push(last)?;
+    let first = first.to_be_bytes();
+    let second = second.to_be_bytes();
+    out.extend_from_slice(&[kind, first[0], first[1], second[0], second[1], last])?;
     Ok(())
 }
 
@@ -52,7 +51,7 @@ fn put_facts(out: &mut Vec<u8>, facts: &Facts) -> Result<(), AllocError>
 pub fn write_draft(alloc: Global, draft: &Draft) -> Result<Vec<u8>, AllocError>
     ensures { IfOk result (λ bytes. Spells bytes.items (content draft.now)) }
 {
-    let mut out = Vec::new(alloc);
+    let mut out = Vec::with_capacity(alloc, 14 + 6 * draft.facts.len())?;
     out.extend_from_slice(b"MRCC")?;
     out.extend_from_slice(&1u16.to_be_bytes())?;
     out.extend_from_slice(&draft.tasks.to_be_bytes())?;
