@@ -172,8 +172,8 @@ fn draft_from(alloc: Global, bytes: &[u8]) -> Result<Draft, OrMemory<DraftFault>
 
 /// The draft that the bytes spell, all of the bytes. Of several faults it answers the first from
 /// left to right: at each fact first that it is cut off, then that it is none within the counts,
-/// then that it does not come after the one before. Bytes that end within the header are truncated,
-/// if their first four and their version, as far as they are there, are right.
+/// then that it does not come after the one before. Bytes that end within the header are truncated
+/// where the first four are there and right, and the version is right if both its bytes are there.
 pub fn read_draft(alloc: Global, bytes: &[u8]) -> Result<Draft, OrMemory<DraftFault>>
     // What is read is spelled so.
     ensures found { IfOk result (λ draft. Spells bytes.now (content draft)) }

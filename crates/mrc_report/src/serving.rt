@@ -76,7 +76,8 @@ pub fn journal_text(
 
 /// Runs a script on what was checked, from the first state of its wiring on: one thread and one
 /// seat for each task, each entering the gate once before its first line. Answers what is printed
-/// of the journal. Where all tasks wait for messages it does not return.
+/// of the journal. The limit is that of the journal, and the blank that of the ledger. Where all
+/// tasks wait for messages it does not return.
 pub fn serve<L: Ledger + Send + Sync, R: Threads + Wait + Sync, G: Gate>(
     rt: &R,
     alloc: Global,

@@ -75,7 +75,7 @@ pub record IsNumber (row : Row) (number : ℕ) : Type 0 where
 abbrev pub HasNoNumber : Row → Type 0
 HasNoNumber row = (g : Fact) → is_of row g ≡ true → is_within g ≡ false
 
--- the first bit from this one on that both have and whose fact the set lacks
+-- a bit from this one on that both have; the set has the facts of all such bits before it
 pub record IsNextNew
     (facts : List Fact)
     (row : Row)

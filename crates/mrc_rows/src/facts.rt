@@ -111,8 +111,8 @@ impl Facts {
         }
     }
 
-    /// The words of the row: the places of those of its facts that the set has. A task above 63 and
-    /// a class above 1,343 have no words.
+    /// The words of the row: the places of those of its facts that the set has. In those of a task
+    /// above 63, and of a class above 1,343, no bit is set.
     pub fn words(&self, row: Row) -> &[u64]
         ensures shown { (g : Fact) → is_of row g ≡ true →
             is_set result.now (place_of g) ≡ (is_within g && has self.now g) }

@@ -103,7 +103,8 @@ pub fn row_at(number: usize) -> Row
 }
 
 impl Facts {
-    /// The first place from this one on that both have, and whose fact in the row the set lacks.
+    /// A place from this one on that both have: the set has the facts of all such places before it.
+    /// None where it has those of all. Where the fact has a bit, it is one that the set lacks.
     pub fn next_new(&self, row: Row, more: &[u64], mask: &[u64], from: usize) -> Option<usize>
         requires { length more.now ≤ 63 }
         ensures found { IfSome result (IsNextNew self.now row more.now mask.now from) }

@@ -19,7 +19,7 @@ use mrc_bits::{clear_bit, has_bit, join_bits, next_bit, next_fresh, set_bit};
 use std::alloc::{AllocError, Global};
 use std::marker::Model;
 
-/// A set of facts. Each row is empty, or has 63 words.
+/// A set of facts. Each row is empty, or has its words: 63, or 21 where it is of backups.
 #[derive(Debug, Drop)]
 pub(crate) struct RowFacts {
     rows: Vec<Vec<u64>>,
