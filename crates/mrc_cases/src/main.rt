@@ -2,8 +2,8 @@
 //! texts, of messages, of certificates, of scripts and of wirings say of it.
 //!
 //! A case is a word, `:` and a text. In the text `\n` is a line feed, `\r` a carriage return, `\0`
-//! the character 0, and `\` before any other character is that character. `\{N:text}` is N times the
-//! text, and an `@` in it is the number of the time, from 0.
+//! the character 0, and `\` before any other character is that character. `\{N:text}` is N times
+//! the text, and an `@` in it is the number of the time, from 0.
 //!
 //! - `marks`: a character for each token of a MIG text
 //! - `tokens`: each token of a MIG text, with its bytes from and to
@@ -21,8 +21,8 @@
 //! - `wiring`, `policy`: each line by its number and what it says; `wiring_bytes`, `policy_bytes`:
 //!   the same, of hexadecimal digits
 //! - `name`: the name that a word spells, and its copy
-//! - `resolved`: a question, MIG texts with `&` between them, a wiring, and of what it is asked, with
-//!   `|` between them: the answer
+//! - `resolved`: a question, MIG texts with `&` between them, a wiring, and of what it is asked,
+//!   with `|` between them: the answer
 //!
 //! Any other line is printed as it is.
 #![tactic(auto)]

@@ -15,8 +15,8 @@ pub enum DraftFault {
     /// The bytes end within the header or within a fact that it counts.
     #[error("Truncated")]
     Truncated,
-    /// The fact at this place has a kind, a right, a task or a class out of its range, or is a backup
-    /// whose last byte is not 0.
+    /// The fact at this place has a kind, a right, a task or a class out of its range, or is a
+    /// backup whose last byte is not 0.
     #[error("BadFact {0}")]
     BadFact(usize),
     /// The fact at this place does not come after the one before it.

@@ -45,8 +45,8 @@ pub struct Refused<W> {
 
 /// Accepts the certificate for the claim exactly where it has the wiring's numbers of tasks and
 /// classes, its facts are closed under the ten rules, and none of them is forbidden. Else the first
-/// reason is told, or that memory ran out, and both come back. What the rules conclude and the draft
-/// lacks is looked for by as many threads as there are processors.
+/// reason is told, or that memory ran out, and both come back. What the rules conclude and the
+/// draft lacks is looked for by as many threads as there are processors.
 pub fn check(
     rt: &(impl Threads + Sync),
     alloc: Global,

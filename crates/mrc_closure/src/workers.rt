@@ -255,8 +255,8 @@ fn join_both<R: Threads + Sync>(
     other
 }
 
-/// Puts the found facts into the set, as `merge` does, with a thread for the set and one for the new
-/// facts.
+/// Puts the found facts into the set, as `merge` does, with a thread for the set and one for the
+/// new facts.
 fn merge_by<R: Threads + Sync>(
     rt: &R,
     alloc: Global,
@@ -346,7 +346,7 @@ fn least_by<R: Threads + Wait + Sync, G: Gate>(
 /// Why no certificate is made.
 #[derive(Clone, Copy, Debug, PartialEq, Eq, Error)]
 pub enum MakeFault {
-    /// There are 1 to 64 workers.
+    /// There are no workers, or more than 64.
     #[error("Workers")]
     Workers,
 }

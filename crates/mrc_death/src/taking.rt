@@ -190,7 +190,8 @@ fn take_receive(
     name: u32,
 ) -> Result<Option<Taken>, AllocError>
     ensures { IfOk result (λ taken.
-        AreTaken store.now taken (receive_out store.now task name (get (space store.now task) name))) }
+        AreTaken store.now taken
+            (receive_out store.now task name (get (space store.now task) name))) }
 {
     let Some(found) = store.space(task) else {
         return Ok(None);
@@ -217,7 +218,8 @@ fn take_entry(
     name: u32,
 ) -> Result<Option<Taken>, AllocError>
     ensures { IfOk result (λ taken.
-        AreTaken store.now taken (entry_out store.now task name (get (space store.now task) name))) }
+        AreTaken store.now taken
+            (entry_out store.now task name (get (space store.now task) name))) }
 {
     let Some(found) = store.space(task) else {
         return Ok(None);

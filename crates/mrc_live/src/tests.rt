@@ -237,7 +237,8 @@ fn answers<L: Ledger, R: Wait>(
     Ok((first, next, events))
 }
 
-/// What a server of two seats answers. Where memory runs out for the server, the machine comes back.
+/// What a server of two seats answers. Where memory runs out for the server, the machine comes
+/// back.
 fn two_seats<L: Ledger, R: Wait>(
     rt: &R,
     alloc: Global,

@@ -54,8 +54,8 @@ impl World {
 
     /// One call of a task, made whole: the reply, with the machine as the call leaves it. A reply
     /// that is a refusal leaves it as it was, and so does want of memory, which is told only where
-    /// the call is not refused; but for sending, which takes memory to be judged, and for receiving,
-    /// where the space might have no room for what is received.
+    /// the call is not refused; but for sending, which takes memory to be judged, and for
+    /// receiving, where the space might have no room for what is received.
     pub fn step(&mut self, wired: &Wired, caller: TaskId, call: &Call) -> Result<Reply, AllocError>
         ensures step { IfOk result (λ reply.
             step (wiring_of wired.now) self.old caller (call_of call.now)

@@ -232,7 +232,8 @@ fn more_arguments<'t>(
         (many goes_on (next_argument types.now is_simple)
         (length (left rest.entry)) (map parameter_of seen.old.items, left rest.entry)) }
     ensures fault { StopsAtOrMemory result
-        (more_arguments_stop types.now is_simple (map parameter_of seen.old.items) (left rest.entry)) }
+        (more_arguments_stop types.now is_simple
+        (map parameter_of seen.old.items) (left rest.entry)) }
 {
     let mut rest = rest;
     let count = rest.len();

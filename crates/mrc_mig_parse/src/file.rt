@@ -204,7 +204,8 @@ fn number(rest: Rest<'_>) -> Result<(u32, Rest<'_>), Stop>
 /// Reads `name number;`.
 #[tactic(auto, unfolding(crate::specs::Stops::named_number_stop, crate::specs::Files::named_number_at))]
 fn named_number(rest: Rest<'_>) -> Result<(&str, u32, Rest<'_>), Stop>
-    ensures exact { Means (λ x. ((x.0.now, x.1), left x.2)) result (named_number_at (left rest.entry)) }
+    ensures exact { Means (λ x. ((x.0.now, x.1), left x.2)) result
+        (named_number_at (left rest.entry)) }
     ensures fault { StopsAt result (named_number_stop (left rest.entry)) }
 {
     let (name, rest) = name(rest)?;

@@ -165,7 +165,8 @@ fn array(
     at: usize,
     rest: Rest<'_>,
 ) -> Result<(Around, Rest<'_>), OrMemory<Stop>>
-    ensures exact { MeansOrMemory (λ x. (x.0, left x.1)) result (array_at around (left rest.entry)) }
+    ensures exact { MeansOrMemory (λ x. (x.0, left x.1)) result
+        (array_at around (left rest.entry)) }
     ensures fault { StopsAtOrMemory result (array_stop around at (left rest.entry)) }
 {
     if is_empty_brackets(rest) {
@@ -182,7 +183,8 @@ fn structure(
     around: Around,
     rest: Rest<'_>,
 ) -> Result<(Around, Rest<'_>), OrMemory<Stop>>
-    ensures exact { MeansOrMemory (λ x. (x.0, left x.1)) result (structure_at around (left rest.entry)) }
+    ensures exact { MeansOrMemory (λ x. (x.0, left x.1)) result
+        (structure_at around (left rest.entry)) }
     ensures fault { StopsAtOrMemory result (structure_stop around (left rest.entry)) }
 {
     let rest = sign(rest, Sign::OpenBracket)?;
@@ -208,7 +210,8 @@ fn layer(
     around: Around,
     rest: Rest<'_>,
 ) -> Result<(Around, Rest<'_>), OrMemory<Stop>>
-    ensures exact { MeansOrMemory (λ x. (x.0, left x.1)) result (layer_at (around, left rest.entry)) }
+    ensures exact { MeansOrMemory (λ x. (x.0, left x.1)) result
+        (layer_at (around, left rest.entry)) }
     ensures fault { StopsAtOrMemory result (layer_stop (around, left rest.entry)) }
 {
     match rest.first() {
@@ -340,7 +343,8 @@ fn plain<'t>(
     wanted: Use,
     rest: Rest<'t>,
 ) -> Result<(Shape, Rest<'t>), Stop>
-    ensures exact { Means (λ x. (x.0, left x.1)) result (plain_by basic around wanted (left rest.entry)) }
+    ensures exact { Means (λ x. (x.0, left x.1)) result
+        (plain_by basic around wanted (left rest.entry)) }
     ensures fault { StopsAt result (plain_stop basic wanted (left rest.entry)) }
 {
     let Basic::Unsized(_) = basic else {

@@ -53,9 +53,9 @@ impl fmt::Display for Feature {
 /// here. Each place is an offset in bytes.
 #[derive(Clone, Copy, Debug, PartialEq, Eq, Error)]
 pub enum ParseFault {
-    /// A token that cannot stand there, or the end of the last token where one is missing; a part of
-    /// an expression that is below 0 or above 2,147,483,647, or a divisor 0; a size that no type has,
-    /// and a string type without a size.
+    /// A token that cannot stand there, or the end of the last token where one is missing; a part
+    /// of an expression that is below 0 or above 2,147,483,647, or a divisor 0; a size that no type
+    /// has, and a string type without a size.
     #[error("Unexpected {0}")]
     Unexpected(usize),
     /// A form of MIG that is left out.

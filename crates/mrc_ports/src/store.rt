@@ -76,7 +76,8 @@ impl Store {
     /// the task has none, the one that is handed in. It takes no memory.
     pub fn put_space(&mut self, task: TaskId, space: Space) -> Space
         ensures put { IsSome (get self.old.spaces task)
-            → (Some result ≡ get self.old.spaces task) × (self.new ≡ set_space self.old task space) }
+            → (Some result ≡ get self.old.spaces task)
+            × (self.new ≡ set_space self.old task space) }
         ensures absent { get self.old.spaces task ≡ None
             → (result ≡ space) × (self.new ≡ self.old) }
     {

@@ -29,8 +29,8 @@ const LINES: [(&str, &str); 3] = [
     ),
 ];
 
-// Whichever single allocation is refused, a text is read or there is `Memory`, and it is read at the
-// next call; what was handed in came back.
+// Whichever single allocation is refused, a text is read or there is `Memory`, and it is read at
+// the next call; what was handed in came back.
 #[test]
 fn wirings_or_memory(rt: HostRuntime) -> Result<(), Fail> {
     for (line, want) in LINES {
