@@ -191,7 +191,7 @@ fn take_receive(
 ) -> Result<Option<Taken>, AllocError>
     ensures { IfOk result (λ taken.
         AreTaken store.now taken
-            (receive_out store.now task name (get (space store.now task) name))) }
+        (receive_out store.now task name (get (space store.now task) name))) }
 {
     let Some(found) = store.space(task) else {
         return Ok(None);
@@ -219,7 +219,7 @@ fn take_entry(
 ) -> Result<Option<Taken>, AllocError>
     ensures { IfOk result (λ taken.
         AreTaken store.now taken
-            (entry_out store.now task name (get (space store.now task) name))) }
+        (entry_out store.now task name (get (space store.now task) name))) }
 {
     let Some(found) = store.space(task) else {
         return Ok(None);

@@ -104,7 +104,7 @@ pub fn row_at(number: usize) -> Row
 
 impl Facts {
     /// A place from this one on that both have: the set has the facts of all such places before it.
-    /// None where it has those of all. Where the fact has a bit, it is one that the set lacks.
+    /// None where it has those of all.
     pub fn next_new(&self, row: Row, more: &[u64], mask: &[u64], from: usize) -> Option<usize>
         requires { length more.now ≤ 63 }
         ensures found { IfSome result (IsNextNew self.now row more.now mask.now from) }
