@@ -1,0 +1,66 @@
+"""The least set of facts that is closed under the ten rules, counted. Written from the table of rules in
+docs/FORMATS.md, apart from the definitions and from the program. A class here takes either nothing or all: slots of
+each disposition, requests of an interface with a routine, and port-destroyed notices.
+"""
+
+# The right that a disposition needs and the one that it gives: receive, send or once.
+SLOTS = {("r", "r"), ("s", "s"), ("o", "o"), ("r", "s"), ("r", "o")}
+
+
+def places(bits):
+    """The numbers of the bits that are set."""
+    while bits:
+        last = bits & -bits
+        yield last.bit_length() - 1
+        bits ^= last
+
+
+def size(holds, carries, backups):
+    """How many facts there are."""
+    rows = [row for rights in holds + carries for row in rights.values()]
+    return sum(bin(row).count("1") for row in rows + backups)
+
+
+def conclude(task, holds, carries, backups, ports, taking):
+    """Adds what the rules conclude from what a task holds."""
+    own = holds[task]
+    own["s"] |= own["r"]  # K3
+    own["o"] |= own["r"]
+    for to in places((own["s"] | own["o"]) & taking):
+        for need, give in SLOTS:
+            carries[to][give] |= own[need]  # K4
+        carries[to]["o"] |= own["o"]  # K5
+    for at in places(own["r"]):
+        for right in "rso":
+            own[right] |= carries[at][right]  # K6
+        backups[at] |= own["o"] & taking  # K8
+        own["o"] |= backups[at]  # K10
+    for other in range(len(holds)):
+        if own["s"] >> (ports + other) & 1:
+            for right in "rso":  # K7
+                own[right] |= holds[other][right]
+                holds[other][right] = own[right]
+
+
+def least(tasks, ports, taking, first):
+    """How many facts the least set has. Classes are the ports, the tasks' kernel ports and their births, in this order;
+    `taking` are those that take all, and `first` has a task, a class and a right for each hold of the lines."""
+    classes = ports + 2 * tasks
+    holds = [dict.fromkeys("rso", 0) for _ in range(tasks)]
+    carries = [dict.fromkeys("rso", 0) for _ in range(classes)]
+    backups = [0] * classes
+    for task in range(tasks):
+        holds[task]["s"] |= 1 << (ports + task)  # K1
+        holds[task]["r"] |= 1 << (ports + tasks + task)  # K2
+    for task, at, right in first:
+        holds[task][right] |= 1 << at  # K1
+    mask = sum(1 << at for at in taking)
+    before = -1
+    while before != size(holds, carries, backups):
+        before = size(holds, carries, backups)
+        for task in range(tasks):
+            conclude(task, holds, carries, backups, ports, mask)
+        for at in range(classes):
+            for to in places(backups[at]):
+                carries[to]["r"] |= 1 << at  # K9
+    return before
