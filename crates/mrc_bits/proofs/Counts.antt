@@ -265,7 +265,7 @@ count_end old more mask k len count within before none =
     omega (arith, before, parts, rest, whole)
 
 -- a row has no bit behind its last word
-past : (words : List ℕ) (i : ℕ) → length words ≤ i / 64 → is_set words i ≡ false
+pub past : (words : List ℕ) (i : ℕ) → length words ≤ i / 64 → is_set words i ≡ false
 past words i behind =
     ap (λ w. bit_at w (i % 64) == 1) (get_or_past words (i / 64) 0 behind)
     ∙ ap (λ n. n == 1) (bit_at-zero (i % 64))

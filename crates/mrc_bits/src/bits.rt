@@ -1,9 +1,10 @@
 //! Rows of bits, in words of 64.
 ghost use Rattle.std.specs.Prelude.{◌≡◌, ◌⊎◌, ℕ, ◌*◌, ◌+◌, ◌/◌, ◌^◌, ◌<◌, ◌≤◌, ◌==◌, ◌||◌, ◌&&◌, length};
-ghost use Rattle.std.specs.Prelude.{slice_index, false, not, nat_lt, IfOk, IfSome, IfNone};
+ghost use Rattle.std.specs.Prelude.{slice_index, false, not, nat_lt, true, IfOk, IfSome, IfNone};
 ghost use Rattle.std.specs.Int.{bit_at};
 ghost use Rattle.mrc_bits.specs.Bits.{is_set, is_fresh, fresh_count};
 ghost use Rattle.mrc_bits.specs.Bits.{IsNextBit, IsNextFresh, IsNextIn, NoneIn};
+ghost use Rattle.mrc_bits.specs.Bits.{AnyFresh, NoneFresh};
 
 use std::alloc::{AllocError, Global};
 
@@ -84,6 +85,57 @@ fn fresh_word(words: &[u64], more: &[u64], mask: &[u64], k: usize) -> u64
         (bit_at result i == 1) ≡ is_fresh words.now more.now mask.now (64 * k + i) }
 {
     (more[k] & mask[k]) & !word_at(words, k)
+}
+
+/// The fresh bits of the words below `count`, put together in one word.
+fn fresh_below(words: &[u64], more: &[u64], mask: &[u64], count: usize) -> u64
+    requires words { count ≤ length words.now }
+    requires more { count ≤ length more.now }
+    requires mask { count ≤ length mask.now }
+    ensures none { result ≡ 0 →
+        NoneFresh words.now more.now mask.now (64 * count) }
+    ensures some { 0 < result →
+        AnyFresh words.now more.now mask.now }
+{
+    let mut fresh = 0;
+    for k in 0..count {
+        fresh |= (more[k] & mask[k]) & !words[k];
+    }
+    fresh
+}
+
+/// The bits that both `more` and `mask` have in their words from `from` on, where `words` has none,
+/// put together in one word.
+fn fresh_behind(words: &[u64], more: &[u64], mask: &[u64], from: usize) -> u64
+    requires { length words.now ≤ from }
+    ensures none { result ≡ 0 →
+        (i : ℕ) → 64 * from ≤ i → is_fresh words.now more.now mask.now i ≡ false }
+    ensures some { 0 < result →
+        AnyFresh words.now more.now mask.now }
+{
+    let end = if more.len() < mask.len() {
+        more.len()
+    } else {
+        mask.len()
+    };
+    let mut fresh = 0;
+    for k in from..end {
+        fresh |= more[k] & mask[k];
+    }
+    fresh
+}
+
+/// Whether there is a bit that both `more` and `mask` have, and that is not set in `words`.
+pub fn has_fresh(words: &[u64], more: &[u64], mask: &[u64]) -> bool
+    ensures none { result ≡ false →
+        (i : ℕ) → is_fresh words.now more.now mask.now i ≡ false }
+    ensures some { result ≡ true → AnyFresh words.now more.now mask.now }
+{
+    let end = least(words.len(), more.len(), mask.len());
+    if fresh_below(words, more, mask, end) != 0 {
+        return true;
+    }
+    end == words.len() && fresh_behind(words, more, mask, end) != 0
 }
 
 /// So many words, with the bits that `words` lacks.

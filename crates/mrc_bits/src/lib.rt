@@ -3,4 +3,6 @@
 
 mod bits;
 
-pub use bits::{clear_bit, complement, has_bit, join_bits, next_bit, next_fresh, set_bit};
+pub use bits::{
+    clear_bit, complement, has_bit, has_fresh, join_bits, next_bit, next_fresh, set_bit,
+};

@@ -150,28 +150,53 @@ one_row false false here word there same shown = refl
 -- and those of them that another row lacks
 pub one_unknown_row : (within of here word lacked there known : Bool) → (within ≡ true → of ≡ here)
     → (of ≡ true → word ≡ (within && there))
-    → (of ≡ true → within ≡ true → lacked ≡ not known)
+    → (of ≡ true → within ≡ true → word ≡ true → lacked ≡ not known)
     → (of && (word && lacked)) ≡ ((within && here) && (there && not known))
-one_unknown_row true true here word lacked there known same shown lack =
-    ap (λ b. b && lacked) (shown refl)
-    ∙ (ap (λ b. there && b) (lack refl refl)
+one_unknown_row true true here true lacked there known same shown lack =
+    lack refl refl refl
+    ∙ (ap (λ b. b && not known) (shown refl)
     ∙ ap (λ b. b && (there && not known)) (same refl))
+one_unknown_row true true here false lacked there known same shown lack =
+    ap (λ b. b && not known) (shown refl)
+    ∙ ap (λ b. b && (there && not known)) (same refl)
 one_unknown_row true false here word lacked there known same shown lack =
     ap (λ b. b && (there && not known)) (same refl)
 one_unknown_row false true here word lacked there known same shown lack =
     ap (λ b. b && lacked) (shown refl)
 one_unknown_row false false here word lacked there known same shown lack = refl
 
--- no word of the row is there, so nothing is put
-pub empty_unknown_row : (within of here word there known old : Bool) → (within ≡ true → of ≡ here)
-    → (of ≡ true → word ≡ (within && there)) → word ≡ false
+-- no bit of the row is fresh, so nothing is joined
+pub nothing_joined : (had of both within set : Bool) → (of ≡ true → set ≡ (within && had))
+    → (both && not set) ≡ false
+    → had ≡ (had || (of && both))
+nothing_joined true of both within set shown none = refl
+nothing_joined false false both within set shown none = refl
+nothing_joined false true false within set shown none = refl
+nothing_joined false true true within set shown none =
+    absurd (true≢false (sym (fresh set (shown refl ∙ and_false within)) ∙ none))
+  where
+    fresh : (set : Bool) → set ≡ false → (true && not set) ≡ true
+    fresh set e = rw e refl
+
+    and_false : (b : Bool) → (b && false) ≡ false
+    and_false true = refl
+    and_false false = refl
+
+-- no bit of the row is fresh, so nothing is put
+pub known_row : (within of here word had there known old : Bool) → (within ≡ true → of ≡ here)
+    → (of ≡ true → word ≡ (within && there)) → (of ≡ true → had ≡ (within && known))
+    → ((word && word) && not had) ≡ false
     → old ≡ (old || ((within && here) && (there && not known)))
-empty_unknown_row within of here word there known true same shown none = refl
-empty_unknown_row false of here word there known false same shown none = refl
-empty_unknown_row true of false word there known false same shown none = refl
-empty_unknown_row true of true word false known false same shown none = refl
-empty_unknown_row true of true word true known false same shown none =
-    absurd (true≢false (sym (shown (same refl)) ∙ none))
+known_row within of here word had there known true same shown knew none = refl
+known_row false of here word had there known false same shown knew none = refl
+known_row true of false word had there known false same shown knew none = refl
+known_row true of true word had false known false same shown knew none = refl
+known_row true of true word had true true false same shown knew none = refl
+known_row true of true word had true false false same shown knew none =
+    absurd (true≢false (sym (fresh word had (shown (same refl)) (knew (same refl))) ∙ none))
+  where
+    fresh : (word had : Bool) → word ≡ true → had ≡ false → ((word && word) && not had) ≡ true
+    fresh word had w h = rw (w, h) refl
 
 -- the rows before one that are joined
 

@@ -18,7 +18,7 @@ use Rattle.mrc_bits.specs.Bits.{is_set, is_fresh, fresh_count}
 use Rattle.mrc_bits.proofs.Counts.{fresh_none, fresh_yes, fresh_no}
 use Rattle.mrc_rows.specs.Rows.{is_within, IsWithin, row_of, place_of, words_of, width_of, Shows}
 use Rattle.mrc_rows.specs.Joining.{right_at, is_in_row, is_in_both, JoinedBits, ShowJoined}
-use Rattle.mrc_rows.specs.Joining.{is_of, IsNumber}
+use Rattle.mrc_rows.specs.Joining.{is_of, IsNumber, HasRoom}
 use Rattle.mrc_rows.specs.Halves.{IsWhole, Whole}
 use Rattle.mrc_rows.specs.declared.joining.Row.{Row as Rows}
 use Rattle.mrc_rows.proofs.Rows.{words_set, words_other}
@@ -103,11 +103,11 @@ joined_bits rows k row more mask below as_long put = record {
         (sym (or_false (is_set (words_of rows j) i)))
   ];
   sized = λ s j. elim (cases_eq j k) [
-    | inl e ↦ subst (λ n. IsTrue (n == 0 || n == width_of j))
+    | inl e ↦ subst (λ n. n ≤ width_of j)
         (sym (ap (λ n. length (words_of (slice_set rows k row) n)) e
         ∙ (ap length (words_set rows k row below)
         ∙ (as_long ∙ ap (λ n. length (words_of rows n)) (sym e))))) (s j)
-    | inr other ↦ subst (λ ws. IsTrue (length ws == 0 || length ws == width_of j))
+    | inr other ↦ subst (λ ws. length ws ≤ width_of j)
         (sym (words_other rows k j row other)) (s j)
   ];
   few_rows = λ h. let e = length-set rows k row in omega arith;
@@ -269,12 +269,14 @@ module _ (row : ℕ) (more mask : List ℕ) (facts : List Fact) (rows : List Row
       ])
 
   -- all of the row
-  pub all_joined : (after_it : List Row) → length (words_of rows row) ≡ width_of row
+  pub all_joined : (after_it : List Row)
+      → HasRoom row more mask (length (words_of rows row))
       → JoinedBits rows after_it row more mask
       → ShowJoined row more mask facts after_it (count
       + fresh_count (words_of rows row) more mask 0 (64 * length (words_of rows row)))
-  all_joined after_it made put =
-      let end : 64 * length (words_of rows row) ≤ 64 * width_of row = omega arith in
+  all_joined after_it room put =
+      let sized = shows.sized row in
+      let end : 64 * length (words_of rows row) ≤ 64 * width_of row = omega (arith, sized) in
       let all = joined_before (64 * length (words_of rows row)) end in
       record {
         joined = all.joined;
@@ -307,19 +309,20 @@ module _ (row : ℕ) (more mask : List ℕ) (facts : List Fact) (rows : List Row
       shown true false false both low = refl
       shown false old here both low = refl
 
-      whole : (had in_row both low : Bool) → (in_row ≡ true → low ≡ true)
+      whole : (had in_row both low : Bool) → (in_row ≡ true → both ≡ true → low ≡ true)
           → (had || (in_row && (both && low))) ≡ (had || (in_row && both))
       whole true in_row both low is = refl
-      whole false true true low is = is refl
+      whole false true true low is = is refl refl
       whole false true false low is = refl
       whole false false both low is = refl
 
-      below : (g : Fact) → is_in_row row g ≡ true → low g ≡ true
-      below g in_row =
+      below : (g : Fact) → is_in_row row g ≡ true
+          → is_in_both more mask (place_of g) ≡ true → low g ≡ true
+      below g in_row both =
           let parts = and_parts (is_within g) (row_of g == row) in_row in
           let p = (placed g parts.0).place in
           lt-ltb (place_of g) (64 * length (words_of rows row))
-          (subst (λ n. place_of g < 64 * n) (sym made)
+          (room (place_of g) both
           (subst (λ k. place_of g < 64 * width_of k) (eqb-true (row_of g) row parts.1) p))
 
 -- both halves of a set whose rows have changed

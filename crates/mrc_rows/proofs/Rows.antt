@@ -1,16 +1,16 @@
 -- Rows, and the facts that they show.
 use Rattle.std.proofs.Common.{◌≡◌, ℕ, ◌+◌, ◌-◌, ◌*◌, ◌/◌, ◌%◌, ◌^◌, ◌<◌, ◌≤◌, Bool, true, false, List, [], ◌∷◌, ◌++◌, length, replicate, take, drop, slice_index, slice_index_or, slice_set, Option, Some, None, refl, ap, sym, subst, ◌∙◌, inl, inr, ◌⊎◌, arith, lit<, ◌==◌, Vec, IsTrue}
-use Rattle.std.proofs.Math.Seq.{take-append_seam}
+use Rattle.std.proofs.Math.Seq.{take-append_seam, get_or-append_right}
 use Rattle.std.specs.Prelude.{◌||◌, ◌&&◌, slice_get, unwrap_or, option_map, nat_lt, not, IfSome, IfNone}
 use Rattle.std.specs.declared.alloc.Global.{Global}
 use Rattle.std.specs.declared.cmp.Ordering.{Ordering}
 use Rattle.std.specs.Ordering.{nat_cmp, ordering_then, ordering_reverse, match_ordering, is_lt, is_eq}
 use Rattle.std.specs.declared.cmp.Ordering.TheVariants.{Less, Equal, Greater}
 use Rattle.std.specs.Int.{bit_at}
-use Rattle.std.proofs.lemmas.Bool.{cases_eq, cases_order, cases_lt, cases_Bool, eq-eqb, ne_eqb, eqb-true, or_cases, or_left, or_right, or_parts, and_parts, and_from, ltb-true, lt-ltb, le-ltb, true≢false, false_from_ne_true}
+use Rattle.std.proofs.lemmas.Bool.{cases_eq, cases_order, cases_lt, cases_Bool, eq-eqb, ne_eqb, eqb-true, or_left, or_right, or_parts, and_parts, and_from, ltb-true, lt-ltb, le-ltb, true≢false, false_from_ne_true}
 use Rattle.std.proofs.lemmas.Option.{slice_get-get_or, slice_get_past}
 use Rattle.std.proofs.lemmas.Nat.Bits.{bit_at-zero}
-use Rattle.std.proofs.lemmas.List.{get_or-set_same, get_or-set_other, length-set, get_or_past, get_or-replicate, length-replicate, get_or_append_left, get_or_push, length_push}
+use Rattle.std.proofs.lemmas.List.{get_or-set_same, get_or-set_other, length-set, get_or_past, get_or-replicate, length-replicate, get_or_append_left, get_or_push, length_push, length-append}
 use Rattle.mrc_base.specs.declared.Fact.{Fact}
 use Rattle.mrc_base.specs.declared.Fact.TheVariants.{Hold, Carry, Backup}
 use Rattle.mrc_base.specs.declared.PortRight.{PortRight}
@@ -23,7 +23,7 @@ use Rattle.mrc_facts.specs.Laws.{IsLeast, IsNext}
 use Rattle.mrc_facts.proofs.Comparing.{cmp_less, three_less}
 use Rattle.mrc_facts.proofs.Removing.{has-without, ascending-without, length-without}
 use Rattle.mrc_bits.specs.Bits.{is_set}
-use Rattle.mrc_rows.specs.Rows.{IsFrom, IsNextPlace, NoPlace, IsFirstFrom, NoneFrom, is_within, IsWithin, row_of, place_of, words_of, is_shown, width_of, AreSized, SameBits, OneMoreBit, OneLessBit, start_row, start_place, Shows, Shown}
+use Rattle.mrc_rows.specs.Rows.{IsFrom, IsNextPlace, NoPlace, IsFirstFrom, NoneFrom, is_within, IsWithin, row_of, place_of, words_of, is_shown, width_of, SameBits, OneMoreBit, OneLessBit, start_row, start_place, Shows, Shown}
 
 abbrev Row : Type 0
 Row = Vec ℕ Global
@@ -67,7 +67,7 @@ same_bits rows = record { same = λ k i. refl; sized = λ s. s; few_rows = λ h.
 pub same_pushed : (before rows : List Row) (row : Row) → SameBits before rows → row.items ≡ [] → length rows < 2752 → SameBits before (rows ++ row ∷ [])
 same_pushed before rows row same empty few = record {
   same = λ k i. ap (λ ws. is_set ws i) (words_push rows row empty k) ∙ same.same k i;
-  sized = λ s k. subst (λ ws. IsTrue (length ws == 0 || length ws == width_of k)) (sym (words_push rows row empty k)) (same.sized s k);
+  sized = λ s k. subst (λ ws. length ws ≤ width_of k) (sym (words_push rows row empty k)) (same.sized s k);
   few_rows = λ h. let e = length_push rows row in omega arith;
 }
 
@@ -84,33 +84,58 @@ pub no_bit_in : (ws : List ℕ) (i : ℕ) → length ws ≡ 0 → is_set ws i �
 no_bit_in [] i e = ap (λ b. b == 1) (bit_at-zero (i % 64))
 no_bit_in (w ∷ ws) i e = absurd (omega arith)
 
-pub same_made : (before rows : List Row) (k : ℕ) (row : Row) → SameBits before rows → k < length rows → length (words_of rows k) ≡ 0 → row.items ≡ replicate (width_of k) 0 → SameBits before (slice_set rows k row)
-same_made before rows k row same below empty zeros = record {
+-- zeros behind the words have no bits
+pub no_more_bits : (words : List ℕ) (n i : ℕ) → is_set (words ++ replicate n 0) i ≡ is_set words i
+no_more_bits words n i = elim (cases_lt (i / 64) (length words)) [
+  | inl below ↦ ap (λ w. bit_at w (i % 64) == 1)
+      (get_or_append_left words (replicate n 0) 0 (i / 64) below)
+  | inr behind ↦
+      ap (λ w. bit_at w (i % 64) == 1)
+      (get_or-append_right words (replicate n 0) (i / 64) 0 behind
+      ∙ zero_in (i / 64 - length words))
+      ∙ sym (ap (λ w. bit_at w (i % 64) == 1) (get_or_past words (i / 64) 0 behind))
+]
+  where
+    zero_in : (k : ℕ) → slice_index (replicate n 0) k ≡ 0
+    zero_in k = elim (cases_lt k n) [
+      | inl below ↦ get_or-replicate n k 0 0 below
+      | inr past ↦ get_or_past (replicate n 0) k 0
+          (subst (λ m. m ≤ k) (sym (length-replicate n 0)) past)
+    ]
+
+-- a row is made longer, to so many words
+pub lengthened_to : (rows : List Row) (k count : ℕ) (row : Row) → k < length rows
+    → length (words_of rows k) ≤ count
+    → row.items ≡ words_of rows k ++ replicate (count - length (words_of rows k)) 0
+    → length (words_of (slice_set rows k row) k) ≡ count
+lengthened_to rows k count row below shorter is =
+    let e = ap length (words_set rows k row below ∙ is) in
+    let l = length-append (words_of rows k) (replicate (count - length (words_of rows k)) 0) in
+    let z = length-replicate {A = ℕ} (count - length (words_of rows k)) 0 in
+    omega (arith, e, l, z, shorter)
+
+-- and shows the same
+pub same_lengthened : (before rows : List Row) (k count : ℕ) (row : Row) → SameBits before rows
+    → k < length rows → length (words_of rows k) ≤ count → count ≤ width_of k
+    → row.items ≡ words_of rows k ++ replicate (count - length (words_of rows k)) 0
+    → SameBits before (slice_set rows k row)
+same_lengthened before rows k count row same below shorter within is = record {
   same = λ j i. same_at j i ∙ same.same j i;
   sized = λ s j. elim (cases_eq j k) [
-    | inl e ↦ or_right (length (words_of (slice_set rows k row) j) == 0) _ (eq-eqb _ _ (subst (λ n. length (words_of (slice_set rows k row) n) ≡ width_of n) (sym e) (made_len before rows k row below zeros)))
-    | inr other ↦ subst (λ ws. IsTrue (length ws == 0 || length ws == width_of j)) (sym (words_other rows k j row other)) (same.sized s j)
+    | inl e ↦ subst (λ n. length (words_of (slice_set rows k row) n) ≤ width_of n) (sym e)
+        (let l = lengthened_to rows k count row below shorter is in omega (arith, l, within))
+    | inr other ↦ subst (λ ws. length ws ≤ width_of j) (sym (words_other rows k j row other))
+        (same.sized s j)
   ];
   few_rows = λ h. let e = length-set rows k row in let f = same.few_rows h in omega arith;
 }
   where
-    made_len : (before rows : List Row) (k : ℕ) (row : Row) → k < length rows → row.items ≡ replicate (width_of k) 0 → length (words_of (slice_set rows k row) k) ≡ width_of k
-    made_len before rows k row below zeros = ap length (words_set rows k row below ∙ zeros) ∙ length-replicate (width_of k) 0
-
     same_at : (j i : ℕ) → is_set (words_of (slice_set rows k row) j) i ≡ is_set (words_of rows j) i
     same_at j i = elim (cases_eq j k) [
-      | inl e ↦ subst (λ n. is_set (words_of (slice_set rows k row) n) i ≡ is_set (words_of rows n) i) (sym e) (ap (λ ws. is_set ws i) (words_set rows k row below ∙ zeros) ∙ (no_bit (width_of k) i ∙ sym (no_bit_in (words_of rows k) i empty)))
+      | inl e ↦ subst (λ n. is_set (words_of (slice_set rows k row) n) i ≡ is_set (words_of rows n) i)
+          (sym e) (ap (λ ws. is_set ws i) (words_set rows k row below ∙ is)
+          ∙ no_more_bits (words_of rows k) (count - length (words_of rows k)) i)
       | inr other ↦ ap (λ ws. is_set ws i) (words_other rows k j row other)
-    ]
-
-pub made : (rows : List Row) (k : ℕ) (row : Row) → k < length rows → row.items ≡ replicate (width_of k) 0 → length (words_of (slice_set rows k row) k) ≡ width_of k
-made rows k row below zeros = ap length (words_set rows k row below ∙ zeros) ∙ length-replicate (width_of k) 0
-
-pub made_before : (rows : List Row) (k : ℕ) → AreSized rows → (length (words_of rows k) ≡ 0 → ⊥) → length (words_of rows k) ≡ width_of k
-made_before rows k sized some =
-    elim (or_cases (length (words_of rows k) == 0) (length (words_of rows k) == width_of k) (sized k)) [
-      | inl zero ↦ absurd (some (eqb-true (length (words_of rows k)) 0 zero))
-      | inr full ↦ eqb-true (length (words_of rows k)) (width_of k) full
     ]
 
 -- one more bit
@@ -121,8 +146,11 @@ one_more_bit rows k place row below as_long put = record {
     | inr other ↦ rw (ne_eqb j k other, words_other rows k j row other) refl
   ];
   sized = λ s j. elim (cases_eq j k) [
-    | inl e ↦ subst (λ n. IsTrue (n == 0 || n == width_of j)) (sym (ap (λ n. length (words_of (slice_set rows k row) n)) e ∙ (ap length (words_set rows k row below) ∙ (as_long ∙ ap (λ n. length (words_of rows n)) (sym e))))) (s j)
-    | inr other ↦ subst (λ ws. IsTrue (length ws == 0 || length ws == width_of j)) (sym (words_other rows k j row other)) (s j)
+    | inl e ↦ subst (λ n. n ≤ width_of j)
+        (sym (ap (λ n. length (words_of (slice_set rows k row) n)) e
+        ∙ (ap length (words_set rows k row below)
+        ∙ (as_long ∙ ap (λ n. length (words_of rows n)) (sym e))))) (s j)
+    | inr other ↦ subst (λ ws. length ws ≤ width_of j) (sym (words_other rows k j row other)) (s j)
   ];
   few_rows = λ h. let e = length-set rows k row in omega arith;
 }
@@ -135,8 +163,11 @@ one_less_bit rows k place row below as_long put = record {
     | inr other ↦ rw (ne_eqb j k other, words_other rows k j row other) refl
   ];
   sized = λ s j. elim (cases_eq j k) [
-    | inl e ↦ subst (λ n. IsTrue (n == 0 || n == width_of j)) (sym (ap (λ n. length (words_of (slice_set rows k row) n)) e ∙ (ap length (words_set rows k row below) ∙ (as_long ∙ ap (λ n. length (words_of rows n)) (sym e))))) (s j)
-    | inr other ↦ subst (λ ws. IsTrue (length ws == 0 || length ws == width_of j)) (sym (words_other rows k j row other)) (s j)
+    | inl e ↦ subst (λ n. n ≤ width_of j)
+        (sym (ap (λ n. length (words_of (slice_set rows k row) n)) e
+        ∙ (ap length (words_set rows k row below)
+        ∙ (as_long ∙ ap (λ n. length (words_of rows n)) (sym e))))) (s j)
+    | inr other ↦ subst (λ ws. length ws ≤ width_of j) (sym (words_other rows k j row other)) (s j)
   ];
   few_rows = λ h. let e = length-set rows k row in omega arith;
 }
@@ -600,7 +631,7 @@ shows_none rows e = subst (λ xs. Shows xs 0 []) (sym e) (record {
   ascending = refl;
   len = refl;
   few_rows = omega arith;
-  sized = λ k. refl;
+  sized = λ k. omega arith;
 })
   where
     nothing_shown : (a b : Bool) → b ≡ false → (a && b) ≡ false

@@ -38,6 +38,11 @@ is_of (Backups c) (Backup e d) = e == c
 abbrev pub is_in_both : List ℕ → List ℕ → ℕ → Bool
 is_in_both more mask place = is_set more place && is_set mask place
 
+-- the words are so many that the row has a place for each bit that both have and that it may have
+abbrev pub HasRoom : ℕ → List ℕ → List ℕ → ℕ → Type 0
+HasRoom row more mask count =
+    (i : ℕ) → is_in_both more mask i ≡ true → i < 64 * width_of row → i < 64 * count
+
 -- the fact has a place in the row of this number
 abbrev pub is_in_row : ℕ → Fact → Bool
 is_in_row number g = is_within g && row_of g == number

@@ -36,14 +36,13 @@ words_of rows k = unwrap_or (option_map (λ (row : Vec ℕ Global). row.items) (
 abbrev pub is_shown : List (Vec ℕ Global) → Fact → Bool
 is_shown rows f = is_within f && is_set (words_of rows (row_of f)) (place_of f)
 
--- how many words a row has once it is made
+-- how many words a row has at most
 abbrev pub width_of : ℕ → ℕ
 width_of k = if nat_lt k 1408 then 63 else 21
 
--- each row is empty or has its words
+-- no row has more words than it may have
 abbrev pub AreSized : List (Vec ℕ Global) → Type 0
-AreSized rows = (k : ℕ)
-    → IsTrue (length (words_of rows k) == 0 || length (words_of rows k) == width_of k)
+AreSized rows = (k : ℕ) → length (words_of rows k) ≤ width_of k
 
 -- the rows have the same bits
 pub record SameBits (before after : List (Vec ℕ Global)) : Type 0 where

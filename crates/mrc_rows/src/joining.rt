@@ -12,7 +12,7 @@ ghost use Rattle.mrc_rows.specs.Joining.{IsNumber, HasNoNumber, IsNextNew, NoneN
 use crate::facts::Facts;
 use crate::row_facts::{number, right_of, width_of};
 use mrc_base::{ClassId, Fact, PortRight};
-use mrc_bits::{complement, next_fresh};
+use mrc_bits::{complement, has_fresh, next_fresh};
 use std::alloc::AllocError;
 
 /// A row of facts. Rows of holds and of carries have the same places, those of rights on classes.
@@ -152,6 +152,9 @@ impl Facts {
         // Facts of other rows are as before, also where memory runs out.
         ensures others { (g : Fact) → is_of row g ≡ false → has self.new g ≡ has self.old g }
     {
+        if !has_fresh(self.words(row), more, mask) {
+            return Ok(());
+        }
         let mut at = self.join_kept(row, more, mask)?;
         while let Some(place) = self.next_new(row, more, mask, at) {
             self.put_at(row, place)?;
@@ -196,10 +199,11 @@ impl Facts {
     {
         let row = row_at(number);
         let words = all.words(row);
-        if words.is_empty() {
+        let had = known.words(row);
+        if !has_fresh(had, words, words) {
             return Ok(());
         }
-        let unknown = complement(self.alloc, known.words(row), 63)?;
+        let unknown = complement(self.alloc, had, words.len())?;
         self.join(row, words, unknown.as_slice())?;
         Ok(())
     }

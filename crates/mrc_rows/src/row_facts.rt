@@ -1,5 +1,6 @@
 //! Sets of facts as rows of bits.
-ghost use Rattle.std.specs.Prelude.{◌≡◌, ◌+◌, ◌*◌, ◌==◌, ◌||◌, ◌&&◌, replicate, ◌<◌, ◌≤◌, ◌↔◌, []};
+ghost use Rattle.std.specs.Prelude.{◌≡◌, ◌+◌, ◌-◌, ◌*◌, ◌==◌, ◌||◌, ◌&&◌, ◌++◌, ◌<◌, ◌≤◌, ◌↔◌, []};
+ghost use Rattle.std.specs.Prelude.{replicate};
 ghost use Rattle.std.specs.Prelude.{List, length, not, OnOk, OnErr, IfOk, IfSome, IfNone, IsTrue};
 ghost use Rattle.std.specs.Prelude.{if◌then◌else◌, ◌^◌};
 ghost use Rattle.mrc_base.specs.declared.Fact.{Fact};
@@ -10,16 +11,17 @@ ghost use Rattle.mrc_rows.specs.Rows.{words_of};
 ghost use Rattle.mrc_rows.specs.Rows.{width_of, AreSized, SameBits, OneMoreBit, OneLessBit};
 ghost use Rattle.mrc_rows.specs.Rows.{IsNextPlace, NoPlace, IsFirstFrom, NoneFrom, start_row};
 ghost use Rattle.mrc_rows.specs.Rows.{start_place};
-ghost use Rattle.mrc_rows.specs.Joining.{is_in_both, is_in_row, JoinedBits, ShowJoined};
+ghost use Rattle.mrc_rows.specs.Joining.{is_in_both, is_in_row, HasRoom, JoinedBits, ShowJoined};
 ghost use Rattle.mrc_rows.specs.ShownProp.{shown_prop};
 ghost use Rattle.mrc_bits.specs.Bits.{is_set, fresh_count};
 
 use mrc_base::{ClassId, Fact, PortRight};
-use mrc_bits::{clear_bit, has_bit, join_bits, next_bit, next_fresh, set_bit};
+use mrc_bits::{clear_bit, has_bit, join_bits, next_bit, set_bit};
 use std::alloc::{AllocError, Global};
 use std::marker::Model;
 
-/// A set of facts. Each row is empty, or has its words: 63, or 21 where it is of backups.
+/// A set of facts. Each row has the words that it needed so far: at most 63, or 21 where it is of
+/// backups.
 #[derive(Debug, Drop)]
 pub(crate) struct RowFacts {
     rows: Vec<Vec<u64>>,
@@ -89,34 +91,59 @@ fn place_of(fact: &Fact) -> usize
     }
 }
 
-/// How many words a row has.
+/// How many words a row has at most.
 pub(crate) fn width_of(row: usize) -> usize
-    ensures { result ≡ width_of row }
+    ensures value { result ≡ width_of row }
+    ensures few { result ≤ 63 }
 {
     if row < 1408 { 63 } else { 21 }
 }
 
-/// A row of zeros.
-fn zeros(alloc: Global, len: usize) -> Result<Vec<u64>, AllocError>
-    ensures { IfOk result (λ row. row.items ≡ replicate len 0) }
+/// The words, and so many zeros behind them that there are `count` words.
+fn lengthened(alloc: Global, words: &[u64], count: usize) -> Result<Vec<u64>, AllocError>
+    requires { length words.now ≤ count }
+    ensures { IfOk result (λ row. row.items ≡ words.now ++ replicate (count - length words.now) 0) }
 {
-    vec![in alloc; 0u64; len]
+    let mut row = Vec::with_capacity(alloc, count)?;
+    row.extend_from_slice(words)?;
+    row.resize(count, 0)?;
+    Ok(row)
 }
 
-/// Makes the row, unless it is there.
-fn make_row(alloc: Global, rows: &mut Vec<Vec<u64>>, row: usize) -> Result<(), AllocError>
-    requires { row < 2752 }
+/// Gives the row so many words at least.
+fn make_row(
+    alloc: Global,
+    rows: &mut Vec<Vec<u64>>,
+    row: usize,
+    count: usize,
+) -> Result<(), AllocError>
+    requires row { row < 2752 }
+    requires count { count ≤ width_of row }
     ensures same { SameBits rows.old.items rows.new.items }
-    ensures made { OnOk result (AreSized rows.old.items
-        → length (words_of rows.new.items row) ≡ width_of row) }
+    ensures made { OnOk result (count ≤ length (words_of rows.new.items row)) }
+    ensures there { OnOk result (row < length rows.new.items) }
 {
     while rows.len() <= row {
         rows.push(Vec::new(alloc))?;
     }
-    if rows[row].is_empty() {
-        rows[row] = zeros(alloc, width_of(row))?;
+    if rows[row].len() < count {
+        rows[row] = lengthened(alloc, rows[row].as_slice(), count)?;
     }
     Ok(())
+}
+
+/// How many words of a row can have bits that both have.
+fn room_for(row: usize, more: &[u64], mask: &[u64]) -> usize
+    ensures within { result ≤ width_of row }
+    ensures room { HasRoom row more.now mask.now result }
+{
+    let both = if more.len() < mask.len() {
+        more.len()
+    } else {
+        mask.len()
+    };
+    let width = width_of(row);
+    if both < width { both } else { width }
 }
 
 /// Sets a bit of a row that is made.
@@ -147,11 +174,12 @@ fn join_in_row(rows: &mut Vec<Vec<u64>>, row: usize, more: &[u64], mask: &[u64])
     join_bits(rows[row].as_mut_slice(), more, mask)
 }
 
-/// Sets each bit of a row that is made where both `more` and `mask` have it. Answers how many facts
-/// the rows show then, of those that they showed before.
+/// Sets each bit of a row that is long enough where both `more` and `mask` have it. Answers how many
+/// facts the rows show then, of those that they showed before.
 fn set_both(rows: &mut Vec<Vec<u64>>, shown: usize, row: usize, more: &[u64], mask: &[u64]) -> usize
     requires row { row < 2752 }
-    requires made { length (words_of rows.old.items row) ≡ width_of row }
+    requires there { row < length rows.old.items }
+    requires room { HasRoom row more.now mask.now (length (words_of rows.old.items row)) }
     requires shown { Shown rows.old.items shown }
     ensures { (facts : List Fact) → Shows rows.old.items shown facts
         → ShowJoined row more.now mask.now facts rows.new.items result }
@@ -273,8 +301,9 @@ impl RowFacts {
             return Ok(false);
         }
         let row = row_of(&fact);
-        make_row(self.alloc, &mut self.rows, row)?;
-        set_in_row(&mut self.rows, row, place_of(&fact));
+        let place = place_of(&fact);
+        make_row(self.alloc, &mut self.rows, row, place / 64 + 1)?;
+        set_in_row(&mut self.rows, row, place);
         self.count += 1;
         Ok(true)
     }
@@ -288,11 +317,7 @@ impl RowFacts {
         ensures err { OnErr result (self.new ≡ self.old) }
         ensures ascending { IsAscending self.new }
     {
-        let words = self.words(row);
-        if words.is_empty() && next_fresh(words, more, mask, 0).is_none() {
-            return Ok(());
-        }
-        make_row(self.alloc, &mut self.rows, row)?;
+        make_row(self.alloc, &mut self.rows, row, room_for(row, more, mask))?;
         self.count = set_both(&mut self.rows, self.count, row, more, mask);
         Ok(())
     }

@@ -14,7 +14,7 @@ joined c facts shows =
     subst (λ n. ShowJoined c.args.row c.args.more.now c.args.mask.now facts
     c.join_in_row.new.rows.items (c.args.shown + n)) (sym c.join_in_row.ensures.fresh)
     (all_joined c.args.row c.args.more.now c.args.mask.now facts c.args.rows.now.items c.args.shown
-    c.requires.row shows c.join_in_row.new.rows.items c.requires.made c.join_in_row.ensures.joined)
+    c.requires.row shows c.join_in_row.new.rows.items c.requires.room c.join_in_row.ensures.joined)
 
 pub overflow_add-result : goal.overflow_add-result
 overflow_add-result c =

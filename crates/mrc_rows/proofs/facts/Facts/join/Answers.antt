@@ -2,8 +2,17 @@ use Rattle.std.proofs.Common.{ap, ◌∙◌}
 use Rattle.mrc_facts.specs.Sets.{has}
 use Rattle.mrc_rows.specs.Rows.{place_of}
 use Rattle.mrc_rows.specs.Joining.{is_of, is_in_both}
-use Rattle.mrc_rows.proofs.Joins.{joined_more}
+use Rattle.mrc_bits.specs.Bits.{is_set}
+use Rattle.mrc_rows.specs.Rows.{is_within}
+use Rattle.mrc_rows.proofs.Joins.{joined_more, nothing_joined}
 use Rattle.mrc_rows.proofs.facts.Facts.join.Goals as goal
+
+pub returns-then-not-has_fresh-clause-ok : goal.returns-then-not-has_fresh-clause-ok
+returns-then-not-has_fresh-clause-ok c = λ g.
+    nothing_joined (has c.args.self.now g) (is_of c.args.row g)
+    (is_in_both c.args.more.now c.args.mask.now (place_of g)) (is_within g)
+    (is_set c.words.result.now (place_of g)) (c.words.ensures.shown g)
+    (c.has_fresh.ensures.none c.if-not-has_fresh.true (place_of g))
 
 pub loop-place-preserved : goal.loop-place-preserved
 loop-place-preserved c =

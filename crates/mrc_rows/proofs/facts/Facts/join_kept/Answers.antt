@@ -19,4 +19,4 @@ returns-in_ok-join-in-Some-clause-ok c =
     let old = whole_as was.rows was.others was.whole c.args.self.now c.self.view_is in
     kept_joined was.rows was.others c.args.self.now old c.in-Some.number c.args.more.now
     c.args.mask.now c.join.new.self c.args.row c.in-Some.ensures.some (64 * c.width_of.result)
-    (ap (λ n. 64 * n) c.width_of.ensures) c.self-1.given.0 c.in_ok-join-in-Some.ensures.ok
+    (ap (λ n. 64 * n) c.width_of.ensures.value) c.self-1.given.0 c.in_ok-join-in-Some.ensures.ok

@@ -23,7 +23,7 @@ shows_new : (c : goal.After-set_in_row) → Shows c.set_in_row.new.rows.items (c
 shows_new c =
     let old = shown_as c.self.inside.rows.items c.self.inside.count c.self.inside.shown c.args.self.now c.self.view_is in
     let same = shows_same c.self.inside.rows.items c.make_row.new.rows.items c.self.inside.count c.args.self.now c.make_row.ensures.same old in
-    let more = at_places c.make_row.new.rows.items c.set_in_row.new.rows.items c.args.fact c.row_of-row.result c.place_of.result c.row_of-row.ensures.value c.place_of.ensures.value c.set_in_row.ensures in
+    let more = at_places c.make_row.new.rows.items c.set_in_row.new.rows.items c.args.fact c.row_of-row.result c.place_of-place.result c.row_of-row.ensures.value c.place_of-place.ensures.value c.set_in_row.ensures in
     shows_more c.make_row.new.rows.items c.set_in_row.new.rows.items c.self.inside.count c.args.self.now c.args.fact c.requires (sym c.has.ensures ∙ c.if-has.false) more same
 
 pub invariant_of-self-inside-2 : goal.invariant_of-self-inside-2
@@ -33,7 +33,7 @@ shows_new_again : (c : goal.After-self-2-1) → Shows c.set_in_row.new.rows.item
 shows_new_again c =
     let old = shown_as c.self.inside.rows.items c.self.inside.count c.self.inside.shown c.args.self.now c.self.view_is in
     let same = shows_same c.self.inside.rows.items c.make_row.new.rows.items c.self.inside.count c.args.self.now c.make_row.ensures.same old in
-    let more = at_places c.make_row.new.rows.items c.set_in_row.new.rows.items c.args.fact c.row_of-row.result c.place_of.result c.row_of-row.ensures.value c.place_of.ensures.value c.set_in_row.ensures in
+    let more = at_places c.make_row.new.rows.items c.set_in_row.new.rows.items c.args.fact c.row_of-row.result c.place_of-place.result c.row_of-row.ensures.value c.place_of-place.ensures.value c.set_in_row.ensures in
     shows_more c.make_row.new.rows.items c.set_in_row.new.rows.items c.self.inside.count c.args.self.now c.args.fact c.requires (sym c.has.ensures ∙ c.if-has.false) more same
 
 pub returns-clause-ok : goal.returns-clause-ok
