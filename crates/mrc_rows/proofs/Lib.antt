@@ -2,3 +2,4 @@ pub mod Rows
 pub mod Wholes
 pub mod Kept
 pub mod Joins
+pub mod Behind

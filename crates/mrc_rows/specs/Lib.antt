@@ -3,3 +3,4 @@ pub mod ShownProp
 pub mod Halves
 pub mod HalvesProp
 pub mod Joining
+pub mod Walking
