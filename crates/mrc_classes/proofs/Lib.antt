@@ -2,6 +2,7 @@ pub mod Adding
 pub mod Concluding
 pub mod Joined
 pub mod Spreads
+pub mod Holding
 pub mod Following
 pub mod Beginning
 pub mod Missed

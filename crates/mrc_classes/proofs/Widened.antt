@@ -22,6 +22,9 @@ set_within words i set = elim (cases_lt (i / 64) (length words)) [
       ∙ ap (λ n. n == 1) (bit_at-zero (i % 64)))))
 ]
 
+pub bit_within : (words : List ℕ) (at i : ℕ) → IsNextBit words at i → i < 64 * length words
+bit_within words at i next = set_within words i next.set
+
 pub place_within : (words : List ℕ) (at i : ℕ) → length words ≤ 63 → IsNextBit words at i → i < 4032
 place_within words at i few next = let h = set_within words i next.set in omega arith
 
@@ -31,9 +34,10 @@ WiderSoFar wider words row at =
     (p : ℕ) → is_set row p
     ≡ (has_source wider p && (is_set words (source wider p) && nat_lt (source wider p) at))
 
-pub none_wider : (wider : Wider) (words : List ℕ) → WiderSoFar wider words (replicate 63 0) 0
-none_wider wider words p =
-    no_bit 63 p
+pub none_wider : (wider : Wider) (words : List ℕ) (n : ℕ)
+    → WiderSoFar wider words (replicate n 0) 0
+none_wider wider words n p =
+    no_bit n p
     ∙ sym (ap (λ b. has_source wider p && (is_set words (source wider p) && b))
     (le-ltb (source wider p) 0 (omega arith))
     ∙ nothing (has_source wider p) (is_set words (source wider p)))

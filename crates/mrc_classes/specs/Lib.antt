@@ -2,6 +2,7 @@ pub mod Following
 pub mod Growing
 pub mod Parts
 pub mod Spreading
+pub mod Holding
 pub mod Widening
 pub mod Missing
 pub mod Lacks

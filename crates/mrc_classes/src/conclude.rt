@@ -1,23 +1,29 @@
 //! What follows from new facts, with those of a set.
 
-ghost use Rattle.std.specs.Prelude.{◌≡◌, ◌<◌, ◌⊎◌, ◌||◌, ℕ, true, false, nat_lt, OnOk, IfOk, IsTrue};
+ghost use Rattle.std.specs.Prelude.{◌≡◌, ◌<◌, ◌≤◌, ◌⊎◌, ◌&&◌, ◌||◌, ℕ, true, false, nat_lt, length};
+ghost use Rattle.std.specs.Prelude.{OnOk, IfOk, IsTrue};
 ghost use Rattle.mrc_base.specs.declared.Fact.{Fact};
 ghost use Rattle.mrc_model.specs.Wiring.{classes};
 ghost use Rattle.mrc_model.specs.Rules.{Has};
 ghost use Rattle.mrc_wiring.specs.Table.{wiring_of};
 ghost use Rattle.mrc_facts.specs.Order.{is_same};
 ghost use Rattle.mrc_facts.specs.Sets.{has};
+ghost use Rattle.mrc_rows.specs.Rows.{place_of};
+ghost use Rattle.mrc_rows.specs.Joining.{is_of, is_in_both};
 ghost use Rattle.mrc_classes.specs.Growing.{Added, Only, If, Below};
 ghost use Rattle.mrc_classes.specs.Following.{IsConsequence, IsListOf};
-ghost use Rattle.mrc_classes.specs.Parts.{can_send_to, EachRight, SentTo, Sent, RequestAt, ReceivedAt};
+ghost use Rattle.mrc_classes.specs.Holding.{AreHolds, HoldsNothing};
+ghost use Rattle.mrc_classes.specs.Parts.{EachRight, SentTo, Sent, RequestAt, ReceivedAt};
 ghost use Rattle.mrc_classes.specs.Parts.{NotifiedAt, Received, SharedAt, Shared, Weaker};
 ghost use Rattle.mrc_classes.specs.Parts.{ReturnedAt, ByHold, AtClass, OfTask, AtTask, AtPlace};
 
+use crate::held::{Held, can_send, holds_nothing};
 use crate::lacking::are_linked;
 use crate::premise_set::Premises;
 use crate::rights::{backup, carry, hold};
 use mrc_base::{Fact, PortRight};
-use mrc_rows::{Facts, Row};
+use mrc_bits::has_bit;
+use mrc_rows::{Facts, Row, right_place};
 use mrc_slots::Slots;
 use mrc_wiring::Wired;
 use std::alloc::{AllocError, Global};
@@ -30,6 +36,18 @@ pub(crate) fn put_if(test: bool, found: &mut Facts, fact: Fact) -> Result<(), Al
         let _new = found.insert(fact)?;
     }
     Ok(())
+}
+
+/// Puts the facts of the row into the set whose places both have: none where the mask has no words.
+fn join_row(found: &mut Facts, row: Row, more: &[u64], mask: &[u64]) -> Result<(), AllocError>
+    requires { length more.now ≤ 63 }
+    ensures { OnOk result ((g : Fact) → has found.new g
+        ≡ (has found.old g || (is_of row g && is_in_both more.now mask.now (place_of g)))) }
+{
+    if mask.is_empty() {
+        return Ok(());
+    }
+    found.join(row, more, mask)
 }
 
 /// What class `to` takes of what the task holds by one right: by slots, or as reply rights.
@@ -48,7 +66,12 @@ fn sent_to(
 {
     let _within = (slots.tasks(), slots.classes());
     let taken = slots.taken_by(to, held);
-    found.join(Row::Carries(to), taken, premises.classes_of(task, held))?;
+    join_row(
+        found,
+        Row::Carries(to),
+        taken,
+        premises.classes_of(task, held),
+    )?;
     Ok(())
 }
 
@@ -71,19 +94,10 @@ fn all_sent_to(
     Ok(())
 }
 
-/// Whether the task can send to class `to`, where rows have both.
-fn can_send(premises: &Premises, task: u16, to: u16) -> bool
-    requires task { task < 64 }
-    requires to { to < 1344 }
-    ensures { result ≡ can_send_to (has premises.now) task to }
-{
-    premises.holds(task, to, PortRight::Send) || premises.holds(task, to, PortRight::SendOnce)
-}
-
 /// What the task can send to class `to`, by a hold of the one set, of its holds of the other.
 fn sent(
     slots: &Slots,
-    one: &Premises,
+    one: &Held<'_>,
     other: &Premises,
     task: u16,
     to: u16,
@@ -91,11 +105,12 @@ fn sent(
 ) -> Result<(), AllocError>
     requires task { task < (wiring_of slots.now).tasks }
     requires to { to < classes (wiring_of slots.now) }
+    requires low { to < 1344 }
+    requires one { AreHolds (has one.now.premises.now) task one.now.words.now }
     ensures { OnOk result (Added (has found.old) (has found.new)
-        (Sent (wiring_of slots.now) (has one.now) (has other.now) task to)) }
+        (Sent (wiring_of slots.now) (has one.now.premises.now) (has other.now) task to)) }
 {
-    let _within = (slots.tasks(), slots.classes());
-    if can_send(one, task, to) {
+    if can_send(one.words, to) {
         all_sent_to(slots, other, task, to, found)?;
     }
     Ok(())
@@ -118,7 +133,7 @@ fn requested(
 {
     let _within = (slots.tasks(), slots.classes());
     let told = premises.once_classes(task);
-    found.join(Row::Backups(class), slots.notified(), told)?;
+    join_row(found, Row::Backups(class), slots.notified(), told)?;
     Ok(())
 }
 
@@ -136,7 +151,7 @@ fn receive(
 {
     let _within = slots.classes();
     let carried = premises.words(Row::Carries(class));
-    found.join(Row::Holds(task), slots.all(), carried)?;
+    join_row(found, Row::Holds(task), slots.all(), carried)?;
     Ok(())
 }
 
@@ -153,7 +168,12 @@ fn notified(
         (Below (classes (wiring_of slots.now)) (NotifiedAt (has premises.now) task class))) }
 {
     let _within = slots.classes();
-    found.join(Row::Holds(task), slots.all(), premises.told_of(class))?;
+    join_row(
+        found,
+        Row::Holds(task),
+        slots.all(),
+        premises.told_of(class),
+    )?;
     Ok(())
 }
 
@@ -182,7 +202,7 @@ fn all_received(
 /// The same, where it receives there by a hold of the one set.
 fn received(
     slots: &Slots,
-    one: &Premises,
+    one: &Held<'_>,
     other: &Premises,
     task: u16,
     class: u16,
@@ -190,11 +210,12 @@ fn received(
 ) -> Result<(), AllocError>
     requires task { task < (wiring_of slots.now).tasks }
     requires class { class < classes (wiring_of slots.now) }
+    requires low { class < 1344 }
+    requires one { AreHolds (has one.now.premises.now) task one.now.words.now }
     ensures { OnOk result (Added (has found.old) (has found.new)
-        (Received (wiring_of slots.now) (has one.now) (has other.now) task class)) }
+        (Received (wiring_of slots.now) (has one.now.premises.now) (has other.now) task class)) }
 {
-    let _within = (slots.tasks(), slots.classes());
-    if one.holds(task, class, PortRight::Receive) {
+    if has_bit(one.words, right_place(class, PortRight::Receive)) {
         all_received(slots, other, task, class, found)?;
     }
     Ok(())
@@ -203,7 +224,7 @@ fn received(
 /// What follows from a hold of the one set, of the task on the class, with the other set.
 fn by_hold(
     slots: &Slots,
-    one: &Premises,
+    one: &Held<'_>,
     other: &Premises,
     task: u16,
     class: u16,
@@ -211,8 +232,10 @@ fn by_hold(
 ) -> Result<(), AllocError>
     requires task { task < (wiring_of slots.now).tasks }
     requires class { class < classes (wiring_of slots.now) }
+    requires low { class < 1344 }
+    requires one { AreHolds (has one.now.premises.now) task one.now.words.now }
     ensures { OnOk result (Added (has found.old) (has found.new)
-        (ByHold (wiring_of slots.now) (has one.now) (has other.now) task class)) }
+        (ByHold (wiring_of slots.now) (has one.now.premises.now) (has other.now) task class)) }
 {
     sent(slots, one, other, task, class, found)?;
     received(slots, one, other, task, class, found)?;
@@ -231,13 +254,13 @@ fn all_weaker(task: u16, class: u16, found: &mut Facts) -> Result<(), AllocError
 }
 
 /// The same, where the task receives at the class.
-fn weaker(premises: &Premises, task: u16, class: u16, found: &mut Facts) -> Result<(), AllocError>
-    requires task { task < 64 }
-    requires class { class < 1344 }
+fn weaker(held: &Held<'_>, task: u16, class: u16, found: &mut Facts) -> Result<(), AllocError>
+    requires low { class < 1344 }
+    requires held { AreHolds (has held.now.premises.now) task held.now.words.now }
     ensures { OnOk result (Added (has found.old) (has found.new)
-        (Weaker (has premises.now) task class)) }
+        (Weaker (has held.now.premises.now) task class)) }
 {
-    if premises.holds(task, class, PortRight::Receive) {
+    if has_bit(held.words, right_place(class, PortRight::Receive)) {
         all_weaker(task, class, found)?;
     }
     Ok(())
@@ -246,25 +269,71 @@ fn weaker(premises: &Premises, task: u16, class: u16, found: &mut Facts) -> Resu
 /// What follows from a new fact at the task and the class.
 fn at_class(
     slots: &Slots,
-    all: &Premises,
-    new: &Premises,
+    all: &Held<'_>,
+    new: &Held<'_>,
     task: u16,
     class: u16,
     found: &mut Facts,
 ) -> Result<(), AllocError>
     requires task { task < (wiring_of slots.now).tasks }
     requires class { class < classes (wiring_of slots.now) }
+    requires low { class < 1344 }
+    requires all { AreHolds (has all.now.premises.now) task all.now.words.now }
+    requires new { AreHolds (has new.now.premises.now) task new.now.words.now }
     ensures { OnOk result (Added (has found.old) (has found.new)
-        (AtClass (wiring_of slots.now) (has all.now) (has new.now) task class)) }
+        (AtClass (wiring_of slots.now) (has all.now.premises.now) (has new.now.premises.now)
+        task class)) }
 {
-    let _within = (slots.tasks(), slots.classes());
     weaker(new, task, class, found)?;
-    by_hold(slots, all, new, task, class, found)?;
-    by_hold(slots, new, all, task, class, found)?;
+    by_hold(slots, all, new.premises, task, class, found)?;
+    by_hold(slots, new, all.premises, task, class, found)?;
     Ok(())
 }
 
 /// What follows from a new fact at the task and any class.
+fn at_each_class(
+    slots: &Slots,
+    all: &Held<'_>,
+    new: &Held<'_>,
+    task: u16,
+    found: &mut Facts,
+) -> Result<(), AllocError>
+    requires task { task < (wiring_of slots.now).tasks }
+    requires all { AreHolds (has all.now.premises.now) task all.now.words.now }
+    requires new { AreHolds (has new.now.premises.now) task new.now.words.now }
+    ensures { OnOk result (Added (has found.old) (has found.new)
+        (Below (classes (wiring_of slots.now))
+        (AtClass (wiring_of slots.now) (has all.now.premises.now) (has new.now.premises.now)
+        task))) }
+{
+    for class in 0..slots.classes() {
+        at_class(slots, all, new, task, class, found)?;
+    }
+    Ok(())
+}
+
+/// What follows of the new facts where the task receives.
+fn received_at_each(
+    slots: &Slots,
+    all: &Held<'_>,
+    new: &Premises,
+    task: u16,
+    found: &mut Facts,
+) -> Result<(), AllocError>
+    requires task { task < (wiring_of slots.now).tasks }
+    requires all { AreHolds (has all.now.premises.now) task all.now.words.now }
+    ensures { OnOk result (Added (has found.old) (has found.new)
+        (Below (classes (wiring_of slots.now))
+        (Received (wiring_of slots.now) (has all.now.premises.now) (has new.now) task))) }
+{
+    for class in 0..slots.classes() {
+        received(slots, all, new, task, class, found)?;
+    }
+    Ok(())
+}
+
+/// What follows from a new fact at the task and any class. Where no hold of the task is new, that
+/// is only what follows where it receives.
 fn at_classes(
     slots: &Slots,
     all: &Premises,
@@ -277,9 +346,20 @@ fn at_classes(
         (Below (classes (wiring_of slots.now))
         (AtClass (wiring_of slots.now) (has all.now) (has new.now) task))) }
 {
-    for class in 0..slots.classes() {
-        at_class(slots, all, new, task, class, found)?;
+    let _within = (slots.tasks(), slots.classes());
+    let all_held = Held {
+        premises: all,
+        words: all.held_by(task),
+    };
+    if holds_nothing(new, task) {
+        received_at_each(slots, &all_held, new, task, found)?;
+        return Ok(());
     }
+    let new_held = Held {
+        premises: new,
+        words: new.held_by(task),
+    };
+    at_each_class(slots, &all_held, &new_held, task, found)?;
     Ok(())
 }
 
@@ -297,11 +377,11 @@ fn share(
 {
     let _within = (slots.tasks(), slots.classes());
     let held = premises.words(Row::Holds(of));
-    found.join(Row::Holds(task), slots.all(), held)?;
+    join_row(found, Row::Holds(task), slots.all(), held)?;
     Ok(())
 }
 
-/// The same, where the two are linked by the one set.
+/// The same, where the two are linked by the one set and the other task holds something.
 fn shared(
     slots: &Slots,
     one: &Premises,
@@ -312,29 +392,40 @@ fn shared(
 ) -> Result<(), AllocError>
     requires task { task < (wiring_of slots.now).tasks }
     requires of { of < (wiring_of slots.now).tasks }
+    requires few { classes (wiring_of slots.now) ≤ 1344 }
     ensures { OnOk result (Added (has found.old) (has found.new)
         (Shared (wiring_of slots.now) (has one.now) (has other.now) task of)) }
 {
+    if holds_nothing(other, of) {
+        return Ok(());
+    }
     if are_linked(slots.wired(), one.facts(), task, of) {
         share(slots, other, task, of, found)?;
     }
     Ok(())
 }
 
-/// What the task gets of the other one, by a new fact.
+/// What the task gets of the other one, by a new fact: nothing where no hold of the two is new.
+/// `idle` says that no hold of the task is.
 fn of_task(
     slots: &Slots,
     all: &Premises,
     new: &Premises,
     task: u16,
+    idle: bool,
     of: u16,
     found: &mut Facts,
 ) -> Result<(), AllocError>
     requires task { task < (wiring_of slots.now).tasks }
+    requires idle { IsTrue idle → HoldsNothing (has new.now) task }
     requires of { of < (wiring_of slots.now).tasks }
+    requires few { classes (wiring_of slots.now) ≤ 1344 }
     ensures { OnOk result (Added (has found.old) (has found.new)
         (OfTask (wiring_of slots.now) (has all.now) (has new.now) task of)) }
 {
+    if idle && holds_nothing(new, of) {
+        return Ok(());
+    }
     shared(slots, all, new, task, of, found)?;
     shared(slots, new, all, task, of, found)?;
     Ok(())
@@ -353,8 +444,10 @@ fn of_tasks(
         (Below (wiring_of slots.now).tasks
         (OfTask (wiring_of slots.now) (has all.now) (has new.now) task))) }
 {
+    let _within = slots.classes();
+    let idle = holds_nothing(new, task);
     for of in 0..slots.tasks() {
-        of_task(slots, all, new, task, of, found)?;
+        of_task(slots, all, new, task, idle, of, found)?;
     }
     Ok(())
 }

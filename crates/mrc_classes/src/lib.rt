@@ -3,6 +3,7 @@
 
 mod conclude;
 mod first_facts;
+mod held;
 mod instances;
 mod lacking;
 mod premise_set;

@@ -14,6 +14,7 @@ ghost use Rattle.mrc_model.specs.Conclusions.{same_right};
 ghost use Rattle.mrc_rows.specs.Rows.{is_within, row_of, place_of};
 ghost use Rattle.mrc_rows.specs.Joining.{right_place, is_of, is_in_both};
 ghost use Rattle.mrc_rows.specs.declared.joining.Row.TheVariants.{Holds, Carries, Backups};
+ghost use Rattle.mrc_classes.specs.Holding.{AreHolds};
 ghost use Rattle.mrc_classes.specs.Spreading.{IsSpread, AreSpread, is_held_on, IsFilled};
 ghost use Rattle.mrc_classes.specs.Spreading.{AreAsked, AreTold, HaveSameHolds};
 ghost use Rattle.mrc_classes.specs.Widening.{is_wider};
@@ -21,9 +22,8 @@ ghost use Rattle.mrc_classes.specs.Widening.{is_wider};
 use crate::rights::{backup, carry, hold};
 use crate::wider::{Wider, wider_row};
 use mrc_base::{Fact, PortRight};
-use mrc_bits::has_bit;
 use mrc_facts::ListedFacts;
-use mrc_rows::{Facts, Row, right_place, row_at};
+use mrc_rows::{Facts, Row, row_at};
 use std::alloc::{AllocError, Global};
 use std::marker::Model;
 
@@ -288,6 +288,27 @@ fn put_backups(
     facts.join(Row::Backups(class), words, words)
 }
 
+/// Puts the facts of the other set and of those beside it into these, each into its own. Where
+/// memory runs out, some of them may be there.
+fn join_each(
+    facts: &mut Facts,
+    send: &mut Facts,
+    receive: &mut Facts,
+    once: &mut Facts,
+    other: &Premises,
+) -> Result<(), AllocError>
+    requires { AreSpread facts.old send.old receive.old once.old }
+    ensures spread { OnOk result (AreSpread facts.new send.new receive.new once.new) }
+    ensures members { OnOk result ((g : Fact) →
+        has facts.new g ≡ (has facts.old g || has other.now g)) }
+{
+    send.join_all(&other.send)?;
+    receive.join_all(&other.receive)?;
+    once.join_all(&other.once)?;
+    facts.join_all(&other.facts)?;
+    Ok(())
+}
+
 impl Premises {
     /// The empty set. It keeps the allocator.
     pub fn new(alloc: Global) -> Premises
@@ -335,18 +356,6 @@ impl Premises {
         ensures { result ≡ has self.now fact.now }
     {
         self.facts.has(fact)
-    }
-
-    /// Whether the task holds the right on the class, where rows have both.
-    pub(crate) fn holds(&self, task: u16, class: u16, right: PortRight) -> bool
-        requires task { task < 64 }
-        requires class { class < 1344 }
-        ensures { result ≡ has self.now (Fact.Hold task class right) }
-    {
-        has_bit(
-            self.facts.words(Row::Holds(task)),
-            right_place(class, right),
-        )
     }
 
     /// Puts the fact into the set, and answers whether it is new there.
@@ -495,6 +504,24 @@ impl Premises {
         Ok(())
     }
 
+    /// Puts the facts of the other set into the set, and beside them what that one keeps beside its
+    /// own, which is not made anew. Where memory runs out, the set has no fact then.
+    pub fn join_premises(&mut self, other: &Premises) -> Result<(), AllocError>
+        ensures { OnOk result ((g : Fact) → has self.new g ≡ (has self.old g || has other.now g)) }
+    {
+        let joined = join_each(
+            &mut self.facts,
+            &mut self.send,
+            &mut self.receive,
+            &mut self.once,
+            other,
+        );
+        if joined.is_err() {
+            *self = Premises::new(self.alloc);
+        }
+        joined
+    }
+
     /// The classes on which the task holds the right: all three places of each are set.
     pub(crate) fn classes_of(&self, task: u16, held: PortRight) -> &[u64]
         ensures { (c : ℕ) (any : PortRight) → is_set result.now (right_place c any)
@@ -523,6 +550,14 @@ impl Premises {
             && (same_right any PortRight.SendOnce && has self.now (Fact.Backup class d))) }
     {
         self.receive.words(Row::Carries(class))
+    }
+
+    /// The words of what the task holds.
+    pub(crate) fn held_by(&self, task: u16) -> &[u64]
+        requires { task < 64 }
+        ensures { AreHolds (has self.now) task result.now }
+    {
+        self.facts.words(Row::Holds(task))
     }
 
     /// The words of a row of the set itself.

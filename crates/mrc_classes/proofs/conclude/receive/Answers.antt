@@ -9,5 +9,5 @@ returns c =
     received_added (wiring_of c.args.slots.now) c.args.premises.now c.args.task c.args.class
     c.all.result.now c.words-carried.result.now c.requires.class
     (omega (arith, c.classes-within.ensures.exact, c.classes-within.ensures.within))
-    c.all.ensures.shown c.words-carried.ensures (has c.args.found.now) (has c.join.new.self)
-    c.in_ok-join.ensures.ok
+    c.all.ensures.shown c.words-carried.ensures (has c.args.found.now) (has c.join_row.new.found)
+    c.in_ok-join_row.ensures

@@ -11,4 +11,4 @@ returns c =
     (omega (arith, c.requires.task, c.tasks.ensures.exact, c.tasks.ensures.within))
     (omega (arith, c.classes.ensures.exact, c.classes.ensures.within))
     c.notified.ensures.shown c.once_classes-told.ensures (has c.args.found.now)
-    (has c.join.new.self) c.in_ok-join.ensures.ok
+    (has c.join_row.new.found) c.in_ok-join_row.ensures

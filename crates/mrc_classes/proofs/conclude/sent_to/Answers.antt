@@ -11,4 +11,4 @@ returns c =
     (omega (arith, c.classes.ensures.exact, c.classes.ensures.within)) c.args.to c.args.held
     c.taken_by-taken.result.now c.classes_of.result.now c.requires.to
     c.taken_by-taken.ensures.taken c.classes_of.ensures (has c.args.found.now)
-    (has c.join.new.self) c.in_ok-join.ensures.ok
+    (has c.join_row.new.found) c.in_ok-join_row.ensures

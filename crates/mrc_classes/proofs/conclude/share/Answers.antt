@@ -10,4 +10,4 @@ returns c =
     c.all.result.now c.words-held.result.now
     (omega (arith, c.requires, c.tasks.ensures.exact, c.tasks.ensures.within))
     (omega (arith, c.classes.ensures.exact, c.classes.ensures.within)) c.all.ensures.shown
-    c.words-held.ensures (has c.args.found.now) (has c.join.new.self) c.in_ok-join.ensures.ok
+    c.words-held.ensures (has c.args.found.now) (has c.join_row.new.found) c.in_ok-join_row.ensures
