@@ -1,8 +1,8 @@
 -- A round keeps what the loop keeps, and the last one leaves the least closed set.
 use Rattle.std.proofs.Common.{◌≡◌, ℕ, not, Bool, true, false, List, []}
-use Rattle.std.proofs.Common.{◌∷◌, ◌+◌, length}
+use Rattle.std.proofs.Common.{◌∷◌}
 use Rattle.std.proofs.Common.{refl, ap, sym, subst, ◌∙◌}
-use Rattle.std.proofs.Common.{IsTrue, ◌⊎◌, inl, inr, arith}
+use Rattle.std.proofs.Common.{IsTrue, ◌⊎◌, inl, inr}
 use Rattle.std.specs.Prelude.{◌&&◌, ◌||◌, ◌↔◌}
 use Rattle.std.specs.List.{AllByRecursion}
 use Rattle.std.proofs.lemmas.Bool.{and_parts, and_from, or_cases, or_left, or_right, true≢false}
@@ -41,15 +41,14 @@ pub merged_by : (before found unknown none new after_it : List Fact)
     → IsAscending before → IsAscending new → IsAscending after_it
     → ((g : Fact) → has unknown g ≡ (has found g && not (has before g)))
     → ((g : Fact) → has new g ≡ (has none g || has unknown g))
-    → ((g : Fact) → has after_it g ≡ (has before g || has unknown g))
+    → ((g : Fact) → has after_it g ≡ (has before g || has new g))
     → Merged before found after_it new
 merged_by before found unknown none new after_it empty up up_new up_after lacked in_new in_after =
     record {
-      members = λ g. in_after g ∙ (ap (λ b. has before g || b) (lacked g)
+      members = λ g. in_after g ∙ (ap (λ b. has before g || b) (is_new g ∙ lacked g)
           ∙ whole (has before g) (has found g));
       new_ones = λ g. is_new g ∙ lacked g;
-      len = length-together before new after_it up up_new up_after
-          (λ g. in_after g ∙ ap (λ b. has before g || b) (sym (is_new g)))
+      len = length-together before new after_it up up_new up_after in_after
           (λ g there. false_from (has before g)
           (and_parts (has found g) (not (has before g))
           (subst IsTrue (is_new g ∙ lacked g) there)).1);

@@ -73,7 +73,7 @@ pub(crate) fn merge(
     let unknown = found.lacking(facts.facts())?;
     *new = Premises::new(alloc);
     new.join(&unknown)?;
-    facts.join(&unknown)?;
+    facts.join_premises(new)?;
     let _counts = (facts.len(), new.len());
     Ok(())
 }

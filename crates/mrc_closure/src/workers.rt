@@ -6,12 +6,12 @@ ghost use Rattle.mrc_base.specs.declared.Fact.{Fact};
 ghost use Rattle.mrc_wiring.specs.Table.{wiring_of};
 ghost use Rattle.mrc_model.specs.Wiring.{classes};
 ghost use Rattle.mrc_model.specs.Rules.{IsLeast};
-ghost use Rattle.mrc_facts.specs.Sets.{has, IsAscending};
+ghost use Rattle.mrc_facts.specs.Sets.{has};
 ghost use Rattle.mrc_certificate.specs.Spelling.{content};
 ghost use Rattle.mrc_base.specs.declared.memory.OrMemory.TheVariants.{Fault, Memory};
 ghost use Rattle.mrc_closure.specs.declared.workers.MakeFault.TheVariants.{Workers};
 ghost use Rattle.mrc_classes.specs.Following.{IsListOf, IsFirstFact};
-ghost use Rattle.mrc_closure.specs.Merging.{Merged, IsNextRound};
+ghost use Rattle.mrc_closure.specs.Merging.{IsNextRound};
 ghost use Rattle.mrc_closure.specs.Dealing.{FromFirst, IsFind};
 ghost use Rattle.mrc_closure.specs.Least.{IsLeastList};
 ghost use Rattle.mrc_closure.specs.Working.{IsWorking};
@@ -25,7 +25,7 @@ use std::alloc::{AllocError, Global};
 use std::snapshot::Snapshot;
 use std::sync::Wait;
 use std::thread;
-use std::thread::{Promise, PromisedHandle, Scope, Threads, join_mut};
+use std::thread::{Promise, PromisedHandle, Scope, Threads};
 use thiserror::Error;
 
 /// What each worker enters once, before its first place.
@@ -226,55 +226,6 @@ fn round_by<R: Threads + Wait + Sync, G: Gate>(
     )
 }
 
-/// Puts the facts into the set, by a thread for which this one waits.
-fn join_apart<R: Threads + Sync>(rt: &R, set: &mut Premises, more: &Facts) -> Result<(), AllocError>
-    ensures { OnOk result ((g : Fact) → has set.new g ≡ (has set.old g || has more.now g)) }
-{
-    let (joined, ()) = join_mut(rt, &mut || set.join(more), &mut || ());
-    joined
-}
-
-/// Puts the facts into both sets, into each by a thread of its own. This one waits, since a thread
-/// that is begun by one which goes on working may have to wait for its processor.
-fn join_both<R: Threads + Sync>(
-    rt: &R,
-    facts: &mut Premises,
-    new: &mut Premises,
-    more: &Facts,
-) -> Result<(), AllocError>
-    ensures facts { OnOk result ((g : Fact) →
-        has facts.new g ≡ (has facts.old g || has more.now g)) }
-    ensures new { OnOk result ((g : Fact) → has new.new g ≡ (has new.old g || has more.now g)) }
-{
-    let (one, other) = join_mut(
-        rt,
-        &mut || new.join(more),
-        &mut || join_apart(rt, facts, more),
-    );
-    one?;
-    other
-}
-
-/// Puts the found facts into the set, as `merge` does, with a thread for the set and one for the
-/// new facts.
-fn merge_by<R: Threads + Sync>(
-    rt: &R,
-    alloc: Global,
-    facts: &mut Premises,
-    new: &mut Premises,
-    found: &Facts,
-) -> Result<(), AllocError>
-    ensures merged { OnOk result (Merged facts.old found.now facts.new new.new) }
-    ensures ascending { OnOk result (IsAscending facts.new) }
-{
-    let _count = facts.len();
-    let unknown = found.lacking(facts.facts())?;
-    *new = Premises::new(alloc);
-    join_both(rt, facts, new, &unknown)?;
-    let _counts = (facts.len(), new.len());
-    Ok(())
-}
-
 /// A round by so many workers: puts what follows from the new facts, with those of the set, into
 /// it. Those that are new there take the place of the new ones.
 fn next_round_by<R: Threads + Wait + Sync, G: Gate>(
@@ -292,11 +243,7 @@ fn next_round_by<R: Threads + Wait + Sync, G: Gate>(
         facts.old new.old workers workers) facts.old facts.new new.new) }
 {
     let found = round_by(rt, alloc, slots, facts, new, gate, entering, workers)?;
-    if workers == 1 {
-        merge(alloc, facts, new, &found)
-    } else {
-        merge_by(rt, alloc, facts, new, &found)
-    }
+    merge(alloc, facts, new, &found)
 }
 
 /// The rounds from the first facts on, by so many workers, until one has nothing new. Each worker
