@@ -1,17 +1,13 @@
 //! What follows from facts by the ten rules.
 
-use crate::samples::{ONE, TWO, are_same, backup, carry, count, hold, set_of, wired};
-use mrc_base::{Fact, PortRight};
+use crate::samples::{
+    ONCE, ONE, RECEIVE, SEND, TWO, are_same, backup, carry, count, hold, set_of, wired,
+};
+use mrc_base::Fact;
 use mrc_classes::{Facts, consequences, first_rules};
 use mrc_wiring::Wired;
 use std::alloc::{AllocError, Global};
 use std::test::Fail;
-
-const SEND: PortRight = PortRight::Send;
-
-const RECEIVE: PortRight = PortRight::Receive;
-
-const ONCE: PortRight = PortRight::SendOnce;
 
 /// What follows from the fact and those of the set.
 fn found(alloc: Global, wired: &Wired, known: &Facts, fact: Fact) -> Result<Facts, AllocError> {

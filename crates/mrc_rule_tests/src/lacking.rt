@@ -1,18 +1,14 @@
 //! What sets of facts lack by the ten rules.
 
-use crate::samples::{ONE, TWO, backup, carry, count, hold, put, set_of, wired};
+use crate::samples::{
+    ONCE, ONE, RECEIVE, SEND, TWO, backup, carry, count, hold, put, set_of, wired,
+};
 use mrc_base::{Fact, PortRight};
 use mrc_classes::{Facts, Missing, RuleName, Search, violation, violation_by};
 use mrc_wiring::Wired;
 use std::alloc::{AllocError, Global};
 use std::test::Fail;
 use std::thread::Threads;
-
-const SEND: PortRight = PortRight::Send;
-
-const RECEIVE: PortRight = PortRight::Receive;
-
-const ONCE: PortRight = PortRight::SendOnce;
 
 /// What the two tasks may come to hold: each a send right to both kernel ports, and all three
 /// rights on the ports of both births.

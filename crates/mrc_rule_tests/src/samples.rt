@@ -7,6 +7,12 @@ use mrc_wiring_text::read_wiring;
 use std::alloc::{AllocError, Global};
 use std::test::Fail;
 
+pub const SEND: PortRight = PortRight::Send;
+
+pub const RECEIVE: PortRight = PortRight::Receive;
+
+pub const ONCE: PortRight = PortRight::SendOnce;
+
 /// A task alone.
 pub const ONE: &str = "wiring 1\ntask a\n";
 

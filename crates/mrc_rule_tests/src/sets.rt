@@ -1,17 +1,11 @@
 //! Sets of facts, and their order.
 
-use crate::samples::{backup, carry, count, hold, is_in, put};
-use mrc_base::{Fact, PortRight};
+use crate::samples::{ONCE, RECEIVE, SEND, backup, carry, count, hold, is_in, put};
+use mrc_base::Fact;
 use mrc_classes::Facts;
 use std::alloc::{AllocError, Global};
 use std::process::Abort;
 use std::test::Fail;
-
-const SEND: PortRight = PortRight::Send;
-
-const RECEIVE: PortRight = PortRight::Receive;
-
-const ONCE: PortRight = PortRight::SendOnce;
 
 /// The fact after this one, or the first of all.
 fn next(set: &Facts, after: Option<Fact>) -> Option<Fact> {
