@@ -197,7 +197,13 @@ fn first_holds_are_missing(rt: HostRuntime) -> Result<(), Fail> {
     // The receive right of a birth.
     let why = lack_of(&rt, 3, &[(0, 0, 0), (0, 1, 0), (0, 1, 2)])?;
     assert_eq!(rt; why, receive);
-    // The first state is told before the births.
+    Ok(())
+}
+
+#[test]
+fn the_first_state_is_told_before_births(rt: HostRuntime) -> Result<(), Fail> {
+    let send = Why::MissingFirst(hold(0, 0, PortRight::Send));
+    let receive = Why::MissingFirst(hold(0, 1, PortRight::Receive));
     assert_eq!(rt; lack_of(&rt, 0, &[])?, send);
     assert_eq!(rt; lack_of(&rt, 1, &[(0, 0, 0)])?, receive);
     Ok(())
@@ -274,19 +280,27 @@ const MEANINGLESS: [(&str, &str, &str); 11] = [
     (ONE, ANY, "certificate Magic"),
 ];
 
-#[test]
-fn texts_without_meaning(rt: HostRuntime) -> Result<(), Fail> {
-    for (wiring, policy, want) in MEANINGLESS {
+/// Each row's texts have the answer that stands behind them.
+fn assert_answers(
+    rt: &(impl Abort + AllocGlobal + Threads + Sync),
+    rows: &[(&str, &str, &str)],
+) -> Result<(), AllocError> {
+    for (wiring, policy, want) in rows {
         let told = answer(
-            &rt,
+            rt,
             rt.alloc(),
             wiring.as_bytes(),
             policy.as_bytes(),
             b"MRCD",
         )?;
-        assert_eq!(rt; told.as_str(), want, "of {wiring:?} and {policy:?}");
+        assert_eq!(rt; told.as_str(), *want, "of {wiring:?} and {policy:?}");
     }
     Ok(())
+}
+
+#[test]
+fn texts_without_meaning(rt: HostRuntime) -> Result<(), AllocError> {
+    assert_answers(&rt, &MEANINGLESS)
 }
 
 #[test]
@@ -405,9 +419,16 @@ fn what_is_accepted_shows_its_wiring(rt: HostRuntime) -> Result<(), Fail> {
     let confined = accepted(&rt, rt.alloc())?;
     let wired = wired_of(&confined);
     assert_eq!(rt; (wired.tasks(), wired.classes()), (2, 4));
+    assert_eq!(rt; task_named(wired, "l"), Some(TaskId(0)));
+    Ok(())
+}
+
+#[test]
+fn what_is_accepted_has_its_names(rt: HostRuntime) -> Result<(), Fail> {
+    let confined = accepted(&rt, rt.alloc())?;
+    let wired = wired_of(&confined);
     assert_eq!(rt; task_name(wired, 0), Some("l"));
     assert_eq!(rt; task_name(wired, 1), Some("f"));
-    assert_eq!(rt; task_named(wired, "l"), Some(TaskId(0)));
     Ok(())
 }
 

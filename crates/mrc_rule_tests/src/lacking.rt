@@ -196,10 +196,10 @@ fn rows(alloc: Global, rule: RuleName, without: Fact) -> Result<(u16, [Option<Fa
 #[test]
 fn a_row_lacks_its_own(rt: HostRuntime) -> Result<(), Fail> {
     for (rule, (task, class, right)) in MISSED {
-        let fact = hold(task, class, right);
-        let (count, lacks) = rows(rt.alloc(), rule, fact)?;
+        let want = [None, Some(hold(task, class, right)), None];
+        let (count, lacks) = rows(rt.alloc(), rule, hold(task, class, right))?;
         assert_eq!(rt; count, 2);
-        assert!(rt; lacks == [None, Some(fact), None]);
+        assert!(rt; lacks == want);
     }
     Ok(())
 }

@@ -121,11 +121,10 @@ fn are_placed(chain: &Chain) -> bool {
 
 #[test]
 fn a_chain_ends_in_its_fact(rt: HostRuntime) -> Result<(), Fail> {
-    let fact = hold(1, 2, PortRight::SendOnce);
-    let Some(chain) = chain_of_two(rt.alloc(), fact)? else {
+    let Some(chain) = chain_of_two(rt.alloc(), hold(1, 2, PortRight::SendOnce))? else {
         return Err("there is a chain".into());
     };
-    assert_eq!(rt; end(&chain), Some(fact));
+    assert_eq!(rt; end(&chain), Some(hold(1, 2, PortRight::SendOnce)));
     assert!(rt; are_placed(&chain));
     Ok(())
 }

@@ -82,12 +82,12 @@ fn kinds_and_high_bytes_come_first(rt: HostRuntime) -> Result<(), Fail> {
     ];
     let mut set = Facts::new(rt.alloc());
     put_backwards(&mut set, &ascending)?;
-    let mut last = None;
-    for fact in ascending {
-        assert_eq!(rt; next(&set, last), Some(fact));
-        last = Some(fact);
+    let mut found = next(&set, None);
+    for fact in ascending.iter() {
+        assert_eq!(rt; found, Some(*fact));
+        found = next(&set, Some(*fact));
     }
-    assert_eq!(rt; next(&set, last), None);
+    assert_eq!(rt; found, None);
     Ok(())
 }
 
