@@ -40,8 +40,6 @@ mod repeats;
 mod replays;
 mod resolved;
 mod samples;
-#[cfg(test)]
-mod tests;
 mod tokens;
 mod wirings;
 

@@ -9,6 +9,3 @@ pub use confined::{Confined, Refused, check};
 pub use mrc_classes::RuleName;
 pub use texts::{PolicyFault, SystemFault, TextsFault, WiringFault, check_texts, table_of};
 pub use verdict::Why;
-
-#[cfg(test)]
-mod tests;

@@ -22,8 +22,3 @@ pub use mrc_slots::Slots;
 pub use premise_set::Premises;
 pub use rule_names::RuleName;
 pub use searching::violation_by;
-
-#[cfg(test)]
-mod rule_tests;
-#[cfg(test)]
-mod tests;

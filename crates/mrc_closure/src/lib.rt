@@ -9,6 +9,3 @@ mod workers;
 pub use chains::{Chain, Places, Step, explain};
 pub use rounds::make_alone;
 pub use workers::{Gate, MakeFault, make};
-
-#[cfg(test)]
-mod tests;

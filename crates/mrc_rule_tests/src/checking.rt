@@ -1,32 +1,20 @@
-ghost use Rattle.std.specs.Prelude.{◌≡◌};
-ghost use Rattle.mrc_base.specs.declared.Fact.{Fact};
+//! Whether certificates are accepted, and the first reason why not.
 
-use super::*;
-use mrc_base::{ClassId, Fact, OrMemory, PortRight, TaskId};
-use mrc_certificate::read_draft;
+use crate::samples::{ALONE, ONE, TWO, count, hold};
+use mrc_base::{OrMemory, PortRight, TaskId};
+use mrc_certificate::{Draft, read_draft};
+use mrc_check::{Confined, Refused, RuleName, TextsFault, Why, check, check_texts, table_of};
 use mrc_wiring::{Claim, Wired};
-use mrc_wiring_text::{read_policy, read_wiring};
+use mrc_wiring_text::{PolicyLine, read_policy};
 use std::alloc::{AllocError, Global};
 use std::fmt::Write;
 use std::process::Abort;
 use std::test::Fail;
 use std::thread::Threads;
 
-const ONE: &str = "wiring 1\ntask a\n";
-
-const TWO: &str = "wiring 1\ntask l\ntask f\nhold l send task f\n";
-
 const ANY: &str = "policy 1\n";
 
 const NO_SEND_TO_L: &str = "policy 1\nforbid f send task l\n";
-
-/// The certificate of a task alone: it holds a send right to its own kernel port, and all three
-/// rights on the ports of its births.
-const ALONE: [u8; 38] = [
-    0x4d, 0x52, 0x43, 0x43, 0x00, 0x01, 0x00, 0x01, 0x00, 0x02, 0x00, 0x00, 0x00, 0x04, // header
-    0x01, 0x00, 0x00, 0x00, 0x00, 0x00, 0x01, 0x00, 0x00, 0x00, 0x01, 0x00, // send, send
-    0x01, 0x00, 0x00, 0x00, 0x01, 0x01, 0x01, 0x00, 0x00, 0x00, 0x01, 0x02, // receive, once
-];
 
 /// The certificate of a wiring without tasks.
 const NOBODY: [u8; 14] = [
@@ -67,16 +55,6 @@ const APART: [(u8, u8, u8); 9] = [
     (1, 3, 2),
 ];
 
-fn hold(task: u16, class: u16, right: PortRight) -> Fact
-    ensures { result ≡ Fact.Hold task class right }
-{
-    Fact::Hold {
-        task,
-        class: ClassId(class),
-        right,
-    }
-}
-
 /// The bytes of a certificate: the numbers of tasks, classes and facts, and the facts, each of
 /// which is a hold.
 fn certificate(
@@ -95,6 +73,28 @@ fn certificate(
     Ok(bytes)
 }
 
+/// What is said of three texts, without files of definitions.
+fn told(
+    rt: &(impl Threads + Sync),
+    alloc: Global,
+    wiring: &[u8],
+    policy: &[u8],
+    certificate: &[u8],
+) -> Result<Confined, OrMemory<TextsFault>> {
+    check_texts(rt, alloc, &[], wiring, policy, certificate)
+}
+
+/// A refusal as one text: the step that refuses, and its fault.
+fn refusal(alloc: Global, fault: &TextsFault) -> Result<String, AllocError> {
+    match fault {
+        TextsFault::Defs(fault) => format!(in alloc; "defs {}", fault.fault),
+        TextsFault::Wiring(fault) => format!(in alloc; "wiring {fault}"),
+        TextsFault::Policy(fault) => format!(in alloc; "policy {fault}"),
+        TextsFault::Certificate(fault) => format!(in alloc; "certificate {fault}"),
+        TextsFault::Check(_) => String::from_str(alloc, "refused"),
+    }
+}
+
 /// The answer as one text: `accepted`, or the step that refuses and its fault.
 fn answer(
     rt: &(impl Threads + Sync),
@@ -103,15 +103,9 @@ fn answer(
     policy: &[u8],
     certificate: &[u8],
 ) -> Result<String, AllocError> {
-    match check_texts(rt, alloc, &[], wiring, policy, certificate) {
+    match told(rt, alloc, wiring, policy, certificate) {
         Ok(_) => String::from_str(alloc, "accepted"),
-        Err(OrMemory::Fault(TextsFault::Defs(fault))) => format!(in alloc; "defs {}", fault.fault),
-        Err(OrMemory::Fault(TextsFault::Wiring(fault))) => format!(in alloc; "wiring {fault}"),
-        Err(OrMemory::Fault(TextsFault::Policy(fault))) => format!(in alloc; "policy {fault}"),
-        Err(OrMemory::Fault(TextsFault::Certificate(fault))) => format!(in alloc;
-            "certificate {fault}"
-        ),
-        Err(OrMemory::Fault(TextsFault::Check(_))) => String::from_str(alloc, "refused"),
+        Err(OrMemory::Fault(fault)) => refusal(alloc, &fault),
         Err(OrMemory::Memory) => String::from_str(alloc, "Memory"),
     }
 }
@@ -123,10 +117,9 @@ fn reason_of(
     policy: &str,
     certificate: &[u8],
 ) -> Why {
-    match check_texts(
+    match told(
         rt,
         rt.alloc(),
-        &[],
         wiring.as_bytes(),
         policy.as_bytes(),
         certificate,
@@ -137,14 +130,25 @@ fn reason_of(
     }
 }
 
-/// The claim of two texts.
-fn claim_of(alloc: Global, wiring: &str, policy: &str) -> Result<Claim, Fail> {
-    let wired = table_of(alloc, &[], wiring.as_bytes())?;
-    let lines = read_policy(alloc, policy.as_bytes())?;
-    match Claim::new(alloc, wired, &lines) {
+fn table(alloc: Global, wiring: &str) -> Result<Wired, Fail> {
+    Ok(table_of(alloc, &[], wiring.as_bytes())?)
+}
+
+fn lines(alloc: Global, policy: &str) -> Result<Vec<PolicyLine>, Fail> {
+    Ok(read_policy(alloc, policy.as_bytes())?)
+}
+
+fn claim(alloc: Global, wired: Wired, lines: &[PolicyLine]) -> Result<Claim, Fail> {
+    match Claim::new(alloc, wired, lines) {
         Ok(claim) => Ok(claim),
         Err((_, fault)) => Err(fault.into()),
     }
+}
+
+/// The claim of two texts.
+fn claim_of(alloc: Global, wiring: &str, policy: &str) -> Result<Claim, Fail> {
+    let lines = lines(alloc, policy)?;
+    claim(alloc, table(alloc, wiring)?, lines.as_slice())
 }
 
 #[test]
@@ -193,7 +197,13 @@ fn first_holds_are_missing(rt: HostRuntime) -> Result<(), Fail> {
     // The receive right of a birth.
     let why = lack_of(&rt, 3, &[(0, 0, 0), (0, 1, 0), (0, 1, 2)])?;
     assert_eq!(rt; why, receive);
-    // The first state is told before the births.
+    Ok(())
+}
+
+#[test]
+fn the_first_state_is_told_before_births(rt: HostRuntime) -> Result<(), Fail> {
+    let send = Why::MissingFirst(hold(0, 0, PortRight::Send));
+    let receive = Why::MissingFirst(hold(0, 1, PortRight::Receive));
     assert_eq!(rt; lack_of(&rt, 0, &[])?, send);
     assert_eq!(rt; lack_of(&rt, 1, &[(0, 0, 0)])?, receive);
     Ok(())
@@ -238,48 +248,63 @@ fn the_first_broken_line_is_told(rt: HostRuntime) -> Result<(), Fail> {
     Ok(())
 }
 
-#[test]
-fn texts_without_meaning(rt: HostRuntime) -> Result<(), Fail> {
-    for (wiring, policy, want) in [
-        (
-            "wiring 1\nhold a send task a\n",
-            ANY,
-            "wiring UnknownName 2",
-        ),
-        ("wiring 1\ntask a\ntask a\n", ANY, "wiring TwiceNamed 3"),
-        ("wiring 3\n", ANY, "wiring Version"),
-        ("wiring 1\ntask\n", ANY, "wiring BadLine 2"),
-        (
-            "wiring 1\n",
-            "policy 1\nforbid a send task a\n",
-            "policy UnknownName 2",
-        ),
-        (ONE, "policy 2\n", "policy Version"),
-        (ONE, "policy 1\nforbid a\n", "policy BadLine 2"),
-        // The first step that refuses is told: the certificate here spells nothing.
-        ("wiring 3\n", "policy 2\n", "wiring Version"),
-        (
-            "wiring 1\nhold a send task a\n",
-            "policy 2\n",
-            "wiring UnknownName 2",
-        ),
-        (
-            ONE,
-            "policy 1\nforbid b send task a\n",
-            "policy UnknownName 2",
-        ),
-        (ONE, ANY, "certificate Magic"),
-    ] {
+/// Wirings and policies with the step that refuses them and its fault; the certificate beside them
+/// spells nothing, and the first step that refuses is told.
+const MEANINGLESS: [(&str, &str, &str); 11] = [
+    (
+        "wiring 1\nhold a send task a\n",
+        ANY,
+        "wiring UnknownName 2",
+    ),
+    ("wiring 1\ntask a\ntask a\n", ANY, "wiring TwiceNamed 3"),
+    ("wiring 3\n", ANY, "wiring Version"),
+    ("wiring 1\ntask\n", ANY, "wiring BadLine 2"),
+    (
+        "wiring 1\n",
+        "policy 1\nforbid a send task a\n",
+        "policy UnknownName 2",
+    ),
+    (ONE, "policy 2\n", "policy Version"),
+    (ONE, "policy 1\nforbid a\n", "policy BadLine 2"),
+    ("wiring 3\n", "policy 2\n", "wiring Version"),
+    (
+        "wiring 1\nhold a send task a\n",
+        "policy 2\n",
+        "wiring UnknownName 2",
+    ),
+    (
+        ONE,
+        "policy 1\nforbid b send task a\n",
+        "policy UnknownName 2",
+    ),
+    (ONE, ANY, "certificate Magic"),
+];
+
+/// Each row's texts have the answer that stands behind them.
+fn assert_answers(
+    rt: &(impl Abort + AllocGlobal + Threads + Sync),
+    rows: &[(&str, &str, &str)],
+) -> Result<(), AllocError> {
+    for (wiring, policy, want) in rows {
         let told = answer(
-            &rt,
+            rt,
             rt.alloc(),
             wiring.as_bytes(),
             policy.as_bytes(),
             b"MRCD",
         )?;
-        assert_eq!(rt; told.as_str(), want, "of {wiring:?} and {policy:?}");
+        assert_eq!(rt; told.as_str(), *want, "of {wiring:?} and {policy:?}");
     }
-    // Bytes that are no text.
+    Ok(())
+}
+
+#[test]
+fn texts_without_meaning(rt: HostRuntime) -> Result<(), AllocError> {
+    assert_answers(&rt, &MEANINGLESS)
+}
+
+#[test]
+fn bytes_that_are_no_text(rt: HostRuntime) -> Result<(), Fail> {
     let told = answer(&rt, rt.alloc(), b"\xff", ANY.as_bytes(), &ALONE)?;
     assert_eq!(rt; told.as_str(), "wiring NotUtf8");
     let told = answer(&rt, rt.alloc(), ONE.as_bytes(), b"policy 1 \xff", &ALONE)?;
@@ -287,65 +312,123 @@ fn texts_without_meaning(rt: HostRuntime) -> Result<(), Fail> {
     Ok(())
 }
 
+/// What is said of a certificate of a task alone.
+fn answer_alone(
+    rt: &(impl Threads + Sync),
+    alloc: Global,
+    certificate: &[u8],
+) -> Result<String, AllocError> {
+    answer(rt, alloc, ONE.as_bytes(), ANY.as_bytes(), certificate)
+}
+
 #[test]
-fn certificates_without_meaning(rt: HostRuntime) -> Result<(), Fail> {
-    let alloc = rt.alloc();
-    let exchanged = [(0, 0, 0), (0, 1, 1), (0, 1, 0), (0, 1, 2)];
-    let exchanged = certificate(alloc, 1, 2, 4, &exchanged)?;
-    let outside = [(0, 2, 0), (0, 1, 0), (0, 1, 1), (0, 1, 2)];
-    let outside = certificate(alloc, 1, 2, 4, &outside)?;
-    let mut longer = Vec::from_slice(alloc, &ALONE)?;
+fn certificates_cut_or_longer(rt: HostRuntime) -> Result<(), Fail> {
+    let mut longer = Vec::from_slice(rt.alloc(), &ALONE)?;
     longer.push(0)?;
     for (bytes, want) in [
         (&ALONE[..3], "certificate Magic"),
         (&ALONE[..37], "certificate Truncated"),
-        (outside.as_slice(), "certificate BadFact 14"),
-        (exchanged.as_slice(), "certificate NotAscending 26"),
         (longer.as_slice(), "certificate Trailing"),
     ] {
-        let told = answer(&rt, alloc, ONE.as_bytes(), ANY.as_bytes(), bytes)?;
-        assert_eq!(rt; told.as_str(), want);
+        assert_eq!(rt; answer_alone(&rt, rt.alloc(), bytes)?.as_str(), want);
     }
     Ok(())
+}
+
+#[test]
+fn facts_outside_or_exchanged(rt: HostRuntime) -> Result<(), Fail> {
+    let outside = [(0, 2, 0), (0, 1, 0), (0, 1, 1), (0, 1, 2)];
+    let exchanged = [(0, 0, 0), (0, 1, 1), (0, 1, 0), (0, 1, 2)];
+    for (holds, want) in [
+        (outside, "certificate BadFact 14"),
+        (exchanged, "certificate NotAscending 26"),
+    ] {
+        let bytes = certificate(rt.alloc(), 1, 2, 4, &holds)?;
+        assert_eq!(rt; answer_alone(&rt, rt.alloc(), &bytes)?.as_str(), want);
+    }
+    Ok(())
+}
+
+fn checked(
+    rt: &(impl Threads + Sync),
+    alloc: Global,
+    claim: Claim,
+    draft: Draft,
+) -> Result<Confined, Refused<OrMemory<Why>>> {
+    check(rt, alloc, claim, draft)
+}
+
+/// The draft of two tasks that share all.
+fn shared(alloc: Global) -> Result<Draft, Fail> {
+    let bytes = certificate(alloc, 2, 4, 16, &BOTH)?;
+    Ok(read_draft(alloc, &bytes)?)
+}
+
+/// The claim and the draft, as they come back.
+fn refused(
+    rt: &(impl Abort + Threads + Sync),
+    alloc: Global,
+    claim: Claim,
+    draft: Draft,
+) -> Refused<OrMemory<Why>> {
+    match checked(rt, alloc, claim, draft) {
+        Ok(_) => panic!(rt; "accepted"),
+        Err(refused) => refused,
+    }
+}
+
+/// How many lines and tasks a claim has.
+fn claimed(claim: &Claim) -> (usize, u16) {
+    (claim.lines().len(), claim.wired().tasks())
 }
 
 #[test]
 fn what_is_refused_comes_back(rt: HostRuntime) -> Result<(), Fail> {
-    let alloc = rt.alloc();
-    let claim = claim_of(alloc, TWO, NO_SEND_TO_L)?;
-    let bytes = certificate(alloc, 2, 4, 16, &BOTH)?;
-    let once = match check(&rt, alloc, claim, read_draft(alloc, &bytes)?) {
-        Ok(_) => panic!(rt; "accepted"),
-        Err(refused) => refused,
-    };
+    let claim = claim_of(rt.alloc(), TWO, NO_SEND_TO_L)?;
+    let draft = shared(rt.alloc())?;
+    let once = refused(&rt, rt.alloc(), claim, draft);
     assert_eq!(rt; once.why, OrMemory::Fault(Why::Forbidden(2)));
-    assert_eq!(rt; once.claim.lines().len(), 1);
-    assert_eq!(rt; once.claim.wired().tasks(), 2);
-    assert_eq!(rt; once.draft.facts.len(), 16);
-    match check(&rt, alloc, once.claim, once.draft) {
-        Ok(_) => panic!(rt; "accepted"),
-        Err(again) => assert_eq!(rt; again.why, OrMemory::Fault(Why::Forbidden(2))),
-    }
+    assert_eq!(rt; claimed(&once.claim), (1, 2));
+    assert_eq!(rt; count(&once.draft.facts), 16);
+    let again = refused(&rt, rt.alloc(), once.claim, once.draft);
+    assert_eq!(rt; again.why, OrMemory::Fault(Why::Forbidden(2)));
     Ok(())
+}
+
+/// What is accepted of two tasks that share all.
+fn accepted(rt: &(impl Threads + Sync), alloc: Global) -> Result<Confined, Fail> {
+    let claim = claim_of(alloc, TWO, ANY)?;
+    let draft = shared(alloc)?;
+    Ok(checked(rt, alloc, claim, draft).map_err(|_| "refused")?)
+}
+
+fn wired_of(confined: &Confined) -> &Wired {
+    confined.wired()
+}
+
+fn task_name(wired: &Wired, task: u32) -> Option<&str> {
+    wired.task_name(TaskId(task))
+}
+
+fn task_named(wired: &Wired, name: &str) -> Option<TaskId> {
+    wired.task_named(name)
 }
 
 #[test]
 fn what_is_accepted_shows_its_wiring(rt: HostRuntime) -> Result<(), Fail> {
-    let alloc = rt.alloc();
-    let bytes = certificate(alloc, 2, 4, 16, &BOTH)?;
-    let confined = check(
-        &rt,
-        alloc,
-        claim_of(alloc, TWO, ANY)?,
-        read_draft(alloc, &bytes)?,
-    )
-    .map_err(|_| "refused")?;
-    let wired = confined.wired();
-    assert_eq!(rt; wired.tasks(), 2);
-    assert_eq!(rt; wired.classes(), 4);
-    assert_eq!(rt; wired.task_name(TaskId(0)), Some("l"));
-    assert_eq!(rt; wired.task_name(TaskId(1)), Some("f"));
-    assert_eq!(rt; wired.task_named("l"), Some(TaskId(0)));
+    let confined = accepted(&rt, rt.alloc())?;
+    let wired = wired_of(&confined);
+    assert_eq!(rt; (wired.tasks(), wired.classes()), (2, 4));
+    assert_eq!(rt; task_named(wired, "l"), Some(TaskId(0)));
+    Ok(())
+}
+
+#[test]
+fn what_is_accepted_has_its_names(rt: HostRuntime) -> Result<(), Fail> {
+    let confined = accepted(&rt, rt.alloc())?;
+    let wired = wired_of(&confined);
+    assert_eq!(rt; task_name(wired, 0), Some("l"));
+    assert_eq!(rt; task_name(wired, 1), Some("f"));
     Ok(())
 }
 
@@ -367,20 +450,17 @@ fn rules_have_numbers(rt: HostRuntime) {
     }
 }
 
+/// How many tasks an accepted system has.
+fn tasks(confined: &Confined) -> u16 {
+    confined.wired().tasks()
+}
+
 // Only the call allocates: an allocation that is refused is told, whichever it is.
 #[test]
 fn memory_that_runs_out_is_told(rt: HostRuntime) {
     let policy = "policy 1\nforbid a once task a\n";
-    let told = check_texts(
-        &rt,
-        rt.alloc(),
-        &[],
-        ONE.as_bytes(),
-        policy.as_bytes(),
-        &ALONE,
-    );
-    match told {
-        Ok(confined) => assert_eq!(rt; confined.wired().tasks(), 1),
+    match told(&rt, rt.alloc(), ONE.as_bytes(), policy.as_bytes(), &ALONE) {
+        Ok(confined) => assert_eq!(rt; tasks(&confined), 1),
         Err(refusal) => assert!(rt; matches!(refusal, OrMemory::Memory)),
     }
 }

@@ -1,8 +1,7 @@
 //! Facts and refusals: the words that all crates share.
 
-use mrc_base::{
-    ClassId, Disp, Fact, OrMemory, PortRight, Right, give, is_port_number, limits, need,
-};
+use crate::samples::{backup, carry, hold};
+use mrc_base::{OrMemory, PortRight};
 use mrc_model::{
     Code, Denied, conclusions_by_rules, derivations_are_least, dying_least, first_holdings_given,
     holdings_are_held, sound_if_few, sound_task_by_task, spaces_kept,
@@ -13,25 +12,11 @@ use std::test::Fail;
 // By kind, then by the fields as they stand.
 #[test]
 fn order_of_facts(rt: HostRuntime) {
-    let hold = |task: u16, class: u16, right| Fact::Hold {
-        task,
-        class: ClassId(class),
-        right,
-    };
-    let carry = Fact::Carry {
-        destination: ClassId(0),
-        class: ClassId(0),
-        right: PortRight::Send,
-    };
-    let backup = Fact::Backup {
-        class: ClassId(0),
-        notify: ClassId(0),
-    };
     assert!(rt; hold(0, 1, PortRight::Send) < hold(0, 1, PortRight::Receive));
     assert!(rt; hold(0, 1, PortRight::SendOnce) < hold(0, 2, PortRight::Send));
     assert!(rt; hold(0, 9, PortRight::SendOnce) < hold(1, 0, PortRight::Send));
-    assert!(rt; hold(9, 9, PortRight::SendOnce) < carry);
-    assert!(rt; carry < backup);
+    assert!(rt; hold(9, 9, PortRight::SendOnce) < carry(0, 0, PortRight::Send));
+    assert!(rt; carry(0, 0, PortRight::Send) < backup(0, 0));
 }
 
 #[test]

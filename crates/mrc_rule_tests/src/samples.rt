@@ -1,0 +1,86 @@
+//! Facts, and wirings with what their tasks may come to hold, for many tests.
+
+use mrc_base::{ClassId, Fact, PortRight};
+use mrc_classes::Facts;
+use mrc_wiring::Wired;
+use mrc_wiring_text::read_wiring;
+use std::alloc::{AllocError, Global};
+use std::test::Fail;
+
+pub const SEND: PortRight = PortRight::Send;
+
+pub const RECEIVE: PortRight = PortRight::Receive;
+
+pub const ONCE: PortRight = PortRight::SendOnce;
+
+/// A task alone.
+pub const ONE: &str = "wiring 1\ntask a\n";
+
+/// Task 0 is l, task 1 is f. Classes 0 and 1 are their kernel ports, 2 and 3 their births.
+pub const TWO: &str = "wiring 1\ntask l\ntask f\nhold l send task f\n";
+
+/// The certificate of a task alone: it holds a send right to its own kernel port, and all three
+/// rights on the ports of its births.
+pub const ALONE: [u8; 38] = [
+    0x4d, 0x52, 0x43, 0x43, 0x00, 0x01, 0x00, 0x01, 0x00, 0x02, 0x00, 0x00, 0x00, 0x04, // header
+    0x01, 0x00, 0x00, 0x00, 0x00, 0x00, 0x01, 0x00, 0x00, 0x00, 0x01, 0x00, // send, send
+    0x01, 0x00, 0x00, 0x00, 0x01, 0x01, 0x01, 0x00, 0x00, 0x00, 0x01, 0x02, // receive, send-once
+];
+
+pub fn hold(task: u16, class: u16, right: PortRight) -> Fact {
+    Fact::Hold {
+        task,
+        class: ClassId(class),
+        right,
+    }
+}
+
+pub fn carry(destination: u16, class: u16, right: PortRight) -> Fact {
+    Fact::Carry {
+        destination: ClassId(destination),
+        class: ClassId(class),
+        right,
+    }
+}
+
+pub fn backup(class: u16, notify: u16) -> Fact {
+    Fact::Backup {
+        class: ClassId(class),
+        notify: ClassId(notify),
+    }
+}
+
+/// The wiring of a text, without interfaces.
+pub fn wired(alloc: Global, text: &str) -> Result<Wired, Fail> {
+    let lines = read_wiring(alloc, text.as_bytes())?;
+    match Wired::resolve(alloc, &lines, Vec::new(alloc)) {
+        Ok(wired) => Ok(wired),
+        Err(refused) => Err(refused.why.into()),
+    }
+}
+
+/// Puts a fact into a set, and tells whether it is new there.
+pub fn put(set: &mut Facts, fact: Fact) -> Result<bool, AllocError> {
+    set.insert(fact)
+}
+
+pub fn set_of(alloc: Global, facts: &[Fact]) -> Result<Facts, AllocError> {
+    let mut set = Facts::new(alloc);
+    for fact in facts {
+        let _ = put(&mut set, *fact)?;
+    }
+    Ok(set)
+}
+
+pub fn count(set: &Facts) -> usize {
+    set.len()
+}
+
+pub fn is_in(set: &Facts, fact: Fact) -> bool {
+    set.has(&fact)
+}
+
+/// Whether the two sets are one.
+pub fn are_same(one: &Facts, other: &Facts) -> bool {
+    one.same(other)
+}
