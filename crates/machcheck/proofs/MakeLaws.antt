@@ -4,7 +4,8 @@ use Rattle.std.specs.Prelude.{Result, Ok, Err, IfOk}
 use Rattle.std.specs.declared.alloc.AllocError.{AllocError}
 use Rattle.machcheck.specs.declared.command.MakeFiles.{MakeFiles}
 use Rattle.machcheck.specs.declared.told.Told.{Told}
-use Rattle.machcheck.specs.Files.{Held, AreHeld, system_names}
+use Rattle.mrc_files.specs.Files.{Held, AreHeld}
+use Rattle.machcheck.specs.Files.{system_names}
 use Rattle.machcheck.specs.Texts.{SystemTexts, system_list}
 use Rattle.machcheck.specs.Told.{ToldMemory, ToldNoSystem, ToldUnwritten, ToldWorkers}
 use Rattle.machcheck.specs.Told.{ToldUnmade, FaultOfMake}
