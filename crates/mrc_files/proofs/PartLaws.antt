@@ -60,13 +60,13 @@ name_fits file number small =
     let len = part_len file number in
     elim (shown_cases file) [
       | inl short ↦ (
-          omega (arith, len, digits, ap length short.0, short.1),
-          λ same. omega (arith, len, digits, ap length short.0, short.1, same),
-        )
+        omega (arith, len, digits, ap length short.0, short.1),
+        λ same. omega (arith, len, digits, ap length short.0, short.1, same),
+      )
       | inr long ↦ (
-          omega (arith, len, digits, ap length long.0, long.1),
-          λ same. omega (arith, len, digits, ap length long.0, long.1, same),
-        )
+        omega (arith, len, digits, ap length long.0, long.1),
+        λ same. omega (arith, len, digits, ap length long.0, long.1, same),
+      )
     ]
 
 pub is_another : EachPartIsAnother

@@ -222,22 +222,21 @@ fn is_filled<F: Write + OpenFile>(
     ensures { IfOk result (λ filled. IsTrue filled
         → Appends (F.contents file.old) (F.contents file.new) bytes.now) }
 {
-    if old.is_some_and(|old| !is_like(file, old)) {
+    if old.is_some_and(|old| !has_owner_of(file, old)) {
         return Ok(false);
     }
     write_text(file, bytes)?;
+    if old.is_some_and(|old| file.set_permissions(kept_permissions(old)).is_err()) {
+        return Ok(false);
+    }
     sync(file, bytes.len())?;
     Ok(true)
 }
 
-/// Whether a new file has the owner and the group of another, and was given its mode.
-fn is_like<F: OpenFile>(file: &F, old: &Metadata) -> bool {
+/// Whether a file has the owner and the group of another.
+fn has_owner_of<F: OpenFile>(file: &F, other: &Metadata) -> bool {
     match file.metadata() {
-        Ok(new) => {
-            new.uid() == old.uid()
-                && new.gid() == old.gid()
-                && file.set_permissions(kept_permissions(old)).is_ok()
-        }
+        Ok(found) => found.uid() == other.uid() && found.gid() == other.gid(),
         Err(_) => false,
     }
 }

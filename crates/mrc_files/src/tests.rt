@@ -26,7 +26,10 @@ fn replaced(rt: &HostRuntime, name: &str, bytes: &[u8]) -> Result<Option<usize>,
 
 /// The text of a file, and how many names its folder has.
 fn held(rt: &HostRuntime, name: &str, folder: &str) -> Result<(String, usize), Fail> {
-    Ok((fs::read_to_string(rt, name)?, fs::read_dir(rt, folder)?.count()))
+    Ok((
+        fs::read_to_string(rt, name)?,
+        fs::read_dir(rt, folder)?.count(),
+    ))
 }
 
 /// Who may read, write and run a file.

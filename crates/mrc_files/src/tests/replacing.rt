@@ -39,7 +39,11 @@ fn a_read_only_file(rt: HostRuntime) -> Result<(), Fail> {
     fs::write(&rt, "files-read-only/c", "old")?;
     set_mode(&rt, "files-read-only/c", 0o444)?;
     let root = is_root(&rt, "files-read-only/c")?;
-    let (fault, wanted) = if root { (None, "new") } else { (Some(0), "old") };
+    let (fault, wanted) = if root {
+        (None, "new")
+    } else {
+        (Some(0), "old")
+    };
     assert_eq!(rt; replaced(&rt, "files-read-only/c", b"new")?, fault);
     let (text, names) = held(&rt, "files-read-only/c", "files-read-only")?;
     assert_eq!(rt; (text.as_str(), names), (wanted, 1));
@@ -120,7 +124,12 @@ fn hard_links(rt: HostRuntime) -> Result<(), Fail> {
 fn folders(rt: HostRuntime) -> Result<(), Fail> {
     begin(&rt, "files-folder")?;
     fs::create_dir(&rt, "files-folder/low")?;
-    for name in ["files-folder/low", "files-folder/c/", "files-folder/no/c", ""] {
+    for name in [
+        "files-folder/low",
+        "files-folder/c/",
+        "files-folder/no/c",
+        "",
+    ] {
         assert_eq!(rt; replaced(&rt, name, b"new")?, Some(0), "{name}");
     }
     assert_eq!(rt; fs::read_dir(&rt, "files-folder")?.count(), 1);
@@ -134,7 +143,11 @@ fn a_closed_folder(rt: HostRuntime) -> Result<(), Fail> {
     begin(&rt, "files-closed")?;
     fs::write(&rt, "files-closed/c", "what it had")?;
     set_mode(&rt, "files-closed", 0o555)?;
-    let fault = if is_root(&rt, "files-closed")? { None } else { Some(0) };
+    let fault = if is_root(&rt, "files-closed")? {
+        None
+    } else {
+        Some(0)
+    };
     assert_eq!(rt; replaced(&rt, "files-closed/c", b"new")?, None);
     assert_eq!(rt; replaced(&rt, "files-closed/d", b"new")?, fault);
     let (text, names) = held(&rt, "files-closed/c", "files-closed")?;
