@@ -1,5 +1,4 @@
 pub mod CommandLaws
-pub mod FileLaws
 pub mod ToldLaws
 pub mod ScriptLaws
 pub mod ChainLaws

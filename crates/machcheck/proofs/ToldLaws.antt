@@ -14,11 +14,11 @@ use Rattle.mrc_check.specs.Verdict.{Case}
 use Rattle.mrc_check.specs.Texts.{InSystem, InDefs, InWiring, InPolicy, InCertificate, Tells, SayYes}
 use Rattle.machcheck.specs.declared.told.Told.{Told}
 use Rattle.machcheck.specs.declared.command.CheckFiles.{CheckFiles}
-use Rattle.mrc_report.specs.declared.files.ReadFault.{ReadFault}
-use Rattle.mrc_report.specs.declared.files.ReadFault.TheVariants.{ReadFailed, TooBig}
-use Rattle.mrc_report.specs.declared.files.ReadFault.TheVariants.{Memory as NoMemory}
+use Rattle.mrc_files.specs.declared.streams.ReadFault.{ReadFault}
+use Rattle.mrc_files.specs.declared.streams.ReadFault.TheVariants.{ReadFailed, TooBig}
+use Rattle.mrc_files.specs.declared.streams.ReadFault.TheVariants.{Memory as NoMemory}
 use Rattle.machcheck.specs.declared.command.LiveFiles.{LiveFiles}
-use Rattle.machcheck.specs.Files.{Held, IsFirstUnread}
+use Rattle.mrc_files.specs.Files.{Held, IsFirstUnread}
 use Rattle.machcheck.specs.Texts.{CheckTexts, LiveTexts, AreAccepted, said_by}
 use Rattle.machcheck.specs.Told.{status_of, out_of, fault_line, IsError, IsFaultOf}
 use Rattle.machcheck.specs.Told.{ToldMemory, ToldFault, ToldNo, ToldOfScript, UnreadTold}

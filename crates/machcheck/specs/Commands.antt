@@ -5,8 +5,9 @@ use Rattle.std.specs.Io.KnownBytes.{Appends}
 use Rattle.machcheck.specs.declared.told.Told.{Told}
 use Rattle.machcheck.specs.declared.command.Command.{Command}
 use Rattle.machcheck.specs.declared.command.Command.TheVariants.{Check, Make, Explain, Replay, Live}
-use Rattle.machcheck.specs.Files.{Held}
+use Rattle.mrc_files.specs.Files.{Held}
 use Rattle.machcheck.specs.Told.{YesOfFiles, NoOfFiles, FaultOfFiles, MadeOfFiles, FaultOfMake}
+use Rattle.machcheck.specs.Told.{CutOfFiles}
 use Rattle.machcheck.specs.Told.{ReplayOfFiles, FaultOfReplay, LiveOfFiles, NoOfLive, FaultOfLive}
 use Rattle.machcheck.specs.Explained.{ChainOfFiles, NoneOfFiles, FaultOfExplain}
 
@@ -33,6 +34,14 @@ FaultOf held (Make files) told = FaultOfMake held files told
 FaultOf held (Explain files) told = FaultOfExplain held files told
 FaultOf held (Replay files) told = FaultOfReplay held files told
 FaultOf held (Live files) told = FaultOfLive held files told
+
+-- with status 2: so many bytes of a certificate were written, and these the file has
+abbrev pub CutOf : Held → Held → Command → Told → Type 0
+CutOf before after (Check files) told = ⊥
+CutOf before after (Make files) told = CutOfFiles before after files told
+CutOf before after (Explain files) told = ⊥
+CutOf before after (Replay files) told = ⊥
+CutOf before after (Live files) told = ⊥
 
 -- the command that may change a file
 abbrev pub IsMake : Command → Type 0

@@ -14,7 +14,8 @@ use Rattle.mrc_words.specs.Words.{◌␣◌, fact_text}
 use Rattle.machcheck.specs.declared.told.Told.{Told}
 use Rattle.machcheck.specs.declared.command.ExplainFiles.{ExplainFiles}
 use Rattle.machcheck.specs.Texts.{SystemTexts, system_list, wired_by}
-use Rattle.machcheck.specs.Files.{Held, system_names}
+use Rattle.mrc_files.specs.Files.{Held}
+use Rattle.machcheck.specs.Files.{system_names}
 use Rattle.machcheck.specs.Told.{OfFiles, ToldMemory, ToldUnread, ToldNoSystem, fault_line}
 
 -- where the premises are concluded: a place that is both premises is told once

@@ -1,38 +1,9 @@
--- What is read of files, and what is written. This profile's own choice.
-use Rattle.std.specs.Prelude.{◌≡◌, ◌≤◌, ◌<◌, ℕ, List, [], ◌∷◌, ◌++◌, map, Option, length, IfSome}
-use Rattle.std.specs.List.{All, AllZip}
-use Rattle.mrc_base.specs.Limits.{limit_of_file}
+-- Which files a command reads. This profile's own choice.
+use Rattle.std.specs.Prelude.{ℕ, List, [], ◌∷◌, ◌++◌, map}
 use Rattle.machcheck.specs.declared.command.SystemFiles.{SystemFiles}
 use Rattle.machcheck.specs.declared.command.CheckFiles.{CheckFiles}
 use Rattle.machcheck.specs.declared.command.LiveFiles.{LiveFiles}
 use Rattle.machcheck.specs.declared.command.ReplayFiles.{ReplayFiles}
-
--- the bytes of each file by its name, where they are known
-abbrev pub Held : Type 0
-Held = List ℕ → Option (List ℕ)
-
--- the file has these bytes, if its bytes are known
-abbrev pub HasBytes : Held → List ℕ → List ℕ → Type 0
-HasBytes held file bytes = IfSome (held file) (λ known. bytes ≡ known)
-
--- the file has no more bytes than a file may have, if its bytes are known
-abbrev pub Fits : Held → List ℕ → Type 0
-Fits held file = IfSome (held file) (λ known. length known ≤ limit_of_file)
-
--- the file has more bytes than a file may have, if its bytes are known
-abbrev pub Exceeds : Held → List ℕ → Type 0
-Exceeds held file = IfSome (held file) (λ known. limit_of_file < length known)
-
--- the texts are the bytes of the files, one for each, in their order
-abbrev pub AreHeld : Held → List (List ℕ) → List (List ℕ) → Type 0
-AreHeld held files texts = AllZip (HasBytes held) files texts
-
--- the file is the first of these that could not be read: those before it were, so they fit
-pub record IsFirstUnread (held : Held) (files : List (List ℕ)) (file : List ℕ) : Type 0 where
-  pub before : List (List ℕ)
-  pub after : List (List ℕ)
-  pub parts : files ≡ before ++ file ∷ after
-  pub fit : All (Fits held) before
 
 -- the MIG files of a system, by their names
 abbrev pub defs_names : SystemFiles → List (List ℕ)

@@ -2,9 +2,9 @@
 -- replay: the status, and the texts on standard output and on standard error. This profile's own
 -- choice.
 use Rattle.std.specs.Prelude.{◌≡◌, ◌⊎◌, ◌<◌, ℕ, true, List, [], ◌++◌, Result, Ok, Err}
-use Rattle.std.specs.Prelude.{codes}
-use Rattle.std.specs.Prelude.{decimal}
-use Rattle.std.specs.Prelude.{string_bytes, get_or, length}
+use Rattle.std.specs.Prelude.{codes, decimal, IfOk, IsOkAnd}
+use Rattle.std.specs.declared.alloc.AllocError.{AllocError}
+use Rattle.std.specs.Prelude.{string_bytes, get_or, length, take}
 use Rattle.mrc_wiring.specs.Table.{Table}
 use Rattle.mrc_check.specs.declared.verdict.Why.{Why}
 use Rattle.mrc_base.specs.declared.memory.OrMemory.{OrMemory}
@@ -31,10 +31,10 @@ use Rattle.machcheck.specs.declared.command.MakeFiles.{MakeFiles}
 use Rattle.machcheck.specs.declared.command.LiveFiles.{LiveFiles}
 use Rattle.machcheck.specs.declared.command.ReplayFiles.{ReplayFiles}
 use Rattle.machcheck.specs.declared.replay.WiredScript.{WiredScript}
-use Rattle.mrc_report.specs.declared.files.ReadFault.{ReadFault}
-use Rattle.mrc_report.specs.declared.files.ReadFault.TheVariants.{ReadFailed, TooBig}
-use Rattle.mrc_report.specs.declared.files.ReadFault.TheVariants.{Memory as NoMemory}
-use Rattle.mrc_report.specs.declared.files.WriteFault.{WriteFault}
+use Rattle.mrc_files.specs.declared.streams.ReadFault.{ReadFault}
+use Rattle.mrc_files.specs.declared.streams.ReadFault.TheVariants.{ReadFailed, TooBig}
+use Rattle.mrc_files.specs.declared.streams.ReadFault.TheVariants.{Memory as NoMemory}
+use Rattle.mrc_files.specs.declared.streams.WriteFault.{WriteFault}
 use Rattle.mrc_report.specs.Journal.{IsLive}
 use Rattle.mrc_report.specs.Replay.{IsReplay}
 use Rattle.mrc_report.specs.declared.script.TaskCall.{TaskCall}
@@ -45,7 +45,7 @@ use Rattle.machcheck.specs.Texts.{CheckTexts, check_list, AreAccepted, said_by}
 use Rattle.machcheck.specs.Texts.{ReplayTexts, replay_list, scripted, Unscripted, InScript}
 use Rattle.machcheck.specs.Texts.{LiveTexts, live_list, script_said}
 use Rattle.machcheck.specs.Texts as texts
-use Rattle.machcheck.specs.Files.{Held, HasBytes, AreHeld, IsFirstUnread}
+use Rattle.mrc_files.specs.Files.{Held, HasBytes, AreHeld, IsFirstUnread}
 use Rattle.machcheck.specs.Files.{defs_names, system_names, check_names, replay_names}
 use Rattle.machcheck.specs.Files.{live_names}
 
@@ -190,23 +190,54 @@ pub record ToldWritten (files : MakeFiles) (draft : Content) (after : Held) (tol
   pub out : string_bytes told.out ≡ codes "facts " ++ (decimal (length draft.facts) ++ codes "\n")
   pub err : string_bytes told.err ≡ []
 
--- the draft that was written has the wiring's numbers, and its facts are the least set that is
--- closed under the ten rules
-pub record ToldLeast (files : MakeFiles) (table : Table) (after : Held) (told : Told)
-    : Type 0 where
+-- it is told that the file for a certificate took so many bytes and then no more
+pub record ToldTaken (files : MakeFiles) (count : ℕ) (told : Told) : Type 0 where
+  pub status : told.status ≡ 2
+  pub out : string_bytes told.out ≡ []
+  pub err : string_bytes told.err
+      ≡ fault_line files.out.now (codes "WriteFailed " ++ decimal count)
+
+-- so much is told, and the file has these bytes of a draft's
+pub record ToldCut (files : MakeFiles) (draft : Content) (after : Held) (told : Told) : Type 0 where
+  pub bytes : List ℕ
+  pub spells : Spells bytes draft
+  pub count : ℕ
+  pub written : HasBytes after files.out.now (take count bytes)
+  pub taken : ToldTaken files count told
+
+-- what is told of the draft of a wiring: it has the wiring's numbers, and its facts are the least
+-- set that is closed under the ten rules
+pub record OfLeast (Tells : Content → Told → Type 0) (table : Table) (told : Told) : Type 0 where
   pub draft : Content
   pub tasks : draft.tasks ≡ (wiring_of table).tasks
   pub class_count : draft.classes ≡ classes (wiring_of table)
   pub least : IsLeast (wiring_of table) (has draft.facts)
-  pub written : ToldWritten files draft after told
+  pub tells : Tells draft told
+
+-- the draft of the wiring was written
+abbrev pub ToldLeast : MakeFiles → Table → Held → Told → Type 0
+ToldLeast files table after told =
+    OfLeast (λ draft. ToldWritten files draft after) table told
+
+-- so many bytes of the draft of the wiring were written
+abbrev pub CutLeast : MakeFiles → Table → Held → Told → Type 0
+CutLeast files table after told = OfLeast (λ draft. ToldCut files draft after) table told
+
+-- what is told of the wiring that texts mean
+pub record OfWiring (Tells : Table → Told → Type 0) (texts : SystemTexts) (told : Told) : Type 0 where
+  pub table : Table
+  pub says : wired_by texts ≡ Ok table
+  pub tells : Tells table told
 
 -- a certificate was made of texts, and it is right: they mean a wiring, and it is the least one of
 -- that wiring
-pub record ToldMade (files : MakeFiles) (after : Held) (texts : SystemTexts) (told : Told)
-    : Type 0 where
-  pub table : Table
-  pub says : wired_by texts ≡ Ok table
-  pub made : ToldLeast files table after told
+abbrev pub ToldMade : MakeFiles → Held → SystemTexts → Told → Type 0
+ToldMade files after texts told =
+    OfWiring (λ table. ToldLeast files table after) texts told
+
+-- so many bytes of that certificate were written
+abbrev pub CutMade : MakeFiles → Held → SystemTexts → Told → Type 0
+CutMade files after texts told = OfWiring (λ table. CutLeast files table after) texts told
 
 -- a fault is told of texts that mean no wiring, and it is right: the file of the first that has no
 -- meaning is named
@@ -231,15 +262,21 @@ pub record ToldWorkers (files : MakeFiles) (told : Told) : Type 0 where
 pub record ToldUnmade (files : MakeFiles) (told : Told) : Type 0 where
   pub why : ToldUnwritten files told ⊎ ToldWorkers files told
 
--- what is told where the certificate was not taken. Want of memory is no file's fault
-abbrev pub UnwrittenTold : MakeFiles → OrMemory WriteFault → Told → Type 0
-UnwrittenTold files (Fault fault) told = ToldUnwritten files told
-UnwrittenTold files Memory told = ToldMemory told
+-- what is told where the certificate was not taken: how many bytes were, or that memory ran out. Want
+-- of memory is no file's fault
+abbrev pub UnwrittenTold : MakeFiles → OrMemory WriteFault → Result Told AllocError → Type 0
+UnwrittenTold files (Fault fault) result = IsOkAnd result (ToldTaken files fault.written)
+UnwrittenTold files Memory result = IfOk result ToldMemory
 
 -- a certificate was made of what the files hold
 abbrev pub MadeOfFiles : Held → Held → MakeFiles → Told → Type 0
 MadeOfFiles before after files told =
     OfFiles system_list (ToldMade files after) before (system_names files.system) told
+
+-- so many bytes were written of the certificate of what the files hold
+abbrev pub CutOfFiles : Held → Held → MakeFiles → Told → Type 0
+CutOfFiles before after files told =
+    OfFiles system_list (CutMade files after) before (system_names files.system) told
 
 -- why status 2 is told of the files of a `make`: memory ran out, a file can't be read, a text has
 -- no meaning, there can't be so many workers, or the certificate was not taken

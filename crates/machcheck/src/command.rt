@@ -49,9 +49,12 @@ const MAKE_HELP: &str = "Files, as README.md describes them:
   a wiring has the tasks and ports, what they accept, and the rights that are held at first.
 
 The least certificate of the wiring is made: who may come to hold what, and nothing else. It
-is written beside the file that --out names, as FILE.part, and then takes its place, so that
-the file is never half written. How many facts it has is printed. --workers says how many
-threads make it; the certificate is the same whatever their number.
+is written beside the file that --out names and then takes its place, so that the file is
+never half written. Links are followed, and the file keeps its mode. A device, a pipe, a file
+with other hard links or another owner, and one in a folder that allows no new file are
+written in place: there WriteFailed N leaves the first N bytes. How many facts the
+certificate has is printed. --workers says how many threads make it; the certificate is the
+same whatever their number.
 
 Exit status:
   0  the certificate was made

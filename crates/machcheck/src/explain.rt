@@ -7,11 +7,11 @@ ghost use Rattle.machcheck.specs.Explained.{ToldChain, ToldNone, ToldBadFact, Of
 ghost use Rattle.machcheck.specs.Explained.{ChainOfFiles, NoneOfFiles, FaultOfExplain};
 
 use crate::command::ExplainFiles;
-use crate::files::{Folder, unread_told};
 use crate::system::{SystemBytes, system_bytes, system_fault_told, wired_by};
-use crate::told::{Told, fault_of, memory, said};
+use crate::told::{Told, fault_of, memory, said, unread_told};
 use mrc_base::{Fact, OrMemory};
 use mrc_closure::{Places, Step, explain};
+use mrc_files::Folder;
 use mrc_wiring::Wired;
 use mrc_words::{fact_named, fact_text};
 use std::alloc::{AllocError, Global};

@@ -4,19 +4,20 @@ ghost use Rattle.std.specs.Prelude.{◌≡◌, ◌≤◌, ◌⊎◌, [], IfOk, I
 ghost use Rattle.mrc_report.specs.Journal.{IsLive};
 ghost use Rattle.mrc_check.specs.Texts.{Tells};
 ghost use Rattle.machcheck.specs.Texts.{AreAccepted, live_list, said_by};
-ghost use Rattle.machcheck.specs.Files.{AreHeld, Exceeds, IsFirstUnread, live_names};
+ghost use Rattle.mrc_files.specs.Files.{AreHeld, Exceeds, IsFirstUnread};
+ghost use Rattle.machcheck.specs.Files.{live_names};
 ghost use Rattle.machcheck.specs.Told.{FaultOfLive, LiveOfFiles, NoOfLive, ToldLive, ToldMemory};
 ghost use Rattle.machcheck.specs.Told.{IsFaultOf, ToldFault, ToldNo, ToldOfScript, ToldUnserved};
 
 use crate::command::{CheckFiles, LiveFiles};
-use crate::files::{Folder, Unread, bytes_of, unread_told};
 use crate::run::{CheckBytes, answer_of, check_bytes};
 use crate::script::script_said;
 use crate::tell::verdict;
-use crate::told::{Told, fault_of, memory, said};
+use crate::told::{Told, fault_of, memory, said, unread_told};
 use mrc_base::OrMemory;
 use mrc_check::{Confined, TextsFault};
-use mrc_report::{Gate, ReadFault, Script, ServeFault, serve};
+use mrc_files::{Folder, ReadFault, Unread, bytes_of};
+use mrc_report::{Gate, Script, ServeFault, serve};
 use std::alloc::{AllocError, Global};
 use std::marker::{Brand, Model};
 use std::sync::Wait;

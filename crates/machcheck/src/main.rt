@@ -4,7 +4,6 @@
 
 mod command;
 mod explain;
-mod files;
 mod live;
 mod make;
 mod replay;
@@ -17,6 +16,7 @@ mod tests;
 mod told;
 mod words;
 
+use mrc_files::Disk;
 use std::process::ExitCode;
 
 fn main(rt: HostRuntime) -> ExitCode {
@@ -24,7 +24,7 @@ fn main(rt: HostRuntime) -> ExitCode {
     let mut err = rt.stderr();
     let status = run::start(
         &rt,
-        &mut files::Disk(&rt),
+        &mut Disk(&rt),
         rt.alloc(),
         words::words_of(&rt),
         &mut out,

@@ -1,21 +1,21 @@
 //! The certificate that the program makes of a wiring.
 
-ghost use Rattle.std.specs.Prelude.{◌≡◌, ◌⊎◌, [], IfOk, IsOkAnd, string_bytes};
+ghost use Rattle.std.specs.Prelude.{◌≡◌, ◌≤◌, ◌+◌, ◌⊎◌, [], IfOk, IsOkAnd, length};
+ghost use Rattle.std.specs.Prelude.{string_bytes, string_capacity, string_len};
 ghost use Rattle.mrc_certificate.specs.Spelling.{content};
 ghost use Rattle.machcheck.specs.Told.{ToldMade, ToldLeast, ToldWritten, ToldMemory};
 ghost use Rattle.machcheck.specs.Told.{ToldNoSystem, ToldUnwritten, ToldWorkers, ToldUnmade};
-ghost use Rattle.machcheck.specs.Told.{UnwrittenTold};
+ghost use Rattle.machcheck.specs.Told.{UnwrittenTold, ToldCut, CutLeast, CutMade, CutOfFiles};
 ghost use Rattle.machcheck.specs.Told.{MadeOfFiles, FaultOfMake};
 
 use crate::command::MakeFiles;
-use crate::files::{Folder, unread_told};
 use crate::live::Open;
 use crate::system::{SystemBytes, system_bytes, system_fault_told, wired_by};
-use crate::told::{Told, fault_of, memory, said};
+use crate::told::{Told, fault_of, memory, room_for_line, said, unread_told, write_failed};
 use mrc_base::OrMemory;
 use mrc_certificate::{Draft, write_draft};
 use mrc_closure::{Gate, MakeFault, make};
-use mrc_report::WriteFault;
+use mrc_files::{Folder, WriteFault};
 use mrc_wiring::Wired;
 use std::alloc::{AllocError, Global};
 use std::sync::Wait;
@@ -25,26 +25,27 @@ impl Gate for Open {
     fn enter(&self, _worker: usize) {}
 }
 
-/// A certificate that the file was not given, with the file.
+/// A certificate that the file was not given, with the file, in a line that has room for that. It
+/// takes no memory to tell how many bytes the file took.
 fn unwritten_told(
     alloc: Global,
+    line: String,
     files: &MakeFiles<'_>,
     refusal: OrMemory<WriteFault>,
 ) -> Result<Told, AllocError>
-    ensures status { IfOk result (λ told. told.status ≡ 2) }
-    ensures told { IfOk result (UnwrittenTold files.now refusal) }
+    requires empty { string_bytes line ≡ [] }
+    requires len { string_len line ≡ 0 }
+    requires room { length files.now.out.now + 66 ≤ string_capacity line }
+    ensures { UnwrittenTold files.now refusal result }
 {
     match refusal {
-        OrMemory::Fault(fault) => {
-            let text = fault.to_string(alloc)?;
-            fault_of(alloc, files.out, text.as_str())
-        }
+        OrMemory::Fault(fault) => Ok(write_failed(alloc, line, files.out, fault.written)),
         OrMemory::Memory => memory(alloc),
     }
 }
 
-/// Writes the draft's bytes, and tells how many facts it has. The words to tell are made first, so
-/// that what was written is told.
+/// Writes the draft's bytes, and tells how many facts it has. There is room for what is to be told
+/// before, so that what was written is told.
 fn draft_written<F: Folder>(
     folder: &mut F,
     alloc: Global,
@@ -56,16 +57,19 @@ fn draft_written<F: Folder>(
         → ToldWritten files.now (content draft.now) (F.held folder.new) told) }
     ensures fault { IfOk result (λ told. told.status ≡ 2
         → ToldMemory told ⊎ ToldUnwritten files.now told) }
-    // A file is changed where a certificate is told, and nowhere else.
+    // A file is changed where a certificate is told, or that the file took so many of its bytes and
+    // has these, and nowhere else.
     ensures kept { IsOkAnd result (λ told. told.status ≡ 0)
-        ⊎ (F.held folder.new ≡ F.held folder.old) }
+        ⊎ (IsOkAnd result (ToldCut files.now (content draft.now) (F.held folder.new))
+        ⊎ (F.held folder.new ≡ F.held folder.old)) }
 {
     let bytes = write_draft(alloc, draft)?;
     let count = draft.facts.len();
     let text = format!(in alloc; "facts {count}\n")?;
+    let line = room_for_line(alloc, files.out)?;
     match folder.replace(alloc, files.out, bytes.as_slice()) {
         Ok(()) => Ok(said(alloc, text, 0)),
-        Err(refusal) => unwritten_told(alloc, files, refusal),
+        Err(refusal) => unwritten_told(alloc, line, files, refusal),
     }
 }
 
@@ -82,9 +86,11 @@ fn wired_made<F: Folder, R: Threads + Wait + Sync>(
         → ToldLeast files.now wired.now (F.held folder.new) told) }
     ensures fault { IfOk result (λ told. told.status ≡ 2
         → ToldMemory told ⊎ (ToldUnwritten files.now told ⊎ ToldWorkers files.now told)) }
-    // A file is changed where a certificate is told, and nowhere else.
+    // A file is changed where a certificate is told, or that the file took so many of its bytes and
+    // has these, and nowhere else.
     ensures kept { IsOkAnd result (λ told. told.status ≡ 0)
-        ⊎ (F.held folder.new ≡ F.held folder.old) }
+        ⊎ (IsOkAnd result (CutLeast files.now wired.now (F.held folder.new))
+        ⊎ (F.held folder.new ≡ F.held folder.old)) }
 {
     match make(rt, alloc, wired, files.workers, &Open) {
         Ok(draft) => draft_written(folder, alloc, files, &draft),
@@ -109,9 +115,11 @@ fn make_told<F: Folder, R: Threads + Wait + Sync>(
     ensures fault { IfOk result (λ told. told.status ≡ 2
         → ToldMemory told ⊎ (ToldNoSystem files.now.system bytes.now told
         ⊎ ToldUnmade files.now told)) }
-    // A file is changed where a certificate is told, and nowhere else.
+    // A file is changed where a certificate is told, or that the file took so many of its bytes and
+    // has these, and nowhere else.
     ensures kept { IsOkAnd result (λ told. told.status ≡ 0)
-        ⊎ (F.held folder.new ≡ F.held folder.old) }
+        ⊎ (IsOkAnd result (CutMade files.now (F.held folder.new) bytes.now)
+        ⊎ (F.held folder.new ≡ F.held folder.old)) }
 {
     match wired_by(alloc, bytes) {
         Ok(wired) => wired_made(rt, folder, alloc, files, &wired),
@@ -134,9 +142,11 @@ pub fn make_files<F: Folder, R: Threads + Wait + Sync>(
         → MadeOfFiles (F.held folder.old) (F.held folder.new) files.now told) }
     ensures fault { IfOk result (λ told. told.status ≡ 2
         → FaultOfMake (F.held folder.old) files.now told) }
-    // A file is changed where a certificate is told, and nowhere else.
+    // A file is changed where a certificate is told, or that the file took so many of its bytes and
+    // has these, and nowhere else.
     ensures kept { IsOkAnd result (λ told. told.status ≡ 0)
-        ⊎ (F.held folder.new ≡ F.held folder.old) }
+        ⊎ (IsOkAnd result (CutOfFiles (F.held folder.old) (F.held folder.new) files.now)
+        ⊎ (F.held folder.new ≡ F.held folder.old)) }
 {
     match system_bytes(folder, alloc, &files.system) {
         Ok(bytes) => make_told(rt, folder, alloc, files, &bytes),

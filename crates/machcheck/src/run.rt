@@ -7,25 +7,26 @@ ghost use Rattle.mrc_check.specs.Verdict.{Case};
 ghost use Rattle.mrc_check.specs.Texts.{Tells};
 ghost use Rattle.machcheck.specs.Texts.{AreAccepted, said_by, check_list};
 ghost use Rattle.std.specs.List.{All};
-ghost use Rattle.machcheck.specs.Files.{AreHeld, Exceeds, Fits, IsFirstUnread, check_names};
+ghost use Rattle.mrc_files.specs.Files.{AreHeld, Exceeds, Fits, IsFirstUnread};
+ghost use Rattle.machcheck.specs.Files.{check_names};
 ghost use Rattle.machcheck.specs.Told.{ToldYes, ToldNo, ToldMemory, ToldFault, YesOfFiles};
 ghost use Rattle.machcheck.specs.Told.{NoOfFiles, FaultOfFiles};
-ghost use Rattle.machcheck.specs.Commands.{DoneOf, NoOf, FaultOf, IsMake, SomeCommand, WentOut};
+ghost use Rattle.machcheck.specs.Commands.{DoneOf, NoOf, FaultOf, CutOf, IsMake, SomeCommand};
+ghost use Rattle.machcheck.specs.Commands.{WentOut};
 ghost use Rattle.machcheck.specs.CommandLine.{AsksHelp};
 
 use crate::command::{CheckFiles, Command, NoCommand, read};
 use crate::explain::explain_files;
-use crate::files::{Folder, Unread, bytes_of, unread_told};
 use crate::live::live_files;
 use crate::make::make_files;
 use crate::replay::replay_files;
 use crate::system::{SystemBytes, system_bytes};
 use crate::tell::verdict;
-use crate::told::{Told, memory};
+use crate::told::{Told, memory, unread_told};
 use crate::words::{WordsFault, words_line};
 use mrc_base::OrMemory;
 use mrc_check::{Confined, TextsFault, check_texts};
-use mrc_report::{ReadFault, write_text};
+use mrc_files::{Folder, ReadFault, Unread, bytes_of, write_text};
 use std::alloc::{AllocError, Global};
 use std::io::Write;
 use std::marker::Model;
@@ -158,9 +159,11 @@ fn answer<F: Folder, R: Threads + Wait + Sync>(
     ensures fault { IfOk result (λ told. told.status ≡ 2
         → FaultOf (F.held folder.old) command.now told) }
     ensures silent { IfOk result (λ told. told.status ≡ 2 → string_bytes told.out ≡ []) }
-    // A file is changed where a certificate is told, and nowhere else.
+    // A file is changed where a certificate is told, or that the file took so many of its bytes and
+    // has these, and nowhere else.
     ensures kept { IsOkAnd result (λ told. (told.status ≡ 0) × IsMake command.now)
-        ⊎ (F.held folder.new ≡ F.held folder.old) }
+        ⊎ (IsOkAnd result (CutOf (F.held folder.old) (F.held folder.new) command.now)
+        ⊎ (F.held folder.new ≡ F.held folder.old)) }
 {
     match command {
         Command::Check(files) => check_files(rt, folder, alloc, files),

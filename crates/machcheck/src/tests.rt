@@ -1,10 +1,9 @@
 //! The program on worked cases: standard output, standard error and status.
 
-use crate::files::{Disk, Folder};
 use crate::run::{run, start};
 use crate::words::{WordsFault, words_of};
 use mrc_base::OrMemory;
-use mrc_report::WriteFault;
+use mrc_files::{Disk, Folder, WriteFault};
 use std::alloc::Global;
 use std::cell::Cell;
 use std::env::{Env, FillError};

@@ -1,7 +1,6 @@
 pub mod NameLemmas
 pub mod ScriptLaws
 pub mod ReplayLaws
-pub mod FileLemmas
 pub mod ByteLaws
 mod Examples
 mod WorkedReplay

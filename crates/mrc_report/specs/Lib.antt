@@ -4,6 +4,5 @@ pub mod Waiting
 pub mod Scripts
 pub mod Printing
 pub mod Replay
-pub mod Files
 pub mod Plays
 pub mod Journal

@@ -3,7 +3,6 @@
 #![tactic(auto)]
 
 mod calls;
-mod files;
 mod parameters;
 mod playing;
 mod printing;
@@ -13,7 +12,7 @@ mod script;
 mod serving;
 mod waiting;
 
-pub use files::{ReadFault, WriteFault, read_all, read_fault, write_text};
+pub use mrc_files::{ReadFault, WriteFault, read_all, read_fault, write_text};
 pub use parameters::number_of_word;
 pub use playing::{Gate, LiveFault};
 pub use printing::{code_word, end_line, event_line, reply_text};

@@ -1,6 +1,5 @@
-//! Scripts, events and files on worked cases.
+//! Scripts and events on worked cases.
 
-mod files;
 mod live;
 mod printing;
 mod scripts;

@@ -1,5 +1,5 @@
 use Rattle.std.proofs.Common.{[], ◌∷◌}
-use Rattle.machcheck.proofs.FileLaws.{held_more}
+use Rattle.mrc_files.proofs.FileLaws.{held_more}
 use Rattle.machcheck.proofs.live.live_bytes.Goals as goal
 
 pub returns-clause-held : goal.returns-clause-held

@@ -2,7 +2,7 @@ use Rattle.std.proofs.Common.{◌≡◌, sym, subst, Result}
 use Rattle.std.specs.Prelude.{IfOk}
 use Rattle.machcheck.specs.declared.told.Told.{Told}
 use Rattle.machcheck.specs.declared.command.Command.{Command}
-use Rattle.machcheck.specs.Files.{Held}
+use Rattle.mrc_files.specs.Files.{Held}
 use Rattle.machcheck.specs.Commands.{FaultOf}
 use Rattle.machcheck.proofs.run.answer.Goals as goal
 

@@ -1,8 +1,8 @@
 use Rattle.std.proofs.Common.{[], ◌∷◌, subst, sym}
 use Rattle.std.proofs.lemmas.List.Elements.{All-append}
 use Rattle.std.proofs.lemmas.Result.{err_from_is_err_and}
-use Rattle.machcheck.specs.Files.{IsFirstUnread, Fits}
-use Rattle.machcheck.proofs.FileLaws.{held_more, first_behind, first_is, one_of}
+use Rattle.mrc_files.specs.Files.{IsFirstUnread, Fits}
+use Rattle.mrc_files.proofs.FileLaws.{held_more, first_behind, first_is, one_of}
 use Rattle.machcheck.proofs.run.check_bytes.Goals as goal
 
 pub returns-in_err-certificate-clause-first : goal.returns-in_err-certificate-clause-first

@@ -1,6 +1,6 @@
 use Rattle.std.proofs.Common.{ℕ, List, [], ◌∷◌, map, subst, Bor, Vec, Global}
-use Rattle.machcheck.specs.Files.{AreHeld}
-use Rattle.machcheck.proofs.FileLaws.{held_more}
+use Rattle.mrc_files.specs.Files.{AreHeld}
+use Rattle.mrc_files.proofs.FileLaws.{held_more}
 use Rattle.machcheck.proofs.system.system_bytes.Goals as goal
 
 pub returns-clause-held : goal.returns-clause-held

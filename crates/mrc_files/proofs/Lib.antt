@@ -1,0 +1,5 @@
+pub mod StreamLemmas
+pub mod FileLaws
+pub mod PathLaws
+mod PartLaws
+mod Examples
