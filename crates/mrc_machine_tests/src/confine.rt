@@ -1,9 +1,11 @@
-use crate::Guarded;
-use crate::laws::{
-    accepted_is_safe, confined_is_safe, covered_safe, first_covered, step_covered, yes_is_safe,
-};
+//! The machine of what was accepted.
+
 use mrc_base::{Disp, Right, TaskId};
 use mrc_check::{Confined, check_texts};
+use mrc_confine::Guarded;
+use mrc_confine::laws::{
+    accepted_is_safe, confined_is_safe, covered_safe, first_covered, step_covered, yes_is_safe,
+};
 use mrc_desc::read_message;
 use mrc_machine::{Call, Reply};
 use mrc_model::{Code, Denied};
