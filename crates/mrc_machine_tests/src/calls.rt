@@ -121,7 +121,10 @@ fn assert_each(
 ) {
     for number in 0..13u8 {
         let call = wrong_call(number, task);
-        assert!(rt; machine.answers(rt.alloc(), TaskId(caller), &call, reply), "{number} {task}");
+        assert!(rt;
+            machine.answers(rt.alloc(), TaskId(caller), &call, reply),
+            "{number} {task}"
+        );
     }
 }
 
@@ -156,7 +159,13 @@ fn a_caller_that_is_no_task(rt: HostRuntime) -> Result<(), Fail> {
 }
 
 /// Whether something of a kind is refused that it lacks, in the task's own space.
-pub fn lacks_kind(alloc: Global, machine: &mut Machine, task: u32, right: Right, kind: u32) -> bool {
+pub fn lacks_kind(
+    alloc: Global,
+    machine: &mut Machine,
+    task: u32,
+    right: Right,
+    kind: u32,
+) -> bool {
     let call = Call::Allocate {
         task: 1,
         right,
@@ -173,7 +182,10 @@ fn kinds_that_a_task_lacks(rt: HostRuntime) -> Result<(), Fail> {
         (Right::PortSet, 1),
         (Right::DeadName, 7),
     ] {
-        assert!(rt; lacks_kind(rt.alloc(), &mut machine, 0, right, kind), "{right:?}");
+        assert!(rt;
+            lacks_kind(rt.alloc(), &mut machine, 0, right, kind),
+            "{right:?}"
+        );
     }
     Ok(())
 }

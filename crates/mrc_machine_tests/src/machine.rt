@@ -156,7 +156,9 @@ impl Machine {
 
 /// Whether the holdings of a machine are these.
 pub fn holds(machine: &Machine, want: &[Holding]) -> bool {
-    machine.holdings().is_some_and(|held| held.as_slice() == want)
+    machine
+        .holdings()
+        .is_some_and(|held| held.as_slice() == want)
 }
 
 /// A line of a script, and its reply behind ` -> `.

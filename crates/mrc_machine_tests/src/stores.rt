@@ -66,7 +66,11 @@ fn puts(alloc: Global, store: &mut Store, right: PortRight) -> Result<bool, Fail
 }
 
 /// What is moved from name 1 of the space that comes back from a task without one.
-fn puts_in_vain(alloc: Global, store: &mut Store, right: PortRight) -> Result<Option<PortId>, Fail> {
+fn puts_in_vain(
+    alloc: Global,
+    store: &mut Store,
+    right: PortRight,
+) -> Result<Option<PortId>, Fail> {
     let mut back = store.put_space(B, space_with(alloc, right)?);
     Ok(back.take(1, Disp::MoveSend).ok())
 }

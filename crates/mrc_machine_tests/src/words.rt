@@ -59,10 +59,16 @@ fn facts(rt: HostRuntime) -> Result<(), Fail> {
     let wired = wired(rt.alloc())?;
     for (text, fact) in [
         ("hold l births:f send", hold(0, 5, PortRight::Send)),
-        ("carry births:l task:f receive", carry(4, 3, PortRight::Receive)),
+        (
+            "carry births:l task:f receive",
+            carry(4, 3, PortRight::Receive),
+        ),
         ("backup births:f births:l", backup(5, 4)),
         ("hold f port:f receive", hold(1, 0, PortRight::Receive)),
-        ("carry port:f port:safe once", carry(0, 1, PortRight::SendOnce)),
+        (
+            "carry port:f port:safe once",
+            carry(0, 1, PortRight::SendOnce),
+        ),
         ("backup births:f port:safe", backup(5, 1)),
     ] {
         assert!(rt; is_printed(rt.alloc(), &wired, fact, text)?, "{text}");
