@@ -20,11 +20,8 @@ l insert_right 1 7 2 19 -> refused KERN_RIGHT_EXISTS
 f insert_right 1 2 2 20 -> done
 f insert_right 1 3 2 21 -> done";
 
-// Each right once, by task and name, whatever the number of references.
-#[test]
-fn what_tasks_hold(rt: HostRuntime) -> Result<(), Fail> {
-    let mut machine = started(rt.alloc(), TWO)?;
-    run(&rt, &mut machine, HOLDING);
+/// Whether tasks hold each right once, by task and name, whatever the number of references.
+fn holds_each(machine: &Machine) -> bool {
     let want = [
         holding(0, 0, PortRight::Send),
         holding(0, 1, PortRight::Send),
@@ -33,7 +30,14 @@ fn what_tasks_hold(rt: HostRuntime) -> Result<(), Fail> {
         holding(1, 2, PortRight::Send),
         holding(1, 2, PortRight::SendOnce),
     ];
-    assert!(rt; holds(&machine, &want));
+    holds(machine, &want)
+}
+
+#[test]
+fn what_tasks_hold(rt: HostRuntime) -> Result<(), Fail> {
+    let mut machine = started(rt.alloc(), TWO)?;
+    run(&rt, &mut machine, HOLDING);
+    assert!(rt; holds_each(&machine));
     assert_eq!(rt; machine.live_ports(), 3);
     Ok(())
 }

@@ -193,11 +193,9 @@ f receive 2 32 -> message of 32
 f request_notification 1 3 69 0 0 21 -> name 4
 f type 1 4 -> type 262144";
 
-// A request that is replaced gives its send-once right to the task that made the new one.
-#[test]
-fn what_tasks_hold_after_a_request(rt: HostRuntime) -> Result<(), Fail> {
-    let mut machine = inbox(rt.alloc())?;
-    run_short(&rt, &mut machine, REPLACING);
+/// Whether the send-once right of a request that was replaced is held by the task that made the new
+/// one.
+fn holds_replaced(machine: &Machine) -> bool {
     let want = [
         holding(0, 0, PortRight::Send),
         holding(0, 3, PortRight::Receive),
@@ -208,7 +206,14 @@ fn what_tasks_hold_after_a_request(rt: HostRuntime) -> Result<(), Fail> {
         holding(1, 4, PortRight::Receive),
         holding(1, 3, PortRight::SendOnce),
     ];
-    assert!(rt; holds(&machine, &want));
+    holds(machine, &want)
+}
+
+#[test]
+fn what_tasks_hold_after_a_request(rt: HostRuntime) -> Result<(), Fail> {
+    let mut machine = inbox(rt.alloc())?;
+    run_short(&rt, &mut machine, REPLACING);
+    assert!(rt; holds_replaced(&machine));
     assert_eq!(rt; machine.live_ports(), 5);
     Ok(())
 }

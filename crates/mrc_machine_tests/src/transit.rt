@@ -4,7 +4,7 @@ use mrc_base::{ClassId, OrMemory, PortId, PortRight, TaskId};
 use mrc_model::{Code, Entry, Item};
 use mrc_names::Space;
 use mrc_ports::{Parcel, Shortage, Store};
-use mrc_transit::{ReceiveFault, copy_out};
+use mrc_transit::{ReceiveFault, Written, copy_out};
 use std::alloc::{AllocError, Global};
 use std::test::Fail;
 
@@ -25,8 +25,9 @@ fn bear(store: &mut Store) -> Result<PortId, OrMemory<Shortage>> {
 fn two_ports(alloc: Global, space: Space) -> Result<Store, OrMemory<Shortage>> {
     let mut store = Store::new(alloc);
     store.add_space(A, space)?;
-    let _ = bear(&mut store)?;
-    let _ = bear(&mut store)?;
+    for _ in 0..2u8 {
+        let _ = bear(&mut store)?;
+    }
     Ok(store)
 }
 
@@ -68,12 +69,15 @@ fn why(alloc: Global, store: &Store, name: u32, limit: u32) -> Option<ReceiveFau
     }
 }
 
-/// Whether task A receives these bytes by name 1.
-fn receives(alloc: Global, store: &mut Store, bytes: &[u8]) -> bool {
-    match copy_out(alloc, store, A, 1, 24) {
-        Ok(plan) => plan.apply(store).as_slice() == bytes,
-        Err(_) => false,
-    }
+/// Receives by name 1.
+fn receive(alloc: Global, store: &mut Store) -> Option<Written> {
+    let plan = copy_out(alloc, store, A, 1, 24).ok()?;
+    Some(plan.apply(store))
+}
+
+/// Whether task A receives the message by name 1.
+fn receives(alloc: Global, store: &mut Store) -> bool {
+    receive(alloc, store).is_some_and(|bytes| bytes.as_slice() == WRITTEN.as_slice())
 }
 
 fn entry_of(store: &Store, name: u32) -> Option<Entry> {
@@ -84,7 +88,7 @@ fn entry_of(store: &Store, name: u32) -> Option<Entry> {
 fn a_message_is_received(rt: HostRuntime) -> Result<(), Fail> {
     let mut store = waiting(rt.alloc())?;
     assert!(rt; why(rt.alloc(), &store, 1, 23) == Some(ReceiveFault::TooLarge(24)));
-    assert!(rt; receives(rt.alloc(), &mut store, &WRITTEN));
+    assert!(rt; receives(rt.alloc(), &mut store));
     let reply = Entry::SendOnce { port: PortId(1) };
     assert!(rt; entry_of(&store, 2) == Some(reply));
     Ok(())
