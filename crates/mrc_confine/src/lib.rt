@@ -4,7 +4,5 @@
 
 mod guarded;
 pub mod laws;
-#[cfg(test)]
-mod tests;
 
 pub use guarded::Guarded;

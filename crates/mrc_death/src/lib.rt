@@ -15,6 +15,3 @@ pub use plan::Dying;
 pub use planning::dying;
 pub use search::{Deaths, find_deaths};
 pub use taking::{Destroyed, deaths_by, doomed_by};
-
-#[cfg(test)]
-mod tests;

@@ -32,6 +32,3 @@ pub use holding::Holding;
 pub use reply::Reply;
 pub use room::Room;
 pub use world::World;
-
-#[cfg(test)]
-mod tests;

@@ -11,6 +11,3 @@ pub use parcel::{Items, Parcel, Queue, QueuedArgument, Ready, moving};
 pub use port::Port;
 pub use store::Store;
 pub use table::{NoSuchPort, NotQueued, PortTable, Shortage};
-
-#[cfg(test)]
-mod tests;

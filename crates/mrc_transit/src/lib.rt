@@ -18,6 +18,3 @@ pub use send_plan::{SendPlan, copy_in};
 pub use sending::{SendFault, Slot, admit};
 pub use taking::{NotHeld, Taking};
 pub use written::{Written, WrittenRoom};
-
-#[cfg(test)]
-mod tests;

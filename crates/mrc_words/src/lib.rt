@@ -8,6 +8,3 @@ mod reading;
 
 pub use printing::{class_word, fact_text, right_word, task_word};
 pub use reading::{fact_named, right_named};
-
-#[cfg(test)]
-mod tests;

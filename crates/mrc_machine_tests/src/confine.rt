@@ -1,9 +1,11 @@
-use crate::Guarded;
-use crate::laws::{
-    accepted_is_safe, confined_is_safe, covered_safe, first_covered, step_covered, yes_is_safe,
-};
+//! The machine of what was accepted.
+
 use mrc_base::{Disp, Right, TaskId};
 use mrc_check::{Confined, check_texts};
+use mrc_confine::Guarded;
+use mrc_confine::laws::{
+    accepted_is_safe, confined_is_safe, covered_safe, first_covered, step_covered, yes_is_safe,
+};
 use mrc_desc::read_message;
 use mrc_machine::{Call, Reply};
 use mrc_model::{Code, Denied};
@@ -65,12 +67,14 @@ fn replies(guarded: &mut Guarded) -> [bool; 3] {
     ]
 }
 
+fn live_ports(guarded: &Guarded) -> usize {
+    guarded.world().live_ports()
+}
+
 /// The replies, and how many ports there are then.
 fn run_alone(rt: &(impl Threads + Sync), alloc: Global) -> Result<([bool; 3], usize), AllocError> {
-    match Guarded::start(alloc, alone(rt, alloc)?) {
-        Ok(mut guarded) => Ok((replies(&mut guarded), guarded.world().live_ports())),
-        Err(_) => Err(AllocError),
-    }
+    let mut guarded = started(alloc, alone(rt, alloc)?)?;
+    Ok((replies(&mut guarded), live_ports(&guarded)))
 }
 
 #[test]
@@ -81,18 +85,32 @@ fn what_was_checked_runs(rt: HostRuntime) -> Result<(), Fail> {
     Ok(())
 }
 
+/// Whether what was checked is equal, at a machine.
+fn is_of(guarded: &Guarded, copy: &Confined) -> bool {
+    guarded.confined().same(copy)
+}
+
+/// Whether what comes back of a machine is equal.
+fn gives_back(guarded: Guarded, copy: &Confined) -> bool {
+    guarded.into_confined().same(copy)
+}
+
 /// Whether an equal one comes back of a machine that was started.
-fn comes_back(alloc: Global, confined: Confined) -> Result<bool, AllocError> {
-    let copy = confined.copy(alloc)?;
-    match Guarded::start(alloc, confined) {
-        Ok(guarded) => Ok(guarded.confined().same(&copy) && guarded.into_confined().same(&copy)),
-        Err(_) => Err(AllocError),
-    }
+fn comes_back(alloc: Global, confined: Confined, copy: &Confined) -> Result<bool, AllocError> {
+    let guarded = started(alloc, confined)?;
+    Ok(is_of(&guarded, copy) && gives_back(guarded, copy))
+}
+
+/// The same of a task alone.
+fn alone_comes_back(rt: &(impl Threads + Sync), alloc: Global) -> Result<bool, AllocError> {
+    let confined = alone(rt, alloc)?;
+    let copy = copied(alloc, &confined)?;
+    comes_back(alloc, confined, &copy)
 }
 
 #[test]
 fn what_was_checked_comes_back(rt: HostRuntime) -> Result<(), Fail> {
-    assert!(rt; comes_back(rt.alloc(), alone(&rt, rt.alloc())?)?);
+    assert!(rt; alone_comes_back(&rt, rt.alloc())?);
     Ok(())
 }
 
@@ -288,23 +306,37 @@ fn gets(guarded: &mut Guarded) -> [bool; 2] {
     ]
 }
 
-/// Which replies were right, and whether what was checked comes back in the end.
-type Replies = ([bool; 3], [bool; 4], [bool; 2], bool);
+/// Which replies were right.
+type Replies = ([bool; 3], [bool; 4], [bool; 2]);
 
 /// The whole run of the file server.
-fn run_files(rt: &(impl Threads + Sync), alloc: Global) -> Result<Replies, AllocError> {
+fn play(alloc: Global, guarded: &mut Guarded) -> Result<Replies, AllocError> {
+    let asked = asks(alloc, guarded)?;
+    let answered = answers(alloc, guarded)?;
+    Ok((asked, answered, gets(guarded)))
+}
+
+/// The replies of a run, and whether what was checked comes back in the end.
+fn play_to_the_end(
+    alloc: Global,
+    confined: Confined,
+    copy: &Confined,
+) -> Result<(Replies, bool), AllocError> {
+    let mut guarded = started(alloc, confined)?;
+    let replies = play(alloc, &mut guarded)?;
+    Ok((replies, gives_back(guarded, copy)))
+}
+
+/// The same of the file server.
+fn run_files(rt: &(impl Threads + Sync), alloc: Global) -> Result<(Replies, bool), AllocError> {
     let confined = file_server(rt, alloc)?;
     let copy = copied(alloc, &confined)?;
-    let mut guarded = started(alloc, confined)?;
-    let asked = asks(alloc, &mut guarded)?;
-    let answered = answers(alloc, &mut guarded)?;
-    let got = gets(&mut guarded);
-    Ok((asked, answered, got, guarded.into_confined().same(&copy)))
+    play_to_the_end(alloc, confined, &copy)
 }
 
 #[test]
 fn a_file_server_runs(rt: HostRuntime) -> Result<(), Fail> {
-    let (asked, answered, got, comes_back) = run_files(&rt, rt.alloc())?;
+    let ((asked, answered, got), comes_back) = run_files(&rt, rt.alloc())?;
     assert_eq!(rt; asked, [true; 3]);
     assert_eq!(rt; answered, [true; 4]);
     assert_eq!(rt; got, [true; 2]);
