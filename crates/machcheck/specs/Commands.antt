@@ -8,6 +8,7 @@ use Rattle.machcheck.specs.declared.command.Command.TheVariants.{Check, Make, Ex
 use Rattle.machcheck.specs.Files.{Held}
 use Rattle.machcheck.specs.Told.{YesOfFiles, NoOfFiles, FaultOfFiles, MadeOfFiles, FaultOfMake}
 use Rattle.machcheck.specs.Told.{ReplayOfFiles, FaultOfReplay, LiveOfFiles, NoOfLive, FaultOfLive}
+use Rattle.machcheck.specs.Told.{HaltedOfFiles}
 use Rattle.machcheck.specs.Explained.{ChainOfFiles, NoneOfFiles, FaultOfExplain}
 
 -- with status 0: a yes, the making of a certificate, a chain, a replay or a journal
@@ -33,6 +34,14 @@ FaultOf held (Make files) told = FaultOfMake held files told
 FaultOf held (Explain files) told = FaultOfExplain held files told
 FaultOf held (Replay files) told = FaultOfReplay held files told
 FaultOf held (Live files) told = FaultOfLive held files told
+
+-- with status 2 and a text on standard output: that no task of a `live` can go on
+abbrev pub HaltedOf : Held → Command → Told → Type 0
+HaltedOf held (Check files) told = ⊥
+HaltedOf held (Make files) told = ⊥
+HaltedOf held (Explain files) told = ⊥
+HaltedOf held (Replay files) told = ⊥
+HaltedOf held (Live files) told = HaltedOfFiles held files told
 
 -- the command that may change a file
 abbrev pub IsMake : Command → Type 0

@@ -10,7 +10,8 @@ ghost use Rattle.std.specs.List.{All};
 ghost use Rattle.machcheck.specs.Files.{AreHeld, Exceeds, Fits, IsFirstUnread, check_names};
 ghost use Rattle.machcheck.specs.Told.{ToldYes, ToldNo, ToldMemory, ToldFault, YesOfFiles};
 ghost use Rattle.machcheck.specs.Told.{NoOfFiles, FaultOfFiles};
-ghost use Rattle.machcheck.specs.Commands.{DoneOf, NoOf, FaultOf, IsMake, SomeCommand, WentOut};
+ghost use Rattle.machcheck.specs.Commands.{DoneOf, NoOf, FaultOf, HaltedOf, IsMake, SomeCommand};
+ghost use Rattle.machcheck.specs.Commands.{WentOut};
 ghost use Rattle.machcheck.specs.CommandLine.{AsksHelp};
 
 use crate::command::{CheckFiles, Command, NoCommand, read};
@@ -157,7 +158,10 @@ fn answer<F: Folder, R: Threads + Wait + Sync>(
         → NoOf (F.held folder.old) command.now told) }
     ensures fault { IfOk result (λ told. told.status ≡ 2
         → FaultOf (F.held folder.old) command.now told) }
-    ensures silent { IfOk result (λ told. told.status ≡ 2 → string_bytes told.out ≡ []) }
+    // With status 2 nothing goes to standard output, but for the journal of a `live` after which no
+    // task can go on.
+    ensures silent { IfOk result (λ told. told.status ≡ 2 → (string_bytes told.out ≡ [])
+        ⊎ HaltedOf (F.held folder.old) command.now told) }
     // A file is changed where a certificate is told, and nowhere else.
     ensures kept { IsOkAnd result (λ told. (told.status ≡ 0) × IsMake command.now)
         ⊎ (F.held folder.new ≡ F.held folder.old) }
@@ -185,7 +189,8 @@ fn told<F: Folder, R: Threads + Wait + Sync>(
         ⊎ AsksHelp (map string_bytes words.now)) }
     ensures no { IfOk result (λ told. told.status ≡ 1
         → SomeCommand (NoOf (F.held folder.old)) told) }
-    ensures fault { IfOk result (λ told. told.status ≡ 2 → string_bytes told.out ≡ []) }
+    ensures fault { IfOk result (λ told. told.status ≡ 2 → (string_bytes told.out ≡ [])
+        ⊎ SomeCommand (HaltedOf (F.held folder.old)) told) }
 {
     match read(alloc, words) {
         Ok(command) => answer(rt, folder, alloc, &command),
@@ -221,8 +226,8 @@ fn write_told<O: Write, E: Write>(alloc: Global, told: &Told, out: &mut O, err: 
 
 /// Runs the program on the words of a command line, its own name first, and on the files of a
 /// folder. The status is 0 for `YES`, for a certificate that is made, for a chain, for a replay,
-/// for a journal and for help and the version, 1 for `NO` and for `none`, and 2 for a fault. It may
-/// wait: where all tasks of a script wait for messages it does not return.
+/// for a journal and for help and the version, 1 for `NO` and for `none`, and 2 for a fault and
+/// where all tasks of a `live` that have lines left wait for messages.
 pub fn run<F: Folder, R: Threads + Wait + Sync, O: Write, E: Write>(
     rt: &R,
     folder: &mut F,

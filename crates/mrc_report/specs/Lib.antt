@@ -7,3 +7,5 @@ pub mod Replay
 pub mod Files
 pub mod Plays
 pub mod Journal
+pub mod Halts
+pub mod Served

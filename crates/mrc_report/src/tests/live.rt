@@ -2,7 +2,7 @@
 
 ghost use Rattle.std.specs.Prelude.{◌≡◌};
 
-use crate::{Gate, read_script, run_live, serve};
+use crate::{Gate, Served, read_script, run_live, serve};
 use mrc_base::OrMemory;
 use mrc_check::{Confined, check_texts};
 use mrc_confine::Guarded;
@@ -158,7 +158,8 @@ fn too_many<L: Ledger + Send + Sync, R: Threads + Wait + Sync>(
         return Err(AllocError);
     };
     match serve::<L, _, _>(rt, alloc, confined, script, 1, blank, &gate) {
-        Ok(text) => Ok(text),
+        Ok(Served::Whole(text)) => Ok(text),
+        Ok(Served::AllWait(text, _)) => Ok(text),
         Err(OrMemory::Fault(fault)) => fault.to_string(alloc),
         Err(OrMemory::Memory) => Err(AllocError),
     }
@@ -168,5 +169,39 @@ fn too_many<L: Ledger + Send + Sync, R: Threads + Wait + Sync>(
 fn a_journal_is_full(rt: HostRuntime) -> Result<(), Fail> {
     let told = too_many::<Brand, _>(&rt, rt.alloc(), Blank::new(257))?;
     assert_eq!(rt; told.as_str(), "JournalFull");
+    Ok(())
+}
+
+/// What is told of a script of the file server, with the lines that wait, if all do.
+fn all_waiting<L: Ledger + Send + Sync, R: Threads + Wait + Sync>(
+    rt: &R,
+    alloc: Global,
+    blank: Blank,
+    text: &str,
+) -> Result<(String, Vec<u32>), AllocError>
+    requires name { blank.name ≡ L.name }
+    requires parts { (blank.parts ≡ L.parts) × (L.parts ≡ 257) }
+{
+    let gate = Holding {
+        entered: AtomicBool::new(true),
+        gave_up: AtomicBool::new(false),
+    };
+    let confined = file_server(rt, alloc)?;
+    let Ok(script) = read_script(alloc, confined.wired(), text, true) else {
+        return Err(AllocError);
+    };
+    match serve::<L, _, _>(rt, alloc, confined, script, 100, blank, &gate) {
+        Ok(Served::Whole(text)) => Ok((text, Vec::new(alloc))),
+        Ok(Served::AllWait(text, lines)) => Ok((text, lines)),
+        Err(_) => Err(AllocError),
+    }
+}
+
+#[test]
+fn two_tasks_wait_for_each_other(rt: HostRuntime) -> Result<(), Fail> {
+    let script = "fs wait 2 92\nfs names 1\napp allocate 1 receive\napp wait 3 40\n";
+    let (text, lines) = all_waiting::<Brand, _>(&rt, rt.alloc(), Blank::new(257), script)?;
+    assert_eq!(rt; text.as_str(), "0 app name 3\nend events 1 ports 4\n");
+    assert_eq!(rt; lines.as_slice(), [1, 4].as_slice());
     Ok(())
 }
