@@ -6,5 +6,6 @@ pub mod ByteLaws
 mod Examples
 mod WorkedReplay
 pub mod Asking
+pub mod Halting
 pub mod Joining
 pub mod JournalLaws

@@ -1,8 +1,7 @@
 //! Runs that end because all tasks that have lines left wait for messages.
 
-ghost use Rattle.std.specs.Prelude.{◌≡◌, ◌<◌, ◌≤◌, ℕ, [], ◌++◌, IfNone, IfOk, IfSome, IsTrue};
-ghost use Rattle.std.specs.Prelude.{IsPermutation, None, Some, length, map, slice_get};
-ghost use Rattle.std.specs.Prelude.{vec_capacity, vec_len};
+ghost use Rattle.std.specs.Prelude.{◌≡◌, ◌<◌, ℕ, ◌++◌, IfNone, IfOk, IfSome, IsPermutation, IsTrue};
+ghost use Rattle.std.specs.Prelude.{None, Some, length, map, slice_get};
 ghost use Rattle.mrc_confine.specs.Guards.{wiring_in};
 ghost use Rattle.mrc_live.specs.Runs.{event_of};
 ghost use Rattle.mrc_report.specs.Halts.{WaitsInVain, lines_of, next_line, next_numbers, number_in};
@@ -69,14 +68,12 @@ fn add_next(
     task: u32,
     numbers: &mut Vec<u32>,
 ) -> Result<bool, AllocError>
-    requires { vec_len numbers.old < vec_capacity numbers.old }
     ensures vain { IfOk result (λ is. IsTrue is
         → IfSome (next_line script.now (map event_of events.now) task)
         (λ line. WaitsInVain (wiring_in guarded.old.confined) guarded.old.world line.says)) }
     ensures added { IfOk result (λ is. IsTrue is → numbers.new.items ≡ numbers.old.items
         ++ number_in (next_line script.now (map event_of events.now) task)) }
     ensures kept { IfOk result (λ is. IsTrue is → guarded.new ≡ guarded.old) }
-    ensures room { vec_capacity numbers.new ≡ vec_capacity numbers.old }
 {
     let Some(line) = line_after(script, task, calls_made(events, task)) else {
         return Ok(true);
@@ -84,12 +81,37 @@ fn add_next(
     if !waits_in_vain(guarded, &line.says)? {
         return Ok(false);
     }
-    numbers.push_reserved(line.number);
+    numbers.push(line.number)?;
     Ok(true)
 }
 
-/// The numbers of the lines at which all tasks that have lines left wait in vain, ascending; `None`
+/// The numbers of the lines that the tasks say next, by task, each of which waits in vain; `None`
 /// where one of them could go on. The machine is in the world after the events.
+fn next_lines(
+    alloc: Global,
+    guarded: &mut Guarded,
+    script: &Script,
+    events: &[Event],
+) -> Result<Option<Vec<u32>>, AllocError>
+    ensures halted { IfOk result (λ some. IfSome some (λ _. (task : ℕ)
+        → task < (wiring_in guarded.old.confined).tasks
+        → IfSome (next_line script.now (map event_of events.now) task)
+        (λ line. WaitsInVain (wiring_in guarded.old.confined) guarded.old.world line.says))) }
+    ensures lines { IfOk result (λ some. IfSome some (λ lines. lines.items ≡
+        next_numbers script.now (map event_of events.now)
+        (wiring_in guarded.old.confined).tasks)) }
+{
+    let tasks = guarded.confined().wired().tasks();
+    let mut numbers = Vec::new(alloc);
+    for task in 0..u32::from(tasks) {
+        if !add_next(guarded, script.lines(), events, task, &mut numbers)? {
+            return Ok(None);
+        }
+    }
+    Ok(Some(numbers))
+}
+
+/// The same, ascending.
 pub(crate) fn waiting_lines(
     alloc: Global,
     guarded: &mut Guarded,
@@ -109,29 +131,4 @@ pub(crate) fn waiting_lines(
     };
     lines.as_mut_slice().sort_unstable();
     Ok(Some(lines))
-}
-
-/// The same, by task.
-fn next_lines(
-    alloc: Global,
-    guarded: &mut Guarded,
-    script: &Script,
-    events: &[Event],
-) -> Result<Option<Vec<u32>>, AllocError>
-    ensures halted { IfOk result (λ some. IfSome some (λ _. (task : ℕ)
-        → task < (wiring_in guarded.old.confined).tasks
-        → IfSome (next_line script.now (map event_of events.now) task)
-        (λ line. WaitsInVain (wiring_in guarded.old.confined) guarded.old.world line.says))) }
-    ensures lines { IfOk result (λ some. IfSome some (λ lines. lines.items ≡
-        next_numbers script.now (map event_of events.now)
-        (wiring_in guarded.old.confined).tasks)) }
-{
-    let tasks = guarded.confined().wired().tasks();
-    let mut numbers = Vec::with_capacity(alloc, usize::from(tasks))?;
-    for task in 0..u32::from(tasks) {
-        if !add_next(guarded, script.lines(), events, task, &mut numbers)? {
-            return Ok(None);
-        }
-    }
-    Ok(Some(numbers))
 }

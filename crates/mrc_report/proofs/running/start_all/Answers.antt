@@ -12,16 +12,16 @@ loop-task-preserved g c =
     let task : seated ≡ c.loop-task.task = search rules in
     let len : c.loop-task.task ≡ length was.items = search rules in
     let here = both_of one (λ h. h.promise.task ≡ seated) (λ h. h.promise.script.value ≡ script)
-    (λ p. IsPlayed seated script p.seat p.fault) c.start.ensures.task c.start.ensures.script
+    (λ p. IsPlayed seated script p.seat p.halt) c.start.ensures.task c.start.ensures.script
     c.start.ensures.err in (
       search rules,
       search rules,
       each_grown (λ t x. MatchResult x
           (λ h. (h.promise.task ≡ t) × (h.promise.script.value ≡ script))
-          (λ p. IsPlayed t script p.seat p.fault))
+          (λ p. IsPlayed t script p.seat p.halt))
           was.items c.push_reserved.new.self.items one c.loop-task.task
           c.push_reserved.ensures.items len c.loop-task.invariant.2
           (subst (λ t. MatchResult one
           (λ h. (h.promise.task ≡ t) × (h.promise.script.value ≡ script))
-          (λ p. IsPlayed t script p.seat p.fault)) task here),
+          (λ p. IsPlayed t script p.seat p.halt)) task here),
     )

@@ -9,4 +9,4 @@ invariant-loop-task g l =
     (vec_len l.running ≡ l.task) × ((wiring_in l.live).tasks ≤ vec_capacity l.running)
     × ((t : ℕ) (x : _) → slice_get l.running.items t ≡ Some x → MatchResult x
     (λ h. (h.promise.task ≡ t) × (h.promise.script.value ≡ l.script))
-    (λ p. IsPlayed t l.script p.seat p.fault))
+    (λ p. IsPlayed t l.script p.seat p.halt))
