@@ -61,13 +61,12 @@ get_behind (z ∷ xs) ys x = get_behind xs ys x
 
 split_at : {X : Type 0} (xs : List X) (k : ℕ) (x : X) → slice_get xs k ≡ Some x
     → (ys : List X) × (xs ≡ take k xs ++ x ∷ ys)
-split_at xs k x at =
-    (
-      drop (k + 1) xs,
-      sym (take-append-drop (k + 1) xs)
-          ∙ ap (λ front. front ++ drop (k + 1) xs) (take_next xs k (k + 1) x at refl)
-          ∙ behind (take k xs) x (drop (k + 1) xs),
-    )
+split_at xs k x at = (
+  drop (k + 1) xs,
+  sym (take-append-drop (k + 1) xs)
+      ∙ ap (λ front. front ++ drop (k + 1) xs) (take_next xs k (k + 1) x at refl)
+      ∙ behind (take k xs) x (drop (k + 1) xs),
+)
 
 behind : {X : Type 0} (xs : List X) (x : X) (ys : List X) → (xs ++ x ∷ []) ++ ys ≡ xs ++ x ∷ ys
 behind [] x ys = refl

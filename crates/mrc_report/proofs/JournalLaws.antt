@@ -192,11 +192,10 @@ is_live case lines seats events world text run parts seated apart says many show
 -- the calls of a beginning are a beginning of the calls
 begins_map : (whole front : List LiveCall) → Begins whole front
     → Begins (map call_of whole) (map call_of front)
-begins_map whole front begins =
-    (
-      map call_of begins.0,
-      sym (map-append call_of front begins.0) ∙ ap (map call_of) begins.1,
-    )
+begins_map whole front begins = (
+  map call_of begins.0,
+  sym (map-append call_of front begins.0) ∙ ap (map call_of) begins.1,
+)
 
 -- what is told of a server that was finished, of which no task can go on
 pub is_halted : (case : Case) (lines : List (Line TaskCall)) (seats : List SeatState)
