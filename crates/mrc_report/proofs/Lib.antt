@@ -6,6 +6,6 @@ pub mod ByteLaws
 mod Examples
 mod WorkedReplay
 pub mod Asking
-pub mod Halting
+pub mod NextLines
 pub mod Joining
 pub mod JournalLaws

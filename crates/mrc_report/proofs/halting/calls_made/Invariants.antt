@@ -6,4 +6,4 @@ use Rattle.mrc_report.proofs.halting.calls_made.Given as goal
 
 abbrev pub invariant-loop-event : goal.invariant-loop-event
 invariant-loop-event l =
-    l.made ≡ length (calls_by l.fn.task (map event_of (take l.event-index l.event-items)))
+    l.made ≡ length (calls_by l.fn.task (map event_of (take l.event-index l.events)))

@@ -5,4 +5,4 @@ use Rattle.mrc_report.proofs.halting.line_after.Given as goal
 
 abbrev pub invariant-loop-line : goal.invariant-loop-line
 invariant-loop-line l =
-    l.left + length (lines_of l.fn.task (take l.line-index l.line-items)) ≡ l.fn.said
+    l.left + length (lines_of l.fn.task (take l.line-index l.lines)) ≡ l.fn.said

@@ -7,10 +7,10 @@ use Rattle.mrc_report.proofs.halting.next_lines.Given as goal
 
 abbrev pub invariant-loop-task : goal.invariant-loop-task
 invariant-loop-task l =
-    let events = map event_of l.fn.events.now in
+    let events = map event_of l.events in
     let case = l.initial.guarded.confined in
     let world = l.initial.guarded.world in
     (l.guarded ≡ l.initial.guarded)
-    × (l.numbers.items ≡ next_numbers l.fn.script.now events l.task)
-    × ((t : ℕ) → t < l.task → IfSome (next_line l.fn.script.now events t)
+    × (l.numbers.items ≡ next_numbers l.script events l.task)
+    × ((t : ℕ) → t < l.task → IfSome (next_line l.script events t)
     (λ line. WaitsInVain (wiring_in case) world line.says))

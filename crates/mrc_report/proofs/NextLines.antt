@@ -54,25 +54,7 @@ same_lines task lines k l at other =
     ∙ append-nil (lines_of task (take k lines)))
 
 -- the element behind the first ones
-get_behind : {X : Type 0} (xs ys : List X) (x : X)
-    → slice_get (xs ++ x ∷ ys) (length xs) ≡ Some x
-get_behind [] ys x = refl
-get_behind (z ∷ xs) ys x = get_behind xs ys x
-
-split_at : {X : Type 0} (xs : List X) (k : ℕ) (x : X) → slice_get xs k ≡ Some x
-    → (ys : List X) × (xs ≡ take k xs ++ x ∷ ys)
-split_at xs k x at = (
-  drop (k + 1) xs,
-  sym (take-append-drop (k + 1) xs)
-      ∙ ap (λ front. front ++ drop (k + 1) xs) (take_next xs k (k + 1) x at refl)
-      ∙ behind (take k xs) x (drop (k + 1) xs),
-)
-
-behind : {X : Type 0} (xs : List X) (x : X) (ys : List X) → (xs ++ x ∷ []) ++ ys ≡ xs ++ x ∷ ys
-behind [] x ys = refl
-behind (z ∷ xs) x ys = ap (λ zs. z ∷ zs) (behind xs x ys)
-
--- the line of a task behind those that it has said
+get_-- the line of a task behind those that it has said
 pub line_there : (task : ℕ) (lines : List (Line TaskCall)) (k said : ℕ) (l : Line TaskCall)
     → slice_get lines k ≡ Some l → (l.says.task == task) ≡ true
     → said ≡ length (lines_of task (take k lines))
@@ -131,14 +113,3 @@ same_calls task events k e at other =
     ap length (calls_next task events k e at
     ∙ (λ i. front ++ cond (other i) ((event_of e).call ∷ []) [])
     ∙ append-nil front)
-
--- there are no more calls of a task than events
-pub calls_few : (task : ℕ) (es : List Event) → length (calls_by task es) ≤ length es
-calls_few task [] = omega arith
-calls_few task (e ∷ es) = few_cond (e.task == task) e.call (calls_by task es) (length es)
-    (calls_few task es)
-
-few_cond : (b : Bool) (c : Call) (cs : List Call) (n : ℕ) → length cs ≤ n
-    → length (cond b (c ∷ cs) cs) ≤ suc n
-few_cond true c cs n few = omega (arith, few)
-few_cond false c cs n few = omega (arith, few)
