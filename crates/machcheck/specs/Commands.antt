@@ -9,6 +9,7 @@ use Rattle.mrc_files.specs.Files.{Held}
 use Rattle.machcheck.specs.Told.{YesOfFiles, NoOfFiles, FaultOfFiles, MadeOfFiles, FaultOfMake}
 use Rattle.machcheck.specs.Told.{CutOfFiles}
 use Rattle.machcheck.specs.Told.{ReplayOfFiles, FaultOfReplay, LiveOfFiles, NoOfLive, FaultOfLive}
+use Rattle.machcheck.specs.Told.{HaltedOfFiles}
 use Rattle.machcheck.specs.Explained.{ChainOfFiles, NoneOfFiles, FaultOfExplain}
 
 -- with status 0: a yes, the making of a certificate, a chain, a replay or a journal
@@ -42,6 +43,14 @@ CutOf before after (Make files) told = CutOfFiles before after files told
 CutOf before after (Explain files) told = ⊥
 CutOf before after (Replay files) told = ⊥
 CutOf before after (Live files) told = ⊥
+
+-- with status 2 and a text on standard output: that no task of a `live` can go on
+abbrev pub HaltedOf : Held → Command → Told → Type 0
+HaltedOf held (Check files) told = ⊥
+HaltedOf held (Make files) told = ⊥
+HaltedOf held (Explain files) told = ⊥
+HaltedOf held (Replay files) told = ⊥
+HaltedOf held (Live files) told = HaltedOfFiles held files told
 
 -- the command that may change a file
 abbrev pub IsMake : Command → Type 0

@@ -35,7 +35,9 @@ use Rattle.mrc_files.specs.declared.streams.ReadFault.{ReadFault}
 use Rattle.mrc_files.specs.declared.streams.ReadFault.TheVariants.{ReadFailed, TooBig}
 use Rattle.mrc_files.specs.declared.streams.ReadFault.TheVariants.{Memory as NoMemory}
 use Rattle.mrc_files.specs.declared.streams.WriteFault.{WriteFault}
+use Rattle.mrc_report.specs.Halts.{IsHalted}
 use Rattle.mrc_report.specs.Journal.{IsLive}
+use Rattle.mrc_report.specs.Printing.{waits_text}
 use Rattle.mrc_report.specs.Replay.{IsReplay}
 use Rattle.mrc_report.specs.declared.script.TaskCall.{TaskCall}
 use Rattle.mrc_wiring_text.specs.declared.reading.Line.{Line}
@@ -329,6 +331,23 @@ pub record ToldLive (texts : LiveTexts) (told : Told) : Type 0 where
   pub out : IsLive case.claim.table script (string_bytes told.out)
   pub err : string_bytes told.err ≡ []
 
+-- the journal of a script and the lines that wait are told, and they are right: no task can go on
+pub record IsToldHalted (file : List ℕ) (table : Table) (script : List (Line TaskCall))
+    (told : Told) : Type 0 where
+  pub lines : List ℕ
+  pub out : IsHalted table script lines (string_bytes told.out)
+  pub err : string_bytes told.err ≡ fault_line file (waits_text lines)
+
+-- It is told of texts that all tasks that have lines left wait for messages, and it is right: the
+-- checker accepts them, the script has a meaning, what is printed is a run from the first state of
+-- the wiring after which no task can go on, and the lines that wait are named.
+pub record ToldHalted (files : LiveFiles) (texts : LiveTexts) (told : Told) : Type 0 where
+  pub case : Case
+  pub accepted : AreAccepted texts.check case
+  pub script : List (Line TaskCall)
+  pub says : script_said true case.claim.table texts.script ≡ Ok script
+  pub halted : IsToldHalted files.script.now case.claim.table script told
+
 -- a fault of the script, or of its run, is told of texts that the checker accepts
 pub record ToldOfScript (files : LiveFiles) (texts : LiveTexts) (told : Told) : Type 0 where
   pub case : Case
@@ -336,10 +355,12 @@ pub record ToldOfScript (files : LiveFiles) (texts : LiveTexts) (told : Told) : 
   pub out : string_bytes told.out ≡ []
   pub err : IsFaultOf files.script.now (string_bytes told.err)
 
--- a fault is told of texts: one of those that are checked has no meaning, or it is the script's
+-- a fault is told of texts: one of those that are checked has no meaning, or it is the script's, or
+-- no task can go on
 abbrev pub ToldUnserved : LiveFiles → LiveTexts → Told → Type 0
 ToldUnserved files texts told =
-    ToldFault files.check texts.check told ⊎ ToldOfScript files texts told
+    ToldFault files.check texts.check told
+    ⊎ (ToldOfScript files texts told ⊎ ToldHalted files texts told)
 
 -- a journal is told of what the files hold
 abbrev pub LiveOfFiles : Held → LiveFiles → Told → Type 0
@@ -349,6 +370,10 @@ LiveOfFiles held files told = OfFiles live_list ToldLive held (live_names files)
 abbrev pub NoOfLive : Held → LiveFiles → Told → Type 0
 NoOfLive held files told =
     OfFiles live_list (λ texts. ToldNo texts.check) held (live_names files) told
+
+-- that no task can go on is told of what the files hold
+abbrev pub HaltedOfFiles : Held → LiveFiles → Told → Type 0
+HaltedOfFiles held files told = OfFiles live_list (ToldHalted files) held (live_names files) told
 
 -- why status 2 is told of the files of a `live`: memory ran out, a file can't be read, a text has
 -- no meaning, or the script was not run to its end

@@ -107,16 +107,17 @@ const LIVE_HELP: &str = "Files, as docs/FORMATS.md describes them:
 
 The certificate is checked first. Then each task runs as a thread, which makes the calls of its
 lines in order; between the tasks the order is that of the schedule. `wait NAME LIMIT` receives as
-`receive` does, but waits for a message: where all tasks wait, the program waits too. In the end
-the journal is printed: a line for each event, with its number from 0, the task and the reply,
-and then how many there were and how many ports are live. It has 1,000,000 events at most.
+`receive` does, but waits for a message. In the end the journal is printed: a line for each event,
+with its number from 0, the task and the reply, and then how many there were and how many ports are
+live. It has 1,000,000 events at most. So it is where all tasks that have lines left wait, and no
+message can come any more: then the lines that wait are named on standard error.
 
 Exit status:
   0  the script was run to its end: a call that is refused is told, and the next one is made
   1  NO, with the first reason, as `check` tells it: nothing was run
   2  a fault on standard error, as `machcheck: FILE: FAULT`: a file can't be read or has
-     no meaning, the journal is full, the command line is wrong, the output was not taken,
-     or memory ran out
+     no meaning, the journal is full, all tasks that have lines left wait (`AllWait`, with
+     the lines), the command line is wrong, the output was not taken, or memory ran out
 
 Read on in README.md, and in docs/ARCHITECTURE.md.";
 

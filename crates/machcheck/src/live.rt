@@ -2,12 +2,15 @@
 
 ghost use Rattle.std.specs.Prelude.{◌≡◌, ◌≤◌, ◌⊎◌, [], IfOk, IfErr, string_bytes};
 ghost use Rattle.mrc_report.specs.Journal.{IsLive};
+ghost use Rattle.mrc_report.specs.Printing.{waits_text};
+ghost use Rattle.mrc_report.specs.Served.{IsServed};
 ghost use Rattle.mrc_check.specs.Texts.{Tells};
 ghost use Rattle.machcheck.specs.Texts.{AreAccepted, live_list, said_by};
 ghost use Rattle.mrc_files.specs.Files.{AreHeld, Exceeds, IsFirstUnread};
 ghost use Rattle.machcheck.specs.Files.{live_names};
 ghost use Rattle.machcheck.specs.Told.{FaultOfLive, LiveOfFiles, NoOfLive, ToldLive, ToldMemory};
-ghost use Rattle.machcheck.specs.Told.{IsFaultOf, ToldFault, ToldNo, ToldOfScript, ToldUnserved};
+ghost use Rattle.machcheck.specs.Told.{IsFaultOf, IsToldHalted, ToldFault, ToldNo, ToldOfScript};
+ghost use Rattle.machcheck.specs.Told.{ToldHalted, ToldUnserved, fault_line};
 
 use crate::command::{CheckFiles, LiveFiles};
 use crate::run::{CheckBytes, answer_of, check_bytes};
@@ -17,7 +20,7 @@ use crate::told::{Told, fault_of, memory, said, unread_told};
 use mrc_base::OrMemory;
 use mrc_check::{Confined, TextsFault};
 use mrc_files::{Folder, ReadFault, Unread, bytes_of};
-use mrc_report::{Gate, Script, ServeFault, serve};
+use mrc_report::{Gate, Script, ServeFault, Served, serve, waits_text};
 use std::alloc::{AllocError, Global};
 use std::marker::{Brand, Model};
 use std::sync::Wait;
@@ -67,16 +70,37 @@ fn live_bytes<'a, F: Folder>(
     Ok(LiveBytes { check, script })
 }
 
-/// What a script prints whose tasks run as threads.
+/// What comes of a script whose tasks run as threads.
 fn served<R: Threads + Wait + Sync>(
     rt: &R,
     alloc: Global,
     confined: Confined,
     script: Script,
-) -> Result<String, OrMemory<ServeFault>>
-    ensures { IfOk result (λ text. IsLive confined.claim.table script (string_bytes text)) }
+) -> Result<Served, OrMemory<ServeFault>>
+    ensures { IfOk result (IsServed confined.claim.table script) }
 {
     serve::<Brand, _, _>(rt, alloc, confined, script, EVENTS, Blank::new(257), &Open)
+}
+
+/// What is told where all tasks that have lines left wait: the journal as it stands, and the lines.
+fn halted_told(
+    alloc: Global,
+    files: &LiveFiles<'_>,
+    journal: String,
+    lines: &[u32],
+) -> Result<Told, AllocError>
+    ensures status { IfOk result (λ told. told.status ≡ 2) }
+    ensures out { IfOk result (λ told. string_bytes told.out ≡ string_bytes journal) }
+    ensures err { IfOk result (λ told. string_bytes told.err
+        ≡ fault_line files.now.script.now (waits_text lines.now)) }
+{
+    let text = waits_text(alloc, lines)?;
+    let Told { err, status, .. } = fault_of(alloc, files.script, text.as_str())?;
+    Ok(Told {
+        out: journal,
+        err,
+        status,
+    })
 }
 
 /// What is told of the run of a script.
@@ -92,11 +116,13 @@ fn run_told<R: Threads + Wait + Sync>(
         → IsLive confined.claim.table script (string_bytes told.out)
         × (string_bytes told.err ≡ [])) }
     ensures fault { IfOk result (λ told. told.status ≡ 2 → ToldMemory told
-        ⊎ ((string_bytes told.out ≡ [])
-        × IsFaultOf files.now.script.now (string_bytes told.err))) }
+        ⊎ (((string_bytes told.out ≡ [])
+        × IsFaultOf files.now.script.now (string_bytes told.err))
+        ⊎ IsToldHalted files.now.script.now confined.claim.table script told)) }
 {
     match served(rt, alloc, confined, script) {
-        Ok(text) => Ok(said(alloc, text, 0)),
+        Ok(Served::Whole(text)) => Ok(said(alloc, text, 0)),
+        Ok(Served::AllWait(text, lines)) => halted_told(alloc, files, text, lines.as_slice()),
         Err(OrMemory::Fault(fault)) => {
             let text = fault.to_string(alloc)?;
             fault_of(alloc, files.script, text.as_str())
@@ -116,8 +142,8 @@ fn confined_told<R: Threads + Wait + Sync>(
     requires { AreAccepted bytes.now.check confined }
     ensures status { IfOk result (λ told. (told.status ≡ 0) ⊎ (told.status ≡ 2)) }
     ensures live { IfOk result (λ told. told.status ≡ 0 → ToldLive bytes.now told) }
-    ensures fault { IfOk result (λ told. told.status ≡ 2
-        → ToldMemory told ⊎ ToldOfScript files.now bytes.now told) }
+    ensures fault { IfOk result (λ told. told.status ≡ 2 → ToldMemory told
+        ⊎ (ToldOfScript files.now bytes.now told ⊎ ToldHalted files.now bytes.now told)) }
 {
     match script_said(alloc, confined.wired(), true, bytes.script.as_slice()) {
         Ok(script) => run_told(rt, alloc, files, confined, script),

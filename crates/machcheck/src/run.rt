@@ -11,7 +11,8 @@ ghost use Rattle.mrc_files.specs.Files.{AreHeld, Exceeds, Fits, IsFirstUnread};
 ghost use Rattle.machcheck.specs.Files.{check_names};
 ghost use Rattle.machcheck.specs.Told.{ToldYes, ToldNo, ToldMemory, ToldFault, YesOfFiles};
 ghost use Rattle.machcheck.specs.Told.{NoOfFiles, FaultOfFiles};
-ghost use Rattle.machcheck.specs.Commands.{DoneOf, NoOf, FaultOf, CutOf, IsMake, SomeCommand};
+ghost use Rattle.machcheck.specs.Commands.{DoneOf, NoOf, FaultOf, CutOf, HaltedOf, IsMake};
+ghost use Rattle.machcheck.specs.Commands.{SomeCommand};
 ghost use Rattle.machcheck.specs.Commands.{WentOut};
 ghost use Rattle.machcheck.specs.CommandLine.{AsksHelp};
 
@@ -158,7 +159,10 @@ fn answer<F: Folder, R: Threads + Wait + Sync>(
         → NoOf (F.held folder.old) command.now told) }
     ensures fault { IfOk result (λ told. told.status ≡ 2
         → FaultOf (F.held folder.old) command.now told) }
-    ensures silent { IfOk result (λ told. told.status ≡ 2 → string_bytes told.out ≡ []) }
+    // With status 2 nothing goes to standard output, but for the journal of a `live` after which no
+    // task can go on.
+    ensures silent { IfOk result (λ told. told.status ≡ 2 → (string_bytes told.out ≡ [])
+        ⊎ HaltedOf (F.held folder.old) command.now told) }
     // A file is changed where a certificate is told, or that the file took so many of its bytes and
     // has these, and nowhere else.
     ensures kept { IsOkAnd result (λ told. (told.status ≡ 0) × IsMake command.now)
@@ -188,7 +192,8 @@ fn told<F: Folder, R: Threads + Wait + Sync>(
         ⊎ AsksHelp (map string_bytes words.now)) }
     ensures no { IfOk result (λ told. told.status ≡ 1
         → SomeCommand (NoOf (F.held folder.old)) told) }
-    ensures fault { IfOk result (λ told. told.status ≡ 2 → string_bytes told.out ≡ []) }
+    ensures fault { IfOk result (λ told. told.status ≡ 2 → (string_bytes told.out ≡ [])
+        ⊎ SomeCommand (HaltedOf (F.held folder.old)) told) }
 {
     match read(alloc, words) {
         Ok(command) => answer(rt, folder, alloc, &command),
@@ -224,8 +229,8 @@ fn write_told<O: Write, E: Write>(alloc: Global, told: &Told, out: &mut O, err: 
 
 /// Runs the program on the words of a command line, its own name first, and on the files of a
 /// folder. The status is 0 for `YES`, for a certificate that is made, for a chain, for a replay,
-/// for a journal and for help and the version, 1 for `NO` and for `none`, and 2 for a fault. It may
-/// wait: where all tasks of a script wait for messages it does not return.
+/// for a journal and for help and the version, 1 for `NO` and for `none`, and 2 for a fault and
+/// where all tasks of a `live` that have lines left wait for messages.
 pub fn run<F: Folder, R: Threads + Wait + Sync, O: Write, E: Write>(
     rt: &R,
     folder: &mut F,

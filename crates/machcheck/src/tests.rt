@@ -935,6 +935,17 @@ fn lives(rt: HostRuntime) -> Result<(), Fail> {
     Ok(())
 }
 
+// The server waits for a message of the client, which waits for one of the server.
+#[test]
+fn lives_that_halt(rt: HostRuntime) -> Result<(), Fail> {
+    let script = b"fs wait 2 92\nfs names 1\napp allocate 1 receive\napp wait 3 40\n";
+    let (told, _) = lived(&rt, NO_KERNEL_PORT, OF_CAREFUL.as_slice(), script.as_slice())?;
+    assert_eq!(rt; told.out.as_slice(), b"0 app name 3\nend events 1 ports 4\n".as_slice());
+    assert_eq!(rt; told.err.as_slice(), b"machcheck: s: AllWait 1 4\n".as_slice());
+    assert_eq!(rt; told.status, 2);
+    Ok(())
+}
+
 // The certificate is judged before the script, and the script before it runs.
 #[test]
 fn faults_of_lives(rt: HostRuntime) -> Result<(), Fail> {

@@ -5,6 +5,7 @@ mod desk;
 mod event;
 mod finishing;
 mod live;
+mod office;
 mod seat;
 
 pub use desk::{Desk, NotReceived, NotTaken};

@@ -1,6 +1,7 @@
 //! The server.
 
-ghost use Rattle.std.specs.Prelude.{◌≡◌, ◌≢◌, ◌↔◌, ◌<◌, ◌≤◌, IfOk, IfErr, OnErr, OnOk, Err};
+ghost use Rattle.std.specs.Prelude.{◌≡◌, ◌≢◌, ◌↔◌, ◌<◌, ◌≤◌, IfOk, IfErr, IfNone, IfSome, OnErr};
+ghost use Rattle.std.specs.Prelude.{OnOk, Err};
 ghost use Rattle.mrc_confine.specs.Guards.{wiring_in};
 ghost use Rattle.mrc_live.specs.declared.live.NotSeated.TheVariants.{NoSuchTask};
 ghost use Rattle.mrc_live.specs.Desks.{seat_after, call_in, fresh};
@@ -14,6 +15,7 @@ ghost use Rattle.mrc_model.specs.declared.Code.TheVariants.{MachRcvTimedOut};
 use crate::desk::{Desk, NotReceived, NotTaken};
 use crate::event::Journal;
 use crate::finishing::{Why, judge};
+use crate::office::{Idle, Office};
 use crate::seat::Seat;
 use mrc_base::TaskId;
 use mrc_check::Confined;
@@ -21,14 +23,16 @@ use mrc_confine::Guarded;
 use mrc_machine::{Call, Reply};
 use std::alloc::Global;
 use std::marker::Model;
+use std::sync::atomic::{AtomicBool, Ordering};
 use std::sync::ledger::{Blank, Ledger};
 use std::sync::{Condvar, Mutex, Wait};
 
 /// A machine behind a lock. Contracts see what was checked, as it was handed in.
 #[derive(Drop)]
 pub struct Live<L: Ledger> {
-    desk: Mutex<Desk<L>>,
-    /// Told of each event: a seat that waits for a message tries again.
+    office: Mutex<Office<L>>,
+    /// Told of each event, of each stop, and of each seat that leaves: a seat that waits for a
+    /// message tries again.
     moved: Condvar,
     confined: Confined,
 }
@@ -70,7 +74,7 @@ impl<L: Ledger> Live<L> {
             return Err(guarded);
         };
         Ok(Live {
-            desk: Mutex::new(Desk::new(alloc, guarded, limit, blank)),
+            office: Mutex::new(Office::new(Desk::new(alloc, guarded, limit, blank))),
             moved: Condvar::new(),
             confined,
         })
@@ -91,7 +95,7 @@ impl<L: Ledger> Live<L> {
         if task.0 >= u32::from(self.confined.wired().tasks()) {
             return Err(NotSeated::NoSuchTask);
         }
-        match self.desk.lock(rt).seat(task) {
+        match self.office.lock(rt).desk.seat(task) {
             Some(seat) => Ok(seat),
             None => Err(NotSeated::TooManySeats),
         }
@@ -103,7 +107,7 @@ impl<L: Ledger> Live<L> {
         ensures returned { IfErr result (λ fault. call_in fault ≡ call) }
         ensures err { OnErr result (seat.new ≡ seat.old) }
     {
-        let taken = self.desk.lock(rt).take(seat, call);
+        let taken = self.office.lock(rt).desk.take(seat, call);
         if taken.is_ok() {
             self.moved.notify_all();
         }
@@ -124,18 +128,68 @@ impl<L: Ledger> Live<L> {
         ensures came { IfOk result (λ r. r ≢ Refused MachRcvTimedOut) }
         ensures err { OnErr result (seat.new ≡ seat.old) }
     {
-        let mut desk = self.desk.lock(rt);
+        let mut office = self.office.lock(rt);
         for _ in rt.forever() {
-            match desk.take_if_any(seat, name, limit) {
-                Ok(Some(reply)) => {
-                    self.moved.notify_all();
-                    return Ok(reply);
-                }
-                Ok(None) => desk = self.moved.wait(rt, desk),
-                Err(fault) => return Err(fault),
+            let received = office.receive(seat, name, limit)?;
+            if received.is_some() || office.are_all_idle() {
+                self.moved.notify_all();
             }
+            if let Some(reply) = received {
+                return Ok(reply);
+            }
+            office = self.moved.wait(rt, office);
         }
         unreachable!()
+    }
+
+    /// As [`receive_wait`](Live::receive_wait), until it is stopped: `None`, and no event, once no
+    /// message waits and `stop` is set, or no other seat of the server can make an event any more,
+    /// because each waits or has left. In the latter case it sets `stop` itself. Who sets `stop`
+    /// calls [`wake_all`](Live::wake_all) then.
+    pub fn receive_until<R: Wait>(
+        &self,
+        rt: &R,
+        seat: &mut Seat<L>,
+        name: u32,
+        limit: u32,
+        stop: &AtomicBool,
+    ) -> Result<Option<Reply>, NotReceived>
+        ensures ok { IfOk result (λ some. IfSome some
+            (λ r. seat.new ≡ seat_after seat.old (Receive name limit) r)) }
+        ensures came { IfOk result (λ some. IfSome some (λ r. r ≢ Refused MachRcvTimedOut)) }
+        ensures none { IfOk result (λ some. IfNone some (seat.new ≡ seat.old)) }
+        ensures err { OnErr result (seat.new ≡ seat.old) }
+    {
+        let mut office = self.office.lock(rt);
+        for _ in rt.forever() {
+            let received = office.receive(seat, name, limit)?;
+            if received.is_some() {
+                self.moved.notify_all();
+                return Ok(received);
+            }
+            if stop.load(Ordering::SeqCst) || office.are_all_idle() {
+                stop.store(true, Ordering::SeqCst);
+                office.mark(seat, Idle::No);
+                self.moved.notify_all();
+                return Ok(None);
+            }
+            office = self.moved.wait(rt, office);
+        }
+        unreachable!()
+    }
+
+    /// Wakes all that wait for a message: each tries again, and is stopped where its `stop` is set.
+    pub fn wake_all<R: Wait>(&self, rt: &R) {
+        // Who has found `stop` unset waits by the time the lock is free.
+        drop(self.office.lock(rt));
+        self.moved.notify_all();
+    }
+
+    /// Says that a seat makes no more calls: so none waits for a message of it. Wakes all that
+    /// wait.
+    pub fn leave<R: Wait>(&self, rt: &R, seat: &Seat<L>) {
+        self.office.lock(rt).mark(seat, Idle::Left);
+        self.moved.notify_all();
     }
 
     /// Ends the server, once the threads have returned: each seat's calls and replies stand in the
@@ -149,17 +203,17 @@ impl<L: Ledger> Live<L> {
         ensures returned { IfErr result (λ f. (f.live ≡ self) × (f.seats.items ≡ seats.items)) }
     {
         let Live {
-            desk,
+            office,
             moved,
             confined,
         } = self;
-        let desk = desk.into_inner();
+        let Office { desk, idle } = office.into_inner();
         match judge(&desk, &confined, seats.as_slice()) {
             None => Ok(desk.into_parts()),
             Some(why) => Err(Unfinished {
                 why,
                 live: Live {
-                    desk: Mutex::new(desk),
+                    office: Mutex::new(Office { desk, idle }),
                     moved,
                     confined,
                 },

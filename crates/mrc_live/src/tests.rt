@@ -14,6 +14,7 @@ use mrc_model::Code;
 use std::alloc::{AllocError, Global};
 use std::marker::Brand;
 use std::sync::Wait;
+use std::sync::atomic::{AtomicBool, Ordering};
 use std::sync::ledger::{Blank, Ledger};
 use std::test::*;
 use std::thread;
@@ -564,6 +565,126 @@ fn a_waiting_receive_wakes(rt: HostRuntime) -> Result<(), Fail> {
     assert_eq!(rt;
         wake::<Brand, _>(&rt, rt.alloc(), Blank::new(257))?,
         (true, 1003)
+    );
+    Ok(())
+}
+
+/// Waits for a message until it is stopped. Whether it was, and found the flag set then.
+fn is_stopped<L: Ledger, R: Wait>(
+    rt: &R,
+    live: &Live<L>,
+    seat: &mut Seat<L>,
+    stop: &AtomicBool,
+) -> bool {
+    let stopped = matches!(live.receive_until(rt, seat, 2, 24, stop), Ok(None));
+    stopped && stop.load(Ordering::SeqCst)
+}
+
+/// Waits until it is stopped, in a thread of its own.
+fn stopped_seat<L: Ledger, R: Wait>(
+    rt: &R,
+    live: &Live<L>,
+    seat: Seat<L>,
+    stop: &AtomicBool,
+) -> bool {
+    let mut seat = seat;
+    is_stopped(rt, live, &mut seat, stop)
+}
+
+/// Makes a port and calls for a while; then it sends to itself, and takes the message.
+fn takes_its_own<L: Ledger, R: Wait>(
+    rt: &R,
+    live: &Live<L>,
+    seat: Seat<L>,
+    sent: Call,
+    stop: &AtomicBool,
+) -> (Seat<L>, bool) {
+    let mut seat = many(rt, live, seat, 100);
+    let _ = told(rt, live, &mut seat, sent);
+    let received = live.receive_until(rt, &mut seat, 2, 24, stop);
+    (seat, matches!(received, Ok(Some(Reply::Message(_)))))
+}
+
+/// Sets the flag after some calls, and wakes all.
+fn stopper<L: Ledger, R: Wait>(rt: &R, live: &Live<L>, seat: Seat<L>, stop: &AtomicBool) {
+    let _ = many(rt, live, seat, 100);
+    stop.store(true, Ordering::SeqCst);
+    live.wake_all(rt);
+}
+
+/// A server with a port under the name 2, and two seats.
+fn with_a_port<L: Ledger + Send + Sync, R: Threads + Wait + Sync>(
+    rt: &R,
+    alloc: Global,
+    blank: Blank,
+) -> Result<(Live<L>, Seat<L>, Seat<L>), AllocError>
+    requires name { blank.name ≡ L.name }
+    requires parts { (blank.parts ≡ L.parts) × (L.parts ≡ 257) }
+{
+    let Ok(live) = Live::<L>::new(alloc, machine(rt, alloc)?, 2000, blank) else {
+        return Err(AllocError);
+    };
+    let (Ok(mut one), Ok(other)) = (live.seat(rt, TaskId(0)), live.seat(rt, TaskId(0))) else {
+        return Err(AllocError);
+    };
+    let _ = told(rt, &live, &mut one, allocate());
+    Ok((live, one, other))
+}
+
+/// Whether a seat that waits is stopped by a flag, and one by the other's leave.
+fn stops<L: Ledger + Send + Sync, R: Threads + Wait + Sync>(
+    rt: &R,
+    alloc: Global,
+    blank: Blank,
+) -> Result<bool, AllocError>
+    requires name { blank.name ≡ L.name }
+    requires parts { (blank.parts ≡ L.parts) × (L.parts ≡ 257) }
+{
+    let (live, one, other) = with_a_port::<L, R>(rt, alloc, blank)?;
+    let stop = AtomicBool::new(false);
+    let (live, stop) = (&live, &stop);
+    let (stopped, ()) = thread::join(
+        rt,
+        move || stopped_seat(rt, live, one, stop),
+        move || stopper(rt, live, other, stop),
+    );
+    Ok(stopped)
+}
+
+#[test]
+fn a_wait_is_stopped(rt: HostRuntime) -> Result<(), Fail> {
+    assert!(rt; stops::<Brand, _>(&rt, rt.alloc(), Blank::new(257))?);
+    Ok(())
+}
+
+/// Whether a message comes to a seat that waits while another one waits in vain, which is stopped
+/// once the first leaves.
+fn none_is_left<L: Ledger + Send + Sync, R: Threads + Wait + Sync>(
+    rt: &R,
+    alloc: Global,
+    blank: Blank,
+) -> Result<(bool, bool), AllocError>
+    requires name { blank.name ≡ L.name }
+    requires parts { (blank.parts ≡ L.parts) × (L.parts ≡ 257) }
+{
+    let (live, one, other) = with_a_port::<L, R>(rt, alloc, blank)?;
+    let sent = send(alloc, &one, &TO_2)?;
+    let stop = AtomicBool::new(false);
+    let (live, stop) = (&live, &stop);
+    let (seat, came) = takes_its_own(rt, live, one, sent, stop);
+    let (stopped, ()) = thread::join(
+        rt,
+        move || stopped_seat(rt, live, other, stop),
+        move || live.leave(rt, &seat),
+    );
+    Ok((came, stopped))
+}
+
+#[test]
+fn who_is_left_alone_is_stopped(rt: HostRuntime) -> Result<(), Fail> {
+    assert_eq!(rt;
+        none_is_left::<Brand, _>(&rt, rt.alloc(), Blank::new(257))?,
+        (true, true)
     );
     Ok(())
 }

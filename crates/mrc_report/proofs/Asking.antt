@@ -6,7 +6,7 @@ use Rattle.mrc_live.proofs.Following.{take_next}
 use Rattle.mrc_live.specs.Desks.{SeatState}
 use Rattle.mrc_machine.specs.declared.call.Call.{Call}
 use Rattle.mrc_report.specs.Plays.{asked_of, calls_of, Begins, IsPlayed}
-use Rattle.mrc_report.specs.declared.playing.LiveFault.{LiveFault}
+use Rattle.mrc_report.specs.declared.playing.Halt.{Halt}
 use Rattle.mrc_report.specs.declared.script.TaskCall.{TaskCall}
 use Rattle.mrc_wiring_text.specs.declared.reading.Line.{Line}
 
@@ -57,11 +57,11 @@ asked_other task lines k l at other =
     ∙ (λ i. asked_of task (take k lines) ++ cond (other i) (l.says.call ∷ []) [])
     ∙ append-nil (asked_of task (take k lines))
 
--- with a fault the calls of the first lines have been made
-pub played_part : (task : ℕ) (lines : List (Line TaskCall)) (s : SeatState) (f : LiveFault) (k : ℕ)
+-- where it was halted the calls of the first lines have been made
+pub played_part : (task : ℕ) (lines : List (Line TaskCall)) (s : SeatState) (h : Halt) (k : ℕ)
     → s.task ≡ task → calls_of s ≡ asked_of task (take k lines)
-    → IsPlayed task lines s (Some f)
-played_part task lines s f k same calls = record {
+    → IsPlayed task lines s (Some h)
+played_part task lines s h k same calls = record {
   task_is = same;
   whole = λ none. absurd cc;
   begun = subst (Begins (asked_of task lines)) (sym calls) (part_begins task lines k);

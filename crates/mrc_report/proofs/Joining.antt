@@ -6,7 +6,7 @@ use Rattle.std.specs.Prelude.{Result, Ok, Err}
 use Rattle.mrc_live.proofs.Following.{one_there}
 use Rattle.mrc_live.specs.Desks.{SeatState}
 use Rattle.mrc_report.specs.Plays.{IsPlayed, ArePlayed, SaysAll, SaysFirst}
-use Rattle.mrc_report.specs.declared.playing.LiveFault.{LiveFault}
+use Rattle.mrc_report.specs.declared.playing.Halt.{Halt}
 use Rattle.mrc_report.specs.declared.script.TaskCall.{TaskCall}
 use Rattle.mrc_wiring_text.specs.declared.reading.Line.{Line}
 
@@ -60,8 +60,8 @@ pub both_of : {H X : Type 0} (x : Result H X) (A B : H → Type 0) (C : X → Ty
 both_of (Ok h) A B C one other err = (one, other)
 both_of (Err p) A B C one other err = err
 
--- what is played is played by a later count of the faults
-pub played_later : (t : ℕ) (lines : List (Line TaskCall)) (s : SeatState) (a b : Option LiveFault)
+-- what is played is played by a later one of the halts
+pub played_later : (t : ℕ) (lines : List (Line TaskCall)) (s : SeatState) (a b : Option Halt)
     → (b ≡ None → a ≡ None) → IsPlayed t lines s a → IsPlayed t lines s b
 played_later t lines s a b none played = record {
   task_is = played.task_is;
@@ -69,11 +69,11 @@ played_later t lines s a b none played = record {
   begun = played.begun;
 }
 
-pub says_all : (lines : List (Line TaskCall)) (seats : List SeatState) (fault : Option LiveFault)
-    → fault ≡ None → ArePlayed lines fault seats → SaysAll lines seats
-says_all lines seats fault none played t s at =
+pub says_all : (lines : List (Line TaskCall)) (seats : List SeatState) (halt : Option Halt)
+    → halt ≡ None → ArePlayed lines halt seats → SaysAll lines seats
+says_all lines seats halt none played t s at =
     ((played t s at).task_is, (played t s at).whole none)
 
 pub says_first : (lines : List (Line TaskCall)) (seats : List SeatState)
-    (fault : Option LiveFault) → ArePlayed lines fault seats → SaysFirst lines seats
-says_first lines seats fault played t s at = ((played t s at).task_is, (played t s at).begun)
+    (halt : Option Halt) → ArePlayed lines halt seats → SaysFirst lines seats
+says_first lines seats halt played t s at = ((played t s at).task_is, (played t s at).begun)

@@ -7,6 +7,7 @@ use Rattle.std.proofs.lemmas.Bool.Decides.{eqb_tells}
 use Rattle.std.proofs.lemmas.List.{length-map, map-append, length-take, take_all}
 use Rattle.std.proofs.lemmas.Option.{slice_get_within, slice_get-get_or}
 use Rattle.std.proofs.Math.Seq.{take-suc}
+use Rattle.std.specs.Prelude.{IfSome, IsPermutation}
 use Rattle.mrc_check.specs.Verdict.{Case}
 use Rattle.mrc_confine.specs.Guards.{wiring_in}
 use Rattle.mrc_live.proofs.Following.{one_there}
@@ -15,12 +16,14 @@ use Rattle.mrc_live.specs.Parts.{AllAreSeated, AreApart, EachIsItsPart}
 use Rattle.mrc_live.specs.Runs.{IsJournal, event_of, part_of}
 use Rattle.mrc_live.specs.declared.event.Event.{Event as LiveEvent}
 use Rattle.mrc_machine.specs.Calls.{call_of, reply_of}
+use Rattle.mrc_machine.specs.declared.call.Call.{Call as LiveCall}
 use Rattle.mrc_model.specs.Map.{len}
 use Rattle.mrc_model.specs.Runs.{Event}
 use Rattle.mrc_model.specs.World.{World}
 use Rattle.mrc_report.proofs.ReplayLaws.{line_on}
+use Rattle.mrc_report.specs.Halts.{IsHalted, WaitsInVain, next_line, next_numbers}
 use Rattle.mrc_report.specs.Journal.{IsLive, calls_by, journal_text}
-use Rattle.mrc_report.specs.Plays.{SaysAll, asked_of, calls_of}
+use Rattle.mrc_report.specs.Plays.{Begins, SaysAll, SaysFirst, asked_of, calls_of}
 use Rattle.mrc_report.specs.Printing.{event_line, end_line}
 use Rattle.mrc_report.specs.Replay.{event_lines}
 use Rattle.mrc_report.specs.declared.script.TaskCall.{TaskCall}
@@ -99,34 +102,35 @@ by_seat task number (e ∷ es) one =
     (λ i. cond (same i) (call_of e.call ∷ later i) (later i))
     ∙ by_cond (e.seat == number) e es number
 
+-- the seats are of the tasks in order
+abbrev pub AreOfTasks : List SeatState → Type 0
+AreOfTasks seats = (t : ℕ) (s : SeatState) → slice_get seats t ≡ Some s → s.task ≡ t
+
 -- each task's events are those of its seat
-pub are_one : (lines : List (Line TaskCall)) (seats : List SeatState) (es : List LiveEvent) (t : ℕ)
-    (s : SeatState)
-    → SaysAll lines seats → AllAreSeated seats es → AreApart seats → slice_get seats t ≡ Some s
+pub are_one : (seats : List SeatState) (es : List LiveEvent) (t : ℕ) (s : SeatState)
+    → AreOfTasks seats → AllAreSeated seats es → AreApart seats → slice_get seats t ≡ Some s
     → IsOne t s.number es
-are_one lines seats es t s says seated apart at k e here =
+are_one seats es t s tasks seated apart at k e here =
     let own = seated k e here in
     let i = own.0 in
     let mine = own.1.0 in
     let there = own.1.1 in
     let number : mine.number ≡ e.seat = own.1.2 in
     let task : mine.task ≡ e.task = own.1.3 in
-    let place : mine.task ≡ i = (says i mine there).0 in (
+    let place : mine.task ≡ i = tasks i mine there in (
       λ same. sym task ∙ place ∙ apart i t mine s there at (number ∙ same),
       λ same. sym number ∙ ap (λ (x : SeatState). x.number)
           (one_there seats i t mine s there at (sym place ∙ task ∙ same)),
     )
 
--- each task makes the calls of its lines
-pub calls_are : (lines : List (Line TaskCall)) (seats : List SeatState) (es : List LiveEvent)
-    (t : ℕ) (s : SeatState)
-    → SaysAll lines seats → EachIsItsPart seats es → AllAreSeated seats es → AreApart seats
+-- each task has made the calls of its seat
+pub calls_are : (seats : List SeatState) (es : List LiveEvent) (t : ℕ) (s : SeatState)
+    → AreOfTasks seats → EachIsItsPart seats es → AllAreSeated seats es → AreApart seats
     → slice_get seats t ≡ Some s
-    → calls_by t (map event_of es) ≡ map call_of (asked_of t lines)
-calls_are lines seats es t s says parts seated apart at =
-    by_seat t s.number es (are_one lines seats es t s says seated apart at)
+    → calls_by t (map event_of es) ≡ map call_of (calls_of s)
+calls_are seats es t s tasks parts seated apart at =
+    by_seat t s.number es (are_one seats es t s tasks seated apart at)
     ∙ ap (λ made. map call_of (map (λ m. m.call) made)) (parts t s at)
-    ∙ ap (map call_of) (says t s at).1
 
 -- an element of a list by a function comes from one of the list
 map_there : {X Y : Type 0} (f : X → Y) (xs : List X) (k : ℕ) (y : Y)
@@ -141,7 +145,29 @@ map_there f (x ∷ xs) (suc k) y at = map_there f xs k y at
 no_seat : SeatState
 no_seat = record { number = 0; task = 0; calls = []; share = 0 }
 
--- what is told of a server that was finished
+-- the task of each event is one of those that have seats
+pub tasks_are : (seats : List SeatState) (events : List LiveEvent) (n : ℕ)
+    → AreOfTasks seats → AllAreSeated seats events → length seats ≡ n
+    → (k : ℕ) (e : Event) → slice_get (map event_of events) k ≡ Some e → e.task < n
+tasks_are seats events n tasks seated many k e at =
+    let one = map_there event_of events k e at in
+    let own = seated k one.0 one.1.0 in
+    let place : own.1.0.task ≡ own.0 = tasks own.0 own.1.0 own.1.1 in
+    let same : own.1.0.task ≡ one.0.task = own.1.3 in
+    let is : one.0.task ≡ e.task = ap (λ (x : Event). x.task) one.1.1 in
+    let within = slice_get_within seats own.0 own.1.0 own.1.1 in
+    omega (arith, place, same, is, within, many)
+
+-- the events are printed as the journal is
+pub printed_are : (table : Table) (events : List LiveEvent) (ports : ℕ) (text : List ℕ)
+    → text ≡ journal_text table events ports
+    → text ≡ event_lines table 0 (map event_of events)
+    ++ end_line (length (map event_of events)) ports
+printed_are table events ports text shown =
+    shown ∙ ap (λ n. event_lines table 0 (map event_of events) ++ end_line n ports)
+    (sym (length-map events event_of))
+
+-- what is told of a server that was finished, whose tasks have said all their lines
 pub is_live : (case : Case) (lines : List (Line TaskCall)) (seats : List SeatState)
     (events : List LiveEvent) (world : World) (text : List ℕ)
     → IsJournal case events world
@@ -149,20 +175,54 @@ pub is_live : (case : Case) (lines : List (Line TaskCall)) (seats : List SeatSta
     → SaysAll lines seats → length seats ≡ (wiring_in case).tasks
     → text ≡ journal_text case.claim.table events (len world.store.ports)
     → IsLive case.claim.table lines text
-is_live case lines seats events world text run parts seated apart says many shown = record {
-  events = map event_of events;
-  world = world;
-  run = run;
-  calls = λ t below. calls_are lines seats events t (get_or seats t no_seat) says parts seated apart
-      (slice_get-get_or seats t no_seat (omega (arith, below, many)));
-  tasks = λ k e at.
-      let one = map_there event_of events k e at in
-      let own = seated k one.0 one.1.0 in
-      let place : own.1.0.task ≡ own.0 = (says own.0 own.1.0 own.1.1).0 in
-      let same : own.1.0.task ≡ one.0.task = own.1.3 in
-      let is : one.0.task ≡ e.task = ap (λ (x : Event). x.task) one.1.1 in
-      let within = slice_get_within seats own.0 own.1.0 own.1.1 in
-      omega (arith, place, same, is, within, many);
-  printed = shown ∙ ap (λ n. event_lines case.claim.table 0 (map event_of events)
-      ++ end_line n (len world.store.ports)) (sym (length-map events event_of));
-}
+is_live case lines seats events world text run parts seated apart says many shown =
+    let tasks : AreOfTasks seats = λ t s at. (says t s at).0 in record {
+      events = map event_of events;
+      world = world;
+      run = run;
+      calls = λ t below.
+          let s = get_or seats t no_seat in
+          let at = slice_get-get_or seats t no_seat (omega (arith, below, many)) in
+          calls_are seats events t s tasks parts seated apart at
+          ∙ ap (map call_of) (says t s at).1;
+      tasks = tasks_are seats events (wiring_in case).tasks tasks seated many;
+      printed = printed_are case.claim.table events (len world.store.ports) text shown;
+    }
+
+-- the calls of a beginning are a beginning of the calls
+begins_map : (whole front : List LiveCall) → Begins whole front
+    → Begins (map call_of whole) (map call_of front)
+begins_map whole front begins = (
+  map call_of begins.0,
+  sym (map-append call_of front begins.0) ∙ ap (map call_of) begins.1,
+)
+
+-- what is told of a server that was finished, of which no task can go on
+pub is_halted : (case : Case) (lines : List (Line TaskCall)) (seats : List SeatState)
+    (events : List LiveEvent) (world : World) (told text : List ℕ)
+    → IsJournal case events world
+    → EachIsItsPart seats events → AllAreSeated seats events → AreApart seats
+    → SaysFirst lines seats → length seats ≡ (wiring_in case).tasks
+    → text ≡ journal_text case.claim.table events (len world.store.ports)
+    → ((task : ℕ) → task < (wiring_in case).tasks
+    → IfSome (next_line lines (map event_of events) task)
+    (λ l. WaitsInVain (wiring_in case) world l.says))
+    → IsPermutation (next_numbers lines (map event_of events) (wiring_in case).tasks) told
+    → IsHalted case.claim.table lines told text
+is_halted case lines seats events world told text run parts seated apart says many shown vain
+    numbers =
+    let tasks : AreOfTasks seats = λ t s at. (says t s at).0 in record {
+      events = map event_of events;
+      world = world;
+      run = run;
+      calls = λ t below.
+          let s = get_or seats t no_seat in
+          let at = slice_get-get_or seats t no_seat (omega (arith, below, many)) in
+          subst (Begins (map call_of (asked_of t lines)))
+          (sym (calls_are seats events t s tasks parts seated apart at))
+          (begins_map (asked_of t lines) (calls_of s) (says t s at).1);
+      tasks = tasks_are seats events (wiring_in case).tasks tasks seated many;
+      halted = vain;
+      lines_are = numbers;
+      printed = printed_are case.claim.table events (len world.store.ports) text shown;
+    }

@@ -5,5 +5,6 @@ pub mod ByteLaws
 mod Examples
 mod WorkedReplay
 pub mod Asking
+pub mod NextLines
 pub mod Joining
 pub mod JournalLaws

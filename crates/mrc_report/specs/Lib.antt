@@ -6,3 +6,5 @@ pub mod Printing
 pub mod Replay
 pub mod Plays
 pub mod Journal
+pub mod Halts
+pub mod Served

@@ -3,7 +3,7 @@ use Rattle.std.specs.Prelude.{◌≡◌, ℕ, List, [], ◌∷◌, ◌++◌, Opt
 use Rattle.std.specs.Prelude.{if◌then◌else◌, ◌==◌}
 use Rattle.mrc_live.specs.Desks.{SeatState}
 use Rattle.mrc_machine.specs.declared.call.Call.{Call}
-use Rattle.mrc_report.specs.declared.playing.LiveFault.{LiveFault}
+use Rattle.mrc_report.specs.declared.playing.Halt.{Halt}
 use Rattle.mrc_report.specs.declared.script.TaskCall.{TaskCall}
 use Rattle.mrc_wiring_text.specs.declared.reading.Line.{Line}
 
@@ -17,16 +17,16 @@ asked_of task (l ∷ ls) =
 abbrev pub calls_of : SeatState → List Call
 calls_of s = map (λ m. m.call) s.calls
 
--- the list begins with these calls
-abbrev pub Begins : List Call → List Call → Type 0
-Begins whole calls = (rest : List Call) × (calls ++ rest ≡ whole)
+-- the list begins with these
+abbrev pub Begins : {X : Type 0} → List X → List X → Type 0
+Begins {X} whole front = (rest : List X) × (front ++ rest ≡ whole)
 
--- the seat is of this task, and has made the calls of its lines, or with a fault those of the first
--- of them
+-- the seat is of this task, and has made the calls of its lines, or, where it was halted, those of
+-- the first of them
 pub record IsPlayed (task : ℕ) (lines : List (Line TaskCall)) (s : SeatState)
-    (fault : Option LiveFault) : Type 0 where
+    (halt : Option Halt) : Type 0 where
   pub task_is : s.task ≡ task
-  pub whole : fault ≡ None → calls_of s ≡ asked_of task lines
+  pub whole : halt ≡ None → calls_of s ≡ asked_of task lines
   pub begun : Begins (asked_of task lines) (calls_of s)
 
 -- the seats are of the tasks in order, and each has made the calls of its task's lines, in order,
@@ -42,8 +42,13 @@ SaysFirst lines seats =
     (t : ℕ) (s : SeatState) → slice_get seats t ≡ Some s
     → (s.task ≡ t) × Begins (asked_of t lines) (calls_of s)
 
--- the seats are of the tasks in order, and where none had a fault each has made the calls of all
--- its task's lines
-abbrev pub ArePlayed : List (Line TaskCall) → Option LiveFault → List SeatState → Type 0
-ArePlayed lines fault seats =
-    (t : ℕ) (s : SeatState) → slice_get seats t ≡ Some s → IsPlayed t lines s fault
+-- the seats are of the tasks in order, and where none was halted each has made the calls of all its
+-- task's lines
+abbrev pub ArePlayed : List (Line TaskCall) → Option Halt → List SeatState → Type 0
+ArePlayed lines halt seats =
+    (t : ℕ) (s : SeatState) → slice_get seats t ≡ Some s → IsPlayed t lines s halt
+
+-- the seats are of the tasks in order, and have made no calls
+abbrev pub AreFresh : List SeatState → Type 0
+AreFresh seats =
+    (t : ℕ) (s : SeatState) → slice_get seats t ≡ Some s → (s.task ≡ t) × (s.calls ≡ [])

@@ -79,3 +79,7 @@ event_line table number task reply =
 abbrev pub end_line : ℕ → ℕ → List ℕ
 end_line events ports =
     codes "end events" ␣ decimal events ␣ codes "ports" ␣ (decimal ports ++ codes "\n")
+
+-- that all tasks that have lines left wait for messages, with the numbers of those lines
+abbrev pub waits_text : List ℕ → List ℕ
+waits_text lines = codes "AllWait" ++ flat_map (λ line. codes " " ++ decimal line) lines

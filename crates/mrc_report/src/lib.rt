@@ -3,6 +3,7 @@
 #![tactic(auto)]
 
 mod calls;
+mod halting;
 mod parameters;
 mod playing;
 mod printing;
@@ -15,11 +16,11 @@ mod waiting;
 pub use mrc_files::{ReadFault, WriteFault, read_all, read_fault, write_text};
 pub use parameters::number_of_word;
 pub use playing::{Gate, LiveFault};
-pub use printing::{code_word, end_line, event_line, reply_text};
+pub use printing::{code_word, end_line, event_line, reply_text, waits_text};
 pub use replaying::replay;
 pub use running::{Stopped, run_live};
 pub use script::{Script, ScriptFault, TaskCall, read_script};
-pub use serving::{ServeFault, journal_text, serve};
+pub use serving::{ServeFault, Served, journal_text, serve};
 
 #[cfg(test)]
 mod tests;

@@ -19,7 +19,7 @@ pub trait Gate: Sync {
     fn enter(&self, number: usize);
 }
 
-/// Why not all of a task's lines were said.
+/// Why not all lines of a script were said.
 #[derive(Clone, Copy, Debug, PartialEq, Eq, Error)]
 pub enum LiveFault {
     /// There are as many seats as there may be.
@@ -31,13 +31,25 @@ pub enum LiveFault {
     /// Want of memory, or of a thread.
     #[error("Memory")]
     Memory,
+    /// All tasks that have lines left wait for messages.
+    #[error("AllWait")]
+    AllWait,
+}
+
+/// Why not all of a task's lines were said.
+#[derive(Clone, Copy, Debug, PartialEq, Eq)]
+pub(crate) enum Halt {
+    /// The run was stopped: another task had a fault, or all waited.
+    Stopped,
+    /// A fault of its own.
+    Fault(LiveFault),
 }
 
 /// What a thread hands back.
 #[derive(Drop)]
 pub(crate) struct Played<L: Ledger> {
     pub(crate) seat: Seat<L>,
-    pub(crate) fault: Option<LiveFault>,
+    pub(crate) halt: Option<Halt>,
 }
 
 /// A call of a line.
@@ -47,29 +59,30 @@ fn call<L: Ledger, R: Wait>(
     live: &Live<L>,
     seat: &mut Seat<L>,
     call: &Call,
-) -> Result<(), LiveFault>
+) -> Result<(), Halt>
     ensures said { OnOk result (calls_of seat.new ≡ calls_of seat.old ++ call.now ∷ []) }
     ensures err { OnErr result (calls_of seat.new ≡ calls_of seat.old) }
     ensures task { seat.new.task ≡ seat.old.task }
 {
     let Ok(copy) = call.copy(alloc) else {
-        return Err(LiveFault::Memory);
+        return Err(Halt::Fault(LiveFault::Memory));
     };
     match live.call(rt, seat, copy) {
         Ok(_) => Ok(()),
-        Err(NotTaken::JournalFull(_)) => Err(LiveFault::JournalFull),
-        Err(NotTaken::Memory(_)) => Err(LiveFault::Memory),
+        Err(NotTaken::JournalFull(_)) => Err(Halt::Fault(LiveFault::JournalFull)),
+        Err(NotTaken::Memory(_)) => Err(Halt::Fault(LiveFault::Memory)),
     }
 }
 
-/// One line: a receive that waits for a message, or any other call.
+/// One line: a receive that waits for a message, until the run is stopped, or any other call.
 fn say<L: Ledger, R: Wait>(
     rt: &R,
     alloc: Global,
     live: &Live<L>,
+    stop: &AtomicBool,
     seat: &mut Seat<L>,
     says: &TaskCall,
-) -> Result<(), LiveFault>
+) -> Result<(), Halt>
     ensures said { OnOk result (calls_of seat.new ≡ calls_of seat.old ++ says.now.call ∷ []) }
     ensures err { OnErr result (calls_of seat.new ≡ calls_of seat.old) }
     ensures task { seat.new.task ≡ seat.old.task }
@@ -78,10 +91,11 @@ fn say<L: Ledger, R: Wait>(
         return call(rt, alloc, live, seat, &says.call);
     }
     match &says.call {
-        Call::Receive { name, limit } => match live.receive_wait(rt, seat, *name, *limit) {
-            Ok(_) => Ok(()),
-            Err(NotReceived::JournalFull) => Err(LiveFault::JournalFull),
-            Err(NotReceived::Memory) => Err(LiveFault::Memory),
+        Call::Receive { name, limit } => match live.receive_until(rt, seat, *name, *limit, stop) {
+            Ok(Some(_)) => Ok(()),
+            Ok(None) => Err(Halt::Stopped),
+            Err(NotReceived::JournalFull) => Err(Halt::Fault(LiveFault::JournalFull)),
+            Err(NotReceived::Memory) => Err(Halt::Fault(LiveFault::Memory)),
         },
         other => call(rt, alloc, live, seat, other),
     }
@@ -94,38 +108,54 @@ fn is_of(says: &TaskCall, task: TaskId) -> bool
     says.task.0 == task.0
 }
 
-/// Enters the gate, and says the task's lines in order. Where the run was stopped before, it says
-/// none.
+/// Says the lines of a seat's task in order, until the run is stopped.
+fn say_lines<L: Ledger, R: Wait>(
+    rt: &R,
+    alloc: Global,
+    live: &Live<L>,
+    stop: &AtomicBool,
+    seat: &mut Seat<L>,
+    script: &Script,
+) -> Option<Halt>
+    requires { seat.old.calls ≡ [] }
+    ensures { IsPlayed seat.old.task script.now seat.new result }
+{
+    let task = seat.task();
+    for line in script.lines() {
+        if is_of(&line.says, task) {
+            if stop.load(Ordering::SeqCst) {
+                return Some(Halt::Stopped);
+            }
+            if let Err(halt) = say(rt, alloc, live, stop, seat, &line.says) {
+                return Some(halt);
+            }
+        }
+    }
+    None
+}
+
+/// Enters the gate, unless the run was stopped before, and says the task's lines in order. A fault
+/// stops all others.
 pub(crate) fn play<L: Ledger, R: Wait, G: Gate>(
     rt: &R,
     alloc: Global,
     live: &Live<L>,
     gate: &G,
-    stopped: &AtomicBool,
+    stop: &AtomicBool,
     seat: Seat<L>,
     script: &Script,
 ) -> Played<L>
     requires { seat.calls ≡ [] }
-    ensures { IsPlayed seat.task script.now result.seat result.fault }
+    ensures { IsPlayed seat.task script.now result.seat result.halt }
 {
     let mut seat = seat;
-    let task = seat.task();
-    if stopped.load(Ordering::SeqCst) {
-        return Played {
-            seat,
-            fault: Some(LiveFault::Memory),
-        };
+    if !stop.load(Ordering::SeqCst) {
+        gate.enter(seat.task().0 as usize);
     }
-    gate.enter(task.0 as usize);
-    for line in script.lines() {
-        if is_of(&line.says, task) {
-            if let Err(fault) = say(rt, alloc, live, &mut seat, &line.says) {
-                return Played {
-                    seat,
-                    fault: Some(fault),
-                };
-            }
-        }
+    let halt = say_lines(rt, alloc, live, stop, &mut seat, script);
+    if matches!(halt, Some(Halt::Fault(_))) {
+        stop.store(true, Ordering::SeqCst);
     }
-    Played { seat, fault: None }
+    live.leave(rt, &seat);
+    Played { seat, halt }
 }

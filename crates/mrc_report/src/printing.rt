@@ -5,7 +5,7 @@ ghost use Rattle.std.specs.Prelude.{flat_map, codes};
 ghost use Rattle.mrc_names.specs.Listings.{name_of};
 ghost use Rattle.mrc_machine.specs.Calls.{reply_of};
 ghost use Rattle.mrc_report.specs.Printing.{code_word, named_word, reply_text, event_line};
-ghost use Rattle.mrc_report.specs.Printing.{end_line, hex_digit, hex, denied_words};
+ghost use Rattle.mrc_report.specs.Printing.{end_line, hex_digit, hex, denied_words, waits_text};
 
 use mrc_base::TaskId;
 use mrc_machine::Reply;
@@ -150,4 +150,15 @@ pub fn end_line(alloc: Global, events: usize, ports: usize) -> Result<String, Al
     ensures { IfOk result (λ text. string_bytes text ≡ end_line events ports) }
 {
     format!(in alloc; "end events {events} ports {ports}\n")
+}
+
+/// That all tasks that have lines left wait for messages, with the numbers of those lines.
+pub fn waits_text(alloc: Global, lines: &[u32]) -> Result<String, AllocError>
+    ensures { IfOk result (λ text. string_bytes text ≡ waits_text lines.now) }
+{
+    let mut text = String::from_str(alloc, "AllWait")?;
+    for line in lines {
+        text.push_str(format!(in alloc; " {line}")?.as_str())?;
+    }
+    Ok(text)
 }

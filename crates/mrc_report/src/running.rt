@@ -1,11 +1,13 @@
 //! Scripts, run by tasks as threads.
 
-ghost use Rattle.std.specs.Prelude.{◌≡◌, ◌≤◌, ℕ, [], IfErr, IfNone, IfOk, IfSome, MatchResult};
+ghost use Rattle.std.specs.Prelude.{◌≡◌, ◌≤◌, ◌⊎◌, ℕ, [], IfErr, IfNone, IfOk, MatchResult, None};
 ghost use Rattle.std.specs.Prelude.{Some, slice_get, vec_capacity, vec_len};
 ghost use Rattle.mrc_confine.specs.Guards.{wiring_in};
-ghost use Rattle.mrc_report.specs.Plays.{ArePlayed, IsPlayed, SaysAll, SaysFirst};
+ghost use Rattle.mrc_report.specs.Plays.{AreFresh, ArePlayed, IsPlayed, SaysAll, SaysFirst};
+ghost use Rattle.mrc_report.specs.declared.playing.Halt.TheVariants.{Fault, Stopped as Halted};
+ghost use Rattle.mrc_report.specs.declared.playing.LiveFault.TheVariants.{AllWait};
 
-use crate::playing::{Gate, LiveFault, Played, play};
+use crate::playing::{Gate, Halt, LiveFault, Played, play};
 use crate::script::Script;
 use mrc_base::TaskId;
 use mrc_live::{Live, NotSeated, Seat};
@@ -25,24 +27,25 @@ struct Lines {
 }
 
 impl<L: Ledger> Promise<Played<L>> for Lines {
-    ghost kept_by = { λ p r. IsPlayed p.task p.script.value r.seat r.fault };
+    ghost kept_by = { λ p r. IsPlayed p.task p.script.value r.seat r.halt };
 }
 
-/// Starts a task's thread. Where none can be made the seat comes back as it was.
+/// Starts a task's thread. Where none can be made the seat comes back with no calls, and the run is
+/// stopped.
 fn start<'s, E, L: Ledger + Send + Sync, R: Wait + Sync, G: Gate>(
     scope: &Scope<'s, E>,
     rt: &'s R,
     alloc: Global,
     live: &'s Live<L>,
     gate: &'s G,
-    stopped: &'s AtomicBool,
+    stop: &'s AtomicBool,
     seat: Seat<L>,
     script: &'s Script,
 ) -> Result<PromisedHandle<Played<L>, Lines>, Played<L>>
     requires { seat.calls ≡ [] }
     ensures task { IfOk result (λ h. h.promise.task ≡ seat.task) }
     ensures script { IfOk result (λ h. h.promise.script.value ≡ script.now) }
-    ensures err { IfErr result (λ p. IsPlayed seat.task script.now p.seat p.fault) }
+    ensures err { IfErr result (λ p. IsPlayed seat.task script.now p.seat p.halt) }
 {
     let promise = Lines {
         task: seat.task(),
@@ -50,13 +53,18 @@ fn start<'s, E, L: Ledger + Send + Sync, R: Wait + Sync, G: Gate>(
     };
     let job = move || -> Played<L>
         requires { seat.calls ≡ [] }
-        ensures { IsPlayed seat.task script.entry.now result.seat result.fault }
-    { play(rt, alloc, live, gate, stopped, seat, script) };
+        ensures { IsPlayed seat.task script.entry.now result.seat result.halt }
+    { play(rt, alloc, live, gate, stop, seat, script) };
     match scope.spawn_with(promise, job) {
         Ok(handle) => Ok(handle),
         Err(refused) => {
-            stopped.store(true, Ordering::SeqCst);
-            Err((refused.value)())
+            stop.store(true, Ordering::SeqCst);
+            live.wake_all(rt);
+            let Played { seat, .. } = (refused.value)();
+            Err(Played {
+                seat,
+                halt: Some(Halt::Fault(LiveFault::Memory)),
+            })
         }
     }
 }
@@ -64,30 +72,22 @@ fn start<'s, E, L: Ledger + Send + Sync, R: Wait + Sync, G: Gate>(
 /// A thread that runs, or what came back where none could be made.
 type Running<L> = Result<PromisedHandle<Played<L>, Lines>, Played<L>>;
 
-/// Makes each task's seat and starts its thread, in task order.
-fn start_all<'s, E, L: Ledger + Send + Sync, R: Wait + Sync, G: Gate>(
-    scope: &Scope<'s, E>,
-    rt: &'s R,
-    alloc: Global,
-    live: &'s Live<L>,
-    gate: &'s G,
-    stopped: &'s AtomicBool,
-    script: &'s Script,
-    running: &mut Vec<Running<L>>,
+/// Makes each task's seat, in task order, before any thread is started: so a task that waits knows
+/// that all who may send to it are there.
+fn seat_all<L: Ledger, R: Wait>(
+    rt: &R,
+    live: &Live<L>,
+    seats: &mut Vec<Seat<L>>,
 ) -> Option<LiveFault>
-    requires empty { running.old.items ≡ [] }
-    requires room { (wiring_in live.now).tasks ≤ vec_capacity running.old }
-    ensures each { (t : ℕ) (x : _) → slice_get running.new.items t ≡ Some x → MatchResult x
-        (λ h. (h.promise.task ≡ t) × (h.promise.script.value ≡ script.now))
-        (λ p. IsPlayed t script.now p.seat p.fault) }
-    ensures all { IfNone result (vec_len running.new ≡ (wiring_in live.now).tasks) }
-    ensures few { vec_len running.new ≤ (wiring_in live.now).tasks }
+    requires empty { seats.old.items ≡ [] }
+    requires room { (wiring_in live.now).tasks ≤ vec_capacity seats.old }
+    ensures each { AreFresh seats.new.items }
+    ensures all { IfNone result (vec_len seats.new ≡ (wiring_in live.now).tasks) }
+    ensures few { vec_len seats.new ≤ (wiring_in live.now).tasks }
 {
     for task in 0..u32::from(live.confined().wired().tasks()) {
         match live.seat(rt, TaskId(task)) {
-            Ok(seat) => running.push_reserved(start(
-                scope, rt, alloc, live, gate, stopped, seat, script,
-            )),
+            Ok(seat) => seats.push_reserved(seat),
             Err(NotSeated::TooManySeats) => return Some(LiveFault::TooManySeats),
             Err(NotSeated::NoSuchTask) => unreachable!(),
         }
@@ -95,10 +95,35 @@ fn start_all<'s, E, L: Ledger + Send + Sync, R: Wait + Sync, G: Gate>(
     None
 }
 
+/// Starts the thread of each seat, in task order.
+fn start_all<'s, E, L: Ledger + Send + Sync, R: Wait + Sync, G: Gate>(
+    scope: &Scope<'s, E>,
+    rt: &'s R,
+    alloc: Global,
+    live: &'s Live<L>,
+    gate: &'s G,
+    stop: &'s AtomicBool,
+    seats: Vec<Seat<L>>,
+    script: &'s Script,
+    running: &mut Vec<Running<L>>,
+)
+    requires fresh { AreFresh seats.items }
+    requires empty { running.old.items ≡ [] }
+    requires room { vec_len seats ≤ vec_capacity running.old }
+    ensures each { (t : ℕ) (x : _) → slice_get running.new.items t ≡ Some x → MatchResult x
+        (λ h. (h.promise.task ≡ t) × (h.promise.script.value ≡ script.now))
+        (λ p. IsPlayed t script.now p.seat p.halt) }
+    ensures len { vec_len running.new ≡ vec_len seats }
+{
+    for seat in seats {
+        running.push_reserved(start(scope, rt, alloc, live, gate, stop, seat, script));
+    }
+}
+
 /// What a thread handed back.
 fn ended<L: Ledger, R: Threads>(rt: &R, one: Running<L>) -> Played<L>
     ensures { MatchResult one
-        (λ h. IsPlayed h.promise.task h.promise.script.value result.seat result.fault)
+        (λ h. IsPlayed h.promise.task h.promise.script.value result.seat result.halt)
         (λ p. result ≡ p) }
 {
     match one {
@@ -107,27 +132,31 @@ fn ended<L: Ledger, R: Threads>(rt: &R, one: Running<L>) -> Played<L>
     }
 }
 
-/// The first fault of two.
-fn earlier(first: Option<LiveFault>, next: Option<LiveFault>) -> Option<LiveFault>
-    ensures none { IfNone first (result ≡ next) }
-    ensures some { IfSome first (λ _. result ≡ first) }
+/// The first fault of two, or else that one was stopped.
+fn earlier(first: Option<Halt>, next: Option<Halt>) -> Option<Halt>
+    ensures none { IfNone result ((first ≡ None) × (next ≡ None)) }
+    ensures fault { (fault : LiveFault) → first ≡ Some (Fault fault) → result ≡ first }
+    ensures next { (fault : LiveFault) → next ≡ Some (Fault fault)
+        → (first ≡ None) ⊎ (first ≡ Some Halted) → result ≡ next }
 {
-    match first {
-        Some(fault) => Some(fault),
-        None => next,
+    match (first, next) {
+        (Some(Halt::Fault(fault)), _) => Some(Halt::Fault(fault)),
+        (_, Some(halt)) => Some(halt),
+        (halt, None) => halt,
     }
 }
 
-/// Joins all threads. The seats come in task order, with the first fault by task number.
+/// Joins all threads. The seats come in task order, with the first fault by task number, or else
+/// that one was stopped.
 fn join_all<L: Ledger, R: Threads>(
     rt: &R,
     running: Vec<Running<L>>,
     seats: Vec<Seat<L>>,
     script: &Script,
-) -> (Vec<Seat<L>>, Option<LiveFault>)
+) -> (Vec<Seat<L>>, Option<Halt>)
     requires each { (t : ℕ) (x : _) → slice_get running.items t ≡ Some x → MatchResult x
         (λ h. (h.promise.task ≡ t) × (h.promise.script.value ≡ script.now))
-        (λ p. IsPlayed t script.now p.seat p.fault) }
+        (λ p. IsPlayed t script.now p.seat p.halt) }
     requires empty { seats.items ≡ [] }
     requires room { vec_len running ≤ vec_capacity seats }
     ensures len { vec_len result.0 ≡ vec_len running }
@@ -136,9 +165,9 @@ fn join_all<L: Ledger, R: Threads>(
     let mut seats = seats;
     let mut first = None;
     for one in running {
-        let Played { seat, fault } = ended(rt, one);
+        let Played { seat, halt } = ended(rt, one);
         seats.push_reserved(seat);
-        first = earlier(first, fault);
+        first = earlier(first, halt);
     }
     (seats, first)
 }
@@ -169,32 +198,88 @@ fn run_in<'s, E, L: Ledger + Send + Sync, R: Threads + Wait + Sync, G: Gate>(
     alloc: Global,
     live: &'s Live<L>,
     gate: &'s G,
-    stopped: &'s AtomicBool,
+    stop: &'s AtomicBool,
     script: &'s Script,
 ) -> Result<Vec<Seat<L>>, Stopped<L>>
     ensures all { IfOk result (λ seats. vec_len seats ≡ (wiring_in live.now).tasks) }
     ensures whole { IfOk result (λ seats. SaysAll script.now seats.items) }
     ensures begun { IfErr result (λ f. SaysFirst script.now f.seats.items) }
+    ensures seated { IfErr result (λ f. f.fault ≡ AllWait
+        → vec_len f.seats ≡ (wiring_in live.now).tasks) }
 {
     let tasks = usize::from(live.confined().wired().tasks());
+    let Ok(mut fresh) = Vec::with_capacity(alloc, tasks) else {
+        return Err(nothing(alloc));
+    };
     let Ok(mut running) = Vec::with_capacity(alloc, tasks) else {
         return Err(nothing(alloc));
     };
     let Ok(seats) = Vec::with_capacity(alloc, tasks) else {
         return Err(nothing(alloc));
     };
-    let stop = start_all(scope, rt, alloc, live, gate, stopped, script, &mut running);
-    let (seats, first) = join_all(rt, running, seats, script);
-    match (first, stop) {
-        (Some(fault), _) => Err(Stopped { fault, seats }),
-        (None, Some(fault)) => Err(Stopped { fault, seats }),
-        (None, None) => Ok(seats),
+    if let Some(fault) = seat_all(rt, live, &mut fresh) {
+        return Err(Stopped {
+            fault,
+            seats: fresh,
+        });
     }
+    start_all(
+        scope,
+        rt,
+        alloc,
+        live,
+        gate,
+        stop,
+        fresh,
+        script,
+        &mut running,
+    );
+    let (seats, first) = join_all(rt, running, seats, script);
+    match first {
+        Some(Halt::Fault(fault)) => Err(Stopped { fault, seats }),
+        Some(Halt::Stopped) => Err(Stopped {
+            fault: LiveFault::AllWait,
+            seats,
+        }),
+        None => Ok(seats),
+    }
+}
+
+/// As [`run_live`], of a script that is lent.
+pub(crate) fn run_script<L: Ledger + Send + Sync, R: Threads + Wait + Sync, G: Gate>(
+    rt: &R,
+    alloc: Global,
+    live: &Live<L>,
+    script: &Script,
+    gate: &G,
+) -> Result<Vec<Seat<L>>, Stopped<L>>
+    ensures all { IfOk result (λ seats. vec_len seats ≡ (wiring_in live.now).tasks) }
+    ensures whole { IfOk result (λ seats. SaysAll script.now seats.items) }
+    ensures begun { IfErr result (λ f. SaysFirst script.now f.seats.items) }
+    // Where all wait there is a seat for each task.
+    ensures seated { IfErr result (λ f. f.fault ≡ AllWait
+        → vec_len f.seats ≡ (wiring_in live.now).tasks) }
+{
+    let stop = AtomicBool::new(false);
+    let stop = &stop;
+    thread::scope(
+        thread::scope_env(),
+        rt,
+        |scope| -> Result<Vec<Seat<L>>, Stopped<L>>
+            ensures all { IfOk result
+                (λ seats. vec_len seats ≡ (wiring_in live.entry.now).tasks) }
+            ensures whole { IfOk result (λ seats. SaysAll script.entry.now seats.items) }
+            ensures begun { IfErr result (λ f. SaysFirst script.entry.now f.seats.items) }
+            ensures seated { IfErr result (λ f. f.fault ≡ AllWait
+                → vec_len f.seats ≡ (wiring_in live.entry.now).tasks) }
+        { run_in(scope, rt, alloc, live, gate, stop, script) },
+    )
 }
 
 /// Runs a script at a server: one thread and one seat for each wired task, in task order. Each
 /// thread enters the gate once, with its task's number, before its first line, also where it has no
-/// line. Where all tasks wait for messages it does not return.
+/// line. A fault of one stops the others, and so does the last that begins to wait for a message
+/// where each other waits or has said all its lines: `AllWait`.
 pub fn run_live<L: Ledger + Send + Sync, R: Threads + Wait + Sync, G: Gate>(
     rt: &R,
     alloc: Global,
@@ -209,16 +294,5 @@ pub fn run_live<L: Ledger + Send + Sync, R: Threads + Wait + Sync, G: Gate>(
     // With a refusal each that was made has made the first of them.
     ensures begun { IfErr result (λ f. SaysFirst script f.seats.items) }
 {
-    let stopped = AtomicBool::new(false);
-    let (stopped, script) = (&stopped, &script);
-    thread::scope(
-        thread::scope_env(),
-        rt,
-        |scope| -> Result<Vec<Seat<L>>, Stopped<L>>
-            ensures all { IfOk result
-                (λ seats. vec_len seats ≡ (wiring_in live.entry.now).tasks) }
-            ensures whole { IfOk result (λ seats. SaysAll script.entry.now seats.items) }
-            ensures begun { IfErr result (λ f. SaysFirst script.entry.now f.seats.items) }
-        { run_in(scope, rt, alloc, live, gate, stopped, script) },
-    )
+    run_script(rt, alloc, live, &script, gate)
 }

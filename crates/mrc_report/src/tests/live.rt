@@ -2,8 +2,8 @@
 
 ghost use Rattle.std.specs.Prelude.{◌≡◌};
 
-use crate::{Gate, read_script, run_live, serve};
-use mrc_base::OrMemory;
+use crate::{Gate, LiveFault, Served, read_script, run_live, serve};
+use mrc_base::{OrMemory, TaskId};
 use mrc_check::{Confined, check_texts};
 use mrc_confine::Guarded;
 use mrc_live::Live;
@@ -158,7 +158,8 @@ fn too_many<L: Ledger + Send + Sync, R: Threads + Wait + Sync>(
         return Err(AllocError);
     };
     match serve::<L, _, _>(rt, alloc, confined, script, 1, blank, &gate) {
-        Ok(text) => Ok(text),
+        Ok(Served::Whole(text)) => Ok(text),
+        Ok(Served::AllWait(text, _)) => Ok(text),
         Err(OrMemory::Fault(fault)) => fault.to_string(alloc),
         Err(OrMemory::Memory) => Err(AllocError),
     }
@@ -168,5 +169,126 @@ fn too_many<L: Ledger + Send + Sync, R: Threads + Wait + Sync>(
 fn a_journal_is_full(rt: HostRuntime) -> Result<(), Fail> {
     let told = too_many::<Brand, _>(&rt, rt.alloc(), Blank::new(257))?;
     assert_eq!(rt; told.as_str(), "JournalFull");
+    Ok(())
+}
+
+/// What is told of a script of the file server, with the lines that wait, if all do.
+fn all_waiting<L: Ledger + Send + Sync, R: Threads + Wait + Sync>(
+    rt: &R,
+    alloc: Global,
+    blank: Blank,
+    text: &str,
+) -> Result<(String, Vec<u32>), AllocError>
+    requires name { blank.name ≡ L.name }
+    requires parts { (blank.parts ≡ L.parts) × (L.parts ≡ 257) }
+{
+    let gate = Holding {
+        entered: AtomicBool::new(true),
+        gave_up: AtomicBool::new(false),
+    };
+    let confined = file_server(rt, alloc)?;
+    let Ok(script) = read_script(alloc, confined.wired(), text, true) else {
+        return Err(AllocError);
+    };
+    match serve::<L, _, _>(rt, alloc, confined, script, 100, blank, &gate) {
+        Ok(Served::Whole(text)) => Ok((text, Vec::new(alloc))),
+        Ok(Served::AllWait(text, lines)) => Ok((text, lines)),
+        Err(_) => Err(AllocError),
+    }
+}
+
+#[test]
+fn two_tasks_wait_for_each_other(rt: HostRuntime) -> Result<(), Fail> {
+    let script = "fs wait 2 92\nfs names 1\napp allocate 1 receive\napp wait 3 40\n";
+    let (text, lines) = all_waiting::<Brand, _>(&rt, rt.alloc(), Blank::new(257), script)?;
+    assert_eq!(rt; text.as_str(), "0 app name 3\nend events 1 ports 4\n");
+    assert_eq!(rt; lines.as_slice(), [1, 4].as_slice());
+    Ok(())
+}
+
+#[test]
+fn the_last_line_waits(rt: HostRuntime) -> Result<(), Fail> {
+    let script = "app allocate 1 receive\napp wait 3 40\n";
+    let (text, lines) = all_waiting::<Brand, _>(&rt, rt.alloc(), Blank::new(257), script)?;
+    assert_eq!(rt; text.as_str(), "0 app name 3\nend events 1 ports 4\n");
+    assert_eq!(rt; lines.as_slice(), [2].as_slice());
+    Ok(())
+}
+
+/// The server waits a second time, for a message that never comes.
+const AGAIN: &str = "fs wait 2 92
+fs wait 2 92
+app allocate 1 receive
+app send 13150000 5c000000 02000000 03000000 00000000 b80b0000 0c084010 \
+00000000000000000000000000000000 00000000000000000000000000000000 \
+00000000000000000000000000000000 00000000000000000000000000000000
+";
+
+/// Whether the run of this script ended with three events, its second line waiting.
+fn waits_again<L: Ledger + Send + Sync, R: Threads + Wait + Sync>(
+    rt: &R,
+    alloc: Global,
+    blank: Blank,
+) -> Result<bool, AllocError>
+    requires name { blank.name ≡ L.name }
+    requires parts { (blank.parts ≡ L.parts) × (L.parts ≡ 257) }
+{
+    let (text, lines) = all_waiting::<L, R>(rt, alloc, blank, AGAIN)?;
+    Ok(text.as_str().ends_with("end events 3 ports 4\n") && lines.as_slice() == [2].as_slice())
+}
+
+// The client's message wakes the server about when the client, the last to be awake, ends.
+#[test]
+fn a_wake_before_the_last_waits(rt: HostRuntime) -> Result<(), Fail> {
+    for _ in 0..1000 {
+        assert!(rt; waits_again::<Brand, _>(&rt, rt.alloc(), Blank::new(257))?);
+    }
+    Ok(())
+}
+
+/// Makes so many seats, and lets them go.
+fn take_seats<L: Ledger, R: Wait>(rt: &R, live: &Live<L>, count: u32) {
+    for _ in 0..count {
+        let _ = live.seat(rt, TaskId(0));
+    }
+}
+
+/// Runs a script whose first task waits where there is one seat left. The fault, and how many seats
+/// come back.
+fn run_out<L: Ledger + Send + Sync, R: Threads + Wait + Sync>(
+    rt: &R,
+    alloc: Global,
+    blank: Blank,
+    gate: &Holding,
+) -> Result<Option<(LiveFault, usize)>, AllocError>
+    requires name { blank.name ≡ L.name }
+    requires parts { (blank.parts ≡ L.parts) × (L.parts ≡ 257) }
+{
+    let Ok(guarded) = Guarded::start(alloc, file_server(rt, alloc)?) else {
+        return Err(AllocError);
+    };
+    let Ok(live) = Live::<L>::new(alloc, guarded, 8, blank) else {
+        return Err(AllocError);
+    };
+    let Ok(script) = read_script(alloc, live.confined().wired(), OPENS, true) else {
+        return Err(AllocError);
+    };
+    take_seats(rt, &live, 255);
+    match run_live(rt, alloc, &live, script, gate) {
+        Ok(_) => Ok(None),
+        Err(stopped) => Ok(Some((stopped.fault, stopped.seats.len()))),
+    }
+}
+
+#[test]
+fn seats_run_out(rt: HostRuntime) -> Result<(), Fail> {
+    let gate = Holding {
+        entered: AtomicBool::new(true),
+        gave_up: AtomicBool::new(false),
+    };
+    assert_eq!(rt;
+        run_out::<Brand, _>(&rt, rt.alloc(), Blank::new(257), &gate)?,
+        Some((LiveFault::TooManySeats, 1))
+    );
     Ok(())
 }

@@ -16,32 +16,32 @@ loop-one-preserved g c =
     let end = c.ended-seat.result in
     let keeps = each_first (λ t x. MatchResult x
     (λ h. (h.promise.task ≡ t) × (h.promise.script.value ≡ script))
-    (λ p. IsPlayed t script p.seat p.fault)) done one rest later c.in-Some.ensures.steps.0 was.2 in
-    let played : IsPlayed done script end.seat end.fault =
+    (λ p. IsPlayed t script p.seat p.halt)) done one rest later c.in-Some.ensures.steps.0 was.2 in
+    let played : IsPlayed done script end.seat end.halt =
     from_both one
     (λ h. (h.promise.task ≡ done) × (h.promise.script.value ≡ script))
-    (λ h. IsPlayed h.promise.task h.promise.script.value end.seat end.fault)
-    (λ p. IsPlayed done script p.seat p.fault)
+    (λ h. IsPlayed h.promise.task h.promise.script.value end.seat end.halt)
+    (λ p. IsPlayed done script p.seat p.halt)
     (λ p. end ≡ p)
-    (IsPlayed done script end.seat end.fault)
-    (λ h is this. subst (λ ls. IsPlayed done ls end.seat end.fault) is.1
-    (subst (λ t. IsPlayed t h.promise.script.value end.seat end.fault) is.0 this))
-    (λ p this is. subst (λ q. IsPlayed done script q.seat q.fault) (sym is) this)
+    (IsPlayed done script end.seat end.halt)
+    (λ h is this. subst (λ ls. IsPlayed done ls end.seat end.halt) is.1
+    (subst (λ t. IsPlayed t h.promise.script.value end.seat end.halt) is.0 this))
+    (λ p this is. subst (λ q. IsPlayed done script q.seat q.halt) (sym is) this)
     keeps c.ended-seat.ensures in
     let next : vec_len c.push_reserved.new.self ≡ done + 1 = search rules in
     let len : done ≡ length c.loop-one.seats.items = search rules in
-    let this_none : c.earlier-first.result ≡ None → end.fault ≡ None = search rules in
+    let this_none : c.earlier-first.result ≡ None → end.halt ≡ None = search rules in
     let that_none : c.earlier-first.result ≡ None → c.loop-one.first ≡ None = search rules in (
       search rules,
       search rules,
       each_later (λ t x. MatchResult x
           (λ h. (h.promise.task ≡ t) × (h.promise.script.value ≡ script))
-          (λ p. IsPlayed t script p.seat p.fault))
+          (λ p. IsPlayed t script p.seat p.halt))
           done (vec_len c.push_reserved.new.self) one rest later c.in-Some.ensures.steps.0 was.2
           next,
       each_grown (λ t s. IsPlayed t script s c.earlier-first.result) c.loop-one.seats.items
           c.push_reserved.new.self.items end.seat done c.push_reserved.ensures.items len
           (λ t s at. played_later t script s c.loop-one.first c.earlier-first.result that_none
           (was.3 t s at))
-          (played_later done script end.seat end.fault c.earlier-first.result this_none played),
+          (played_later done script end.seat end.halt c.earlier-first.result this_none played),
     )

@@ -13,5 +13,5 @@ invariant-loop-one g l =
     × (vec_len l.fn.running ≤ vec_capacity l.seats)
     × ((k : ℕ) (x : _) → slice_get (into_iter_items rest) k ≡ Some x → MatchResult x
     (λ h. (h.promise.task ≡ done + k) × (h.promise.script.value ≡ l.script))
-    (λ p. IsPlayed (done + k) l.script p.seat p.fault))
+    (λ p. IsPlayed (done + k) l.script p.seat p.halt))
     × ArePlayed l.script l.first l.seats.items

@@ -3,8 +3,8 @@ use Rattle.std.proofs.Common.{rules}
 use Rattle.std.proofs.lemmas.Option.{slice_get_read}
 use Rattle.mrc_report.specs.Plays.{calls_of}
 use Rattle.mrc_report.proofs.Asking.{played_part, asked_mine, asked_other}
-use Rattle.mrc_report.proofs.playing.play.Goals.{then-is_of+in_default, else-is_of}
-use Rattle.mrc_report.proofs.playing.play.Goals as goal
+use Rattle.mrc_report.proofs.playing.say_lines.Goals.{then-is_of+in_default, else-is_of}
+use Rattle.mrc_report.proofs.playing.say_lines.Goals as goal
 
 pub returns-then-load : goal.returns-then-load
 returns-then-load g c =
