@@ -15,7 +15,6 @@ mod serving;
 mod waiting;
 
 pub use files::{ReadFault, WriteFault, read_all, read_fault, write_text};
-pub use parameters::number_of_word;
 pub use playing::{Gate, LiveFault};
 pub use printing::{code_word, end_line, event_line, reply_text, waits_text};
 pub use replaying::replay;
