@@ -1,6 +1,0 @@
-pub mod CommandLaws
-pub mod FileLaws
-pub mod ToldLaws
-pub mod ScriptLaws
-pub mod ChainLaws
-mod MakeLaws

@@ -1,0 +1,5 @@
+pub mod FileLaws
+pub mod ToldLaws
+pub mod ScriptLaws
+pub mod ChainLaws
+mod MakeLaws
