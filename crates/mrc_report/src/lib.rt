@@ -21,6 +21,3 @@ pub use replaying::replay;
 pub use running::{Stopped, run_live};
 pub use script::{Script, ScriptFault, TaskCall, read_script};
 pub use serving::{ServeFault, Served, journal_text, serve};
-
-#[cfg(test)]
-mod tests;
