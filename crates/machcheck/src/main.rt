@@ -2,31 +2,19 @@
 //! task.
 #![tactic(auto)]
 
-mod command;
-mod explain;
-mod live;
-mod make;
-mod replay;
-mod run;
-mod script;
-mod system;
-mod tell;
-#[cfg(test)]
-mod tests;
-mod told;
-mod words;
-
+use mrc_command::words_of;
 use mrc_files::Disk;
+use mrc_program::start;
 use std::process::ExitCode;
 
 fn main(rt: HostRuntime) -> ExitCode {
     let mut out = rt.stdout();
     let mut err = rt.stderr();
-    let status = run::start(
+    let status = start(
         &rt,
         &mut Disk(&rt),
         rt.alloc(),
-        words::words_of(&rt),
+        words_of(&rt),
         &mut out,
         &mut err,
     );

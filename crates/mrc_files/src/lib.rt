@@ -12,6 +12,3 @@ pub use folders::{Folder, Unread, bytes_of, bytes_of_all, read_file};
 pub use paths::{linked, part_path};
 pub use streams::{ReadFault, WriteFault, read_all, read_fault, write_text};
 pub use system::Disk;
-
-#[cfg(test)]
-mod tests;

@@ -14,8 +14,8 @@ use Rattle.mrc_wiring.specs.Table.{Table}
 use Rattle.mrc_machine.specs.declared.call.Call.{Call}
 use Rattle.mrc_machine.specs.declared.call.Call.TheVariants as call
 use Rattle.mrc_report.specs.declared.script.TaskCall.{TaskCall}
-use Rattle.mrc_report.specs.Parameters.{number_of_word, byte_of}
-use Rattle.mrc_report.specs.Parameters.{bytes_of_digits}
+use Rattle.mrc_words.specs.Numbers.{number_of_word}
+use Rattle.mrc_report.specs.Parameters.{byte_of, bytes_of_digits}
 use Rattle.mrc_report.specs.Calls.{insert_right, names, port_call_named, dropping_call_named}
 use Rattle.mrc_report.specs.Calls.{call_named}
 use Rattle.mrc_report.specs.Calls.{script_says, receive}
@@ -67,15 +67,6 @@ another_task : script_of false tasks (text (codes "f names 1" ∷ codes "g names
 unfolding body line_of words between_blanks is_blank script_says call_named
     port_call_named names number_of_word
 another_task = refl
-
--- a number of more than 32 bits, and the last that has no more
-large : number_of_word (codes "4294967296") ≡ None
-unfolding number_of_word
-large = refl
-
-largest : number_of_word (codes "04294967295") ≡ Some 4294967295
-unfolding number_of_word
-largest = refl
 
 -- digits of either case; one that is over spells no byte
 whole_bytes : bytes_of_digits (codes "0aF1") ≡ Some (10 ∷ 241 ∷ [])

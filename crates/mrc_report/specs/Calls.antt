@@ -13,8 +13,8 @@ use Rattle.mrc_machine.specs.declared.call.Call.TheVariants.{MoveMember, Request
 use Rattle.mrc_machine.specs.declared.call.Call.TheVariants.{Deallocate, Destroy, ModRefs}
 use Rattle.mrc_machine.specs.declared.call.Call.TheVariants.{Terminate}
 use Rattle.mrc_report.specs.declared.script.TaskCall.{TaskCall}
-use Rattle.mrc_report.specs.Parameters.{number_of_word, right_of_word, disp_of_word}
-use Rattle.mrc_report.specs.Parameters.{delta_of_word, message_of_words}
+use Rattle.mrc_words.specs.Numbers.{number_of_word, delta_of_word}
+use Rattle.mrc_report.specs.Parameters.{right_of_word, disp_of_word, message_of_words}
 
 -- `receive NAME LIMIT`
 unfoldable pub receive : List (List ℕ) → Option Call

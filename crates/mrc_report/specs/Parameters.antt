@@ -1,43 +1,17 @@
--- The parameters of a call as words of a script: numbers, rights and dispositions. How they are
--- written is this profile's own choice; the numbers of dispositions are Mach's (Mach 3 Kernel
--- Interfaces, mach_msg_type_name_t).
-use Rattle.std.specs.Prelude.{ℕ, ◌+◌, ◌-◌, ◌*◌, ◌^◌, ◌&&◌, nat_lt, nat_le, bytes_eq, codes, List}
-use Rattle.std.specs.Prelude.{[], ◌∷◌, Option, Some, None, if◌then◌else◌, flat_map, ℤ, pos}
-use Rattle.std.specs.Prelude.{neg_ℤ, ◌==◌}
+-- The parameters of a call as words of a script, but for numbers: rights, dispositions, messages.
+-- How they are written is this profile's own choice; the numbers of dispositions are Mach's (Mach 3
+-- Kernel Interfaces, mach_msg_type_name_t).
+use Rattle.std.specs.Prelude.{ℕ, ◌+◌, ◌-◌, ◌*◌, ◌&&◌, nat_le, bytes_eq, codes, List}
+use Rattle.std.specs.Prelude.{[], ◌∷◌, Option, Some, None, if◌then◌else◌, flat_map}
 use Rattle.std.specs.Result.{result_ok}
 use Rattle.mrc_base.specs.declared.Right.{Right}
 use Rattle.mrc_base.specs.declared.Right.TheVariants.{Send, Receive, SendOnce, PortSet, DeadName}
 use Rattle.mrc_base.specs.declared.Disp.{Disp}
 use Rattle.mrc_base.specs.Disposition.{disp_of_number}
-use Rattle.mrc_wiring_text.specs.Lexis.{decimal}
-use Rattle.mrc_wiring_text.specs.Reading.{is_number}
+use Rattle.mrc_words.specs.Numbers.{number_of_word}
 use Rattle.mrc_words.specs.Reading.{◌>>=◌}
 use Rattle.mrc_model.specs.Message.{Message}
 use Rattle.mrc_desc.specs.Reading.{message_at}
-
--- the number that decimal digits spell, leading zeros or not, where it has 32 bits
-unfoldable pub number_of_word : List ℕ → Option ℕ
-number_of_word word =
-    if is_number word && nat_lt (decimal word) (2 ^ 32) then Some (decimal word) else None
-
--- the number that digits spell, where it is at most 2147483647
-unfoldable pub delta_above : List ℕ → Option ℤ
-delta_above digits =
-    if is_number digits && nat_lt (decimal digits) (2 ^ 31)
-    then Some (pos (decimal digits)) else None
-
--- the number whose negative digits spell, where it is at least -2147483648
-unfoldable pub delta_below : List ℕ → Option ℤ
-delta_below digits =
-    if is_number digits && nat_le (decimal digits) (2 ^ 31) then Some (neg_ℤ (pos (decimal digits)))
-    else None
-
--- the number from -2147483648 to 2147483647 that a word spells: decimal digits, leading zeros or
--- not, after `-` where it is below 0
-unfoldable pub delta_of_word : List ℕ → Option ℤ
-delta_of_word [] = None
-delta_of_word (byte ∷ digits) =
-    if byte == 45 then delta_below digits else delta_above (byte ∷ digits)
 
 -- the right of a word
 unfoldable pub right_of_word : List ℕ → Option Right

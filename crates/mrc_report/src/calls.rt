@@ -9,14 +9,13 @@ ghost use Rattle.mrc_report.specs.Calls.{script_says, dropping_call_named};
 ghost use Rattle.mrc_report.specs.Calls.{move_member, request_notification, deallocate, destroy};
 ghost use Rattle.mrc_report.specs.Calls.{mod_refs, task_terminate};
 
-use crate::parameters::{
-    delta_of_word, disp_of_word, message_of_words, number_of_word, right_of_word,
-};
+use crate::parameters::{disp_of_word, message_of_words, right_of_word};
 use crate::script::TaskCall;
 use mrc_base::TaskId;
 use mrc_machine::Call;
 use mrc_wiring::Wired;
 use mrc_wiring_text::is_word;
+use mrc_words::{delta_of_word, number_of_word};
 use std::alloc::{AllocError, Global};
 use std::str;
 

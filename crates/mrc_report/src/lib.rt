@@ -14,13 +14,9 @@ mod serving;
 mod waiting;
 
 pub use mrc_files::{ReadFault, WriteFault, read_all, read_fault, write_text};
-pub use parameters::number_of_word;
 pub use playing::{Gate, LiveFault};
 pub use printing::{code_word, end_line, event_line, reply_text, waits_text};
 pub use replaying::replay;
 pub use running::{Stopped, run_live};
 pub use script::{Script, ScriptFault, TaskCall, read_script};
 pub use serving::{ServeFault, Served, journal_text, serve};
-
-#[cfg(test)]
-mod tests;

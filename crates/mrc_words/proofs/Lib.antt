@@ -1,3 +1,4 @@
 pub mod Cuts
 pub mod ClassWords
 pub mod FactWords
+mod WorkedNumbers

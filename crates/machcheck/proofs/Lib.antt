@@ -1,5 +1,0 @@
-pub mod CommandLaws
-pub mod ToldLaws
-pub mod ScriptLaws
-pub mod ChainLaws
-mod MakeLaws

@@ -1,8 +1,0 @@
-use Rattle.machcheck.proofs.ToldLaws.{of_file}
-use Rattle.machcheck.proofs.live.run_told.Goals as goal
-
-pub returns-in_ok-text-in-Err-Fault-clause-fault :
-    goal.returns-in_ok-text-in-Err-Fault-clause-fault
-returns-in_ok-text-in-Err-Fault-clause-fault g c =
-    of_file c.args.files.now.script.now _ c.fault_of.result c.fault_of.ensures.out
-    c.fault_of.ensures.err

@@ -1,6 +1,0 @@
-pub mod Files
-pub mod Texts
-pub mod Told
-pub mod CommandLine
-pub mod Explained
-pub mod Commands

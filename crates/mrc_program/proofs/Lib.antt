@@ -1,0 +1,4 @@
+pub mod ToldLaws
+pub mod ScriptLaws
+pub mod ChainLaws
+mod MakeLaws

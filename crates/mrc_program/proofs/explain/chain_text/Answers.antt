@@ -1,0 +1,11 @@
+use Rattle.std.proofs.Common.{◌∙◌}
+use Rattle.std.specs.Prelude.{string_bytes}
+use Rattle.mrc_program.proofs.ChainLaws.{lines_more}
+use Rattle.mrc_program.proofs.explain.chain_text.Goals as goal
+
+pub loop-place-preserved : goal.loop-place-preserved
+loop-place-preserved c =
+    lines_more c.args.wired.now c.args.steps.now c.loop-place.place c.index-steps-place.result
+    c.loop-place-test.true c.index-steps-place.is (string_bytes c.loop-place.text)
+    c.as_str.result.now (string_bytes c.push_str.new.self) c.loop-place.invariant
+    (c.as_str.ensures.value ∙ c.in_ok-line.ensures) c.in_ok-push_str.ensures.bytes

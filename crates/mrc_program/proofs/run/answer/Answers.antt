@@ -1,0 +1,40 @@
+use Rattle.std.proofs.Common.{◌≡◌, sym, subst, Result}
+use Rattle.std.specs.Prelude.{IfOk}
+use Rattle.mrc_command.specs.declared.told.Told.{Told}
+use Rattle.mrc_command.specs.declared.command.Command.{Command}
+use Rattle.mrc_files.specs.Files.{Held}
+use Rattle.mrc_program.specs.Commands.{FaultOf}
+use Rattle.mrc_program.proofs.run.answer.Goals as goal
+
+-- a fault of the command, by what it is
+of_command : {E : Type 0} (held : Held) (result : Result Told E) (command is : Command)
+    → command ≡ is
+    → IfOk result (λ told. told.status ≡ 2 → FaultOf held is told)
+    → IfOk result (λ told. told.status ≡ 2 → FaultOf held command told)
+of_command held result command is h fault =
+    subst (λ x. IfOk result (λ told. told.status ≡ 2 → FaultOf held x told)) (sym h) fault
+
+pub returns-in-Check-clause-fault : goal.returns-in-Check-clause-fault
+returns-in-Check-clause-fault g c =
+    of_command (g.F.Folder.held c.args.folder.now) c.check_files.result c.args.command.now _ c.in-Check.is
+    c.check_files.ensures.fault
+
+pub returns-in-Make-clause-fault : goal.returns-in-Make-clause-fault
+returns-in-Make-clause-fault g c =
+    of_command (g.F.Folder.held c.args.folder.now) c.make_files.result c.args.command.now _ c.in-Make.is
+    c.make_files.ensures.fault
+
+pub returns-in-Explain-clause-fault : goal.returns-in-Explain-clause-fault
+returns-in-Explain-clause-fault g c =
+    of_command (g.F.Folder.held c.args.folder.now) c.explain_files.result c.args.command.now _ c.in-Explain.is
+    c.explain_files.ensures.fault
+
+pub returns-in-Replay-clause-fault : goal.returns-in-Replay-clause-fault
+returns-in-Replay-clause-fault g c =
+    of_command (g.F.Folder.held c.args.folder.now) c.replay_files.result c.args.command.now _ c.in-Replay.is
+    c.replay_files.ensures.fault
+
+pub returns-in-Live-clause-fault : goal.returns-in-Live-clause-fault
+returns-in-Live-clause-fault g c =
+    of_command (g.F.Folder.held c.args.folder.now) c.live_files.result c.args.command.now _ c.in-Live.is
+    c.live_files.ensures.fault

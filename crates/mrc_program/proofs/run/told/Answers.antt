@@ -1,0 +1,13 @@
+use Rattle.std.proofs.Common.{inl}
+use Rattle.std.proofs.lemmas.Result.{IfOk-weaker}
+use Rattle.mrc_program.proofs.run.told.Goals as goal
+
+pub returns-in-Ok-clause-yes : goal.returns-in-Ok-clause-yes
+returns-in-Ok-clause-yes g c =
+    IfOk-weaker c.answer.result _ _
+    (λ told h zero_is. inl (c.in-Ok.command, h zero_is)) c.answer.ensures.done
+
+pub returns-in-Ok-clause-no : goal.returns-in-Ok-clause-no
+returns-in-Ok-clause-no g c =
+    IfOk-weaker c.answer.result _ _
+    (λ told h one_is. (c.in-Ok.command, h one_is)) c.answer.ensures.no

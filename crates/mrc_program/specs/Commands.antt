@@ -1,0 +1,73 @@
+-- What the program tells of a command, by its status: 0 of what was asked for, 1 of a no, 2 of a
+-- fault. This profile's own choice.
+use Rattle.std.specs.Prelude.{List, ℕ, Option, string_bytes}
+use Rattle.std.specs.Io.KnownBytes.{Appends}
+use Rattle.mrc_command.specs.declared.told.Told.{Told}
+use Rattle.mrc_command.specs.declared.command.Command.{Command}
+use Rattle.mrc_command.specs.declared.command.Command.TheVariants.{Check, Make, Explain, Replay, Live}
+use Rattle.mrc_files.specs.Files.{Held}
+use Rattle.mrc_program.specs.Told.{YesOfFiles, NoOfFiles, FaultOfFiles, MadeOfFiles, FaultOfMake}
+use Rattle.mrc_program.specs.Told.{CutOfFiles}
+use Rattle.mrc_program.specs.Told.{ReplayOfFiles, FaultOfReplay, LiveOfFiles, NoOfLive, FaultOfLive}
+use Rattle.mrc_program.specs.Told.{HaltedOfFiles}
+use Rattle.mrc_program.specs.Explained.{ChainOfFiles, NoneOfFiles, FaultOfExplain}
+
+-- with status 0: a yes, the making of a certificate, a chain, a replay or a journal
+abbrev pub DoneOf : Held → Held → Command → Told → Type 0
+DoneOf before after (Check files) told = YesOfFiles before files told
+DoneOf before after (Make files) told = MadeOfFiles before after files told
+DoneOf before after (Explain files) told = ChainOfFiles before files told
+DoneOf before after (Replay files) told = ReplayOfFiles before files told
+DoneOf before after (Live files) told = LiveOfFiles before files told
+
+-- with status 1: a no, or that no chain leads to a fact; never of a `make` or a `replay`
+abbrev pub NoOf : Held → Command → Told → Type 0
+NoOf held (Check files) told = NoOfFiles held files told
+NoOf held (Make files) told = ⊥
+NoOf held (Explain files) told = NoneOfFiles held files told
+NoOf held (Replay files) told = ⊥
+NoOf held (Live files) told = NoOfLive held files told
+
+-- with status 2: why it is told
+abbrev pub FaultOf : Held → Command → Told → Type 0
+FaultOf held (Check files) told = FaultOfFiles held files told
+FaultOf held (Make files) told = FaultOfMake held files told
+FaultOf held (Explain files) told = FaultOfExplain held files told
+FaultOf held (Replay files) told = FaultOfReplay held files told
+FaultOf held (Live files) told = FaultOfLive held files told
+
+-- with status 2: so many bytes of a certificate were written, and these the file has
+abbrev pub CutOf : Held → Held → Command → Told → Type 0
+CutOf before after (Check files) told = ⊥
+CutOf before after (Make files) told = CutOfFiles before after files told
+CutOf before after (Explain files) told = ⊥
+CutOf before after (Replay files) told = ⊥
+CutOf before after (Live files) told = ⊥
+
+-- with status 2 and a text on standard output: that no task of a `live` can go on
+abbrev pub HaltedOf : Held → Command → Told → Type 0
+HaltedOf held (Check files) told = ⊥
+HaltedOf held (Make files) told = ⊥
+HaltedOf held (Explain files) told = ⊥
+HaltedOf held (Replay files) told = ⊥
+HaltedOf held (Live files) told = HaltedOfFiles held files told
+
+-- the command that may change a file
+abbrev pub IsMake : Command → Type 0
+IsMake (Check files) = ⊥
+IsMake (Make files) = Unit {0}
+IsMake (Explain files) = ⊥
+IsMake (Replay files) = ⊥
+IsMake (Live files) = ⊥
+
+-- it is told of some command
+abbrev pub SomeCommand : (Command → Told → Type 0) → Told → Type 0
+SomeCommand Tells told = (command : Command) × Tells command told
+
+-- what the program told of a command, and that standard output took all of it: it held `old`, and
+-- holds `new`
+pub record WentOut (Tells : Command → Told → Type 0) (old new : Option (List ℕ)) : Type 0 where
+  pub command : Command
+  pub told : Told
+  pub tells : Tells command told
+  pub out : Appends old new (string_bytes told.out)

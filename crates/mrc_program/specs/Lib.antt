@@ -1,0 +1,5 @@
+pub mod Files
+pub mod Texts
+pub mod Told
+pub mod Explained
+pub mod Commands

@@ -1,0 +1,66 @@
+//! What is told of files that can't be read, and of those that do not take all bytes.
+
+ghost use Rattle.std.specs.Prelude.{◌≡◌, ◌≤◌, ◌+◌, [], ◌++◌, IfOk, codes, decimal, length};
+ghost use Rattle.std.specs.Prelude.{string_bytes, string_capacity, string_len};
+ghost use Rattle.mrc_command.specs.Lines.{fault_line};
+ghost use Rattle.mrc_program.specs.Told.{UnreadTold};
+
+use mrc_command::{Told, fault_of, memory};
+use mrc_files::{ReadFault, Unread};
+use std::alloc::{AllocError, Global};
+
+/// An empty text with room for the line that tells that a file did not take all bytes.
+pub fn room_for_line(alloc: Global, file: &str) -> Result<String, AllocError>
+    ensures bytes { IfOk result (λ line. string_bytes line ≡ []) }
+    ensures len { IfOk result (λ line. string_len line ≡ 0) }
+    ensures room { IfOk result (λ line. length file.now + 66 ≤ string_capacity line) }
+{
+    String::with_capacity(alloc, file.len() + 66)
+}
+
+/// Adds a text to one that has room for it.
+fn push(line: &mut String, text: &str)
+    requires { string_len line.old + length text.now ≤ string_capacity line.old }
+    ensures bytes { string_bytes line.new ≡ string_bytes line.old ++ text.now }
+    ensures len { string_len line.new ≡ string_len line.old + length text.now }
+    ensures room { string_capacity line.old ≤ string_capacity line.new }
+{
+    let _ = line.push_str(text);
+}
+
+/// A file that took so many bytes and then no more, in a line that has room for that. No memory is
+/// needed, so what a file was left with is told.
+pub fn write_failed(alloc: Global, line: String, file: &str, written: usize) -> Told
+    requires empty { string_bytes line ≡ [] }
+    requires len { string_len line ≡ 0 }
+    requires room { length file.now + 66 ≤ string_capacity line }
+    ensures status { result.status ≡ 2 }
+    ensures out { string_bytes result.out ≡ [] }
+    ensures err { string_bytes result.err
+        ≡ fault_line file.now (codes "WriteFailed " ++ decimal written) }
+{
+    let mut line = line;
+    let mut digits = itoa::Buffer::new();
+    push(&mut line, "machcheck: ");
+    push(&mut line, file);
+    push(&mut line, ": WriteFailed ");
+    push(&mut line, digits.format(written));
+    push(&mut line, "\n");
+    Told {
+        out: String::new(alloc),
+        err: line,
+        status: 2,
+    }
+}
+
+/// What is told of a file that could not be read. Want of memory is no file's fault.
+pub fn unread_told(alloc: Global, unread: &Unread<'_>) -> Result<Told, AllocError>
+    ensures status { IfOk result (λ told. told.status ≡ 2) }
+    ensures told { IfOk result (UnreadTold unread.now.file.now unread.now.fault) }
+{
+    match unread.fault {
+        ReadFault::Memory => memory(alloc),
+        ReadFault::TooBig => fault_of(alloc, unread.file, "TooBig"),
+        ReadFault::ReadFailed => fault_of(alloc, unread.file, "ReadFailed"),
+    }
+}

@@ -1,0 +1,4 @@
+use Rattle.mrc_server_tests.proofs.running.a_journal_is_full.Given as goal
+
+abbrev pub ghosts-served : goal.ghosts-served
+ghosts-served g a = record { name = a.blank.name; parts = a.blank.parts }

@@ -1,0 +1,310 @@
+//! What the server answers to calls, and how many events they make.
+
+ghost use Rattle.std.specs.Prelude.{◌≡◌, IfErr};
+ghost use Rattle.mrc_confine.specs.Guards.{wiring_in};
+ghost use Rattle.mrc_model.specs.First.{first};
+
+use crate::server::{
+    TO_2, allocate, called, events, locked, machine, many, opened, seat, send, started, told,
+    told_waiting, two_seats, waited,
+};
+use mrc_base::TaskId;
+use mrc_confine::Guarded;
+use mrc_live::{Live, NotReceived, NotSeated, NotTaken, Seat, Unfinished, Why};
+use mrc_machine::{Call, Reply};
+use mrc_model::Code;
+use std::alloc::{AllocError, Global};
+use std::marker::Brand;
+use std::sync::Wait;
+use std::sync::ledger::{Blank, Ledger};
+use std::test::Fail;
+use std::thread;
+use std::thread::Threads;
+
+/// A message to the port that the task has under the name 9, and as it is received.
+const TO_9: [u8; 24] = [
+    0x14, 0, 0, 0, 0x18, 0, 0, 0, 9, 0, 0, 0, 0, 0, 0, 0, 0, 0, 0, 0, 0xf4, 1, 0, 0,
+];
+
+const FROM_9: [u8; 24] = [
+    0, 0x11, 0, 0, 0x18, 0, 0, 0, 0, 0, 0, 0, 9, 0, 0, 0, 0, 0, 0, 0, 0xf4, 1, 0, 0,
+];
+
+/// Room for two seats; made once more where memory ran out.
+fn room<L: Ledger>(alloc: Global) -> Result<Vec<Seat<L>>, AllocError> {
+    match Vec::with_capacity(alloc, 2) {
+        Ok(seats) => Ok(seats),
+        Err(_) => Vec::with_capacity(alloc, 2),
+    }
+}
+
+/// Whether the reply is the message of these bytes.
+fn is_message(reply: &Reply, bytes: &[u8]) -> bool {
+    match reply {
+        Reply::Message(message) => message.as_slice() == bytes,
+        _ => false,
+    }
+}
+
+/// Which of the first three calls had the answer that is wanted: a port is made under the name 2,
+/// and has the name 9 when a message is sent to 2.
+fn first_calls<L: Ledger, R: Wait>(
+    rt: &R,
+    alloc: Global,
+    live: &Live<L>,
+    one: &mut Seat<L>,
+    other: &mut Seat<L>,
+) -> Result<[bool; 3], AllocError> {
+    let renamed = Call::Rename {
+        task: 1,
+        old: 2,
+        new: 9,
+    };
+    let sent = send(alloc, one, &TO_2)?;
+    Ok([
+        matches!(told(rt, live, one, allocate()), Ok(Reply::Name(2))),
+        matches!(told(rt, live, other, renamed), Ok(Reply::Done)),
+        matches!(
+            told(rt, live, one, sent),
+            Ok(Reply::Refused(Code::MachSendInvalidDest))
+        ),
+    ])
+}
+
+/// Whether a message comes that was sent from the name 9.
+fn comes<L: Ledger, R: Wait>(rt: &R, live: &Live<L>, seat: &mut Seat<L>) -> bool {
+    match told_waiting(rt, live, seat, 9) {
+        Ok(reply) => is_message(&reply, &FROM_9),
+        Err(_) => false,
+    }
+}
+
+/// Which of the next calls had it: a message goes to 9, is received, and then the journal is full.
+fn next_calls<L: Ledger, R: Wait>(
+    rt: &R,
+    alloc: Global,
+    live: &Live<L>,
+    seat: &mut Seat<L>,
+) -> Result<[bool; 3], AllocError> {
+    let sent = send(alloc, seat, &TO_9)?;
+    let sent = matches!(told(rt, live, seat, sent), Ok(Reply::Done));
+    let came = comes(rt, live, seat);
+    let full = matches!(
+        called(rt, live, seat, Call::Names { task: 1 }),
+        Err(NotTaken::JournalFull(_))
+    );
+    Ok([sent, came, full])
+}
+
+/// Finishes with one seat more than was handed in, where a seat was missing. The number of events.
+fn finish_with<L: Ledger>(unfinished: Unfinished<L>, other: Seat<L>) -> usize {
+    let Unfinished {
+        why,
+        live,
+        mut seats,
+    } = unfinished;
+    if why != Why::SeatsMissing || seats.push(other).is_err() {
+        return 0;
+    }
+    events(live, seats)
+}
+
+/// Finishes without one of two seats, and then with both. The number of events.
+fn finish_late<L: Ledger>(live: Live<L>, seats: Vec<Seat<L>>, other: Seat<L>) -> usize {
+    match live.finish(seats) {
+        Ok(_) => 0,
+        Err(unfinished) => finish_with(unfinished, other),
+    }
+}
+
+/// Two seats of one task, and a journal of five events. Which answers were right, and the number of
+/// events in the end.
+fn answers<L: Ledger, R: Wait>(
+    rt: &R,
+    alloc: Global,
+    live: Live<L>,
+) -> Result<([bool; 3], [bool; 3], usize), AllocError> {
+    let mut seats = room(alloc)?;
+    let (mut one, mut other) = two_seats(rt, &live)?;
+    let first = first_calls(rt, alloc, &live, &mut one, &mut other)?;
+    let next = next_calls(rt, alloc, &live, &mut one)?;
+    seats.push(one)?;
+    Ok((first, next, finish_late(live, seats, other)))
+}
+
+/// What a server of two seats answers. Where memory runs out for the server, the machine comes
+/// back.
+fn answers_of<L: Ledger, R: Wait>(
+    rt: &R,
+    alloc: Global,
+    guarded: Guarded,
+    blank: Blank,
+) -> Result<Result<([bool; 3], [bool; 3], usize), AllocError>, Guarded>
+    requires name { blank.name ≡ L.name }
+    requires parts { (blank.parts ≡ L.parts) × (L.parts ≡ 257) }
+    requires first { guarded.world ≡ first (wiring_in guarded.confined) }
+    ensures returned { IfErr result (λ back. back ≡ guarded) }
+{
+    match locked::<L>(alloc, guarded, 5, blank) {
+        Ok(live) => Ok(answers(rt, alloc, live)),
+        Err(back) => Err(back),
+    }
+}
+
+// Each call that can answer want of memory is made once more where it did: to be run with each
+// allocation refused in turn.
+#[test]
+fn answers_of_two_seats(rt: HostRuntime) -> Result<(), Fail> {
+    let alloc = rt.alloc();
+    let told = match answers_of::<Brand, _>(&rt, alloc, machine(&rt, alloc)?, Blank::new(257)) {
+        Ok(told) => told,
+        Err(back) => match answers_of::<Brand, _>(&rt, alloc, back, Blank::new(257)) {
+            Ok(told) => told,
+            Err(_) => Err(AllocError),
+        },
+    };
+    let (first, next, events) = told?;
+    assert_eq!(rt; first, [true; 3]);
+    assert_eq!(rt; next, [true; 3]);
+    assert_eq!(rt; events, 5);
+    Ok(())
+}
+
+/// Whether a call and a receive that would wait are refused at once, where the journal is full.
+fn full_at_once<L: Ledger, R: Wait>(rt: &R, live: &Live<L>, seat: &mut Seat<L>) -> [bool; 3] {
+    let named = Call::PortType { task: 1, name: 2 };
+    [
+        matches!(called(rt, live, seat, allocate()), Ok(Reply::Name(2))),
+        matches!(called(rt, live, seat, named), Err(NotTaken::JournalFull(_))),
+        matches!(waited(rt, live, seat, 2), Err(NotReceived::JournalFull)),
+    ]
+}
+
+/// Finishes without one of two seats. Whether it was missed, and how many seats came back.
+fn finish_without<L: Ledger>(live: Live<L>, seats: Vec<Seat<L>>) -> (bool, usize) {
+    match live.finish(seats) {
+        Ok(_) => (false, 0),
+        Err(unfinished) => (unfinished.why == Why::SeatsMissing, unfinished.seats.len()),
+    }
+}
+
+/// A journal of one event, and a seat that is let go.
+fn one_event<L: Ledger, R: Wait>(
+    rt: &R,
+    alloc: Global,
+    live: Live<L>,
+) -> Result<([bool; 3], (bool, usize)), AllocError> {
+    let (mut one, _) = two_seats(rt, &live)?;
+    let right = full_at_once(rt, &live, &mut one);
+    let seats = vec![in alloc; one]?;
+    Ok((right, finish_without(live, seats)))
+}
+
+#[test]
+fn a_full_journal_is_told_at_once(rt: HostRuntime) -> Result<(), Fail> {
+    let live = opened::<Brand, _>(&rt, rt.alloc(), 1, Blank::new(257))?;
+    let (right, missed) = one_event(&rt, rt.alloc(), live)?;
+    assert_eq!(rt; right, [true; 3]);
+    assert_eq!(rt; missed, (true, 1));
+    Ok(())
+}
+
+/// How many seats there are until there are too many.
+fn all_seats<L: Ledger, R: Wait>(rt: &R, live: &Live<L>) -> Option<usize> {
+    for made in 0..1000usize {
+        match live.seat(rt, TaskId(0)) {
+            Ok(_) => {}
+            Err(NotSeated::TooManySeats) => return Some(made),
+            Err(NotSeated::NoSuchTask) => return None,
+        }
+    }
+    None
+}
+
+#[test]
+fn seats_are_256(rt: HostRuntime) -> Result<(), Fail> {
+    let live = opened::<Brand, _>(&rt, rt.alloc(), 1, Blank::new(257))?;
+    assert_eq!(rt; all_seats(&rt, &live), Some(256));
+    Ok(())
+}
+
+/// The certificate of no task.
+const NOBODY: [u8; 14] = [
+    0x4d, 0x52, 0x43, 0x43, 0x00, 0x01, 0x00, 0x00, 0x00, 0x00, 0x00, 0x00, 0x00, 0x00,
+];
+
+/// What is told of a seat of the first task.
+fn not_seated<L: Ledger, R: Wait>(rt: &R, live: &Live<L>) -> Option<NotSeated> {
+    live.seat(rt, TaskId(0)).err()
+}
+
+#[test]
+fn nobody_has_no_seat(rt: HostRuntime) -> Result<(), Fail> {
+    let machine = started(&rt, rt.alloc(), "wiring 1\n", &NOBODY)?;
+    let live = locked::<Brand>(rt.alloc(), machine, 1, Blank::new(257)).map_err(|_| AllocError)?;
+    assert_eq!(rt; not_seated(&rt, &live), Some(NotSeated::NoSuchTask));
+    Ok(())
+}
+
+fn hundred<L: Ledger, R: Wait>(rt: &R, live: &Live<L>, seat: Seat<L>) -> Seat<L> {
+    let mut seat = seat;
+    for _ in 0..100 {
+        let _ = called(rt, live, &mut seat, Call::Names { task: 1 });
+    }
+    seat
+}
+
+/// Two threads of two seats make 100 calls each.
+fn two_threads<L: Ledger + Send + Sync, R: Threads + Wait + Sync>(
+    rt: &R,
+    alloc: Global,
+    live: &Live<L>,
+) -> Result<Vec<Seat<L>>, AllocError> {
+    let (one, other) = two_seats(rt, live)?;
+    let (one, other) = thread::join(
+        rt,
+        move || hundred(rt, live, one),
+        move || hundred(rt, live, other),
+    );
+    Ok(vec![in alloc; one, other]?)
+}
+
+#[test]
+fn two_threads_make_200_events(rt: HostRuntime) -> Result<(), Fail> {
+    let live = opened::<Brand, _>(&rt, rt.alloc(), 1000, Blank::new(257))?;
+    let seats = two_threads(&rt, rt.alloc(), &live)?;
+    assert_eq!(rt; events(live, seats), 200);
+    Ok(())
+}
+
+/// Eight seats of the task.
+fn eight_seats<L: Ledger, R: Wait>(
+    rt: &R,
+    alloc: Global,
+    live: &Live<L>,
+) -> Result<Vec<Seat<L>>, AllocError> {
+    let mut seats = Vec::with_capacity(alloc, 8)?;
+    for _ in 0..8 {
+        seats.push(seat(rt, live)?)?;
+    }
+    Ok(seats)
+}
+
+/// Eight threads of 10,000 calls each.
+fn eight_threads<L: Ledger + Send + Sync, R: Threads + Wait + Sync>(
+    rt: &R,
+    alloc: Global,
+    live: &Live<L>,
+) -> Result<Vec<Seat<L>>, AllocError> {
+    let seats = eight_seats(rt, alloc, live)?;
+    thread::map_vec(rt, seats, &|seat| many(rt, live, seat, 10_000))
+}
+
+// The journal has each seat's calls and replies.
+#[test]
+fn eight_threads_make_80000_events(rt: HostRuntime) -> Result<(), Fail> {
+    let live = opened::<Brand, _>(&rt, rt.alloc(), 1_000_000, Blank::new(257))?;
+    let seats = eight_threads(&rt, rt.alloc(), &live)?;
+    assert_eq!(rt; events(live, seats), 80_000);
+    Ok(())
+}

@@ -1,0 +1,126 @@
+//! Scripts whose tasks run as threads, from their files to what is told.
+
+use crate::file_server::{CAREFUL, FILE_SERVER, NO_KERNEL_PORT, OF_CAREFUL};
+use crate::shelf::{no_files, of_shelf};
+use crate::told::{Outcome, wants};
+use std::process::Abort;
+use std::sync::Wait;
+use std::test::Fail;
+use std::thread::Threads;
+
+const LIVE: [&str; 11] = [
+    "machcheck",
+    "live",
+    "--script",
+    "s",
+    "--cert",
+    "c",
+    "--policy",
+    "p",
+    "--wiring",
+    "w",
+    "d",
+];
+
+/// What is told of a script of the file server, and the order in which the files were opened.
+fn lived(
+    rt: &(impl AllocGlobal + Threads + Wait + Sync),
+    policy: &str,
+    script: &[u8],
+) -> Result<(Outcome, u32), Fail> {
+    let mut shelf = no_files(rt.alloc());
+    shelf.defs = Ok(FILE_SERVER.as_bytes());
+    shelf.wiring = Ok(CAREFUL.as_bytes());
+    shelf.policy = Ok(policy.as_bytes());
+    shelf.certificate = Ok(OF_CAREFUL.as_slice());
+    shelf.script = Ok(script);
+    of_shelf(rt, &mut shelf, &LIVE)
+}
+
+// The server's lines stand before those of the client, for whose message it waits.
+const OPENS: &str = "fs wait 2 92
+fs allocate 1 receive
+fs insert_right 1 4 4 20
+fs send 12000080 28000000 03000000 0000000000000000 1c0c0000 0220011000000000 1320011001000000
+fs send 12000080 28000000 03000000 0000000000000000 1c0c0000 0220011000000000 1320011004000000
+app allocate 1 receive
+app send 13150000 5c000000 02000000 03000000 00000000 b80b0000 0c084010 \
+00000000000000000000000000000000 00000000000000000000000000000000 \
+00000000000000000000000000000000 00000000000000000000000000000000
+app wait 3 40
+app type 1 4
+";
+
+const OPENED: &str = "0 app name 3
+1 app done
+2 fs message 121100005c000000030000000200000000000000b80b00000c084010\
+00000000000000000000000000000000000000000000000000000000000000000000000000000000\
+000000000000000000000000000000000000000000000000
+3 fs name 4
+4 fs done
+5 fs denied NotAdmitted 1
+6 fs done
+7 app message 00120080280000000000000003000000000000001c0c00000220011000000000\
+1120011004000000
+8 app type 65536
+end events 9 ports 5
+";
+
+#[test]
+fn lives(rt: HostRuntime) -> Result<(), Fail> {
+    let (told, opened) = lived(&rt, NO_KERNEL_PORT, OPENS.as_bytes())?;
+    wants(&rt, &told, OPENED, "", 0);
+    assert_eq!(rt; opened, 41235);
+    Ok(())
+}
+
+/// This is told of a script.
+fn lives_as(
+    rt: &(impl Abort + AllocGlobal + Threads + Wait + Sync),
+    policy: &str,
+    script: &[u8],
+    out: &str,
+    err: &str,
+    status: u8,
+) -> Result<(), Fail> {
+    let (told, _) = lived(rt, policy, script)?;
+    wants(rt, &told, out, err, status);
+    Ok(())
+}
+
+// The server waits for a message of the client, which waits for one of the server.
+#[test]
+fn lives_that_halt(rt: HostRuntime) -> Result<(), Fail> {
+    let script = b"fs wait 2 92\nfs names 1\napp allocate 1 receive\napp wait 3 40\n";
+    let out = "0 app name 3\nend events 1 ports 4\n";
+    let err = "machcheck: s: AllWait 1 4\n";
+    lives_as(&rt, NO_KERNEL_PORT, script.as_slice(), out, err, 2)
+}
+
+// The certificate is judged before the script.
+#[test]
+fn a_no_of_a_live(rt: HostRuntime) -> Result<(), Fail> {
+    let forbidden = "policy 1\nforbid app send port root\n";
+    lives_as(&rt, forbidden, b"app", "NO forbidden line 2\n", "", 1)
+}
+
+// And so is the policy; the script is judged before it runs.
+#[test]
+fn faults_of_lives(rt: HostRuntime) -> Result<(), Fail> {
+    for (policy, script, err) in [
+        (
+            NO_KERNEL_PORT,
+            b"app wait 3".as_slice(),
+            "machcheck: s: BadLine 1\n",
+        ),
+        (
+            NO_KERNEL_PORT,
+            b"# \xff".as_slice(),
+            "machcheck: s: NotUtf8\n",
+        ),
+        ("policy 2", b"app".as_slice(), "machcheck: p: Version\n"),
+    ] {
+        lives_as(&rt, policy, script, "", err, 2)?;
+    }
+    Ok(())
+}

@@ -1,0 +1,169 @@
+//! That a waiter wakes, and that a wait is stopped.
+
+use crate::server::{TO_2, allocate, events, many, opened, send, told, told_waiting, two_seats};
+use mrc_live::{Live, NotReceived, Seat};
+use mrc_machine::{Call, Reply};
+use std::alloc::{AllocError, Global};
+use std::marker::Brand;
+use std::sync::Wait;
+use std::sync::atomic::{AtomicBool, Ordering};
+use std::sync::ledger::{Blank, Ledger};
+use std::test::Fail;
+use std::thread;
+use std::thread::Threads;
+
+/// Waits for the message that another thread sends.
+fn waiter<L: Ledger, R: Wait>(rt: &R, live: &Live<L>, seat: Seat<L>) -> (Seat<L>, bool) {
+    let mut seat = seat;
+    let came = matches!(told_waiting(rt, live, &mut seat, 2), Ok(Reply::Message(_)));
+    (seat, came)
+}
+
+/// Makes 1,000 calls, and sends then, so that the other thread has had time to wait.
+fn sender<L: Ledger, R: Wait>(rt: &R, live: &Live<L>, seat: Seat<L>, sent: Call) -> Seat<L> {
+    let mut seat = many(rt, live, seat, 1000);
+    let _ = told(rt, live, &mut seat, sent);
+    seat
+}
+
+/// One thread waits for the message of another. Whether it came.
+fn woken<L: Ledger + Send + Sync, R: Threads + Wait + Sync>(
+    rt: &R,
+    live: &Live<L>,
+    one: Seat<L>,
+    other: Seat<L>,
+    sent: Call,
+) -> ((Seat<L>, bool), Seat<L>) {
+    thread::join(
+        rt,
+        move || waiter(rt, live, one),
+        move || sender(rt, live, other, sent),
+    )
+}
+
+/// The same, after the second seat has made a port. Whether it came, and the number of events.
+fn wake<L: Ledger + Send + Sync, R: Threads + Wait + Sync>(
+    rt: &R,
+    alloc: Global,
+    live: Live<L>,
+) -> Result<(bool, usize), AllocError> {
+    let (one, mut other) = two_seats(rt, &live)?;
+    let _ = told(rt, &live, &mut other, allocate());
+    let sent = send(alloc, &other, &TO_2)?;
+    let ((one, came), other) = woken(rt, &live, one, other, sent);
+    let seats = vec![in alloc; one, other]?;
+    Ok((came, events(live, seats)))
+}
+
+#[test]
+fn a_waiting_receive_wakes(rt: HostRuntime) -> Result<(), Fail> {
+    let live = opened::<Brand, _>(&rt, rt.alloc(), 2000, Blank::new(257))?;
+    assert_eq!(rt; wake(&rt, rt.alloc(), live)?, (true, 1003));
+    Ok(())
+}
+
+/// What a seat is told that waits under the name 2 until it is stopped.
+fn received<L: Ledger, R: Wait>(
+    rt: &R,
+    live: &Live<L>,
+    seat: &mut Seat<L>,
+    stop: &AtomicBool,
+) -> Result<Option<Reply>, NotReceived> {
+    live.receive_until(rt, seat, 2, 24, stop)
+}
+
+/// Waits for a message until it is stopped. Whether it was, and found the flag set then.
+fn is_stopped<L: Ledger, R: Wait>(
+    rt: &R,
+    live: &Live<L>,
+    seat: Seat<L>,
+    stop: &AtomicBool,
+) -> bool {
+    let mut seat = seat;
+    let stopped = matches!(received(rt, live, &mut seat, stop), Ok(None));
+    stopped && stop.load(Ordering::SeqCst)
+}
+
+/// Makes 100 calls; then it sends to itself, and takes the message.
+fn takes_its_own<L: Ledger, R: Wait>(
+    rt: &R,
+    live: &Live<L>,
+    seat: Seat<L>,
+    sent: Call,
+    stop: &AtomicBool,
+) -> (Seat<L>, bool) {
+    let mut seat = many(rt, live, seat, 100);
+    let _ = told(rt, live, &mut seat, sent);
+    let came = matches!(
+        received(rt, live, &mut seat, stop),
+        Ok(Some(Reply::Message(_)))
+    );
+    (seat, came)
+}
+
+/// Sets the flag after some calls, and wakes all.
+fn stopper<L: Ledger, R: Wait>(rt: &R, live: &Live<L>, seat: Seat<L>, stop: &AtomicBool) {
+    let _ = many(rt, live, seat, 100);
+    stop.store(true, Ordering::SeqCst);
+    live.wake_all(rt);
+}
+
+/// Two seats, of which the first has made a port under the name 2.
+fn with_a_port<L: Ledger, R: Wait>(
+    rt: &R,
+    live: &Live<L>,
+) -> Result<(Seat<L>, Seat<L>), AllocError> {
+    let (mut one, other) = two_seats(rt, live)?;
+    let _ = told(rt, live, &mut one, allocate());
+    Ok((one, other))
+}
+
+/// Whether a seat that waits is stopped by a flag.
+fn stops<L: Ledger + Send + Sync, R: Threads + Wait + Sync>(
+    rt: &R,
+    live: &Live<L>,
+) -> Result<bool, AllocError> {
+    let (one, other) = with_a_port(rt, live)?;
+    let stop = AtomicBool::new(false);
+    let stop = &stop;
+    let (stopped, ()) = thread::join(
+        rt,
+        move || is_stopped(rt, live, one, stop),
+        move || stopper(rt, live, other, stop),
+    );
+    Ok(stopped)
+}
+
+#[test]
+fn a_wait_is_stopped(rt: HostRuntime) -> Result<(), Fail> {
+    let live = opened::<Brand, _>(&rt, rt.alloc(), 2000, Blank::new(257))?;
+    assert!(rt; stops(&rt, &live)?);
+    Ok(())
+}
+
+/// Whether a message comes to a seat that waits while another one waits in vain, which is stopped
+/// once the first leaves.
+fn none_is_left<L: Ledger + Send + Sync, R: Threads + Wait + Sync>(
+    rt: &R,
+    alloc: Global,
+    live: &Live<L>,
+) -> Result<(bool, bool), AllocError> {
+    let (one, other) = with_a_port(rt, live)?;
+    let sent = send(alloc, &one, &TO_2)?;
+    let stop = AtomicBool::new(false);
+    let stop = &stop;
+    let (seat, came) = takes_its_own(rt, live, one, sent, stop);
+    let (stopped, ()) = thread::join(
+        rt,
+        move || is_stopped(rt, live, other, stop),
+        move || live.leave(rt, &seat),
+    );
+    Ok((came, stopped))
+}
+
+#[test]
+fn who_is_left_alone_is_stopped(rt: HostRuntime) -> Result<(), Fail> {
+    let live = opened::<Brand, _>(&rt, rt.alloc(), 2000, Blank::new(257))?;
+    assert_eq!(rt; none_is_left(&rt, rt.alloc(), &live)?, (true, true));
+    Ok(())
+}
