@@ -2,3 +2,4 @@ pub mod ToldLaws
 pub mod ScriptLaws
 pub mod ChainLaws
 mod MakeLaws
+pub mod HaltLaws

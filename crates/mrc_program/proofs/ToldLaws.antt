@@ -23,7 +23,7 @@ use Rattle.mrc_files.specs.Files.{Held, IsFirstUnread}
 use Rattle.mrc_program.specs.Texts.{CheckTexts, LiveTexts, AreAccepted, said_by}
 use Rattle.mrc_program.specs.Told.{status_of, out_of, IsError, IsFaultOf}
 use Rattle.mrc_program.specs.Told.{ToldMemory, ToldFault, ToldNo, ToldOfScript, UnreadTold}
-use Rattle.mrc_program.specs.Told.{ToldUnread}
+use Rattle.mrc_program.specs.Told.{ToldHalted, ToldUnread}
 use Rattle.mrc_command.specs.declared.command.Command.{Command}
 use Rattle.mrc_program.specs.Commands.{SomeCommand, WentOut}
 
@@ -99,15 +99,6 @@ pub no_told : {E : Type 0} (files : CheckFiles) (texts : CheckTexts)
 no_told files texts answer (Ok told) v says = no_of files texts answer told v says
 no_told files texts answer (Err e) v says = tt
 
--- a fault of a file
-pub of_file : {E : Type 0} (file fault : List ℕ) (result : Result Told E)
-    → IfOk result (λ told. string_bytes told.out ≡ [])
-    → IfOk result (λ told. string_bytes told.err ≡ fault_line file fault)
-    → IfOk result (λ told. told.status ≡ 2
-    → ToldMemory told ⊎ ((string_bytes told.out ≡ []) × IsFaultOf file (string_bytes told.err)))
-of_file file fault (Ok told) out err = λ two. inr (out, (fault, err))
-of_file file fault (Err e) out err = tt
-
 -- a fault of a script, beside texts that are accepted
 pub of_script : {E : Type 0} (files : LiveFiles) (texts : LiveTexts) (case : Case)
     (fault : List ℕ) (result : Result Told E)
@@ -115,14 +106,14 @@ pub of_script : {E : Type 0} (files : LiveFiles) (texts : LiveTexts) (case : Cas
     → IfOk result (λ told. string_bytes told.out ≡ [])
     → IfOk result (λ told. string_bytes told.err ≡ fault_line files.script.now fault)
     → IfOk result (λ told. told.status ≡ 2
-    → ToldMemory told ⊎ ToldOfScript files texts told)
+    → ToldMemory told ⊎ (ToldOfScript files texts told ⊎ ToldHalted files texts told))
 of_script files texts case fault (Ok told) accepted out err =
-    λ two. inr (record {
+    λ two. inr (inl (record {
       case = case;
       accepted = accepted;
       out = out;
       err = (fault, err);
-    })
+    }))
 of_script files texts case fault (Err e) accepted out err = tt
 
 -- an answer that is a yes or want of memory is told as such

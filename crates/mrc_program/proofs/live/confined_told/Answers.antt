@@ -1,3 +1,4 @@
+use Rattle.mrc_program.proofs.HaltLaws.{run_of_script}
 use Rattle.mrc_program.proofs.ToldLaws.{of_script}
 use Rattle.mrc_program.proofs.live.confined_told.Goals as goal
 

@@ -1,8 +1,8 @@
-use Rattle.mrc_program.proofs.ToldLaws.{of_file}
+use Rattle.mrc_program.proofs.HaltLaws.{of_run, halted_so}
 use Rattle.mrc_program.proofs.live.run_told.Goals as goal
 
 pub returns-in_ok-text-in-Err-Fault-clause-fault :
     goal.returns-in_ok-text-in-Err-Fault-clause-fault
 returns-in_ok-text-in-Err-Fault-clause-fault g c =
-    of_file c.args.files.now.script.now _ c.fault_of.result c.fault_of.ensures.out
-    c.fault_of.ensures.err
+    of_run c.args.files.now.script.now _ c.args.confined.claim.table c.args.script
+    c.fault_of.result c.fault_of.ensures.out c.fault_of.ensures.err

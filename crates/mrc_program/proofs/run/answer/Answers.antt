@@ -4,6 +4,7 @@ use Rattle.mrc_command.specs.declared.told.Told.{Told}
 use Rattle.mrc_command.specs.declared.command.Command.{Command}
 use Rattle.mrc_files.specs.Files.{Held}
 use Rattle.mrc_program.specs.Commands.{FaultOf}
+use Rattle.mrc_program.proofs.HaltLaws.{silent_of}
 use Rattle.mrc_program.proofs.run.answer.Goals as goal
 
 -- a fault of the command, by what it is
@@ -37,4 +38,29 @@ returns-in-Replay-clause-fault g c =
 pub returns-in-Live-clause-fault : goal.returns-in-Live-clause-fault
 returns-in-Live-clause-fault g c =
     of_command (g.F.Folder.held c.args.folder.now) c.live_files.result c.args.command.now _ c.in-Live.is
+    c.live_files.ensures.fault
+
+pub returns-in-Check-clause-silent : goal.returns-in-Check-clause-silent
+returns-in-Check-clause-silent g c =
+    silent_of (g.F.Folder.held c.args.folder.now) c.check_files.result c.args.command.now _ c.in-Check.is
+    c.check_files.ensures.fault
+
+pub returns-in-Make-clause-silent : goal.returns-in-Make-clause-silent
+returns-in-Make-clause-silent g c =
+    silent_of (g.F.Folder.held c.args.folder.now) c.make_files.result c.args.command.now _ c.in-Make.is
+    c.make_files.ensures.fault
+
+pub returns-in-Explain-clause-silent : goal.returns-in-Explain-clause-silent
+returns-in-Explain-clause-silent g c =
+    silent_of (g.F.Folder.held c.args.folder.now) c.explain_files.result c.args.command.now _ c.in-Explain.is
+    c.explain_files.ensures.fault
+
+pub returns-in-Replay-clause-silent : goal.returns-in-Replay-clause-silent
+returns-in-Replay-clause-silent g c =
+    silent_of (g.F.Folder.held c.args.folder.now) c.replay_files.result c.args.command.now _ c.in-Replay.is
+    c.replay_files.ensures.fault
+
+pub returns-in-Live-clause-silent : goal.returns-in-Live-clause-silent
+returns-in-Live-clause-silent g c =
+    silent_of (g.F.Folder.held c.args.folder.now) c.live_files.result c.args.command.now _ c.in-Live.is
     c.live_files.ensures.fault

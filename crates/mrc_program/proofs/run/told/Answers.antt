@@ -1,4 +1,4 @@
-use Rattle.std.proofs.Common.{inl}
+use Rattle.std.proofs.Common.{inl, inr}
 use Rattle.std.proofs.lemmas.Result.{IfOk-weaker}
 use Rattle.mrc_program.proofs.run.told.Goals as goal
 
@@ -11,3 +11,11 @@ pub returns-in-Ok-clause-no : goal.returns-in-Ok-clause-no
 returns-in-Ok-clause-no g c =
     IfOk-weaker c.answer.result _ _
     (λ told h one_is. (c.in-Ok.command, h one_is)) c.answer.ensures.no
+
+pub returns-in-Ok-clause-fault : goal.returns-in-Ok-clause-fault
+returns-in-Ok-clause-fault g c =
+    IfOk-weaker c.answer.result _ _
+    (λ told h two_is. elim (h two_is) [
+      | inl nothing ↦ inl nothing
+      | inr halted ↦ inr (c.in-Ok.command, halted)
+    ]) c.answer.ensures.silent
