@@ -84,6 +84,8 @@ pub fresh_first : (lines : List (Line TaskCall)) (seats : List SeatState)
     → AreFresh seats → SaysFirst lines seats
 fresh_first lines seats fresh t s at = (
   (fresh t s at).0,
-  asked_of t lines,
-  ap (λ calls. map (λ (m : Made). m.call) calls ++ asked_of t lines) (fresh t s at).1,
+  (
+    asked_of t lines,
+    ap (λ calls. map (λ (m : Made). m.call) calls ++ asked_of t lines) (fresh t s at).1,
+  ),
 )
