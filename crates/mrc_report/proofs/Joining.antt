@@ -1,11 +1,12 @@
 -- Facts of the element at each place of a list that grows at its end, or is taken from the front.
 use Rattle.std.proofs.Common.{◌≡◌, ◌+◌, ℕ, zero, suc, List, [], ◌∷◌, ◌++◌, Option, Some, None}
-use Rattle.std.proofs.Common.{length, slice_get, refl, sym, ap, ◌∙◌, subst, arith, MatchResult}
+use Rattle.std.proofs.Common.{length, map, slice_get, refl, sym, ap, ◌∙◌, subst, arith, MatchResult}
 use Rattle.std.proofs.Common.{IfOk, IfErr}
 use Rattle.std.specs.Prelude.{Result, Ok, Err}
 use Rattle.mrc_live.proofs.Following.{one_there}
 use Rattle.mrc_live.specs.Desks.{SeatState}
-use Rattle.mrc_report.specs.Plays.{IsPlayed, ArePlayed, SaysAll, SaysFirst}
+use Rattle.mrc_live.specs.declared.event.Made.{Made}
+use Rattle.mrc_report.specs.Plays.{IsPlayed, AreFresh, ArePlayed, SaysAll, SaysFirst, asked_of}
 use Rattle.mrc_report.specs.declared.playing.Halt.{Halt}
 use Rattle.mrc_report.specs.declared.script.TaskCall.{TaskCall}
 use Rattle.mrc_wiring_text.specs.declared.reading.Line.{Line}
@@ -77,3 +78,14 @@ says_all lines seats halt none played t s at =
 pub says_first : (lines : List (Line TaskCall)) (seats : List SeatState)
     (halt : Option Halt) → ArePlayed lines halt seats → SaysFirst lines seats
 says_first lines seats halt played t s at = ((played t s at).task_is, (played t s at).begun)
+
+-- a seat that has made no call has made the first of any
+pub fresh_first : (lines : List (Line TaskCall)) (seats : List SeatState)
+    → AreFresh seats → SaysFirst lines seats
+fresh_first lines seats fresh t s at = (
+  (fresh t s at).0,
+  (
+    asked_of t lines,
+    ap (λ calls. map (λ (m : Made). m.call) calls ++ asked_of t lines) (fresh t s at).1,
+  ),
+)

@@ -197,6 +197,13 @@ begins_map whole front begins = (
   sym (map-append call_of front begins.0) ∙ ap (map call_of) begins.1,
 )
 
+-- each task has said all its lines, or says next a line that waits in vain
+abbrev pub AreInVain : Case → World → List (Line TaskCall) → List LiveEvent → Type 0
+AreInVain case world lines events =
+    (task : ℕ) → task < (wiring_in case).tasks
+    → IfSome (next_line lines (map event_of events) task)
+    (λ l. WaitsInVain (wiring_in case) world l.says)
+
 -- what is told of a server that was finished, of which no task can go on
 pub is_halted : (case : Case) (lines : List (Line TaskCall)) (seats : List SeatState)
     (events : List LiveEvent) (world : World) (told text : List ℕ)
@@ -204,9 +211,7 @@ pub is_halted : (case : Case) (lines : List (Line TaskCall)) (seats : List SeatS
     → EachIsItsPart seats events → AllAreSeated seats events → AreApart seats
     → SaysFirst lines seats → length seats ≡ (wiring_in case).tasks
     → text ≡ journal_text case.claim.table events (len world.store.ports)
-    → ((task : ℕ) → task < (wiring_in case).tasks
-    → IfSome (next_line lines (map event_of events) task)
-    (λ l. WaitsInVain (wiring_in case) world l.says))
+    → AreInVain case world lines events
     → IsPermutation (next_numbers lines (map event_of events) (wiring_in case).tasks) told
     → IsHalted case.claim.table lines told text
 is_halted case lines seats events world told text run parts seated apart says many shown vain

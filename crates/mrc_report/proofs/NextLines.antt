@@ -54,7 +54,25 @@ same_lines task lines k l at other =
     ∙ append-nil (lines_of task (take k lines)))
 
 -- the element behind the first ones
-get_-- the line of a task behind those that it has said
+get_behind : {X : Type 0} (xs ys : List X) (x : X)
+    → slice_get (xs ++ x ∷ ys) (length xs) ≡ Some x
+get_behind [] ys x = refl
+get_behind (z ∷ xs) ys x = get_behind xs ys x
+
+behind : {X : Type 0} (xs : List X) (x : X) (ys : List X) → (xs ++ x ∷ []) ++ ys ≡ xs ++ x ∷ ys
+behind [] x ys = refl
+behind (z ∷ xs) x ys = ap (λ zs. z ∷ zs) (behind xs x ys)
+
+split_at : {X : Type 0} (xs : List X) (k : ℕ) (x : X) → slice_get xs k ≡ Some x
+    → (ys : List X) × (xs ≡ take k xs ++ x ∷ ys)
+split_at xs k x at = (
+  drop (k + 1) xs,
+  sym (take-append-drop (k + 1) xs)
+      ∙ ap (λ front. front ++ drop (k + 1) xs) (take_next xs k (k + 1) x at refl)
+      ∙ behind (take k xs) x (drop (k + 1) xs),
+)
+
+-- the line of a task behind those that it has said
 pub line_there : (task : ℕ) (lines : List (Line TaskCall)) (k said : ℕ) (l : Line TaskCall)
     → slice_get lines k ≡ Some l → (l.says.task == task) ≡ true
     → said ≡ length (lines_of task (take k lines))

@@ -1,12 +1,13 @@
 //! Runs that end because all tasks that have lines left wait for messages.
 
-ghost use Rattle.std.specs.Prelude.{◌≡◌, ◌<◌, ℕ, ◌++◌, IfNone, IfOk, IfSome, IsPermutation, IsTrue};
+ghost use Rattle.std.specs.Prelude.{◌≡◌, ◌<◌, ◌==◌, ℕ, ◌++◌, IfNone, IfOk, IfSome, IsPermutation, IsTrue};
 ghost use Rattle.std.specs.Prelude.{None, Some, length, map, slice_get};
 ghost use Rattle.mrc_confine.specs.Guards.{wiring_in};
 ghost use Rattle.mrc_live.specs.Runs.{event_of};
 ghost use Rattle.mrc_report.specs.Halts.{WaitsInVain, lines_of, next_line, next_numbers, number_in};
 ghost use Rattle.mrc_report.specs.Journal.{calls_by};
 
+use crate::playing::is_of;
 use crate::script::{Script, TaskCall};
 use mrc_base::TaskId;
 use mrc_confine::Guarded;
@@ -16,13 +17,20 @@ use mrc_model::Code;
 use mrc_wiring_text::Line;
 use std::alloc::{AllocError, Global};
 
+/// Whether the event is a call of this task.
+fn is_by(event: &Event, task: TaskId) -> bool
+    ensures { result ≡ (event.now.task == task) }
+{
+    event.task.0 == task.0
+}
+
 /// How many of the events are calls of the task.
-fn calls_made(events: &[Event], task: u32) -> usize
+fn calls_made(events: &[Event], task: TaskId) -> usize
     ensures { result ≡ length (calls_by task (map event_of events.now)) }
 {
     let mut made = 0;
     for event in events {
-        if event.task.0 == task {
+        if is_by(event, task) {
             made += 1;
         }
     }
@@ -30,13 +38,13 @@ fn calls_made(events: &[Event], task: u32) -> usize
 }
 
 /// The line that the task says after so many of its lines.
-fn line_after(lines: &[Line<TaskCall>], task: u32, said: usize) -> Option<&Line<TaskCall>>
+fn line_after(lines: &[Line<TaskCall>], task: TaskId, said: usize) -> Option<&Line<TaskCall>>
     ensures some { IfSome result (λ line. slice_get (lines_of task lines.now) said ≡ Some line.now) }
     ensures none { IfNone result (slice_get (lines_of task lines.now) said ≡ None) }
 {
     let mut left = said;
     for line in lines {
-        if line.says.task.0 == task {
+        if is_of(&line.says, task) {
             if left == 0 {
                 return Some(line);
             }
@@ -65,7 +73,7 @@ fn add_next(
     guarded: &mut Guarded,
     script: &[Line<TaskCall>],
     events: &[Event],
-    task: u32,
+    task: TaskId,
     numbers: &mut Vec<u32>,
 ) -> Result<bool, AllocError>
     ensures vain { IfOk result (λ is. IsTrue is
@@ -104,7 +112,7 @@ fn next_lines(
     let tasks = guarded.confined().wired().tasks();
     let mut numbers = Vec::new(alloc);
     for task in 0..u32::from(tasks) {
-        if !add_next(guarded, script.lines(), events, task, &mut numbers)? {
+        if !add_next(guarded, script.lines(), events, TaskId(task), &mut numbers)? {
             return Ok(None);
         }
     }

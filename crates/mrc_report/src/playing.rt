@@ -102,7 +102,7 @@ fn say<L: Ledger, R: Wait>(
 }
 
 /// Whether the line is of this task.
-fn is_of(says: &TaskCall, task: TaskId) -> bool
+pub(crate) fn is_of(says: &TaskCall, task: TaskId) -> bool
     ensures { result ≡ (says.now.task == task) }
 {
     says.task.0 == task.0

@@ -1,11 +1,12 @@
 //! Scripts, run by tasks as threads.
 
-ghost use Rattle.std.specs.Prelude.{◌≡◌, ◌≤◌, ◌⊎◌, ℕ, [], IfErr, IfNone, IfOk, MatchResult, None};
-ghost use Rattle.std.specs.Prelude.{Some, slice_get, vec_capacity, vec_len};
+ghost use Rattle.std.specs.Prelude.{◌≡◌, ◌≤◌, ◌⊎◌, ℕ, [], IfErr, IfNone, IfOk, IfSome, MatchResult};
+ghost use Rattle.std.specs.Prelude.{None, Some, slice_get, vec_capacity, vec_len};
 ghost use Rattle.mrc_confine.specs.Guards.{wiring_in};
 ghost use Rattle.mrc_report.specs.Plays.{AreFresh, ArePlayed, IsPlayed, SaysAll, SaysFirst};
 ghost use Rattle.mrc_report.specs.declared.playing.Halt.TheVariants.{Fault, Stopped as Halted};
-ghost use Rattle.mrc_report.specs.declared.playing.LiveFault.TheVariants.{AllWait};
+ghost use Rattle.mrc_report.specs.declared.playing.LiveFault.TheVariants.{AllWait, Memory};
+ghost use Rattle.mrc_report.specs.declared.playing.LiveFault.TheVariants.{TooManySeats};
 
 use crate::playing::{Gate, Halt, LiveFault, Played, play};
 use crate::script::Script;
@@ -84,6 +85,7 @@ fn seat_all<L: Ledger, R: Wait>(
     ensures each { AreFresh seats.new.items }
     ensures all { IfNone result (vec_len seats.new ≡ (wiring_in live.now).tasks) }
     ensures few { vec_len seats.new ≤ (wiring_in live.now).tasks }
+    ensures fault { IfSome result (λ fault. fault ≡ TooManySeats) }
 {
     for task in 0..u32::from(live.confined().wired().tasks()) {
         match live.seat(rt, TaskId(task)) {
@@ -183,7 +185,8 @@ pub struct Stopped<L: Ledger> {
 
 /// No seat was made for want of memory.
 fn nothing<L: Ledger>(alloc: Global) -> Stopped<L>
-    ensures { result.seats.items ≡ [] }
+    ensures none { result.seats.items ≡ [] }
+    ensures fault { result.fault ≡ Memory }
 {
     Stopped {
         fault: LiveFault::Memory,

@@ -3,29 +3,29 @@ use Rattle.std.proofs.Common.{rules}
 use Rattle.std.proofs.lemmas.Option.{slice_get_read}
 use Rattle.mrc_report.specs.Plays.{calls_of}
 use Rattle.mrc_report.proofs.Asking.{played_part, asked_mine, asked_other}
-use Rattle.mrc_report.proofs.playing.say_lines.Goals.{then-is_of+in_default, else-is_of}
+use Rattle.mrc_report.proofs.playing.say_lines.Goals.{then-is_of+else-load+in_default, else-is_of}
 use Rattle.mrc_report.proofs.playing.say_lines.Goals as goal
 
 pub returns-then-load : goal.returns-then-load
 returns-then-load g c =
-    played_part c.args.seat.task c.args.script.now c.args.seat _ 0 refl
-    (ap (λ calls. calls_of (record c.args.seat { calls = calls })) c.requires)
+    played_part c.args.seat.now.task c.args.script.now c.loop-line.seat _ c.loop-line.line-index
+    (search rules) (search rules)
 
 pub returns-in-Err : goal.returns-in-Err
 returns-in-Err g c =
-    played_part c.args.seat.task c.args.script.now c.say.new.seat _ c.loop-line.line-index
+    played_part c.args.seat.now.task c.args.script.now c.say.new.seat _ c.loop-line.line-index
     (search rules) (search rules)
 
 pub loop-line-preserved : goal.loop-line-preserved
 loop-line-preserved g c =
     let lines = c.lines-line-items.result.now in
     let l = c.line-item.result in
-    let task = c.args.seat.task in
+    let task = c.args.seat.now.task in
     let k = c.loop-line.line-index in
     let same = ap (λ t. l.says.task == t) (sym c.task-task.ensures) ∙ sym c.is_of.ensures in
     let here : slice_get lines k ≡ Some l = search (rules, slice_get_read) in
     elim c.if-is_of.branch [
-      | then-is_of+in_default w ↦
+      | then-is_of+else-load+in_default w ↦
           let mine = asked_mine task lines k l here (same ∙ w.if-is_of.true) in (
             ap (λ s. s.task) w.seat-is ∙ w.say.ensures.task ∙ c.loop-line.invariant.0,
             ap calls_of w.seat-is ∙ w.in_default.ensures.said
