@@ -51,9 +51,9 @@ silent held (Make files) told fault = inl (elim fault [
   | inr (inl unread) ↦ unread.out
   | inr (inr (inl none)) ↦ none.tells.out
   | inr (inr (inr unmade)) ↦ elim unmade.why [
-      | inl unwritten ↦ unwritten.out
-      | inr workers ↦ workers.out
-    ]
+    | inl unwritten ↦ unwritten.out
+    | inr workers ↦ workers.out
+  ]
 ])
 silent held (Explain files) told fault = inl (elim fault [
   | inl memory ↦ memory.out
@@ -70,14 +70,14 @@ silent held (Live files) told fault = elim fault [
   | inl memory ↦ inl memory.out
   | inr (inl unread) ↦ inl unread.out
   | inr (inr texts) ↦ elim texts.tells [
-      | inl checked ↦ inl checked.out
-      | inr (inl script) ↦ inl script.out
-      | inr (inr halted) ↦ inr (record {
-          texts = texts.texts;
-          are_held = texts.are_held;
-          tells = halted;
-        })
-    ]
+    | inl checked ↦ inl checked.out
+    | inr (inl script) ↦ inl script.out
+    | inr (inr halted) ↦ inr (record {
+      texts = texts.texts;
+      are_held = texts.are_held;
+      tells = halted;
+    })
+  ]
 ]
 
 -- the same of what is told of a command, by what it is
