@@ -1,4 +1,3 @@
-use Rattle.mrc_program.proofs.HaltLaws.{run_of_script}
 use Rattle.mrc_program.proofs.ToldLaws.{of_script}
 use Rattle.mrc_program.proofs.live.confined_told.Goals as goal
 

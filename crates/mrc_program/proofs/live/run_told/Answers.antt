@@ -1,4 +1,4 @@
-use Rattle.mrc_program.proofs.HaltLaws.{of_run, halted_so}
+use Rattle.mrc_program.proofs.HaltLaws.{of_run}
 use Rattle.mrc_program.proofs.live.run_told.Goals as goal
 
 pub returns-in_ok-text-in-Err-Fault-clause-fault :
