@@ -1,7 +1,7 @@
 /* Refuses the allocation whose number, from 1, stands in REFUSE, and with ALL_AFTER each one after it, and writes how
  * many were asked for to the file that COUNT names. Refuses the thread whose number, from 1, stands in REFUSE_THREAD. It
- * is loaded before the C library, so that malloc, realloc and
- * _exit are these: a program with threads ends by _exit, which calls no destructor. */
+ * is loaded before the C library, so that malloc, realloc, pthread_create and _exit are these: a program with threads ends
+ * by _exit, which calls no destructor. */
 #define _GNU_SOURCE
 #include <dlfcn.h>
 #include <errno.h>
