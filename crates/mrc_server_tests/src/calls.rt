@@ -200,10 +200,21 @@ fn one_event<L: Ledger, R: Wait>(
     Ok((right, finish_without(live, seats)))
 }
 
+/// The same from its start.
+fn told_at_once<L: Ledger, R: Threads + Wait + Sync>(
+    rt: &R,
+    alloc: Global,
+    blank: Blank,
+) -> Result<([bool; 3], (bool, usize)), AllocError>
+    requires name { blank.name ≡ L.name }
+    requires parts { (blank.parts ≡ L.parts) × (L.parts ≡ 257) }
+{
+    one_event(rt, alloc, opened::<L, _>(rt, alloc, 1, blank)?)
+}
+
 #[test]
 fn a_full_journal_is_told_at_once(rt: HostRuntime) -> Result<(), Fail> {
-    let live = opened::<Brand, _>(&rt, rt.alloc(), 1, Blank::new(257))?;
-    let (right, missed) = one_event(&rt, rt.alloc(), live)?;
+    let (right, missed) = told_at_once::<Brand, _>(&rt, rt.alloc(), Blank::new(257))?;
     assert_eq!(rt; right, [true; 3]);
     assert_eq!(rt; missed, (true, 1));
     Ok(())
@@ -221,10 +232,22 @@ fn all_seats<L: Ledger, R: Wait>(rt: &R, live: &Live<L>) -> Option<usize> {
     None
 }
 
+/// The same of a new server.
+fn count_seats<L: Ledger, R: Threads + Wait + Sync>(
+    rt: &R,
+    alloc: Global,
+    blank: Blank,
+) -> Result<Option<usize>, AllocError>
+    requires name { blank.name ≡ L.name }
+    requires parts { (blank.parts ≡ L.parts) × (L.parts ≡ 257) }
+{
+    Ok(all_seats(rt, &opened::<L, _>(rt, alloc, 1, blank)?))
+}
+
 #[test]
 fn seats_are_256(rt: HostRuntime) -> Result<(), Fail> {
-    let live = opened::<Brand, _>(&rt, rt.alloc(), 1, Blank::new(257))?;
-    assert_eq!(rt; all_seats(&rt, &live), Some(256));
+    let seats = count_seats::<Brand, _>(&rt, rt.alloc(), Blank::new(257))?;
+    assert_eq!(rt; seats, Some(256));
     Ok(())
 }
 
@@ -238,11 +261,26 @@ fn not_seated<L: Ledger, R: Wait>(rt: &R, live: &Live<L>) -> Option<NotSeated> {
     live.seat(rt, TaskId(0)).err()
 }
 
+/// The same where there is no task.
+fn seat_of_nobody<L: Ledger, R: Threads + Wait + Sync>(
+    rt: &R,
+    alloc: Global,
+    blank: Blank,
+) -> Result<Option<NotSeated>, AllocError>
+    requires name { blank.name ≡ L.name }
+    requires parts { (blank.parts ≡ L.parts) × (L.parts ≡ 257) }
+{
+    let machine = started(rt, alloc, "wiring 1\n", &NOBODY)?;
+    match locked::<L>(alloc, machine, 1, blank) {
+        Ok(live) => Ok(not_seated(rt, &live)),
+        Err(_) => Err(AllocError),
+    }
+}
+
 #[test]
 fn nobody_has_no_seat(rt: HostRuntime) -> Result<(), Fail> {
-    let machine = started(&rt, rt.alloc(), "wiring 1\n", &NOBODY)?;
-    let live = locked::<Brand>(rt.alloc(), machine, 1, Blank::new(257)).map_err(|_| AllocError)?;
-    assert_eq!(rt; not_seated(&rt, &live), Some(NotSeated::NoSuchTask));
+    let refused = seat_of_nobody::<Brand, _>(&rt, rt.alloc(), Blank::new(257))?;
+    assert_eq!(rt; refused, Some(NotSeated::NoSuchTask));
     Ok(())
 }
 
@@ -269,11 +307,24 @@ fn two_threads<L: Ledger + Send + Sync, R: Threads + Wait + Sync>(
     Ok(vec![in alloc; one, other]?)
 }
 
+/// The number of their events.
+fn two_threads_events<L: Ledger + Send + Sync, R: Threads + Wait + Sync>(
+    rt: &R,
+    alloc: Global,
+    blank: Blank,
+) -> Result<usize, AllocError>
+    requires name { blank.name ≡ L.name }
+    requires parts { (blank.parts ≡ L.parts) × (L.parts ≡ 257) }
+{
+    let live = opened::<L, _>(rt, alloc, 1000, blank)?;
+    let seats = two_threads(rt, alloc, &live)?;
+    Ok(events(live, seats))
+}
+
 #[test]
 fn two_threads_make_200_events(rt: HostRuntime) -> Result<(), Fail> {
-    let live = opened::<Brand, _>(&rt, rt.alloc(), 1000, Blank::new(257))?;
-    let seats = two_threads(&rt, rt.alloc(), &live)?;
-    assert_eq!(rt; events(live, seats), 200);
+    let events = two_threads_events::<Brand, _>(&rt, rt.alloc(), Blank::new(257))?;
+    assert_eq!(rt; events, 200);
     Ok(())
 }
 
@@ -300,11 +351,24 @@ fn eight_threads<L: Ledger + Send + Sync, R: Threads + Wait + Sync>(
     thread::map_vec(rt, seats, &|seat| many(rt, live, seat, 10_000))
 }
 
+/// The number of their events.
+fn eight_threads_events<L: Ledger + Send + Sync, R: Threads + Wait + Sync>(
+    rt: &R,
+    alloc: Global,
+    blank: Blank,
+) -> Result<usize, AllocError>
+    requires name { blank.name ≡ L.name }
+    requires parts { (blank.parts ≡ L.parts) × (L.parts ≡ 257) }
+{
+    let live = opened::<L, _>(rt, alloc, 1_000_000, blank)?;
+    let seats = eight_threads(rt, alloc, &live)?;
+    Ok(events(live, seats))
+}
+
 // The journal has each seat's calls and replies.
 #[test]
 fn eight_threads_make_80000_events(rt: HostRuntime) -> Result<(), Fail> {
-    let live = opened::<Brand, _>(&rt, rt.alloc(), 1_000_000, Blank::new(257))?;
-    let seats = eight_threads(&rt, rt.alloc(), &live)?;
-    assert_eq!(rt; events(live, seats), 80_000);
+    let events = eight_threads_events::<Brand, _>(&rt, rt.alloc(), Blank::new(257))?;
+    assert_eq!(rt; events, 80_000);
     Ok(())
 }

@@ -148,11 +148,24 @@ fn run_files<L: Ledger + Send + Sync, R: Threads + Wait + Sync>(
     }
 }
 
+/// The same of a new server.
+fn run_new<L: Ledger + Send + Sync, R: Threads + Wait + Sync>(
+    rt: &R,
+    alloc: Global,
+    blank: Blank,
+    gate: &Holding,
+) -> Result<usize, AllocError>
+    requires name { blank.name ≡ L.name }
+    requires parts { (blank.parts ≡ L.parts) × (L.parts ≡ 257) }
+{
+    run_files(rt, alloc, opened::<L, _>(rt, alloc, blank)?, gate)
+}
+
 #[test]
 fn threads_run_at_once(rt: HostRuntime) -> Result<(), Fail> {
     let gate = gate(false);
-    let live = opened::<Brand, _>(&rt, rt.alloc(), Blank::new(257))?;
-    assert_eq!(rt; run_files(&rt, rt.alloc(), live, &gate)?, 8);
+    let events = run_new::<Brand, _>(&rt, rt.alloc(), Blank::new(257), &gate)?;
+    assert_eq!(rt; events, 8);
     assert!(rt; !gate.gave_up.load(Ordering::SeqCst));
     Ok(())
 }
@@ -184,12 +197,23 @@ fn told(alloc: Global, served: Result<Served, OrMemory<ServeFault>>) -> Result<S
     }
 }
 
-// A script that makes one event more than the journal may have.
+/// What is told of a script that makes one event more than the journal may have.
+fn too_many<L: Ledger + Send + Sync, R: Threads + Wait + Sync>(
+    rt: &R,
+    alloc: Global,
+    blank: Blank,
+) -> Result<String, AllocError>
+    requires name { blank.name ≡ L.name }
+    requires parts { (blank.parts ≡ L.parts) × (L.parts ≡ 257) }
+{
+    let served = served::<L, _>(rt, alloc, "app names 1\napp names 1\n", 1, blank)?;
+    told(alloc, served)
+}
+
 #[test]
 fn a_journal_is_full(rt: HostRuntime) -> Result<(), Fail> {
-    let script = "app names 1\napp names 1\n";
-    let served = served::<Brand, _>(&rt, rt.alloc(), script, 1, Blank::new(257))?;
-    assert_eq!(rt; told(rt.alloc(), served)?.as_str(), "JournalFull");
+    let told = too_many::<Brand, _>(&rt, rt.alloc(), Blank::new(257))?;
+    assert_eq!(rt; told.as_str(), "JournalFull");
     Ok(())
 }
 
@@ -205,21 +229,49 @@ fn waiting(
     }
 }
 
+/// Each waits for a message of the other.
+const BOTH_WAIT: &str = "fs wait 2 92
+fs names 1
+app allocate 1 receive
+app wait 3 40
+";
+
+/// What is told of it, with the lines that wait.
+fn both_wait<L: Ledger + Send + Sync, R: Threads + Wait + Sync>(
+    rt: &R,
+    alloc: Global,
+    blank: Blank,
+) -> Result<(String, Vec<u32>), AllocError>
+    requires name { blank.name ≡ L.name }
+    requires parts { (blank.parts ≡ L.parts) × (L.parts ≡ 257) }
+{
+    waiting(alloc, served::<L, _>(rt, alloc, BOTH_WAIT, 100, blank)?)
+}
+
 #[test]
 fn two_tasks_wait_for_each_other(rt: HostRuntime) -> Result<(), Fail> {
-    let script = "fs wait 2 92\nfs names 1\napp allocate 1 receive\napp wait 3 40\n";
-    let served = served::<Brand, _>(&rt, rt.alloc(), script, 100, Blank::new(257))?;
-    let (text, lines) = waiting(rt.alloc(), served)?;
+    let (text, lines) = both_wait::<Brand, _>(&rt, rt.alloc(), Blank::new(257))?;
     assert_eq!(rt; text.as_str(), "0 app name 3\nend events 1 ports 4\n");
     assert_eq!(rt; lines.as_slice(), [1, 4].as_slice());
     Ok(())
 }
 
+/// What is told of a script whose last line waits, with the lines that wait.
+fn last_waits<L: Ledger + Send + Sync, R: Threads + Wait + Sync>(
+    rt: &R,
+    alloc: Global,
+    blank: Blank,
+) -> Result<(String, Vec<u32>), AllocError>
+    requires name { blank.name ≡ L.name }
+    requires parts { (blank.parts ≡ L.parts) × (L.parts ≡ 257) }
+{
+    let script = "app allocate 1 receive\napp wait 3 40\n";
+    waiting(alloc, served::<L, _>(rt, alloc, script, 100, blank)?)
+}
+
 #[test]
 fn the_last_line_waits(rt: HostRuntime) -> Result<(), Fail> {
-    let script = "app allocate 1 receive\napp wait 3 40\n";
-    let served = served::<Brand, _>(&rt, rt.alloc(), script, 100, Blank::new(257))?;
-    let (text, lines) = waiting(rt.alloc(), served)?;
+    let (text, lines) = last_waits::<Brand, _>(&rt, rt.alloc(), Blank::new(257))?;
     assert_eq!(rt; text.as_str(), "0 app name 3\nend events 1 ports 4\n");
     assert_eq!(rt; lines.as_slice(), [2].as_slice());
     Ok(())
@@ -243,12 +295,23 @@ fn waits_again(
     Ok(text.as_str().ends_with("end events 3 ports 4\n") && lines.as_slice() == [2].as_slice())
 }
 
+/// The same of a run of it.
+fn run_again<L: Ledger + Send + Sync, R: Threads + Wait + Sync>(
+    rt: &R,
+    alloc: Global,
+    blank: Blank,
+) -> Result<bool, AllocError>
+    requires name { blank.name ≡ L.name }
+    requires parts { (blank.parts ≡ L.parts) × (L.parts ≡ 257) }
+{
+    waits_again(alloc, served::<L, _>(rt, alloc, AGAIN, 100, blank)?)
+}
+
 // The client's message wakes the server about when the client, the last to be awake, ends.
 #[test]
 fn a_wake_before_the_last_waits(rt: HostRuntime) -> Result<(), Fail> {
     for _ in 0..1000 {
-        let served = served::<Brand, _>(&rt, rt.alloc(), AGAIN, 100, Blank::new(257))?;
-        assert!(rt; waits_again(rt.alloc(), served)?);
+        assert!(rt; run_again::<Brand, _>(&rt, rt.alloc(), Blank::new(257))?);
     }
     Ok(())
 }
@@ -274,10 +337,21 @@ fn run_out<L: Ledger + Send + Sync, R: Threads + Wait + Sync>(
     }
 }
 
+/// The same of a new server.
+fn run_out_new<L: Ledger + Send + Sync, R: Threads + Wait + Sync>(
+    rt: &R,
+    alloc: Global,
+    blank: Blank,
+) -> Result<Option<(LiveFault, usize)>, AllocError>
+    requires name { blank.name ≡ L.name }
+    requires parts { (blank.parts ≡ L.parts) × (L.parts ≡ 257) }
+{
+    run_out(rt, alloc, &opened::<L, _>(rt, alloc, blank)?)
+}
+
 #[test]
 fn seats_run_out(rt: HostRuntime) -> Result<(), Fail> {
-    let live = opened::<Brand, _>(&rt, rt.alloc(), Blank::new(257))?;
-    let stopped = run_out(&rt, rt.alloc(), &live)?;
+    let stopped = run_out_new::<Brand, _>(&rt, rt.alloc(), Blank::new(257))?;
     assert_eq!(rt; stopped, Some((LiveFault::TooManySeats, 1)));
     Ok(())
 }

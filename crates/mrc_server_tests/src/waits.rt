@@ -1,5 +1,7 @@
 //! That a waiter wakes, and that a wait is stopped.
 
+ghost use Rattle.std.specs.Prelude.{◌≡◌};
+
 use crate::server::{TO_2, allocate, events, many, opened, send, told, told_waiting, two_seats};
 use mrc_live::{Live, NotReceived, Seat};
 use mrc_machine::{Call, Reply};
@@ -55,10 +57,22 @@ fn wake<L: Ledger + Send + Sync, R: Threads + Wait + Sync>(
     Ok((came, events(live, seats)))
 }
 
+/// The same from its start.
+fn wakes<L: Ledger + Send + Sync, R: Threads + Wait + Sync>(
+    rt: &R,
+    alloc: Global,
+    blank: Blank,
+) -> Result<(bool, usize), AllocError>
+    requires name { blank.name ≡ L.name }
+    requires parts { (blank.parts ≡ L.parts) × (L.parts ≡ 257) }
+{
+    wake(rt, alloc, opened::<L, _>(rt, alloc, 2000, blank)?)
+}
+
 #[test]
 fn a_waiting_receive_wakes(rt: HostRuntime) -> Result<(), Fail> {
-    let live = opened::<Brand, _>(&rt, rt.alloc(), 2000, Blank::new(257))?;
-    assert_eq!(rt; wake(&rt, rt.alloc(), live)?, (true, 1003));
+    let woken = wakes::<Brand, _>(&rt, rt.alloc(), Blank::new(257))?;
+    assert_eq!(rt; woken, (true, 1003));
     Ok(())
 }
 
@@ -134,10 +148,22 @@ fn stops<L: Ledger + Send + Sync, R: Threads + Wait + Sync>(
     Ok(stopped)
 }
 
+/// The same of a new server.
+fn flag_stops<L: Ledger + Send + Sync, R: Threads + Wait + Sync>(
+    rt: &R,
+    alloc: Global,
+    blank: Blank,
+) -> Result<bool, AllocError>
+    requires name { blank.name ≡ L.name }
+    requires parts { (blank.parts ≡ L.parts) × (L.parts ≡ 257) }
+{
+    stops(rt, &opened::<L, _>(rt, alloc, 2000, blank)?)
+}
+
 #[test]
 fn a_wait_is_stopped(rt: HostRuntime) -> Result<(), Fail> {
-    let live = opened::<Brand, _>(&rt, rt.alloc(), 2000, Blank::new(257))?;
-    assert!(rt; stops(&rt, &live)?);
+    let stopped = flag_stops::<Brand, _>(&rt, rt.alloc(), Blank::new(257))?;
+    assert!(rt; stopped);
     Ok(())
 }
 
@@ -161,9 +187,21 @@ fn none_is_left<L: Ledger + Send + Sync, R: Threads + Wait + Sync>(
     Ok((came, stopped))
 }
 
+/// The same of a new server.
+fn left_alone<L: Ledger + Send + Sync, R: Threads + Wait + Sync>(
+    rt: &R,
+    alloc: Global,
+    blank: Blank,
+) -> Result<(bool, bool), AllocError>
+    requires name { blank.name ≡ L.name }
+    requires parts { (blank.parts ≡ L.parts) × (L.parts ≡ 257) }
+{
+    none_is_left(rt, alloc, &opened::<L, _>(rt, alloc, 2000, blank)?)
+}
+
 #[test]
 fn who_is_left_alone_is_stopped(rt: HostRuntime) -> Result<(), Fail> {
-    let live = opened::<Brand, _>(&rt, rt.alloc(), 2000, Blank::new(257))?;
-    assert_eq!(rt; none_is_left(&rt, rt.alloc(), &live)?, (true, true));
+    let told = left_alone::<Brand, _>(&rt, rt.alloc(), Blank::new(257))?;
+    assert_eq!(rt; told, (true, true));
     Ok(())
 }

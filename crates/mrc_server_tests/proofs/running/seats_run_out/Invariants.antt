@@ -1,4 +1,4 @@
 use Rattle.mrc_server_tests.proofs.running.seats_run_out.Given as goal
 
-abbrev pub ghosts-opened : goal.ghosts-opened
-ghosts-opened g a = record { name = a.blank.name; parts = a.blank.parts }
+abbrev pub ghosts-run_out_new : goal.ghosts-run_out_new
+ghosts-run_out_new g a = record { name = a.blank.name; parts = a.blank.parts }

@@ -1,4 +1,4 @@
 use Rattle.mrc_server_tests.proofs.running.the_last_line_waits.Given as goal
 
-abbrev pub ghosts-served : goal.ghosts-served
-ghosts-served g a = record { name = a.blank.name; parts = a.blank.parts }
+abbrev pub ghosts-last_waits : goal.ghosts-last_waits
+ghosts-last_waits g a = record { name = a.blank.name; parts = a.blank.parts }
