@@ -425,9 +425,9 @@ fn opens(
     shelf.wiring = wiring;
     shelf.policy = policy;
     shelf.certificate = certificate;
-    let (told, opened) = of_shelf(rt, &mut shelf, &CHECK)?;
+    let (told, shelf) = of_shelf(rt, shelf, &CHECK)?;
     assert_eq!(rt; told.err.as_slice(), want.as_bytes());
-    assert_eq!(rt; opened, order);
+    assert_eq!(rt; shelf.opened.get(), order);
     assert_eq!(rt; told.status, if want.is_empty() { 0 } else { 2 });
     Ok(())
 }
@@ -472,8 +472,8 @@ fn checks_with_interfaces(rt: HostRuntime) -> Result<(), Fail> {
     shelf.wiring = Ok(CAREFUL.as_bytes());
     shelf.policy = Ok(NO_KERNEL_PORT.as_bytes());
     shelf.certificate = Ok(OF_CAREFUL.as_slice());
-    let (told, opened) = of_shelf(&rt, &mut shelf, &CHECK_OF_DEFS)?;
+    let (told, shelf) = of_shelf(&rt, shelf, &CHECK_OF_DEFS)?;
     wants(&rt, &told, "YES\n", "", 0);
-    assert_eq!(rt; opened, 4123);
+    assert_eq!(rt; shelf.opened.get(), 4123);
     Ok(())
 }

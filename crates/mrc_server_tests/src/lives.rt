@@ -34,7 +34,8 @@ fn lived(
     shelf.policy = Ok(policy.as_bytes());
     shelf.certificate = Ok(OF_CAREFUL.as_slice());
     shelf.script = Ok(script);
-    of_shelf(rt, &mut shelf, &LIVE)
+    let (told, shelf) = of_shelf(rt, shelf, &LIVE)?;
+    Ok((told, shelf.opened.get()))
 }
 
 // The server's lines stand before those of the client, for whose message it waits.

@@ -19,7 +19,7 @@ fn made(
     let mut shelf = no_files(rt.alloc());
     shelf.defs = Ok(defs.as_bytes());
     shelf.wiring = Ok(wiring.as_bytes());
-    let (told, _) = of_shelf(rt, &mut shelf, words)?;
+    let (told, shelf) = of_shelf(rt, shelf, words)?;
     Ok((told, shelf.written))
 }
 

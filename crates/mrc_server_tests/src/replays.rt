@@ -24,7 +24,8 @@ fn replayed(
     let mut shelf = no_files(rt.alloc());
     shelf.wiring = wiring;
     shelf.policy = script;
-    of_shelf(rt, &mut shelf, &REPLAY)
+    let (told, shelf) = of_shelf(rt, shelf, &REPLAY)?;
+    Ok((told, shelf.opened.get()))
 }
 
 /// A replay of the loader's tasks tells this.

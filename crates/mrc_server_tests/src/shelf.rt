@@ -74,13 +74,14 @@ impl<'a> Folder for Shelf<'a> {
     }
 }
 
-/// What is told of the files of a shelf, and the order in which they were opened.
-pub(crate) fn of_shelf(
+/// What is told of the files of a shelf, and the shelf as it is then.
+pub(crate) fn of_shelf<'a>(
     rt: &(impl AllocGlobal + Threads + Wait + Sync),
-    shelf: &mut Shelf<'_>,
+    shelf: Shelf<'a>,
     words: &[&str],
-) -> Result<(Outcome, u32), Fail> {
+) -> Result<(Outcome, Shelf<'a>), Fail> {
+    let mut shelf = shelf;
     let words = line(rt.alloc(), words)?;
-    let told = ran(rt, shelf, rt.alloc(), words.as_slice());
-    Ok((told, shelf.opened.get()))
+    let told = ran(rt, &mut shelf, rt.alloc(), words.as_slice());
+    Ok((told, shelf))
 }
