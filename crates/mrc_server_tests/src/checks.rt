@@ -1,7 +1,7 @@
 //! Checks on worked cases, of files on the disk and in memory.
 
 use crate::file_server::{CAREFUL, FILE_SERVER, NO_KERNEL_PORT, OF_CAREFUL};
-use crate::shelf::{no_files, of_shelf};
+use crate::shelf::{NONE, of_shelf, shelf_of};
 use crate::told::{Outcome, line, ran, wants};
 use mrc_files::Disk;
 use mrc_program::run::run;
@@ -421,10 +421,7 @@ fn opens(
     want: &str,
     order: u32,
 ) -> Result<(), Fail> {
-    let mut shelf = no_files(rt.alloc());
-    shelf.wiring = wiring;
-    shelf.policy = policy;
-    shelf.certificate = certificate;
+    let shelf = shelf_of(rt.alloc(), [NONE, wiring, policy, certificate, NONE]);
     let (told, shelf) = of_shelf(rt, shelf, &CHECK)?;
     assert_eq!(rt; told.err.as_slice(), want.as_bytes());
     assert_eq!(rt; shelf.opened.get(), order);
@@ -467,11 +464,14 @@ const CHECK_OF_DEFS: [&str; 9] = [
 // MIG files are read first, and judged first.
 #[test]
 fn checks_with_interfaces(rt: HostRuntime) -> Result<(), Fail> {
-    let mut shelf = no_files(rt.alloc());
-    shelf.defs = Ok(FILE_SERVER.as_bytes());
-    shelf.wiring = Ok(CAREFUL.as_bytes());
-    shelf.policy = Ok(NO_KERNEL_PORT.as_bytes());
-    shelf.certificate = Ok(OF_CAREFUL.as_slice());
+    let files = [
+        Ok(FILE_SERVER.as_bytes()),
+        Ok(CAREFUL.as_bytes()),
+        Ok(NO_KERNEL_PORT.as_bytes()),
+        Ok(OF_CAREFUL.as_slice()),
+        NONE,
+    ];
+    let shelf = shelf_of(rt.alloc(), files);
     let (told, shelf) = of_shelf(&rt, shelf, &CHECK_OF_DEFS)?;
     wants(&rt, &told, "YES\n", "", 0);
     assert_eq!(rt; shelf.opened.get(), 4123);

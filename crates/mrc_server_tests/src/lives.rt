@@ -1,7 +1,7 @@
 //! Scripts whose tasks run as threads, from their files to what is told.
 
 use crate::file_server::{CAREFUL, FILE_SERVER, NO_KERNEL_PORT, OF_CAREFUL};
-use crate::shelf::{no_files, of_shelf};
+use crate::shelf::{of_shelf, shelf_of};
 use crate::told::{Outcome, wants};
 use std::process::Abort;
 use std::sync::Wait;
@@ -28,12 +28,14 @@ fn lived(
     policy: &str,
     script: &[u8],
 ) -> Result<(Outcome, u32), Fail> {
-    let mut shelf = no_files(rt.alloc());
-    shelf.defs = Ok(FILE_SERVER.as_bytes());
-    shelf.wiring = Ok(CAREFUL.as_bytes());
-    shelf.policy = Ok(policy.as_bytes());
-    shelf.certificate = Ok(OF_CAREFUL.as_slice());
-    shelf.script = Ok(script);
+    let files = [
+        Ok(FILE_SERVER.as_bytes()),
+        Ok(CAREFUL.as_bytes()),
+        Ok(policy.as_bytes()),
+        Ok(OF_CAREFUL.as_slice()),
+        Ok(script),
+    ];
+    let shelf = shelf_of(rt.alloc(), files);
     let (told, shelf) = of_shelf(rt, shelf, &LIVE)?;
     Ok((told, shelf.opened.get()))
 }

@@ -1,7 +1,7 @@
 //! Certificates that are made, and facts that are explained.
 
 use crate::file_server::{CAREFUL, FILE_SERVER, OF_CAREFUL};
-use crate::shelf::{no_files, of_shelf};
+use crate::shelf::{NONE, of_shelf, shelf_of};
 use crate::told::{Outcome, wants};
 use std::process::Abort;
 use std::sync::Wait;
@@ -16,9 +16,8 @@ fn made(
     wiring: &str,
     words: &[&str],
 ) -> Result<(Outcome, Vec<u8>), Fail> {
-    let mut shelf = no_files(rt.alloc());
-    shelf.defs = Ok(defs.as_bytes());
-    shelf.wiring = Ok(wiring.as_bytes());
+    let (defs, wiring) = (Ok(defs.as_bytes()), Ok(wiring.as_bytes()));
+    let shelf = shelf_of(rt.alloc(), [defs, wiring, NONE, NONE, NONE]);
     let (told, shelf) = of_shelf(rt, shelf, words)?;
     Ok((told, shelf.written))
 }

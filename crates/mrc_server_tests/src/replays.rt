@@ -1,6 +1,6 @@
 //! Scripts that are replayed.
 
-use crate::shelf::{no_files, of_shelf};
+use crate::shelf::{NONE, of_shelf, shelf_of};
 use crate::told::{Outcome, wants};
 use std::io::ErrorKind;
 use std::process::Abort;
@@ -21,9 +21,7 @@ fn replayed(
     wiring: Result<&[u8], ErrorKind>,
     script: Result<&[u8], ErrorKind>,
 ) -> Result<(Outcome, u32), Fail> {
-    let mut shelf = no_files(rt.alloc());
-    shelf.wiring = wiring;
-    shelf.policy = script;
+    let shelf = shelf_of(rt.alloc(), [NONE, wiring, script, NONE, NONE]);
     let (told, shelf) = of_shelf(rt, shelf, &REPLAY)?;
     Ok((told, shelf.opened.get()))
 }

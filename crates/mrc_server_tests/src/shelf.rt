@@ -15,24 +15,27 @@ use std::thread::Threads;
 /// written.
 #[derive(Drop)]
 pub(crate) struct Shelf<'a> {
-    pub(crate) defs: Result<&'a [u8], ErrorKind>,
-    pub(crate) wiring: Result<&'a [u8], ErrorKind>,
-    pub(crate) policy: Result<&'a [u8], ErrorKind>,
-    pub(crate) certificate: Result<&'a [u8], ErrorKind>,
-    pub(crate) script: Result<&'a [u8], ErrorKind>,
+    defs: Result<&'a [u8], ErrorKind>,
+    wiring: Result<&'a [u8], ErrorKind>,
+    policy: Result<&'a [u8], ErrorKind>,
+    certificate: Result<&'a [u8], ErrorKind>,
+    script: Result<&'a [u8], ErrorKind>,
     pub(crate) opened: Cell<u32>,
     pub(crate) written: Vec<u8>,
 }
 
-/// A shelf without files.
-pub(crate) fn no_files<'a>(alloc: Global) -> Shelf<'a> {
-    let none = Err(ErrorKind::NotFound);
+/// No file.
+pub(crate) const NONE: Result<&[u8], ErrorKind> = Err(ErrorKind::NotFound);
+
+/// A shelf with these files: a MIG file, a wiring, a policy, a certificate, a script.
+pub(crate) fn shelf_of<'a>(alloc: Global, files: [Result<&'a [u8], ErrorKind>; 5]) -> Shelf<'a> {
+    let [defs, wiring, policy, certificate, script] = files;
     Shelf {
-        defs: none,
-        wiring: none,
-        policy: none,
-        certificate: none,
-        script: none,
+        defs,
+        wiring,
+        policy,
+        certificate,
+        script,
         opened: Cell::new(0),
         written: Vec::new(alloc),
     }
