@@ -413,11 +413,11 @@ const CHECK: [&str; 8] = [
 ];
 
 /// A check of these files opens them in this order, and tells this text of what can't be read.
-fn opens(
+fn opens<'a>(
     rt: &(impl Abort + AllocGlobal + Threads + Wait + Sync),
-    wiring: Result<&[u8], ErrorKind>,
-    policy: Result<&[u8], ErrorKind>,
-    certificate: Result<&[u8], ErrorKind>,
+    wiring: Result<&'a [u8], ErrorKind>,
+    policy: Result<&'a [u8], ErrorKind>,
+    certificate: Result<&'a [u8], ErrorKind>,
     want: &str,
     order: u32,
 ) -> Result<(), Fail> {

@@ -23,10 +23,10 @@ const LIVE: [&str; 11] = [
 ];
 
 /// What is told of a script of the file server, and the order in which the files were opened.
-fn lived(
+fn lived<'a>(
     rt: &(impl AllocGlobal + Threads + Wait + Sync),
-    policy: &str,
-    script: &[u8],
+    policy: &'a str,
+    script: &'a [u8],
 ) -> Result<(Outcome, u32), Fail> {
     let files = [
         Ok(FILE_SERVER.as_bytes()),

@@ -10,10 +10,10 @@ use std::thread::Threads;
 
 /// What is told of these words, with this MIG file and this wiring, and the bytes that were
 /// written.
-fn made(
+fn made<'a>(
     rt: &(impl AllocGlobal + Threads + Wait + Sync),
-    defs: &str,
-    wiring: &str,
+    defs: &'a str,
+    wiring: &'a str,
     words: &[&str],
 ) -> Result<(Outcome, Vec<u8>), Fail> {
     let (defs, wiring) = (Ok(defs.as_bytes()), Ok(wiring.as_bytes()));

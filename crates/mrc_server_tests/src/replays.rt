@@ -16,10 +16,10 @@ const ONE: &str = "wiring 1\ntask a\n";
 const REPLAY: [&str; 6] = ["machcheck", "replay", "--script", "p", "--wiring", "w"];
 
 /// What is told of a replay, and the order in which the files were opened.
-fn replayed(
+fn replayed<'a>(
     rt: &(impl AllocGlobal + Threads + Wait + Sync),
-    wiring: Result<&[u8], ErrorKind>,
-    script: Result<&[u8], ErrorKind>,
+    wiring: Result<&'a [u8], ErrorKind>,
+    script: Result<&'a [u8], ErrorKind>,
 ) -> Result<(Outcome, u32), Fail> {
     let shelf = shelf_of(rt.alloc(), [NONE, wiring, script, NONE, NONE]);
     let (told, shelf) = of_shelf(rt, shelf, &REPLAY)?;
