@@ -115,8 +115,11 @@ class Port:
 
 @dataclass
 class Task:
+    """A task, as it is printed, and the wired task whose class it has."""
+
     name: str
     kernel: int
+    like: str
     is_alive: bool = True
     space: dict = field(default_factory=dict)
 
@@ -177,7 +180,7 @@ class Machine:
             word, *rest = line.split()
             if word == "task":
                 self.numbers[rest[0]] = len(self.tasks)
-                task = Task(rest[0], self.birth("task " + rest[0]))
+                task = Task(rest[0], self.birth("task " + rest[0]), rest[0])
                 self.tasks.append(task)
                 self.give(task.space, task.kernel, "send")
             elif word == "port":
@@ -299,7 +302,7 @@ class Machine:
             code("KERN_RESOURCE_SHORTAGE")
         name = least_unused(target.space)
         if right == "receive":
-            target.space[name] = Entry("port", self.birth("births " + target.name), True)
+            target.space[name] = Entry("port", self.birth("births " + target.like), True)
         else:
             target.space[name] = Entry(right, refs=1)
         return f"name {name}"
@@ -442,6 +445,18 @@ class Machine:
         rights = [right for name in sorted(target.space) for right in target.space[name].rights()]
         target.is_alive, target.space = False, {}
         self.die(rights, target.kernel)
+
+    def task_create(self, caller, task):
+        parent = self.target(caller, task, "KERN_INVALID_ARGUMENT")
+        if len(caller.space) >= SPACE:
+            code("KERN_NO_SPACE")
+        if len(self.ports) >= PORTS:
+            code("KERN_RESOURCE_SHORTAGE")
+        number = len(self.tasks)
+        child = Task(f"@{number}", self.birth(self.ports[parent.kernel].cls), parent.like)
+        self.tasks.append(child)
+        self.give(child.space, child.kernel, "send")
+        return f"task {number} name {self.give(caller.space, child.kernel, 'send')}"
 
     # Death
 
@@ -632,7 +647,7 @@ def fits(form, arg):
 
 
 def replay(wiring, script):
-    """What `machcheck replay` prints of a script."""
+    """What `machcheck replay` prints of a script, where `@N` has no leading zero."""
     machine, lines = Machine(wiring), []
     for line in script.splitlines():
         task, call, *rest = line.split()
@@ -640,6 +655,7 @@ def replay(wiring, script):
             rest = ["".join(rest)]
         else:
             rest = [int(word) if word.lstrip("-").isdigit() else word for word in rest]
-        lines.append(f"{len(lines)} {task} {machine.step(machine.numbers[task], call, *rest)}")
+        number = int(task[1:]) if task[0] == "@" else machine.numbers[task]
+        lines.append(f"{len(lines)} {task} {machine.step(number, call, *rest)}")
     lines.append(f"end events {len(lines)} ports {len(machine.ports)}")
     return "\n".join(lines) + "\n"

@@ -176,12 +176,12 @@ pub fn class_names(alloc: Global, wired: &Wired) -> Result<String, AllocError> {
     Ok(out)
 }
 
-/// The name of each task, and `?` for the number behind the last.
+/// The name of each task, and what stands for the number behind the last.
 pub fn task_names(alloc: Global, wired: &Wired) -> Result<String, AllocError> {
     let mut out = String::new(alloc);
     for task in 0..wired.tasks() + 1 {
-        let name = task_word(wired, TaskId(u32::from(task)));
-        write!(out, "{task} {name};")?;
+        let name = task_word(alloc, wired, TaskId(u32::from(task)))?;
+        write!(out, "{task} {};", name.as_str())?;
     }
     Ok(out)
 }

@@ -1,6 +1,7 @@
 //! The machine that runs what was checked.
 
-ghost use Rattle.std.specs.Prelude.{◌≡◌, IfOk, IfErr, OnErr};
+ghost use Rattle.std.specs.Prelude.{◌≡◌, ◌<◌, IfOk, IfErr, IsTrue, OnErr, is_some};
+ghost use Rattle.mrc_model.specs.Map.{get};
 ghost use Rattle.mrc_model.specs.Step.{step};
 ghost use Rattle.mrc_machine.specs.Calls.{call_of, reply_of, IsRefused, IsGranted};
 ghost use Rattle.mrc_machine.specs.Calls.{IsJudgedFirst, IsReceiving, IsGrantedOrFull};
@@ -14,7 +15,7 @@ use std::alloc::{AllocError, Global};
 use std::marker::Model;
 
 /// The machine of an accepted case, and the case. At all times the accepted facts cover its world,
-/// and the world has no breach of the policy.
+/// the world has no breach of the policy, and it has all tasks of the wiring.
 #[derive(Debug, Drop)]
 pub struct Guarded {
     confined: Confined,
@@ -68,10 +69,20 @@ impl Guarded {
         self.world.step(self.confined.wired(), caller, call)
     }
 
+    /// Whether the machine has a task of this number now, alive or ended.
+    pub fn has_task(&self, task: TaskId) -> bool
+        ensures exact { result ≡ is_some (get self.now.world.tasks task) }
+        // A wired task is there at all times.
+        ensures wired { task < (wiring_in self.now.confined).tasks → IsTrue result }
+    {
+        self.world.has_task(task)
+    }
+
     /// The world that the machine has come to.
     pub fn world(&self) -> &World
         ensures exact { result.now ≡ self.now.world }
-        // It is well formed, the accepted facts cover it, and it has no breach of the policy.
+        // It is well formed, the accepted facts cover it, it has no breach of the policy, and it has
+        // all tasks of the wiring.
         ensures kept { IsGuarded self.now.confined self.now.world }
     {
         &self.world

@@ -38,6 +38,7 @@ pub mod StepSetQlimit
 pub mod StepRename
 pub mod StepDrop
 pub mod StepTerminate
+pub mod StepCreateTask
 pub mod Step
 -- the first state
 pub mod FirstTask

@@ -9,6 +9,7 @@ use Rattle.mrc_model.proofs.Maps.{at_or_0, get-empty, get-insert_other, get-inse
 use Rattle.mrc_model.proofs.Maps.{len-insert, not_None, origin-insert, same_Some, total-empty}
 use Rattle.mrc_model.proofs.Maps.{total-insert, total-same, total-zero}
 use Rattle.mrc_model.specs.CallAllocate.{new_port}
+use Rattle.mrc_model.specs.CallCreateTask.{with_task}
 use Rattle.mrc_model.specs.Covers.{HasOneName, IsBackup, Known, owed}
 use Rattle.mrc_model.specs.Map.{empty, get, insert}
 use Rattle.mrc_model.specs.Rules.{FactSet}
@@ -24,18 +25,6 @@ use Rattle.mrc_cover.proofs.Rights.{Known-grow, MayCarry, MayHold, each_receives
 use Rattle.mrc_cover.proofs.Rights.{queue_receives}
 use Rattle.mrc_cover.proofs.Sound.{next_is_free, unknown_is_nowhere}
 use Rattle.mrc_cover.proofs.Stores.{at_space, unborn}
-
--- the world with a new task of this number, of the class of a wired task
-abbrev pub with_task : Wiring → World → ℕ → ℕ → World
-with_task W base number wired = record {
-  tasks =
-      insert base.tasks number (record { alive = true; kernel = base.store.next; class = wired });
-  store = record {
-    next = base.store.next + 1;
-    spaces = insert base.store.spaces number (insert empty 1 (SendEntry base.store.next 1));
-    ports = insert base.store.ports base.store.next (new_port (kernel_class W wired));
-  };
-}
 
 module _ (W : Wiring) (G : FactSet) (base : World) (number wired : ℕ) (kept : Kept W G base)
     (fresh : get base.tasks number
@@ -76,11 +65,11 @@ module _ (W : Wiring) (G : FactSet) (base : World) (number wired : ℕ) (kept : 
 
   -- the store after
   store_after : Store
-  store_after = (with_task W base number wired).store
+  store_after = (with_task base number wired (kernel_class W wired)).store
 
   -- the world after
   world_after : World
-  world_after = with_task W base number wired
+  world_after = with_task base number wired (kernel_class W wired)
 
   -- the class of the new kernel port
   class_new : class_of store_after base.store.next ≡ Some (kernel_class W wired)
@@ -168,8 +157,26 @@ module _ (W : Wiring) (G : FactSet) (base : World) (number wired : ℕ) (kept : 
       origin-insert base.tasks number
       (record { alive = true; kernel = base.store.next; class = wired }) t x is
 
+  -- the new kernel port's class
+  pub new_task_class : class_of (with_task base number wired (kernel_class W wired)).store
+      base.store.next ≡ Some (kernel_class W wired)
+  unfolding store_after
+  new_task_class = class_new
+
+  -- the other tasks keep their spaces
+  pub new_task_spaces : (u : ℕ) → (u ≡ number → ⊥)
+      → space (with_task base number wired (kernel_class W wired)).store u ≡ space base.store u
+  unfolding store_after
+  new_task_spaces = space_old
+
+  -- and their classes
+  pub new_task_classes : (u : ℕ) → (u ≡ number → ⊥)
+      → task_class (with_task base number wired (kernel_class W wired)) u ≡ task_class base u
+  unfolding world_after
+  new_task_classes = task_class_old
+
   -- the world is kept so with the new task
-  pub new_task_keeps : Kept W G (with_task W base number wired)
+  pub new_task_keeps : Kept W G (with_task base number wired (kernel_class W wired))
   unfolding store_after world_after own_space task
   new_task_keeps = record {
     sound = record {

@@ -4,7 +4,7 @@ use Rattle.mrc_model.specs.Map.{get}
 use Rattle.mrc_model.specs.Reply.{Allocate, Call, DeadTask, Deallocate, Destroy, ExtractRight}
 use Rattle.mrc_model.specs.Reply.{GetRefs, InsertRight, ListNames, ModRefs, MoveMember, PortType}
 use Rattle.mrc_model.specs.Reply.{ReceiveMessage, Rename, Reply, RequestNotification, SendMessage}
-use Rattle.mrc_model.specs.Reply.{SetQlimit, Terminate, Try}
+use Rattle.mrc_model.specs.Reply.{SetQlimit, Terminate, CreateTask, Try}
 use Rattle.mrc_model.specs.Rules.{FactSet}
 use Rattle.mrc_model.specs.Step.{concluded, step, try_call}
 use Rattle.mrc_model.specs.Target.{is_alive}
@@ -13,6 +13,7 @@ use Rattle.mrc_model.specs.World.{World}
 use Rattle.mrc_cover.proofs.Kept.{IsAlive, Keeps, Kept}
 use Rattle.mrc_cover.proofs.Obeyed.{Obeys}
 use Rattle.mrc_cover.proofs.StepAllocate.{allocate_keeps}
+use Rattle.mrc_cover.proofs.StepCreateTask.{create_task_keeps}
 use Rattle.mrc_cover.proofs.StepDrop.{deallocate_keeps, destroy_keeps, mod_refs_keeps}
 use Rattle.mrc_cover.proofs.StepExtractRight.{extract_right_keeps}
 use Rattle.mrc_cover.proofs.StepInsertRight.{insert_right_keeps}
@@ -53,6 +54,7 @@ module _ (W : Wiring) (G : FactSet) (obeys : Obeys W G) where
   call_keeps w t (ListNames task) alive kept = names_keeps W G w t task kept
   call_keeps w t (Rename task old new) alive kept = rename_keeps W G w t task old new kept
   call_keeps w t (Terminate task) alive kept = terminate_keeps W G obeys w t task kept
+  call_keeps w t (CreateTask task) alive kept = create_task_keeps W G obeys w t task alive kept
 
   -- a refusal changes nothing
   concluded_keeps : (w : World) (r : Try (World × Reply)) → Kept W G w → Keeps W G r

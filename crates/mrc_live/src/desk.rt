@@ -1,10 +1,12 @@
 //! What lies under the lock.
 
 ghost use Rattle.std.specs.Prelude.{◌≡◌, ◌≢◌, ◌↔◌, ◌<◌, ◌≤◌, [], ◌∷◌, ◌++◌, IfOk, IfErr};
-ghost use Rattle.std.specs.Prelude.{IfSome, IfNone, IsTrue, OnErr, OnOk, length, Err, vec_len};
+ghost use Rattle.std.specs.Prelude.{IfSome, IfNone, IsNone, IsTrue, OnErr, OnOk, length, Err};
+ghost use Rattle.std.specs.Prelude.{vec_len};
 ghost use Rattle.std.specs.Prelude.{vec_capacity};
 ghost use Rattle.mrc_confine.specs.Guards.{wiring_in};
 ghost use Rattle.mrc_live.specs.declared.desk.NotReceived.TheVariants as nothing;
+ghost use Rattle.mrc_live.specs.declared.desk.NotSeated.TheVariants.{NoSuchTask, TooManySeats};
 ghost use Rattle.mrc_live.specs.declared.desk.NotTaken.TheVariants.{JournalFull};
 ghost use Rattle.mrc_live.specs.Desks.{desk_after, seat_after, call_in, fresh, opened};
 ghost use Rattle.mrc_live.specs.Runs.{IsJournal, reply_to, world_after};
@@ -13,6 +15,7 @@ ghost use Rattle.mrc_machine.specs.declared.call.Call.TheVariants.{Receive};
 ghost use Rattle.mrc_machine.specs.declared.reply.Reply.TheVariants.{Refused};
 ghost use Rattle.mrc_model.specs.declared.Code.TheVariants.{MachRcvTimedOut};
 ghost use Rattle.mrc_model.specs.First.{first};
+ghost use Rattle.mrc_model.specs.Map.{get};
 
 use crate::event::{Event, Journal, Made};
 use crate::seat::Seat;
@@ -60,6 +63,15 @@ impl<L: Ledger> Model for Desk<L> {
     ghost invariant = { λ d.
         IsKept d.guarded d.events.items d.limit d.made d.book.total d.left.parts
         × (d.left.amount ≡ 0) };
+}
+
+/// Why there is no seat.
+#[derive(Clone, Copy, Debug, PartialEq, Eq)]
+pub enum NotSeated {
+    /// The machine has no task of that number.
+    NoSuchTask,
+    /// There are 256 seats.
+    TooManySeats,
 }
 
 /// Why a call was not taken, with the call.
@@ -184,18 +196,28 @@ impl<L: Ledger> Desk<L> {
         }
     }
 
-    /// Makes a seat, where there are fewer than 256.
-    pub(crate) fn seat(&mut self, task: TaskId) -> Option<Seat<L>>
-        ensures some { IfSome result (λ s. (s ≡ fresh self.old.made task) × (s.number < 256)) }
-        ensures none { IfNone result ((self.new ≡ self.old) × (self.old.made ≡ 256)) }
+    /// Makes a seat for a task that the machine has now, where there are fewer than 256. The tasks
+    /// below `wired` are taken to be wired, and so to be there at all times.
+    pub(crate) fn seat(&mut self, task: TaskId, wired: u16) -> Result<Seat<L>, NotSeated>
+        ensures ok { IfOk result (λ s. (s ≡ fresh self.old.made task) × (s.number < 256)) }
+        // If so many tasks are wired: exactly where the world has no task of the number.
+        ensures no_such_task { wired ≤ (wiring_in self.old.confined).tasks
+            → ((result ≡ Err NoSuchTask) ↔ IsNone (get self.old.world.tasks task)) }
+        ensures unwired { result ≡ Err NoSuchTask → wired ≤ task }
+        ensures too_many { result ≡ Err TooManySeats → self.old.made ≡ 256 }
+        ensures err { OnErr result (self.new ≡ self.old) }
     {
+        let is_there = self.guarded.has_task(task);
+        if u32::from(wired) <= task.0 && !is_there {
+            return Err(NotSeated::NoSuchTask);
+        }
         if self.made >= MOST_SEATS {
-            return None;
+            return Err(NotSeated::TooManySeats);
         }
         let share = self.left.split_off(1, 0);
         let number = self.made;
         self.made += 1;
-        Some(Seat {
+        Ok(Seat {
             number,
             task,
             calls: Vec::new(self.alloc),

@@ -8,10 +8,10 @@ mod live;
 mod office;
 mod seat;
 
-pub use desk::{Desk, NotReceived, NotTaken};
+pub use desk::{Desk, NotReceived, NotSeated, NotTaken};
 pub use event::{Event, Journal, Made};
 pub use finishing::Why;
-pub use live::{Live, NotSeated, Unfinished};
+pub use live::{Live, Unfinished};
 pub use seat::Seat;
 
 #[cfg(test)]

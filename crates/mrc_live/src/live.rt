@@ -3,7 +3,7 @@
 ghost use Rattle.std.specs.Prelude.{◌≡◌, ◌≢◌, ◌↔◌, ◌<◌, ◌≤◌, IfOk, IfErr, IfNone, IfSome, OnErr};
 ghost use Rattle.std.specs.Prelude.{OnOk, Err};
 ghost use Rattle.mrc_confine.specs.Guards.{wiring_in};
-ghost use Rattle.mrc_live.specs.declared.live.NotSeated.TheVariants.{NoSuchTask};
+ghost use Rattle.mrc_live.specs.declared.desk.NotSeated.TheVariants.{NoSuchTask};
 ghost use Rattle.mrc_live.specs.Desks.{seat_after, call_in, fresh};
 ghost use Rattle.mrc_live.specs.Runs.{IsJournal};
 ghost use Rattle.mrc_live.specs.Parts.{AllAreSeated, AreApart, EachIsItsPart};
@@ -12,7 +12,7 @@ ghost use Rattle.mrc_machine.specs.declared.reply.Reply.TheVariants.{Refused};
 ghost use Rattle.mrc_model.specs.First.{first};
 ghost use Rattle.mrc_model.specs.declared.Code.TheVariants.{MachRcvTimedOut};
 
-use crate::desk::{Desk, NotReceived, NotTaken};
+use crate::desk::{Desk, NotReceived, NotSeated, NotTaken};
 use crate::event::Journal;
 use crate::finishing::{Why, judge};
 use crate::office::{Idle, Office};
@@ -43,15 +43,6 @@ impl<L: Ledger> Model for Live<L> {
     ghost Value = { Case };
 
     ghost view = { λ l. l.confined };
-}
-
-/// Why there is no seat.
-#[derive(Clone, Copy, Debug, PartialEq, Eq)]
-pub enum NotSeated {
-    /// The system has no task of that number.
-    NoSuchTask,
-    /// There are 256 seats.
-    TooManySeats,
 }
 
 impl<L: Ledger> Live<L> {
@@ -87,18 +78,16 @@ impl<L: Ledger> Live<L> {
         &self.confined
     }
 
-    /// A seat for a task.
+    /// A seat for a task: for a wired one at any time, and for another once a call has made it.
+    /// Refused as `NoSuchTask` exactly where the machine has no task of this number at the moment
+    /// at which the lock is had; that stands at the desk, since no clause of this call can name
+    /// what lies behind the lock.
     pub fn seat<R: Wait>(&self, rt: &R, task: TaskId) -> Result<Seat<L>, NotSeated>
         ensures ok { IfOk result (λ s. (s ≡ fresh s.number task) × (s.number < 256)) }
-        ensures no_such_task { (result ≡ Err NoSuchTask) ↔ ((wiring_in self.now).tasks ≤ task) }
+        ensures no_such_task { result ≡ Err NoSuchTask → (wiring_in self.now).tasks ≤ task }
     {
-        if task.0 >= u32::from(self.confined.wired().tasks()) {
-            return Err(NotSeated::NoSuchTask);
-        }
-        match self.office.lock(rt).desk.seat(task) {
-            Some(seat) => Ok(seat),
-            None => Err(NotSeated::TooManySeats),
-        }
+        let wired = self.confined.wired().tasks();
+        self.office.lock(rt).desk.seat(task, wired)
     }
 
     /// One call of a seat, as one event. The call comes back with a refusal.

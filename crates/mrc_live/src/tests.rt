@@ -114,7 +114,7 @@ fn one_desk<L: Ledger, R: Threads + Sync>(
     requires parts { (blank.parts ≡ L.parts) × (L.parts ≡ 257) }
 {
     let mut desk = Desk::<L>::new(alloc, machine(rt, alloc)?, 3, blank);
-    let Some(mut seat) = desk.seat(TaskId(0)) else {
+    let Ok(mut seat) = desk.seat(TaskId(0), 1) else {
         return Err(AllocError);
     };
     let sent = send(alloc, &seat, &TO_2)?;

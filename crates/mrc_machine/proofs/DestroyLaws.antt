@@ -1,4 +1,4 @@
--- What is destroyed leaves each task with a space.
+-- What is destroyed leaves each task with a space, and no port is born.
 use Rattle.std.proofs.Common.{◌≡◌, ℕ, ◌<◌, ◌^◌, Option, Some, None}
 use Rattle.std.proofs.Common.{List, [], ◌∷◌, refl, sym, ◌∙◌, ap, subst}
 use Rattle.std.specs.Prelude.{IsSome}
@@ -13,27 +13,30 @@ use Rattle.mrc_model.specs.Death.{notify_backup, notify_port}
 use Rattle.mrc_model.proofs.Maps.{get-alter_all, Each-alter_all}
 use Rattle.mrc_death.specs.Plans.{Work, tell_once, tell_destroyed, carried_out, IsReady}
 use Rattle.mrc_machine.specs.Housing.{IsHoused}
-use Rattle.mrc_machine.proofs.HousingLaws.{housed_same, housed_space, each_there}
+use Rattle.mrc_machine.proofs.HousingLaws.{AreSame, housed_same, housed_space}
 
--- notices change no space
+-- notices change no space, and no port is born
 
-append_spaces : (s : Store) (p : ℕ) (m : Parcel) → (append s p m).spaces ≡ s.spaces
+then_same : (s z y : Store) → AreSame z y → AreSame s z → AreSame s y
+then_same s z y later before = (later.0 ∙ before.0, later.1 ∙ before.1)
+
+append_same : (s : Store) (p : ℕ) (m : Parcel) → AreSame s (append s p m)
 unfolding append
-append_spaces s p m = go (get s.ports p)
+append_same s p m = go (get s.ports p)
   where
-    go : (o : Option Port) → (append_to s p m o).spaces ≡ s.spaces
-    go None = refl
-    go (Some x) = refl
+    go : (o : Option Port) → AreSame s (append_to s p m o)
+    go None = (refl, refl)
+    go (Some x) = (refl, refl)
 
-backup_spaces : (s : Store) (p : ℕ) (x : Port) (b : Backup)
-    → (notify_backup s p x b).spaces ≡ s.spaces
-backup_spaces s p x NoBackup = refl
-backup_spaces s p x DeadBackup = refl
-backup_spaces s p x (BackupPort b) = append_spaces _ b _
+backup_same : (s : Store) (p : ℕ) (x : Port) (b : Backup) → AreSame s (notify_backup s p x b)
+backup_same s p x NoBackup = (refl, refl)
+backup_same s p x DeadBackup = (refl, refl)
+backup_same s p x (BackupPort b) =
+    let told = append_same _ b _ in (told.0, told.1)
 
-port_spaces : (s : Store) (p : ℕ) (o : Option Port) → (notify_port s p o).spaces ≡ s.spaces
-port_spaces s p None = refl
-port_spaces s p (Some x) = backup_spaces s p x x.backup
+port_same : (s : Store) (p : ℕ) (o : Option Port) → AreSame s (notify_port s p o)
+port_same s p None = (refl, refl)
+port_same s p (Some x) = backup_same s p x x.backup
 
 -- the same tasks have spaces after a burial
 module _ (ts : Map Task) (s : Store) (h : IsHoused record { tasks = ts; store = s }) where
@@ -46,27 +49,39 @@ module _ (ts : Map Task) (s : Store) (h : IsHoused record { tasks = ts; store = 
   buried_there dead t None has = cc
   buried_there dead t (Some x) has = refl
 
+  buried_back : (dead : List ℕ) (t : ℕ) (o : Option Space)
+      → IsSome (option_and_then (perish dead t) o)
+      → IsSome o
+  buried_back dead t None has = cc
+  buried_back dead t (Some x) has = refl
+
   housed_buried : (dead : List ℕ) → IsHoused record { tasks = ts; store = bury s dead }
   unfolding bury
   housed_buried dead = record {
     spaces = λ t has. subst (λ o. IsSome o) (sym (get-alter_all (perish dead) s.spaces t))
         (buried_there dead t (get s.spaces t) (h.spaces t has));
+    homes = λ t has. h.homes t (buried_back dead t (get s.spaces t)
+        (subst (λ o. IsSome o) (get-alter_all (perish dead) s.spaces t) has));
     tasks = h.tasks;
     owners = Each-alter_all (λ t x. t < 2 ^ 32) (λ t x. t < 2 ^ 32) (perish dead) s.spaces
         (λ t x y at is short. short) h.owners;
+    order = h.order;
+    born = h.born;
   }
 
--- the notices of a plan change no space
+-- nor do the notices of a plan
 
-told_once_spaces : (s : Store) (ps : List ℕ) → (tell_once s ps).spaces ≡ s.spaces
-told_once_spaces s [] = refl
-told_once_spaces s (p ∷ ps) =
-    told_once_spaces (append s p once_notice) ps ∙ append_spaces s p once_notice
+told_once_same : (s : Store) (ps : List ℕ) → AreSame s (tell_once s ps)
+told_once_same s [] = (refl, refl)
+told_once_same s (p ∷ ps) =
+    then_same s (append s p once_notice) (tell_once (append s p once_notice) ps)
+    (told_once_same (append s p once_notice) ps) (append_same s p once_notice)
 
-told_destroyed_spaces : (s : Store) (ps : List ℕ) → (tell_destroyed s ps).spaces ≡ s.spaces
-told_destroyed_spaces s [] = refl
-told_destroyed_spaces s (p ∷ ps) =
-    told_destroyed_spaces (notify_port s p (get s.ports p)) ps ∙ port_spaces s p (get s.ports p)
+told_destroyed_same : (s : Store) (ps : List ℕ) → AreSame s (tell_destroyed s ps)
+told_destroyed_same s [] = (refl, refl)
+told_destroyed_same s (p ∷ ps) =
+    let z = notify_port s p (get s.ports p) in
+    then_same s z (tell_destroyed z ps) (told_destroyed_same z ps) (port_same s p (get s.ports p))
 
 -- where a plan was carried out
 pub housed_carried : (ts : Map Task) (s z : Store) (plan : Option Work)
@@ -75,13 +90,14 @@ pub housed_carried : (ts : Map Task) (s z : Store) (plan : Option Work)
     → z ≡ carried_out s plan
     → IsHoused record { tasks = ts; store = z }
 unfolding carried_out
-housed_carried ts s z None h ready is = housed_same ts s z h (ap (λ (y : Store). y.spaces) is)
+housed_carried ts s z None h ready is =
+    housed_same ts s z h (ap (λ (y : Store). y.spaces) is, ap (λ (y : Store). y.next) is)
 housed_carried ts s z (Some w) h ready is =
-    let short = each_there (λ q. q < 2 ^ 32) s.spaces w.task (get s.spaces w.task) h.owners refl
-    ready.has_space in
-    let put = housed_space ts s (set_space s w.task w.space) w.task w.space h short refl in
+    let there = h.homes w.task ready.has_space in
+    let put = housed_space ts s (set_space s w.task w.space) w.task w.space h there refl in
     let after = bury (set_space s w.task w.space) w.dead in
+    let told = then_same after (tell_once after w.once)
+    (tell_destroyed (tell_once after w.once) w.lost)
+    (told_destroyed_same (tell_once after w.once) w.lost) (told_once_same after w.once) in
     housed_same ts after z (housed_buried ts (set_space s w.task w.space) put w.dead)
-    (ap (λ (y : Store). y.spaces) is
-    ∙ told_destroyed_spaces (tell_once after w.once) w.lost
-    ∙ told_once_spaces after w.once)
+    (ap (λ (y : Store). y.spaces) is ∙ told.0, ap (λ (y : Store). y.next) is ∙ told.1)

@@ -1,25 +1,31 @@
--- Each task keeps a space, and numbers stay short.
-use Rattle.std.proofs.Common.{◌≡◌, ℕ, ◌<◌, ◌^◌, Option, Some, None, refl, sym, ◌∙◌, ap, subst}
+-- Each task keeps a space, numbers stay short, and tasks stand in the order of their kernel ports.
+use Rattle.std.proofs.Common.{◌≡◌, ℕ, ◌<◌, ◌≤◌, ◌^◌, Option, Some, None, refl, sym, ◌∙◌, ap, subst}
 use Rattle.std.proofs.Common.{inl, inr, true, false, List, [], ◌∷◌, T, Bool, if◌then◌else◌, ◌+◌}
+use Rattle.std.proofs.Common.{arith}
 use Rattle.std.specs.Prelude.{IsSome, IfSome, ◌==◌}
 use Rattle.std.specs.Option.{is_some}
 use Rattle.std.proofs.lemmas.Bool.{cases_eq}
 use Rattle.mrc_model.specs.Rising.{is_rising, find_key, right_holds}
-use Rattle.mrc_model.specs.Map.{Map, empty, get, insert, Each}
-use Rattle.mrc_model.specs.World.{Space, Store, Task, World, set_space}
+use Rattle.mrc_model.specs.Map.{Map, empty, get, insert, next_key, Each}
+use Rattle.mrc_model.specs.World.{Space, Port, Parcel, Store, Task, World, set_space}
+use Rattle.mrc_model.specs.CallReceive.{first_parcel}
 use Rattle.mrc_model.specs.Target.{first_task, has_kernel, with_space, is_alive}
 use Rattle.mrc_model.proofs.Maps.{get-insert, get-insert_same, get-insert_other, get-empty}
 use Rattle.mrc_model.proofs.Maps.{Each-insert, same_Some, not_None, find_here, find_later}
+use Rattle.mrc_model.proofs.Maps.{next_key-same, below-next_key, origin-insert, find_is_low}
+use Rattle.mrc_model.proofs.Maps.{rest_rises}
+use Rattle.std.proofs.lemmas.Bool.{cases_lt}
 use Rattle.mrc_map.proofs.SameMaps.{same_map}
 use Rattle.mrc_ports.specs.Tables.{no_store}
 use Rattle.mrc_ports.proofs.TableLaws.{insert_twice}
 use Rattle.mrc_transit.specs.SendPlans.{SendPlan, sent, IsReady}
-use Rattle.mrc_transit.proofs.ApplyLaws.{sent_spaces}
-use Rattle.mrc_ports.specs.Queues.{received_by}
+use Rattle.mrc_transit.proofs.ApplyLaws.{sent_spaces, sent_next}
+use Rattle.mrc_ports.specs.Tables.{Table, table_of}
+use Rattle.mrc_ports.specs.Queues.{received_by, received_from, received_at}
 use Rattle.mrc_transit.specs.Receiving.{ReceivePlan, replaced, carried_out}
 use Rattle.std.specs.List.{AllByRecursion}
 use Rattle.mrc_machine.specs.Holdings.{AreShort}
-use Rattle.mrc_machine.specs.Housing.{IsHoused}
+use Rattle.mrc_machine.specs.Housing.{AreByKernel, IsHoused}
 
 -- what holds of each entry holds of one that is there
 pub each_there : {X : Type 0} (P : ℕ → Type 0) (m : Map X) (k : ℕ) (o : Option X)
@@ -44,20 +50,40 @@ pub housed_empty : (ts : Map Task) (s : Store)
     → IsHoused record { tasks = ts; store = s }
 housed_empty ts s no_task no_space = record {
   spaces = λ t has. let none = none_there ts t no_task in cc;
+  homes = λ t has.
+      let none = none_there s.spaces t (ap (λ (z : Store). z.spaces) no_space) in cc;
   tasks = each_none _ ts no_task;
   owners = each_none _ s.spaces (ap (λ (z : Store). z.spaces) no_space);
+  order = λ t u x y at bt low. absurd (not_None x (sym at ∙ none_there ts t no_task));
+  born = each_none _ ts no_task;
 }
 
--- where no space changes
-pub housed_same : (ts : Map Task) (s z : Store)
+-- where no space changes, and ports may be born
+pub housed_grown : (ts : Map Task) (s z : Store)
     → IsHoused record { tasks = ts; store = s }
     → z.spaces ≡ s.spaces
+    → s.next ≤ z.next
     → IsHoused record { tasks = ts; store = z }
-housed_same ts s z h same = record {
+housed_grown ts s z h same more = record {
   spaces = λ t has. subst (λ (m : Map Space). IsSome (get m t)) (sym same) (h.spaces t has);
+  homes = λ t has. h.homes t (subst (λ (m : Map Space). IsSome (get m t)) same has);
   tasks = h.tasks;
   owners = subst (Each (λ t x. t < 2 ^ 32)) (sym same) h.owners;
+  order = h.order;
+  born = λ t x at. let low = h.born t x at in omega arith;
 }
+
+-- the same spaces, and no birth
+abbrev pub AreSame : Store → Store → Type 0
+AreSame s z = (z.spaces ≡ s.spaces) × (z.next ≡ s.next)
+
+-- where no space changes, and no port is born
+pub housed_same : (ts : Map Task) (s z : Store)
+    → IsHoused record { tasks = ts; store = s }
+    → AreSame s z
+    → IsHoused record { tasks = ts; store = z }
+housed_same ts s z h same =
+    let next = same.1 in housed_grown ts s z h same.0 (omega arith)
 
 -- what was there is still there
 pub kept_there : {X : Type 0} (m : Map X) (k q : ℕ) (v : X)
@@ -70,15 +96,23 @@ kept_there m k q v has =
 -- where a task gets another space
 pub housed_space : (ts : Map Task) (s z : Store) (t : ℕ) (x : Space)
     → IsHoused record { tasks = ts; store = s }
-    → t < 2 ^ 32
+    → IsSome (get ts t)
     → z ≡ set_space s t x
     → IsHoused record { tasks = ts; store = z }
-housed_space ts s z t x h short is =
+housed_space ts s z t x h there is =
     housed_same ts (set_space s t x) z record {
       spaces = λ u has. kept_there s.spaces t u x (h.spaces u has);
+      homes = λ u has. elim (cases_eq u t) [
+        | inl same ↦ subst (λ q. IsSome (get ts q)) (sym same) there
+        | inr apart ↦ h.homes u
+            (subst (λ o. IsSome o) (get-insert_other s.spaces t x u apart) has)
+      ];
       tasks = h.tasks;
-      owners = Each-insert (λ u y. u < 2 ^ 32) s.spaces t x h.owners short;
-    } (ap (λ (y : Store). y.spaces) is)
+      owners = Each-insert (λ u y. u < 2 ^ 32) s.spaces t x h.owners
+          (each_there (λ q. q < 2 ^ 32) ts t (get ts t) h.tasks refl there);
+      order = h.order;
+      born = h.born;
+    } (ap (λ (y : Store). y.spaces) is, ap (λ (y : Store). y.next) is)
 
 -- where a message was sent
 pub housed_sent : (ts : Map Task) (s z : Store) (plan : SendPlan)
@@ -87,11 +121,22 @@ pub housed_sent : (ts : Map Task) (s z : Store) (plan : SendPlan)
     → z ≡ sent s plan
     → IsHoused record { tasks = ts; store = z }
 housed_sent ts s z plan h ready is =
-    let short = each_there (λ q. q < 2 ^ 32) s.spaces plan.sender (get s.spaces plan.sender)
-    h.owners refl ready.has_space in
     housed_same ts (set_space s plan.sender plan.taking.space) z
-    (housed_space ts s _ plan.sender plan.taking.space h short refl)
-    (ap (λ (y : Store). y.spaces) is ∙ sent_spaces s plan)
+    (housed_space ts s _ plan.sender plan.taking.space h
+    (h.homes plan.sender ready.has_space) refl) (
+      ap (λ (y : Store). y.spaces) is ∙ sent_spaces s plan,
+      ap (λ (y : Store). y.next) is ∙ sent_next s plan,
+    )
+
+-- no port is born where a message is taken off a queue
+taken_next : (t : Table) (p : ℕ) (x : Port) (o : Option (Parcel × List Parcel))
+    → (received_at t p x o).1.next ≡ t.next
+taken_next t p x None = refl
+taken_next t p x (Some got) = refl
+
+received_next : (t : Table) (p : ℕ) (o : Option Port) → (received_from t p o).1.next ≡ t.next
+received_next t p None = refl
+received_next t p (Some x) = taken_next t p x (first_parcel x.queue)
 
 -- where a message was received
 pub housed_received : (ts : Map Task) (s z : Store) (plan : ReceivePlan)
@@ -102,23 +147,27 @@ housed_received ts s z plan h is =
     subst (λ (y : Store). IsHoused record { tasks = ts; store = y }) (sym is)
     (go (get s.spaces plan.task) refl)
   where
+    same : AreSame s (received_by s plan.port).1
+    same = (refl, received_next (table_of s) plan.port (get s.ports plan.port))
+
     go : (o : Option Space)
         → get s.spaces plan.task ≡ o
         → IsHoused record {
           tasks = ts;
           store = replaced (received_by s plan.port).1 plan.task plan.space o;
         }
-    go None at = housed_same ts s (received_by s plan.port).1 h refl
+    go None at = housed_same ts s (received_by s plan.port).1 h same
     go (Some y) at =
         housed_space ts (received_by s plan.port).1 _ plan.task plan.space
-        (housed_same ts s (received_by s plan.port).1 h refl) (h.owners plan.task y at) refl
+        (housed_same ts s (received_by s plan.port).1 h same)
+        (h.homes plan.task (subst (λ o. IsSome o) (sym at) refl)) refl
 
 -- what is known of a task, where a world is open
 module _ (ts : Map Task) (s : Store) (w : World) (t : ℕ)
     (h : IsHoused record { tasks = ts; store = s })
     (v : ◌≡◌ {A = World} record { tasks = ts; store = s } w)
     (has : IsSome (get w.tasks t)) where
-  task_in : IsSome (get ts t)
+  pub task_in : IsSome (get ts t)
   task_in = subst (λ (z : World). IsSome (get z.tasks t)) (sym v) has
 
   pub has_space : IsSome (get s.spaces t)
@@ -215,43 +264,159 @@ short_owners ts s spaces h is =
     subst AreShort (sym is)
     (all_of (λ k. k < 2 ^ 32) 0 s.spaces.list s.spaces.rising (λ k v at. h.owners k v at))
 
--- where a task with a space is added
+-- a task that is added behind the others, with a kernel port that is born behind theirs
+order_kept : (ts : Map Task) (s : Store) (t : ℕ) (task : Task)
+    → IsHoused record { tasks = ts; store = s }
+    → next_key ts ≡ t
+    → task.kernel ≡ s.next
+    → (a b : ℕ) (v u : Task)
+    → get (insert ts t task) a ≡ Some v
+    → get (insert ts t task) b ≡ Some u
+    → a < b
+    → v.kernel < u.kernel
+order_kept ts s t task h next kernel a b v u at bt low =
+    elim (origin-insert ts t task a v at) [
+      | inl here ↦ elim (origin-insert ts t task b u bt) [
+        | inl also ↦ let e = here.0 in let f = also.0 in absurd (omega arith)
+        | inr old ↦
+            let e = here.0 in
+            let f = below-next_key ts b (subst (λ o. IsSome o) (sym old.1) refl) in
+            absurd (omega arith)
+      ]
+      | inr there ↦ elim (origin-insert ts t task b u bt) [
+        | inl last ↦
+            let e = h.born a v there.1 in
+            let f = ap (λ (x : Task). x.kernel) last.1 in
+            omega arith
+        | inr old ↦ h.order a b v u there.1 old.1 low
+      ]
+    ]
+
+-- where a task with a space is added, and its kernel port is born
 pub housed_task : (ts us : Map Task) (s z : Store) (t : ℕ) (x : Space) (task : Task)
     → IsHoused record { tasks = ts; store = s }
     → t < 2 ^ 32
-    → z ≡ set_space s t x
+    → next_key ts ≡ t
+    → task.kernel ≡ s.next
+    → z.spaces ≡ insert s.spaces t x
+    → z.next ≡ s.next + 1
     → us ≡ insert ts t task
     → IsHoused record { tasks = us; store = z }
-housed_task ts us s z t x task h short space_is task_is =
-    let put : IsHoused record { tasks = ts; store = set_space s t x } =
-    housed_space ts s (set_space s t x) t x h short refl in
-    let both : IsHoused record { tasks = insert ts t task; store = set_space s t x } = record {
+housed_task ts us s z t x task h short next kernel space_is more task_is =
+    let both : IsHoused record {
+      tasks = insert ts t task;
+      store = record { next = z.next; spaces = insert s.spaces t x; ports = z.ports };
+    } = record {
       spaces = λ u has. elim (cases_eq u t) [
         | inl same ↦ subst (λ o. IsSome o)
             (sym (ap (get (insert s.spaces t x)) same ∙ get-insert_same s.spaces t x)) refl
-        | inr apart ↦ put.spaces u
-            (subst (λ o. IsSome o) (get-insert_other ts t task u apart) has)
+        | inr apart ↦ kept_there s.spaces t u x
+            (h.spaces u (subst (λ o. IsSome o) (get-insert_other ts t task u apart) has))
+      ];
+      homes = λ u has. elim (cases_eq u t) [
+        | inl same ↦ subst (λ o. IsSome o)
+            (sym (ap (get (insert ts t task)) same ∙ get-insert_same ts t task)) refl
+        | inr apart ↦ kept_there ts t u task
+            (h.homes u (subst (λ o. IsSome o) (get-insert_other s.spaces t x u apart) has))
       ];
       tasks = Each-insert (λ u y. u < 2 ^ 32) ts t task h.tasks short;
-      owners = put.owners;
+      owners = Each-insert (λ u y. u < 2 ^ 32) s.spaces t x h.owners short;
+      order = order_kept ts s t task h next kernel;
+      born = Each-insert (λ u y. y.kernel < z.next) ts t task
+          (λ u y at. let low = h.born u y at in omega arith) (omega arith);
     } in
     subst (λ (w : World). IsHoused w)
-    (λ i. record { tasks = sym task_is i; store = sym space_is i }) both
+    (λ i. record {
+      tasks = sym task_is i;
+      store = record { next = z.next; spaces = sym space_is i; ports = z.ports };
+    }) both
 
 -- where a task that is there is another one
-pub housed_end : (ts us : Map Task) (s : Store) (t : ℕ) (task : Task)
+pub housed_end : (ts us : Map Task) (s : Store) (t : ℕ) (old task : Task)
     → IsHoused record { tasks = ts; store = s }
-    → IsSome (get ts t)
+    → get ts t ≡ Some old
+    → task.kernel ≡ old.kernel
     → us ≡ insert ts t task
     → IsHoused record { tasks = us; store = s }
-housed_end ts us s t task h has is =
+housed_end ts us s t old task h at kernel is =
+    let has : IsSome (get ts t) = subst (λ o. IsSome o) (sym at) refl in
+    let before : (u : ℕ) (x : Task) → get (insert ts t task) u ≡ Some x
+    → (y : Task) × (get ts u ≡ Some y) × (y.kernel ≡ x.kernel) =
+    λ u x there. elim (origin-insert ts t task u x there) [
+      | inl here ↦ (
+        old,
+        ap (get ts) here.0 ∙ at,
+        sym kernel ∙ ap (λ (y : Task). y.kernel) here.1,
+      )
+      | inr other ↦ (x, other.1, refl)
+    ] in
     let short = each_there (λ q. q < 2 ^ 32) ts t (get ts t) h.tasks refl has in
     let put : IsHoused record { tasks = insert ts t task; store = s } = record {
       spaces = λ u there. elim (cases_eq u t) [
         | inl same ↦ subst (λ q. IsSome (get s.spaces q)) (sym same) (h.spaces t has)
         | inr apart ↦ h.spaces u (subst (λ o. IsSome o) (get-insert_other ts t task u apart) there)
       ];
+      homes = λ u there. kept_there ts t u task (h.homes u there);
       tasks = Each-insert (λ u y. u < 2 ^ 32) ts t task h.tasks short;
       owners = h.owners;
+      order = λ a b v u av bu low.
+          let x = before a v av in
+          let y = before b u bu in
+          let less = h.order a b x.0 y.0 x.1 y.1 low in
+          let e = x.2 in
+          let f = y.2 in
+          omega arith;
+      born = λ u x there.
+          let y = before u x there in
+          let low = h.born u y.0 y.1 in
+          let e = y.2 in
+          omega arith;
     } in
     subst (λ (m : Map Task). IsHoused record { tasks = m; store = s }) (sym is) put
+
+-- tasks and spaces have the same numbers, so the next one too
+pub next_number : (ts : Map Task) (s : Store)
+    → IsHoused record { tasks = ts; store = s }
+    → next_key ts ≡ next_key s.spaces
+next_number ts s h = next_key-same ts s.spaces h.spaces h.homes
+
+-- the keys of a list that rises from low are not below it
+key_is_late : (low k : ℕ) (v : Task) (es : List (ℕ × Task))
+    → T (is_rising low es)
+    → find_key k es ≡ Some v
+    → low ≤ k
+key_is_late low k v es r at = elim (cases_lt k low) [
+  | inl below ↦ absurd (not_None v (sym at ∙ find_is_low low k es r below))
+  | inr above ↦ above
+]
+
+rises_by_kernel : (low from : ℕ) (es : List (ℕ × Task))
+    → T (is_rising from es)
+    → ((k : ℕ) (v : Task) → find_key k es ≡ Some v → low ≤ v.kernel)
+    → ((k q : ℕ) (v u : Task) → find_key k es ≡ Some v → find_key q es ≡ Some u → k < q
+    → v.kernel < u.kernel)
+    → AreByKernel low es
+rises_by_kernel low from [] r least order = tt
+rises_by_kernel low from (e ∷ es) r least order =
+    let rest = rest_rises from e es r in (
+      least e.0 e.1 (find_here e es),
+      rises_by_kernel (e.1.kernel + 1) (e.0 + 1) es rest
+          (λ k v at.
+          let late = key_is_late (e.0 + 1) k v es rest at in
+          let less = order e.0 k e.1 v (find_here e es) (find_later from e es k v r at)
+          (omega arith) in
+          omega arith)
+          (λ k q v u at bt low. order k q v u (find_later from e es k v r at)
+          (find_later from e es q u r bt) low),
+    )
+
+-- tasks stand in the order of their kernel ports
+pub by_kernel : (ts : Map Task) (s : Store) (es : List (ℕ × Task))
+    → IsHoused record { tasks = ts; store = s }
+    → es ≡ ts.list
+    → AreByKernel 0 es
+unfolding get
+by_kernel ts s es h is =
+    subst (AreByKernel 0) (sym is)
+    (rises_by_kernel 0 0 ts.list ts.rising (λ k v at. omega arith)
+    (λ k q v u at bt low. h.order k q v u at bt low))

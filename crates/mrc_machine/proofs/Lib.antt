@@ -1,5 +1,6 @@
 pub mod Trying
 pub mod HousingLaws
+pub mod KernelLaws
 pub mod StoreLaws
 pub mod TargetLaws
 pub mod AllocateLaws
@@ -10,6 +11,7 @@ pub mod MoveMemberLaws
 pub mod DropLaws
 pub mod DestroyLaws
 pub mod TerminateLaws
+pub mod CreateLaws
 pub mod TakeLaws
 pub mod RequestLaws
 pub mod MoveLaws

@@ -1,7 +1,8 @@
 -- What the lines of a wiring come to, from what each step of code tells.
 use Rattle.std.proofs.Common.{◌≡◌, ℕ, ◌+◌, ◌<◌, ◌≤◌, Bool, true, false, Option, Some, None, Ok, Err}
 use Rattle.std.proofs.Common.{inl, inr, refl, sym, ◌∙◌, ap, subst, arith}
-use Rattle.std.specs.Prelude.{IsSome, is_some, unwrap_or, ◌^◌, nat_le, IsOk}
+use Rattle.std.specs.Prelude.{IsSome, is_some, unwrap_or, ◌^◌, nat_le, nat_lt, IsOk}
+use Rattle.std.specs.Prelude.{if◌then◌else◌}
 use Rattle.std.proofs.lemmas.Bool.{lt-ltb, le-ltb, lt-leb, cases_eq}
 use Rattle.mrc_base.specs.Limits.{limit_of_tasks, limit_of_wired_ports}
 use Rattle.mrc_base.specs.declared.memory.OrMemory.{OrMemory}
@@ -15,19 +16,22 @@ use Rattle.mrc_model.specs.declared.FirstLine.TheVariants.{Task as TaskLine, Por
 use Rattle.mrc_model.specs.declared.FirstLine.TheVariants.{Hold as HoldLine}
 use Rattle.mrc_model.specs.declared.Code.TheVariants.{KernInvalidTask, KernInvalidName, KernNoSpace}
 use Rattle.mrc_model.specs.Rights.{is_receive}
-use Rattle.mrc_model.specs.Map.{Map, empty, get, insert, len}
+use Rattle.mrc_model.specs.Map.{Map, empty, get, insert, len, next_key}
 use Rattle.mrc_model.specs.Wiring.{Wiring}
 use Rattle.mrc_model.specs.World.{Space, Port, Store, World, space, set_space}
 use Rattle.mrc_model.specs.Reply.{Refused, Try, ◌>>=◌, ◌>>◌, check, refuse_if, or_refuse}
 use Rattle.mrc_model.specs.Space.{is_full, is_over_full, unused, place, give_item}
 use Rattle.mrc_model.specs.Target.{with_store, with_space}
 use Rattle.mrc_model.specs.CallAllocate.{new_port, birth}
+use Rattle.mrc_model.specs.CallCreateTask.{limit_of_task_numbers}
 use Rattle.std.proofs.Common.{List, ◌∷◌, length, drop, suc}
 use Rattle.std.proofs.Math.Seq.{drop-cons}
 use Rattle.std.specs.List.{slice_index_or}
 use Rattle.mrc_model.specs.declared.FirstLine.{FirstLine}
 use Rattle.mrc_model.specs.First.{First, add_line, add_lines, no_world}
-use Rattle.mrc_model.proofs.Maps.{get-insert_same, len-insert, len-empty}
+use Rattle.mrc_model.proofs.Maps.{get-insert_same, len-insert, len-empty, next_key-empty}
+use Rattle.mrc_model.proofs.Maps.{next_key-insert}
+use Rattle.mrc_map.specs.Entries.{below}
 use Rattle.mrc_names.specs.Takes.{give_right}
 use Rattle.mrc_names.proofs.GivingLaws.{over_full}
 use Rattle.mrc_ports.specs.Tables.{table_of, is_short}
@@ -39,6 +43,7 @@ use Rattle.mrc_machine.proofs.Trying.{same_Ok, not_Err, ok_bind, err_bind, ok_go
 pub start_none : (w : World) → w ≡ no_world → IsStart record { world = w; tasks = 0; ports = 0 }
 start_none w is = record {
   tasks = λ t low. absurd (omega arith);
+  next = next_key-empty w.tasks (ap (λ (z : World). z.tasks) is);
   births = ap (λ (z : World). z.store.next) is;
   few = omega (arith, len-empty w.store.ports (ap (λ (z : World). z.store.ports) is));
   few_tasks = omega arith;
@@ -53,6 +58,15 @@ start_not_short f h =
     let births : nat_le (2 ^ 48) f.world.store.next ≡ false =
     lt-leb (2 ^ 48) f.world.store.next (omega (arith, h.births, h.few_tasks, h.few_ports)) in
     rw (ports, births) refl
+
+-- the next task has the number of the next task line
+pub start_next : (f : First) (t : ℕ) → IsStart f → f.tasks < limit_of_tasks → t ≡ f.tasks
+    → below limit_of_task_numbers (next_key f.world.tasks) ≡ Some t
+start_next f t h low number =
+    let few : nat_lt f.tasks limit_of_task_numbers ≡ true =
+    lt-ltb f.tasks limit_of_task_numbers (omega arith) in
+    ap (below limit_of_task_numbers) h.next
+    ∙ ap (λ b. if b then Some f.tasks else None) few ∙ ap Some (sym number)
 
 -- one entry more at most
 len_after : {X : Type 0} (m : Map X) (k : ℕ) (x : X) → len (insert m k x) ≤ len m + 1
@@ -95,6 +109,9 @@ module _ (W : Wiring) (f : First) where
               ∙ get-insert_same f.world.tasks f.tasks _)) refl
           | inr apart ↦ kept_there f.world.tasks f.tasks u _ (h.tasks u (omega arith))
         ];
+        next = ap (λ k. next_key (insert f.world.tasks k
+            record { alive = true; kernel = f.world.store.next; class = f.tasks })) (sym h.next)
+            ∙ next_key-insert f.world.tasks _ ∙ ap (λ n. n + 1) h.next;
         births = omega (arith, h.births);
         few = omega (
           arith,
@@ -168,6 +185,7 @@ start_port f z t c h low is =
     subst (λ (v : World). IsStart record { world = v; tasks = f.tasks; ports = f.ports + 1 })
     (sym is) record {
       tasks = h.tasks;
+      next = h.next;
       births = omega (arith, h.births);
       few = omega (arith, h.few, len_after f.world.store.ports f.world.store.next (new_port c));
       few_tasks = h.few_tasks;
@@ -268,6 +286,7 @@ start_hold f z t p r h is =
     subst (λ (v : World). IsStart record { world = v; tasks = f.tasks; ports = f.ports })
     (sym (given_space f.world z t p r is)) record {
       tasks = h.tasks;
+      next = h.next;
       births = h.births;
       few = h.few;
       few_tasks = h.few_tasks;

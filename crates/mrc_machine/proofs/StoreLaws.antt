@@ -12,6 +12,7 @@ use Rattle.mrc_transit.proofs.ApplyLaws.{restart_spaces}
 use Rattle.mrc_model.specs.declared.Backup.{Backup}
 use Rattle.mrc_machine.specs.Moves.{limited}
 use Rattle.mrc_machine.specs.Requests.{with_backup}
+use Rattle.mrc_machine.proofs.HousingLaws.{AreSame}
 
 -- no space changes where a port's receipts become 0
 pub restart_if_keeps : (b : Bool) (s : Store) (p : ℕ) → (restart_if b s p).spaces ≡ s.spaces
@@ -66,12 +67,14 @@ module _ {A B : Type 0} (w : World) (z : Store) (p limit : ℕ) (r : Result A B)
       go None at = (limited_none w p limit at, (absent at).1)
       go (Some x) at = let other = (there x at).0 in absurd (ok_not_err r other err)
 
-  pub limit_keeps : z.spaces ≡ w.store.spaces
+  pub limit_keeps : AreSame w.store z
   limit_keeps = go (get w.store.ports p) refl
     where
-      go : (o : Option Port) → get w.store.ports p ≡ o → z.spaces ≡ w.store.spaces
-      go None at = ap (λ (y : Store). y.spaces) (absent at).1
-      go (Some x) at = ap (λ (y : Store). y.spaces) (there x at).1
+      go : (o : Option Port) → get w.store.ports p ≡ o → AreSame w.store z
+      go None at =
+          (ap (λ (y : Store). y.spaces) (absent at).1, ap (λ (y : Store). y.next) (absent at).1)
+      go (Some x) at =
+          (ap (λ (y : Store). y.spaces) (there x at).1, ap (λ (y : Store). y.next) (there x at).1)
 
 -- the request of a port: what code tells
 module _ {A B : Type 0} (s z : Store) (p : ℕ) (b : Backup) (r : Result A B)
@@ -85,9 +88,11 @@ module _ {A B : Type 0} (s z : Store) (p : ℕ) (b : Backup) (r : Result A B)
       go None at = (absent at).1
       go (Some y) at = (there y at).1
 
-  pub backup_keeps : z.spaces ≡ s.spaces
+  pub backup_keeps : AreSame s z
   backup_keeps = go (get s.ports p) refl
     where
-      go : (o : Option Port) → get s.ports p ≡ o → z.spaces ≡ s.spaces
-      go None at = ap (λ (y : Store). y.spaces) (absent at).1
-      go (Some y) at = ap (λ (k : Store). k.spaces) (there y at).1
+      go : (o : Option Port) → get s.ports p ≡ o → AreSame s z
+      go None at =
+          (ap (λ (y : Store). y.spaces) (absent at).1, ap (λ (y : Store). y.next) (absent at).1)
+      go (Some y) at =
+          (ap (λ (k : Store). k.spaces) (there y at).1, ap (λ (k : Store). k.next) (there y at).1)

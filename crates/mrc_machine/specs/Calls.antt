@@ -15,7 +15,7 @@ use Rattle.mrc_machine.specs.declared.call.Call.TheVariants.{ExtractRight, SetQl
 use Rattle.mrc_machine.specs.declared.call.Call.TheVariants.{Names, Rename, Send, Receive}
 use Rattle.mrc_machine.specs.declared.call.Call.TheVariants.{MoveMember, RequestNotification}
 use Rattle.mrc_machine.specs.declared.call.Call.TheVariants.{Deallocate, Destroy, ModRefs}
-use Rattle.mrc_machine.specs.declared.call.Call.TheVariants.{Terminate}
+use Rattle.mrc_machine.specs.declared.call.Call.TheVariants.{Terminate, CreateTask}
 use Rattle.mrc_machine.specs.declared.refusal.Refusal.{Refusal}
 use Rattle.mrc_machine.specs.declared.refusal.Refusal.TheVariants as why
 use Rattle.mrc_machine.specs.declared.reply.Reply.{Reply}
@@ -42,6 +42,7 @@ call_of (Deallocate task name) = model.Deallocate task name
 call_of (Destroy task name) = model.Destroy task name
 call_of (ModRefs task name right delta) = model.ModRefs task name right delta
 call_of (Terminate task) = model.Terminate task
+call_of (CreateTask task) = model.CreateTask task
 
 -- a reply
 abbrev pub reply_of : Reply → model.Reply
@@ -50,6 +51,7 @@ reply_of (told.Name name) = model.Name name
 reply_of (told.Refs refs) = model.Refs refs
 reply_of (told.Mask mask) = model.Mask mask
 reply_of (told.Names names) = model.Names names
+reply_of (told.Created task name) = model.Created task name
 reply_of (told.Message bytes) = model.Bytes bytes
 reply_of (told.TooLarge size) = model.TooLarge size
 reply_of (told.Refused code) = model.Refused code
@@ -63,6 +65,7 @@ IsRefused (told.Name name) = ⊥
 IsRefused (told.Refs refs) = ⊥
 IsRefused (told.Mask mask) = ⊥
 IsRefused (told.Names names) = ⊥
+IsRefused (told.Created task name) = ⊥
 IsRefused (told.Message bytes) = ⊥
 IsRefused (told.TooLarge size) = Unit {0}
 IsRefused (told.Refused code) = Unit {0}
@@ -84,39 +87,12 @@ IsGrantedOrFull W w t call =
 abbrev pub IsJudgedFirst : Call → Type 0
 IsJudgedFirst (Send message) = ⊥
 IsJudgedFirst (Receive name limit) = ⊥
-IsJudgedFirst (Allocate task right kind) = Unit {0}
-IsJudgedFirst (GetRefs task name right) = Unit {0}
-IsJudgedFirst (InsertRight task name right disp) = Unit {0}
-IsJudgedFirst (ExtractRight task name disp) = Unit {0}
-IsJudgedFirst (SetQlimit task name limit) = Unit {0}
-IsJudgedFirst (PortType task name) = Unit {0}
-IsJudgedFirst (Names task) = Unit {0}
-IsJudgedFirst (Rename task old new) = Unit {0}
-IsJudgedFirst (MoveMember task member set) = Unit {0}
-IsJudgedFirst (RequestNotification task name id sync notify disp) = Unit {0}
-IsJudgedFirst (Deallocate task name) = Unit {0}
-IsJudgedFirst (Destroy task name) = Unit {0}
-IsJudgedFirst (ModRefs task name right delta) = Unit {0}
-IsJudgedFirst (Terminate task) = Unit {0}
+IsJudgedFirst call = Unit {0}
 
 -- the call receives a message
 abbrev pub IsReceiving : Call → Type 0
-IsReceiving (Send message) = ⊥
 IsReceiving (Receive name limit) = Unit {0}
-IsReceiving (Allocate task right kind) = ⊥
-IsReceiving (GetRefs task name right) = ⊥
-IsReceiving (InsertRight task name right disp) = ⊥
-IsReceiving (ExtractRight task name disp) = ⊥
-IsReceiving (SetQlimit task name limit) = ⊥
-IsReceiving (PortType task name) = ⊥
-IsReceiving (Names task) = ⊥
-IsReceiving (Rename task old new) = ⊥
-IsReceiving (MoveMember task member set) = ⊥
-IsReceiving (RequestNotification task name id sync notify disp) = ⊥
-IsReceiving (Deallocate task name) = ⊥
-IsReceiving (Destroy task name) = ⊥
-IsReceiving (ModRefs task name right delta) = ⊥
-IsReceiving (Terminate task) = ⊥
+IsReceiving call = ⊥
 
 -- the call is refused by codes alone: the filter has no part in it, and there is no message
 abbrev pub IsCoded : Call → Type 0

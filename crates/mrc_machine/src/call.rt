@@ -193,4 +193,13 @@ pub enum Call {
         /// The task.
         task: u32,
     },
+    /// `task_create`: makes a task with the class of the one that is named, and its kernel port,
+    /// of the class of that one's kernel port. It has a send right to its kernel port under name
+    /// 1, and so has the caller under the least unused name. Answers `Created`. Refused, in order:
+    /// KERN_INVALID_ARGUMENT; a full space of the caller (KERN_NO_SPACE); as many ports, births or
+    /// tasks as there may be (KERN_RESOURCE_SHORTAGE).
+    CreateTask {
+        /// The task that it is made from.
+        task: u32,
+    },
 }

@@ -7,7 +7,32 @@ use crate::reply::Reply;
 use crate::room::Room;
 use std::alloc::{AllocError, Global};
 
-/// The equal call, where calls of these variants have numbers alone.
+/// All variants of calls that have numbers alone, with their fields, behind what is handed on to a
+/// macro.
+macro_rules! with_fields {
+    ($macro:ident, $($given:expr),*) => {
+        $macro!($($given,)*
+            Receive { name, limit }
+            Allocate { task, right, kind }
+            GetRefs { task, name, right }
+            InsertRight { task, name, right, disp }
+            ExtractRight { task, name, disp }
+            SetQlimit { task, name, limit }
+            PortType { task, name }
+            Names { task }
+            Rename { task, old, new }
+            MoveMember { task, member, set }
+            RequestNotification { task, name, id, sync, notify, disp }
+            Deallocate { task, name }
+            Destroy { task, name }
+            ModRefs { task, name, right, delta }
+            Terminate { task }
+            CreateTask { task }
+        )
+    };
+}
+
+/// The equal call, where it is no message.
 macro_rules! equal_call {
     ($call:expr, $($variant:ident { $($field:ident),* })*) => {
         match $call {
@@ -17,7 +42,7 @@ macro_rules! equal_call {
     };
 }
 
-/// Whether calls are equal, where those of these variants have numbers alone.
+/// Whether calls are equal.
 macro_rules! are_equal_calls {
     ($call:expr, $other:expr, $($variant:ident { $($field:ident),* })*) => {
         match $call {
@@ -44,46 +69,14 @@ impl Call {
         if let Call::Send(message) = self {
             return Ok(Call::Send(message.copy(alloc)?));
         }
-        Ok(equal_call!(self,
-            Receive { name, limit }
-            Allocate { task, right, kind }
-            GetRefs { task, name, right }
-            InsertRight { task, name, right, disp }
-            ExtractRight { task, name, disp }
-            SetQlimit { task, name, limit }
-            PortType { task, name }
-            Names { task }
-            Rename { task, old, new }
-            MoveMember { task, member, set }
-            RequestNotification { task, name, id, sync, notify, disp }
-            Deallocate { task, name }
-            Destroy { task, name }
-            ModRefs { task, name, right, delta }
-            Terminate { task }
-        ))
+        Ok(with_fields!(equal_call, self))
     }
 
     /// Whether the calls are equal.
     pub fn same(&self, other: &Call) -> bool
         ensures { IsTrue result ↔ (self.now ≡ other.now) }
     {
-        are_equal_calls!(self, other,
-            Receive { name, limit }
-            Allocate { task, right, kind }
-            GetRefs { task, name, right }
-            InsertRight { task, name, right, disp }
-            ExtractRight { task, name, disp }
-            SetQlimit { task, name, limit }
-            PortType { task, name }
-            Names { task }
-            Rename { task, old, new }
-            MoveMember { task, member, set }
-            RequestNotification { task, name, id, sync, notify, disp }
-            Deallocate { task, name }
-            Destroy { task, name }
-            ModRefs { task, name, right, delta }
-            Terminate { task }
-        )
+        with_fields!(are_equal_calls, self, other)
     }
 }
 
@@ -98,6 +91,10 @@ impl Reply {
             Reply::Refs(refs) => Reply::Refs(*refs),
             Reply::Mask(mask) => Reply::Mask(*mask),
             Reply::Names(names) => Reply::Names(names.fill(room.names)),
+            Reply::Created { task, name } => Reply::Created {
+                task: *task,
+                name: *name,
+            },
             Reply::Message(bytes) => Reply::Message(bytes.fill(room.bytes)),
             Reply::TooLarge(size) => Reply::TooLarge(*size),
             Reply::Refused(code) => Reply::Refused(*code),
@@ -116,6 +113,13 @@ impl Reply {
             (Reply::Refs(refs), Reply::Refs(other)) => *refs == *other,
             (Reply::Mask(mask), Reply::Mask(other)) => *mask == *other,
             (Reply::Names(names), Reply::Names(other)) => names.same(other),
+            (
+                Reply::Created { task, name },
+                Reply::Created {
+                    task: other,
+                    name: second,
+                },
+            ) => task.0 == other.0 && *name == *second,
             (Reply::Message(bytes), Reply::Message(other)) => bytes.same(other),
             (Reply::TooLarge(size), Reply::TooLarge(other)) => *size == *other,
             (Reply::Refused(code), Reply::Refused(other)) => *code == *other,

@@ -58,7 +58,9 @@ impl Start {
             return Err(OrMemory::Fault(Code::KernInvalidTask));
         }
         let class = ClassId(wired.ports() + self.tasks);
-        let state = self.state.add_task(TaskId(u32::from(self.tasks)), class)?;
+        let task = TaskId(u32::from(self.tasks));
+        let mut state = self.state;
+        state.begin(task, task, class)?;
         Ok(Start {
             state,
             tasks: self.tasks + 1,

@@ -4,6 +4,7 @@
 mod allocate;
 mod call;
 mod copies;
+mod create_task;
 mod dropping;
 mod extract_right;
 mod first;

@@ -1,5 +1,6 @@
 //! What the machine answers.
 
+use mrc_base::TaskId;
 use mrc_model::{Code, Denied};
 use mrc_names::Listing;
 use mrc_transit::Written;
@@ -17,6 +18,13 @@ pub enum Reply {
     Mask(u32),
     /// Names with their rights, ascending; at most 4,096.
     Names(Listing),
+    /// The number of the task that was made, and the caller's name for its kernel port.
+    Created {
+        /// The task.
+        task: TaskId,
+        /// The name.
+        name: u32,
+    },
     /// A received message, as its bytes; at most 8,192.
     Message(Written),
     /// The message is larger than the limit, and nothing changed: it stays queued. So many bytes it

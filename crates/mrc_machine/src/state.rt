@@ -2,12 +2,12 @@
 
 ghost use Rattle.std.specs.Prelude.{◌≡◌, false, map, option_map, Some, None, Ok, Err, IfOk};
 ghost use Rattle.std.specs.Prelude.{OnOk, OnErr, IfSome, IsSome};
-ghost use Rattle.std.specs.Prelude.{IfErr, is_some, ◌<◌};
+ghost use Rattle.std.specs.Prelude.{IfErr, is_some, nat_lt};
 ghost use Rattle.mrc_model.specs.declared.Entry.TheVariants.{Receive as ReceiveEntry};
 ghost use Rattle.mrc_model.specs.declared.Entry.TheVariants.{Send as SendEntry};
-ghost use Rattle.mrc_base.specs.Limits.{limit_of_tasks};
+ghost use Rattle.mrc_model.specs.CallCreateTask.{limit_of_task_numbers};
 ghost use Rattle.mrc_model.specs.Rights.{is_receive};
-ghost use Rattle.mrc_model.specs.Map.{empty, get, insert, len};
+ghost use Rattle.mrc_model.specs.Map.{empty, get, insert, len, next_key};
 ghost use Rattle.mrc_model.specs.World.{space, task_class, Task as TTask};
 ghost use Rattle.mrc_model.specs.Space.{is_full, unused, restart_if};
 ghost use Rattle.mrc_model.specs.Reply.{Refused};
@@ -19,14 +19,17 @@ ghost use Rattle.mrc_names.specs.Listings.{entry_name};
 ghost use Rattle.mrc_ports.specs.Tables.{table_of, store_of, with_birth, is_short};
 ghost use Rattle.mrc_model.specs.Breach.{holdings};
 ghost use Rattle.mrc_machine.specs.Holdings.{holdings_of};
-ghost use Rattle.mrc_machine.specs.Housing.{target_of};
+ghost use Rattle.mrc_machine.specs.Housing.{AreByKernel, kernel_place, target_of};
 ghost use Rattle.mrc_names.specs.Refusals.{IsRefusal};
 ghost use Rattle.mrc_machine.specs.Moves.{moved, limited};
 ghost use Rattle.mrc_machine.specs.Requests.{with_backup};
 ghost use Rattle.mrc_machine.specs.Endings.{with_end};
 ghost use Rattle.mrc_model.specs.Destroyed.{destroyed};
 ghost use Rattle.mrc_death.specs.Taking.{destroyed_of};
-ghost use Rattle.mrc_machine.specs.Starts.{with_task, with_right};
+ghost use Rattle.mrc_machine.specs.Starts.{with_right};
+ghost use Rattle.mrc_machine.specs.Housing.{kernel_class_of};
+ghost use Rattle.mrc_model.specs.CallCreateTask.{with_task};
+ghost use Rattle.mrc_map.specs.Entries.{below};
 
 use crate::holding::{Holding, spaces_holdings};
 use crate::task::Task;
@@ -39,7 +42,8 @@ use mrc_ports::Store;
 use std::alloc::{AllocError, Global};
 use std::marker::Model;
 
-/// All tasks, and the store with their spaces and all ports. Each task has a space.
+/// All tasks, and the store with their spaces and all ports. Each task has a space, and of two tasks
+/// the later one's kernel port was born later.
 #[derive(Debug, Drop)]
 pub(crate) struct State {
     pub(crate) alloc: Global,
@@ -60,16 +64,31 @@ impl Model for State {
     ghost invariant = { λ a. IsHoused record { tasks = a.tasks; store = a.store } };
 }
 
-/// The first of these tasks that is alive and has this kernel port.
+/// How many of these tasks have an earlier kernel port.
+fn kernel_place(tasks: &[(u64, Task)], port: PortId) -> usize
+    requires { AreByKernel 0 tasks.now }
+    ensures { result ≡ kernel_place port tasks.now }
+{
+    let number = port.0;
+    tasks.partition_point(
+        |task: &(u64, Task)| -> bool
+            ensures { result ≡ nat_lt task.now.1.kernel number }
+        { task.1.kernel().0 < number },
+    )
+}
+
+/// The first of these tasks that is alive and has this kernel port. They stand in the order of
+/// their kernel ports, so not all are looked at.
 fn first_task(tasks: &[(u64, Task)], port: PortId) -> Option<u64>
+    requires { AreByKernel 0 tasks.now }
     ensures { result ≡ first_task port tasks.now }
 {
-    for task in tasks {
-        if task.1.has_kernel(port) {
-            return Some(task.0);
-        }
+    let task = tasks.get(kernel_place(tasks, port))?;
+    if task.1.has_kernel(port) {
+        Some(task.0)
+    } else {
+        None
     }
-    None
 }
 
 /// The port of an entry's send right.
@@ -114,6 +133,13 @@ impl State {
             Some(found) => found.is_alive(),
             None => false,
         }
+    }
+
+    /// Whether there is a task of this number, alive or ended.
+    pub(crate) fn has_task(&self, task: TaskId) -> bool
+        ensures exact { result ≡ is_some (get self.now.tasks task) }
+    {
+        self.tasks.get(u64::from(task.0)).is_some()
     }
 
     /// The wired task whose class a task has.
@@ -299,6 +325,50 @@ impl State {
         }
     }
 
+    /// The class of the kernel port of a task, if that is live.
+    pub(crate) fn kernel_class(&self, task: TaskId) -> Option<ClassId>
+        requires { IsSome (get self.now.tasks task) }
+        ensures { result ≡ kernel_class_of self.now task }
+    {
+        match self.store.ports().get(self.kernel(task)) {
+            Some(port) => Some(port.class()),
+            None => None,
+        }
+    }
+
+    /// The number that the next task gets. None where as many tasks have been as there may be.
+    pub(crate) fn next_task(&self) -> Option<TaskId>
+        ensures { result ≡ below limit_of_task_numbers (next_key self.now.tasks) }
+    {
+        self.store.next_task()
+    }
+
+    /// The next task, alive, of the class of a wired task, whose kernel port is new, and of this
+    /// class. It has a send right to its kernel port under name 1.
+    pub(crate) fn begin(
+        &mut self,
+        number: TaskId,
+        wired: TaskId,
+        class: ClassId,
+    ) -> Result<(), AllocError>
+        requires next { below limit_of_task_numbers (next_key self.old.tasks) ≡ Some number }
+        requires short { is_short (table_of self.old.store) ≡ false }
+        ensures ok { OnOk result (self.new ≡ with_task self.old number wired class) }
+        ensures err { OnErr result (self.new ≡ self.old) }
+    {
+        let kernel = self.next_port();
+        let space = self.first_space(kernel)?;
+        let key = u64::from(number.0);
+        self.tasks.insert(key, Task::new(kernel, wired))?;
+        match self.store.add_task(space, class) {
+            Ok(_) => Ok(()),
+            Err(_) => {
+                self.tasks.remove(key);
+                Err(AllocError)
+            }
+        }
+    }
+
     /// The task is no longer alive. Nothing where there is none of this number.
     pub(crate) fn end(&mut self, task: TaskId)
         ensures { self.new ≡ with_end self.old task (get self.old.tasks task) }
@@ -375,22 +445,6 @@ impl State {
             Err(OrMemory::Memory) => Err(AllocError),
             Err(OrMemory::Fault(_)) => unreachable!(),
         }
-    }
-
-    /// The next task, alive, whose kernel port is new, and of this class. It has a send right to
-    /// its kernel port under name 1.
-    pub(crate) fn add_task(mut self, task: TaskId, class: ClassId) -> Result<State, AllocError>
-        requires short { is_short (table_of self.store) ≡ false }
-        requires wired { task < limit_of_tasks }
-        ensures { IfOk result (λ next. next ≡ with_task self task class) }
-    {
-        let kernel = self.next_port();
-        let space = self.first_space(kernel)?;
-        self.store.add_space(task, space)?;
-        self.tasks
-            .insert(u64::from(task.0), Task::new(kernel, task))?;
-        self.new_port(class)?;
-        Ok(self)
     }
 
     /// Whether a live port has this number.

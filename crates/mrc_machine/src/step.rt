@@ -221,6 +221,10 @@ impl State {
                     Err(code) => Err(OrMemory::Fault(code)),
                 }
             }
+            Call::CreateTask { task } => {
+                let (child, name) = self.create_task(caller, task)?;
+                Ok(Reply::Created { task: child, name })
+            }
             Call::Rename { task, old, new } => {
                 self.rename(caller, task, old, new)?;
                 Ok(Reply::Done)

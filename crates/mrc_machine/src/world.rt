@@ -1,7 +1,7 @@
 //! The machine as its users see it: its first state, its steps, and what it shows.
 
-ghost use Rattle.std.specs.Prelude.{◌≡◌, IfOk, OnErr};
-ghost use Rattle.mrc_model.specs.Map.{len};
+ghost use Rattle.std.specs.Prelude.{◌≡◌, IfOk, OnErr, is_some};
+ghost use Rattle.mrc_model.specs.Map.{get, len};
 ghost use Rattle.mrc_model.specs.First.{first};
 ghost use Rattle.mrc_model.specs.Step.{step};
 ghost use Rattle.mrc_wiring.specs.Table.{wiring_of};
@@ -75,6 +75,14 @@ impl World {
             Err(OrMemory::Fault(refusal)) => Ok(refusal.reply()),
             Err(OrMemory::Memory) => Err(AllocError),
         }
+    }
+
+    /// Whether there is a task of this number, alive or ended: a wired one, or one that a call has
+    /// made.
+    pub fn has_task(&self, task: TaskId) -> bool
+        ensures exact { result ≡ is_some (get self.now.tasks task) }
+    {
+        self.state.has_task(task)
     }
 
     /// What tasks hold, by task and name: receive and send each once for an entry that has them,

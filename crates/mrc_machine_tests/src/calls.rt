@@ -115,6 +115,51 @@ fn wrong_call(number: u8, task: u32) -> Call {
     }
 }
 
+const MAKING: &str = "l task_create 7 -> refused KERN_INVALID_ARGUMENT
+l task_create 2 -> task 2 name 3
+@2 names 1 -> names 1:65536
+@2 allocate 1 receive -> name 2
+l extract_right 3 2 20 -> name 4
+l task_terminate 2 -> done
+f names 1 -> dead task
+@2 type 1 2 -> type 131072
+@3 names 1 -> dead task
+l task_terminate 3 -> done
+l type 1 4 -> type 1048576
+@2 names 1 -> dead task
+l task_create 3 -> refused KERN_INVALID_ARGUMENT
+l task_create 1 -> task 3 name 5";
+
+// A task that is made has its kernel port alone, and outlives the one that it was made from; the
+// caller's name for its kernel port lets it act on the task. No number is given twice.
+#[test]
+fn a_task_is_made(rt: HostRuntime) -> Result<(), Fail> {
+    let mut machine = started(rt.alloc(), TWO)?;
+    run(&rt, &mut machine, MAKING);
+    assert_eq!(rt; machine.live_ports(), 2);
+    Ok(())
+}
+
+const OFFSPRING: &str = "l task_create 2 -> task 2 name 3
+l insert_right 3 9 3 19 -> refused KERN_RIGHT_EXISTS
+@2 task_create 1 -> task 3 name 2
+@3 task_create 1 -> task 4 name 2
+@2 task_terminate 1 -> done
+@3 names 1 -> names 1:65536 2:65536
+@3 task_terminate 2 -> done
+@4 names 1 -> dead task
+@3 type 1 2 -> type 1048576
+l type 1 3 -> type 1048576";
+
+// A task that is made makes tasks itself; each outlives the one that it was made from.
+#[test]
+fn tasks_make_tasks(rt: HostRuntime) -> Result<(), Fail> {
+    let mut machine = started(rt.alloc(), TWO)?;
+    run(&rt, &mut machine, OFFSPRING);
+    assert_eq!(rt; machine.live_ports(), 3);
+    Ok(())
+}
+
 /// Each of the thirteen calls, on this task, has this reply.
 fn assert_each(
     rt: &(impl Abort + AllocGlobal),

@@ -32,6 +32,8 @@ a allocate 1 set -> refused KERN_NO_SPACE
 a insert_right 1 5000 2 21 -> refused KERN_NO_SPACE
 a insert_right 1 2 2 20 -> refused KERN_NO_SPACE
 a extract_right 1 2 20 -> refused KERN_NO_SPACE
+a task_create 1 -> refused KERN_NO_SPACE
+a task_create 9999 -> refused KERN_INVALID_ARGUMENT
 a rename 1 4096 5000 -> done";
 
 // A full space takes no new name; what else is wrong is told first.
@@ -103,7 +105,9 @@ fn nearly_all(alloc: Global) -> Result<Machine, Fail> {
 }
 
 const LAST: &str = "t63 allocate 1 receive -> name 1024
-t63 allocate 1 receive -> refused KERN_RESOURCE_SHORTAGE";
+t63 allocate 1 receive -> refused KERN_RESOURCE_SHORTAGE
+t63 task_create 1 -> refused KERN_RESOURCE_SHORTAGE
+t0 task_create 1 -> refused KERN_NO_SPACE";
 
 const SHORT: &str = "t0 allocate 1 receive -> refused KERN_NO_SPACE
 t63 allocate 1 set -> name 1025";

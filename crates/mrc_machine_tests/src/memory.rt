@@ -130,6 +130,21 @@ fn memory_runs_out(rt: HostRuntime) -> Result<(), Fail> {
     Ok(())
 }
 
+const MAKING: &str = "l task_create 2 -> task 2 name 3
+@2 allocate 1 receive -> name 2
+l task_create 3 -> task 3 name 4
+@2 names 1 -> names 1:65536 2:131072
+l task_terminate 4 -> done
+l names 1 -> names 1:65536 2:65536 3:65536 4:1048576";
+
+// The same of calls that make tasks, and that end one of them.
+#[test]
+fn memory_runs_out_as_tasks_are_made(rt: HostRuntime) -> Result<(), Fail> {
+    let mut machine = started(rt.alloc(), TWO)?;
+    run_short(&rt, &mut machine, MAKING);
+    Ok(())
+}
+
 const GOING: &str = "l allocate 1 receive -> name 5
 l request_notification 1 5 69 0 2 21 -> name 0
 l request_notification 1 5 69 0 2 21 -> name 6

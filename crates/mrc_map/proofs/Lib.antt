@@ -4,3 +4,4 @@ pub mod Places
 pub mod Values
 pub mod Filtered
 pub mod MemberLaws
+pub mod NextKeys

@@ -42,3 +42,7 @@ pub record IsMissingAt {X : Type 0} (k : ℕ) (es : List (ℕ × X)) (i : ℕ) :
   pub place : i ≡ place k es
   pub within : i ≤ length es
   pub none : at_key k (slice_get es i) ≡ None
+
+-- the number, where it is below the limit
+abbrev pub below : ℕ → ℕ → Option ℕ
+below limit k = if nat_lt k limit then Some k else None

@@ -5,8 +5,8 @@ ghost use Rattle.std.specs.Option.{option_copied};
 ghost use Rattle.std.specs.Fn.{CalledAt};
 ghost use Rattle.std.specs.List.Retain.{IsFiltered};
 ghost use Rattle.std.specs.List.{slice_set, slice_index_or};
-ghost use Rattle.mrc_model.specs.Map.{empty, get, insert, remove, len};
-ghost use Rattle.mrc_map.specs.Entries.{IsRising, place, IsAt, IsMissingAt};
+ghost use Rattle.mrc_model.specs.Map.{empty, get, insert, remove, len, next_key};
+ghost use Rattle.mrc_map.specs.Entries.{IsRising, place, IsAt, IsMissingAt, below};
 
 use std::alloc::{AllocError, Global};
 use std::marker::Model;
@@ -51,6 +51,13 @@ fn look<X>(entries: &[(u64, X)], key: u64) -> Result<usize, usize>
     }
 }
 
+/// The key, where it is below the limit.
+fn below(key: u64, limit: u64) -> Option<u64>
+    ensures { result ≡ below limit key }
+{
+    if key < limit { Some(key) } else { None }
+}
+
 impl<X> Map<X> {
     /// The map with no entry.
     pub fn new(alloc: Global) -> Map<X>
@@ -88,6 +95,19 @@ impl<X> Map<X> {
             Ok(place) => Some(&self.entries[place].1),
             Err(_) => None,
         }
+    }
+
+    /// One above the last key, or 0 where there is none; if that is below the limit.
+    pub fn next_key(&self, limit: u64) -> Option<u64>
+        ensures { result ≡ below limit (next_key self.now) }
+    {
+        let Some(last) = self.entries().last() else {
+            return below(0, limit);
+        };
+        if limit <= last.0 {
+            return None;
+        }
+        below(last.0 + 1, limit)
     }
 
     /// Puts the value at the key, in place of the one that stands there.

@@ -26,20 +26,19 @@ use Rattle.mrc_model.specs.declared.Backup.TheVariants.{Port as BackupPort}
 use Rattle.mrc_model.specs.declared.FirstLine.{FirstLine}
 use Rattle.mrc_model.specs.declared.FirstLine.TheVariants.{Task as TaskLine, Port as PortLine}
 use Rattle.mrc_model.specs.declared.FirstLine.TheVariants.{Hold as HoldLine}
-use Rattle.mrc_model.specs.Map.{Map, empty, get, insert, remove, alter_all, keys}
+use Rattle.mrc_model.specs.Map.{Map, empty, get, insert, remove, alter_all, keys, next_key}
 use Rattle.mrc_model.specs.Message.{Message, Arg, Data, Ports}
 use Rattle.mrc_model.specs.Rights.{is_receive, is_once}
-use Rattle.mrc_model.specs.Wiring.{Wiring, Shape}
+use Rattle.mrc_model.specs.Wiring.{Wiring, Shape, kernel_class}
 use Rattle.mrc_model.specs.World.{Space, Store, World, Port, Parcel, QueuedArg, QueuedData}
 use Rattle.mrc_model.specs.World.{QueuedItems, Held}
 use Rattle.mrc_model.specs.World.{space, set_space, set_port, port_null, port_dead}
 use Rattle.mrc_model.specs.Reply.{Reply, Refused, DeadTask, Try, Call}
 use Rattle.mrc_model.specs.declared.Code.TheVariants.{KernInvalidValue, KernUrefsOverflow}
 use Rattle.mrc_model.specs.Reply.{SendMessage, ReceiveMessage, Allocate, Deallocate, Destroy}
-use Rattle.mrc_model.specs.Reply.{ModRefs, GetRefs}
+use Rattle.mrc_model.specs.Reply.{ModRefs}
 use Rattle.mrc_model.specs.Reply.{InsertRight, ExtractRight, MoveMember, RequestNotification}
-use Rattle.mrc_model.specs.Reply.{SetQlimit, PortType}
-use Rattle.mrc_model.specs.Reply.{ListNames, Rename, Terminate}
+use Rattle.mrc_model.specs.Reply.{SetQlimit, Rename, Terminate, CreateTask}
 use Rattle.mrc_model.specs.Space.{send_entry, dead_entry, take_from, put_entry, restart_port}
 use Rattle.mrc_model.specs.Space.{restart, restart_if}
 use Rattle.mrc_model.specs.Space.{take, unused, place, give_item}
@@ -72,13 +71,14 @@ use Rattle.mrc_model.specs.CallRequestNotification.{call_request_notification}
 use Rattle.mrc_model.specs.CallSetQlimit.{call_set_qlimit}
 use Rattle.mrc_model.specs.CallRename.{is_used, call_rename}
 use Rattle.mrc_model.specs.CallTerminate.{call_terminate}
+use Rattle.mrc_model.specs.CallCreateTask.{with_task, call_create_task}
 use Rattle.mrc_model.specs.Step.{try_call, concluded, step}
 use Rattle.mrc_model.specs.First.{First, no_world, add_task, add_line, add_lines, built, world_of}
 use Rattle.mrc_model.specs.First.{first}
 use Rattle.mrc_model.proofs.Maps.{same_Some, not_None, get-insert_same, get-insert_other, get-empty}
 use Rattle.mrc_model.proofs.Maps.{get-alter_all}
 use Rattle.mrc_model.proofs.Tries.{Gives, gives_ok, gives_err, bind, bind_, checked, not_refused}
-use Rattle.mrc_model.proofs.Tries.{found}
+use Rattle.mrc_model.proofs.Tries.{found, any_of, past}
 use Rattle.mrc_model.proofs.Spaces.{get-unused}
 use Rattle.mrc_model.proofs.KeptSpaces.{empty_is_space, insert_is_space, put_is_space, new_is_space}
 use Rattle.mrc_model.proofs.KeptSpaces.{place_is_space}
@@ -252,9 +252,6 @@ destroyed_kept s (ReceiveOf t n) all = go (get (space s t) n) refl
 
 abbrev Ends : Try (World × Reply) → Type 0
 Ends r = Gives (λ (end : World × Reply). AreSpaces end.0.store) r
-
-any_of : {A : Type 0} (m : Try A) → Gives (λ _. Unit {0}) m
-any_of m = record { holds = λ a e. tt }
 
 same_entry : (w : World) (u n : ℕ) → Gives (λ e. get (space w.store u) n ≡ Some e) (entry_at w u n)
 unfolding entry_at
@@ -587,22 +584,6 @@ mod_refs_kept w t task name right delta all =
     bind _ _ (change_refs_may e right delta)
     (λ c may. gives_ok (changed_kept w.store u name e c all at may))))
 
--- the calls that change nothing
-
-get_refs_kept : (w : World) (t task name : ℕ) (right : Right) → AreSpaces w.store
-    → Ends (call_get_refs w t task name right)
-unfolding call_get_refs
-get_refs_kept w t task name right all =
-    bind _ _ (any_of _) (λ u _. bind _ _ (any_of _) (λ e _. gives_ok all))
-
-type_kept : (w : World) (t task name : ℕ) → AreSpaces w.store → Ends (call_type w t task name)
-unfolding call_type
-type_kept w t task name all = bind _ _ (any_of _) (λ u _. bind _ _ (any_of _) (λ e _. gives_ok all))
-
-names_kept : (w : World) (t task : ℕ) → AreSpaces w.store → Ends (call_names w t task)
-unfolding call_names
-names_kept w t task all = bind _ _ (any_of _) (λ u _. gives_ok all)
-
 -- rights between tasks
 
 insert_right_kept : (w : World) (t task name right : ℕ) (x : Disp) → AreSpaces w.store
@@ -737,15 +718,40 @@ terminate_kept w t task all =
     bind _ _ (any_of _) (λ u _.
     bind _ _ (any_of _) (λ x _. gives_ok (destroyed_kept w.store (TaskOf u x.kernel) all)))
 
+-- a new task
+
+with_task_kept : (w : World) (number class kernel : ℕ) → AreSpaces w.store
+    → AreSpaces (with_task w number class kernel).store
+with_task_kept w number class kernel all =
+    let s = w.store in
+    let x : Space = insert empty 1 (SendEntry s.next 1) in
+    let is = new_is_space empty 1 s.next Send empty_is_space (get-empty 1) in
+    same_kept (set_space s number x) (with_task w number class kernel).store refl
+    (set_space_kept s number x all is)
+
+create_task_kept : (w : World) (t task : ℕ) → AreSpaces w.store → Ends (call_create_task w t task)
+unfolding call_create_task
+create_task_kept w t task all =
+    bind _ _ (any_of _) (λ u _.
+    bind _ _ (any_of _) (λ x _.
+    bind _ _ (any_of _) (λ c _.
+    bind_ _ _ (any_of _) (λ _ _.
+    bind_ _ _ (any_of _) (λ _ _.
+    gives_ok (give_kept _ t (RightItem w.store.next Send)
+    (with_task_kept w (next_key w.tasks) x.class c all)))))))
+
+nothing_changed : (w : World) (reply : Reply) → AreSpaces w.store → Ends (Ok (w, reply))
+nothing_changed w reply all = gives_ok all
+
 call_kept : (W : Wiring) (w : World) (t : ℕ) (call : Call) → AreSpaces w.store
     → Ends (try_call W w t call)
+unfolding call_get_refs call_type call_names
 call_kept W w t (SendMessage m) all = send_kept W w t m all
 call_kept W w t (ReceiveMessage name limit) all = receive_kept w t name limit all
 call_kept W w t (Allocate task right kind) all = allocate_kept W w t task right kind all
 call_kept W w t (Deallocate task name) all = deallocate_kept w t task name all
 call_kept W w t (Destroy task name) all = destroy_call_kept w t task name all
 call_kept W w t (ModRefs task name right delta) all = mod_refs_kept w t task name right delta all
-call_kept W w t (GetRefs task name right) all = get_refs_kept w t task name right all
 call_kept W w t (InsertRight task name right disp) all =
     insert_right_kept w t task name right disp all
 call_kept W w t (ExtractRight task name disp) all = extract_right_kept w t task name disp all
@@ -753,10 +759,11 @@ call_kept W w t (MoveMember task member set) all = move_member_kept w t task mem
 call_kept W w t (RequestNotification task name id sync notify disp) all =
     request_kept W w t task name id sync notify disp all
 call_kept W w t (SetQlimit task name limit) all = qlimit_kept w t task name limit all
-call_kept W w t (PortType task name) all = type_kept w t task name all
-call_kept W w t (ListNames task) all = names_kept w t task all
 call_kept W w t (Rename task old new) all = rename_kept w t task old new all
 call_kept W w t (Terminate task) all = terminate_kept w t task all
+call_kept W w t (CreateTask task) all = create_task_kept w t task all
+-- each other one changes nothing
+call_kept W w t call all = search (past, nothing_changed)
 
 -- each step
 pub step_kept : (W : Wiring) (w : World) (t : ℕ) (call : Call) → AreSpaces w.store
@@ -782,12 +789,7 @@ no_world_kept = record {
 
 add_task_kept : (W : Wiring) (f : First) → AreSpaces f.world.store
     → AreSpaces (add_task W f).world.store
-add_task_kept W f all =
-    let s = f.world.store in
-    let x : Space = insert empty 1 (SendEntry s.next 1) in
-    let is = new_is_space empty 1 s.next Send empty_is_space (get-empty 1) in
-    same_kept (set_space s f.tasks x) (add_task W f).world.store refl
-    (set_space_kept s f.tasks x all is)
+add_task_kept W f all = with_task_kept f.world f.tasks f.tasks (kernel_class W f.tasks) all
 
 add_line_kept : (W : Wiring) (f : First) (l : FirstLine) → AreSpaces f.world.store
     → Gives (λ (g : First). AreSpaces g.world.store) (add_line W f l)

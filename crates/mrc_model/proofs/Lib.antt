@@ -3,6 +3,7 @@ pub mod Tries
 pub mod Spaces
 pub mod KeptSpaces
 pub mod KeptCalls
+pub mod KeptTasks
 pub mod Dying
 pub mod FirstHeld
 pub mod Few

@@ -4,12 +4,14 @@ use Rattle.std.proofs.Common.{[], ◌∷◌, length, Option, Some, None, refl, s
 use Rattle.std.proofs.Common.{nat_lt, ◌==◌, if◌then◌else◌}
 use Rattle.std.specs.Option.{option_and_then}
 use Rattle.std.proofs.lemmas.Bool.{eqb-true, eqb-false, ltb-true, eq-eqb, ne_eqb, cases_eq}
+use Rattle.std.proofs.lemmas.Bool.{cases_lt}
+use Rattle.std.specs.Prelude.{IsSome}
 use mathlib.Core.HLevel.{Σ_prop_path}
 use lib.Dec.{T_prop}
 use Rattle.mrc_model.specs.Rising.{is_rising, find_key, put_key, cons_some, alter_list, left_holds}
 use Rattle.mrc_model.specs.Rising.{right_holds, at_least}
-use Rattle.mrc_model.specs.Map.{Map, empty, get, insert, alter_all, all_but, remove, len, sum_list}
-use Rattle.mrc_model.specs.Map.{total, Each}
+use Rattle.mrc_model.specs.Map.{Map, empty, get, insert, alter_all, all_but, remove, len, key_after}
+use Rattle.mrc_model.specs.Map.{next_key, sum_list, total, Each}
 
 -- f at the entry, or 0
 abbrev pub at_or_0 : {X : Type 0} → (ℕ → X → ℕ) → ℕ → Option X → ℕ
@@ -74,6 +76,24 @@ find-put {X} k q v (e ∷ es) =
           ] refl
     ]
 
+-- what is above the last key is no key
+
+key_after_is_later : {X : Type 0} (low : ℕ) (es : List (ℕ × X)) → T (is_rising low es)
+    → low ≤ key_after low es
+key_after_is_later low [] r = omega arith
+key_after_is_later low (e ∷ es) r =
+    let k : low ≤ e.0 = at_least low e.0 (left_holds _ _ r) in
+    let later = key_after_is_later (e.0 + 1) es (rest_rises low e es r) in omega arith
+
+key_after_is_free : {X : Type 0} (low q : ℕ) (es : List (ℕ × X)) → T (is_rising low es)
+    → key_after low es ≤ q → find_key q es ≡ None
+key_after_is_free low q [] r h = refl
+key_after_is_free low q (e ∷ es) r h =
+    let rest = rest_rises low e es r in
+    let later = key_after_is_later (e.0 + 1) es rest in
+    other_key q e.0 (Some e.1) (find_key q es) (λ (z : q ≡ e.0). absurd (omega arith))
+    ∙ key_after_is_free (e.0 + 1) q es rest h
+
 find-alter : {X Y : Type 0} (g : ℕ → X → Option Y) (low q : ℕ) (es : List (ℕ × X))
     → T (is_rising low es) → find_key q (alter_list g es) ≡ option_and_then (g q) (find_key q es)
 find-alter g low q [] r = refl
@@ -120,6 +140,15 @@ module _ {X : Type 0} where
   pub get-empty : (q : ℕ) → get (empty {X = X}) q ≡ None
   unfolding get empty
   get-empty q = refl
+
+  -- no key is the next one or above it
+  pub get-above : (m : Map X) (q : ℕ) → next_key m ≤ q → get m q ≡ None
+  unfolding get next_key
+  get-above m q h = key_after_is_free 0 q m.list m.rising h
+
+  -- the next key has no entry
+  pub get-next_key : (m : Map X) → get m (next_key m) ≡ None
+  get-next_key m = get-above m (next_key m) (omega arith)
 
   pub get-alter_all : {Y : Type 0} (g : ℕ → X → Option Y) (m : Map X) (q : ℕ)
       → get (alter_all g m) q ≡ option_and_then (g q) (get m q)
@@ -424,6 +453,74 @@ module _ {X : Type 0} where
   len-remove m k =
       let a = total-remove (λ k v. 1) m k in let b = len-total m in let c = len-total
       (remove m k) in omega arith
+
+-- the key below the next one is the last, if there is one
+key_after_last : {X : Type 0} (low : ℕ) (es : List (ℕ × X)) → T (is_rising low es)
+    → (key_after low es ≡ low) ⊎ ((k : ℕ) × (v : X) × (key_after low es ≡ k + 1)
+    × (find_key k es ≡ Some v))
+key_after_last low [] r = inl refl
+key_after_last low (e ∷ es) r = elim (key_after_last (e.0 + 1) es (rest_rises low e es r)) [
+  | inl same ↦ inr (e.0, e.1, same, find_here e es)
+  | inr (k, v, is, at) ↦ inr (k, v, is, find_later low e es k v r at)
+]
+
+last_key : {X : Type 0} (m : Map X)
+    → (next_key m ≡ 0) ⊎ ((k : ℕ) × (v : X) × (next_key m ≡ k + 1) × (get m k ≡ Some v))
+unfolding next_key get
+last_key m = key_after_last 0 m.list m.rising
+
+-- where one map has the keys of another, its next key is not below
+next_key-within : {X Y : Type 0} (m : Map X) (n : Map Y)
+    → ((q : ℕ) → IsSome (get m q) → IsSome (get n q)) → next_key m ≤ next_key n
+next_key-within m n within = elim (last_key m) [
+  | inl none ↦ omega arith
+  | inr (k, v, is, at) ↦ elim (cases_lt k (next_key n)) [
+    | inl below ↦ omega arith
+    | inr above ↦
+        let has = within k (subst IsSome (sym at) refl) in
+        let none : false ≡ true = subst IsSome (get-above n k above) has in cc
+  ]
+]
+
+-- maps with the same keys have one next key
+pub next_key-same : {X Y : Type 0} (m : Map X) (n : Map Y)
+    → ((q : ℕ) → IsSome (get m q) → IsSome (get n q))
+    → ((q : ℕ) → IsSome (get n q) → IsSome (get m q)) → next_key m ≡ next_key n
+next_key-same m n there back =
+    let a = next_key-within m n there in let b = next_key-within n m back in omega arith
+
+-- what is there is below the next key
+pub below-next_key : {X : Type 0} (m : Map X) (k : ℕ) → IsSome (get m k) → k < next_key m
+below-next_key m k has = elim (cases_lt k (next_key m)) [
+  | inl below ↦ below
+  | inr above ↦
+      let none : false ≡ true = subst (λ o. IsSome o) (get-above m k above) has in cc
+]
+
+pub next_key-empty : {X : Type 0} (m : Map X) → m ≡ empty → next_key m ≡ 0
+unfolding next_key empty
+next_key-empty m is = ap next_key is
+
+-- where one more key is there, and none above it
+next_key-above : {X : Type 0} (m n : Map X) → next_key m < next_key n
+    → ((k : ℕ) (u : X) → get n k ≡ Some u → k ≤ next_key m) → next_key n ≡ next_key m + 1
+next_key-above m n here most = elim (last_key n) [
+  | inl none ↦ absurd (omega arith)
+  | inr (k, u, is, at) ↦ let low = most k u at in omega arith
+]
+
+-- with a value at the next key, the one above it is next
+pub next_key-insert : {X : Type 0} (m : Map X) (v : X)
+    → next_key (insert m (next_key m) v) ≡ next_key m + 1
+next_key-insert m v =
+    next_key-above m (insert m (next_key m) v)
+    (below-next_key (insert m (next_key m) v) (next_key m)
+    (subst (λ o. IsSome o) (sym (get-insert_same m (next_key m) v)) refl))
+    (λ k u at. elim (origin-insert m (next_key m) v k u at) [
+      | inl same ↦ let e = same.0 in omega arith
+      | inr old ↦
+          let low = below-next_key m k (subst (λ o. IsSome o) (sym old.1) refl) in omega arith
+    ])
 
 -- a map is the list of its entries
 pub same_list : {X : Type 0} (m n : Map X) → m.list ≡ n.list → m ≡ n

@@ -1,6 +1,6 @@
 -- Worked runs of the machine, as theorems by computation: each event is a task, its call and the
 -- reply.
-use Rattle.std.specs.Prelude.{◌≡◌, ℕ, List, [], ◌∷◌, pos, refl}
+use Rattle.std.specs.Prelude.{◌≡◌, ℕ, List, [], ◌∷◌, map, Some, pos, refl}
 use Rattle.mrc_base.specs.declared.PortRight.{PortRight}
 use Rattle.mrc_base.specs.declared.PortRight.TheVariants.{Send, Receive, SendOnce}
 use Rattle.mrc_base.specs.declared.Right.TheVariants as named
@@ -14,13 +14,15 @@ use Rattle.mrc_model.specs.declared.Code.TheVariants.{MachRcvInSet, MachRcvTimed
 use Rattle.mrc_model.specs.declared.Denied.TheVariants.{NoSuchId, WrongDisposition, NotAdmitted}
 use Rattle.mrc_model.specs.declared.Denied.TheVariants.{NotDestroyed}
 use Rattle.mrc_model.specs.Message.{Data, Ports}
-use Rattle.mrc_model.specs.Map.{empty, get, insert, alter_all, len, keys}
-use Rattle.mrc_model.specs.Wiring.{forms, accepts_destroyed, admits}
+use Rattle.mrc_model.specs.Map.{empty, get, insert, alter_all, len, keys, next_key}
+use Rattle.mrc_model.specs.Wiring.{forms, accepts_destroyed, admits, births_class, kernel_class}
+use Rattle.mrc_model.specs.World.{class_of}
 use Rattle.mrc_model.specs.Filter.{judge}
-use Rattle.mrc_model.specs.Reply.{Done, Name, Refs, Mask, Names, Bytes, TooLarge, Refused, DeniedBy}
-use Rattle.mrc_model.specs.Reply.{DeadTask, ReceiveMessage, Allocate, Deallocate, Destroy, ModRefs}
-use Rattle.mrc_model.specs.Reply.{GetRefs, InsertRight, ExtractRight, MoveMember}
+use Rattle.mrc_model.specs.Reply.{Done, Name, Refs, Mask, Names, Created, Bytes, TooLarge, Refused}
+use Rattle.mrc_model.specs.Reply.{DeniedBy, DeadTask, ReceiveMessage, Allocate, Deallocate, Destroy}
+use Rattle.mrc_model.specs.Reply.{ModRefs, GetRefs, InsertRight, ExtractRight, MoveMember}
 use Rattle.mrc_model.specs.Reply.{RequestNotification, PortType, ListNames, Rename, Terminate}
+use Rattle.mrc_model.specs.Reply.{CreateTask}
 use Rattle.mrc_model.specs.Reply.{◌>>=◌, ◌>>◌, check, refuse_if, or_refuse}
 use Rattle.mrc_model.specs.Space.{restart, take, unused, entry_of, give_item, insert_at}
 use Rattle.mrc_model.specs.Death.{dying, bury, append, destroy}
@@ -38,12 +40,14 @@ use Rattle.mrc_model.specs.CallRequestNotification.{call_request_notification}
 use Rattle.mrc_model.specs.CallSetQlimit.{call_set_qlimit}
 use Rattle.mrc_model.specs.CallRename.{call_rename}
 use Rattle.mrc_model.specs.CallTerminate.{call_terminate}
+use Rattle.mrc_model.specs.CallCreateTask.{call_create_task}
 use Rattle.mrc_model.specs.Step.{step}
 use Rattle.mrc_model.specs.First.{first}
 use Rattle.mrc_model.specs.Runs.{Event}
 use Rattle.mrc_model.specs.Breach.{Holding, holdings}
-use Rattle.mrc_model.proofs.Samples.{alone, pinging, handing, showing, inbox_and_safe, filing}
-use Rattle.mrc_model.proofs.Samples.{filing_by_kind, sent, asked, event, world_after, Replays}
+use Rattle.mrc_model.proofs.Samples.{alone, leading, pinging, handing, showing, inbox_and_safe}
+use Rattle.mrc_model.proofs.Samples.{filing, filing_by_kind, sent, asked, event, world_after}
+use Rattle.mrc_model.proofs.Samples.{Replays}
 
 abbrev holding : ℕ → ℕ → PortRight → Holding
 holding t p r = record { task = t; port = p; right = r }
@@ -334,3 +338,57 @@ unfolding ◌>>=◌ ◌>>◌ check refuse_if or_refuse empty get insert alter_al
     call_insert_right call_extract_right call_move_member call_request_notification
     call_set_qlimit call_rename call_terminate step first
 kinds_of_births = refl
+
+-- A task that is made at run time: what it has, that it ends as its own kernel port is used, and
+-- that it outlives the task that it was made from.
+pub task_is_made : Replays leading (
+    event 0 (CreateTask 2) (Created 2 3) ∷
+    event 2 (ListNames 1) (Names ((1, 65536) ∷ [])) ∷
+    event 2 (Allocate 1 named.Receive 0) (Name 2) ∷
+    event 0 (ExtractRight 3 2 MakeSend) (Name 4) ∷
+    event 0 (Terminate 2) Done ∷
+    event 1 (ListNames 1) DeadTask ∷
+    event 2 (PortType 1 2) (Mask 131072) ∷
+    event 0 (Terminate 3) Done ∷
+    event 0 (PortType 1 4) (Mask 1048576) ∷
+    event 2 (ListNames 1) DeadTask ∷
+    []) 1
+unfolding ◌>>=◌ ◌>>◌ check refuse_if or_refuse empty get insert alter_all len keys next_key forms
+    accepts_destroyed admits judge restart take unused entry_of give_item insert_at dying bury
+    append destroy destroyed target entry_at take_item call_send received call_receive
+    call_allocate call_deallocate call_destroy call_mod_refs call_get_refs call_type call_names
+    call_insert_right call_extract_right call_move_member call_request_notification
+    call_set_qlimit call_rename call_terminate call_create_task step first
+task_is_made = refl
+
+-- what tasks hold once it has a port of its own: that port is of the births of the task that it was
+-- made from
+abbrev made_script : List Event
+made_script =
+    event 0 (CreateTask 2) (Created 2 3) ∷
+    event 2 (Allocate 1 named.Receive 0) (Name 2) ∷
+    []
+
+pub held_after_making : holdings (world_after leading (first leading) made_script) ≡
+    holding 0 0 Send ∷ holding 0 1 Send ∷ holding 0 2 Send
+    ∷ holding 1 1 Send ∷ holding 2 2 Send ∷ holding 2 3 Receive ∷ []
+unfolding ◌>>=◌ ◌>>◌ check refuse_if or_refuse empty get insert alter_all len keys next_key forms
+    accepts_destroyed admits judge restart take unused entry_of give_item insert_at dying bury
+    append destroy destroyed target entry_at take_item call_send received call_receive
+    call_allocate call_deallocate call_destroy call_mod_refs call_get_refs call_type call_names
+    call_insert_right call_extract_right call_move_member call_request_notification
+    call_set_qlimit call_rename call_terminate call_create_task step first
+held_after_making = refl
+
+-- which tells the class of that port, and that of the child's kernel port
+pub classes_after_making :
+    let s = (world_after leading (first leading) made_script).store in
+    map (λ p. class_of s p) (2 ∷ 3 ∷ [])
+    ≡ Some (kernel_class leading 1) ∷ births_class leading 1 0 ∷ []
+unfolding ◌>>=◌ ◌>>◌ check refuse_if or_refuse empty get insert alter_all len keys next_key forms
+    accepts_destroyed admits judge restart take unused entry_of give_item insert_at dying bury
+    append destroy destroyed target entry_at take_item call_send received call_receive
+    call_allocate call_deallocate call_destroy call_mod_refs call_get_refs call_type call_names
+    call_insert_right call_extract_right call_move_member call_request_notification
+    call_set_qlimit call_rename call_terminate call_create_task step first
+classes_after_making = refl

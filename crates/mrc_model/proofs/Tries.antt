@@ -38,3 +38,14 @@ pub found : {A : Type 0} (o : Option A) (e : Reply) → Gives (λ a. o ≡ Some 
 unfolding or_refuse
 found None e = gives_err _ e
 found (Some a) e = gives_ok refl
+
+-- of what a step gives nothing need be known
+pub any_of : {A : Type 0} (m : Try A) → Gives (λ _. Unit {0}) m
+any_of m = record { holds = λ a e. tt }
+
+pub past : {A B : Type 0} {P : B → Type 0} (m : Try A) (f : A → Try B) → ((a : A) → Gives P (f a))
+    → Gives P (m >>= f)
+past m f next = bind m f (any_of m) (λ a _. next a)
+
+pub past_ : {A B : Type 0} {P : B → Type 0} (m : Try A) (r : Try B) → Gives P r → Gives P (m >> r)
+past_ m r next = bind_ m r (any_of m) (λ a _. next)

@@ -1,19 +1,19 @@
 -- The first state of a wiring: its lines, one after the other. This profile's own choice.
-use Rattle.std.specs.Prelude.{ℕ, ◌+◌, Bool, true, List, [], ◌∷◌, Ok, Err, nat_lt, is_ok}
-use Rattle.mrc_model.specs.declared.Entry.TheVariants.{Send as SendEntry}
+use Rattle.std.specs.Prelude.{ℕ, ◌+◌, Bool, List, [], ◌∷◌, Ok, Err, nat_lt, is_ok}
 use Rattle.mrc_model.specs.declared.Item.TheVariants.{Right as RightItem}
 use Rattle.mrc_model.specs.declared.FirstLine.{FirstLine}
 use Rattle.mrc_model.specs.declared.FirstLine.TheVariants.{Task as TaskLine, Port as PortLine}
 use Rattle.mrc_model.specs.declared.FirstLine.TheVariants.{Hold as HoldLine}
 use Rattle.mrc_model.specs.declared.Code.TheVariants.{KernInvalidTask, KernInvalidName, KernNoSpace}
 use Rattle.mrc_model.specs.Rights.{is_receive}
-use Rattle.mrc_model.specs.Map.{empty, get, insert}
+use Rattle.mrc_model.specs.Map.{empty, get}
 use Rattle.mrc_model.specs.Wiring.{Wiring, kernel_class}
-use Rattle.mrc_model.specs.World.{Task, World, space}
+use Rattle.mrc_model.specs.World.{World, space}
 use Rattle.mrc_model.specs.Reply.{Refused, Try, ◌>>=◌, ◌>>◌, check, refuse_if, or_refuse}
 use Rattle.mrc_model.specs.Space.{give_item, is_over_full}
 use Rattle.mrc_model.specs.Target.{with_store}
-use Rattle.mrc_model.specs.CallAllocate.{new_port, birth}
+use Rattle.mrc_model.specs.CallAllocate.{birth}
+use Rattle.mrc_model.specs.CallCreateTask.{with_task}
 
 -- the world after some lines, and how many of them were task lines and port lines
 pub record First : Type 0 where
@@ -25,24 +25,13 @@ pub record First : Type 0 where
 abbrev pub no_world : World
 no_world = record { tasks = empty; store = record { next = 0; spaces = empty; ports = empty } }
 
--- the next task, of the class that has its number, with its kernel port and a send right to it
--- under name 1
+-- the next task, of the class that has its number
 abbrev pub add_task : Wiring → First → First
-add_task W f =
-    let s = f.world.store in
-    let task : Task = record { alive = true; kernel = s.next; class = f.tasks } in
-    record {
-      tasks = f.tasks + 1;
-      ports = f.ports;
-      world = record {
-        tasks = insert f.world.tasks f.tasks task;
-        store = record {
-          next = s.next + 1;
-          spaces = insert s.spaces f.tasks (insert empty 1 (SendEntry s.next 1));
-          ports = insert s.ports s.next (new_port (kernel_class W f.tasks));
-        };
-      };
-    }
+add_task W f = record {
+  tasks = f.tasks + 1;
+  ports = f.ports;
+  world = with_task f.world f.tasks f.tasks (kernel_class W f.tasks);
+}
 
 -- A line is refused where it makes a task or port beyond the wiring's numbers, names a task or port
 -- that is not there, holds a receive right, or leaves a space with more entries than it may have.

@@ -1,10 +1,11 @@
 -- The three laws above the checker and the machine, and the headline that follows from them; and
--- the laws of dying ports and of spaces. A set of facts is a test. This profile's own choice.
-use Rattle.std.specs.Prelude.{ℕ, Bool, List, IsTrue}
+-- the laws of dying ports, of spaces and of tasks. A set of facts is a test. This profile's own
+-- choice.
+use Rattle.std.specs.Prelude.{◌≡◌, ℕ, Bool, List, Some, IsTrue}
 use Rattle.mrc_base.specs.declared.Fact.{Fact}
-use Rattle.mrc_model.specs.Map.{keys}
+use Rattle.mrc_model.specs.Map.{get, keys}
 use Rattle.mrc_model.specs.Wiring.{Wiring, numbers_of}
-use Rattle.mrc_model.specs.World.{World, Store}
+use Rattle.mrc_model.specs.World.{World, Store, Task}
 use Rattle.mrc_model.specs.Reply.{Call}
 use Rattle.mrc_model.specs.Death.{has, Doomed, dies, dying}
 use Rattle.mrc_model.specs.Step.{step}
@@ -63,3 +64,11 @@ FirstHasSpaces = (W : Wiring) → HasSpaces (first W)
 abbrev pub SpacesAreKept : Type 0
 SpacesAreKept =
     (W : Wiring) (w : World) (t : ℕ) (call : Call) → HasSpaces w → HasSpaces (step W w t call).0
+
+-- each call keeps all tasks, with their kernel ports and classes: a task's class is for good, and
+-- no number of a task is given twice
+abbrev pub TasksAreKept : Type 0
+TasksAreKept =
+    (W : Wiring) (w : World) (t : ℕ) (call : Call) (u : ℕ) (x : Task) → get w.tasks u ≡ Some x
+    → (y : Task) × (get (step W w t call).0.tasks u ≡ Some y) × (y.kernel ≡ x.kernel)
+    × (y.class ≡ x.class)

@@ -22,6 +22,7 @@ pub mod CallRequestNotification
 pub mod CallSetQlimit
 pub mod CallRename
 pub mod CallTerminate
+pub mod CallCreateTask
 pub mod Step
 pub mod IsIn
 pub mod First

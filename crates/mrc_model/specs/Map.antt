@@ -1,6 +1,7 @@
 -- A map from numbers, as the list of its entries in ascending order of their keys. This profile's
 -- own choice of a model for Rust's `BTreeMap`.
 --     empty, get, insert, remove, keys, len      as Rust's `BTreeMap`
+--     next_key m      one above the last key
 --     alter_all g m      each entry changed, or dropped, by g
 --     total f m      the sum of f over the entries
 use Rattle.std.specs.Prelude.{◌≡◌, ℕ, ◌+◌, T, List, [], ◌∷◌, map, length, Option, Some, None, ◌==◌}
@@ -44,6 +45,15 @@ len m = length m.list
 -- the keys, ascending
 unfoldable pub keys : {X : Type 0} → Map X → List ℕ
 keys m = map (λ e. e.0) m.list
+
+-- one above the last of these keys, or k where there are none
+abbrev pub key_after : {X : Type 0} → ℕ → List (ℕ × X) → ℕ
+key_after k [] = k
+key_after k (e ∷ es) = key_after (e.0 + 1) es
+
+-- one above the last key; 0 for the map with no entry
+unfoldable pub next_key : {X : Type 0} → Map X → ℕ
+next_key m = key_after 0 m.list
 
 -- the sum of f over a list of entries
 abbrev pub sum_list : {X : Type 0} → (ℕ → X → ℕ) → List (ℕ × X) → ℕ

@@ -7,14 +7,15 @@ use Rattle.mrc_model.specs.declared.Code.{Code}
 use Rattle.mrc_model.specs.declared.Denied.{Denied}
 use Rattle.mrc_model.specs.Message.{Message}
 
--- What a call answers. Names are given with their masks of rights; TooLarge tells the size of the
--- message that stays queued.
+-- What a call answers. Names are given with their masks of rights; Created tells the number of the
+-- new task and the caller's name for it, TooLarge the size of the message that stays queued.
 pub data Reply : Type 0 where
   Done : Reply
   Name : ℕ → Reply
   Refs : ℕ → Reply
   Mask : ℕ → Reply
   Names : List (ℕ × ℕ) → Reply
+  Created : (task name : ℕ) → Reply
   Bytes : List ℕ → Reply
   TooLarge : ℕ → Reply
   Refused : Code → Reply
@@ -40,6 +41,7 @@ pub data Call : Type 0 where
   ListNames : (task : ℕ) → Call
   Rename : (task old new : ℕ) → Call
   Terminate : (task : ℕ) → Call
+  CreateTask : (task : ℕ) → Call
 
 -- a step that may be refused
 abbrev pub Try : Type 0 → Type 0

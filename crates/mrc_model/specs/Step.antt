@@ -7,7 +7,7 @@ use Rattle.mrc_model.specs.World.{World}
 use Rattle.mrc_model.specs.Reply.{Reply, DeadTask, Call, SendMessage, ReceiveMessage, Allocate}
 use Rattle.mrc_model.specs.Reply.{Deallocate, Destroy, ModRefs, GetRefs, InsertRight, ExtractRight}
 use Rattle.mrc_model.specs.Reply.{MoveMember, RequestNotification, SetQlimit, PortType, ListNames}
-use Rattle.mrc_model.specs.Reply.{Rename, Terminate, Try}
+use Rattle.mrc_model.specs.Reply.{Rename, Terminate, CreateTask, Try}
 use Rattle.mrc_model.specs.Target.{is_alive}
 use Rattle.mrc_model.specs.CallSend.{call_send}
 use Rattle.mrc_model.specs.CallDeallocate.{call_deallocate, call_destroy}
@@ -21,6 +21,7 @@ use Rattle.mrc_model.specs.CallMoveMember.{call_move_member}
 use Rattle.mrc_model.specs.CallSetQlimit.{call_set_qlimit}
 use Rattle.mrc_model.specs.CallRename.{call_rename}
 use Rattle.mrc_model.specs.CallTerminate.{call_terminate}
+use Rattle.mrc_model.specs.CallCreateTask.{call_create_task}
 
 -- one call of a live task
 abbrev pub try_call : Wiring → World → ℕ → Call → Try (World × Reply)
@@ -41,6 +42,7 @@ try_call W w t (PortType task name) = call_type w t task name
 try_call W w t (ListNames task) = call_names w t task
 try_call W w t (Rename task old new) = call_rename w t task old new
 try_call W w t (Terminate task) = call_terminate w t task
+try_call W w t (CreateTask task) = call_create_task w t task
 
 -- a refusal leaves the world as it was
 abbrev pub concluded : World → Try (World × Reply) → World × Reply

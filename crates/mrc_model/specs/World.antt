@@ -60,7 +60,8 @@ pub record Store : Type 0 where
   pub spaces : Map Space
   pub ports : Map Port
 
--- a task: its kernel port, and the wired task whose class it has
+-- A task: its kernel port, and the wired task whose class it has: a wired task its own, one that is
+-- made at run time that of the task that it was made from.
 pub record Task : Type 0 where
   pub alive : Bool
   pub kernel : ℕ
@@ -68,8 +69,8 @@ pub record Task : Type 0 where
 
 -- All tasks, by number, and the store. A number is a task's exactly where the map has it. Tasks get
 -- the numbers 0, 1, 2 and so on, and one that has ended stays in the map, no longer alive: so the
--- next task's number is that of the entries of the map, no number is given twice, and no number
--- needs to be kept beside the map for tasks that are made at run time.
+-- next task's number is one above the last, no number is given twice, and no number needs to be
+-- kept beside the map.
 pub record World : Type 0 where
   pub tasks : Map Task
   pub store : Store

@@ -8,6 +8,7 @@ ghost use Rattle.mrc_model.specs.Conclusions.{ConclusionsAreByRules, Consequence
 ghost use Rattle.mrc_model.specs.Conclusions.{IsClosedTells, RoundsAreLeast};
 ghost use Rattle.mrc_model.specs.FirstHoldings.{FirstHoldingsAreGiven, SoundIfFew, SoundTaskByTask};
 ghost use Rattle.mrc_model.specs.Headline.{DyingIsLeast, FirstHasSpaces, SpacesAreKept};
+ghost use Rattle.mrc_model.specs.Headline.{TasksAreKept};
 ghost use Rattle.mrc_model.specs.Rules.{DerivationsAreLeast};
 
 use mrc_base::{Copies, PortId, PortRight, TaskId};
@@ -203,6 +204,12 @@ pub fn dying_least()
 pub fn spaces_kept()
     ensures first { FirstHasSpaces }
     ensures kept { SpacesAreKept }
+{}
+
+/// Each call keeps all tasks, with their kernel ports and classes, also those that have ended: so a
+/// task's class is for good, and a task that is made gets a number that no other had.
+pub fn tasks_kept()
+    ensures kept { TasksAreKept }
 {}
 
 /// In the first state of a sound wiring a task holds exactly what a line gives it, and ports have

@@ -1,15 +1,19 @@
 -- A port that is replaced twice is the last one.
 use Rattle.std.proofs.Common.{◌≡◌, ℕ, List, inl, inr, Option, Some, None, refl, sym, ◌∙◌, ap, subst}
+use Rattle.std.proofs.Common.{Bool, true, false, nat_lt, ◌<◌, if◌then◌else◌}
 use Rattle.std.specs.Prelude.{IsSome}
-use Rattle.std.proofs.lemmas.Bool.{cases_eq}
-use Rattle.mrc_model.specs.Map.{Map, get, insert, alter_all}
+use Rattle.std.proofs.lemmas.Bool.{cases_eq, ltb-true}
+use Rattle.mrc_model.specs.CallCreateTask.{limit_of_task_numbers}
+use Rattle.mrc_model.specs.Map.{Map, get, insert, alter_all, remove, next_key}
 use Rattle.mrc_model.specs.Death.{perished_entry, bury}
 use Rattle.mrc_model.specs.World.{Space, Port, Store, set_port}
 use Rattle.mrc_model.specs.Space.{restart, restart_port}
-use Rattle.mrc_model.proofs.Maps.{get-insert_same, get-insert_other}
+use Rattle.mrc_model.proofs.Maps.{get-insert_same, get-insert_other, get-next_key, get-remove_same}
+use Rattle.mrc_model.proofs.Maps.{get-remove_other, same_Some, not_None}
+use Rattle.mrc_map.specs.Entries.{below}
 use Rattle.mrc_map.proofs.SameMaps.{same_map}
 use Rattle.mrc_ports.specs.Burials.{buried}
-use Rattle.mrc_ports.specs.Tables.{Table, with_port, restarted, store_of}
+use Rattle.mrc_ports.specs.Tables.{Table, with_port, restarted, store_of, next_task}
 
 -- the last value put at a key stands there
 pub insert_twice : {X : Type 0} (m : Map X) (k : ℕ) (v w : X)
@@ -75,3 +79,40 @@ bury_as dead spaces turned t u s view names ports =
     ∙ ap (store_of (alter_all (λ k x. Some (alter_all (λ n e. perished_entry dead e) x)) spaces))
     ports
     ∙ ap (λ (z : Store). bury z dead) view
+
+-- the next task's number is one above the last
+pub below_is : (limit k j : ℕ) → below limit k ≡ Some j → (k ≡ j) × (k < limit)
+below_is limit k j is = go (nat_lt k limit) refl is
+  where
+    go : (b : Bool) → nat_lt k limit ≡ b → (if b then Some k else None) ≡ Some j
+        → (k ≡ j) × (k < limit)
+    go true t z = (same_Some k j z, ltb-true k limit t)
+    go false t z = absurd (not_None j (sym z))
+
+-- what was put at the next key and taken out again leaves the map as it was
+pub remove_next : {X : Type 0} (m : Map X) (k : ℕ) (v : X)
+    → next_key m ≡ k
+    → remove (insert m k v) k ≡ m
+remove_next m k v next = same_map _ _ (λ q. elim (cases_eq q k) [
+  | inl same ↦
+      ap (get (remove (insert m k v) k)) same ∙ get-remove_same (insert m k v) k
+      ∙ sym (ap (get m) (same ∙ sym next) ∙ get-next_key m)
+  | inr other ↦ get-remove_other (insert m k v) k q other ∙ get-insert_other m k v q other
+])
+
+-- a space that was added and went again
+pub add_undone : (spaces put out : Map Space) (t u : Table) (s : Store) (key j : ℕ) (x : Space)
+    → store_of spaces t ≡ s
+    → next_task s ≡ Some j
+    → key ≡ j
+    → put ≡ insert spaces key x
+    → out ≡ remove put key
+    → u ≡ t
+    → store_of out u ≡ s
+add_undone spaces put out t u s key j x view next key_is put_is out_is table =
+    let number : next_key spaces ≡ key =
+    ap (λ (z : Store). next_key z.spaces) view
+    ∙ (below_is limit_of_task_numbers (next_key s.spaces) j next).0 ∙ sym key_is in
+    ap (λ m. store_of m u)
+    (out_is ∙ ap (λ m. remove m key) put_is ∙ remove_next spaces key x number)
+    ∙ ap (store_of spaces) table ∙ view

@@ -7,7 +7,8 @@ use Prim.Native.Nat.{zero}
 use Rattle.std.specs.List.{filter, slice_index_or, slice_set}
 use Rattle.mrc_model.specs.Rising.{alter_list, cons_some}
 use Rattle.mrc_model.specs.Map.{Map, alter_all}
-use Rattle.mrc_model.specs.World.{Port, Parcel, QueuedArg}
+use Rattle.mrc_model.specs.declared.Entry.{Entry}
+use Rattle.mrc_model.specs.World.{Space, Port, Parcel, QueuedArg}
 use Rattle.mrc_model.specs.Death.{has, perished_port, perished_arg, perished_item}
 use Rattle.mrc_model.specs.Death.{perished_parcel}
 use Rattle.mrc_model.specs.declared.Item.{Item}
@@ -33,6 +34,14 @@ at_set : {A : Type 0} (l : List A) (i : ℕ) (a d : A)
 at_set [] i a d h = absurd (omega arith)
 at_set (x ∷ l) zero a d h = refl
 at_set (x ∷ l) (suc i) a d h = at_set l i a d (omega arith)
+
+-- an entry that is written over itself
+set_again : {A : Type 0} (l : List A) (i : ℕ) (d : A)
+    → i < length l
+    → slice_set l i (slice_index_or l i d) ≡ l
+set_again [] i d h = absurd (omega arith)
+set_again (x ∷ l) zero d h = refl
+set_again (x ∷ l) (suc i) d h = ap (λ r. x ∷ r) (set_again l i d (omega arith))
 
 module _ {X : Type 0} (f : X → X) where
   -- one entry more is changed
@@ -64,6 +73,54 @@ module _ {X : Type 0} (f : X → X) where
       ∙ ap (λ (l : List (ℕ × X)). slice_set l i ((slice_index_or es i d).0, v)) is
       ∙ part_next g i es d v total in_es
       (ap Some (ap f (sym (ap (λ (e : ℕ × X). e.1) there) ∙ sym (out d)) ∙ sym turned))
+      ∙ ap (λ k. part g k es) (sym (add-one i))
+
+  -- the entry at an index is changed
+  pub once_turned : (i : ℕ) (was mid next : List (ℕ × X)) (blank x v : X)
+      → i < length was
+      → ((d : ℕ × X) → x ≡ (slice_index_or was i d).1)
+      → ((d : ℕ × X) → mid ≡ slice_set was i ((slice_index_or was i d).0, blank))
+      → v ≡ f x
+      → ((d : ℕ × X) → next ≡ slice_set mid i ((slice_index_or mid i d).0, v))
+      → (d : ℕ × X)
+      → next ≡ slice_set was i ((slice_index_or was i d).0, f (slice_index_or was i d).1)
+  once_turned i was mid next blank x v h out put turned back d =
+      let key : (slice_index_or mid i d).0 ≡ (slice_index_or was i d).0 =
+      ap (λ (l : List (ℕ × X)). (slice_index_or l i d).0) (put d)
+      ∙ ap (λ (e : ℕ × X). e.0) (at_set was i _ d h) in
+      back d
+      ∙ ap (λ (k : ℕ). slice_set mid i (k, v)) key
+      ∙ ap (λ (l : List (ℕ × X)). slice_set l i ((slice_index_or was i d).0, v)) (put d)
+      ∙ set_at_twice was i _ _
+      ∙ ap (λ y. slice_set was i ((slice_index_or was i d).0, y)) (turned ∙ ap f (out d))
+
+  -- one that stays the same need not be
+  pub same_turned : (i : ℕ) (was : List (ℕ × X)) (d : ℕ × X)
+      → i < length was
+      → f (slice_index_or was i d).1 ≡ (slice_index_or was i d).1
+      → was ≡ slice_set was i ((slice_index_or was i d).0, f (slice_index_or was i d).1)
+  same_turned i was d h same =
+      sym (ap (λ y. slice_set was i ((slice_index_or was i d).0, y)) same ∙ set_again was i d h)
+
+  -- and so one entry more is
+  pub then_turned : (i n : ℕ) (es was next : List (ℕ × X)) (d : ℕ × X)
+      → was ≡ part (λ k y. Some (f y)) i es
+      → n ≡ length es
+      → i < n
+      → ((d : ℕ × X) → next
+      ≡ slice_set was i ((slice_index_or was i d).0, f (slice_index_or was i d).1))
+      → next ≡ part (λ k y. Some (f y)) (i + 1) es
+  then_turned i n es was next d is size h turned =
+      let g : ℕ → X → Option X = λ k y. Some (f y) in
+      let total : (k : ℕ) (y : X) → (z : X) × (g k y ≡ Some z) = λ k y. (f y, refl) in
+      let in_es : i < length es = subst (λ m. i < m) size h in
+      let there : slice_index_or was i d ≡ slice_index_or es i d =
+      ap (λ l. slice_index_or l i d) is ∙ part_at g i es d total in
+      turned d
+      ∙ ap (λ (e : ℕ × X). slice_set was i (e.0, f e.1)) there
+      ∙ ap (λ (l : List (ℕ × X)). slice_set l i
+      ((slice_index_or es i d).0, f (slice_index_or es i d).1)) is
+      ∙ part_next g i es d (f (slice_index_or es i d).1) total in_es refl
       ∙ ap (λ k. part g k es) (sym (add-one i))
 
   -- an index below the number of entries is one of the list
@@ -188,3 +245,14 @@ carried_turned dead xs ys turned carried =
     subst AreLawful
     (sym (ap (λ (l : List QueuedArgument). map unnamed (map queued_of l)) turned
     ∙ all_unnamed_turned dead xs)) carried
+
+-- a space without an entry stays so
+pub empty_turned : (g : ℕ → Entry → Option Entry) (x : Space)
+    → length x.list ≡ 0
+    → alter_all g x ≡ x
+unfolding alter_all
+empty_turned g x none = same_list _ _ (go x.list none)
+  where
+    go : (es : List (ℕ × Entry)) → length es ≡ 0 → alter_list g es ≡ es
+    go [] is = refl
+    go (e ∷ es) is = absurd (omega arith)

@@ -3,7 +3,9 @@
 -- choice.
 use Rattle.std.specs.Prelude.{ℕ, ◌+◌, Bool, ◌||◌, Option, Some, None, nat_le}
 use Rattle.mrc_base.specs.Limits.{limit_of_ports, limit_of_births}
-use Rattle.mrc_model.specs.Map.{Map, empty, insert, len}
+use Rattle.mrc_model.specs.CallCreateTask.{limit_of_task_numbers}
+use Rattle.mrc_model.specs.Map.{Map, empty, insert, len, next_key}
+use Rattle.mrc_map.specs.Entries.{below}
 use Rattle.mrc_model.specs.World.{Space, Port, Store}
 use Rattle.mrc_model.specs.CallAllocate.{new_port}
 
@@ -40,3 +42,17 @@ store_of spaces t = record { next = t.next; spaces = spaces; ports = t.ports }
 -- the store with no space and no port
 abbrev pub no_store : Store
 no_store = record { next = 0; spaces = empty; ports = empty }
+
+-- the number that the next task gets: one above the last, if there may be one more
+abbrev pub next_task : Store → Option ℕ
+next_task s = below limit_of_task_numbers (next_key s.spaces)
+
+-- there are as many live ports, or as many births or tasks have been, as there may be
+abbrev pub is_short_of_homes : Store → Bool
+is_short_of_homes s =
+    is_short (table_of s) || nat_le limit_of_task_numbers (next_key s.spaces)
+
+-- the store with this space for the next task, and a new port of this class
+abbrev pub with_home : Store → Space → ℕ → Store
+with_home s x class =
+    store_of (insert s.spaces (next_key s.spaces) x) (with_birth (table_of s) class)

@@ -12,6 +12,7 @@ ghost use Rattle.mrc_ports.specs.declared.table.NotQueued.TheVariants.{Absent, F
 ghost use Rattle.mrc_ports.specs.Faults.{IsFault};
 ghost use Rattle.mrc_ports.specs.Queues.{is_full_for, with_message, received_by};
 ghost use Rattle.mrc_ports.specs.Tables.{table_of, store_of, with_birth, is_short, no_store};
+ghost use Rattle.mrc_ports.specs.Tables.{next_task, with_home, is_short_of_homes};
 
 use crate::burying::bury_spaces;
 use crate::parcel::{Parcel, Ready};
@@ -22,6 +23,9 @@ use mrc_model::Backup;
 use mrc_names::Space;
 use std::alloc::{AllocError, Global};
 use std::marker::Model;
+
+/// How many tasks there may have been: their numbers have 32 bits.
+const TASK_NUMBERS: u64 = 0x1_0000_0000;
 
 /// The spaces of all tasks, and all live ports.
 #[derive(Debug, Drop)]
@@ -70,6 +74,43 @@ impl Store {
         ensures err { OnErr result (self.new ≡ self.old) }
     {
         self.spaces.insert(u64::from(task.0), space)
+    }
+
+    /// The number that the next task gets: one above the last. None where as many tasks have been
+    /// as there may be.
+    pub fn next_task(&self) -> Option<TaskId>
+        ensures { result ≡ next_task self.now }
+    {
+        match self.spaces.next_key(TASK_NUMBERS) {
+            Some(key) => Some(TaskId(key as u32)),
+            None => None,
+        }
+    }
+
+    /// A space for the next task, and a new port of the class, which is its kernel port: both or
+    /// neither. The space may name the port, whose number `PortTable::next` shows. Refused exactly
+    /// where there are as many live ports, or as many births or tasks have been, as there may be.
+    pub fn add_task(&mut self, space: Space, class: ClassId) -> Result<PortId, OrMemory<Shortage>>
+        ensures added { OnOk result (self.new ≡ with_home self.old space class) }
+        ensures number { IfOk result (λ port. port ≡ self.old.next) }
+        ensures short { IsErrAnd result IsFault ↔ IsTrue (is_short_of_homes self.old) }
+        ensures err { OnErr result (self.new ≡ self.old) }
+    {
+        let Some(task) = self.next_task() else {
+            return Err(OrMemory::Fault(Shortage));
+        };
+        if self.table.is_short() {
+            return Err(OrMemory::Fault(Shortage));
+        }
+        let key = u64::from(task.0);
+        self.spaces.insert(key, space)?;
+        match self.table.birth(class) {
+            Ok(port) => Ok(port),
+            Err(fault) => {
+                self.spaces.remove(key);
+                Err(fault)
+            }
+        }
     }
 
     /// Puts another space in the place of a task's, and gives back the one that stood there; where

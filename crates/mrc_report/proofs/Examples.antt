@@ -5,7 +5,7 @@ use Rattle.std.specs.Fmt.{digits}
 use Rattle.mrc_base.specs.declared.Disp.TheVariants.{CopySend}
 use Rattle.mrc_model.specs.declared.Code.TheVariants.{KernNoSpace}
 use Rattle.mrc_model.specs.declared.Denied.TheVariants.{NoSuchId, NotAdmitted}
-use Rattle.mrc_model.specs.Reply.{Names, Bytes, TooLarge, Refused, DeniedBy}
+use Rattle.mrc_model.specs.Reply.{Names, Created, Bytes, TooLarge, Refused, DeniedBy, DeadTask}
 use Rattle.mrc_wiring_text.specs.declared.faults.TextFault.TheVariants.{BadLine}
 use Rattle.mrc_wiring_text.specs.declared.reading.Line.{Line}
 use Rattle.mrc_wiring_text.specs.Lexis.{is_blank, words, between_blanks}
@@ -18,7 +18,7 @@ use Rattle.mrc_words.specs.Numbers.{number_of_word}
 use Rattle.mrc_report.specs.Parameters.{byte_of, bytes_of_digits}
 use Rattle.mrc_report.specs.Calls.{insert_right, names, port_call_named, dropping_call_named}
 use Rattle.mrc_report.specs.Calls.{call_named}
-use Rattle.mrc_report.specs.Calls.{script_says, receive}
+use Rattle.mrc_report.specs.Calls.{child_of_word, caller_of_word, said_by, script_says, receive}
 use Rattle.mrc_report.specs.Waiting.{live_says, wait_says}
 use Rattle.mrc_report.specs.Scripts.{script_of}
 use Rattle.mrc_report.specs.Printing.{reply_text, event_line, end_line}
@@ -38,9 +38,26 @@ at n task call = record { number = n; says = record { task = task; call = call; 
 two_calls : script_of false tasks (text (
     codes "l insert_right 2 009 1 19" ∷ [] ∷ codes "f names 1 #" ∷ []))
     ≡ Ok (at 1 0 (call.InsertRight 2 9 1 CopySend) ∷ at 3 1 (call.Names 1) ∷ [])
-unfolding body line_of words between_blanks is_blank script_says call_named
+unfolding body line_of words between_blanks is_blank script_says said_by caller_of_word call_named
     port_call_named insert_right names number_of_word
 two_calls = refl
+
+-- a task that is not wired calls by its number, with zeros in front or not; a wired one, and each
+-- where tasks run as threads, by its name alone
+child : script_of false tasks (codes "@002 names 1") ≡ Ok (at 1 2 (call.Names 1) ∷ [])
+unfolding body line_of words between_blanks is_blank script_says said_by caller_of_word
+    child_of_word call_named port_call_named names number_of_word
+child = refl
+
+wired_by_number : script_of false tasks (codes "@1 names 1") ≡ Err (BadLine 1)
+unfolding body line_of words between_blanks is_blank script_says said_by caller_of_word
+    child_of_word call_named port_call_named names number_of_word
+wired_by_number = refl
+
+child_as_thread : script_of true tasks (codes "@2 names 1") ≡ Err (BadLine 1)
+unfolding body line_of words between_blanks is_blank live_says said_by call_named
+    port_call_named names number_of_word
+child_as_thread = refl
 
 -- a line that waits, where tasks run as threads; and the same in a replay
 waiting : script_of true tasks (codes "f wait 2 24")
@@ -52,8 +69,8 @@ unfolding body line_of words between_blanks is_blank live_says wait_says receive
 waiting = refl
 
 no_waiting : script_of false tasks (codes "f wait 2 24") ≡ Err (BadLine 1)
-unfolding body line_of words between_blanks is_blank script_says call_named port_call_named
-    dropping_call_named
+unfolding body line_of words between_blanks is_blank script_says said_by caller_of_word call_named
+    port_call_named dropping_call_named
 no_waiting = refl
 
 -- a text without words
@@ -64,7 +81,7 @@ nothing = refl
 -- the first wrong line is told
 another_task : script_of false tasks (text (codes "f names 1" ∷ codes "g names 1" ∷ codes "f" ∷ []))
     ≡ Err (BadLine 2)
-unfolding body line_of words between_blanks is_blank script_says call_named
+unfolding body line_of words between_blanks is_blank script_says said_by caller_of_word call_named
     port_call_named names number_of_word
 another_task = refl
 
@@ -93,6 +110,14 @@ listed : event_line table 1 1 (Names ((1, 65536) ∷ (9, 65536) ∷ []))
     ≡ codes "1 f names 1:65536 9:65536\n"
 unfolding digits
 listed = refl
+
+listed_child : event_line table 9 2 DeadTask ≡ codes "9 @2 dead task\n"
+unfolding digits
+listed_child = refl
+
+made : reply_text (Created 2 3) ≡ codes "task 2 name 3"
+unfolding digits
+made = refl
 
 ends : end_line 2 2 ≡ codes "end events 2 ports 2\n"
 unfolding digits

@@ -1,8 +1,9 @@
--- What a line of a script says: a task of the wiring by its name, a call by Mach's name without
--- `mach_port_`, or `receive`, and the call's parameters in order. One definition a call. The calls
--- are those of Mach 3 Kernel Interfaces; how they are written is this profile's own choice.
-use Rattle.std.specs.Prelude.{ℕ, bytes_eq, codes, List, [], ◌∷◌, Option, Some, None}
-use Rattle.std.specs.Prelude.{if◌then◌else◌, false}
+-- What a line of a script says: a task of the wiring by its name, or one that a call makes by its
+-- number, a call by Mach's name without `mach_port_`, or `receive`, and the call's parameters in
+-- order. One definition a call. The calls are those of Mach 3 Kernel Interfaces; how they are
+-- written is this profile's own choice.
+use Rattle.std.specs.Prelude.{ℕ, bytes_eq, codes, List, [], ◌∷◌, length, nat_lt, Option, Some, None}
+use Rattle.std.specs.Prelude.{if◌then◌else◌, false, ◌==◌}
 use Rattle.mrc_wiring.specs.Names.{number_of}
 use Rattle.mrc_words.specs.Reading.{◌>>=◌}
 use Rattle.mrc_machine.specs.declared.call.Call.{Call}
@@ -11,7 +12,7 @@ use Rattle.mrc_machine.specs.declared.call.Call.TheVariants.{ExtractRight, SetQl
 use Rattle.mrc_machine.specs.declared.call.Call.TheVariants.{Names, Rename, Receive, Send}
 use Rattle.mrc_machine.specs.declared.call.Call.TheVariants.{MoveMember, RequestNotification}
 use Rattle.mrc_machine.specs.declared.call.Call.TheVariants.{Deallocate, Destroy, ModRefs}
-use Rattle.mrc_machine.specs.declared.call.Call.TheVariants.{Terminate}
+use Rattle.mrc_machine.specs.declared.call.Call.TheVariants.{Terminate, CreateTask}
 use Rattle.mrc_report.specs.declared.script.TaskCall.{TaskCall}
 use Rattle.mrc_words.specs.Numbers.{number_of_word, delta_of_word}
 use Rattle.mrc_report.specs.Parameters.{right_of_word, disp_of_word, message_of_words}
@@ -147,6 +148,13 @@ task_terminate (task ∷ []) = do
   Some (Terminate t)
 task_terminate words = None
 
+-- `task_create TASK`
+unfoldable pub task_create : List (List ℕ) → Option Call
+task_create (task ∷ []) = do
+  t ← number_of_word task
+  Some (CreateTask t)
+task_create words = None
+
 -- `send HEX`, the bytes of the message, where blanks may stand anywhere
 unfoldable pub send : List (List ℕ) → Option Call
 send words = do
@@ -174,6 +182,7 @@ port_call_named name parameters =
     else if bytes_eq name (codes "type") then port_type parameters
     else if bytes_eq name (codes "names") then names parameters
     else if bytes_eq name (codes "rename") then rename parameters
+    else if bytes_eq name (codes "task_create") then task_create parameters
     else if bytes_eq name (codes "move_member") then move_member parameters
     else if bytes_eq name (codes "request_notification") then request_notification parameters
     else dropping_call_named name parameters
@@ -183,10 +192,28 @@ unfoldable pub call_named : List ℕ → List (List ℕ) → Option Call
 call_named name parameters =
     if bytes_eq name (codes "send") then send parameters else port_call_named name parameters
 
--- what the words of a line say: the call of a task, which has one of these names
-unfoldable pub script_says : List (List ℕ) → List (List ℕ) → Option TaskCall
-script_says tasks (task ∷ name ∷ parameters) = do
-  t ← number_of tasks task
+-- the task of these digits, where it is none of so many wired ones
+unfoldable pub child_of_word : ℕ → List ℕ → Option ℕ
+child_of_word wired digits = do
+  n ← number_of_word digits
+  if nat_lt n wired then None else Some n
+
+-- who calls in a replay: the task that has this one of the names, or `@N`, the task of the number N,
+-- which is not wired
+unfoldable pub caller_of_word : List (List ℕ) → List ℕ → Option ℕ
+caller_of_word tasks [] = None
+caller_of_word tasks (byte ∷ digits) =
+    if byte == 64 then child_of_word (length tasks) digits else number_of tasks (byte ∷ digits)
+
+-- the call of this task, with the words of its parameters
+unfoldable pub said_by : Option ℕ → List ℕ → List (List ℕ) → Option TaskCall
+said_by caller name parameters = do
+  t ← caller
   call ← call_named name parameters
   Some (record { task = t; call = call; waits = false })
+
+-- what the words of a line say in a replay: the call of a task, which has one of these names or is
+-- made by a call
+unfoldable pub script_says : List (List ℕ) → List (List ℕ) → Option TaskCall
+script_says tasks (task ∷ name ∷ parameters) = said_by (caller_of_word tasks task) name parameters
 script_says tasks words = None

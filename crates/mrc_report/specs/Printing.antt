@@ -9,7 +9,7 @@ use Rattle.mrc_model.specs.declared.Denied.{Denied}
 use Rattle.mrc_model.specs.declared.Denied.TheVariants.{NoSuchId, WrongShape, WrongDisposition}
 use Rattle.mrc_model.specs.declared.Denied.TheVariants.{ReplySlot, NotAdmitted, NotDestroyed}
 use Rattle.mrc_model.specs.Reply.{Reply, Done, Name, Refs, Mask, Names, Bytes, TooLarge, Refused}
-use Rattle.mrc_model.specs.Reply.{DeniedBy, DeadTask}
+use Rattle.mrc_model.specs.Reply.{Created, DeniedBy, DeadTask}
 use Rattle.mrc_wiring.specs.Table.{Table}
 use Rattle.mrc_words.specs.Words.{◌␣◌, task_word}
 
@@ -64,13 +64,15 @@ reply_text (Name name) = codes "name" ␣ decimal name
 reply_text (Refs refs) = codes "refs" ␣ decimal refs
 reply_text (Mask mask) = codes "type" ␣ decimal mask
 reply_text (Names names) = codes "names" ++ flat_map named_word names
+reply_text (Created task name) =
+    codes "task" ␣ decimal task ␣ codes "name" ␣ decimal name
 reply_text (Bytes bytes) = codes "message" ␣ hex bytes
 reply_text (TooLarge size) = codes "too large" ␣ decimal size
 reply_text (Refused c) = codes "refused" ␣ code_word c
 reply_text (DeniedBy denied) = codes "denied" ␣ denied_words denied
 reply_text DeadTask = codes "dead task"
 
--- the line of an event: its number, the task by its name, and the reply
+-- the line of an event: its number, the task by its name or as `@N`, and the reply
 abbrev pub event_line : Table → ℕ → ℕ → Reply → List ℕ
 event_line table number task reply =
     decimal number ␣ task_word table task ␣ (reply_text reply ++ codes "\n")

@@ -1,11 +1,12 @@
--- What a line of a script says where tasks run as threads: the call of a task as in a replay, or
--- `wait NAME LIMIT`, which is a receive that waits for a message. This profile's own choice.
+-- What a line of a script says where tasks run as threads: the call of a wired task, written as in a
+-- replay, or `wait NAME LIMIT`, which is a receive that waits for a message. This profile's own
+-- choice.
 use Rattle.std.specs.Prelude.{ℕ, Bool, true, false, bytes_eq, codes, List, [], ◌∷◌, Option, Some}
 use Rattle.std.specs.Prelude.{None, if◌then◌else◌}
 use Rattle.mrc_wiring.specs.Names.{number_of}
 use Rattle.mrc_words.specs.Reading.{◌>>=◌}
 use Rattle.mrc_report.specs.declared.script.TaskCall.{TaskCall}
-use Rattle.mrc_report.specs.Calls.{receive, script_says}
+use Rattle.mrc_report.specs.Calls.{receive, said_by, script_says}
 
 -- a task waits for a message, with the words of the parameters of a receive
 unfoldable pub wait_says : List (List ℕ) → List ℕ → List (List ℕ) → Option TaskCall
@@ -18,8 +19,8 @@ wait_says tasks task parameters = do
 unfoldable pub live_says : List (List ℕ) → List (List ℕ) → Option TaskCall
 live_says tasks (task ∷ name ∷ parameters) =
     if bytes_eq name (codes "wait") then wait_says tasks task parameters
-    else script_says tasks (task ∷ name ∷ parameters)
-live_says tasks words = script_says tasks words
+    else said_by (number_of tasks task) name parameters
+live_says tasks words = None
 
 -- what they say where tasks run as threads, and where they do not
 abbrev pub line_says : Bool → List (List ℕ) → List (List ℕ) → Option TaskCall

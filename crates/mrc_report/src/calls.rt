@@ -5,9 +5,10 @@ ghost use Rattle.mrc_wiring.specs.Names.{number_of};
 ghost use Rattle.mrc_report.specs.Calls.{allocate, get_refs, insert_right, extract_right};
 ghost use Rattle.mrc_report.specs.Calls.{set_qlimit, port_type, names, rename, call_named};
 ghost use Rattle.mrc_report.specs.Calls.{receive, send, port_call_named};
+ghost use Rattle.mrc_report.specs.Calls.{child_of_word, caller_of_word, said_by};
 ghost use Rattle.mrc_report.specs.Calls.{script_says, dropping_call_named};
 ghost use Rattle.mrc_report.specs.Calls.{move_member, request_notification, deallocate, destroy};
-ghost use Rattle.mrc_report.specs.Calls.{mod_refs, task_terminate};
+ghost use Rattle.mrc_report.specs.Calls.{mod_refs, task_terminate, task_create};
 
 use crate::parameters::{disp_of_word, message_of_words, right_of_word};
 use crate::script::TaskCall;
@@ -226,6 +227,18 @@ fn task_terminate(words: &[&[u8]]) -> Option<Call>
     }
 }
 
+#[tactic(auto, unfolding(crate::specs::Calls::task_create))]
+fn task_create(words: &[&[u8]]) -> Option<Call>
+    ensures { result ≡ task_create (map (λ word. word.now) words.now) }
+{
+    match *words {
+        [task] => Some(Call::CreateTask {
+            task: number_of_word(task)?,
+        }),
+        _ => None,
+    }
+}
+
 /// The message of the words is sent.
 #[tactic(auto, unfolding(crate::specs::Calls::send))]
 fn send(alloc: Global, words: &[&[u8]]) -> Result<Option<Call>, AllocError>
@@ -278,6 +291,8 @@ fn port_call_named(name: &[u8], parameters: &[&[u8]]) -> Option<Call>
         names(parameters)
     } else if is_word(name, "rename") {
         rename(parameters)
+    } else if is_word(name, "task_create") {
+        task_create(parameters)
     } else if is_word(name, "move_member") {
         move_member(parameters)
     } else if is_word(name, "request_notification") {
@@ -311,7 +326,56 @@ pub(crate) fn task_of_word(wired: &Wired, word: &[u8]) -> Option<TaskId>
     }
 }
 
-/// What the words of a line say: the call of a task.
+/// The task of these digits, where it is none of so many wired ones.
+#[tactic(auto, unfolding(crate::specs::Calls::child_of_word))]
+fn child_of_word(wired: u16, digits: &[u8]) -> Option<TaskId>
+    ensures { result ≡ child_of_word wired digits.now }
+{
+    let number = number_of_word(digits)?;
+    if number < u32::from(wired) {
+        return None;
+    }
+    Some(TaskId(number))
+}
+
+/// Who calls in a replay: a wired task by its name, or `@N`, the task of the number N, which is not
+/// wired.
+#[tactic(auto, unfolding(crate::specs::Calls::caller_of_word))]
+fn caller_of_word(wired: &Wired, word: &[u8]) -> Option<TaskId>
+    ensures { result ≡ caller_of_word wired.now.names word.now }
+{
+    match *word {
+        [] => None,
+        [b'@', ref digits @ ..] => child_of_word(wired.tasks(), digits),
+        _ => task_of_word(wired, word),
+    }
+}
+
+/// The call of this task, if there is one.
+#[tactic(auto, unfolding(crate::specs::Calls::said_by))]
+pub(crate) fn said_by(
+    alloc: Global,
+    caller: Option<TaskId>,
+    name: &[u8],
+    parameters: &[&[u8]],
+) -> Result<Option<TaskCall>, AllocError>
+    ensures { IfOk result
+        (λ says. says ≡ said_by caller name.now (map (λ word. word.now) parameters.now)) }
+{
+    let Some(task) = caller else {
+        return Ok(None);
+    };
+    let Some(call) = call_named(alloc, name, parameters)? else {
+        return Ok(None);
+    };
+    Ok(Some(TaskCall {
+        task,
+        call,
+        waits: false,
+    }))
+}
+
+/// What the words of a line say in a replay: the call of a task.
 #[tactic(auto, unfolding(crate::specs::Calls::script_says))]
 pub(crate) fn script_says(
     alloc: Global,
@@ -323,17 +387,7 @@ pub(crate) fn script_says(
 {
     match *words {
         [task, name, ref parameters @ ..] => {
-            let Some(task) = task_of_word(wired, task) else {
-                return Ok(None);
-            };
-            let Some(call) = call_named(alloc, name, parameters)? else {
-                return Ok(None);
-            };
-            Ok(Some(TaskCall {
-                task,
-                call,
-                waits: false,
-            }))
+            said_by(alloc, caller_of_word(wired, task), name, parameters)
         }
         _ => Ok(None),
     }

@@ -115,6 +115,10 @@ pub fn reply_text(alloc: Global, reply: &Reply) -> Result<String, AllocError>
         Reply::Refs(refs) => format!(in alloc; "refs {refs}"),
         Reply::Mask(mask) => format!(in alloc; "type {mask}"),
         Reply::Names(names) => names_text(alloc, names),
+        Reply::Created { task, name } => {
+            let number = task.0;
+            format!(in alloc; "task {number} name {name}")
+        }
         Reply::Message(bytes) => message_text(alloc, bytes.as_slice()),
         Reply::TooLarge(size) => format!(in alloc; "too large {size}"),
         Reply::Refused(code) => {
@@ -129,7 +133,7 @@ pub fn reply_text(alloc: Global, reply: &Reply) -> Result<String, AllocError>
     }
 }
 
-/// The line of an event: its number, the task by its name, and the reply.
+/// The line of an event: its number, the task by its name or as `@N`, and the reply.
 pub fn event_line(
     alloc: Global,
     wired: &Wired,
@@ -140,7 +144,7 @@ pub fn event_line(
     ensures { IfOk result
         (λ text. string_bytes text ≡ event_line wired.now number task (reply_of reply.now)) }
 {
-    let task = task_word(wired, task);
+    let task = task_word(alloc, wired, task)?;
     let reply = reply_text(alloc, reply)?;
     format!(in alloc; "{number} {task} {reply}\n")
 }

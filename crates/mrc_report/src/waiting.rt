@@ -3,7 +3,7 @@
 ghost use Rattle.std.specs.Prelude.{◌≡◌, map, IfOk};
 ghost use Rattle.mrc_report.specs.Waiting.{wait_says, live_says, line_says};
 
-use crate::calls::{receive, script_says, task_of_word};
+use crate::calls::{receive, said_by, script_says, task_of_word};
 use crate::script::TaskCall;
 use mrc_wiring::Wired;
 use mrc_wiring_text::is_word;
@@ -30,12 +30,15 @@ fn live_says(alloc: Global, wired: &Wired, words: &[&[u8]]) -> Result<Option<Tas
     ensures { IfOk result
         (λ says. says ≡ live_says wired.now.names (map (λ word. word.now) words.now)) }
 {
-    if let [task, name, ref parameters @ ..] = *words {
-        if is_word(name, "wait") {
-            return Ok(wait_says(wired, task, parameters));
+    match *words {
+        [task, name, ref parameters @ ..] => {
+            if is_word(name, "wait") {
+                return Ok(wait_says(wired, task, parameters));
+            }
+            said_by(alloc, task_of_word(wired, task), name, parameters)
         }
+        _ => Ok(None),
     }
-    script_says(alloc, wired, words)
 }
 
 /// What the words of a line say: the call of a task; and whether it waits, where tasks run as

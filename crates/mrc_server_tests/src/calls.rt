@@ -284,6 +284,93 @@ fn nobody_has_no_seat(rt: HostRuntime) -> Result<(), Fail> {
     Ok(())
 }
 
+/// Two tasks, of which the first holds the other's kernel port.
+const TWO: &str = "wiring 1
+task l
+task f
+hold l send task f
+";
+
+/// Their certificate.
+const TWO_TASKS: [u8; 110] = [
+    0x4d, 0x52, 0x43, 0x43, 0x00, 0x01, 0x00, 0x02, 0x00, 0x04, 0x00, 0x00, 0x00, 0x10, // header
+    0x01, 0x00, 0x00, 0x00, 0x00, 0x00, 0x01, 0x00, 0x00, 0x00, 0x01, 0x00, 0x01, 0x00, 0x00, 0x00,
+    0x02, 0x00, 0x01, 0x00, 0x00, 0x00, 0x02, 0x01, 0x01, 0x00, 0x00, 0x00, 0x02, 0x02, 0x01, 0x00,
+    0x00, 0x00, 0x03, 0x00, 0x01, 0x00, 0x00, 0x00, 0x03, 0x01, 0x01, 0x00, 0x00, 0x00, 0x03, 0x02,
+    0x01, 0x00, 0x01, 0x00, 0x00, 0x00, 0x01, 0x00, 0x01, 0x00, 0x01, 0x00, 0x01, 0x00, 0x01, 0x00,
+    0x02, 0x00, 0x01, 0x00, 0x01, 0x00, 0x02, 0x01, 0x01, 0x00, 0x01, 0x00, 0x02, 0x02, 0x01, 0x00,
+    0x01, 0x00, 0x03, 0x00, 0x01, 0x00, 0x01, 0x00, 0x03, 0x01, 0x01, 0x00, 0x01, 0x00, 0x03, 0x02,
+];
+
+/// Whether the first task makes the third.
+fn makes_third<L: Ledger, R: Wait>(rt: &R, live: &Live<L>, seat: &mut Seat<L>) -> bool {
+    matches!(
+        told(rt, live, seat, Call::CreateTask { task: 2 }),
+        Ok(Reply::Created {
+            task: TaskId(2),
+            name: 3
+        })
+    )
+}
+
+/// Whether a task has its kernel port under the name 1, and nothing else.
+fn has_kernel_port_alone<L: Ledger, R: Wait>(rt: &R, live: &Live<L>, seat: &mut Seat<L>) -> bool {
+    match told(rt, live, seat, Call::Names { task: 1 }) {
+        Ok(Reply::Names(names)) => match names.as_slice() {
+            [named] => named.name == 1 && named.rights.mask() == 0x1_0000,
+            _ => false,
+        },
+        _ => false,
+    }
+}
+
+/// Whether there is no task of this number.
+fn is_nobody<L: Ledger, R: Wait>(rt: &R, live: &Live<L>, task: u32) -> bool {
+    matches!(live.seat(rt, TaskId(task)), Err(NotSeated::NoSuchTask))
+}
+
+/// A seat of a task that a call makes: none before it, then one that calls, and all is finished.
+fn seat_of_a_child<L: Ledger, R: Wait>(
+    rt: &R,
+    alloc: Global,
+    live: Live<L>,
+) -> Result<([bool; 4], usize), AllocError> {
+    let mut maker = seat(rt, &live)?;
+    let none = is_nobody(rt, &live, 2);
+    let made = makes_third(rt, &live, &mut maker);
+    let Ok(mut child) = live.seat(rt, TaskId(2)) else {
+        return Err(AllocError);
+    };
+    let alone = has_kernel_port_alone(rt, &live, &mut child);
+    let next = is_nobody(rt, &live, 3);
+    let seats = vec![in alloc; maker, child]?;
+    Ok(([none, made, alone, next], events(live, seats)))
+}
+
+/// The same of the machine of two tasks.
+fn child_of_two<L: Ledger, R: Threads + Wait + Sync>(
+    rt: &R,
+    alloc: Global,
+    blank: Blank,
+) -> Result<([bool; 4], usize), AllocError>
+    requires name { blank.name ≡ L.name }
+    requires parts { (blank.parts ≡ L.parts) × (L.parts ≡ 257) }
+{
+    let machine = started(rt, alloc, TWO, &TWO_TASKS)?;
+    match locked::<L>(alloc, machine, 2, blank) {
+        Ok(live) => seat_of_a_child(rt, alloc, live),
+        Err(_) => Err(AllocError),
+    }
+}
+
+#[test]
+fn a_child_has_a_seat_once_it_is_made(rt: HostRuntime) -> Result<(), Fail> {
+    let (told, events) = child_of_two::<Brand, _>(&rt, rt.alloc(), Blank::new(257))?;
+    assert_eq!(rt; told, [true; 4]);
+    assert_eq!(rt; events, 2);
+    Ok(())
+}
+
 fn hundred<L: Ledger, R: Wait>(rt: &R, live: &Live<L>, seat: Seat<L>) -> Seat<L> {
     let mut seat = seat;
     for _ in 0..100 {

@@ -22,6 +22,13 @@ fn replies(rt: HostRuntime) -> Result<(), Fail> {
         (Reply::Name(4_294_967_295), "name 4294967295"),
         (Reply::Refs(0), "refs 0"),
         (Reply::Mask(196_608), "type 196608"),
+        (
+            Reply::Created {
+                task: TaskId(4_294_967_295),
+                name: 3,
+            },
+            "task 4294967295 name 3",
+        ),
         (Reply::TooLarge(8_192), "too large 8192"),
         (
             Reply::Refused(Code::KernRightExists),
@@ -52,6 +59,8 @@ fn events(rt: HostRuntime) -> Result<(), Fail> {
     let wired = two_tasks(rt.alloc())?;
     let line = event_line(rt.alloc(), &wired, 10, TaskId(1), &Reply::Done)?;
     assert_eq!(rt; line.as_str(), "10 f done\n");
+    let line = event_line(rt.alloc(), &wired, 10, TaskId(2), &Reply::DeadTask)?;
+    assert_eq!(rt; line.as_str(), "10 @2 dead task\n");
     let end = end_line(rt.alloc(), 11, 65_536)?;
     assert_eq!(rt; end.as_str(), "end events 11 ports 65536\n");
     Ok(())
@@ -115,6 +124,18 @@ fn a_longer_replay(rt: HostRuntime) -> Result<(), Fail> {
     let want = "0 f name 2\n1 f done\n2 f type 196608\n3 f done\n4 f done\n5 f name 9\n\
         6 f refs 2\n7 f names 1:65536 9:196608 10:262144\n8 f refused KERN_INVALID_VALUE\n\
         9 l refused KERN_INVALID_TASK\nend events 10 ports 3\n";
+    assert_eq!(rt; replayed(rt.alloc(), script)?.as_str(), want);
+    Ok(())
+}
+
+// A task is made, gets a port of its own, and outlives the one that it was made from.
+#[test]
+fn a_replay_that_makes_a_task(rt: HostRuntime) -> Result<(), Fail> {
+    let script = "l task_create 2\n@2 names 1\n@2 allocate 1 receive\nl extract_right 3 2 20\n\
+        l task_terminate 2\nf names 1\n@2 type 1 2\nl task_terminate 3\nl type 1 4\n@002 names 1\n";
+    let want = "0 l task 2 name 3\n1 @2 names 1:65536\n2 @2 name 2\n3 l name 4\n4 l done\n\
+        5 f dead task\n6 @2 type 131072\n7 l done\n8 l type 1048576\n9 @2 dead task\n\
+        end events 10 ports 1\n";
     assert_eq!(rt; replayed(rt.alloc(), script)?.as_str(), want);
     Ok(())
 }

@@ -18,7 +18,7 @@ fn call_of(alloc: Global, line: &str) -> Result<Option<String>, Fail> {
     }
 }
 
-const CALLS: [(&str, &str); 18] = [
+const CALLS: [(&str, &str); 19] = [
     ("receive 2 8192", "Receive { name: 2, limit: 8192 }"),
     (
         "allocate 1 set",
@@ -72,6 +72,7 @@ const CALLS: [(&str, &str); 18] = [
         "RequestNotification { task: 1, name: 2, id: 69, sync: 3, notify: 4, disp: MoveSendOnce }",
     ),
     ("task_terminate 1", "Terminate { task: 1 }"),
+    ("task_create 01", "CreateTask { task: 1 }"),
     (
         "send 1400000018000000 0200000 0 00000000\t00000000 F401000a # ping",
         "Send(Message { header: Header { remote_disp: 20, local_disp: 0, remote_port: 2, \
@@ -124,7 +125,7 @@ fn dispositions(rt: HostRuntime) -> Result<(), Fail> {
 }
 
 // Words that are too many, too few or none of the grammar.
-const BAD: [&str; 32] = [
+const BAD: [&str; 35] = [
     "",
     "allocate 1",
     "allocate 1 set 0",
@@ -147,6 +148,9 @@ const BAD: [&str; 32] = [
     "receive 1",
     "wait 1 24",
     "terminate 1",
+    "create 1",
+    "task_create",
+    "task_create 1 2",
     "task_terminate 1 2",
     "mod_refs 1 2 send +5",
     "mod_refs 1 2 send -",
@@ -180,6 +184,41 @@ fn faults_by_line(rt: HostRuntime) -> Result<(), Fail> {
     ] {
         let told = script(rt.alloc(), text)?;
         assert!(rt; told.is_err_and(|number| number == want), "{want}");
+    }
+    Ok(())
+}
+
+/// The number of the task that calls in the one line of a script of two tasks.
+fn caller(alloc: Global, word: &str) -> Result<Option<u32>, Fail> {
+    let text = format!(in alloc; "{word} names 1")?;
+    let Ok(script) = script(alloc, text.as_str())? else {
+        return Ok(None);
+    };
+    Ok(script.lines().first().map(|line| line.says.task.0))
+}
+
+// A task that is not wired stands by its number, a wired one by its name alone.
+#[test]
+fn callers(rt: HostRuntime) -> Result<(), Fail> {
+    for (word, want) in [
+        ("l", Some(0)),
+        ("f", Some(1)),
+        ("@2", Some(2)),
+        ("@002", Some(2)),
+        ("@4294967295", Some(4_294_967_295)),
+        ("@4294967296", None),
+        ("@0", None),
+        ("@1", None),
+        ("@01", None),
+        ("@", None),
+        ("@+2", None),
+        ("@-2", None),
+        ("@0x2", None),
+        ("@f", None),
+        ("2", None),
+        ("@2 @2", None),
+    ] {
+        assert_eq!(rt; caller(rt.alloc(), word)?, want, "{word}");
     }
     Ok(())
 }

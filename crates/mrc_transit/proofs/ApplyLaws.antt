@@ -55,6 +55,30 @@ sent_spaces s plan =
     append_spaces _ plan.destination plan.parcel _
     ∙ each_spaces plan.taking.moved (set_space s plan.sender plan.taking.space)
 
+-- and no port is born
+
+restart_next_at : (s : Store) (p : ℕ) (o : Option Port) → (restart_port s p o).next ≡ s.next
+restart_next_at s p None = refl
+restart_next_at s p (Some x) = refl
+
+pub restart_next : (s : Store) (p : ℕ) → (restart s p).next ≡ s.next
+unfolding restart
+restart_next s p = restart_next_at s p (get s.ports p)
+
+each_next : (ps : List ℕ) (s : Store) → (restart_each s ps).next ≡ s.next
+each_next [] s = refl
+each_next (p ∷ ps) s = each_next ps (restart s p) ∙ restart_next s p
+
+append_next : (s : Store) (p : ℕ) (m : Parcel) (o : Option Port) → (append_to s p m o).next ≡ s.next
+append_next s p m None = refl
+append_next s p m (Some x) = refl
+
+pub sent_next : (s : Store) (plan : SendPlan) → (sent s plan).next ≡ s.next
+unfolding sent staged append
+sent_next s plan =
+    append_next _ plan.destination plan.parcel _
+    ∙ each_next plan.taking.moved (set_space s plan.sender plan.taking.space)
+
 -- a live port keeps its queue and its limit
 
 -- the port is live, with this port's queue and limit

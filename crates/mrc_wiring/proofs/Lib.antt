@@ -7,6 +7,7 @@ pub mod StateLemmas
 pub mod Steps
 pub mod Resolved
 pub mod Sound
+pub mod AllTasks
 pub mod Classes
 pub mod Forms
 pub mod FirstHolds

@@ -1,7 +1,7 @@
 -- What is printed of a fact in range is read as the fact, and what is read prints as the text.
 use Rattle.std.proofs.Common.{◌≡◌, ◌<◌, ℕ, List, Option, Some, None, refl, sym}
 use Rattle.std.proofs.Common.{subst, ap, ap₂, ◌∙◌, true, false, codes, if◌then◌else◌}
-use Rattle.std.specs.Prelude.{slice_get, bytes_eq, unwrap_or, IfSome}
+use Rattle.std.specs.Prelude.{slice_get, bytes_eq, IfSome}
 use Rattle.std.proofs.lemmas.Slice.Eq.{bytes_eq-Decides}
 use Rattle.mrc_base.specs.declared.PortRight.{PortRight}
 use Rattle.mrc_base.specs.declared.PortRight.TheVariants.{Send, Receive, SendOnce}
@@ -12,7 +12,7 @@ use Rattle.mrc_model.specs.Rules.{InRange}
 use Rattle.mrc_wiring.specs.Table.{Table, wiring_of}
 use Rattle.mrc_wiring.specs.Names.{number_of, class_named}
 use Rattle.mrc_wiring.proofs.NameLemmas.{number_at, named_at, read_within}
-use Rattle.mrc_words.specs.Words.{◌␣◌, right_word, class_word, task_word, fact_text}
+use Rattle.mrc_words.specs.Words.{◌␣◌, right_word, class_word, task_text, task_word, fact_text}
 use Rattle.mrc_words.specs.Reading.{◌>>=◌, cut, right_named, hold_named, carry_named, backup_named}
 use Rattle.mrc_words.specs.Reading.{fact_of_kind, fact_named}
 use Rattle.mrc_words.specs.Laws.{PrintedIsRead, ReadIsPrinted, NamesOneFact}
@@ -40,7 +40,7 @@ task_read : (table : Table) (t : ℕ) (name : List ℕ) → AreNamed table
     → slice_get table.names t ≡ Some name
     → (task_word table t ≡ name) × (number_of table.names name ≡ Some t) × HasNoBlank name
 task_read table t name are e =
-    (ap (λ o. unwrap_or o (codes "?")) e, number_at table.names name t are.0 e, no_blank_name name (are.0.each t name e))
+    (ap (task_text t) e, number_at table.names name t are.0 e, no_blank_name name (are.0.each t name e))
 
 hold_read : (table : Table) (t c : ℕ) (right : PortRight) (name : List ℕ) → AreNamed table
     → slice_get table.names t ≡ Some name
@@ -132,7 +132,7 @@ hold_back table text fact e =
     let class = bound (class_named table second.0.0) _ fact task.2 in
     let right = bound (right_named second.0.1) _ fact class.2 in
     let here = named_at table.names first.0.0 task.0 task.1 in
-    let holder : task_word table task.0 ≡ first.0.0 = ap (λ o. unwrap_or o (codes "?")) here in
+    let holder : task_word table task.0 ≡ first.0.0 = ap (task_text task.0) here in
     let of_class = class_word_back table second.0.0 class.0 class.1 in
     let word : right_word right.0 ≡ second.0.1 = right_back second.0.1 right.0 right.1 in
     let text_is : task_word table task.0 ␣ class_word table class.0 ␣ right_word right.0 ≡ text =

@@ -1,7 +1,6 @@
 -- The words in which a fact is printed: rights, classes and tasks by the names of a wiring. This
 -- profile's own choice.
 use Rattle.std.specs.Prelude.{ℕ, List, ◌++◌, Option, Some, None, codes, decimal, slice_get}
-use Rattle.std.specs.Prelude.{unwrap_or}
 use Rattle.mrc_base.specs.declared.PortRight.{PortRight}
 use Rattle.mrc_base.specs.declared.PortRight.TheVariants.{Send, Receive, SendOnce}
 use Rattle.mrc_base.specs.declared.Fact.{Fact}
@@ -37,9 +36,14 @@ class_text class (Some label) = label_word label
 abbrev pub class_word : Table → ℕ → List ℕ
 class_word table class = class_text class (class_label table class)
 
--- a task by its name, or `?` where the wiring has no task of the number
+-- a task by its name, or `@N`, where N is its number, if it has none
+abbrev pub task_text : ℕ → Option (List ℕ) → List ℕ
+task_text task None = codes "@" ++ decimal task
+task_text task (Some name) = name
+
+-- a task by its name in a wiring, or `@N` where it is not wired
 abbrev pub task_word : Table → ℕ → List ℕ
-task_word table task = unwrap_or (slice_get table.names task) (codes "?")
+task_word table task = task_text task (slice_get table.names task)
 
 -- a fact as it is printed
 abbrev pub fact_text : Table → Fact → List ℕ

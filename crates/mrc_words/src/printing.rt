@@ -19,11 +19,14 @@ pub fn right_word(right: PortRight) -> &'static str
     }
 }
 
-/// A task by its name, or `?` where the wiring has no task of the number.
-pub fn task_word(wired: &Wired, task: TaskId) -> &str
-    ensures { result.now ≡ task_word wired.now task }
+/// A task by its name, or `@N`, where N is its number, if it is not wired.
+pub fn task_word(alloc: Global, wired: &Wired, task: TaskId) -> Result<String, AllocError>
+    ensures { IfOk result (λ text. string_bytes text ≡ task_word wired.now task) }
 {
-    wired.task_name(task).unwrap_or("?")
+    match wired.task_name(task) {
+        Some(name) => String::from_str(alloc, name),
+        None => format!(in alloc; "@{}", task.0),
+    }
 }
 
 fn label_word(alloc: Global, label: ClassLabel<'_>) -> Result<String, AllocError>
@@ -56,7 +59,7 @@ pub fn fact_text(alloc: Global, wired: &Wired, fact: Fact) -> Result<String, All
 {
     match fact {
         Fact::Hold { task, class, right } => {
-            let holder = task_word(wired, TaskId(u32::from(task)));
+            let holder = task_word(alloc, wired, TaskId(u32::from(task)))?;
             let class = class_word(alloc, wired, class)?;
             let right = right_word(right);
             format!(in alloc; "hold {holder} {class} {right}")

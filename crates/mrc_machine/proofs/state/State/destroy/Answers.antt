@@ -1,8 +1,3 @@
-use Rattle.std.proofs.Common.{sym, ap, ◌∙◌}
-use Rattle.mrc_model.specs.World.{Store, World}
-use Rattle.mrc_model.specs.Target.{with_store}
-use Rattle.mrc_model.specs.Destroyed.{destroyed}
-use Rattle.mrc_death.specs.Taking.{destroyed_of}
 use Rattle.mrc_machine.proofs.DestroyLaws.{housed_carried}
 use Rattle.mrc_machine.proofs.state.State.destroy.Goals as goal
 
