@@ -7,6 +7,7 @@ use std::alloc::Global;
 use std::process::Abort;
 use std::test::Fail;
 
+/// That a task holds a right of a port.
 pub fn holding(task: u32, port: u64, right: PortRight) -> Holding {
     Holding {
         task: TaskId(task),

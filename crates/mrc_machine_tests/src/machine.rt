@@ -16,6 +16,7 @@ pub const ONE: &str = "wiring 1\ntask a";
 /// Two tasks; the first holds the second one's kernel port under name 2.
 pub const TWO: &str = "wiring 1\ntask l\ntask f\nhold l send task f";
 
+/// The machine of a wiring. Where memory runs out in a call, the call is made once again.
 #[derive(Drop)]
 pub struct Machine {
     wired: Wired,
@@ -93,6 +94,7 @@ impl Machine {
         self.world.step(&self.wired, caller, call).ok()
     }
 
+    /// One call, made again where memory ran out: that changes nothing.
     pub fn step(&mut self, caller: TaskId, call: &Call) -> Option<Reply> {
         match self.try_step(caller, call) {
             Some(reply) => Some(reply),
@@ -149,6 +151,7 @@ impl Machine {
         }
     }
 
+    /// How many ports are live.
     pub fn live_ports(&self) -> usize {
         self.world.live_ports()
     }

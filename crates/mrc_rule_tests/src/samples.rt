@@ -7,10 +7,13 @@ use mrc_wiring_text::read_wiring;
 use std::alloc::{AllocError, Global};
 use std::test::Fail;
 
+/// A send right.
 pub const SEND: PortRight = PortRight::Send;
 
+/// A receive right.
 pub const RECEIVE: PortRight = PortRight::Receive;
 
+/// A send-once right.
 pub const ONCE: PortRight = PortRight::SendOnce;
 
 /// A task alone.
@@ -27,6 +30,7 @@ pub const ALONE: [u8; 38] = [
     0x01, 0x00, 0x00, 0x00, 0x01, 0x01, 0x01, 0x00, 0x00, 0x00, 0x01, 0x02, // receive, send-once
 ];
 
+/// That a task holds a right of a class.
 pub fn hold(task: u16, class: u16, right: PortRight) -> Fact {
     Fact::Hold {
         task,
@@ -35,6 +39,7 @@ pub fn hold(task: u16, class: u16, right: PortRight) -> Fact {
     }
 }
 
+/// That a message to the one class may carry a right of the other.
 pub fn carry(destination: u16, class: u16, right: PortRight) -> Fact {
     Fact::Carry {
         destination: ClassId(destination),
@@ -43,6 +48,7 @@ pub fn carry(destination: u16, class: u16, right: PortRight) -> Fact {
     }
 }
 
+/// That a port of the class may have a port-destroyed request that names a port of the other.
 pub fn backup(class: u16, notify: u16) -> Fact {
     Fact::Backup {
         class: ClassId(class),
@@ -64,6 +70,7 @@ pub fn put(set: &mut Facts, fact: Fact) -> Result<bool, AllocError> {
     set.insert(fact)
 }
 
+/// The set of some facts.
 pub fn set_of(alloc: Global, facts: &[Fact]) -> Result<Facts, AllocError> {
     let mut set = Facts::new(alloc);
     for fact in facts {
@@ -72,10 +79,12 @@ pub fn set_of(alloc: Global, facts: &[Fact]) -> Result<Facts, AllocError> {
     Ok(set)
 }
 
+/// How many facts a set has.
 pub fn count(set: &Facts) -> usize {
     set.len()
 }
 
+/// Whether a fact is in a set.
 pub fn is_in(set: &Facts, fact: Fact) -> bool {
     set.has(&fact)
 }
