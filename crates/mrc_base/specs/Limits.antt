@@ -9,6 +9,10 @@ limit_of_tasks = 64
 abbrev pub limit_of_wired_ports : ℕ
 limit_of_wired_ports = 256
 
+-- kinds of births of a task
+abbrev pub limit_of_kinds : ℕ
+limit_of_kinds = 16
+
 -- interfaces of a wiring
 abbrev pub limit_of_interfaces : ℕ
 limit_of_interfaces = 16

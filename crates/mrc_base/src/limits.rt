@@ -7,6 +7,8 @@ ghost use Rattle.mrc_base.specs.Limits as limit;
 pub const TASKS: usize = 64;
 /// Ports of a wiring, at most.
 pub const WIRED_PORTS: usize = 256;
+/// Kinds of births of a task, at most.
+pub const KINDS: u8 = 16;
 /// Interfaces of a wiring, at most.
 pub const INTERFACES: usize = 16;
 /// Message ids of an interface, at most, those that it skips counted.
@@ -42,6 +44,7 @@ pub const QUEUE: u32 = 16;
 pub fn limits_are_defined()
     ensures tasks { TASKS ≡ limit.limit_of_tasks }
     ensures wired_ports { WIRED_PORTS ≡ limit.limit_of_wired_ports }
+    ensures kinds { KINDS ≡ limit.limit_of_kinds }
     ensures interfaces { INTERFACES ≡ limit.limit_of_interfaces }
     ensures ids { IDS ≡ limit.limit_of_ids }
     ensures arguments { ARGUMENTS ≡ limit.limit_of_arguments }
