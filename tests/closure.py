@@ -42,16 +42,18 @@ def conclude(task, holds, carries, backups, ports, taking):
                 holds[other][right] = own[right]
 
 
-def least(tasks, ports, taking, first):
-    """How many facts the least set has. Classes are the ports, the tasks' kernel ports and their births, in this order;
-    `taking` are those that take all, and `first` has a task, a class and a right for each hold of the lines."""
-    classes = ports + 2 * tasks
+def least(tasks, ports, taking, first, kinds=1):
+    """How many facts the least set has. Classes are the ports, the tasks' kernel ports and their births, so many kinds
+    of each task, in this order; `taking` are those that take all, and `first` has a task, a class and a right for each
+    hold of the lines."""
+    classes = ports + tasks + tasks * kinds
     holds = [dict.fromkeys("rso", 0) for _ in range(tasks)]
     carries = [dict.fromkeys("rso", 0) for _ in range(classes)]
     backups = [0] * classes
     for task in range(tasks):
         holds[task]["s"] |= 1 << (ports + task)  # K1
-        holds[task]["r"] |= 1 << (ports + tasks + task)  # K2
+        for kind in range(kinds):
+            holds[task]["r"] |= 1 << (ports + tasks + task * kinds + kind)  # K2
     for task, at, right in first:
         holds[task][right] |= 1 << at  # K1
     mask = sum(1 << at for at in taking)

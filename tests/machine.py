@@ -169,12 +169,17 @@ def written(arg):
     return struct.pack("<IHHI", 1 << 28 | 1 << 29, arg.name, arg.size, arg.number) + data
 
 
+def births_of(task, kind="0"):
+    """The class of a task's births of a kind. Kind 0 has no number behind the task."""
+    return f"births {task} {int(kind)}" if int(kind) else f"births {task}"
+
+
 class Machine:
     """The machine of a wiring."""
 
     def __init__(self, wiring):
         self.tasks, self.ports, self.births = [], {}, 0
-        self.labels, self.admits = {}, {}
+        self.labels, self.admits, self.kinds = {}, {}, set()
         self.numbers, ports = {}, {}
         for line in wiring.splitlines()[1:]:
             word, *rest = line.split()
@@ -188,7 +193,10 @@ class Machine:
                 self.labels["port " + rest[0]] = " ".join(rest[4:])
                 self.give(self.tasks[self.numbers[rest[2]]].space, ports[rest[0]], "receive")
             elif word == "births":
-                self.labels["births " + rest[0]] = " ".join(rest[2:])
+                words = rest.index("accepts", 1)
+                cls = births_of(*rest[:words])
+                self.labels[cls] = " ".join(rest[words + 1 :])
+                self.kinds.add(cls)
             elif word == "hold":
                 kernel = rest[2] == "task"
                 port = self.tasks[self.numbers[rest[3]]].kernel if kernel else ports[rest[3]]
@@ -196,7 +204,7 @@ class Machine:
             elif word == "admit":
                 admitted = self.admits.setdefault(rest[0], set())
                 if rest[1] != "none":
-                    admitted.add(" ".join(rest[1:]))
+                    admitted.add(births_of(*rest[2:]) if rest[1] == "births" else " ".join(rest[1:]))
 
     def birth(self, cls):
         self.ports[self.births] = Port(cls)
@@ -294,7 +302,8 @@ class Machine:
 
     def allocate(self, caller, task, right, kind=0):
         target = self.target(caller, task)
-        if right in ("send", "once") or kind != 0:
+        cls = births_of(target.like, kind)
+        if right in ("send", "once") or kind != 0 and (right != "receive" or cls not in self.kinds):
             code("KERN_INVALID_VALUE")
         if len(target.space) >= SPACE:
             code("KERN_NO_SPACE")
@@ -302,7 +311,7 @@ class Machine:
             code("KERN_RESOURCE_SHORTAGE")
         name = least_unused(target.space)
         if right == "receive":
-            target.space[name] = Entry("port", self.birth("births " + target.like), True)
+            target.space[name] = Entry("port", self.birth(cls), True)
         else:
             target.space[name] = Entry(right, refs=1)
         return f"name {name}"

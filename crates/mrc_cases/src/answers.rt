@@ -138,7 +138,7 @@ pub fn taken(alloc: Global, wired: &Wired) -> Result<String, AllocError> {
 
 /// The classes of the births of a task, by their kind.
 fn put_births(out: &mut String, wired: &Wired, task: u32) -> Result<(), AllocError> {
-    for kind in [0, 1] {
+    for kind in 0..17 {
         if let Some(class) = wired.births_class(TaskId(task), kind) {
             write!(out, "{task} {kind} {};", class.0)?;
         }

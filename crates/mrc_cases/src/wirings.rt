@@ -1,7 +1,7 @@
 //! What the lines of wirings say.
 
 use anyhow::Result;
-use mrc_wiring_text::{ClassName, HeldRight, Item, Items, Name, WiringSays, read_wiring};
+use mrc_wiring_text::{ClassName, HeldRight, Item, Items, Kind, Name, WiringSays, read_wiring};
 use std::alloc::{AllocError, Global};
 use std::fmt::Write;
 
@@ -10,7 +10,18 @@ pub fn put_class(out: &mut String, class: &ClassName) -> Result<(), AllocError> 
     match class {
         ClassName::Port(name) => write!(out, "port {}", name.as_str()),
         ClassName::Task(name) => write!(out, "task {}", name.as_str()),
-        ClassName::Births(name) => write!(out, "births {}", name.as_str()),
+        ClassName::Births { task, kind } => {
+            write!(out, "births {}", task.as_str())?;
+            put_kind(out, kind)
+        }
+    }
+}
+
+/// A kind of births, where it is not 0.
+fn put_kind(out: &mut String, kind: &Kind) -> Result<(), AllocError> {
+    match kind.number() {
+        0 => Ok(()),
+        number => write!(out, " {number}"),
     }
 }
 
@@ -39,8 +50,15 @@ fn put_port(
     put_items(out, accepts)
 }
 
-fn put_births(out: &mut String, task: &Name, accepts: &Items) -> Result<(), AllocError> {
-    write!(out, "births {}:", task.as_str())?;
+fn put_births(
+    out: &mut String,
+    task: &Name,
+    kind: &Kind,
+    accepts: &Items,
+) -> Result<(), AllocError> {
+    write!(out, "births {}", task.as_str())?;
+    put_kind(out, kind)?;
+    out.push(':')?;
     put_items(out, accepts)
 }
 
@@ -80,7 +98,11 @@ fn put_says(out: &mut String, says: &WiringSays) -> Result<(), AllocError> {
             receiver,
             accepts,
         } => put_port(out, port, receiver, accepts),
-        WiringSays::Births { task, accepts } => put_births(out, task, accepts),
+        WiringSays::Births {
+            task,
+            kind,
+            accepts,
+        } => put_births(out, task, kind, accepts),
         WiringSays::HoldPort {
             holder,
             right,

@@ -21,12 +21,13 @@ one_draft bytes d e spells_d spells_e =
     ∙ ap draft_from spells_e.bytes_are ∙ draft_again e spells_e.draft)
 
 pub one_spelling : OneSpelling
-one_spelling d e is_d is_e tasks classes same =
+one_spelling d e is_d is_e tasks classes births same =
     let facts = one_list d.facts e.facts is_d.ascending is_e.ascending same in
-    ap (λ (n : ℕ). spelling (record { tasks = n; classes = d.classes; facts = d.facts })) tasks
-    ∙ ap (λ (n : ℕ). spelling (record { tasks = e.tasks; classes = n; facts = d.facts })) classes
-    ∙ ap (λ (fs : List Fact). spelling (record
-    { tasks = e.tasks; classes = e.classes; facts = fs })) facts
+    ap (λ (n : ℕ). spelling (record d { tasks = n })) tasks
+    ∙ ap (λ (n : ℕ). spelling (record d { tasks = e.tasks; classes = n })) classes
+    ∙ ap (λ (n : ℕ). spelling (record d { tasks = e.tasks; classes = e.classes; births = n }))
+    births
+    ∙ ap (λ (fs : List Fact). spelling (record e { facts = fs })) facts
 
 pub each_is_within : EachIsWithin
 each_is_within tasks classes [] within f member = absurd cc

@@ -1,5 +1,5 @@
 -- Drafts: what a certificate claims. The profile's own choice.
-use Rattle.std.specs.Prelude.{ℕ, ◌^◌, ◌<◌, Bool, ◌&&◌, List, length, IsTrue, nat_lt}
+use Rattle.std.specs.Prelude.{ℕ, ◌^◌, ◌<◌, ◌≤◌, Bool, ◌&&◌, List, length, IsTrue, nat_lt}
 use Rattle.std.specs.List.{list_all}
 use Rattle.mrc_base.specs.declared.Fact.{Fact}
 use Rattle.mrc_base.specs.declared.Fact.TheVariants.{Hold, Carry, Backup}
@@ -16,16 +16,20 @@ is_within tasks classes (Backup class notify) = nat_lt class classes && nat_lt n
 abbrev pub AreWithin : ℕ → ℕ → List Fact → Type 0
 AreWithin tasks classes facts = IsTrue (list_all (is_within tasks classes) facts)
 
--- how many tasks, how many classes, and which facts
+-- how many tasks, how many classes, how many of these are of births, and which facts
 pub record Content : Type 0 where
   pub tasks : ℕ
   pub classes : ℕ
+  pub births : ℕ
   pub facts : List Fact
 
--- its numbers fit their fields, and its facts are a set within its counts
+-- its numbers fit their fields, there is a class of births at least for each task, and its facts
+-- are a set within its counts
 pub record IsDraft (d : Content) : Type 0 where
   pub tasks : d.tasks < 2 ^ 16
   pub classes : d.classes < 2 ^ 16
+  pub births : d.births < 2 ^ 16
+  pub enough : d.tasks ≤ d.births
   pub ascending : IsAscending d.facts
   pub within : AreWithin d.tasks d.classes d.facts
   pub few : length d.facts < 2 ^ 32

@@ -18,7 +18,7 @@ OneDraft = (bytes : List ℕ) (d e : Content) → Spells bytes d → Spells byte
 abbrev pub OneSpelling : Type 0
 OneSpelling =
     (d e : Content) → IsDraft d → IsDraft e → d.tasks ≡ e.tasks → d.classes ≡ e.classes
-    → ((f : Fact) → has d.facts f ≡ has e.facts f) → spelling d ≡ spelling e
+    → d.births ≡ e.births → ((f : Fact) → has d.facts f ≡ has e.facts f) → spelling d ≡ spelling e
 
 -- each fact of a draft is within its counts
 abbrev pub EachIsWithin : Type 0

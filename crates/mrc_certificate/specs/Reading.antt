@@ -1,7 +1,7 @@
 -- Reading a certificate from left to right, with the first fault that is met. The profile's own
 -- choice.
 use Rattle.std.specs.Prelude.{ℕ, zero, suc, ◌+◌, Bool, true, List, [], ◌∷◌, length, take, drop}
-use Rattle.std.specs.Prelude.{Option, Some, None, Result, Ok, Err, nat_eq, nat_lt, ◌==◌}
+use Rattle.std.specs.Prelude.{Option, Some, None, Result, Ok, Err, nat_eq, nat_lt, ◌==◌, ◌||◌}
 use Rattle.std.specs.Prelude.{if◌then◌else◌}
 use Rattle.std.specs.Option.{option_map}
 use Rattle.std.specs.List.{starts_with}
@@ -29,11 +29,23 @@ number_at w bytes =
     if nat_lt (length bytes) (byte_len w) then Err Truncated else Ok
     (from_be_bytes w (take (byte_len w) bytes), drop (byte_len w) bytes)
 
--- the bytes behind version 1
-unfoldable pub behind_version : List ℕ → Result (List ℕ) DraftFault
-behind_version bytes = do
+-- the version, 1 or 2, and the bytes behind it
+unfoldable pub version_at : List ℕ → Result (ℕ × List ℕ) DraftFault
+version_at bytes = do
   version ← number_at w16 bytes
-  if version.0 == 1 then Ok version.1 else Err Version
+  if version.0 == 1 || version.0 == 2 then Ok version else Err Version
+
+-- the number of classes of births, and the bytes behind it: in version 1 it is that of tasks, in
+-- version 2 it stands there, and is greater
+unfoldable pub births_at : ℕ → ℕ → List ℕ → Result (ℕ × List ℕ) DraftFault
+births_at version tasks bytes =
+    if version == 1 then Ok (tasks, bytes)
+    else number_at w16 bytes
+    >>= λ births. if nat_lt tasks births.0 then Ok births else Err Version
+
+-- where the first fact stands
+abbrev pub first_place : ℕ → ℕ
+first_place version = if version == 1 then 14 else 16
 
 -- the right of a number
 abbrev pub right_from : ℕ → Option PortRight
@@ -85,10 +97,17 @@ facts_at tasks classes (suc n) at before bytes = do
 unfoldable pub draft_from : List ℕ → Result Content DraftFault
 draft_from bytes = do
   versioned ← behind_magic bytes
-  counted ← behind_version versioned
-  tasks ← number_at w16 counted
+  version ← version_at versioned
+  tasks ← number_at w16 version.1
   classes ← number_at w16 tasks.1
-  count ← number_at w32 classes.1
-  facts ← facts_at tasks.0 classes.0 count.0 14 None count.1
-  if length facts.1 == 0 then Ok (record { tasks = tasks.0; classes = classes.0; facts = facts.0 })
+  births ← births_at version.0 tasks.0 classes.1
+  count ← number_at w32 births.1
+  facts ← facts_at tasks.0 classes.0 count.0 (first_place version.0) None count.1
+  if length facts.1 == 0
+      then Ok (record {
+        tasks = tasks.0;
+        classes = classes.0;
+        births = births.0;
+        facts = facts.0;
+      })
       else Err Trailing

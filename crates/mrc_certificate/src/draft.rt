@@ -1,6 +1,6 @@
 //! What a certificate claims.
 
-ghost use Rattle.std.specs.Prelude.{◌≡◌, ◌^◌, ◌<◌, ◌↔◌, length, IsSome, IfSome, IfOk, IsTrue};
+ghost use Rattle.std.specs.Prelude.{◌≡◌, ◌^◌, ◌<◌, ◌≤◌, ◌↔◌, length, IsSome, IfSome, IfOk, IsTrue};
 ghost use Rattle.std.specs.List.{list_all};
 ghost use Rattle.mrc_facts.specs.Sets.{IsAscending};
 ghost use Rattle.mrc_certificate.specs.Drafts.{is_within, AreWithin};
@@ -8,16 +8,20 @@ ghost use Rattle.mrc_certificate.specs.Drafts.{is_within, AreWithin};
 use mrc_classes::{Fact, Facts};
 use std::alloc::AllocError;
 
-/// What a certificate claims of a wired system: how many tasks and classes it has, and what may
-/// come about in it. Its facts are of those tasks and classes, fewer than 2^32 of them.
+/// What a certificate claims of a wired system: how many tasks, classes and classes of births it
+/// has, and what may come about in it. There is one class of births at least for each task. Its
+/// facts are of those tasks and classes, fewer than 2^32 of them.
 #[derive(Debug, Drop)]
 pub struct Draft {
     /// How many tasks there are.
     pub tasks: u16,
     /// How many classes of ports there are.
     pub classes: u16,
+    /// How many of them are classes of births.
+    pub births: u16,
     /// What may come about.
     pub facts: Facts,
+    pub ghost enough: { tasks ≤ births },
     pub ghost ascending: { IsAscending facts },
     pub ghost within: { AreWithin tasks classes facts },
     pub ghost few: { length facts < 2 ^ 32 },
@@ -55,21 +59,28 @@ fn are_within(tasks: u16, classes: u16, facts: &Facts) -> bool
 impl Draft {
     ghost use Rattle.mrc_certificate.specs.Spelling.{content};
 
-    /// The draft of these counts and facts. There is none where a fact is not of those tasks and
-    /// classes, or where there are 2^32 facts or more.
-    pub fn new(tasks: u16, classes: u16, facts: Facts) -> Option<Draft>
-        // The draft is made exactly where the facts are within the counts, and few enough.
-        ensures some { IsSome result ↔ (AreWithin tasks classes facts × (length facts < 2 ^ 32)) }
+    /// The draft of these counts and facts. There is none where there are fewer classes of births
+    /// than tasks, where a fact is not of those tasks and classes, or where there are 2^32 facts or
+    /// more.
+    pub fn new(tasks: u16, classes: u16, births: u16, facts: Facts) -> Option<Draft>
+        // The draft is made exactly where there are births enough, and the facts are within the
+        // counts, and few enough.
+        ensures some { IsSome result
+            ↔ ((tasks ≤ births) × AreWithin tasks classes facts × (length facts < 2 ^ 32)) }
         // What it says.
-        ensures exact { IfSome result (λ d.
-            content d ≡ record { tasks = tasks; classes = classes; facts = facts }) }
+        ensures exact { IfSome result (λ d. content d
+            ≡ record { tasks = tasks; classes = classes; births = births; facts = facts }) }
     {
-        if !are_within(tasks, classes, &facts) || facts.len() > u32::MAX as usize {
+        if births < tasks || !are_within(tasks, classes, &facts) {
+            return None;
+        }
+        if facts.len() > u32::MAX as usize {
             return None;
         }
         Some(Draft {
             tasks,
             classes,
+            births,
             facts,
         })
     }
@@ -81,6 +92,7 @@ impl Draft {
         Ok(Draft {
             tasks: self.tasks,
             classes: self.classes,
+            births: self.births,
             facts: self.facts.copy()?,
         })
     }
@@ -89,6 +101,9 @@ impl Draft {
     pub fn same(&self, other: &Draft) -> bool
         ensures { IsTrue result ↔ (content self.now ≡ content other.now) }
     {
-        self.tasks == other.tasks && self.classes == other.classes && self.facts.same(&other.facts)
+        self.tasks == other.tasks
+            && self.classes == other.classes
+            && self.births == other.births
+            && self.facts.same(&other.facts)
     }
 }

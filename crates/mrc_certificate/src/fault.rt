@@ -9,7 +9,8 @@ pub enum DraftFault {
     /// The first four bytes are not `MRCC`, or there are fewer.
     #[error("Magic")]
     Magic,
-    /// The version is not 1.
+    /// The version is neither 1 nor 2, or is 2 where there are no more classes of births than
+    /// tasks.
     #[error("Version")]
     Version,
     /// The bytes end within the header or within a fact that it counts.

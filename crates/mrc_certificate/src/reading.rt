@@ -4,7 +4,8 @@ ghost use Rattle.mrc_base.specs.Reading.{Gives};
 ghost use Rattle.mrc_facts.specs.Sets.{IsAscending};
 ghost use Rattle.mrc_certificate.specs.Drafts.{Content, is_within, AreWithin};
 ghost use Rattle.mrc_certificate.specs.Spelling.{content, Spells};
-ghost use Rattle.mrc_certificate.specs.Reading.{behind_magic, behind_version, number_at};
+ghost use Rattle.mrc_certificate.specs.Reading.{behind_magic, version_at, births_at, number_at};
+ghost use Rattle.mrc_certificate.specs.Reading.{first_place};
 ghost use Rattle.mrc_certificate.specs.Reading.{right_from, fact_from, fact_at, comes_after};
 ghost use Rattle.mrc_certificate.specs.Reading.{facts_at, draft_from};
 
@@ -13,9 +14,6 @@ use crate::fault::DraftFault;
 use mrc_base::{ClassId, OrMemory, PortRight};
 use mrc_classes::{Fact, Facts};
 use std::alloc::Global;
-
-/// Where the first fact stands.
-const HEADER: usize = 14;
 
 #[tactic(auto, unfolding(crate::specs::Reading::behind_magic))]
 fn behind_magic(bytes: &[u8]) -> Result<&[u8], OrMemory<DraftFault>>
@@ -48,15 +46,41 @@ fn u32_at(bytes: &[u8]) -> Result<(u32, &[u8]), OrMemory<DraftFault>>
     Ok((number, rest))
 }
 
-#[tactic(auto, unfolding(crate::specs::Reading::behind_version))]
-fn behind_version(bytes: &[u8]) -> Result<&[u8], OrMemory<DraftFault>>
-    ensures { Gives (λ rest. rest.now) result (behind_version bytes.now) }
+/// The version, 1 or 2, and the bytes behind it.
+#[tactic(auto, unfolding(crate::specs::Reading::version_at))]
+fn version_at(bytes: &[u8]) -> Result<(u16, &[u8]), OrMemory<DraftFault>>
+    ensures { Gives (λ x. (x.0, x.1.now)) result (version_at bytes.now) }
 {
     let (version, rest) = u16_at(bytes)?;
-    if version != 1 {
+    if version != 1 && version != 2 {
         return Err(OrMemory::Fault(DraftFault::Version));
     }
-    Ok(rest)
+    Ok((version, rest))
+}
+
+/// The number of classes of births, and the bytes behind it: in version 1 it is that of tasks, in
+/// version 2 it stands there, and is greater.
+#[tactic(auto, unfolding(crate::specs::Reading::births_at))]
+fn births_at(version: u16, tasks: u16, bytes: &[u8]) -> Result<(u16, &[u8]), OrMemory<DraftFault>>
+    ensures fault { Gives (λ x. (x.0, x.1.now)) result (births_at version tasks bytes.now) }
+    ensures enough { IfOk result (λ x. tasks ≤ x.0) }
+{
+    if version == 1 {
+        return Ok((tasks, bytes));
+    }
+    let (births, rest) = u16_at(bytes)?;
+    if births <= tasks {
+        return Err(OrMemory::Fault(DraftFault::Version));
+    }
+    Ok((births, rest))
+}
+
+/// Where the first fact stands.
+fn first_place(version: u16) -> usize
+    ensures exact { result ≡ first_place version }
+    ensures within { result ≤ 16 }
+{
+    if version == 1 { 14 } else { 16 }
 }
 
 fn right_from(number: u8) -> Option<PortRight>
@@ -125,10 +149,12 @@ fn facts_at(
     tasks: u16,
     classes: u16,
     count: u32,
+    first: usize,
     bytes: &[u8],
 ) -> Result<(Facts, &[u8]), OrMemory<DraftFault>>
+    requires { first ≤ 16 }
     ensures fault { Gives (λ x. (x.0, x.1.now)) result
-        (facts_at tasks classes count 14 None bytes.now) }
+        (facts_at tasks classes count first None bytes.now) }
     ensures ascending { IfOk result (λ x. IsAscending x.0) }
     ensures within { IfOk result (λ x. AreWithin tasks classes x.0) }
     ensures len { IfOk result (λ x. length x.0 ≡ count) }
@@ -136,7 +162,7 @@ fn facts_at(
     let mut facts = Facts::new(alloc);
     let mut before = None;
     let mut rest = bytes;
-    let mut at = HEADER;
+    let mut at = first;
     for _ in 0..count {
         let fact = fact_at(tasks, classes, at, rest)?;
         if !comes_after(before, &fact) {
@@ -155,17 +181,20 @@ fn draft_from(alloc: Global, bytes: &[u8]) -> Result<Draft, OrMemory<DraftFault>
     ensures { Gives content result (draft_from bytes.now) }
 {
     let rest = behind_magic(bytes)?;
-    let rest = behind_version(rest)?;
+    let (version, rest) = version_at(rest)?;
     let (tasks, rest) = u16_at(rest)?;
     let (classes, rest) = u16_at(rest)?;
+    let (births, rest) = births_at(version, tasks, rest)?;
     let (count, rest) = u32_at(rest)?;
-    let (facts, rest) = facts_at(alloc, tasks, classes, count, rest)?;
+    let first = first_place(version);
+    let (facts, rest) = facts_at(alloc, tasks, classes, count, first, rest)?;
     if !rest.is_empty() {
         return Err(OrMemory::Fault(DraftFault::Trailing));
     }
     Ok(Draft {
         tasks,
         classes,
+        births,
         facts,
     })
 }
@@ -173,7 +202,8 @@ fn draft_from(alloc: Global, bytes: &[u8]) -> Result<Draft, OrMemory<DraftFault>
 /// The draft that the bytes spell, all of the bytes. Of several faults it answers the first from
 /// left to right: at each fact first that it is cut off, then that it is none within the counts,
 /// then that it does not come after the one before. Bytes that end within the header are truncated
-/// where the first four are there and right, and the version is right if both its bytes are there.
+/// where the first four are there and right, and so is the version as far as it can be told: by its
+/// two bytes, and in version 2 by the number of classes of births where that is there.
 pub fn read_draft(alloc: Global, bytes: &[u8]) -> Result<Draft, OrMemory<DraftFault>>
     // What is read is spelled so.
     ensures found { IfOk result (λ draft. Spells bytes.now (content draft)) }

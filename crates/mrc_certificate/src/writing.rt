@@ -7,7 +7,8 @@ ghost use Rattle.mrc_facts.specs.Sets.{has, IsAscending};
 ghost use Rattle.mrc_rows.specs.Rows.{place_of};
 ghost use Rattle.mrc_rows.specs.Joining.{is_of};
 ghost use Rattle.mrc_rows.specs.Walking.{facts_from};
-ghost use Rattle.mrc_certificate.specs.Spelling.{content, facts_bytes, Spells};
+ghost use Rattle.mrc_certificate.specs.Spelling.{content, facts_bytes, version_number};
+ghost use Rattle.mrc_certificate.specs.Spelling.{births_bytes, Spells};
 
 use crate::draft::Draft;
 use mrc_bits::next_bit;
@@ -131,15 +132,34 @@ fn put_facts(out: &mut Vec<u8>, facts: &Facts) -> Result<(), AllocError>
     Ok(())
 }
 
+/// Puts the number of classes of births at the end, where version 2 says it.
+fn put_births(out: &mut Vec<u8>, tasks: u16, births: u16) -> Result<(), AllocError>
+    ensures { OnOk result (out.new.items ≡ out.old.items ++ births_bytes tasks births) }
+{
+    if births != tasks {
+        out.extend_from_slice(&births.to_be_bytes())?;
+    }
+    Ok(())
+}
+
+/// The version of a draft of so many tasks and classes of births.
+fn version_number(tasks: u16, births: u16) -> u16
+    ensures { result ≡ version_number tasks births }
+{
+    if births == tasks { 1 } else { 2 }
+}
+
 /// The one spelling of the draft.
 pub fn write_draft(alloc: Global, draft: &Draft) -> Result<Vec<u8>, AllocError>
     ensures { IfOk result (λ bytes. Spells bytes.items (content draft.now)) }
 {
-    let mut out = Vec::with_capacity(alloc, 14 + 6 * draft.facts.len())?;
+    let mut out = Vec::with_capacity(alloc, 16 + 6 * draft.facts.len())?;
+    let version = version_number(draft.tasks, draft.births);
     out.extend_from_slice(b"MRCC")?;
-    out.extend_from_slice(&1u16.to_be_bytes())?;
+    out.extend_from_slice(&version.to_be_bytes())?;
     out.extend_from_slice(&draft.tasks.to_be_bytes())?;
     out.extend_from_slice(&draft.classes.to_be_bytes())?;
+    put_births(&mut out, draft.tasks, draft.births)?;
     out.extend_from_slice(&(draft.facts.len() as u32).to_be_bytes())?;
     put_facts(&mut out, &draft.facts)?;
     Ok(out)

@@ -22,6 +22,7 @@ use Rattle.mrc_check.specs.declared.verdict.Why.TheVariants.{Forbidden}
 pub record HasCounts (claim : Claimed) (draft : Content) : Type 0 where
   pub tasks : draft.tasks ≡ length claim.table.names
   pub class_count : draft.classes ≡ classes (wiring_of claim.table)
+  pub births : draft.births ≡ length claim.table.births
 
 -- the draft has the wiring's numbers, its facts are closed under the ten rules, and none of them is
 -- forbidden

@@ -18,7 +18,8 @@ use std::thread::Threads;
 /// Why a certificate is refused: the first reason, in the order here.
 #[derive(Clone, Copy, Debug, PartialEq, Eq)]
 pub enum Why {
-    /// The certificate has another number of tasks or of classes than the wiring.
+    /// The certificate has another number of tasks, of classes or of classes of births than the
+    /// wiring.
     Counts,
     /// The certificate lacks this hold of the first state (K1), or this receive right of births
     /// (K2).
@@ -63,12 +64,14 @@ fn reason(rule: RuleName, fact: Fact) -> Why
     }
 }
 
-/// Whether the draft has the wiring's numbers of tasks and classes.
+/// Whether the draft has the wiring's numbers of tasks, classes and classes of births.
 fn has_counts(claim: &Claim, draft: &Draft) -> bool
     ensures { IsTrue result ↔ HasCounts claim.now (content draft.now) }
 {
     let wired = claim.wired();
-    draft.tasks == wired.tasks() && draft.classes == wired.classes()
+    draft.tasks == wired.tasks()
+        && draft.classes == wired.classes()
+        && draft.births == wired.birth_classes()
 }
 
 /// The first fact that the draft lacks, with its rule.

@@ -1,6 +1,6 @@
 //! The least closed set, in rounds.
 
-ghost use Rattle.std.specs.Prelude.{◌≡◌, ◌<◌, [], IfOk, OnOk};
+ghost use Rattle.std.specs.Prelude.{◌≡◌, ◌<◌, [], length, IfOk, OnOk};
 ghost use Rattle.mrc_base.specs.declared.Fact.{Fact};
 ghost use Rattle.mrc_model.specs.Wiring.{classes};
 ghost use Rattle.mrc_model.specs.Rules.{IsLeast};
@@ -125,7 +125,7 @@ fn least_set(alloc: Global, wired: &Wired) -> Result<Facts, AllocError>
 }
 
 /// The certificate of the wiring: the least set that is closed under the ten rules, with the
-/// wiring's numbers of tasks and classes. In this thread alone.
+/// wiring's numbers of tasks, classes and classes of births. In this thread alone.
 pub fn make_alone(alloc: Global, wired: &Wired) -> Result<Draft, AllocError>
     ensures least { IfOk result (λ draft.
         IsLeast (wiring_of wired.now) (has (content draft).facts)) }
@@ -133,11 +133,14 @@ pub fn make_alone(alloc: Global, wired: &Wired) -> Result<Draft, AllocError>
         (content draft).tasks ≡ (wiring_of wired.now).tasks) }
     ensures class_count { IfOk result (λ draft.
         (content draft).classes ≡ classes (wiring_of wired.now)) }
+    ensures births { IfOk result (λ draft.
+        (content draft).births ≡ length (wiring_of wired.now).births) }
 {
     let facts = least_set(alloc, wired)?;
     Ok(Draft {
         tasks: wired.tasks(),
         classes: wired.classes(),
+        births: wired.birth_classes(),
         facts,
     })
 }

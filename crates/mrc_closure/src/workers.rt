@@ -1,7 +1,8 @@
 //! The least closed set, by several workers.
 
 ghost use Rattle.std.specs.Prelude.{◌≡◌, ◌⊎◌, ◌||◌, ◌<◌, ◌≤◌, ℕ, [], Some, Err, MatchResult};
-ghost use Rattle.std.specs.Prelude.{IfErr, IfOk, OnOk, IsTrue, slice_get, vec_capacity, vec_len};
+ghost use Rattle.std.specs.Prelude.{IfErr, IfOk, OnOk, IsTrue, length, slice_get, vec_capacity};
+ghost use Rattle.std.specs.Prelude.{vec_len};
 ghost use Rattle.mrc_base.specs.declared.Fact.{Fact};
 ghost use Rattle.mrc_wiring.specs.Table.{wiring_of};
 ghost use Rattle.mrc_model.specs.Wiring.{classes};
@@ -299,9 +300,9 @@ pub enum MakeFault {
 }
 
 /// The certificate of the wiring: the least set that is closed under the ten rules, with the
-/// wiring's numbers of tasks and classes. By 1 to 64 workers, each of which enters the gate once,
-/// with its number from 0 on, before its first place. A thread that can't be started is told as
-/// want of memory. All workers have ended where it answers.
+/// wiring's numbers of tasks, classes and classes of births. By 1 to 64 workers, each of which
+/// enters the gate once, with its number from 0 on, before its first place. A thread that can't be
+/// started is told as want of memory. All workers have ended where it answers.
 pub fn make<R: Threads + Wait + Sync, G: Gate>(
     rt: &R,
     alloc: Global,
@@ -315,6 +316,8 @@ pub fn make<R: Threads + Wait + Sync, G: Gate>(
         (content draft).tasks ≡ (wiring_of wired.now).tasks) }
     ensures class_count { IfOk result (λ draft.
         (content draft).classes ≡ classes (wiring_of wired.now)) }
+    ensures births { IfOk result (λ draft.
+        (content draft).births ≡ length (wiring_of wired.now).births) }
     ensures fault { (workers ≡ 0) ⊎ (64 < workers) →
         result ≡ Err (Fault Workers) }
     ensures refused { IfErr result (λ why.
@@ -327,6 +330,7 @@ pub fn make<R: Threads + Wait + Sync, G: Gate>(
     Ok(Draft {
         tasks: wired.tasks(),
         classes: wired.classes(),
+        births: wired.birth_classes(),
         facts,
     })
 }

@@ -7,11 +7,13 @@ use mrc_words::{fact_named, fact_text, right_named, right_word};
 use std::alloc::{AllocError, Global};
 use std::test::Fail;
 
-const WIRING: &[u8] = b"wiring 1
+const WIRING: &[u8] = b"wiring 2
 task l
 task f
 port f receiver f accepts none
 port safe receiver l accepts none
+births f 3 accepts none
+births f 15 accepts none
 hold l send port f
 ";
 
@@ -70,6 +72,8 @@ fn facts(rt: HostRuntime) -> Result<(), Fail> {
             carry(0, 1, PortRight::SendOnce),
         ),
         ("backup births:f port:safe", backup(5, 1)),
+        ("hold l births:f:3 send", hold(0, 6, PortRight::Send)),
+        ("backup births:f:15 births:f", backup(7, 5)),
     ] {
         assert!(rt; is_printed(rt.alloc(), &wired, fact, text)?, "{text}");
         assert_eq!(rt; named(&wired, text), Some(fact));
@@ -89,6 +93,11 @@ fn no_facts(rt: HostRuntime) -> Result<(), Fail> {
         "hold  l births:f send",
         "hold l births:f  send",
         "hold l births:f:0 send",
+        "hold l births:f:1 send",
+        "hold l births:f:03 send",
+        "hold l births:f: send",
+        "hold l births:f:3:3 send",
+        "hold l births:l:3 send",
         "hold l births:g send",
         "hold g births:f send",
         "hold safe births:f send",

@@ -1,7 +1,7 @@
 -- Whole replays, from the texts to what is printed, by computation: a loader puts its own kernel
 -- port into the space of the task that it loads; and it makes a task like that one.
 use Rattle.std.proofs.Common.{ℕ, List, [], ◌∷◌, false, refl}
-use Rattle.std.specs.Prelude.{codes, None}
+use Rattle.std.specs.Prelude.{codes}
 use Rattle.std.specs.Fmt.{digits}
 use Rattle.mrc_base.specs.declared.PortRight.TheVariants.{Send}
 use Rattle.mrc_base.specs.declared.Disp.TheVariants.{CopySend}
@@ -19,6 +19,7 @@ use Rattle.mrc_model.specs.CallInsertRight.{call_insert_right}
 use Rattle.mrc_model.specs.Step.{step}
 use Rattle.mrc_model.specs.First.{first}
 use Rattle.mrc_wiring_text.specs.declared.reading.Line.{Line}
+use Rattle.mrc_wiring.specs.Births.{new_row}
 use Rattle.mrc_wiring.specs.Table.{Table, wiring_of}
 use Rattle.mrc_machine.specs.declared.call.Call.TheVariants as call
 use Rattle.mrc_report.specs.declared.script.TaskCall.{TaskCall}
@@ -28,7 +29,7 @@ use Rattle.mrc_report.specs.Replay.{IsReplay}
 abbrev loader : Table
 loader = record {
   names = codes "l" ∷ codes "f" ∷ [];
-  births = None ∷ None ∷ [];
+  births = new_row 0 0 ∷ new_row 1 0 ∷ [];
   ports = [];
   accepts = [];
   lines = Task ∷ Task ∷ Hold 0 1 Send ∷ [];

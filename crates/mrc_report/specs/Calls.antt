@@ -25,12 +25,17 @@ receive (name ∷ limit ∷ []) = do
   Some (Receive n l)
 receive words = None
 
--- `allocate TASK RIGHT`, of kind 0
+-- `allocate TASK RIGHT KIND`, or `allocate TASK RIGHT` of kind 0
 unfoldable pub allocate : List (List ℕ) → Option Call
 allocate (task ∷ right ∷ []) = do
   t ← number_of_word task
   r ← right_of_word right
   Some (Allocate t r 0)
+allocate (task ∷ right ∷ kind ∷ []) = do
+  t ← number_of_word task
+  r ← right_of_word right
+  k ← number_of_word kind
+  Some (Allocate t r k)
 allocate words = None
 
 -- `get_refs TASK NAME RIGHT`

@@ -43,6 +43,11 @@ fn allocate(words: &[&[u8]]) -> Option<Call>
             right: right_of_word(right)?,
             kind: 0,
         }),
+        [task, right, kind] => Some(Call::Allocate {
+            task: number_of_word(task)?,
+            right: right_of_word(right)?,
+            kind: number_of_word(kind)?,
+        }),
         _ => None,
     }
 }

@@ -1,6 +1,6 @@
 //! Certificates that are made, and that are read where memory runs out.
 
-use crate::samples::{ALONE, hold, set_of};
+use crate::samples::{ALONE, ALONE_WITH_KINDS, hold, set_of};
 use mrc_base::{OrMemory, PortRight};
 use mrc_certificate::{Draft, DraftFault, read_draft, write_draft};
 use std::alloc::{AllocError, Global};
@@ -25,7 +25,7 @@ fn alone(alloc: Global) -> Result<Option<Draft>, AllocError> {
             hold(0, 1, PortRight::Send),
         ],
     )?;
-    Ok(Draft::new(1, 2, facts))
+    Ok(Draft::new(1, 2, 1, facts))
 }
 
 #[test]
@@ -55,8 +55,10 @@ fn written_twice(alloc: Global, draft: &Draft) -> Result<Vec<u8>, AllocError> {
 // Where an allocation is refused the call answers that, and the next call has its answer.
 #[test]
 fn a_certificate_or_memory(rt: HostRuntime) -> Result<(), Fail> {
-    let draft = read_twice(rt.alloc(), &ALONE)?;
-    let bytes = written_twice(rt.alloc(), &draft)?;
-    assert_eq!(rt; bytes.as_slice(), ALONE.as_slice());
+    for certificate in [ALONE.as_slice(), ALONE_WITH_KINDS.as_slice()] {
+        let draft = read_twice(rt.alloc(), certificate)?;
+        let bytes = written_twice(rt.alloc(), &draft)?;
+        assert_eq!(rt; bytes.as_slice(), certificate);
+    }
     Ok(())
 }

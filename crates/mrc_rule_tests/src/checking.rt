@@ -1,6 +1,6 @@
 //! Whether certificates are accepted, and the first reason why not.
 
-use crate::samples::{ALONE, ONE, TWO, count, hold};
+use crate::samples::{ALONE, ALONE_WITH_KINDS, KINDS, ONE, TWO, count, hold};
 use mrc_base::{OrMemory, PortRight, TaskId};
 use mrc_certificate::{Draft, read_draft};
 use mrc_check::{Confined, Refused, RuleName, TextsFault, Why, check, check_texts, table_of};
@@ -85,7 +85,7 @@ fn told(
 }
 
 /// A refusal as one text: the step that refuses, and its fault.
-fn refusal(alloc: Global, fault: &TextsFault) -> Result<String, AllocError> {
+pub fn refusal(alloc: Global, fault: &TextsFault) -> Result<String, AllocError> {
     match fault {
         TextsFault::Defs(fault) => format!(in alloc; "defs {}", fault.fault),
         TextsFault::Wiring(fault) => format!(in alloc; "wiring {fault}"),
@@ -159,6 +159,7 @@ fn accepts(rt: HostRuntime) -> Result<(), Fail> {
         ("wiring 1\n", NOBODY.as_slice()),
         (ONE, ALONE.as_slice()),
         (TWO, both.as_slice()),
+        (KINDS, ALONE_WITH_KINDS.as_slice()),
     ] {
         let told = answer(&rt, alloc, wiring.as_bytes(), ANY.as_bytes(), bytes)?;
         assert_eq!(rt; told.as_str(), "accepted", "of {wiring:?}");
@@ -175,6 +176,18 @@ fn counts_differ(rt: HostRuntime) -> Result<(), Fail> {
     }
     // Told before what is missing.
     assert_eq!(rt; reason_of(&rt, ONE, ANY, &NOBODY), Why::Counts);
+    Ok(())
+}
+
+// The classes of births are counted apart: a certificate of version 1 has one for each task.
+#[test]
+fn counts_of_births_differ(rt: HostRuntime) -> Result<(), Fail> {
+    assert_eq!(rt; reason_of(&rt, KINDS, ANY, &ALONE), Why::Counts);
+    let mut other = Vec::from_slice(rt.alloc(), &ALONE_WITH_KINDS)?;
+    if let Some(number) = other.get_mut(11) {
+        *number = 3;
+    }
+    assert_eq!(rt; reason_of(&rt, KINDS, ANY, &other), Why::Counts);
     Ok(())
 }
 
@@ -264,12 +277,12 @@ const MEANINGLESS: [(&str, &str, &str); 11] = [
         "policy 1\nforbid a send task a\n",
         "policy UnknownName 2",
     ),
-    (ONE, "policy 2\n", "policy Version"),
+    (ONE, "policy 3\n", "policy Version"),
     (ONE, "policy 1\nforbid a\n", "policy BadLine 2"),
-    ("wiring 3\n", "policy 2\n", "wiring Version"),
+    ("wiring 3\n", "policy 3\n", "wiring Version"),
     (
         "wiring 1\nhold a send task a\n",
-        "policy 2\n",
+        "policy 3\n",
         "wiring UnknownName 2",
     ),
     (

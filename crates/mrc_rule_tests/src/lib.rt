@@ -10,6 +10,8 @@ mod checking;
 #[cfg(test)]
 mod following;
 #[cfg(test)]
+mod kinds;
+#[cfg(test)]
 mod lacking;
 #[cfg(test)]
 mod making;

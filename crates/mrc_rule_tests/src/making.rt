@@ -1,6 +1,6 @@
 //! The least closed set of a wiring, and chains that lead to its facts.
 
-use crate::samples::{ALONE, ONE, TWO, count, hold, is_in, wired};
+use crate::samples::{ALONE, ALONE_WITH_KINDS, KINDS, ONE, TWO, count, hold, is_in, wired};
 use mrc_base::{Fact, OrMemory, PortRight};
 use mrc_certificate::{Draft, write_draft};
 use mrc_closure::{Chain, Gate, MakeFault, Places, Step, explain, make, make_alone};
@@ -54,6 +54,13 @@ fn nobody_holds_nothing(rt: HostRuntime) -> Result<(), Fail> {
 fn a_task_alone(rt: HostRuntime) -> Result<(), Fail> {
     let bytes = bytes_of(rt.alloc(), &made(rt.alloc(), ONE)?)?;
     assert_eq!(rt; bytes.as_slice(), ALONE.as_slice());
+    Ok(())
+}
+
+#[test]
+fn a_task_with_kinds(rt: HostRuntime) -> Result<(), Fail> {
+    let bytes = bytes_of(rt.alloc(), &made(rt.alloc(), KINDS)?)?;
+    assert_eq!(rt; bytes.as_slice(), ALONE_WITH_KINDS.as_slice());
     Ok(())
 }
 
@@ -177,13 +184,14 @@ fn memory_that_runs_out_is_told(rt: HostRuntime) -> Result<(), Fail> {
     Ok(())
 }
 
-/// The bytes of the certificate that so many workers make of two tasks.
+/// The bytes of the certificate that so many workers make of a wiring's text.
 fn bytes_by(
     rt: &(impl Threads + Wait + Sync),
     alloc: Global,
+    text: &str,
     workers: usize,
 ) -> Result<Vec<u8>, Fail> {
-    let draft = by(rt, alloc, &wired(alloc, TWO)?, workers, &Open)?;
+    let draft = by(rt, alloc, &wired(alloc, text)?, workers, &Open)?;
     Ok(bytes_of(alloc, &draft)?)
 }
 
@@ -192,9 +200,11 @@ fn bytes_by(
 fn workers_make_the_same(rt: HostRuntime) -> Result<(), Fail> {
     let alone = bytes_of(rt.alloc(), &made(rt.alloc(), TWO)?)?;
     for workers in [1, 4, 64] {
-        let bytes = bytes_by(&rt, rt.alloc(), workers)?;
+        let bytes = bytes_by(&rt, rt.alloc(), TWO, workers)?;
         assert_eq!(rt; bytes.as_slice(), alone.as_slice());
     }
+    let bytes = bytes_by(&rt, rt.alloc(), KINDS, 4)?;
+    assert_eq!(rt; bytes.as_slice(), ALONE_WITH_KINDS.as_slice());
     Ok(())
 }
 

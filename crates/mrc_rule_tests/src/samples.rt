@@ -30,6 +30,39 @@ pub const ALONE: [u8; 38] = [
     0x01, 0x00, 0x00, 0x00, 0x01, 0x01, 0x01, 0x00, 0x00, 0x00, 0x01, 0x02, // receive, send-once
 ];
 
+/// A task with births of two kinds.
+pub const KINDS: &str = "wiring 2\ntask a\nbirths a 1 accepts none\n";
+
+/// The certificate of a task with births of two kinds: it holds a send right to its own kernel
+/// port, and all three rights on the ports of both kinds.
+pub const ALONE_WITH_KINDS: [u8; 58] = [
+    0x4d, 0x52, 0x43, 0x43, 0x00, 0x02, 0x00, 0x01, 0x00, 0x03, // version, tasks, classes
+    0x00, 0x02, 0x00, 0x00, 0x00, 0x07, // classes of births, facts
+    0x01, 0x00, 0x00, 0x00, 0x00, 0x00, // its kernel port
+    0x01, 0x00, 0x00, 0x00, 0x01, 0x00, 0x01, 0x00, 0x00, 0x00, 0x01, 0x01, // births of kind 0
+    0x01, 0x00, 0x00, 0x00, 0x01, 0x02, 0x01, 0x00, 0x00, 0x00, 0x02, 0x00, // and of kind 1
+    0x01, 0x00, 0x00, 0x00, 0x02, 0x01, 0x01, 0x00, 0x00, 0x00, 0x02, 0x02,
+];
+
+/// A file server: the reply of its one routine carries a file.
+pub const FSYS: &str = "subsystem fsys 3000;
+#include <mach/std_types.defs>
+type file_t = MACH_MSG_TYPE_COPY_SEND;
+type path_t = c_string[64];
+routine open(root : mach_port_t; in path : path_t; out file : file_t);
+";
+
+/// A task and its file server, whose files are births of a kind of their own.
+pub const FILES: &str = "wiring 2
+task app
+task fs
+port root receiver fs accepts request fsys
+births app 0 accepts reply fsys
+births fs 1 accepts none
+hold app send port root
+admit fsys.file_t births fs 1
+";
+
 /// That a task holds a right of a class.
 pub fn hold(task: u16, class: u16, right: PortRight) -> Fact {
     Fact::Hold {

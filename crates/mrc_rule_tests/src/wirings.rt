@@ -1,5 +1,6 @@
 //! Wirings and policies where memory runs out.
 
+use crate::samples::{FILES, FSYS};
 use mrc_base::{ClassId, OrMemory, PortRight};
 use mrc_interface::{DefsFault, Interface, read_interface};
 use mrc_wiring::{Claim, ClaimFault, ForbiddenLine, NotResolved, Wired};
@@ -57,6 +58,28 @@ fn a_wiring_or_memory(rt: HostRuntime) -> Result<(), Fail> {
     Ok(())
 }
 
+/// Whether a line says that the births of t of kind 3 accept replies of s.
+fn are_births(says: &WiringSays) -> bool {
+    match says {
+        WiringSays::Births {
+            task,
+            kind,
+            accepts,
+        } => task.as_str() == "t" && kind.number() == 3 && is_reply(accepts.as_slice(), "s"),
+        _ => false,
+    }
+}
+
+#[test]
+fn births_or_memory(rt: HostRuntime) -> Result<(), Fail> {
+    let lines = read_twice(rt.alloc(), "wiring 2\nbirths t 3 accepts reply s")?;
+    assert_eq!(rt; lines.len(), 1);
+    for line in &lines {
+        assert!(rt; are_births(&line.says));
+    }
+    Ok(())
+}
+
 /// The lines of a policy.
 fn policy(alloc: Global, text: &str) -> Result<Vec<PolicyLine>, OrMemory<TextFault>> {
     read_policy(alloc, text.as_bytes())
@@ -89,24 +112,6 @@ fn a_policy_or_memory(rt: HostRuntime) -> Result<(), Fail> {
     }
     Ok(())
 }
-
-/// A file server: the reply of its one routine carries a file.
-const FSYS: &str = "subsystem fsys 3000;
-#include <mach/std_types.defs>
-type file_t = MACH_MSG_TYPE_COPY_SEND;
-type path_t = c_string[64];
-routine open(root : mach_port_t; in path : path_t; out file : file_t);
-";
-
-/// A task and its file server.
-const FILES: &str = "wiring 1
-task app
-task fs
-port root receiver fs accepts request fsys
-births app accepts reply fsys
-hold app send port root
-admit fsys.file_t births fs
-";
 
 /// The interface of the file server.
 fn interfaces(alloc: Global) -> Result<Vec<Interface>, OrMemory<DefsFault>> {
@@ -170,10 +175,10 @@ fn claimed_twice(
     }
 }
 
-/// The claim that the task app never receives at the port root.
+/// The claim that the task app never receives at the files of fs.
 fn claim(alloc: Global) -> Result<Claim, Fail> {
     let wired = file_server(alloc)?;
-    let lines = policy_twice(alloc, "policy 1\nforbid app receive port root")?;
+    let lines = policy_twice(alloc, "policy 2\nforbid app receive births fs 1")?;
     match claimed_twice(alloc, wired, lines.as_slice()) {
         Ok(claim) => Ok(claim),
         Err((_, fault)) => Err(fault.into()),
@@ -197,7 +202,7 @@ fn a_claim_or_memory(rt: HostRuntime) -> Result<(), Fail> {
         line: 2,
         task: 0,
         right: PortRight::Receive,
-        class: ClassId(0),
+        class: ClassId(5),
     };
     assert_eq!(rt; forbidden(&claim), [line].as_slice());
     assert_eq!(rt; count_tasks(&claim), 2);

@@ -292,7 +292,7 @@ fn faults_of_policies(rt: HostRuntime) -> Result<(), Fail> {
     };
     let later = Texts {
         wiring: ONE,
-        policy: "policy 2\n",
+        policy: "policy 3\n",
         certificate: &ALONE,
     };
     let table = [(unknown, "p", "UnknownName 2"), (later, "p", "Version")];

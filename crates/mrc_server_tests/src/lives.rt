@@ -121,7 +121,7 @@ fn faults_of_lives(rt: HostRuntime) -> Result<(), Fail> {
             b"# \xff".as_slice(),
             "machcheck: s: NotUtf8\n",
         ),
-        ("policy 2", b"app".as_slice(), "machcheck: p: Version\n"),
+        ("policy 3", b"app".as_slice(), "machcheck: p: Version\n"),
     ] {
         lives_as(&rt, policy, script, "", err, 2)?;
     }

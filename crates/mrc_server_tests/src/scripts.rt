@@ -18,11 +18,15 @@ fn call_of(alloc: Global, line: &str) -> Result<Option<String>, Fail> {
     }
 }
 
-const CALLS: [(&str, &str); 19] = [
+const CALLS: [(&str, &str); 20] = [
     ("receive 2 8192", "Receive { name: 2, limit: 8192 }"),
     (
         "allocate 1 set",
         "Allocate { task: 1, right: PortSet, kind: 0 }",
+    ),
+    (
+        "allocate 2 receive 03",
+        "Allocate { task: 2, right: Receive, kind: 3 }",
     ),
     (
         "get_refs 1 9 dead",
@@ -125,10 +129,13 @@ fn dispositions(rt: HostRuntime) -> Result<(), Fail> {
 }
 
 // Words that are too many, too few or none of the grammar.
-const BAD: [&str; 35] = [
+const BAD: [&str; 38] = [
     "",
     "allocate 1",
-    "allocate 1 set 0",
+    "allocate 1 set x",
+    "allocate 1 receive -1",
+    "allocate 1 receive 4294967296",
+    "allocate 1 receive 1 1",
     "names",
     "names 1 2",
     "rename 1 2",

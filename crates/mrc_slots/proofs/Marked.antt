@@ -58,7 +58,7 @@ one_marked test n row marked so_far put p = elim (cases_eq p n) [
 ]
 
 pub all_marked : (test : ℕ → Bool) (at places n : ℕ) (row : List ℕ)
-    → length row ≡ places / 64 + 1 → n ≤ 4000 → at ≡ n → places ≡ n
+    → length row ≡ (places + 63) / 64 → n ≤ 4032 → at ≡ n → places ≡ n
     → ((p : ℕ) → is_set row p ≡ (nat_lt p at && test p)) → IsMask test n row
 all_marked test at places n row wide few end same bits = record {
   few = omega arith;

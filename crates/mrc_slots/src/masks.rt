@@ -2,7 +2,7 @@
 
 ghost use Rattle.std.specs.Prelude.{◌≡◌, ◌+◌, ◌*◌, ◌/◌, ◌<◌, ◌≤◌, ◌==◌, ◌&&◌, ◌||◌, ℕ, IfOk};
 ghost use Rattle.std.specs.Prelude.{length, replicate, vec_len, IfSome, OnOk};
-ghost use Rattle.mrc_base.specs.Limits.{limit_of_tasks, limit_of_wired_ports};
+ghost use Rattle.mrc_base.specs.Limits.{limit_of_tasks, limit_of_wired_ports, limit_of_kinds};
 ghost use Rattle.mrc_bits.specs.Bits.{is_set};
 ghost use Rattle.mrc_rows.specs.Rows.{words_of};
 ghost use Rattle.mrc_rows.specs.Joining.{right_place, right_at};
@@ -21,9 +21,9 @@ use std::alloc::{AllocError, Global};
 
 /// A row of zeros, with a bit for each place.
 fn zeros(alloc: Global, places: u16) -> Result<Vec<u64>, AllocError>
-    ensures { IfOk result (λ row. row.items ≡ replicate (places / 64 + 1) 0) }
+    ensures { IfOk result (λ row. row.items ≡ replicate ((places + 63) / 64) 0) }
 {
-    vec![in alloc; 0u64; places as usize / 64 + 1]
+    vec![in alloc; 0u64; (places as usize + 63) / 64]
 }
 
 /// Sets the bit of the place, where the test passed.
@@ -50,7 +50,7 @@ pub(crate) fn row_at(rows: &[Vec<u64>], number: usize) -> &[u64]
 
 /// Every place.
 pub(crate) fn all_places(alloc: Global, places: u16) -> Result<Vec<u64>, AllocError>
-    requires { places ≤ 4000 }
+    requires { places ≤ 4032 }
     ensures { IfOk result (λ row. IsMask is_any places row.items) }
 {
     let mut row = zeros(alloc, places)?;
@@ -120,7 +120,8 @@ fn add_rows(
     rows: &mut Vec<Vec<u64>>,
     class: u16,
 ) -> Result<(), AllocError>
-    requires few { class < limit_of_wired_ports + 2 * limit_of_tasks }
+    requires few { class < limit_of_wired_ports + limit_of_tasks
+        + limit_of_tasks * limit_of_kinds }
     requires made { AreFirstRows (wiring_of wired.now) (3 * class) rows.old.items }
     ensures { OnOk result (AreFirstRows (wiring_of wired.now) (3 * (class + 1)) rows.new.items) }
 {

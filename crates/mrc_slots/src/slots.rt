@@ -2,7 +2,7 @@
 
 ghost use Rattle.std.specs.Prelude.{◌≡◌, ◌+◌, ◌*◌, ◌≤◌, ◌&&◌, ℕ, IfOk, length, nat_lt};
 ghost use Rattle.mrc_base.specs.declared.PortRight.{PortRight};
-ghost use Rattle.mrc_base.specs.Limits.{limit_of_tasks, limit_of_wired_ports};
+ghost use Rattle.mrc_base.specs.Limits.{limit_of_tasks, limit_of_wired_ports, limit_of_kinds};
 ghost use Rattle.mrc_bits.specs.Bits.{is_set};
 ghost use Rattle.mrc_rows.specs.Joining.{right_place};
 ghost use Rattle.mrc_wiring.specs.Table.{wiring_of};
@@ -104,7 +104,8 @@ impl Slots {
     /// How many classes of ports there are.
     pub fn classes(&self) -> u16
         ensures exact { result ≡ classes (wiring_of self.now) }
-        ensures within { result ≤ limit_of_wired_ports + 2 * limit_of_tasks }
+        ensures within { result ≤ limit_of_wired_ports + limit_of_tasks
+            + limit_of_tasks * limit_of_kinds }
     {
         self.wired.classes()
     }

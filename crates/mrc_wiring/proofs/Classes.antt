@@ -8,12 +8,12 @@ use Rattle.std.proofs.lemmas.List.{length-map}
 use Rattle.std.specs.Prelude.{slice_get, unwrap_or}
 use Rattle.std.specs.List.{list_any}
 use Rattle.std.proofs.lemmas.Bool.{lt-ltb, le-ltb, ltb-true, ltb-false}
-use Rattle.std.proofs.lemmas.Option.{unwrap_or-slice_get, slice_get_past}
-use Rattle.std.proofs.lemmas.List.{get_or_append_left}
+use Rattle.std.proofs.lemmas.Option.{unwrap_or-slice_get}
+use Rattle.std.proofs.lemmas.List.{get_or_append_left, get_or_past}
 use Rattle.mrc_model.specs.declared.LabelItem.{LabelItem}
 use Rattle.mrc_model.specs.Wiring.{label, classes}
-use Rattle.mrc_wiring.specs.Table.{Table, IsTable, wiring_of, labels_of, of_births, of_kernel}
-use Rattle.mrc_wiring.proofs.Births.{length-births}
+use Rattle.mrc_wiring.specs.Births.{of_row, pair_of}
+use Rattle.mrc_wiring.specs.Table.{Table, IsTable, wiring_of, labels_of, of_kernel}
 
 -- a test of what is made of the elements
 pub any_of_map : {X Y : Type 0} (p : Y → Bool) (f : X → Y) (xs : List X)
@@ -33,12 +33,6 @@ nothing_of_kernels : (names : List (List ℕ)) (i : ℕ) → get_or (map of_kern
 nothing_of_kernels [] i = refl
 nothing_of_kernels (name ∷ names) zero = refl
 nothing_of_kernels (name ∷ names) (suc i) = nothing_of_kernels names i
-
-births_read : (births : List (Option (List LabelItem))) (i : ℕ)
-    → get_or (map of_births births) i [] ≡ of_births (unwrap_or (slice_get births i) None)
-births_read [] i = refl
-births_read (b ∷ bs) zero = refl
-births_read (b ∷ bs) (suc i) = births_read bs i
 
 -- the label of a class that is there
 there : (table : Table) (c : ℕ)
@@ -67,7 +61,7 @@ pub kernel_label : (table : Table) (c : ℕ)
 kernel_label table c is high less =
     there table c (omega arith)
     ∙ behind table.accepts _ c (c - length table.ports) [] (omega (arith, is.accepts))
-    ∙ get_or_append_left (map of_kernel table.names) (map of_births table.births) []
+    ∙ get_or_append_left (map of_kernel table.names) (map of_row table.births) []
     (c - length table.ports) (omega (arith, length-map table.names of_kernel))
     ∙ nothing_of_kernels table.names (c - length table.ports)
 
@@ -75,24 +69,22 @@ kernel_label table c is high less =
 pub births_label : (table : Table) (c k : ℕ)
     → IsTable table
     → c ≡ length table.ports + length table.names + k
-    → label (wiring_of table) c ≡ of_births (unwrap_or (slice_get table.births k) None)
+    → label (wiring_of table) c ≡ get_or (map of_row table.births) k []
 births_label table c k is e =
-    elim (nat_lt k (length table.names)) as (λ b. nat_lt k (length table.names) ≡ b
-    → label (wiring_of table) c ≡ of_births (unwrap_or (slice_get table.births k) None)) [
+    let many = length-map table.births pair_of in
+    let rows = length-map table.births of_row in
+    elim (nat_lt k (length table.births)) as (λ b. nat_lt k (length table.births) ≡ b
+    → label (wiring_of table) c ≡ get_or (map of_row table.births) k []) [
       | true ↦ λ low.
-          let less = ltb-true k (length table.names) low in
-          let many = length-births 0 (length table.names) in
+          let less = ltb-true k (length table.births) low in
           there table c (omega arith)
           ∙ behind table.accepts _ c (length table.names + k) [] (omega (arith, is.accepts))
-          ∙ behind (map of_kernel table.names) (map of_births table.births) (length table.names +
+          ∙ behind (map of_kernel table.names) (map of_row table.births) (length table.names +
           k) k []
           (omega (arith, length-map table.names of_kernel))
-          ∙ births_read table.births k
       | false ↦ λ low.
-          let past = ltb-false k (length table.names) low in
-          let many = length-births 0 (length table.names) in
+          let past = ltb-false k (length table.births) low in
           ap (λ b. if b then unwrap_or (slice_get (labels_of table) c) [] else [])
           (le-ltb c (classes (wiring_of table)) (omega arith))
-          ∙ sym (ap (λ o. of_births (unwrap_or o None)) (slice_get_past table.births k (omega
-          (arith, is.births))))
+          ∙ sym (get_or_past (map of_row table.births) k [] (omega arith))
     ] refl

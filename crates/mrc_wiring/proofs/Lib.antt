@@ -1,7 +1,9 @@
 pub mod Lines
 pub mod GivenLemmas
 pub mod NameLemmas
-pub mod Births
+pub mod BirthLaws
+pub mod RowPlaces
+pub mod Numbered
 pub mod TableLemmas
 pub mod StateLemmas
 pub mod Steps

@@ -26,11 +26,12 @@ use Rattle.mrc_wiring.specs.declared.faults.ResolveFault.TheVariants.{UnknownNam
 use Rattle.mrc_wiring.specs.declared.faults.ResolveFault.TheVariants.{TooMany, TooManyNames}
 use Rattle.mrc_wiring.specs.declared.faults.ResolveFault.TheVariants.{IdClash}
 use Rattle.mrc_wiring.specs.Sorts.{is_sort, sorts_of}
+use Rattle.mrc_wiring.specs.Births.{has_said}
 use Rattle.mrc_wiring.specs.Table.{Table, IsTable, kernel_births, port_births}
 use Rattle.mrc_wiring.specs.Names.{number_of}
 use Rattle.mrc_wiring.specs.Labels.{interface_number, label_said, clash_among}
 use Rattle.mrc_wiring.specs.Resolving.{with_line, with_task, with_port, with_births, is_over}
-use Rattle.mrc_wiring.specs.Resolving.{has_births, add_task, place_port, add_port, place_births}
+use Rattle.mrc_wiring.specs.Resolving.{add_task, place_port, add_port, place_births}
 use Rattle.mrc_wiring.specs.Resolving.{add_births, place_hold, right_held, port_birth, kernel_birth}
 use Rattle.mrc_wiring.specs.Resolving.{add_hold_port, add_hold_task, admitted_said, add_admit}
 use Rattle.mrc_wiring.specs.Resolving.{add_line, add_lines, empty_table, has_twice, started}
@@ -91,25 +92,28 @@ port_kept table u n name receiver accepts is e =
     let there = number_within table.names receiver t.0 (ok_or_is _ (UnknownName n) t.0 t.1) in
     place_port_kept table u n name t.0 label.0 is there label.2
 
-place_births_kept : (table u : Table) (n t : ℕ) (label : List LabelItem)
+place_births_kept : (table u : Table) (n t kind : ℕ) (label : List LabelItem)
     → IsTable table
-    → place_births table n t label ≡ Ok u
+    → t < length table.names
+    → place_births table n t kind label ≡ Ok u
     → IsTable u
 unfolding place_births
-place_births_kept table u n t label is e =
-    let new = not_stopped (has_births table t) (TwiceNamed n) _ u e in
+place_births_kept table u n t kind label is there e =
+    let new = not_stopped (has_said table.births t kind) (TwiceNamed n) _ u e in
     let plain = not_stopped (clash_among table.interfaces [] label) (IdClash n) _ u new.1 in
-    subst IsTable (ok_is (with_births table t label) u plain.1) (births_table table t label is)
+    subst IsTable (ok_is (with_births table t kind label) u plain.1)
+    (births_table table t kind label is there)
 
-births_kept : (table u : Table) (n : ℕ) (task : List ℕ) (accepts : List Item)
+births_kept : (table u : Table) (n : ℕ) (task : List ℕ) (kind : ℕ) (accepts : List Item)
     → IsTable table
-    → add_births table n task accepts ≡ Ok u
+    → add_births table n task kind accepts ≡ Ok u
     → IsTable u
 unfolding add_births
-births_kept table u n task accepts is e =
+births_kept table u n task kind accepts is e =
     let t = bind_ok (ok_or (number_of table.names task) (UnknownName n)) _ u e in
     let label = bind_ok (label_said table.interfaces n accepts) _ u t.2 in
-    place_births_kept table u n t.0 label.0 is label.2
+    let there = number_within table.names task t.0 (ok_or_is _ (UnknownName n) t.0 t.1) in
+    place_births_kept table u n t.0 kind label.0 is there label.2
 
 place_hold_kept : (table u : Table) (t p : ℕ) (right : PortRight)
     → IsTable table
@@ -180,7 +184,7 @@ line_kept : (table u : Table) (n : ℕ) (says : WiringSays)
     → IsTable u
 line_kept table u n (Task name) = task_kept table u n name
 line_kept table u n (Port name receiver accepts) = port_kept table u n name receiver accepts
-line_kept table u n (Births task accepts) = births_kept table u n task accepts
+line_kept table u n (Births task kind accepts) = births_kept table u n task kind accepts
 line_kept table u n (HoldPort holder right port) = hold_port_kept table u n holder right port
 line_kept table u n (HoldTask holder task) = hold_task_kept table u n holder task
 line_kept table u n (Admit subsystem type_name class) =

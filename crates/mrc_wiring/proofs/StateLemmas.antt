@@ -24,6 +24,8 @@ use Rattle.mrc_wiring.specs.Sorts.{Sort, sorts_of}
 use Rattle.mrc_wiring.specs.declared.faults.ResolveFault.TheVariants.{TwiceNamed, TooMany}
 use Rattle.mrc_wiring.specs.declared.faults.ResolveFault.TheVariants.{TooManyNames, IdClash}
 use Rattle.mrc_wiring.specs.Labels.{clash_among}
+use Rattle.mrc_wiring.specs.declared.births.BirthRow.{BirthRow}
+use Rattle.mrc_wiring.specs.Births.{put_row}
 use Rattle.mrc_wiring.specs.Table.{Table, IsTable, kernel_births}
 use Rattle.mrc_wiring.specs.Table.{port_births}
 use Rattle.mrc_wiring.specs.Names.{number_of}
@@ -35,6 +37,7 @@ use Rattle.mrc_wiring.proofs.Lines.{holdings_task, holdings_port, holdings_hold,
 use Rattle.mrc_wiring.proofs.Lines.{kernel_below, wired_below}
 use Rattle.mrc_wiring.proofs.Lines.{wired_more, fresh_task}
 use Rattle.mrc_wiring.proofs.TableLemmas.{and_then_is, next_is, names_at_most, task_table}
+use Rattle.mrc_wiring.proofs.BirthLaws.{kinds_more, kinds_put}
 use Rattle.mrc_wiring.proofs.TableLemmas.{port_table, hold_table, births_table, admit_table}
 use Rattle.mrc_wiring.proofs.TableLemmas.{empty_is_table}
 use Rattle.mrc_wiring.proofs.NameLemmas.{name_pushed, no_names}
@@ -86,6 +89,7 @@ task_kept s name new is named fresh room more =
       wired = is.wired ∙ sym (append-nil _) ∙ sym (wired_more lines 0 (next_birth table) TaskLine
           (omega arith));
       given = subst (λ hs. IsGiven hs new) (sym e) (more (line_holdings 0 0 lines) is.given);
+      kinds = kinds_more (length s.table.names) s.table.births is.kinds;
       names = name_pushed table.names name is.names named fresh;
       ports = is.ports;
     }
@@ -117,6 +121,7 @@ port_kept s name t label new is named fresh room there own more =
       wired = ap (λ ks. ks ++ p ∷ []) is.wired
           ∙ sym (wired_more lines 0 p (PortLine t) (omega arith));
       given = subst (λ hs. IsGiven hs new) (sym e) (more (line_holdings 0 0 lines) is.given);
+      kinds = is.kinds;
       names = is.names;
       ports = name_pushed table.ports name is.ports named fresh;
     }
@@ -145,22 +150,38 @@ hold_kept s t p right new is there below plain own more =
       wired = is.wired ∙ sym (append-nil _)
           ∙ sym (wired_more lines 0 b (HoldLine t p right) (omega arith));
       given = subst (λ hs. IsGiven hs new) (sym e) (more (line_holdings 0 0 lines) is.given);
+      kinds = is.kinds;
       names = is.names;
       ports = is.ports;
     }
 
-pub births_kept : (s : State) (t : ℕ) (label : List LabelItem)
+pub births_kept : (s : State) (t kind : ℕ) (label : List LabelItem)
     → IsState s
-    → IsState (record s { table = with_births s.table t label })
-births_kept s t label is = record {
-  is_table = births_table s.table t label is.is_table;
+    → t < length s.table.names
+    → kind < 16
+    → IsState (record s { table = with_births s.table t kind label })
+births_kept s t kind label is there small = record {
+  is_table = births_table s.table t kind label is.is_table there;
   sorts = is.sorts;
   kernels = is.kernels;
   wired = is.wired;
   given = is.given;
+  kinds = kinds_put s.table.births t kind label is.kinds small;
   names = is.names;
   ports = is.ports;
 }
+
+pub births_kept_as : (s now : State) (t kind : ℕ) (label : List LabelItem) (rows : List BirthRow)
+    → s ≡ now
+    → IsState now
+    → t < length now.table.names
+    → kind < 16
+    → rows ≡ put_row s.table.births t kind label
+    → IsState (record s { table = record s.table { births = rows } })
+births_kept_as s now t kind label rows same is there small put =
+    let there_too = subst (λ (x : State). t < length x.table.names) (sym same) there in
+    subst (λ (bs : List BirthRow). IsState (record s { table = record s.table { births = bs } }))
+    (sym put) (births_kept s t kind label (subst IsState (sym same) is) there_too small)
 
 pub admit_kept : (s : State) (line : AdmitLine)
     → IsState s
@@ -171,6 +192,7 @@ admit_kept s line is = record {
   kernels = is.kernels;
   wired = is.wired;
   given = is.given;
+  kinds = is.kinds;
   names = is.names;
   ports = is.ports;
 }
@@ -191,6 +213,7 @@ start_kept interfaces sorts given e is = record {
   kernels = refl;
   wired = refl;
   given = is;
+  kinds = tt;
   names = no_names;
   ports = no_names;
 }

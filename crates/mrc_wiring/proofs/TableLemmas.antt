@@ -1,7 +1,7 @@
 -- A table that lines can mean stays one, with what one more line adds.
 use Rattle.std.proofs.Common.{◌≡◌, inl, inr, ℕ, ◌+◌, ◌<◌, ◌≤◌, Bool, true, false, List, []}
-use Rattle.std.proofs.Common.{◌∷◌, ◌++◌, length, Some, None, refl, ap, sym, arith, ◌∙◌}
-use Rattle.std.proofs.Common.{length-append, length-set, ◌||◌, not}
+use Rattle.std.proofs.Common.{◌∷◌, ◌++◌, length, Some, None, refl, ap, sym, arith}
+use Rattle.std.proofs.Common.{length-append, ◌||◌, not, subst}
 use Rattle.std.specs.Prelude.{Option, option_and_then}
 use Rattle.std.specs.List.{list_any}
 use Rattle.mrc_base.specs.declared.PortRight.{PortRight}
@@ -15,6 +15,7 @@ use Rattle.mrc_model.specs.FirstHoldings.{line_holdings, line_births, names_give
 use Rattle.mrc_model.specs.FirstHoldings.{is_named}
 use Rattle.mrc_interface.specs.Tables.{Table as Interface}
 use Rattle.mrc_wiring.specs.declared.table.AdmitLine.{AdmitLine}
+use Rattle.mrc_wiring.specs.Births.{AreBirths, new_row}
 use Rattle.mrc_wiring.specs.Table.{Table, IsTable}
 use Rattle.mrc_wiring.specs.Resolving.{with_task, with_births, with_admit, empty_table}
 use Rattle.mrc_wiring.specs.Resolving.{with_line, with_port}
@@ -23,6 +24,7 @@ use Rattle.mrc_wiring.proofs.Lines.{task_lines_more, port_lines_more, births_are
 use Rattle.mrc_wiring.proofs.Lines.{holdings_task, holdings_port, holdings_hold}
 use Rattle.mrc_wiring.proofs.Lines.{earlier_more, fresh_task, names_more, names_other}
 use Rattle.mrc_wiring.proofs.GivenLemmas.{equal_or_not}
+use Rattle.mrc_wiring.proofs.BirthLaws.{births_more, births_put}
 
 -- what is found behind a number that is found
 pub and_then_is : {X Y : Type 0} (f : X → Option Y) (o : Option X) (y : Y)
@@ -92,12 +94,8 @@ task_table table name is room =
     record {
       few_tasks = omega (arith, length-append table.names (name ∷ []));
       few_ports = is.few_ports;
-      births = omega (
-        arith,
-        is.births,
-        length-append table.names (name ∷ []),
-        length-append table.births (None ∷ []),
-      );
+      births = subst (λ (k : ℕ). AreBirths k (table.births ++ new_row n 0 ∷ []))
+          (sym (length-append table.names (name ∷ []))) (births_more n table.births is.births);
       accepts = is.accepts;
       tasks = omega (
         arith,
@@ -186,13 +184,14 @@ hold_table table t p right is there below plain own =
     }
 
 -- what births accept
-pub births_table : (table : Table) (t : ℕ) (label : List LabelItem)
+pub births_table : (table : Table) (t kind : ℕ) (label : List LabelItem)
     → IsTable table
-    → IsTable (with_births table t label)
-births_table table t label is = record {
+    → t < length table.names
+    → IsTable (with_births table t kind label)
+births_table table t kind label is there = record {
   few_tasks = is.few_tasks;
   few_ports = is.few_ports;
-  births = length-set table.births t (Some label) ∙ is.births;
+  births = births_put (length table.names) table.births t kind label is.births there;
   accepts = is.accepts;
   tasks = is.tasks;
   ports = is.ports;
@@ -220,7 +219,11 @@ pub empty_is_table : (interfaces : List Interface) → IsTable (empty_table inte
 empty_is_table interfaces = record {
   few_tasks = omega arith;
   few_ports = omega arith;
-  births = refl;
+  births = record {
+    ascending = tt;
+    each = tt;
+    zeroth = λ t less. absurd (omega arith);
+  };
   accepts = refl;
   tasks = refl;
   ports = refl;

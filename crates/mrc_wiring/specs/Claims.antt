@@ -1,7 +1,7 @@
 -- What the lines of a policy mean over a wiring: the forbidden holdings, or the first fault. This
 -- profile's own choice.
-use Rattle.std.specs.Prelude.{◌≡◌, ℕ, List, [], ◌∷◌, map, Option, Result, Ok, Err}
-use Rattle.std.specs.Option.{option_map, ok_or}
+use Rattle.std.specs.Prelude.{◌≡◌, ℕ, List, [], ◌∷◌, map, Option, Result, Ok, Err, option_and_then}
+use Rattle.std.specs.Option.{ok_or}
 use Rattle.mrc_base.specs.declared.memory.OrMemory.{OrMemory}
 use Rattle.mrc_base.specs.Reading.{◌>>=◌, Refuses}
 use Rattle.mrc_model.specs.Breach.{Forbid}
@@ -22,7 +22,7 @@ pub record Claimed : Type 0 where
 -- the class of a name
 abbrev pub class_number : Table → ClassName → Option ℕ
 class_number table name =
-    option_map (class_of table) (class_said table.names table.ports name)
+    option_and_then (class_of table) (class_said table.names table.ports table.births name)
 
 -- what a line forbids
 unfoldable pub forbidden : Table → ℕ → ForbidText → Result ForbiddenLine ClaimFault

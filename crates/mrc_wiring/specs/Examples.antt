@@ -1,7 +1,6 @@
 -- A worked wiring: a file server and its client, over one interface.
 use Rattle.std.specs.Prelude.{◌≡◌, ℕ, false, List, [], ◌∷◌, Option, Some, None, Result, Ok, Err}
-use Rattle.std.specs.Prelude.{refl}
-use Rattle.std.specs.Prelude.{codes}
+use Rattle.std.specs.Prelude.{refl, codes, length}
 use Rattle.mrc_base.specs.declared.PortRight.TheVariants.{Send}
 use Rattle.mrc_mig_symbols.specs.declared.word.Direction.{Direction}
 use Rattle.mrc_mig_symbols.specs.declared.word.Direction.TheVariants.{In, Out, RequestPort}
@@ -23,7 +22,8 @@ use Rattle.mrc_wiring_text.specs.declared.wiring.WiringSays.TheVariants as says
 use Rattle.mrc_wiring.specs.declared.faults.ResolveFault.{ResolveFault}
 use Rattle.mrc_wiring.specs.declared.faults.ResolveFault.TheVariants.{UnknownName, TwiceNamed}
 use Rattle.mrc_wiring.specs.declared.faults.ResolveFault.TheVariants.{IdClash}
-use Rattle.mrc_wiring.specs.Table.{Table, wiring_of}
+use Rattle.mrc_wiring.specs.Births.{put_row}
+use Rattle.mrc_wiring.specs.Table.{Table, wiring_of, admitted_of}
 use Rattle.mrc_wiring.specs.Resolving.{resolved, add_task, add_port, place_port, add_births}
 use Rattle.mrc_wiring.specs.Resolving.{place_births, add_hold_port, place_hold}
 use Rattle.mrc_wiring.specs.Resolving.{add_admit}
@@ -55,9 +55,9 @@ filing =
     line 2 (says.Task (codes "app"))
     ∷ line 3 (says.Task (codes "fs"))
     ∷ line 4 (says.Port (codes "root") (codes "fs") (item.Request (codes "fsys") ∷ []))
-    ∷ line 5 (says.Births (codes "app") (item.Reply (codes "fsys") ∷ []))
+    ∷ line 5 (says.Births (codes "app") 0 (item.Reply (codes "fsys") ∷ []))
     ∷ line 6 (says.HoldPort (codes "app") held.Send (codes "root"))
-    ∷ line 7 (says.Admit (codes "fsys") (codes "file_t") (Some (class.Births (codes "fs")))) ∷ []
+    ∷ line 7 (says.Admit (codes "fsys") (codes "file_t") (Some (class.Births (codes "fs") 0))) ∷ []
 
 -- the wiring that lines mean, where they mean one
 abbrev wiring_said : Result Table ResolveFault → Option Wiring
@@ -86,7 +86,8 @@ pub files_are_wired : wiring_said (resolved (fsys ∷ []) filing) ≡ Some recor
   labels = (label.Request 0 ∷ []) ∷ [] ∷ [] ∷ (label.Reply 0 ∷ []) ∷ [] ∷ [];
   admitted = (0, Some 4) ∷ [];
 }
-unfolding add_task add_port place_port add_births place_births add_hold_port place_hold add_admit
+unfolding add_task add_port place_port add_births place_births put_row add_hold_port place_hold
+    add_admit
 files_are_wired = refl
 
 -- without its interface the port line names what is not there
@@ -101,8 +102,66 @@ interface_twice = refl
 -- a label that has one item twice
 pub item_twice :
     resolved (fsys ∷ []) (line 2 (says.Task (codes "a"))
-    ∷ line 3 (says.Births (codes "a") (item.Reply (codes "fsys") ∷ item.Destroyed
+    ∷ line 3 (says.Births (codes "a") 0 (item.Reply (codes "fsys") ∷ item.Destroyed
     ∷ item.Reply (codes "fsys") ∷ [])) ∷ [])
     ≡ Err (IdClash 3)
-unfolding add_task add_births place_births
+unfolding add_task add_births place_births put_row
 item_twice = refl
+
+-- births of several kinds in any order are numbered by task, and then by kind; those of kind 0 are
+-- always there
+abbrev kinds : List (Line WiringSays)
+kinds =
+    line 2 (says.Task (codes "a"))
+    ∷ line 3 (says.Births (codes "a") 5 (item.Destroyed ∷ []))
+    ∷ line 4 (says.Task (codes "b"))
+    ∷ line 5 (says.Births (codes "b") 1 [])
+    ∷ line 6 (says.Births (codes "a") 3 []) ∷ []
+
+pub kinds_are_wired : wiring_said (resolved [] kinds) ≡ Some record {
+  lines = TaskLine ∷ TaskLine ∷ [];
+  tasks = 2;
+  ports = 0;
+  births = (0, 0) ∷ (0, 3) ∷ (0, 5) ∷ (1, 0) ∷ (1, 1) ∷ [];
+  interfaces = [];
+  labels = [] ∷ [] ∷ [] ∷ [] ∷ (label.Destroyed ∷ []) ∷ [] ∷ [] ∷ [];
+  admitted = [];
+}
+unfolding add_task add_births place_births put_row
+kinds_are_wired = refl
+
+-- the births of one task and kind are said once
+pub kind_twice :
+    resolved [] (line 2 (says.Task (codes "a")) ∷ line 3 (says.Births (codes "a") 1 [])
+    ∷ line 4 (says.Births (codes "a") 1 []) ∷ [])
+    ≡ Err (TwiceNamed 4)
+unfolding add_task add_births place_births put_row
+kind_twice = refl
+
+-- files are what a makes of kind 2; a line behind says of kind 1 as well
+abbrev admitting : List (Line WiringSays)
+admitting =
+    line 2 (says.Task (codes "a"))
+    ∷ line 3 (says.Births (codes "a") 2 [])
+    ∷ line 4 (says.Admit (codes "fsys") (codes "file_t") (Some (class.Births (codes "a") 2)))
+    ∷ line 5 (says.Births (codes "a") 1 []) ∷ []
+
+-- which types admit which classes, where lines have a meaning
+abbrev admits_said : Result Table ResolveFault → Option (List (ℕ × Option ℕ))
+admits_said (Ok table) =
+    Some (admitted_of (length table.ports) (length table.names) table.births table.admits)
+admits_said (Err fault) = None
+
+-- a's kernel port is class 0, and its births of kinds 0, 1 and 2 are classes 1, 2 and 3
+pub later_kind_shifts : admits_said (resolved (fsys ∷ []) admitting) ≡ Some ((0, Some 3) ∷ [])
+unfolding add_task add_births place_births put_row add_admit
+later_kind_shifts = refl
+
+-- an admit line names a kind of an earlier line
+pub later_kind_is_unknown :
+    resolved (fsys ∷ []) (line 2 (says.Task (codes "a"))
+    ∷ line 3 (says.Admit (codes "fsys") (codes "file_t") (Some (class.Births (codes "a") 1)))
+    ∷ line 4 (says.Births (codes "a") 1 []) ∷ [])
+    ≡ Err (UnknownName 3)
+unfolding add_task add_admit
+later_kind_is_unknown = refl

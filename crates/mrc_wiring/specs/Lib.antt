@@ -1,10 +1,13 @@
 pub mod Sorts
 pub mod ModelForms
+pub mod Births
+pub mod RowPlaces
 pub mod Table
 pub mod FirstState
 pub mod Names
 pub mod Labels
 pub mod ClashLaw
+pub mod ClassNumbers
 pub mod Resolving
 pub mod State
 pub mod Slots

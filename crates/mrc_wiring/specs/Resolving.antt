@@ -3,7 +3,7 @@
 use Rattle.std.specs.Prelude.{◌≡◌, ℕ, ◌++◌, ◌||◌, Bool, false, List, [], ◌∷◌, length, bytes_eq}
 use Rattle.std.specs.Prelude.{Option, Some, None, Result, Ok, Err, nat_le, nat_lt, is_some}
 use Rattle.std.specs.Prelude.{position}
-use Rattle.std.specs.Prelude.{if◌then◌else◌, slice_get, slice_set, option_and_then, unwrap_or}
+use Rattle.std.specs.Prelude.{if◌then◌else◌, slice_get, option_and_then}
 use Rattle.std.specs.List.{list_any}
 use Rattle.std.specs.Option.{ok_or}
 use Rattle.mrc_base.specs.Limits.{limit_of_tasks, limit_of_wired_ports, limit_of_interfaces}
@@ -32,6 +32,7 @@ use Rattle.mrc_wiring.specs.declared.faults.ResolveFault.TheVariants.{TooMany, T
 use Rattle.mrc_wiring.specs.declared.faults.ResolveFault.TheVariants.{IdClash}
 use Rattle.mrc_wiring.specs.declared.names.NumberedClass.{NumberedClass}
 use Rattle.mrc_wiring.specs.declared.table.AdmitLine.{AdmitLine}
+use Rattle.mrc_wiring.specs.Births.{new_row, has_said, put_row}
 use Rattle.mrc_wiring.specs.Sorts.{is_sort, sorts_of}
 use Rattle.mrc_wiring.specs.Table.{Table, wiring_of, kernel_births, port_births}
 use Rattle.mrc_wiring.specs.Names.{number_of, class_said}
@@ -45,7 +46,7 @@ with_line table line = record table { lines = table.lines ++ line ∷ [] }
 abbrev pub with_task : Table → List ℕ → Table
 with_task table name = record table {
   names = table.names ++ name ∷ [];
-  births = table.births ++ None ∷ [];
+  births = table.births ++ new_row (length table.names) 0 ∷ [];
   lines = table.lines ++ TaskLine ∷ [];
 }
 
@@ -57,9 +58,9 @@ with_port table name t label = record table {
   lines = table.lines ++ PortLine t ∷ [];
 }
 
--- what the births of task t accept
-abbrev pub with_births : Table → ℕ → List LabelItem → Table
-with_births table t label = record table { births = slice_set table.births t (Some label) }
+-- what the births of task t of this kind accept
+abbrev pub with_births : Table → ℕ → ℕ → List LabelItem → Table
+with_births table t kind label = record table { births = put_row table.births t kind label }
 
 -- one more admit line
 abbrev pub with_admit : Table → AdmitLine → Table
@@ -93,23 +94,19 @@ add_port table n name receiver accepts = do
   label ← label_said table.interfaces n accepts
   place_port table n name t label
 
--- a line has said what the births of task t accept
-abbrev pub has_births : Table → ℕ → Bool
-has_births table t = is_some (unwrap_or (slice_get table.births t) None)
-
--- what the births of task t accept, unless a line has said it or two items clash
-unfoldable pub place_births : Table → ℕ → ℕ → List LabelItem → Result Table ResolveFault
-place_births table n t label =
-    if has_births table t then Err (TwiceNamed n)
+-- what the births of task t of this kind accept, unless a line has said it or two items clash
+unfoldable pub place_births : Table → ℕ → ℕ → ℕ → List LabelItem → Result Table ResolveFault
+place_births table n t kind label =
+    if has_said table.births t kind then Err (TwiceNamed n)
     else if clash_among table.interfaces [] label then Err (IdClash n)
-    else Ok (with_births table t label)
+    else Ok (with_births table t kind label)
 
--- what a task's births accept: the task and the interfaces have names that are there
-unfoldable pub add_births : Table → ℕ → List ℕ → List Item → Result Table ResolveFault
-add_births table n task accepts = do
+-- what a task's births of a kind accept: the task and the interfaces have names that are there
+unfoldable pub add_births : Table → ℕ → List ℕ → ℕ → List Item → Result Table ResolveFault
+add_births table n task kind accepts = do
   t ← ok_or (number_of table.names task) (UnknownName n)
   label ← label_said table.interfaces n accepts
-  place_births table n t label
+  place_births table n t kind label
 
 -- a right on a port of this birth number for task t, unless the task gets too many names
 unfoldable pub place_hold : Table → ℕ → ℕ → PortRight → Result Table ResolveFault
@@ -151,7 +148,8 @@ abbrev pub admitted_said : Table → ℕ → Option ClassName
     → Result (Option NumberedClass) ResolveFault
 admitted_said table n None = Ok None
 admitted_said table n (Some name) =
-    ok_or (class_said table.names table.ports name) (UnknownName n) >>= λ class. Ok (Some class)
+    ok_or (class_said table.names table.ports table.births name) (UnknownName n)
+    >>= λ class. Ok (Some class)
 
 -- a type admits a class, or none: the interface, the type of one of its port arguments, and the
 -- class have names that are there
@@ -167,7 +165,7 @@ add_admit table n subsystem type_name class = do
 abbrev pub add_line : Table → ℕ → WiringSays → Result Table ResolveFault
 add_line table n (Task name) = add_task table n name
 add_line table n (Port name receiver accepts) = add_port table n name receiver accepts
-add_line table n (Births task accepts) = add_births table n task accepts
+add_line table n (Births task kind accepts) = add_births table n task kind accepts
 add_line table n (HoldPort holder right port) = add_hold_port table n holder right port
 add_line table n (HoldTask holder task) = add_hold_task table n holder task
 add_line table n (Admit subsystem type_name class) =

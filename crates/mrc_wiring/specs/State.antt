@@ -10,6 +10,7 @@ use Rattle.mrc_model.specs.declared.FirstLine.TheVariants.{Hold as HoldLine}
 use Rattle.mrc_model.specs.Breach.{Holding}
 use Rattle.mrc_model.specs.FirstHoldings.{names_given, is_named, line_holdings}
 use Rattle.mrc_wiring.specs.Sorts.{Sort, sorts_of}
+use Rattle.mrc_wiring.specs.Births.{AreKinds}
 use Rattle.mrc_wiring.specs.Table.{Table, IsTable, kernel_births, port_births}
 use Rattle.mrc_wiring.specs.Names.{AreNames}
 use Rattle.mrc_wiring.specs.Resolving.{with_task, with_port, with_line}
@@ -72,6 +73,7 @@ pub record IsState (state : State) : Type 0 where
   pub kernels : state.kernels ≡ kernel_births 0 state.table.lines
   pub wired : state.wired ≡ port_births 0 state.table.lines
   pub given : IsGiven (line_holdings 0 0 state.table.lines) state.given
+  pub kinds : AreKinds state.table.births
   pub names : AreNames state.table.names
   pub ports : AreNames state.table.ports
 

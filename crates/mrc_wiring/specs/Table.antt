@@ -1,79 +1,80 @@
 -- The table that the lines of a wiring mean, and the model's wiring of it. This profile's own
 -- choice.
-use Rattle.std.specs.Prelude.{◌≡◌, ℕ, zero, suc, ◌+◌, ◌<◌, ◌≤◌, ◌++◌, false, List, [], ◌∷◌, length}
-use Rattle.std.specs.Prelude.{map, Option, unwrap_or}
-use Rattle.std.specs.Option.{option_map}
+use Rattle.std.specs.Prelude.{◌≡◌, ℕ, ◌+◌, ◌<◌, ◌≤◌, ◌++◌, false, List, [], ◌∷◌, length, map}
+use Rattle.std.specs.Prelude.{Option, Some, option_and_then}
 use Rattle.mrc_base.specs.Limits.{limit_of_tasks, limit_of_wired_ports, limit_of_names}
 use Rattle.mrc_model.specs.declared.LabelItem.{LabelItem}
 use Rattle.mrc_model.specs.declared.FirstLine.{FirstLine}
 use Rattle.mrc_model.specs.declared.FirstLine.TheVariants.{Task as TaskLine, Port as PortLine}
 use Rattle.mrc_model.specs.declared.FirstLine.TheVariants.{Hold as HoldLine}
 use Rattle.mrc_model.specs.Rights.{is_receive}
-use Rattle.mrc_model.specs.Wiring.{Wiring}
+use Rattle.mrc_model.specs.Wiring.{Wiring, births_from}
 use Rattle.mrc_model.specs.FirstHoldings.{first_names}
 use Rattle.mrc_interface.specs.Tables.{Table as Interface}
 use Rattle.mrc_wiring.specs.declared.names.ClassKind.{ClassKind}
 use Rattle.mrc_wiring.specs.declared.names.ClassKind.TheVariants as kinds
 use Rattle.mrc_wiring.specs.declared.names.NumberedClass.{NumberedClass}
 use Rattle.mrc_wiring.specs.declared.table.AdmitLine.{AdmitLine}
+use Rattle.mrc_wiring.specs.declared.births.BirthRow.{BirthRow}
+use Rattle.mrc_wiring.specs.Births.{AreBirths, pair_of, of_row}
 use Rattle.mrc_wiring.specs.Sorts.{sorts_of}
 use Rattle.mrc_wiring.specs.ModelForms.{interfaces_from}
 
--- The tasks' names in the order of their lines, and what each task's births accept, if a line says
--- it; the wired ports' names in the order of their lines, and what each accepts; what makes the
--- first state, line by line; the admit lines; and the interfaces.
+-- The tasks' names in the order of their lines; the births of each task by their kinds, and what
+-- they accept, if a line says it; the wired ports' names in the order of their lines, and what each
+-- accepts; what makes the first state, line by line; the admit lines; and the interfaces.
 pub record Table : Type 0 where
   pub names : List (List ℕ)
-  pub births : List (Option (List LabelItem))
+  pub births : List BirthRow
   pub ports : List (List ℕ)
   pub accepts : List (List LabelItem)
   pub lines : List FirstLine
   pub admits : List AdmitLine
   pub interfaces : List Interface
 
--- the class of this kind that has the number among those of its kind: wired ports come first, then
--- kernel ports, then births
-abbrev pub kind_class : ℕ → ℕ → ClassKind → ℕ → ℕ
-kind_class ports tasks kinds.Port n = n
-kind_class ports tasks kinds.Task n = ports + n
-kind_class ports tasks kinds.Births n = ports + tasks + n
+-- the class of this kind that has the number among those of its kind, where so many ports and tasks
+-- are there, and these births: wired ports come first, then kernel ports, then births
+abbrev pub kind_class : ℕ → ℕ → List BirthRow → ClassKind → ℕ → Option ℕ
+kind_class ports tasks births kinds.Port n = Some n
+kind_class ports tasks births kinds.Task n = Some (ports + n)
+kind_class ports tasks births (kinds.Births kind) n =
+    births_from (ports + tasks) n kind (map pair_of births)
 
--- the same where so many ports and tasks are those of the table
-abbrev pub class_of : Table → NumberedClass → ℕ
+-- the same where ports, tasks and births are those of the table
+abbrev pub class_of : Table → NumberedClass → Option ℕ
 class_of table class =
-    kind_class (length table.ports) (length table.names) class.kind class.number
+    kind_class (length table.ports) (length table.names) table.births class.kind class.number
 
 -- an admit line: the number of its type, and its class, or none
-abbrev pub admitted_by : Table → AdmitLine → ℕ × Option ℕ
-admitted_by table line = (line.sort, option_map (class_of table) line.class)
+abbrev pub admitted_by : ℕ → ℕ → List BirthRow → AdmitLine → ℕ × Option ℕ
+admitted_by ports tasks births line = (
+  line.sort,
+  option_and_then (λ (class : NumberedClass). kind_class ports tasks births class.kind
+      class.number) line.class,
+)
 
--- the births of kind 0 of n tasks from t on
-abbrev pub births_after : ℕ → ℕ → List (ℕ × ℕ)
-births_after t zero = []
-births_after t (suc n) = (t, 0) ∷ births_after (t + 1) n
+-- all of them
+abbrev pub admitted_of : ℕ → ℕ → List BirthRow → List AdmitLine → List (ℕ × Option ℕ)
+admitted_of ports tasks births lines = map (admitted_by ports tasks births) lines
 
 -- what a kernel port accepts: nothing
 abbrev pub of_kernel : List ℕ → List LabelItem
 of_kernel name = []
 
--- what births accept: nothing where no line says it
-abbrev pub of_births : Option (List LabelItem) → List LabelItem
-of_births births = unwrap_or births []
-
 -- what each class accepts, in the order of the classes
 abbrev pub labels_of : Table → List (List LabelItem)
-labels_of table = table.accepts ++ (map of_kernel table.names ++ map of_births table.births)
+labels_of table = table.accepts ++ (map of_kernel table.names ++ map of_row table.births)
 
--- each task has births of kind 0
+-- the model's wiring of a table
 abbrev pub wiring_of : Table → Wiring
 wiring_of table = record {
   lines = table.lines;
   tasks = length table.names;
   ports = length table.ports;
-  births = births_after 0 (length table.names);
+  births = map pair_of table.births;
   interfaces = interfaces_from (sorts_of table.interfaces) 0 table.interfaces;
   labels = labels_of table;
-  admitted = map (admitted_by table) table.admits;
+  admitted = admitted_of (length table.ports) (length table.names) table.births table.admits;
 }
 
 -- how many task lines there are
@@ -119,7 +120,7 @@ AreEarlier tasks births (HoldLine t p r ∷ lines) =
 pub record IsTable (table : Table) : Type 0 where
   pub few_tasks : length table.names ≤ limit_of_tasks
   pub few_ports : length table.ports ≤ limit_of_wired_ports
-  pub births : length table.births ≡ length table.names
+  pub births : AreBirths (length table.names) table.births
   pub accepts : length table.accepts ≡ length table.ports
   pub tasks : task_lines table.lines ≡ length table.names
   pub ports : port_lines table.lines ≡ length table.ports

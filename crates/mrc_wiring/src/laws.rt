@@ -1,6 +1,7 @@
-//! What holds of the numbers of types, and of labels that clash.
+//! What holds of the numbers of types and of classes, and of labels that clash.
 
 ghost use Rattle.mrc_wiring.specs.ClashLaw.{ClashesAreTwoItems};
+ghost use Rattle.mrc_wiring.specs.ClassNumbers.{BirthsAreNumbered};
 ghost use Rattle.mrc_wiring.specs.Sorts.{SortsAreNumbered, SortsAreTypes};
 
 /// Two types of port arguments have one number exactly where they are of one interface and have one
@@ -14,4 +15,10 @@ pub fn sorts_are_types()
 /// the same id.
 pub fn clashes_are_two_items()
     ensures clashes { ClashesAreTwoItems }
+{}
+
+/// Classes of births are numbered behind wired ports and kernel ports, without a gap and each once,
+/// by task and then by kind; and each task has births of kind 0.
+pub fn births_are_numbered()
+    ensures births { BirthsAreNumbered }
 {}

@@ -2,6 +2,7 @@
 //! rights, by numbers and by names; and what a policy forbids in it.
 #![tactic(auto)]
 
+mod births;
 mod claim;
 mod faults;
 mod finding;
@@ -18,7 +19,7 @@ mod wired;
 
 pub use claim::{Claim, ForbiddenLine};
 pub use faults::{ClaimFault, ResolveFault};
-pub use laws::{clashes_are_two_items, sorts_are_types};
-pub use names::{ClassKind, ClassLabel};
+pub use laws::{births_are_numbered, clashes_are_two_items, sorts_are_types};
+pub use names::{ClassKind, ClassLabel, kind_word};
 pub use resolving::NotResolved;
 pub use wired::Wired;

@@ -2,20 +2,22 @@
 
 ghost use Rattle.std.specs.Prelude.{◌≡◌, ◌<◌, ◌≤◌, length, IfSome};
 ghost use Rattle.mrc_base.specs.Limits.{limit_of_tasks, limit_of_wired_ports};
-ghost use Rattle.mrc_wiring.specs.Names.{number_of, class_said};
+ghost use Rattle.mrc_wiring.specs.Births.{AreAscending};
+ghost use Rattle.mrc_wiring.specs.Names.{number_of, class_said, kind_word, kind_named, births_said};
 
+use crate::births::{BirthRow, has_row};
 use mrc_wiring_text::{ClassName, Name};
 
-/// The kinds of classes of ports. Each wired port is a class of its own, each task has one class of
-/// either of the other kinds.
+/// The kinds of classes of ports. Each wired port is a class of its own, each task has one class
+/// for its kernel port, and one for each kind of its births.
 #[derive(Clone, Copy, Debug, PartialEq, Eq)]
 pub enum ClassKind {
     /// A wired port, alone.
     Port,
     /// The kernel port of the task, alone.
     Task,
-    /// The ports that the task is the first to hold.
-    Births,
+    /// The ports of this kind that the task, or a task that is made like it, is the first to hold.
+    Births(u8),
 }
 
 /// A class of ports by its kind and the name of its port or task.
@@ -42,11 +44,83 @@ pub(crate) fn number_of(names: &[Name], name: &str) -> Option<usize>
     names.iter().position(|known| name == known.as_str())
 }
 
-/// The class that a line names, by the names of tasks and wired ports.
-pub(crate) fn class_said(tasks: &[Name], ports: &[Name], class: &ClassName) -> Option<NumberedClass>
+/// The word of a kind of births.
+pub fn kind_word(kind: u8) -> &'static str
+    ensures { result.now ≡ kind_word kind }
+{
+    match kind {
+        0 => "0",
+        1 => "1",
+        2 => "2",
+        3 => "3",
+        4 => "4",
+        5 => "5",
+        6 => "6",
+        7 => "7",
+        8 => "8",
+        9 => "9",
+        10 => "10",
+        11 => "11",
+        12 => "12",
+        13 => "13",
+        14 => "14",
+        15 => "15",
+        _ => "",
+    }
+}
+
+/// The kind of births that is printed so.
+#[tactic(auto, unfolding(crate::specs::Names::kind_named))]
+pub(crate) fn kind_named(text: &str) -> Option<u8>
+    ensures { result ≡ kind_named text.now }
+{
+    match text {
+        "1" => Some(1),
+        "2" => Some(2),
+        "3" => Some(3),
+        "4" => Some(4),
+        "5" => Some(5),
+        "6" => Some(6),
+        "7" => Some(7),
+        "8" => Some(8),
+        "9" => Some(9),
+        "10" => Some(10),
+        "11" => Some(11),
+        "12" => Some(12),
+        "13" => Some(13),
+        "14" => Some(14),
+        "15" => Some(15),
+        _ => None,
+    }
+}
+
+/// The births of a task of a kind, where they are there.
+fn births_said(births: &[BirthRow], task: u16, kind: u8) -> Option<NumberedClass>
+    requires { AreAscending births.now }
+    ensures { result ≡ births_said births.now kind task }
+{
+    if has_row(births, task as u32, kind as u32) {
+        Some(NumberedClass {
+            kind: ClassKind::Births(kind),
+            number: task,
+        })
+    } else {
+        None
+    }
+}
+
+/// The class that a line names, by the names of tasks and wired ports and by the births that are
+/// there.
+pub(crate) fn class_said(
+    tasks: &[Name],
+    ports: &[Name],
+    births: &[BirthRow],
+    class: &ClassName,
+) -> Option<NumberedClass>
     requires tasks { length tasks.now ≤ limit_of_tasks }
     requires ports { length ports.now ≤ limit_of_wired_ports }
-    ensures exact { result ≡ class_said tasks.now ports.now class.now }
+    requires ascending { AreAscending births.now }
+    ensures exact { result ≡ class_said tasks.now ports.now births.now class.now }
     ensures within { IfSome result (λ class. class.number < limit_of_wired_ports) }
 {
     match class {
@@ -64,12 +138,9 @@ pub(crate) fn class_said(tasks: &[Name], ports: &[Name], class: &ClassName) -> O
                 number: number as u16,
             })
         }
-        ClassName::Births(name) => {
-            let number = number_of(tasks, name.as_str())?;
-            Some(NumberedClass {
-                kind: ClassKind::Births,
-                number: number as u16,
-            })
+        ClassName::Births { task, kind } => {
+            let number = number_of(tasks, task.as_str())?;
+            births_said(births, number as u16, kind.number())
         }
     }
 }

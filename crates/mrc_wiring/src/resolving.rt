@@ -5,9 +5,11 @@ ghost use Rattle.std.specs.Prelude.{OnOk};
 ghost use Rattle.std.specs.List.{list_any};
 ghost use Rattle.std.specs.Option.{ok_or};
 ghost use Rattle.mrc_base.specs.Limits.{limit_of_tasks, limit_of_wired_ports, limit_of_names};
+ghost use Rattle.mrc_base.specs.Limits.{limit_of_kinds};
 ghost use Rattle.mrc_base.specs.Reading.{Gives};
 ghost use Rattle.mrc_model.specs.Rights.{is_receive};
 ghost use Rattle.mrc_wiring.specs.declared.faults.ResolveFault.TheVariants.{UnknownName};
+ghost use Rattle.mrc_wiring.specs.Births.{AreAscending};
 ghost use Rattle.mrc_wiring.specs.Sorts.{sorts_of};
 ghost use Rattle.mrc_wiring.specs.Names.{number_of};
 ghost use Rattle.mrc_wiring.specs.State.{IsState, IsGiven, GivesMore, limit_of_first_ports};
@@ -16,10 +18,11 @@ ghost use Rattle.mrc_wiring.specs.State.{state_with_hold};
 ghost use Rattle.mrc_wiring.specs.Resolving.{Adds, resolved, started, add_line, add_task, add_port};
 ghost use Rattle.mrc_wiring.specs.Resolving.{place_port, add_births, place_births, place_hold};
 ghost use Rattle.mrc_wiring.specs.Resolving.{add_hold_port, add_hold_task, add_admit, right_held};
-ghost use Rattle.mrc_wiring.specs.Resolving.{port_birth, kernel_birth, has_births, admitted_said};
+ghost use Rattle.mrc_wiring.specs.Resolving.{port_birth, kernel_birth, admitted_said};
 ghost use Rattle.mrc_wiring.specs.Resolving.{has_twice, is_named};
 ghost use Rattle.mrc_wiring.specs.Told.{StateTold, FaultOrStarts};
 
+use crate::births::{BirthRow, has_said, put_row};
 use crate::faults::ResolveFault;
 use crate::first_names::NamesGiven;
 use crate::labels::{Label, has_clash, interface_number, label_said};
@@ -30,7 +33,7 @@ use mrc_base::limits::{INTERFACES, NAMES, TASKS, WIRED_PORTS};
 use mrc_base::{OrMemory, PortId, PortRight, TaskId};
 use mrc_interface::Interface;
 use mrc_model::FirstLine;
-use mrc_wiring_text::{ClassName, HeldRight, Items, Name, WiringLine, WiringSays};
+use mrc_wiring_text::{ClassName, HeldRight, Items, Kind, Name, WiringLine, WiringSays};
 use std::alloc::{AllocError, Global};
 use std::marker::Model;
 
@@ -38,7 +41,7 @@ use std::marker::Model;
 #[derive(Drop)]
 pub(crate) struct Resolving {
     pub(crate) names: Vec<Name>,
-    pub(crate) births: Vec<Option<Label>>,
+    pub(crate) births: Vec<BirthRow>,
     pub(crate) ports: Vec<Name>,
     pub(crate) accepts: Vec<Label>,
     pub(crate) lines: Vec<FirstLine>,
@@ -94,6 +97,15 @@ impl Resolving {
         self.names.len() + self.ports.len()
     }
 
+    /// The births of each task by their kinds.
+    fn births(&self) -> &[BirthRow]
+        requires { IsState self.now }
+        ensures exact { result.now ≡ self.now.table.births }
+        ensures ascending { AreAscending result.now }
+    {
+        self.births.as_slice()
+    }
+
     /// A task by its name in a line.
     fn task_said(&self, line: u32, name: &Name) -> Result<usize, OrMemory<ResolveFault>>
         requires { IsState self.now }
@@ -125,7 +137,11 @@ impl Resolving {
         let task = self.names.len();
         let port = self.next();
         self.names.push(name.copy(alloc)?)?;
-        self.births.push(None)?;
+        self.births.push(BirthRow {
+            task: task as u16,
+            kind: 0,
+            accepts: None,
+        })?;
         self.lines.push(FirstLine::Task)?;
         self.kernels.push(PortId(port as u64))?;
         self.given.give(task, port, PortRight::Send);
@@ -241,38 +257,31 @@ impl Resolving {
         Ok(())
     }
 
-    /// Whether a line has said what the births of the task accept.
-    fn has_births(&self, task: usize) -> bool
-        ensures { result ≡ has_births self.now.table task }
-    {
-        match self.births.get(task) {
-            Some(births) => births.is_some(),
-            None => false,
-        }
-    }
-
     #[tactic(auto, unfolding(crate::specs::Resolving::place_births))]
     fn place_births(
         &mut self,
         alloc: Global,
         line: u32,
         task: usize,
+        kind: u8,
         label: Label,
     ) -> Result<(), OrMemory<ResolveFault>>
         requires state { IsState self.old }
         requires there { task < length self.old.table.names }
+        requires within { task < limit_of_tasks }
+        requires kind { kind < limit_of_kinds }
         ensures exact { Adds result self.new.table
-            (place_births self.old.table line task label) }
+            (place_births self.old.table line task kind label) }
         ensures kept { OnOk result (IsState self.new) }
         ensures same { self.new.table.interfaces ≡ self.old.table.interfaces }
     {
-        if self.has_births(task) {
+        if has_said(self.births(), task as u32, kind as u32) {
             return Err(OrMemory::Fault(ResolveFault::TwiceNamed(line)));
         }
         if has_clash(alloc, self.interfaces.as_slice(), label.as_slice())? {
             return Err(OrMemory::Fault(ResolveFault::IdClash(line)));
         }
-        self.births[task] = Some(label);
+        put_row(&mut self.births, task as u16, kind, label)?;
         Ok(())
     }
 
@@ -282,17 +291,18 @@ impl Resolving {
         alloc: Global,
         line: u32,
         task: &Name,
+        kind: &Kind,
         accepts: &Items,
     ) -> Result<(), OrMemory<ResolveFault>>
         requires { IsState self.old }
         ensures exact { Adds result self.new.table
-            (add_births self.old.table line task.now accepts.now) }
+            (add_births self.old.table line task.now kind.now accepts.now) }
         ensures kept { OnOk result (IsState self.new) }
         ensures same { self.new.table.interfaces ≡ self.old.table.interfaces }
     {
         let task = self.task_said(line, task)?;
         let label = label_said(alloc, self.interfaces.as_slice(), line, accepts)?;
-        self.place_births(alloc, line, task, label)?;
+        self.place_births(alloc, line, task, kind.number(), label)?;
         Ok(())
     }
 
@@ -417,9 +427,9 @@ impl Resolving {
         let Some(name) = class else {
             return Ok(None);
         };
-        let class = class_said(self.names.as_slice(), self.ports.as_slice(), name).ok_or(
-            OrMemory::Fault(ResolveFault::UnknownName(line)),
-        )?;
+        let class = class_said(&self.names, &self.ports, self.births(), name).ok_or(OrMemory::Fault(
+            ResolveFault::UnknownName(line),
+        ))?;
         Ok(Some(class))
     }
 
@@ -464,7 +474,11 @@ impl Resolving {
                 receiver,
                 accepts,
             } => self.add_port(alloc, number, port, receiver, accepts),
-            WiringSays::Births { task, accepts } => self.add_births(alloc, number, task, accepts),
+            WiringSays::Births {
+                task,
+                kind,
+                accepts,
+            } => self.add_births(alloc, number, task, kind, accepts),
             WiringSays::HoldPort {
                 holder,
                 right,
@@ -575,6 +589,7 @@ pub(crate) fn resolved(
 ) -> Result<Resolving, NotResolved>
     ensures exact { StateTold interfaces.items result (resolved interfaces.items lines.now) }
     ensures kept { IfOk result (λ state. IsState state) }
+    ensures same { IfOk result (λ state. state.table.interfaces ≡ interfaces.items) }
 {
     let mut resolving = started(alloc, interfaces)?;
     for line in lines {

@@ -1,27 +1,29 @@
 //! Wirings, resolved to numbers.
 
-ghost use Rattle.std.specs.Prelude.{◌≡◌, ◌≤◌, ◌<◌, ◌+◌, ◌*◌, ◌==◌, ◌&&◌, ℕ, length, nat_lt};
-ghost use Rattle.std.specs.Prelude.{◌↔◌, slice_get, Some, None, IfOk, IfSome, IsTrue, unwrap_or};
+ghost use Rattle.std.specs.Prelude.{◌≡◌, ◌≤◌, ◌<◌, ◌+◌, ◌*◌, ℕ, [], length, map, get_or};
+ghost use Rattle.std.specs.Prelude.{◌↔◌, slice_get, Some, IfOk, IfSome, IsTrue};
 ghost use Rattle.std.specs.List.{list_any};
 ghost use Rattle.std.specs.Option.{option_map, IfNone};
-ghost use Rattle.mrc_base.specs.Limits.{limit_of_tasks, limit_of_wired_ports};
+ghost use Rattle.mrc_base.specs.Limits.{limit_of_tasks, limit_of_wired_ports, limit_of_kinds};
 ghost use Rattle.mrc_model.specs.First.{is_sound};
 ghost use Rattle.mrc_model.specs.Wiring.{classes, births_class, label, admits, is_line_of};
 ghost use Rattle.mrc_model.specs.Wiring.{admits_by};
-ghost use Rattle.mrc_wiring.specs.Table.{IsTable, wiring_of, class_of, admitted_by, of_births};
+ghost use Rattle.mrc_wiring.specs.Births.{AreAscending, AreKinds, of_row};
+ghost use Rattle.mrc_wiring.specs.Table.{IsTable, wiring_of};
 ghost use Rattle.mrc_wiring.specs.Sorts.{sorts_of, sort_number};
 ghost use Rattle.mrc_wiring.specs.Resolving.{resolved};
 ghost use Rattle.mrc_wiring.specs.Told.{ResolveTold};
 ghost use Rattle.mrc_wiring.specs.Names.{AreNames, number_of, class_label, shown_label};
-ghost use Rattle.mrc_wiring.specs.Names.{class_named};
+ghost use Rattle.mrc_wiring.specs.Names.{class_named, births_named};
 ghost use Rattle.mrc_wiring.specs.Claims.{class_number};
 
+use crate::births::{BirthRow, row_of};
 use crate::labels::Label;
-use crate::names::{ClassKind, ClassLabel, NumberedClass, class_said, number_of};
+use crate::names::{ClassKind, ClassLabel, class_said, kind_named, number_of};
 use crate::resolving::{NotResolved, resolved};
 use crate::sorts::{Sort, sort_number, sorts_of};
-use crate::table::AdmitLine;
-use mrc_base::{ClassId, TaskId, copy_all, same_all};
+use crate::table::{AdmitLine, admitted_of, class_of};
+use mrc_base::{ClassId, OrMemory, TaskId, copy_all, same_all};
 use mrc_interface::Interface;
 use mrc_model::{FirstLine, LabelItem};
 use mrc_wiring_text::{ClassName, Name, WiringLine};
@@ -33,20 +35,22 @@ use std::marker::Model;
 #[derive(Debug, Drop)]
 pub struct Wired {
     names: Vec<Name>,
-    births: Vec<Option<Label>>,
+    births: Vec<BirthRow>,
     ports: Vec<Name>,
     accepts: Vec<Label>,
     pub(crate) lines: Vec<FirstLine>,
     admits: Vec<AdmitLine>,
     interfaces: Vec<Interface>,
     pub(crate) sorts: Vec<Sort>,
+    admitted: Vec<(usize, Option<usize>)>,
 }
 
 impl Model for Wired {
-    ghost use Rattle.std.specs.Prelude.{◌≡◌};
+    ghost use Rattle.std.specs.Prelude.{◌≡◌, length};
+    ghost use Rattle.mrc_wiring.specs.Births.{AreKinds};
     ghost use Rattle.mrc_wiring.specs.Names.{AreNames};
     ghost use Rattle.mrc_wiring.specs.Sorts.{sorts_of};
-    ghost use Rattle.mrc_wiring.specs.Table.{Table, IsTable};
+    ghost use Rattle.mrc_wiring.specs.Table.{Table, IsTable, admitted_of};
 
     ghost Value = { Table };
 
@@ -68,8 +72,10 @@ impl Model for Wired {
       lines = w.lines.items;
       admits = w.admits.items;
       interfaces = w.interfaces.items;
-    } × AreNames w.names.items × AreNames w.ports.items
-        × (w.sorts.items ≡ sorts_of w.interfaces.items) };
+    } × AreNames w.names.items × AreNames w.ports.items × AreKinds w.births.items
+        × (w.sorts.items ≡ sorts_of w.interfaces.items)
+        × (w.admitted.items ≡ admitted_of (length w.ports.items) (length w.names.items)
+        w.births.items w.admits.items) };
 }
 
 impl Wired {
@@ -83,6 +89,21 @@ impl Wired {
         ensures { ResolveTold interfaces.items result (resolved interfaces.items lines.now) }
     {
         let table = resolved(alloc, lines, interfaces)?;
+        let admitted = match admitted_of(
+            alloc,
+            table.ports.len(),
+            table.names.len(),
+            &table.births,
+            &table.admits,
+        ) {
+            Ok(admitted) => admitted,
+            Err(error) => {
+                return Err(NotResolved {
+                    interfaces: table.interfaces,
+                    why: OrMemory::from(error),
+                });
+            }
+        };
         Ok(Wired {
             names: table.names,
             births: table.births,
@@ -92,6 +113,7 @@ impl Wired {
             admits: table.admits,
             interfaces: table.interfaces,
             sorts: table.sorts,
+            admitted,
         })
     }
 
@@ -115,13 +137,34 @@ impl Wired {
         self.ports.len() as u16
     }
 
+    /// The births of each task by their kinds.
+    fn births(&self) -> &[BirthRow]
+        ensures exact { result.now ≡ self.now.births }
+        ensures ascending { AreAscending result.now }
+        ensures kinds { AreKinds self.now.births }
+    {
+        self.births.as_slice()
+    }
+
+    /// How many classes of births there are: one at least for each task.
+    pub fn birth_classes(&self) -> u16
+        ensures exact { result ≡ length (wiring_of self.now).births }
+        ensures within { result ≤ limit_of_tasks * limit_of_kinds }
+        ensures enough { (wiring_of self.now).tasks ≤ result }
+        ensures kinds { AreKinds self.now.births }
+    {
+        let _kept = self.tasks();
+        self.births().len() as u16
+    }
+
     /// How many classes of ports there are: wired ports, the kernel port of each task, and then the
-    /// births of each.
+    /// births of each by their kinds.
     pub fn classes(&self) -> u16
         ensures exact { result ≡ classes (wiring_of self.now) }
-        ensures within { result ≤ limit_of_wired_ports + 2 * limit_of_tasks }
+        ensures within { result ≤ limit_of_wired_ports + limit_of_tasks
+            + limit_of_tasks * limit_of_kinds }
     {
-        self.ports() + self.tasks() * 2
+        self.ports() + self.tasks() + self.birth_classes()
     }
 
     /// What makes the first state, line by line.
@@ -131,23 +174,14 @@ impl Wired {
         self.lines.as_slice()
     }
 
-    /// Whether the task has births of the kind: each task has them of kind 0 alone.
-    fn has_kind(&self, task: TaskId, kind: u32) -> bool
-        ensures { result ≡ (kind == 0 && nat_lt task (length self.now.names)) }
-    {
-        kind == 0 && task.0 < u32::from(self.tasks())
-    }
-
-    /// The class of the births of a task, by their kind: there is one kind, 0.
+    /// The class of the births of a task, by their kind, if there are births of the kind.
     pub fn births_class(&self, task: TaskId, kind: u32) -> Option<ClassId>
         ensures { result ≡ births_class (wiring_of self.now) task kind }
     {
-        if self.has_kind(task, kind) {
-            let first = self.ports() + self.tasks();
-            Some(ClassId(first + task.0 as u16))
-        } else {
-            None
-        }
+        let _births = self.birth_classes();
+        let first = self.ports() + self.tasks();
+        let row = row_of(self.births(), task.0, kind)?;
+        Some(ClassId(first + row as u16))
     }
 
     /// The task of whose births the class is.
@@ -161,23 +195,18 @@ impl Wired {
             → births_class (wiring_of self.now) task kind ≡ Some class
             → ⊥) }
     {
-        let tasks = self.tasks();
-        let first = self.ports() + tasks;
+        let first = self.ports() + self.tasks();
         let number = class.0.checked_sub(first)?;
-        if number < tasks {
-            Some(TaskId(u32::from(number)))
-        } else {
-            None
-        }
+        let row = self.births().get(number as usize)?;
+        Some(TaskId(u32::from(row.task)))
     }
 
-    /// What the births of a task accept.
-    fn births_label(&self, task: usize) -> &[LabelItem]
-        ensures { result.now ≡ of_births (unwrap_or (slice_get self.now.births task) None) }
+    /// What births of this number accept.
+    fn births_label(&self, number: usize) -> &[LabelItem]
+        ensures { result.now ≡ get_or (map of_row self.now.births) number [] }
     {
-        match self.births.get(task) {
-            Some(Some(label)) => label.as_slice(),
-            Some(None) => &[],
+        match self.births().get(number) {
+            Some(row) => row.label(),
             None => &[],
         }
     }
@@ -197,54 +226,22 @@ impl Wired {
         }
     }
 
-    /// The class of a port or a task.
-    fn class_of(&self, class: NumberedClass) -> usize
-        ensures { result ≡ class_of self.now class }
-    {
-        let ports = self.ports.len();
-        let number = usize::from(class.number);
-        match class.kind {
-            ClassKind::Port => number,
-            ClassKind::Task => ports + number,
-            ClassKind::Births => ports + self.names.len() + number,
-        }
-    }
-
     /// Whether an admit line is for the type.
     fn has_admit_line(&self, sort: usize) -> bool
         ensures { result ≡ list_any (is_line_of sort) (wiring_of self.now).admitted }
     {
-        for line in &self.admits {
-            if line.sort == sort {
-                return true;
-            }
-        }
-        false
-    }
-
-    /// Whether the admit line is for the type and the class.
-    fn is_admitted_by(&self, line: &AdmitLine, sort: usize, class: usize) -> bool
-        ensures { result ≡ admits_by sort class (admitted_by self.now line.now) }
-    {
-        if line.sort != sort {
-            return false;
-        }
-        match line.class {
-            Some(admitted) => self.class_of(admitted) == class,
-            None => false,
-        }
+        let _tasks = self.tasks();
+        self.admitted.iter().any(|line| line.0 == sort)
     }
 
     /// Whether an admit line is for the type and the class.
     fn has_admitted(&self, sort: usize, class: usize) -> bool
         ensures { result ≡ list_any (admits_by sort class) (wiring_of self.now).admitted }
     {
-        for line in &self.admits {
-            if self.is_admitted_by(line, sort, class) {
-                return true;
-            }
-        }
-        false
+        let _tasks = self.tasks();
+        self.admitted
+            .iter()
+            .any(|line| line.0 == sort && line.1 == Some(class))
     }
 
     /// Whether the type of this number admits the class: a type with no admit line admits every
@@ -322,15 +319,29 @@ impl Wired {
                 name: name.as_str(),
             })
         } else {
-            let name = self.names.get((class.0 - births) as usize)?;
+            let row = self.births().get((class.0 - births) as usize)?;
+            let name = self.names.get(row.task as usize)?;
             Some(ClassLabel {
-                kind: ClassKind::Births,
+                kind: ClassKind::Births(row.kind),
                 name: name.as_str(),
             })
         }
     }
 
-    /// The class of a name as it is printed: `port:P`, `task:U` or `births:U`.
+    /// The class of births as it is printed: `U` or `U:K`.
+    fn births_named(&self, text: &str) -> Option<ClassId>
+        ensures { result ≡ births_named self.now text.now }
+    {
+        let (name, kind) = match text.split_once(':') {
+            Some((name, kind)) => (name, kind_named(kind)?),
+            None => (text, 0),
+        };
+        let task = number_of(self.names.as_slice(), name)?;
+        self.births_class(TaskId(task as u32), u32::from(kind))
+    }
+
+    /// The class of a name as it is printed: `port:P`, `task:U`, `births:U` of kind 0, or
+    /// `births:U:K` of another kind K.
     #[tactic(auto, unfolding(crate::specs::Names::class_named))]
     pub fn class_named(&self, text: &str) -> Option<ClassId>
         ensures { result ≡ class_named self.now text.now }
@@ -342,8 +353,7 @@ impl Wired {
             let number = number_of(self.names.as_slice(), name)?;
             Some(ClassId(self.ports() + number as u16))
         } else if let Some(name) = text.strip_prefix("births:") {
-            let number = number_of(self.names.as_slice(), name)?;
-            Some(ClassId(self.ports() + self.tasks() + number as u16))
+            self.births_named(name)
         } else {
             None
         }
@@ -353,8 +363,12 @@ impl Wired {
     pub(crate) fn class_said(&self, class: &ClassName) -> Option<ClassId>
         ensures { result ≡ class_number self.now class.now }
     {
-        let said = class_said(self.names.as_slice(), self.ports.as_slice(), class)?;
-        Some(ClassId(self.class_of(said) as u16))
+        let _births = self.birth_classes();
+        let ports = usize::from(self.ports());
+        let tasks = usize::from(self.tasks());
+        let said = class_said(&self.names, &self.ports, self.births(), class)?;
+        let class = class_of(ports, tasks, self.births(), said)?;
+        Some(ClassId(class as u16))
     }
 
     /// An equal wiring.
@@ -370,6 +384,13 @@ impl Wired {
             admits: copy_all(alloc, &self.admits)?,
             interfaces: copy_all(alloc, &self.interfaces)?,
             sorts: sorts_of(alloc, self.interfaces())?,
+            admitted: admitted_of(
+                alloc,
+                self.ports.len(),
+                self.names.len(),
+                self.births(),
+                &self.admits,
+            )?,
         })
     }
 

@@ -15,8 +15,8 @@ use Rattle.mrc_wiring_text.specs.Lexis.{is_blank, between_blanks, words}
 use Rattle.mrc_wiring_text.specs.Reading.{version_of, after_heading, heading, line_of, body}
 use Rattle.mrc_wiring_text.specs.Reading.{utf8_text, text_of}
 use Rattle.mrc_wiring_text.specs.Items.{table_item, item_of, items_of}
-use Rattle.mrc_wiring_text.specs.Policy.{class_of}
-use Rattle.mrc_wiring_text.specs.Wiring.{task_line, port_line, births_line, held_right, held}
+use Rattle.mrc_wiring_text.specs.Policy.{class_of, plain_class}
+use Rattle.mrc_wiring_text.specs.Wiring.{task_line, port_line, plain_births, held_right, held}
 use Rattle.mrc_wiring_text.specs.Wiring.{hold_line, admitted, admit_line, wiring_says, wiring_of}
 
 -- lines, each with its line feed
@@ -44,12 +44,12 @@ files : wiring_of (text (
     ∷ codes "admit fsys.file_t births fs" ∷ []))
     ≡ Ok (at 2 (Task (codes "app")) ∷ at 3 (Task (codes "fs"))
     ∷ at 4 (Port (codes "root") (codes "fs") (Request (codes "fsys") ∷ []))
-    ∷ at 5 (Births (codes "app") (Reply (codes "fsys") ∷ []))
+    ∷ at 5 (Births (codes "app") 0 (Reply (codes "fsys") ∷ []))
     ∷ at 6 (HoldPort (codes "app") Send (codes "root"))
-    ∷ at 7 (Admit (codes "fsys") (codes "file_t") (Some (class.Births (codes "fs")))) ∷ [])
+    ∷ at 7 (Admit (codes "fsys") (codes "file_t") (Some (class.Births (codes "fs") 0))) ∷ [])
 unfolding text_of utf8_text is_utf8 chars heading after_heading version_of body line_of words
-    between_blanks is_blank wiring_says task_line port_line births_line items_of item_of table_item
-    hold_line held held_right admit_line admitted class_of is_name lib.Utf8.encode
+    between_blanks is_blank wiring_says task_line port_line plain_births items_of item_of table_item
+    hold_line held held_right admit_line admitted class_of plain_class is_name lib.Utf8.encode
 files = refl
 
 -- comments, lines without words, and a version with leading zeros

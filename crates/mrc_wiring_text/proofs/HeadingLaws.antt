@@ -1,10 +1,10 @@
 -- What was found as a heading is one, and what is one is found.
 use Rattle.std.proofs.Common.{◌≡◌, ℕ, ◌+◌, ◌≤◌, Bool, true, false, cond, eqb, ltb, ◌&&◌, List, []}
-use Rattle.std.proofs.Common.{◌∷◌, ◌++◌, length, Option, Some, None, Result, Ok, Err, refl, sym, ap}
-use Rattle.std.proofs.Common.{◌∙◌, inl, inr, arith}
+use Rattle.std.proofs.Common.{◌∷◌, ◌++◌, length, Option, Some, None, Result, Ok, refl, sym, ap}
+use Rattle.std.proofs.Common.{◌∙◌, inl, inr, arith, subst}
 use Rattle.std.specs.Prelude.{bytes_eq}
 use Rattle.std.specs.List.{AllByRecursion}
-use Rattle.std.proofs.lemmas.Bool.{cases_Bool, and_parts, eqb-true, eq-eqb, ltb-false, le-ltb}
+use Rattle.std.proofs.lemmas.Bool.{cases_Bool, and_parts, eqb-true, ltb-false, le-ltb}
 use Rattle.std.proofs.lemmas.List.{nil_from_length}
 use Rattle.std.proofs.lemmas.Option.{none-some, same_Some}
 use Rattle.std.proofs.lemmas.Slice.Eq.{bytes_eq-Decides}
@@ -14,9 +14,13 @@ use Rattle.mrc_wiring_text.specs.declared.faults.TextFault.{TextFault}
 use Rattle.mrc_wiring_text.specs.declared.faults.TextFault.TheVariants.{Version}
 use Rattle.mrc_base.specs.Limits.{limit_of_lines}
 use Rattle.mrc_wiring_text.specs.Lexis.{words, decimal}
-use Rattle.mrc_wiring_text.specs.Reading.{too_far, is_number, version_of, after_version}
-use Rattle.mrc_wiring_text.specs.Reading.{after_heading, heading}
+use Rattle.mrc_wiring_text.specs.declared.reading.Edition.{Edition}
+use Rattle.mrc_wiring_text.specs.declared.reading.Edition.TheVariants.{First, Second}
+use Rattle.mrc_wiring_text.specs.Kinds.{is_number}
+use Rattle.mrc_wiring_text.specs.Reading.{too_far, edition_number, edition_of, version_of, behind}
+use Rattle.mrc_wiring_text.specs.Reading.{after_version, after_heading, heading}
 use Rattle.mrc_wiring_text.specs.Texts.{IsWordless, IsHeading}
+use Rattle.mrc_wiring_text.proofs.ItemLaws.{chosen, either}
 
 -- the words of a line whose version is 1
 record Names (kind : List ℕ) (ws : List (List ℕ)) (v : ℕ) : Type 0 where
@@ -55,37 +59,51 @@ version_named kind ws v named =
     ap (version_of kind) named.said ∙ rw (same, named.digits, named.value) refl
 
 -- a line that is taken for a heading
-record Headed (kind line : List ℕ) (n next : ℕ) : Type 0 where
+record Headed (kind line : List ℕ) (n : ℕ) (next : Edition × ℕ) : Type 0 where
   within : n ≤ limit_of_lines
-  heading : IsHeading kind line
-  next_is : next ≡ n + 1
+  heading : IsHeading kind next.0 line
+  next_is : next.1 ≡ n + 1
 
-headed_by : (kind line : List ℕ) (n : ℕ) (v : Option ℕ) (next : ℕ)
+-- the edition of a version has that version
+edition_is : (version : ℕ) (edition : Edition)
+    → edition_of version ≡ Some edition
+    → version ≡ edition_number edition
+edition_is version edition e =
+    let second : Option Edition = cond (eqb version 2) (Some Second) None in
+    elim (either (eqb version 1) (Some First) second edition e) [
+      | inl c ↦ eqb-true version 1 c.0 ∙ ap edition_number (same_Some _ _ c.1)
+      | inr c ↦
+          let d = chosen (eqb version 2) (Some Second) edition c.1 in
+          eqb-true version 2 d.0 ∙ ap edition_number (same_Some _ _ d.1)
+    ]
+
+behind_is : (n : ℕ) (o : Option Edition) (next : Edition × ℕ)
+    → behind n o ≡ Ok next
+    → (edition : Edition) × (o ≡ Some edition) × ((edition, n + 1) ≡ next)
+behind_is n None next e = err_is_ok Version next e
+behind_is n (Some edition) next e = (edition, refl, ok_is _ _ e)
+
+headed_by : (kind line : List ℕ) (n : ℕ) (v : Option ℕ) (next : Edition × ℕ)
     → n ≤ limit_of_lines
     → version_of kind (words line) ≡ v
     → after_version n v ≡ Ok next
     → Headed kind line n next
 headed_by kind line n None next within named e = absurd cc
 headed_by kind line n (Some v) next within named e =
-    elim (cases_Bool (eqb v 1)) [
-      | inl passes ↦
-          let names = names_version kind (words line) v named in
-          record {
-            within = within;
-            heading = record {
-              number = names.number;
-              said = names.said;
-              digits = names.digits;
-              one = names.value ∙ eqb-true v 1 passes;
-            };
-            next_is = sym (ok_is _ _ (sym (ap (λ b. cond b (Ok (n + 1)) (Err Version)) passes)
-                ∙ e));
-          }
-      | inr fails ↦ err_is_ok Version next (sym (ap (λ b. cond b (Ok (n + 1)) (Err Version)) fails)
-          ∙ e)
-    ]
+    let names = names_version kind (words line) v named in
+    let found = behind_is n (edition_of v) next e in
+    subst (λ (x : Edition × ℕ). Headed kind line n x) found.2 record {
+      within = within;
+      heading = record {
+        number = names.number;
+        said = names.said;
+        digits = names.digits;
+        value = names.value ∙ edition_is v found.0 found.1;
+      };
+      next_is = refl;
+    }
 
-headed : (kind line : List ℕ) (n next : ℕ)
+headed : (kind line : List ℕ) (n : ℕ) (next : Edition × ℕ)
     → after_heading kind n (words line) ≡ Ok next
     → Headed kind line n next
 unfolding after_heading
@@ -94,31 +112,37 @@ headed kind line n next e =
     (after_version n (version_of kind (words line))) next e in
     headed_by kind line n (version_of kind (words line)) next (ltb-false _ _ g.0) refl g.1
 
-heads : (kind line : List ℕ) (n : ℕ)
+edition_again : (n : ℕ) (edition : Edition)
+    → after_version n (Some (edition_number edition)) ≡ Ok (edition, n + 1)
+edition_again n First = refl
+edition_again n Second = refl
+
+heads : (kind line : List ℕ) (n : ℕ) (edition : Edition)
     → n ≤ limit_of_lines
-    → IsHeading kind line
-    → after_heading kind n (words line) ≡ Ok (n + 1)
+    → IsHeading kind edition line
+    → after_heading kind n (words line) ≡ Ok (edition, n + 1)
 unfolding after_heading
-heads kind line n within is =
+heads kind line n edition within is =
     let named = version_named kind (words line) (decimal is.number)
     (record { number = is.number; said = is.said; digits = is.digits; value = refl }) in
-    rw (le-ltb limit_of_lines n within, named, eq-eqb _ _ is.one) refl
+    rw (le-ltb limit_of_lines n within, named, is.value) (edition_again n edition)
 
 -- the lines before a heading, and the heading
-pub record Found (kind : List ℕ) (n : ℕ) (ls : List (List ℕ)) (next : ℕ) (rest : List (List ℕ)) :
-    Type 0 where
+pub record Found (kind : List ℕ) (n : ℕ) (ls : List (List ℕ)) (next : Edition × ℕ)
+    (rest : List (List ℕ)) : Type 0 where
   pub before : List (List ℕ)
   pub head : List ℕ
   pub parts : ls ≡ before ++ head ∷ rest
   pub wordless : AllByRecursion IsWordless before
-  pub heading : IsHeading kind head
-  pub next_is : next ≡ n + length before + 1
+  pub heading : IsHeading kind next.0 head
+  pub next_is : next.1 ≡ n + length before + 1
   pub few : n + length before ≤ limit_of_lines
 
-abbrev with_rest : List (List ℕ) → ℕ → Result (ℕ × List (List ℕ)) TextFault
+abbrev with_rest : List (List ℕ) → Edition × ℕ
+    → Result ((Edition × ℕ) × List (List ℕ)) TextFault
 with_rest rest m = Ok (m, rest)
 
-found_here : (kind : List ℕ) (n : ℕ) (line : List ℕ) (ls : List (List ℕ)) (next : ℕ)
+found_here : (kind : List ℕ) (n : ℕ) (line : List ℕ) (ls : List (List ℕ)) (next : Edition × ℕ)
     (rest : List (List ℕ))
     → (after_heading kind n (words line) >>= with_rest ls) ≡ Ok (next, rest)
     → Found kind n (line ∷ ls) next rest
@@ -126,17 +150,18 @@ found_here kind n line ls next rest e =
     let step = bind_ok (after_heading kind n (words line)) (with_rest ls) (next, rest) e in
     let here = headed kind line n step.0 step.1 in
     let pair = ok_is (step.0, ls) (next, rest) step.2 in
+    let first : step.0 ≡ next = ap (λ (p : (Edition × ℕ) × List (List ℕ)). p.0) pair in
     record {
       before = [];
       head = line;
-      parts = ap (λ (p : ℕ × List (List ℕ)). line ∷ p.1) pair;
+      parts = ap (λ (p : (Edition × ℕ) × List (List ℕ)). line ∷ p.1) pair;
       wordless = tt;
-      heading = here.heading;
-      next_is = sym (ap (λ (p : ℕ × List (List ℕ)). p.0) pair) ∙ here.next_is ∙ omega arith;
+      heading = subst (λ (x : Edition × ℕ). IsHeading kind x.0 line) first here.heading;
+      next_is = sym (ap (λ (x : Edition × ℕ). x.1) first) ∙ here.next_is ∙ omega arith;
       few = omega (arith, here.within);
     }
 
-found_later : (kind : List ℕ) (n : ℕ) (line : List ℕ) (ls : List (List ℕ)) (next : ℕ)
+found_later : (kind : List ℕ) (n : ℕ) (line : List ℕ) (ls : List (List ℕ)) (next : Edition × ℕ)
     (rest : List (List ℕ))
     → words line ≡ []
     → Found kind (n + 1) ls next rest
@@ -153,13 +178,14 @@ found_later kind n line ls next rest none found =
     }
 
 -- what was found is a heading
-pub heading_found : (kind : List ℕ) (n : ℕ) (ls : List (List ℕ)) (next : ℕ) (rest : List (List ℕ))
+pub heading_found : (kind : List ℕ) (n : ℕ) (ls : List (List ℕ)) (next : Edition × ℕ)
+    (rest : List (List ℕ))
     → heading kind n ls ≡ Ok (next, rest)
     → Found kind n ls next rest
 unfolding heading
 heading_found kind n [] next rest e = absurd cc
 heading_found kind n (line ∷ ls) next rest e =
-    let choose : (b : Bool) → Result (ℕ × List (List ℕ)) TextFault = λ b. cond b
+    let choose : (b : Bool) → Result ((Edition × ℕ) × List (List ℕ)) TextFault = λ b. cond b
     (heading kind (n + 1) ls) (after_heading kind n (words line) >>= with_rest ls) in
     elim (cases_Bool (eqb (length (words line)) 0)) [
       | inl passes ↦ found_later kind n line ls next rest
@@ -169,17 +195,18 @@ heading_found kind n (line ∷ ls) next rest e =
     ]
 
 -- what is a heading is found
-pub heading_finds : (kind : List ℕ) (n : ℕ) (before : List (List ℕ)) (head : List ℕ)
-    (rest : List (List ℕ))
+pub heading_finds : (kind : List ℕ) (n : ℕ) (edition : Edition) (before : List (List ℕ))
+    (head : List ℕ) (rest : List (List ℕ))
     → AllByRecursion IsWordless before
-    → IsHeading kind head
+    → IsHeading kind edition head
     → n + length before ≤ limit_of_lines
-    → heading kind n (before ++ head ∷ rest) ≡ Ok (n + length before + 1, rest)
+    → heading kind n (before ++ head ∷ rest) ≡ Ok ((edition, n + length before + 1), rest)
 unfolding heading
-heading_finds kind n [] head rest none is few =
+heading_finds kind n edition [] head rest none is few =
     let filled : eqb (length (words head)) 0 ≡ false = rw is.said refl in
-    rw (filled, heads kind head n (omega arith) is) (ap (λ (k : ℕ). Ok (k, rest)) (omega arith))
-heading_finds kind n (line ∷ before) head rest none is few =
+    rw (filled, heads kind head n edition (omega arith) is)
+    (ap (λ (k : ℕ). Ok ((edition, k), rest)) (omega arith))
+heading_finds kind n edition (line ∷ before) head rest none is few =
     let blank : eqb (length (words line)) 0 ≡ true = rw none.0 refl in
-    rw blank (heading_finds kind (n + 1) before head rest none.1 is (omega arith)
-    ∙ ap (λ (k : ℕ). Ok (k, rest)) (omega arith))
+    rw blank (heading_finds kind (n + 1) edition before head rest none.1 is (omega arith)
+    ∙ ap (λ (k : ℕ). Ok ((edition, k), rest)) (omega arith))

@@ -9,6 +9,7 @@ use Rattle.mrc_base.specs.Reading.{◌>>=◌, Refuses}
 use Rattle.mrc_base.proofs.Steps.{refuses_then, refuses_same}
 use Rattle.mrc_wiring_text.specs.declared.faults.TextFault.{TextFault}
 use Rattle.mrc_wiring_text.specs.declared.faults.TextFault.TheVariants.{BadLine}
+use Rattle.mrc_wiring_text.specs.declared.reading.Edition.{Edition}
 use Rattle.mrc_wiring_text.specs.Lexis.{is_hash, spaced, between_blanks, words}
 use Rattle.mrc_wiring_text.specs.Reading.{after_heading, heading}
 
@@ -42,7 +43,7 @@ unfolding heading
 heading_at kind n line rest e = rw e refl
 
 pub heading_passes : (kind : List ℕ) (n : ℕ) (text : List (List ℕ)) (line : List ℕ)
-    (rest : List (List ℕ)) (total : Result (ℕ × List (List ℕ)) TextFault)
+    (rest : List (List ℕ)) (total : Result ((Edition × ℕ) × List (List ℕ)) TextFault)
     → heading kind n text ≡ total
     → text ≡ line ∷ rest
     → eqb (length (words line)) 0 ≡ true
@@ -53,7 +54,8 @@ heading_passes kind n text line rest total same cut e =
     sym one ∙ ap (heading kind n) (sym cut) ∙ same
 
 pub heading_starts : (kind : List ℕ) (n : ℕ) (text : List (List ℕ)) (line : List ℕ)
-    (rest : List (List ℕ)) (total : Result (ℕ × List (List ℕ)) TextFault) (next : ℕ)
+    (rest : List (List ℕ)) (total : Result ((Edition × ℕ) × List (List ℕ)) TextFault)
+    (next : Edition × ℕ)
     → heading kind n text ≡ total
     → text ≡ line ∷ rest
     → eqb (length (words line)) 0 ≡ false
@@ -64,7 +66,8 @@ heading_starts kind n text line rest total next same cut e is =
     ∙ ap (λ r. r >>= λ next. Ok (next, rest)) is
 
 pub heading_fails : (e : OrMemory TextFault) (kind : List ℕ) (n : ℕ) (text : List (List ℕ))
-    (line : List ℕ) (rest : List (List ℕ)) (total : Result (ℕ × List (List ℕ)) TextFault)
+    (line : List ℕ) (rest : List (List ℕ)) (total : Result ((Edition × ℕ) × List (List ℕ))
+    TextFault)
     → heading kind n text ≡ total
     → text ≡ line ∷ rest
     → eqb (length (words line)) 0 ≡ false
@@ -74,7 +77,8 @@ heading_fails e kind n text line rest total same cut filled is =
     refuses_same e _ _ (sym (heading_at kind n line rest filled) ∙ ap (heading kind n) (sym cut)
     ∙ same) (refuses_then e (after_heading kind n (words line)) (λ next. Ok (next, rest)) is)
 
-pub heading_ends : (kind : List ℕ) (n : ℕ) (total : Result (ℕ × List (List ℕ)) TextFault)
+pub heading_ends : (kind : List ℕ) (n : ℕ) (total : Result ((Edition × ℕ) × List (List ℕ))
+    TextFault)
     → heading kind n [] ≡ total
     → total ≡ Err (BadLine 1)
 unfolding heading

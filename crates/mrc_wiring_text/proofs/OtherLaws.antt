@@ -11,7 +11,9 @@ use Rattle.mrc_wiring_text.specs.declared.faults.TextFault.TheVariants.{NotUtf8,
 use Rattle.mrc_base.specs.Limits.{limit_of_lines}
 use Rattle.mrc_wiring_text.specs.declared.reading.Line.{Line}
 use Rattle.mrc_wiring_text.specs.Lexis.{lines, words}
-use Rattle.mrc_wiring_text.specs.Reading.{too_far, version_of, after_version, after_heading}
+use Rattle.mrc_wiring_text.specs.declared.reading.Edition.{Edition}
+use Rattle.mrc_wiring_text.specs.Reading.{too_far, edition_of, behind, version_of, after_version}
+use Rattle.mrc_wiring_text.specs.Reading.{after_heading}
 use Rattle.mrc_wiring_text.specs.Reading.{heading, or_bad, line_of, onto, body, utf8_text, text_of}
 
 -- any answer but NotUtf8
@@ -39,10 +41,13 @@ cond_other : {A : Type 0} (b : Bool) (x y : Result A TextFault) → IsOther x �
 cond_other true x y yes_other no_other = yes_other
 cond_other false x y yes_other no_other = no_other
 
+behind_other : (n : ℕ) (o : Option Edition) → IsOther (behind n o)
+behind_other n None = version_other
+behind_other n (Some edition) = ok_other (edition, n + 1)
+
 after_version_other : (n : ℕ) (v : Option ℕ) → IsOther (after_version n v)
 after_version_other n None = bad_other n
-after_version_other n (Some v) =
-    cond_other (eqb v 1) (Ok (n + 1)) (Err Version) (ok_other (n + 1)) version_other
+after_version_other n (Some v) = behind_other n (edition_of v)
 
 after_heading_other : (kind : List ℕ) (n : ℕ) (ws : List (List ℕ))
     → IsOther (after_heading kind n ws)
@@ -86,16 +91,19 @@ body_other meaning n (line ∷ ls) =
     (body_other meaning (n + 1) ls) (λ others. ok_other (onto n says others)))
 
 -- what a text means is no NotUtf8
-text_other : {S : Type 0} (kind : List ℕ) (meaning : List (List ℕ) → Option S) (bytes : List ℕ)
+text_other : {S : Type 0} (kind : List ℕ) (meaning : Edition → List (List ℕ) → Option S)
+    (bytes : List ℕ)
     → IsUtf8 bytes → IsOther (text_of kind meaning bytes)
 unfolding text_of utf8_text
 text_other kind meaning bytes is =
     rw (is_utf8-from_IsUtf8 bytes is)
-    (bind_other (heading kind 1 (lines bytes)) (λ start. body meaning start.0 start.1)
-    (heading_other kind 1 (lines bytes)) (λ start. body_other meaning start.0 start.1))
+    (bind_other (heading kind 1 (lines bytes)) (λ start. body (meaning start.0.0) start.0.1 start.1)
+    (heading_other kind 1 (lines bytes))
+    (λ start. body_other (meaning start.0.0) start.0.1 start.1))
 
 -- so a reader tells it of no text
-pub not_told : {S X : Type 0} (kind : List ℕ) (meaning : List (List ℕ) → Option S) (bytes : List ℕ)
+pub not_told : {S X : Type 0} (kind : List ℕ) (meaning : Edition → List (List ℕ) → Option S)
+    (bytes : List ℕ)
     (view : X → List (Line S)) (r : Result X (OrMemory TextFault))
     → Gives view r (text_of kind meaning bytes)
     → IsUtf8 bytes

@@ -13,6 +13,7 @@ use Rattle.mrc_base.proofs.Steps.{bind_ok, not_stopped, ok_is, err_is_ok, gives_
 use Rattle.mrc_wiring_text.specs.declared.faults.TextFault.{TextFault}
 use Rattle.mrc_wiring_text.specs.declared.faults.TextFault.TheVariants.{NotUtf8, BadLine}
 use Rattle.mrc_base.specs.Limits.{limit_of_lines}
+use Rattle.mrc_wiring_text.specs.declared.reading.Edition.{Edition}
 use Rattle.mrc_wiring_text.specs.declared.reading.Line.{Line}
 use Rattle.mrc_wiring_text.specs.Lexis.{lines, words}
 use Rattle.mrc_wiring_text.specs.Reading.{too_far, or_bad, line_of, onto, body, utf8_text, heading}
@@ -130,22 +131,27 @@ utf8_is bytes text e =
     ]
 
 -- what was read is a text that says so
-pub text_found : {S : Type 0} (kind : List ℕ) (meaning : List (List ℕ) → Option S) (bytes : List ℕ)
-    (says : List (Line S))
+pub text_found : {S : Type 0} (kind : List ℕ) (meaning : Edition → List (List ℕ) → Option S)
+    (bytes : List ℕ) (says : List (Line S))
     → text_of kind meaning bytes ≡ Ok says
     → IsText kind meaning bytes says
 unfolding text_of
 text_found kind meaning bytes says e =
-    let a = bind_ok (utf8_text bytes) (λ text. heading kind 1 (lines text) >>= λ start. body meaning
-    start.0 start.1) says e in
+    let a = bind_ok (utf8_text bytes) (λ text. heading kind 1 (lines text)
+    >>= λ start. body (meaning start.0.0) start.0.1 start.1) says e in
     let text = utf8_is bytes a.0 a.1 in
-    let b = bind_ok (heading kind 1 (lines a.0)) (λ start. body meaning start.0 start.1) says a.2 in
+    let b = bind_ok (heading kind 1 (lines a.0)) (λ start. body (meaning start.0.0) start.0.1
+    start.1) says
+    a.2 in
     let found = heading_found kind 1 (lines a.0) b.0.0 b.0.1 b.1 in
-    let said = body_says meaning b.0.0 b.0.1 says (omega (arith, found.next_is, found.few)) b.2 in
+    let edition = b.0.0.0 in
+    let said = body_says (meaning edition) b.0.0.1 b.0.1 says
+    (omega (arith, found.next_is, found.few)) b.2 in
     let parts : lines bytes ≡ found.before ++ found.head ∷ b.0.1 = ap lines (sym text.1)
     ∙ found.parts in
-    let next : b.0.0 ≡ length found.before + 2 = omega (arith, found.next_is) in
+    let next : b.0.0.1 ≡ length found.before + 2 = omega (arith, found.next_is) in
     record {
+      edition = edition;
       utf8 = text.0;
       few = omega (
         arith,
@@ -160,11 +166,12 @@ text_found kind meaning bytes says e =
       parts = parts;
       wordless = found.wordless;
       heading = found.heading;
-      body = subst (λ n. Say meaning n b.0.1 says) next said.0;
+      body = subst (λ n. Say (meaning edition) n b.0.1 says) next said.0;
     }
 
 -- what a text says is read
-pub text_read : {S : Type 0} (kind : List ℕ) (meaning : List (List ℕ) → Option S) (bytes : List ℕ)
+pub text_read : {S : Type 0} (kind : List ℕ) (meaning : Edition → List (List ℕ) → Option S)
+    (bytes : List ℕ)
     (says : List (Line S))
     → IsText kind meaning bytes says
     → text_of kind meaning bytes ≡ Ok says
@@ -172,24 +179,29 @@ unfolding text_of utf8_text
 text_read kind meaning bytes says is =
     let count : length (lines bytes) ≡ length is.before + (length is.after + 1) = ap length is.parts
     ∙ length-append is.before (is.head ∷ is.after) ∙ omega arith in
-    let start : heading kind 1 (lines bytes) ≡ Ok (1 + length is.before + 1, is.after) =
-    ap (heading kind 1) is.parts ∙ heading_finds kind 1 is.before is.head is.after is.wordless
+    let start : heading kind 1 (lines bytes)
+    ≡ Ok ((is.edition, 1 + length is.before + 1), is.after) =
+    ap (heading kind 1) is.parts ∙ heading_finds kind 1 is.edition is.before is.head is.after
+    is.wordless
     is.heading (omega (arith, count, is.few)) in
-    let rest : body meaning (1 + length is.before + 1) is.after ≡ Ok says =
-    says_body meaning (1 + length is.before + 1) is.after says (omega (arith, count, is.few))
-    (subst (λ n. Say meaning n is.after says) (omega arith) is.body) in
+    let rest : body (meaning is.edition) (1 + length is.before + 1) is.after ≡ Ok says =
+    says_body (meaning is.edition) (1 + length is.before + 1) is.after says
+    (omega (arith, count, is.few))
+    (subst (λ n. Say (meaning is.edition) n is.after says) (omega arith) is.body) in
     rw (is_utf8-from_IsUtf8 bytes is.utf8, start, rest) refl
 
 -- ---- what a reader returned
 
-pub found_in : {S X : Type 0} (kind : List ℕ) (meaning : List (List ℕ) → Option S) (bytes : List ℕ)
+pub found_in : {S X : Type 0} (kind : List ℕ) (meaning : Edition → List (List ℕ) → Option S)
+    (bytes : List ℕ)
     (view : X → List (Line S)) (r : Result X (OrMemory TextFault))
     → Gives view r (text_of kind meaning bytes)
     → IfOk r (λ x. IsText kind meaning bytes (view x))
 found_in kind meaning bytes view r gives =
     gives_ok (IsText kind meaning bytes) view r _ (text_found kind meaning bytes) gives
 
-pub read_by : {S X : Type 0} (kind : List ℕ) (meaning : List (List ℕ) → Option S) (bytes : List ℕ)
+pub read_by : {S X : Type 0} (kind : List ℕ) (meaning : Edition → List (List ℕ) → Option S)
+    (bytes : List ℕ)
     (view : X → List (Line S)) (r : Result X (OrMemory TextFault)) (says : List (Line S))
     → Gives view r (text_of kind meaning bytes)
     → IsText kind meaning bytes says

@@ -1,18 +1,27 @@
--- The grammar of the lines of a wiring: the words that say each thing, apart from how words are
--- read. This profile's own choice.
-use Rattle.std.specs.Prelude.{◌≡◌, ◌↔◌, ⊤, ℕ, codes, IsTrue, List, [], ◌∷◌, ◌++◌, Option, Some}
-use Rattle.std.specs.Prelude.{None}
+-- The grammar of the lines of a wiring and of a policy: the words that say each thing, apart from
+-- how words are read. This profile's own choice.
+use Rattle.std.specs.Prelude.{◌≡◌, ◌<◌, ◌↔◌, ◌⊎◌, ⊤, ℕ, codes, IsTrue, List, [], ◌∷◌, ◌++◌}
+use Rattle.std.specs.Prelude.{Option, Some, None}
 use Rattle.std.specs.List.{AllByRecursion, flat_map}
+use Rattle.mrc_base.specs.Limits.{limit_of_kinds}
+use Rattle.mrc_base.specs.declared.PortRight.{PortRight}
+use Rattle.mrc_base.specs.declared.PortRight.TheVariants as rights
 use Rattle.mrc_wiring_text.specs.declared.items.Item.{Item}
 use Rattle.mrc_wiring_text.specs.declared.items.Item.TheVariants.{Request, Reply, Destroyed}
 use Rattle.mrc_wiring_text.specs.declared.policy.ClassName.{ClassName}
 use Rattle.mrc_wiring_text.specs.declared.policy.ClassName.TheVariants as class
+use Rattle.mrc_wiring_text.specs.declared.policy.Forbid.{Forbid}
+use Rattle.mrc_wiring_text.specs.declared.reading.Edition.{Edition}
+use Rattle.mrc_wiring_text.specs.declared.reading.Edition.TheVariants as editions
 use Rattle.mrc_wiring_text.specs.declared.wiring.HeldRight.{HeldRight}
 use Rattle.mrc_wiring_text.specs.declared.wiring.HeldRight.TheVariants.{Send, SendOnce}
 use Rattle.mrc_wiring_text.specs.declared.wiring.WiringSays.{WiringSays}
 use Rattle.mrc_wiring_text.specs.declared.wiring.WiringSays.TheVariants.{Task, Port, Births}
 use Rattle.mrc_wiring_text.specs.declared.wiring.WiringSays.TheVariants.{HoldPort, HoldTask, Admit}
+use Rattle.mrc_wiring_text.specs.Lexis.{decimal}
 use Rattle.mrc_wiring_text.specs.Names.{is_name}
+use Rattle.mrc_wiring_text.specs.Kinds.{is_number}
+use Rattle.mrc_wiring_text.specs.Policy.{policy_says}
 use Rattle.mrc_wiring_text.specs.Wiring.{wiring_says}
 
 -- the words of an item
@@ -31,26 +40,44 @@ abbrev pub right_word : HeldRight → List ℕ
 right_word Send = codes "send"
 right_word SendOnce = codes "once"
 
--- CLASS, or `none`
-abbrev pub class_words : Option ClassName → List (List ℕ)
-class_words (Some (class.Port port)) = codes "port" ∷ port ∷ []
-class_words (Some (class.Task task)) = codes "task" ∷ task ∷ []
-class_words (Some (class.Births task)) = codes "births" ∷ task ∷ []
-class_words None = codes "none" ∷ []
+-- the word of a right that is forbidden
+abbrev pub port_right_word : PortRight → List ℕ
+port_right_word rights.Send = codes "send"
+port_right_word rights.Receive = codes "receive"
+port_right_word rights.SendOnce = codes "once"
 
--- the words of a line
-abbrev pub line_words : WiringSays → List (List ℕ)
-line_words (Task task) = codes "task" ∷ task ∷ []
-line_words (Port port receiver accepts) =
-    codes "port" ∷ port ∷ codes "receiver" ∷ receiver ∷ codes "accepts" ∷ items_words accepts
-line_words (Births task accepts) =
-    codes "births" ∷ task ∷ codes "accepts" ∷ items_words accepts
-line_words (HoldPort holder right port) =
-    codes "hold" ∷ holder ∷ right_word right ∷ codes "port" ∷ port ∷ []
-line_words (HoldTask holder task) =
-    codes "hold" ∷ holder ∷ codes "send" ∷ codes "task" ∷ task ∷ []
-line_words (Admit subsystem type class) =
-    codes "admit" ∷ (subsystem ++ (codes "." ++ type)) ∷ class_words class
+-- K: decimal digits, leading zeros or not, that spell the kind of births
+abbrev pub IsKindWord : List ℕ → ℕ → Type 0
+IsKindWord word kind =
+    IsTrue (is_number word) × (decimal word ≡ kind) × (kind < limit_of_kinds)
+
+-- the words of births in CLASS: `births U` are those of kind 0, in either edition, and `births U K`
+-- those of kind K, in version 2
+abbrev pub AreBirthsWords : Edition → List (List ℕ) → List ℕ → ℕ → Type 0
+AreBirthsWords edition words task kind =
+    ((words ≡ codes "births" ∷ task ∷ []) × (kind ≡ 0))
+    ⊎ ((edition ≡ editions.Second)
+    × ((word : List ℕ) × IsKindWord word kind × (words ≡ codes "births" ∷ task ∷ word ∷ [])))
+
+-- the words are those of CLASS
+abbrev pub AreClassWords : Edition → List (List ℕ) → ClassName → Type 0
+AreClassWords edition words (class.Port port) =
+    (words ≡ codes "port" ∷ port ∷ []) × IsTrue (is_name port)
+AreClassWords edition words (class.Task task) =
+    (words ≡ codes "task" ∷ task ∷ []) × IsTrue (is_name task)
+AreClassWords edition words (class.Births task kind) =
+    AreBirthsWords edition words task kind × IsTrue (is_name task)
+
+-- the words are those of CLASS, or `none`
+abbrev pub AreAdmittedWords : Edition → List (List ℕ) → Option ClassName → Type 0
+AreAdmittedWords edition words (Some class) = AreClassWords edition words class
+AreAdmittedWords edition words None = words ≡ codes "none" ∷ []
+
+-- the words between `births` and `accepts`: T, and in version 2 its kind, else 0
+abbrev pub AreKindWords : Edition → List (List ℕ) → List ℕ → ℕ → Type 0
+AreKindWords editions.First words task kind = (words ≡ task ∷ []) × (kind ≡ 0)
+AreKindWords editions.Second words task kind =
+    (word : List ℕ) × IsKindWord word kind × (words ≡ task ∷ word ∷ [])
 
 -- the name in an item is one
 abbrev pub HasName : Item → Type 0
@@ -58,30 +85,44 @@ HasName (Request subsystem) = IsTrue (is_name subsystem)
 HasName (Reply subsystem) = IsTrue (is_name subsystem)
 HasName Destroyed = ⊤
 
--- the name in a class is one
-abbrev pub ClassHasName : Option ClassName → Type 0
-ClassHasName (Some (class.Port port)) = IsTrue (is_name port)
-ClassHasName (Some (class.Task task)) = IsTrue (is_name task)
-ClassHasName (Some (class.Births task)) = IsTrue (is_name task)
-ClassHasName None = ⊤
+-- the words are those of a line that says it, and the names in it are names
+abbrev pub AreWordsOf : Edition → List (List ℕ) → WiringSays → Type 0
+AreWordsOf edition words (Task task) =
+    (words ≡ codes "task" ∷ task ∷ []) × IsTrue (is_name task)
+AreWordsOf edition words (Port port receiver accepts) =
+    (words ≡ codes "port" ∷ port ∷ codes "receiver" ∷ receiver ∷ codes "accepts"
+    ∷ items_words accepts)
+    × IsTrue (is_name port) × IsTrue (is_name receiver) × AllByRecursion HasName accepts
+AreWordsOf edition words (Births task kind accepts) =
+    ((named : List (List ℕ)) × AreKindWords edition named task kind
+    × (words ≡ codes "births" ∷ (named ++ codes "accepts" ∷ items_words accepts)))
+    × IsTrue (is_name task) × AllByRecursion HasName accepts
+AreWordsOf edition words (HoldPort holder right port) =
+    (words ≡ codes "hold" ∷ holder ∷ right_word right ∷ codes "port" ∷ port ∷ [])
+    × IsTrue (is_name holder) × IsTrue (is_name port)
+AreWordsOf edition words (HoldTask holder task) =
+    (words ≡ codes "hold" ∷ holder ∷ codes "send" ∷ codes "task" ∷ task ∷ [])
+    × IsTrue (is_name holder) × IsTrue (is_name task)
+AreWordsOf edition words (Admit subsystem type class) =
+    ((named : List (List ℕ)) × AreAdmittedWords edition named class
+    × (words ≡ codes "admit" ∷ (subsystem ++ (codes "." ++ type)) ∷ named))
+    × IsTrue (is_name subsystem) × IsTrue (is_name type)
 
--- the names in what a line says are names
-abbrev pub HasNames : WiringSays → Type 0
-HasNames (Task task) = IsTrue (is_name task)
-HasNames (Port port receiver accepts) =
-    IsTrue (is_name port) × IsTrue (is_name receiver) × AllByRecursion HasName accepts
-HasNames (Births task accepts) = IsTrue (is_name task) × AllByRecursion HasName accepts
-HasNames (HoldPort holder right port) = IsTrue (is_name holder) × IsTrue (is_name port)
-HasNames (HoldTask holder task) = IsTrue (is_name holder) × IsTrue (is_name task)
-HasNames (Admit subsystem type class) =
-    IsTrue (is_name subsystem) × IsTrue (is_name type) × ClassHasName class
-
--- the words are those that say it
-abbrev pub AreWordsOf : List (List ℕ) → WiringSays → Type 0
-AreWordsOf words says = (words ≡ line_words says) × HasNames says
-
--- words say something exactly where they are the words of it
+-- words say something exactly where they are words of it
 abbrev pub EachLineIsSpelled : Type 0
 EachLineIsSpelled =
-    (words : List (List ℕ)) (says : WiringSays)
-    → (wiring_says words ≡ Some says) ↔ AreWordsOf words says
+    (edition : Edition) (words : List (List ℕ)) (says : WiringSays)
+    → (wiring_says edition words ≡ Some says) ↔ AreWordsOf edition words says
+
+-- the words are those of a line of a policy
+abbrev pub AreForbidWords : Edition → List (List ℕ) → Forbid → Type 0
+AreForbidWords edition words says =
+    ((named : List (List ℕ)) × AreClassWords edition named says.class
+    × (words ≡ codes "forbid" ∷ says.task ∷ port_right_word says.right ∷ named))
+    × IsTrue (is_name says.task)
+
+-- the same of the lines of a policy
+abbrev pub EachPolicyLineIsSpelled : Type 0
+EachPolicyLineIsSpelled =
+    (edition : Edition) (words : List (List ℕ)) (says : Forbid)
+    → (policy_says edition words ≡ Some says) ↔ AreForbidWords edition words says

@@ -1,5 +1,6 @@
 pub mod Names
 pub mod Lexis
+pub mod Kinds
 pub mod Reading
 pub mod Policy
 pub mod Items

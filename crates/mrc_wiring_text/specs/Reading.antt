@@ -1,25 +1,32 @@
 -- What a text of lines means: the lines that say something, each with its number, or the first
--- fault. Both kinds of text begin with a line that names the kind and version 1. This grammar is
--- this profile's own choice.
-use Rattle.std.specs.Prelude.{ℕ, ◌+◌, Bool, ◌==◌, ◌&&◌, not, nat_lt, bytes_eq, List, [], ◌∷◌}
+-- fault. Both kinds of text begin with a line that names the kind and its edition, by version 1 or
+-- 2. This grammar is this profile's own choice.
+use Rattle.std.specs.Prelude.{ℕ, ◌+◌, ◌==◌, ◌&&◌, nat_lt, bytes_eq, List, [], ◌∷◌}
 use Rattle.std.specs.Prelude.{length, Option, Some, None, Result, Ok, Err, if◌then◌else◌}
-use Rattle.std.specs.Char.{is_ascii_digit}
-use Rattle.std.specs.List.{list_all}
 use Rattle.std.specs.Str.{is_utf8}
 use Rattle.mrc_base.specs.Limits.{limit_of_lines}
 use Rattle.mrc_base.specs.Reading.{◌>>=◌}
 use Rattle.mrc_wiring_text.specs.declared.faults.TextFault.{TextFault}
 use Rattle.mrc_wiring_text.specs.declared.faults.TextFault.TheVariants.{NotUtf8, BadLine, Version}
+use Rattle.mrc_wiring_text.specs.declared.reading.Edition.{Edition}
+use Rattle.mrc_wiring_text.specs.declared.reading.Edition.TheVariants.{First, Second}
 use Rattle.mrc_wiring_text.specs.declared.reading.Line.{Line}
 use Rattle.mrc_wiring_text.specs.Lexis.{lines, words, decimal}
+use Rattle.mrc_wiring_text.specs.Kinds.{is_number}
 
 -- a line past the last that a text may have
 abbrev pub too_far : TextFault
 too_far = BadLine (limit_of_lines + 1)
 
--- decimal digits, at least one
-abbrev pub is_number : List ℕ → Bool
-is_number word = not (length word == 0) && list_all is_ascii_digit word
+-- the version of an edition
+abbrev pub edition_number : Edition → ℕ
+edition_number First = 1
+edition_number Second = 2
+
+-- the edition of a version
+abbrev pub edition_of : ℕ → Option Edition
+edition_of version =
+    if version == 1 then Some First else (if version == 2 then Some Second else None)
 
 -- the version that the words of a first line name
 unfoldable pub version_of : List ℕ → List (List ℕ) → Option ℕ
@@ -27,18 +34,25 @@ version_of kind (word ∷ number ∷ []) =
     if bytes_eq word kind && is_number number then Some (decimal number) else None
 version_of kind words = None
 
--- the number of the line after a first line, which names version 1
-abbrev pub after_version : ℕ → Option ℕ → Result ℕ TextFault
+-- the edition of a text, and the number of the line after its first line
+abbrev pub behind : ℕ → Option Edition → Result (Edition × ℕ) TextFault
+behind n None = Err Version
+behind n (Some edition) = Ok (edition, n + 1)
+
+-- the same, where the first line has number n and names this version
+abbrev pub after_version : ℕ → Option ℕ → Result (Edition × ℕ) TextFault
 after_version n None = Err (BadLine n)
-after_version n (Some version) = if version == 1 then Ok (n + 1) else Err Version
+after_version n (Some version) = behind n (edition_of version)
 
 -- the same, of the words of that line, unless it stands past the last line that a text may have
-unfoldable pub after_heading : List ℕ → ℕ → List (List ℕ) → Result ℕ TextFault
+unfoldable pub after_heading : List ℕ → ℕ → List (List ℕ) → Result (Edition × ℕ) TextFault
 after_heading kind n words =
     if nat_lt limit_of_lines n then Err too_far else after_version n (version_of kind words)
 
--- past the first line that has words: the number of the next line, and the lines from there on
-unfoldable pub heading : List ℕ → ℕ → List (List ℕ) → Result (ℕ × List (List ℕ)) TextFault
+-- past the first line that has words: the edition, the number of the next line, and the lines from
+-- there on
+unfoldable pub heading : List ℕ → ℕ → List (List ℕ)
+    → Result ((Edition × ℕ) × List (List ℕ)) TextFault
 heading kind n [] = Err (BadLine 1)
 heading kind n (line ∷ rest) =
     if length (words line) == 0 then heading kind (n + 1) rest
@@ -74,10 +88,10 @@ body meaning n (line ∷ rest) = do
 unfoldable pub utf8_text : List ℕ → Result (List ℕ) TextFault
 utf8_text bytes = if is_utf8 bytes then Ok bytes else Err NotUtf8
 
--- what a text of a kind says, given what words say
-unfoldable pub text_of : {S : Type 0} → List ℕ → (List (List ℕ) → Option S) → List ℕ
+-- what a text of a kind says, given what words say in each edition
+unfoldable pub text_of : {S : Type 0} → List ℕ → (Edition → List (List ℕ) → Option S) → List ℕ
     → Result (List (Line S)) TextFault
 text_of kind meaning bytes = do
   text ← utf8_text bytes
   start ← heading kind 1 (lines text)
-  body meaning start.0 start.1
+  body (meaning start.0.0) start.0.1 start.1

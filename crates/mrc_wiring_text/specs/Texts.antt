@@ -5,11 +5,13 @@ use Rattle.std.specs.Prelude.{codes, Option, Some}
 use Rattle.std.specs.List.{AllByRecursion}
 use Rattle.std.specs.Str.{IsUtf8}
 use Rattle.mrc_base.specs.Limits.{limit_of_lines}
+use Rattle.mrc_wiring_text.specs.declared.reading.Edition.{Edition}
 use Rattle.mrc_wiring_text.specs.declared.reading.Line.{Line}
 use Rattle.mrc_wiring_text.specs.declared.wiring.WiringSays.{WiringSays}
 use Rattle.mrc_wiring_text.specs.declared.policy.Forbid.{Forbid}
 use Rattle.mrc_wiring_text.specs.Lexis.{lines, words, decimal}
-use Rattle.mrc_wiring_text.specs.Reading.{is_number}
+use Rattle.mrc_wiring_text.specs.Kinds.{is_number}
+use Rattle.mrc_wiring_text.specs.Reading.{edition_number}
 use Rattle.mrc_wiring_text.specs.Wiring.{wiring_says}
 use Rattle.mrc_wiring_text.specs.Policy.{policy_says}
 
@@ -17,12 +19,12 @@ use Rattle.mrc_wiring_text.specs.Policy.{policy_says}
 abbrev pub IsWordless : List ℕ → Type 0
 IsWordless line = words line ≡ []
 
--- a line of two words: the kind of the text, and decimal digits that spell 1
-pub record IsHeading (kind line : List ℕ) : Type 0 where
+-- a line of two words: the kind of the text, and decimal digits that spell the edition's version
+pub record IsHeading (kind : List ℕ) (edition : Edition) (line : List ℕ) : Type 0 where
   pub number : List ℕ
   pub said : words line ≡ kind ∷ number ∷ []
   pub digits : IsTrue (is_number number)
-  pub one : decimal number ≡ 1
+  pub value : decimal number ≡ edition_number edition
 
 -- lines, the first of which has number n, and what those with words say
 abbrev pub Say : {S : Type 0} → (List (List ℕ) → Option S) → ℕ → List (List ℕ) → List (Line S)
@@ -34,8 +36,9 @@ Say {S} meaning n (line ∷ rest) says =
     × (says ≡ record { number = n; says = s } ∷ others) × Say meaning (n + 1) rest others)
 
 -- bytes that are a text of a kind, and what it says
-pub record IsText {S : Type 0} (kind : List ℕ) (meaning : List (List ℕ) → Option S) (bytes : List ℕ)
-    (says : List (Line S)) : Type 0 where
+pub record IsText {S : Type 0} (kind : List ℕ) (meaning : Edition → List (List ℕ) → Option S)
+    (bytes : List ℕ) (says : List (Line S)) : Type 0 where
+  pub edition : Edition
   pub utf8 : IsUtf8 bytes
   pub few : length (lines bytes) ≤ limit_of_lines
   pub before : List (List ℕ)
@@ -43,8 +46,8 @@ pub record IsText {S : Type 0} (kind : List ℕ) (meaning : List (List ℕ) → 
   pub after : List (List ℕ)
   pub parts : lines bytes ≡ before ++ head ∷ after
   pub wordless : AllByRecursion IsWordless before
-  pub heading : IsHeading kind head
-  pub body : Say meaning (length before + 2) after says
+  pub heading : IsHeading kind edition head
+  pub body : Say (meaning edition) (length before + 2) after says
 
 -- bytes that are a wiring
 abbrev pub IsWiring : List ℕ → List (Line WiringSays) → Type 0

@@ -8,6 +8,8 @@ use Rattle.std.specs.Option.{option_map}
 use Rattle.mrc_wiring_text.specs.declared.faults.TextFault.{TextFault}
 use Rattle.mrc_wiring_text.specs.declared.items.Item.{Item}
 use Rattle.mrc_wiring_text.specs.declared.policy.ClassName.{ClassName}
+use Rattle.mrc_wiring_text.specs.declared.reading.Edition.{Edition}
+use Rattle.mrc_wiring_text.specs.declared.reading.Edition.TheVariants as editions
 use Rattle.mrc_wiring_text.specs.declared.reading.Line.{Line}
 use Rattle.mrc_wiring_text.specs.declared.wiring.HeldRight.{HeldRight}
 use Rattle.mrc_wiring_text.specs.declared.wiring.HeldRight.TheVariants.{Send, SendOnce}
@@ -16,6 +18,7 @@ use Rattle.mrc_wiring_text.specs.declared.wiring.WiringSays.TheVariants.{Task, P
 use Rattle.mrc_wiring_text.specs.declared.wiring.WiringSays.TheVariants.{HoldPort, HoldTask, Admit}
 use Rattle.mrc_wiring_text.specs.Lexis.{is_dot}
 use Rattle.mrc_wiring_text.specs.Names.{name_of}
+use Rattle.mrc_wiring_text.specs.Kinds.{kind_of}
 use Rattle.mrc_wiring_text.specs.Items.{items_of}
 use Rattle.mrc_wiring_text.specs.Policy.{class_of}
 use Rattle.mrc_wiring_text.specs.Reading.{text_of}
@@ -38,17 +41,31 @@ port_line (port ∷ receiver ∷ task ∷ accepts ∷ items) =
     else None
 port_line words = None
 
--- the births of a task, where there is its name and what they accept
-abbrev pub births_named : Option (List ℕ) → Option (List Item) → Option WiringSays
-births_named (Some task) (Some accepts) = Some (Births task accepts)
-births_named _ _ = None
+-- the births of a task by their kind, where there is its name, the kind and what they accept
+abbrev pub births_named : Option (List ℕ) → Option ℕ → Option (List Item) → Option WiringSays
+births_named (Some task) (Some kind) (Some accepts) = Some (Births task kind accepts)
+births_named _ _ _ = None
 
--- the words after `births` in `births T accepts ITEMS`
-unfoldable pub births_line : List (List ℕ) → Option WiringSays
-births_line (task ∷ accepts ∷ items) =
-    if bytes_eq accepts (codes "accepts") then births_named (name_of task) (items_of items)
+-- the words after `births` in `births T accepts ITEMS`, which are births of kind 0
+unfoldable pub plain_births : List (List ℕ) → Option WiringSays
+plain_births (task ∷ accepts ∷ items) =
+    if bytes_eq accepts (codes "accepts")
+    then births_named (name_of task) (Some 0) (items_of items)
     else None
-births_line words = None
+plain_births words = None
+
+-- the words after `births` in `births T K accepts ITEMS`
+unfoldable pub kind_births : List (List ℕ) → Option WiringSays
+kind_births (task ∷ kind ∷ accepts ∷ items) =
+    if bytes_eq accepts (codes "accepts")
+    then births_named (name_of task) (kind_of kind) (items_of items)
+    else None
+kind_births words = None
+
+-- the words after `births`: kinds have words in version 2 alone, and there always
+abbrev pub births_line : Edition → List (List ℕ) → Option WiringSays
+births_line editions.First words = plain_births words
+births_line editions.Second words = kind_births words
 
 -- the right on a port that a word names
 unfoldable pub held_right : List ℕ → Option HeldRight
@@ -82,10 +99,9 @@ hold_line (holder ∷ right ∷ kind ∷ name ∷ []) = held holder right kind n
 hold_line words = None
 
 -- what words say that a slot admits: no class of this line, by `none`, or the class that they name
-unfoldable pub admitted : List (List ℕ) → Option (Option ClassName)
-admitted (word ∷ []) = if bytes_eq word (codes "none") then Some None else None
-admitted (kind ∷ name ∷ []) = option_map Some (class_of kind name)
-admitted words = None
+unfoldable pub admitted : Edition → List (List ℕ) → Option (Option ClassName)
+admitted edition (word ∷ []) = if bytes_eq word (codes "none") then Some None else None
+admitted edition words = option_map Some (class_of edition words)
 
 -- what a type's slots admit, where there are both names of the type and what is admitted
 abbrev pub admit_named : Option (List ℕ) → Option (List ℕ) → Option (Option ClassName)
@@ -95,21 +111,21 @@ admit_named _ _ _ = None
 
 -- the words after `admit` in `admit S.type CLASS` and `admit S.type none`: one word that has a name
 -- before its first dot and a name after it, and the class
-unfoldable pub admit_line : List (List ℕ) → Option WiringSays
-admit_line (slot ∷ class) =
+unfoldable pub admit_line : Edition → List (List ℕ) → Option WiringSays
+admit_line edition (slot ∷ class) =
     admit_named (name_of (before_first is_dot slot)) (name_of (after_first is_dot slot))
-    (admitted class)
-admit_line [] = None
+    (admitted edition class)
+admit_line edition [] = None
 
 -- what the words of a line say, by the first of them
-unfoldable pub wiring_says : List (List ℕ) → Option WiringSays
-wiring_says (key ∷ words) =
+unfoldable pub wiring_says : Edition → List (List ℕ) → Option WiringSays
+wiring_says edition (key ∷ words) =
     if bytes_eq key (codes "task") then task_line words
     else (if bytes_eq key (codes "port") then port_line words
-    else (if bytes_eq key (codes "births") then births_line words
+    else (if bytes_eq key (codes "births") then births_line edition words
     else (if bytes_eq key (codes "hold") then hold_line words
-    else (if bytes_eq key (codes "admit") then admit_line words else None))))
-wiring_says [] = None
+    else (if bytes_eq key (codes "admit") then admit_line edition words else None))))
+wiring_says edition [] = None
 
 -- what a wiring says
 abbrev pub wiring_of : List ℕ → Result (List (Line WiringSays)) TextFault

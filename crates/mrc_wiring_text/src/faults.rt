@@ -11,7 +11,7 @@ pub enum TextFault {
     /// The line of this number, counted from 1, is not one of the grammar.
     #[error("BadLine {0}")]
     BadLine(u32),
-    /// The first line with words names another version than 1.
+    /// The first line with words names another version than 1 and 2.
     #[error("Version")]
     Version,
 }

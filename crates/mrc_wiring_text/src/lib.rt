@@ -4,6 +4,7 @@
 
 mod faults;
 mod items;
+mod kinds;
 pub mod laws;
 mod lexis;
 mod names;
@@ -13,8 +14,9 @@ mod wiring;
 
 pub use faults::TextFault;
 pub use items::{Item, Items};
+pub use kinds::{Kind, is_number};
 pub use lexis::{between_blanks, first_line, is_word, spaced};
 pub use names::Name;
 pub use policy::{ClassName, Forbid, PolicyLine, read_policy};
-pub use reading::{Line, is_number};
+pub use reading::{Edition, Line};
 pub use wiring::{HeldRight, WiringLine, WiringSays, read_wiring};

@@ -1,18 +1,19 @@
 //! Policies.
 
-ghost use Rattle.std.specs.Prelude.{◌≡◌, ◌≢◌, List, IfOk, Ok, Err};
+ghost use Rattle.std.specs.Prelude.{◌≡◌, ◌≢◌, List, map, Some, IfOk, Ok, Err};
 ghost use Rattle.std.specs.Str.{IsUtf8};
 ghost use Rattle.mrc_wiring_text.specs.declared.reading.Line.{Line};
 ghost use Rattle.mrc_wiring_text.specs.declared.policy.Forbid.{Forbid};
 ghost use Rattle.mrc_base.specs.Reading.{Gives};
 ghost use Rattle.mrc_wiring_text.specs.Texts.{IsPolicy};
 ghost use Rattle.mrc_wiring_text.specs.Policy.{right_of, class_of, forbid_line, policy_says};
-ghost use Rattle.mrc_wiring_text.specs.Policy.{policy_of};
+ghost use Rattle.mrc_wiring_text.specs.Policy.{births_of, plain_class, births_with_kind, policy_of};
 
 use crate::faults::TextFault;
+use crate::kinds::{Kind, kind_of};
 use crate::lexis::is_word;
 use crate::names::Name;
-use crate::reading::{Line, Statement, text_of};
+use crate::reading::{Edition, Line, Statement, text_of};
 use mrc_base::{OrMemory, PortRight};
 use std::alloc::{AllocError, Global};
 
@@ -23,8 +24,14 @@ pub enum ClassName {
     Port(Name),
     /// `task U`: the kernel port of U.
     Task(Name),
-    /// `births U`: the ports that U's space is the first to hold.
-    Births(Name),
+    /// `births U K`: the ports of kind K that U's space, or that of a task that is made like U, is the
+    /// first to hold. `births U` are those of kind 0.
+    Births {
+        /// U.
+        task: Name,
+        /// K.
+        kind: Kind,
+    },
 }
 
 /// What a line of a policy says, `forbid T RIGHT CLASS`: neither T nor a task that it counts as
@@ -57,22 +64,64 @@ fn right_of(word: &[u8]) -> Option<PortRight>
     }
 }
 
+fn births_of(task: Option<Name>, kind: Option<Kind>) -> Option<ClassName>
+    ensures { result ≡ births_of task kind }
+{
+    match (task, kind) {
+        (Some(task), Some(kind)) => Some(ClassName::Births { task, kind }),
+        _ => None,
+    }
+}
+
+/// The class that two words name.
+#[tactic(auto, unfolding(crate::specs::Policy::plain_class))]
+fn plain_class(alloc: Global, key: &[u8], name: &[u8]) -> Result<Option<ClassName>, AllocError>
+    ensures { IfOk result (λ class. class ≡ plain_class key.now name.now) }
+{
+    if is_word(key, "port") {
+        Ok(Name::new(alloc, name)?.map(|name| ClassName::Port(name)))
+    } else if is_word(key, "task") {
+        Ok(Name::new(alloc, name)?.map(|name| ClassName::Task(name)))
+    } else if is_word(key, "births") {
+        Ok(births_of(Name::new(alloc, name)?, Kind::new(0)))
+    } else {
+        Ok(None)
+    }
+}
+
+/// The class that three words name.
+#[tactic(auto, unfolding(crate::specs::Policy::births_with_kind))]
+fn births_with_kind(
+    alloc: Global,
+    key: &[u8],
+    name: &[u8],
+    kind: &[u8],
+) -> Result<Option<ClassName>, AllocError>
+    ensures { IfOk result (λ class. class ≡ births_with_kind key.now name.now kind.now) }
+{
+    if is_word(key, "births") {
+        Ok(births_of(Name::new(alloc, name)?, kind_of(kind)))
+    } else {
+        Ok(None)
+    }
+}
+
+/// The class that words name.
 #[tactic(auto, unfolding(crate::specs::Policy::class_of))]
 pub(crate) fn class_of(
     alloc: Global,
-    kind: &[u8],
-    name: &[u8],
+    edition: Edition,
+    words: &[&[u8]],
 ) -> Result<Option<ClassName>, AllocError>
-    ensures { IfOk result (λ class. class ≡ class_of kind.now name.now) }
+    ensures { IfOk result (λ class. class ≡ class_of edition (map (λ word. word.now) words.now)) }
 {
-    if is_word(kind, "port") {
-        Ok(Name::new(alloc, name)?.map(|name| ClassName::Port(name)))
-    } else if is_word(kind, "task") {
-        Ok(Name::new(alloc, name)?.map(|name| ClassName::Task(name)))
-    } else if is_word(kind, "births") {
-        Ok(Name::new(alloc, name)?.map(|name| ClassName::Births(name)))
-    } else {
-        Ok(None)
+    match *words {
+        [key, name] => plain_class(alloc, key, name),
+        [key, name, kind] => match edition {
+            Edition::First => Ok(None),
+            Edition::Second => births_with_kind(alloc, key, name, kind),
+        },
+        _ => Ok(None),
     }
 }
 
@@ -93,11 +142,15 @@ impl Statement for Forbid {
     ghost meaning = { policy_says };
 
     #[tactic(auto, unfolding(crate::specs::Policy::policy_says))]
-    fn read(alloc: Global, words: &[&[u8]]) -> Result<Option<Forbid>, AllocError> {
-        match *words {
-            [key, task, right, kind, name] if is_word(key, "forbid") => {
+    fn read(
+        alloc: Global,
+        edition: Edition,
+        words: &[&[u8]],
+    ) -> Result<Option<Forbid>, AllocError> {
+        match words {
+            [key, task, right, class @ ..] if is_word(key, "forbid") => {
                 let task = Name::new(alloc, task)?;
-                let class = class_of(alloc, kind, name)?;
+                let class = class_of(alloc, edition, class)?;
                 Ok(forbid_line(task, right_of(right), class))
             }
             _ => Ok(None),

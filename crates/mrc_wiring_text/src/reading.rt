@@ -1,17 +1,16 @@
 //! Texts of lines: what they have in common.
 
-ghost use Rattle.std.specs.Prelude.{◌≡◌, ◌+◌, ◌≤◌, ◌==◌, ℕ, List, map, Option, Err, IfOk, OnOk};
+ghost use Rattle.std.specs.Prelude.{◌≡◌, ◌+◌, ◌≤◌, ℕ, List, map, Option, Err, IfOk, OnOk};
 ghost use Rattle.std.specs.Str.{IsUtf8};
-ghost use Rattle.std.specs.List.{list_all};
-ghost use Rattle.std.specs.Char.{is_ascii_digit};
 ghost use Rattle.std.specs.Option.{option_map};
 ghost use Rattle.mrc_base.specs.Limits.{limit_of_lines};
 ghost use Rattle.mrc_base.specs.Reading.{Gives};
 ghost use Rattle.mrc_wiring_text.specs.Lexis.{lines, decimal};
-ghost use Rattle.mrc_wiring_text.specs.Reading.{is_number, version_of, after_heading, heading};
+ghost use Rattle.mrc_wiring_text.specs.Reading.{edition_of, version_of, after_heading, heading};
 ghost use Rattle.mrc_wiring_text.specs.Reading.{line_of, body, utf8_text, text_of};
 
 use crate::faults::TextFault;
+use crate::kinds::{capped, is_number};
 use crate::lexis::{between_blanks, first_line, is_word, spaced};
 use mrc_base::OrMemory;
 use mrc_base::limits::LINES;
@@ -27,79 +26,83 @@ pub struct Line<S> {
     pub says: S,
 }
 
+/// The edition of a text, by the version that its first line names.
+#[derive(Clone, Copy, Debug, PartialEq, Eq)]
+pub enum Edition {
+    /// Version 1: the births of a task are of one kind, which has no word.
+    First,
+    /// Version 2: births are named by their task and their kind.
+    Second,
+}
+
 /// What a line of one kind of text can say.
 pub(crate) trait Statement: Drop {
-    /// What words say.
-    ghost meaning: { List (List ℕ) → Option Self };
+    ghost use Rattle.mrc_wiring_text.specs.declared.reading.Edition.{Edition};
+
+    /// What words say in each edition.
+    ghost meaning: { Edition → List (List ℕ) → Option Self };
 
     /// Reads the words of a line: `None` where they say nothing of this kind.
-    fn read(alloc: Global, words: &[&[u8]]) -> Result<Option<Self>, AllocError>
-        ensures { IfOk result (λ says. says ≡ meaning (map (λ word. word.now) words.now)) };
+    fn read(alloc: Global, edition: Edition, words: &[&[u8]]) -> Result<Option<Self>, AllocError>
+        ensures { IfOk result (λ says. says ≡ meaning edition
+            (map (λ word. word.now) words.now)) };
 }
 
-/// Whether decimal digits spell 1. Any number above 1 counts as 2 here.
-fn is_one(digits: &[u8]) -> bool
-    ensures { result ≡ (decimal digits.now == 1) }
+/// The edition of the version that decimal digits spell.
+fn edition_of(digits: &[u8]) -> Option<Edition>
+    ensures { result ≡ edition_of (decimal digits.now) }
 {
-    let mut value = 0u32;
-    for digit in digits {
-        value = (value * 10 + u32::from(digit.saturating_sub(b'0'))).min(2);
-    }
-    value == 1
-}
-
-fn are_digits(bytes: &[u8]) -> bool
-    ensures { result ≡ list_all is_ascii_digit bytes.now }
-{
-    bytes.iter().all(|byte| byte.is_ascii_digit())
-}
-
-/// Whether a word has decimal digits, at least one, and nothing else.
-pub fn is_number(word: &[u8]) -> bool
-    ensures { result ≡ is_number word.now }
-{
-    !word.is_empty() && are_digits(word)
-}
-
-/// Whether the words of a first line name version 1: `None` where they name no version at all.
-#[tactic(auto, unfolding(crate::specs::Reading::version_of))]
-fn is_first_version(kind: &str, words: &[&[u8]]) -> Option<bool>
-    ensures { result ≡ option_map (λ version. version == 1)
-        (version_of kind.now (map (λ word. word.now) words.now)) }
-{
-    match *words {
-        [word, number] if is_word(word, kind) && is_number(number) => Some(is_one(number)),
+    match capped(digits, 3) {
+        1 => Some(Edition::First),
+        2 => Some(Edition::Second),
         _ => None,
     }
 }
 
-/// The number of the line after a first line with these words.
+/// The edition that the words of a first line name, if they name one: `None` where they name no
+/// version at all.
+#[tactic(auto, unfolding(crate::specs::Reading::version_of))]
+fn edition_named(kind: &str, words: &[&[u8]]) -> Option<Option<Edition>>
+    ensures { result ≡ option_map edition_of
+        (version_of kind.now (map (λ word. word.now) words.now)) }
+{
+    match *words {
+        [word, number] if is_word(word, kind) && is_number(number) => Some(edition_of(number)),
+        _ => None,
+    }
+}
+
+/// The edition of a text whose first line has these words, and the number of the line after it.
 #[tactic(auto, unfolding(crate::specs::Reading::after_heading))]
-fn after_heading(kind: &str, number: usize, words: &[&[u8]]) -> Result<u32, OrMemory<TextFault>>
+fn after_heading(
+    kind: &str,
+    number: usize,
+    words: &[&[u8]],
+) -> Result<(Edition, u32), OrMemory<TextFault>>
     ensures fault { Gives (λ next. next) result
         (after_heading kind.now number (map (λ word. word.now) words.now)) }
-    ensures within { IfOk result (λ next. next ≤ limit_of_lines + 1) }
+    ensures within { IfOk result (λ next. next.1 ≤ limit_of_lines + 1) }
 {
     if number > LINES as usize {
         return Err(OrMemory::Fault(TextFault::BadLine(LINES + 1)));
     }
-    match is_first_version(kind, words) {
+    match edition_named(kind, words) {
         None => Err(OrMemory::Fault(TextFault::BadLine(number as u32))),
-        Some(false) => Err(OrMemory::Fault(TextFault::Version)),
-        Some(true) => Ok(number as u32 + 1),
+        Some(None) => Err(OrMemory::Fault(TextFault::Version)),
+        Some(Some(edition)) => Ok((edition, number as u32 + 1)),
     }
 }
 
-/// Goes past the first line that has words: the number of the next line, and the text from there
-/// on.
+/// Goes past the first line that has words: the edition, the number of the next line, and the text
+/// from there on.
 fn heading<'a>(
     alloc: Global,
     kind: &str,
     text: &'a [u8],
-) -> Result<(u32, &'a [u8]), OrMemory<TextFault>>
+) -> Result<((Edition, u32), &'a [u8]), OrMemory<TextFault>>
     ensures fault { Gives (λ start. (start.0, lines start.1.now)) result
         (heading kind.now 1 (lines text.now)) }
-    ensures within { IfOk result (λ start. start.0 ≤ limit_of_lines + 1) }
+    ensures within { IfOk result (λ start. start.0.1 ≤ limit_of_lines + 1) }
 {
     let mut rest = text;
     let mut before = 0usize;
@@ -121,10 +124,11 @@ fn heading<'a>(
 #[tactic(auto, unfolding(crate::specs::Reading::line_of, crate::specs::Lexis::words))]
 fn line_of<S: Statement>(
     alloc: Global,
+    edition: Edition,
     number: u32,
     line: &[u8],
 ) -> Result<Option<S>, OrMemory<TextFault>>
-    ensures fault { Gives (λ says. says) result (line_of S.meaning number line.now) }
+    ensures fault { Gives (λ says. says) result (line_of (S.meaning edition) number line.now) }
     ensures within { OnOk result (number ≤ limit_of_lines) }
 {
     if number > LINES {
@@ -135,7 +139,7 @@ fn line_of<S: Statement>(
     if said.is_empty() {
         return Ok(None);
     }
-    match S::read(alloc, &said)? {
+    match S::read(alloc, edition, &said)? {
         Some(says) => Ok(Some(says)),
         None => Err(OrMemory::Fault(TextFault::BadLine(number))),
     }
@@ -144,18 +148,19 @@ fn line_of<S: Statement>(
 /// What the lines of a text say, the first of which has this number.
 fn body<S: Statement>(
     alloc: Global,
+    edition: Edition,
     first: u32,
     text: &[u8],
 ) -> Result<Vec<Line<S>>, OrMemory<TextFault>>
     requires { first ≤ limit_of_lines + 1 }
-    ensures { Gives (λ said. said.items) result (body S.meaning first (lines text.now)) }
+    ensures { Gives (λ said. said.items) result (body (S.meaning edition) first (lines text.now)) }
 {
     let mut said = Vec::new(alloc);
     let mut rest = text;
     let mut number = first;
     while !rest.is_empty() {
         let (line, after) = first_line(rest);
-        if let Some(says) = line_of::<S>(alloc, number, line)? {
+        if let Some(says) = line_of::<S>(alloc, edition, number, line)? {
             said.push(Line { number, says })?;
         }
         number += 1;
@@ -187,6 +192,6 @@ pub(crate) fn text_of<S: Statement>(
     ensures no_text { ¬ (IsUtf8 bytes.now) → result ≡ Err (OrMemory.Fault TextFault.NotUtf8) }
 {
     let text = utf8_text(bytes)?;
-    let (first, rest) = heading(alloc, kind, text)?;
-    body(alloc, first, rest)
+    let ((edition, first), rest) = heading(alloc, kind, text)?;
+    body(alloc, edition, first, rest)
 }

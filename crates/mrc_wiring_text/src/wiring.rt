@@ -1,22 +1,24 @@
 //! Wirings.
 
-ghost use Rattle.std.specs.Prelude.{◌≡◌, ◌≢◌, List, map, IfOk, Ok, Err};
+ghost use Rattle.std.specs.Prelude.{◌≡◌, ◌≢◌, List, map, Some, IfOk, Ok, Err};
 ghost use Rattle.std.specs.Str.{IsUtf8};
 ghost use Rattle.mrc_wiring_text.specs.declared.reading.Line.{Line};
 ghost use Rattle.mrc_wiring_text.specs.declared.wiring.WiringSays.{WiringSays};
 ghost use Rattle.mrc_base.specs.Reading.{Gives};
 ghost use Rattle.mrc_wiring_text.specs.Texts.{IsWiring};
 ghost use Rattle.mrc_wiring_text.specs.Wiring.{task_line, port_named, port_line, births_named};
-ghost use Rattle.mrc_wiring_text.specs.Wiring.{births_line, held_right, hold_port_named, held};
+ghost use Rattle.mrc_wiring_text.specs.Wiring.{plain_births, kind_births, births_line, held_right};
+ghost use Rattle.mrc_wiring_text.specs.Wiring.{hold_port_named, held};
 ghost use Rattle.mrc_wiring_text.specs.Wiring.{hold_task_named, hold_line, admitted, admit_named};
 ghost use Rattle.mrc_wiring_text.specs.Wiring.{admit_line, wiring_says, wiring_of};
 
 use crate::faults::TextFault;
 use crate::items::{Items, items_of};
+use crate::kinds::{Kind, kind_of};
 use crate::lexis::{around_dot, is_word};
 use crate::names::Name;
 use crate::policy::{ClassName, class_of};
-use crate::reading::{Line, Statement, text_of};
+use crate::reading::{Edition, Line, Statement, text_of};
 use mrc_base::OrMemory;
 use std::alloc::{AllocError, Global};
 
@@ -44,11 +46,15 @@ pub enum WiringSays {
         /// What the port's class accepts.
         accepts: Items,
     },
-    /// `births T accepts ITEMS`: the ports that T's space is the first to hold accept the items.
+    /// `births T K accepts ITEMS`: the ports of kind K that T's space, or that of a task that is made
+    /// like T, is the first to hold accept the items. In version 1 it is `births T accepts ITEMS`,
+    /// which are those of kind 0.
     Births {
         /// T.
         task: Name,
-        /// What the class of T's births accepts.
+        /// K.
+        kind: Kind,
+        /// What the class of T's births of this kind accepts.
         accepts: Items,
     },
     /// `hold T send port P` or `hold T once port P`: T holds the right on P.
@@ -128,27 +134,68 @@ fn port_line(alloc: Global, words: &[&[u8]]) -> Result<Option<WiringSays>, Alloc
     }
 }
 
-fn births_named(task: Option<Name>, accepts: Option<Items>) -> Option<WiringSays>
-    ensures { result ≡ births_named task accepts }
+fn births_named(
+    task: Option<Name>,
+    kind: Option<Kind>,
+    accepts: Option<Items>,
+) -> Option<WiringSays>
+    ensures { result ≡ births_named task kind accepts }
 {
-    match (task, accepts) {
-        (Some(task), Some(accepts)) => Some(WiringSays::Births { task, accepts }),
+    match (task, kind, accepts) {
+        (Some(task), Some(kind), Some(accepts)) => {
+            Some(WiringSays::Births {
+                task,
+                kind,
+                accepts,
+            })
+        }
         _ => None,
     }
 }
 
 /// `births T accepts ITEMS`, after its first word.
-#[tactic(auto, unfolding(crate::specs::Wiring::births_line))]
-fn births_line(alloc: Global, words: &[&[u8]]) -> Result<Option<WiringSays>, AllocError>
-    ensures { IfOk result (λ says. says ≡ births_line (map (λ word. word.now) words.now)) }
+#[tactic(auto, unfolding(crate::specs::Wiring::plain_births))]
+fn plain_births(alloc: Global, words: &[&[u8]]) -> Result<Option<WiringSays>, AllocError>
+    ensures { IfOk result (λ says. says ≡ plain_births (map (λ word. word.now) words.now)) }
 {
     match words {
         [task, accepts, items @ ..] if is_word(accepts, "accepts") => {
             let task = Name::new(alloc, task)?;
             let accepts = items_of(alloc, items)?;
-            Ok(births_named(task, accepts))
+            Ok(births_named(task, Kind::new(0), accepts))
         }
         _ => Ok(None),
+    }
+}
+
+/// `births T K accepts ITEMS`, after its first word.
+#[tactic(auto, unfolding(crate::specs::Wiring::kind_births))]
+fn kind_births(alloc: Global, words: &[&[u8]]) -> Result<Option<WiringSays>, AllocError>
+    ensures { IfOk result (λ says. says ≡ kind_births (map (λ word. word.now) words.now)) }
+{
+    match words {
+        [task, kind, accepts, items @ ..] if is_word(accepts, "accepts") => {
+            let task = Name::new(alloc, task)?;
+            let kind = kind_of(kind);
+            let accepts = items_of(alloc, items)?;
+            Ok(births_named(task, kind, accepts))
+        }
+        _ => Ok(None),
+    }
+}
+
+/// What the births of a task accept, after the first word.
+fn births_line(
+    alloc: Global,
+    edition: Edition,
+    words: &[&[u8]],
+) -> Result<Option<WiringSays>, AllocError>
+    ensures { IfOk result (λ says. says ≡ births_line edition
+        (map (λ word. word.now) words.now)) }
+{
+    match edition {
+        Edition::First => plain_births(alloc, words),
+        Edition::Second => kind_births(alloc, words),
     }
 }
 
@@ -228,13 +275,23 @@ fn hold_line(alloc: Global, words: &[&[u8]]) -> Result<Option<WiringSays>, Alloc
 
 /// What words say that a slot admits.
 #[tactic(auto, unfolding(crate::specs::Wiring::admitted))]
-fn admitted(alloc: Global, words: &[&[u8]]) -> Result<Option<Option<ClassName>>, AllocError>
-    ensures { IfOk result (λ class. class ≡ admitted (map (λ word. word.now) words.now)) }
+fn admitted(
+    alloc: Global,
+    edition: Edition,
+    words: &[&[u8]],
+) -> Result<Option<Option<ClassName>>, AllocError>
+    ensures { IfOk result (λ class. class ≡ admitted edition
+        (map (λ word. word.now) words.now)) }
 {
     match *words {
-        [word] if is_word(word, "none") => Ok(Some(None)),
-        [kind, name] => Ok(class_of(alloc, kind, name)?.map(|class| Some(class))),
-        _ => Ok(None),
+        [word] => {
+            if is_word(word, "none") {
+                Ok(Some(None))
+            } else {
+                Ok(None)
+            }
+        }
+        _ => Ok(class_of(alloc, edition, words)?.map(|class| Some(class))),
     }
 }
 
@@ -259,15 +316,20 @@ fn admit_named(
 
 /// `admit S.type CLASS` and `admit S.type none`, after the first word.
 #[tactic(auto, unfolding(crate::specs::Wiring::admit_line))]
-fn admit_line(alloc: Global, words: &[&[u8]]) -> Result<Option<WiringSays>, AllocError>
-    ensures { IfOk result (λ says. says ≡ admit_line (map (λ word. word.now) words.now)) }
+fn admit_line(
+    alloc: Global,
+    edition: Edition,
+    words: &[&[u8]],
+) -> Result<Option<WiringSays>, AllocError>
+    ensures { IfOk result (λ says. says ≡ admit_line edition
+        (map (λ word. word.now) words.now)) }
 {
     match words {
         [slot, class @ ..] => {
             let (subsystem, type_name) = around_dot(slot);
             let subsystem = Name::new(alloc, subsystem)?;
             let type_name = Name::new(alloc, type_name)?;
-            let class = admitted(alloc, class)?;
+            let class = admitted(alloc, edition, class)?;
             Ok(admit_named(subsystem, type_name, class))
         }
         _ => Ok(None),
@@ -278,13 +340,17 @@ impl Statement for WiringSays {
     ghost meaning = { wiring_says };
 
     #[tactic(auto, unfolding(crate::specs::Wiring::wiring_says))]
-    fn read(alloc: Global, words: &[&[u8]]) -> Result<Option<WiringSays>, AllocError> {
+    fn read(
+        alloc: Global,
+        edition: Edition,
+        words: &[&[u8]],
+    ) -> Result<Option<WiringSays>, AllocError> {
         match words {
             [key, words @ ..] if is_word(key, "task") => task_line(alloc, words),
             [key, words @ ..] if is_word(key, "port") => port_line(alloc, words),
-            [key, words @ ..] if is_word(key, "births") => births_line(alloc, words),
+            [key, words @ ..] if is_word(key, "births") => births_line(alloc, edition, words),
             [key, words @ ..] if is_word(key, "hold") => hold_line(alloc, words),
-            [key, words @ ..] if is_word(key, "admit") => admit_line(alloc, words),
+            [key, words @ ..] if is_word(key, "admit") => admit_line(alloc, edition, words),
             _ => Ok(None),
         }
     }

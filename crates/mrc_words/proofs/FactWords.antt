@@ -74,27 +74,27 @@ backup_read table c d are g h =
     (then_is _ _ _ _ (class_word_read table d are h) refl))
 
 pub printed_is_read : PrintedIsRead
-printed_is_read table tasks ports (Hold t c right) range =
-    let are : AreNamed table = (tasks, ports) in
+printed_is_read table tasks ports births kinds (Hold t c right) range =
+    let are : AreNamed table = (tasks, ports, births, kinds) in
     let found = element table.names t range.0 in
     let task = task_read table t found.0 are found.1 in
     then_is _ _ _ _ (cut_joined (codes "hold") (task_word table t ␣ class_word table c ␣ right_word right) (no_blanks (codes "hold") refl))
     (ap (λ name. hold_named table (name ␣ class_word table c ␣ right_word right)) task.0
     ∙ hold_read table t c right found.0 are found.1 range.1)
-printed_is_read table tasks ports (Carry d c right) range =
-    let are : AreNamed table = (tasks, ports) in
+printed_is_read table tasks ports births kinds (Carry d c right) range =
+    let are : AreNamed table = (tasks, ports, births, kinds) in
     then_is _ _ _ _ (cut_joined (codes "carry") (class_word table d ␣ class_word table c ␣ right_word right) (no_blanks (codes "carry") refl))
     (carry_read table d c right are range.0 range.1)
-printed_is_read table tasks ports (Backup c d) range =
-    let are : AreNamed table = (tasks, ports) in
+printed_is_read table tasks ports births kinds (Backup c d) range =
+    let are : AreNamed table = (tasks, ports, births, kinds) in
     then_is _ _ _ _ (cut_joined (codes "backup") (class_word table c ␣ class_word table d) (no_blanks (codes "backup") refl))
     (backup_read table c d are range.0 range.1)
 
 -- no text names two facts
 pub names_one_fact : NamesOneFact
-names_one_fact table tasks ports one other r s e =
-    let first = printed_is_read table tasks ports one r in
-    let second = printed_is_read table tasks ports other s in
+names_one_fact table tasks ports births kinds one other r s e =
+    let first = printed_is_read table tasks ports births kinds one r in
+    let second = printed_is_read table tasks ports births kinds other s in
     let same : Some one ≡ Some other = sym first ∙ ap (fact_named table) e ∙ second in
     cc
 

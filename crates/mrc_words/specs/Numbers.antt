@@ -2,7 +2,7 @@
 use Rattle.std.specs.Prelude.{ℕ, ◌^◌, ◌&&◌, nat_lt, nat_le, List, [], ◌∷◌, Option, Some, None}
 use Rattle.std.specs.Prelude.{if◌then◌else◌, ℤ, pos, neg_ℤ, ◌==◌}
 use Rattle.mrc_wiring_text.specs.Lexis.{decimal}
-use Rattle.mrc_wiring_text.specs.Reading.{is_number}
+use Rattle.mrc_wiring_text.specs.Kinds.{is_number}
 
 -- the number that decimal digits spell, leading zeros or not, where it has 32 bits
 unfoldable pub number_of_word : List ℕ → Option ℕ

@@ -1,13 +1,14 @@
 -- The words in which a fact is printed: rights, classes and tasks by the names of a wiring. This
 -- profile's own choice.
-use Rattle.std.specs.Prelude.{ℕ, List, ◌++◌, Option, Some, None, codes, decimal, slice_get}
+use Rattle.std.specs.Prelude.{ℕ, ◌==◌, List, [], ◌++◌, Option, Some, None, codes, decimal}
+use Rattle.std.specs.Prelude.{slice_get, if◌then◌else◌}
 use Rattle.mrc_base.specs.declared.PortRight.{PortRight}
 use Rattle.mrc_base.specs.declared.PortRight.TheVariants.{Send, Receive, SendOnce}
 use Rattle.mrc_base.specs.declared.Fact.{Fact}
 use Rattle.mrc_base.specs.declared.Fact.TheVariants.{Hold, Carry, Backup}
 use Rattle.mrc_wiring.specs.declared.names.ClassKind.{ClassKind}
 use Rattle.mrc_wiring.specs.declared.names.ClassKind.TheVariants.{Port, Task, Births}
-use Rattle.mrc_wiring.specs.Names.{class_label}
+use Rattle.mrc_wiring.specs.Names.{class_label, kind_word}
 use Rattle.mrc_wiring.specs.Table.{Table}
 
 -- one text and the next, with a blank between
@@ -21,11 +22,15 @@ right_word Send = codes "send"
 right_word Receive = codes "receive"
 right_word SendOnce = codes "once"
 
--- a class by the name of its port or task: `port:P`, `task:U` or `births:U`
+-- the word of a kind of births, behind the name: none for kind 0
+abbrev pub behind_name : ℕ → List ℕ
+behind_name kind = if kind == 0 then [] else codes ":" ++ kind_word kind
+
+-- a class by the name of its port or task: `port:P`, `task:U`, `births:U` or `births:U:K`
 abbrev pub label_word : ClassKind × List ℕ → List ℕ
 label_word (Port, name) = codes "port:" ++ name
 label_word (Task, name) = codes "task:" ++ name
-label_word (Births, name) = codes "births:" ++ name
+label_word (Births kind, name) = codes "births:" ++ (name ++ behind_name kind)
 
 -- a class by its label, or by its number where the wiring has none for it
 abbrev pub class_text : ℕ → Option (ClassKind × List ℕ) → List ℕ

@@ -2,10 +2,11 @@
 
 ghost use Rattle.std.specs.Prelude.{◌≡◌, ◌++◌, IfOk, codes, string_bytes};
 ghost use Rattle.mrc_wiring.specs.Names.{shown_label};
-ghost use Rattle.mrc_words.specs.Words.{right_word, label_word, class_word, task_word, fact_text};
+ghost use Rattle.mrc_words.specs.Words.{right_word, behind_name, label_word, class_word, task_word};
+ghost use Rattle.mrc_words.specs.Words.{fact_text};
 
 use mrc_base::{ClassId, Fact, PortRight, TaskId};
-use mrc_wiring::{ClassKind, ClassLabel, Wired};
+use mrc_wiring::{ClassKind, ClassLabel, Wired, kind_word};
 use std::alloc::{AllocError, Global};
 
 /// The word of a right: `send`, `receive` or `once`.
@@ -29,6 +30,17 @@ pub fn task_word(alloc: Global, wired: &Wired, task: TaskId) -> Result<String, A
     }
 }
 
+/// The word of a kind of births behind the name of the task: none for kind 0.
+fn behind_name(alloc: Global, kind: u8) -> Result<String, AllocError>
+    ensures { IfOk result (λ text. string_bytes text ≡ behind_name kind) }
+{
+    if kind == 0 {
+        return Ok(String::new(alloc));
+    }
+    let word = kind_word(kind);
+    format!(in alloc; ":{word}")
+}
+
 fn label_word(alloc: Global, label: ClassLabel<'_>) -> Result<String, AllocError>
     ensures { IfOk result (λ text. string_bytes text ≡ label_word (shown_label label.entry)) }
 {
@@ -36,12 +48,15 @@ fn label_word(alloc: Global, label: ClassLabel<'_>) -> Result<String, AllocError
     match label.kind {
         ClassKind::Port => format!(in alloc; "port:{name}"),
         ClassKind::Task => format!(in alloc; "task:{name}"),
-        ClassKind::Births => format!(in alloc; "births:{name}"),
+        ClassKind::Births(kind) => {
+            let behind = behind_name(alloc, kind)?;
+            format!(in alloc; "births:{name}{behind}")
+        }
     }
 }
 
-/// A class as `port:P`, `task:U` or `births:U`, or by its number where the wiring has no class of
-/// the number.
+/// A class as `port:P`, `task:U`, `births:U` of kind 0 or `births:U:K` of another kind, or by its
+/// number where the wiring has no class of the number.
 pub fn class_word(alloc: Global, wired: &Wired, class: ClassId) -> Result<String, AllocError>
     ensures { IfOk result (λ text. string_bytes text ≡ class_word wired.now class) }
 {

@@ -99,5 +99,6 @@ pub fn fact_named(wired: &Wired, text: &str) -> Option<Fact>
 {
     let _tasks = wired.tasks();
     let _ports = wired.ports();
+    let _births = wired.birth_classes();
     named(wired, text)
 }

@@ -22,7 +22,7 @@ pub loop-preserved : goal.loop-preserved
 loop-preserved c =
     let next = goes_on c.args.tasks c.args.classes c.args.count c.loop.counter c.loop.at
     c.loop.before c.loop.facts c.loop.rest.now
-    (facts_at c.args.tasks c.args.classes c.args.count 14 None c.args.bytes.now)
+    (facts_at c.args.tasks c.args.classes c.args.count c.args.first None c.args.bytes.now)
     c.loop.invariant.left c.loop-test.true c.in_ok-fact.fact c.in_ok-fact.ensures.fault
     (sym c.comes_after.ensures ∙ c.if-not-comes_after.false) c.loop.invariant.ascending in
     record {
@@ -38,12 +38,12 @@ returns-clause-fault c =
 
 pub returns-clause-within : goal.returns-clause-within
 returns-clause-within c =
-    (facts_take c.args.tasks c.args.classes c.args.count 14 None c.args.bytes.now
+    (facts_take c.args.tasks c.args.classes c.args.count c.args.first None c.args.bytes.now
     (c.loop.facts, c.loop.rest.now) (λ i. omega (arith, c.type_inv.bytes i))
     (returns-clause-fault c)).within
 
 pub returns-clause-len : goal.returns-clause-len
 returns-clause-len c =
-    (facts_take c.args.tasks c.args.classes c.args.count 14 None c.args.bytes.now
+    (facts_take c.args.tasks c.args.classes c.args.count c.args.first None c.args.bytes.now
     (c.loop.facts, c.loop.rest.now) (λ i. omega (arith, c.type_inv.bytes i))
     (returns-clause-fault c)).len

@@ -7,6 +7,6 @@ use Rattle.mrc_slots.proofs.masks.all_places.Given as goal
 -- the places up to here are marked
 abbrev pub invariant-loop-place : goal.invariant-loop-place
 invariant-loop-place l = record {
-  wide : length l.row.items ≡ l.places / 64 + 1;
+  wide : length l.row.items ≡ (l.places + 63) / 64;
   bits : (p : ℕ) → is_set l.row.items p ≡ (nat_lt p l.place && is_any p);
 }

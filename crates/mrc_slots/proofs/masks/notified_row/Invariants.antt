@@ -8,7 +8,7 @@ use Rattle.mrc_slots.proofs.masks.notified_row.Given as goal
 -- the classes up to here are marked
 abbrev pub invariant-loop-class : goal.invariant-loop-class
 invariant-loop-class l = record {
-  wide : length l.row.items ≡ l.count / 64 + 1;
+  wide : length l.row.items ≡ (l.count + 63) / 64;
   bits : (p : ℕ) → is_set l.row.items p
       ≡ (nat_lt p l.class && accepts_destroyed (wiring_of l.wired) p);
 }

@@ -9,7 +9,7 @@ use Rattle.mrc_slots.proofs.masks.taken_row.Given as goal
 -- the places up to here are marked
 abbrev pub invariant-loop-place : goal.invariant-loop-place
 invariant-loop-place l = record {
-  wide : length l.row.items ≡ l.places / 64 + 1;
+  wide : length l.row.items ≡ (l.places + 63) / 64;
   bits : (p : ℕ) → is_set l.row.items p
       ≡ (nat_lt p l.place && passes (wiring_of l.wired) l.to (p / 3) l.held (right_at p));
 }

@@ -13,12 +13,14 @@ use Rattle.mrc_wiring_text.proofs.reading.body.Goals.{in-Some+in_ok-push, in_def
 pub returns-in_err-says : goal.returns-in_err-says
 returns-in_err-says g c =
     let p = err_from_is_err_and c.from_residual.result c.from_residual.ensures.1 in
-    rw (p.1, p.2) (body_fails c.in_err-says.field-0.0 g.S.Statement.meaning _ _ _ _ _ _
+    rw (p.1, p.2) (body_fails c.in_err-says.field-0.0 (g.S.Statement.meaning c.args.edition) _ _ _ _
+    _ _
     c.loop-rest.invariant.same c.first_line.ensures.cut c.in_err-says.ensures.fault)
 
 pub loop-rest-preserved : goal.loop-rest-preserved
 loop-rest-preserved g c =
-    let goes = body_goes_on g.S.Statement.meaning _ _ _ _ _ _ _ c.loop-rest.invariant.same
+    let goes = body_goes_on (g.S.Statement.meaning c.args.edition) _ _ _ _ _ _ _
+    c.loop-rest.invariant.same
     c.first_line.ensures.cut c.in_ok-says.ensures.fault in
     let n = c.loop-rest.number in
     let front = c.loop-rest.said.items in
@@ -40,7 +42,8 @@ loop-rest-preserved g c =
 pub returns : goal.returns
 returns g c =
     let none = is_nil c.loop-rest.rest.now _ c.is_empty.ensures c.loop-rest-test.false in
-    body_ends g.S.Statement.meaning c.loop-rest.said.items c.loop-rest.number _
+    body_ends (g.S.Statement.meaning c.args.edition) c.loop-rest.said.items c.loop-rest.number _
     (subst (λ bs. with_front c.loop-rest.said.items
-    (body g.S.Statement.meaning c.loop-rest.number (lines bs)) ≡ body g.S.Statement.meaning
+    (body (g.S.Statement.meaning c.args.edition) c.loop-rest.number (lines bs))
+    ≡ body (g.S.Statement.meaning c.args.edition)
     c.args.first (lines c.args.text.now)) none c.loop-rest.invariant.same)

@@ -8,7 +8,7 @@ use Rattle.mrc_wiring_text.proofs.reading.body.Given as goal
 
 abbrev pub invariant-loop-rest : goal.invariant-loop-rest
 invariant-loop-rest g l =
-    let meaning = g.S.Statement.meaning in
+    let meaning = g.S.Statement.meaning l.edition in
     record {
       same : with_front l.said.items (body meaning l.number (lines l.rest)) ≡ body meaning l.first
           (lines l.text);

@@ -9,5 +9,5 @@ returns-clause-found c = found_facts c.args.wired.now c.args.text.now c.named.re
 pub returns-clause-only : goal.returns-clause-only
 returns-clause-only c fact range text_is =
     c.named.ensures ∙ ap (fact_named c.args.wired.now) (sym text_is)
-    ∙ printed_is_read c.args.wired.now c.tasks-tasks.ensures.named c.ports-ports.ensures.named fact
-    range
+    ∙ printed_is_read c.args.wired.now c.tasks-tasks.ensures.named c.ports-ports.ensures.named
+    c.tasks-tasks.ensures.kept.births c.birth_classes-births.ensures.kinds fact range
