@@ -1,9 +1,11 @@
 -- Calls and replies of code, read as the definitions'; and what it is that a call is not refused.
 -- This profile's own choice.
-use Rattle.std.specs.Prelude.{◌≡◌, ℕ, Bool, true, false, IsTrue, IsOk, Err}
+use Rattle.std.specs.Prelude.{◌≡◌, ℕ, Bool, true, false, Option, Some, None, IsTrue, IsOk, Err}
+use Rattle.std.specs.Option.{option_and_then}
 use Rattle.mrc_base.specs.declared.memory.OrMemory.{OrMemory}
 use Rattle.mrc_base.specs.declared.memory.OrMemory.TheVariants.{Fault, Memory}
 use Rattle.mrc_model.specs.declared.Code.{Code}
+use Rattle.mrc_model.specs.declared.Code.TheVariants.{KernInvalidTask, KernInvalidArgument}
 use Rattle.mrc_model.specs.Map.{get}
 use Rattle.mrc_model.specs.Wiring.{Wiring}
 use Rattle.mrc_model.specs.World.{World}
@@ -16,6 +18,7 @@ use Rattle.mrc_machine.specs.declared.call.Call.TheVariants.{Names, Rename, Send
 use Rattle.mrc_machine.specs.declared.call.Call.TheVariants.{MoveMember, RequestNotification}
 use Rattle.mrc_machine.specs.declared.call.Call.TheVariants.{Deallocate, Destroy, ModRefs}
 use Rattle.mrc_machine.specs.declared.call.Call.TheVariants.{Terminate, CreateTask}
+use Rattle.mrc_machine.specs.Housing.{target_of}
 use Rattle.mrc_machine.specs.declared.refusal.Refusal.{Refusal}
 use Rattle.mrc_machine.specs.declared.refusal.Refusal.TheVariants as why
 use Rattle.mrc_machine.specs.declared.reply.Reply.{Reply}
@@ -100,6 +103,36 @@ IsCoded (Send message) = ⊥
 IsCoded (Receive name limit) = ⊥
 IsCoded (RequestNotification task name id sync notify disp) = ⊥
 IsCoded call = Unit {0}
+
+-- the name of the task that the call acts on; a message's names are those of its caller
+abbrev pub task_name : Call → Option ℕ
+task_name (Send message) = None
+task_name (Receive name limit) = None
+task_name (Allocate task right kind) = Some task
+task_name (GetRefs task name right) = Some task
+task_name (InsertRight task name right disp) = Some task
+task_name (ExtractRight task name disp) = Some task
+task_name (SetQlimit task name limit) = Some task
+task_name (PortType task name) = Some task
+task_name (Names task) = Some task
+task_name (Rename task old new) = Some task
+task_name (MoveMember task member set) = Some task
+task_name (RequestNotification task name id sync notify disp) = Some task
+task_name (Deallocate task name) = Some task
+task_name (Destroy task name) = Some task
+task_name (ModRefs task name right delta) = Some task
+task_name (Terminate task) = Some task
+task_name (CreateTask task) = Some task
+
+-- the code that refuses the call where its name stands for no live task
+abbrev pub bad_task : Call → Code
+bad_task (Terminate task) = KernInvalidArgument
+bad_task (CreateTask task) = KernInvalidArgument
+bad_task call = KernInvalidTask
+
+-- the live task that a call of the task t acts on
+abbrev pub target_of_call : World → ℕ → Call → Option ℕ
+target_of_call w t call = option_and_then (target_of w t) (task_name call)
 
 -- the call only asks
 abbrev pub is_asking : Call → Bool

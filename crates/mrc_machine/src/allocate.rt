@@ -1,6 +1,6 @@
 //! Making ports, port sets and dead names.
 
-ghost use Rattle.std.specs.Prelude.{◌≡◌, Ok, OnErr, IfOk, IfErr, IsSome};
+ghost use Rattle.std.specs.Prelude.{◌≡◌, Some, Ok, OnErr, IfOk, IfErr, IsSome};
 ghost use Rattle.mrc_model.specs.Map.{get};
 ghost use Rattle.mrc_model.specs.World.{task_class};
 ghost use Rattle.mrc_model.specs.Wiring.{births_class};
@@ -8,6 +8,7 @@ ghost use Rattle.mrc_model.specs.Reply.{Name};
 ghost use Rattle.mrc_model.specs.CallAllocate.{call_allocate, allocate_port, allocate_entry};
 ghost use Rattle.mrc_wiring.specs.Table.{wiring_of};
 ghost use Rattle.mrc_names.specs.Refusals.{IsRefusal};
+ghost use Rattle.mrc_machine.specs.Housing.{target_of};
 
 use crate::state::State;
 use mrc_base::{OrMemory, Right, TaskId};
@@ -72,10 +73,12 @@ impl State {
         wired: &Wired,
         caller: TaskId,
         task: u32,
+        target: TaskId,
         right: Right,
         kind: u32,
     ) -> Result<u32, OrMemory<Code>>
-        requires { IsSome (get self.old.tasks caller) }
+        requires target { target_of self.old caller task ≡ Some target }
+        requires there { IsSome (get self.old.tasks target) }
         ensures ok { IfOk result (λ name.
             call_allocate (wiring_of wired.now) self.old caller task right kind
             ≡ Ok (self.new, Name name)) }
@@ -83,9 +86,6 @@ impl State {
             (call_allocate (wiring_of wired.now) self.old caller task right kind)) }
         ensures err { OnErr result (self.new ≡ self.old) }
     {
-        let Some(target) = self.target(caller, task) else {
-            return Err(OrMemory::Fault(Code::KernInvalidTask));
-        };
         match right {
             Right::Send | Right::SendOnce => Err(OrMemory::Fault(Code::KernInvalidValue)),
             Right::Receive => self.allocate_port(wired, target, kind),

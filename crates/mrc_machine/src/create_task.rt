@@ -1,10 +1,11 @@
 //! Making tasks.
 
-ghost use Rattle.std.specs.Prelude.{◌≡◌, false, Ok, OnErr, IfOk, IfErr, IsSome};
+ghost use Rattle.std.specs.Prelude.{◌≡◌, false, Some, Ok, OnErr, IfOk, IfErr, IsSome};
 ghost use Rattle.mrc_model.specs.Map.{get};
 ghost use Rattle.mrc_model.specs.Reply.{Created};
 ghost use Rattle.mrc_model.specs.CallCreateTask.{call_create_task};
 ghost use Rattle.mrc_names.specs.Refusals.{IsRefusal};
+ghost use Rattle.mrc_machine.specs.Housing.{target_of};
 
 use crate::state::State;
 use mrc_base::{OrMemory, PortRight, TaskId};
@@ -16,16 +17,16 @@ impl State {
         &mut self,
         caller: TaskId,
         task: u32,
+        target: TaskId,
     ) -> Result<(TaskId, u32), OrMemory<Code>>
-        requires { IsSome (get self.old.tasks caller) }
+        requires caller { IsSome (get self.old.tasks caller) }
+        requires target { target_of self.old caller task ≡ Some target }
+        requires there { IsSome (get self.old.tasks target) }
         ensures ok { IfOk result (λ child.
             call_create_task self.old caller task ≡ Ok (self.new, Created child.0 child.1)) }
         ensures refused { IfErr result (λ e. IsRefusal e (call_create_task self.old caller task)) }
         ensures err { OnErr result (self.new ≡ self.old) }
     {
-        let Some(target) = self.target(caller, task) else {
-            return Err(OrMemory::Fault(Code::KernInvalidArgument));
-        };
         let Some(class) = self.kernel_class(target) else {
             return Err(OrMemory::Fault(Code::KernInvalidArgument));
         };

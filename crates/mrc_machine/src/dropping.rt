@@ -1,6 +1,6 @@
 //! Dropping references of names, and whole names.
 
-ghost use Rattle.std.specs.Prelude.{◌≡◌, Ok, Err, OnOk, OnErr, IfErr, IsSome, IsOk};
+ghost use Rattle.std.specs.Prelude.{◌≡◌, Some, Ok, Err, OnOk, OnErr, IfErr, IsSome, IsOk};
 ghost use Rattle.mrc_model.specs.Map.{get};
 ghost use Rattle.mrc_model.specs.Reply.{Done, Refused};
 ghost use Rattle.mrc_model.specs.Target.{with_store};
@@ -10,6 +10,7 @@ ghost use Rattle.mrc_model.specs.CallModRefs.{call_mod_refs};
 ghost use Rattle.mrc_death.specs.Taking.{destroyed_of};
 ghost use Rattle.mrc_names.specs.Refusals.{IsRefusal};
 ghost use Rattle.mrc_machine.specs.Drops.{after_drop, IsDone};
+ghost use Rattle.mrc_machine.specs.Housing.{target_of};
 
 use crate::state::State;
 use mrc_base::{OrMemory, Right, TaskId};
@@ -37,17 +38,16 @@ impl State {
         &mut self,
         caller: TaskId,
         task: u32,
+        target: TaskId,
         name: u32,
     ) -> Result<(), OrMemory<Code>>
-        requires { IsSome (get self.old.tasks caller) }
+        requires target { target_of self.old caller task ≡ Some target }
+        requires there { IsSome (get self.old.tasks target) }
         ensures ok { OnOk result (call_deallocate self.old caller task name ≡ Ok (self.new, Done)) }
         ensures refused { IfErr result
             (λ e. IsRefusal e (call_deallocate self.old caller task name)) }
         ensures err { OnErr result (self.new ≡ self.old) }
     {
-        let Some(target) = self.target(caller, task) else {
-            return Err(OrMemory::Fault(Code::KernInvalidTask));
-        };
         let mut space = self.take_space(target);
         let answer = space.drop_reference(name);
         self.put_space(target, space);
@@ -65,20 +65,19 @@ impl State {
         &mut self,
         caller: TaskId,
         task: u32,
+        target: TaskId,
         name: u32,
         right: Right,
         delta: i32,
     ) -> Result<(), OrMemory<Code>>
-        requires { IsSome (get self.old.tasks caller) }
+        requires target { target_of self.old caller task ≡ Some target }
+        requires there { IsSome (get self.old.tasks target) }
         ensures ok { OnOk result
             (call_mod_refs self.old caller task name right delta ≡ Ok (self.new, Done)) }
         ensures refused { IfErr result
             (λ e. IsRefusal e (call_mod_refs self.old caller task name right delta)) }
         ensures err { OnErr result (self.new ≡ self.old) }
     {
-        let Some(target) = self.target(caller, task) else {
-            return Err(OrMemory::Fault(Code::KernInvalidTask));
-        };
         let mut space = self.take_space(target);
         let answer = space.drop_refs(name, right, delta);
         self.put_space(target, space);
@@ -96,20 +95,19 @@ impl State {
         &mut self,
         caller: TaskId,
         task: u32,
+        target: TaskId,
         name: u32,
     ) -> Result<(), OrMemory<Code>>
-        requires { IsSome (get self.old.tasks caller) }
+        requires target { target_of self.old caller task ≡ Some target }
+        requires there { IsSome (get self.old.tasks target) }
         ensures ok { OnOk result (call_destroy self.old caller task name ≡ Ok (self.new, Done)) }
         ensures refused { IfErr result (λ e. IsRefusal e (call_destroy self.old caller task name)) }
         ensures err { OnErr result (self.new ≡ self.old) }
     {
-        let Some(task) = self.target(caller, task) else {
-            return Err(OrMemory::Fault(Code::KernInvalidTask));
-        };
-        if self.space(task).get(name).is_none() {
+        if self.space(target).get(name).is_none() {
             return Err(OrMemory::Fault(Code::KernInvalidName));
         }
-        self.destroy(Destroyed::Entry { task, name })?;
+        self.destroy(Destroyed::Entry { task: target, name })?;
         Ok(())
     }
 }

@@ -1,6 +1,6 @@
 //! Giving a right of a task to the caller.
 
-ghost use Rattle.std.specs.Prelude.{◌≡◌, ℕ, Ok, OnErr, IfOk, IfErr, IsSome};
+ghost use Rattle.std.specs.Prelude.{◌≡◌, ℕ, Some, Ok, OnErr, IfOk, IfErr, IsSome};
 ghost use Rattle.mrc_model.specs.Map.{get};
 ghost use Rattle.mrc_model.specs.World.{Space as TSpace, space};
 ghost use Rattle.mrc_model.specs.Space.{is_full};
@@ -8,6 +8,7 @@ ghost use Rattle.mrc_model.specs.Reply.{Name};
 ghost use Rattle.mrc_model.specs.CallInsertRight.{call_extract_right};
 ghost use Rattle.mrc_names.specs.Refusals.{IsRefusal};
 ghost use Rattle.mrc_names.specs.Takes.{take_right};
+ghost use Rattle.mrc_machine.specs.Housing.{target_of};
 ghost use Rattle.mrc_machine.specs.Moves.{space_beside};
 
 use crate::state::State;
@@ -36,19 +37,19 @@ impl State {
         &mut self,
         caller: TaskId,
         task: u32,
+        target: TaskId,
         name: u32,
         disp: Disp,
     ) -> Result<u32, OrMemory<Code>>
-        requires { IsSome (get self.old.tasks caller) }
+        requires caller { IsSome (get self.old.tasks caller) }
+        requires target { target_of self.old caller task ≡ Some target }
+        requires there { IsSome (get self.old.tasks target) }
         ensures ok { IfOk result (λ given.
             call_extract_right self.old caller task name disp ≡ Ok (self.new, Name given)) }
         ensures refused { IfErr result
             (λ e. IsRefusal e (call_extract_right self.old caller task name disp)) }
         ensures err { OnErr result (self.new ≡ self.old) }
     {
-        let Some(target) = self.target(caller, task) else {
-            return Err(OrMemory::Fault(Code::KernInvalidTask));
-        };
         if let Err(code) = self.space(target).peek(name, disp) {
             return Err(OrMemory::Fault(code));
         }

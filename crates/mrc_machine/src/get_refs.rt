@@ -1,9 +1,10 @@
 //! How many references of a right a name has.
 
-ghost use Rattle.std.specs.Prelude.{◌≡◌, Ok, Err, IfOk, IfErr, IsSome};
+ghost use Rattle.std.specs.Prelude.{◌≡◌, Some, Ok, Err, IfOk, IfErr, IsSome};
 ghost use Rattle.mrc_model.specs.Map.{get};
 ghost use Rattle.mrc_model.specs.Reply.{Refs, Refused};
 ghost use Rattle.mrc_model.specs.CallNames.{call_get_refs};
+ghost use Rattle.mrc_machine.specs.Housing.{target_of};
 
 use crate::state::State;
 use mrc_base::{Right, TaskId};
@@ -15,18 +16,17 @@ impl State {
         &self,
         caller: TaskId,
         task: u32,
+        target: TaskId,
         name: u32,
         right: Right,
     ) -> Result<u32, Code>
-        requires { IsSome (get self.now.tasks caller) }
+        requires target { target_of self.now caller task ≡ Some target }
+        requires there { IsSome (get self.now.tasks target) }
         ensures ok { IfOk result
             (λ refs. call_get_refs self.now caller task name right ≡ Ok (self.now, Refs refs)) }
         ensures refused { IfErr result
             (λ code. call_get_refs self.now caller task name right ≡ Err (Refused code)) }
     {
-        let Some(target) = self.target(caller, task) else {
-            return Err(Code::KernInvalidTask);
-        };
         let Some(refs) = self.space(target).refs(name, right) else {
             return Err(Code::KernInvalidName);
         };

@@ -1,6 +1,6 @@
 //! Putting a right of the caller under a name of a task.
 
-ghost use Rattle.std.specs.Prelude.{◌≡◌, ◌||◌, Ok, OnOk, OnErr, IfOk, IfErr, IsSome};
+ghost use Rattle.std.specs.Prelude.{◌≡◌, ◌||◌, Some, Ok, OnOk, OnErr, IfOk, IfErr, IsSome};
 ghost use Rattle.mrc_model.specs.Map.{get};
 ghost use Rattle.mrc_model.specs.World.{space};
 ghost use Rattle.mrc_model.specs.Reply.{Done};
@@ -8,6 +8,7 @@ ghost use Rattle.mrc_model.specs.Target.{is_reserved};
 ghost use Rattle.mrc_model.specs.CallSend.{dead_taken, is_dead_taken};
 ghost use Rattle.mrc_model.specs.CallInsertRight.{call_insert_right};
 ghost use Rattle.mrc_names.specs.Refusals.{IsRefusal, Foretells};
+ghost use Rattle.mrc_machine.specs.Housing.{target_of};
 ghost use Rattle.mrc_machine.specs.Moves.{space_beside, second_space};
 
 use crate::state::State;
@@ -91,20 +92,20 @@ impl State {
         &mut self,
         caller: TaskId,
         task: u32,
+        target: TaskId,
         name: u32,
         right: u32,
         disp: Disp,
     ) -> Result<(), OrMemory<Code>>
-        requires { IsSome (get self.old.tasks caller) }
+        requires caller { IsSome (get self.old.tasks caller) }
+        requires target { target_of self.old caller task ≡ Some target }
+        requires there { IsSome (get self.old.tasks target) }
         ensures ok { OnOk result
             (call_insert_right self.old caller task name right disp ≡ Ok (self.new, Done)) }
         ensures refused { IfErr result
             (λ e. IsRefusal e (call_insert_right self.old caller task name right disp)) }
         ensures err { OnErr result (self.new ≡ self.old) }
     {
-        let Some(target) = self.target(caller, task) else {
-            return Err(OrMemory::Fault(Code::KernInvalidTask));
-        };
         if is_reserved(name) {
             return Err(OrMemory::Fault(Code::KernInvalidValue));
         }

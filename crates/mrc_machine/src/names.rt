@@ -1,10 +1,11 @@
 //! All names of a task.
 
-ghost use Rattle.std.specs.Prelude.{◌≡◌, Ok, IfOk, IfErr, IsSome};
+ghost use Rattle.std.specs.Prelude.{◌≡◌, Some, Ok, IfOk, IfErr, IsSome};
 ghost use Rattle.mrc_model.specs.Map.{get};
 ghost use Rattle.mrc_model.specs.Reply.{Names};
 ghost use Rattle.mrc_model.specs.CallNames.{call_names};
 ghost use Rattle.mrc_names.specs.Refusals.{IsRefusal};
+ghost use Rattle.mrc_machine.specs.Housing.{target_of};
 
 use crate::state::State;
 use mrc_base::{OrMemory, TaskId};
@@ -13,15 +14,18 @@ use mrc_names::Listing;
 
 impl State {
     /// All names of a task with their rights.
-    pub(crate) fn names(&self, caller: TaskId, task: u32) -> Result<Listing, OrMemory<Code>>
-        requires { IsSome (get self.now.tasks caller) }
+    pub(crate) fn names(
+        &self,
+        caller: TaskId,
+        task: u32,
+        target: TaskId,
+    ) -> Result<Listing, OrMemory<Code>>
+        requires target { target_of self.now caller task ≡ Some target }
+        requires there { IsSome (get self.now.tasks target) }
         ensures ok { IfOk result
             (λ names. call_names self.now caller task ≡ Ok (self.now, Names names)) }
         ensures refused { IfErr result (λ e. IsRefusal e (call_names self.now caller task)) }
     {
-        let Some(target) = self.target(caller, task) else {
-            return Err(OrMemory::Fault(Code::KernInvalidTask));
-        };
         let names = self.listing(target)?;
         Ok(names)
     }

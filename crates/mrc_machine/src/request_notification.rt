@@ -1,7 +1,7 @@
 //! Requests of port-destroyed notices.
 
 ghost use Rattle.std.specs.Prelude.{◌≡◌, ◌==◌, ◌&&◌, ◌||◌, false, Ok, Err, OnErr, IfOk, IfErr};
-ghost use Rattle.std.specs.Prelude.{IsSome, IsOk, option_map};
+ghost use Rattle.std.specs.Prelude.{Some, IsSome, IsOk, option_map};
 ghost use Rattle.mrc_model.specs.Map.{get};
 ghost use Rattle.mrc_model.specs.World.{Port as TPort, Space as TSpace, space, class_of};
 ghost use Rattle.mrc_model.specs.Space.{is_full};
@@ -11,6 +11,7 @@ ghost use Rattle.mrc_model.specs.CallRequestNotification.{is_notify_disp, is_liv
 ghost use Rattle.mrc_model.specs.CallRequestNotification.{call_request_notification};
 ghost use Rattle.mrc_wiring.specs.Table.{wiring_of};
 ghost use Rattle.mrc_machine.specs.Calls.{refusal_reply, IsRefusedBy};
+ghost use Rattle.mrc_machine.specs.Housing.{target_of};
 ghost use Rattle.mrc_machine.specs.Requests.{received_at, named_backup, request_left};
 ghost use Rattle.mrc_machine.specs.Requests.{given_backup};
 
@@ -188,13 +189,16 @@ impl State {
         wired: &Wired,
         caller: TaskId,
         task: u32,
+        target: TaskId,
         name: u32,
         id: u32,
         sync: u32,
         notify: u32,
         disp: Disp,
     ) -> Result<u32, OrMemory<Refusal>>
-        requires { IsSome (get self.old.tasks caller) }
+        requires caller { IsSome (get self.old.tasks caller) }
+        requires target { target_of self.old caller task ≡ Some target }
+        requires there { IsSome (get self.old.tasks target) }
         ensures ok { IfOk result (λ given. call_request_notification (wiring_of wired.now) self.old
             caller task name id sync notify disp ≡ Ok (self.new, Name given)) }
         ensures refused { IfErr result (λ e. IsRefusedBy e
@@ -202,9 +206,6 @@ impl State {
             caller task name id sync notify disp)) }
         ensures err { OnErr result (self.new ≡ self.old) }
     {
-        let Some(target) = self.target(caller, task) else {
-            return Err(OrMemory::Fault(Refusal::Refused(Code::KernInvalidTask)));
-        };
         if !is_request(id, sync, disp) {
             return Err(OrMemory::Fault(Refusal::Refused(Code::KernInvalidValue)));
         }

@@ -1,10 +1,11 @@
 //! How many messages a queue takes.
 
-ghost use Rattle.std.specs.Prelude.{◌≡◌, Ok, Err, OnOk, OnErr, IfErr, IsSome};
+ghost use Rattle.std.specs.Prelude.{◌≡◌, Some, Ok, Err, OnOk, OnErr, IfErr, IsSome};
 ghost use Rattle.mrc_model.specs.Map.{get};
 ghost use Rattle.mrc_model.specs.Reply.{Done, Refused};
 ghost use Rattle.mrc_model.specs.CallRequestNotification.{received_port};
 ghost use Rattle.mrc_model.specs.CallSetQlimit.{call_set_qlimit};
+ghost use Rattle.mrc_machine.specs.Housing.{target_of};
 
 use crate::state::State;
 use mrc_base::{PortId, TaskId, limits};
@@ -26,19 +27,18 @@ impl State {
         &mut self,
         caller: TaskId,
         task: u32,
+        target: TaskId,
         name: u32,
         limit: u32,
     ) -> Result<(), Code>
-        requires { IsSome (get self.old.tasks caller) }
+        requires target { target_of self.old caller task ≡ Some target }
+        requires there { IsSome (get self.old.tasks target) }
         ensures ok { OnOk result
             (call_set_qlimit self.old caller task name limit ≡ Ok (self.new, Done)) }
         ensures refused { IfErr result
             (λ code. call_set_qlimit self.old caller task name limit ≡ Err (Refused code)) }
         ensures err { OnErr result (self.new ≡ self.old) }
     {
-        let Some(target) = self.target(caller, task) else {
-            return Err(Code::KernInvalidTask);
-        };
         if limit > limits::QUEUE {
             return Err(Code::KernInvalidValue);
         }

@@ -1,12 +1,13 @@
 //! One call of a live task.
 
-ghost use Rattle.std.specs.Prelude.{◌≡◌, true, false, Ok, OnErr, IfOk, IfErr, IsSome};
+ghost use Rattle.std.specs.Prelude.{◌≡◌, true, false, Some, None, Ok, OnErr, IfOk, IfErr, IsSome};
 ghost use Rattle.mrc_model.specs.Map.{get};
 ghost use Rattle.mrc_model.specs.Step.{try_call};
 ghost use Rattle.mrc_wiring.specs.Table.{wiring_of};
 ghost use Rattle.mrc_names.specs.Refusals.{IsRefusal};
 ghost use Rattle.mrc_machine.specs.Calls.{call_of, reply_of, IsRefused, IsCoded};
-ghost use Rattle.mrc_machine.specs.Calls.{IsRefusalOf, is_asking, is_dropping};
+ghost use Rattle.mrc_machine.specs.Calls.{IsRefusalOf, task_name, target_of_call};
+ghost use Rattle.mrc_machine.specs.Calls.{is_asking, is_dropping};
 
 use crate::call::Call;
 use crate::refusal::{Refusal, refusal_of};
@@ -40,7 +41,8 @@ fn is_dropping(call: &Call) -> bool
 }
 
 impl State {
-    /// One call of a live task, or why it is refused.
+    /// One call of a live task, or why it is refused. The task that it acts on is found here and
+    /// nowhere else: the function of a call gets it as `target`, beside the caller's name for it.
     pub(crate) fn call(
         &mut self,
         wired: &Wired,
@@ -48,6 +50,49 @@ impl State {
         call: &Call,
     ) -> Result<Reply, OrMemory<Refusal>>
         requires { IsSome (get self.old.tasks caller) }
+        ensures ok { IfOk result (λ reply.
+            try_call (wiring_of wired.now) self.old caller (call_of call.now)
+            ≡ Ok (self.new, reply_of reply)) }
+        ensures told { IfOk result (λ reply. IsRefused reply → ⊥) }
+        ensures refused { IfErr result (λ fault. IsRefusalOf call.now fault
+            (try_call (wiring_of wired.now) self.old caller (call_of call.now))) }
+        ensures err { OnErr result (self.new ≡ self.old) }
+    {
+        let Some(task) = call.task_name() else {
+            return self.own_call(wired, caller, call);
+        };
+        let Some(target) = self.target(caller, task) else {
+            return Err(OrMemory::Fault(Refusal::Refused(call.bad_task())));
+        };
+        if let Call::RequestNotification {
+            task,
+            name,
+            id,
+            sync,
+            notify,
+            disp,
+        } = *call
+        {
+            let given = self.request_notification(
+                wired, caller, task, target, name, id, sync, notify, disp,
+            )?;
+            return Ok(Reply::Name(given));
+        }
+        match self.port_call(wired, caller, target, call) {
+            Ok(reply) => Ok(reply),
+            Err(fault) => Err(refusal_of(fault)),
+        }
+    }
+
+    /// One call of a live task that names no task: it acts on the caller's own names.
+    fn own_call(
+        &mut self,
+        wired: &Wired,
+        caller: TaskId,
+        call: &Call,
+    ) -> Result<Reply, OrMemory<Refusal>>
+        requires caller { IsSome (get self.old.tasks caller) }
+        requires own { task_name call.now ≡ None }
         ensures ok { IfOk result (λ reply.
             try_call (wiring_of wired.now) self.old caller (call_of call.now)
             ≡ Ok (self.new, reply_of reply)) }
@@ -64,24 +109,7 @@ impl State {
             let bytes = self.receive(caller, name, limit)?;
             return Ok(Reply::Message(bytes));
         }
-        if let Call::RequestNotification {
-            task,
-            name,
-            id,
-            sync,
-            notify,
-            disp,
-        } = *call
-        {
-            let given = self.request_notification(
-                wired, caller, task, name, id, sync, notify, disp,
-            )?;
-            return Ok(Reply::Name(given));
-        }
-        match self.port_call(wired, caller, call) {
-            Ok(reply) => Ok(reply),
-            Err(fault) => Err(refusal_of(fault)),
-        }
+        unreachable!()
     }
 
     /// One call of a live task that is refused by codes alone, or why it is refused.
@@ -89,9 +117,12 @@ impl State {
         &mut self,
         wired: &Wired,
         caller: TaskId,
+        target: TaskId,
         call: &Call,
     ) -> Result<Reply, OrMemory<Code>>
-        requires alive { IsSome (get self.old.tasks caller) }
+        requires caller { IsSome (get self.old.tasks caller) }
+        requires target { target_of_call self.old caller call.now ≡ Some target }
+        requires there { IsSome (get self.old.tasks target) }
         requires coded { IsCoded call.now }
         ensures ok { IfOk result (λ reply.
             try_call (wiring_of wired.now) self.old caller (call_of call.now)
@@ -102,11 +133,11 @@ impl State {
         ensures err { OnErr result (self.new ≡ self.old) }
     {
         if is_asking(call) {
-            self.asking_call(wired, caller, call)
+            self.asking_call(wired, caller, target, call)
         } else if is_dropping(call) {
-            self.dropping_call(wired, caller, call)
+            self.dropping_call(wired, caller, target, call)
         } else {
-            self.giving_call(wired, caller, call)
+            self.giving_call(wired, caller, target, call)
         }
     }
 
@@ -115,9 +146,11 @@ impl State {
         &mut self,
         wired: &Wired,
         caller: TaskId,
+        target: TaskId,
         call: &Call,
     ) -> Result<Reply, OrMemory<Code>>
-        requires alive { IsSome (get self.old.tasks caller) }
+        requires target { target_of_call self.old caller call.now ≡ Some target }
+        requires there { IsSome (get self.old.tasks target) }
         requires asking { is_asking call.now ≡ true }
         ensures ok { IfOk result (λ reply.
             try_call (wiring_of wired.now) self.old caller (call_of call.now)
@@ -129,17 +162,17 @@ impl State {
     {
         match *call {
             Call::GetRefs { task, name, right } => {
-                match self.get_refs(caller, task, name, right) {
+                match self.get_refs(caller, task, target, name, right) {
                     Ok(refs) => Ok(Reply::Refs(refs)),
                     Err(code) => Err(OrMemory::Fault(code)),
                 }
             }
-            Call::PortType { task, name } => match self.port_type(caller, task, name) {
+            Call::PortType { task, name } => match self.port_type(caller, task, target, name) {
                 Ok(rights) => Ok(Reply::Mask(rights.mask())),
                 Err(code) => Err(OrMemory::Fault(code)),
             },
             Call::Names { task } => {
-                let names = self.names(caller, task)?;
+                let names = self.names(caller, task, target)?;
                 Ok(Reply::Names(names))
             }
             _ => unreachable!(),
@@ -151,9 +184,11 @@ impl State {
         &mut self,
         wired: &Wired,
         caller: TaskId,
+        target: TaskId,
         call: &Call,
     ) -> Result<Reply, OrMemory<Code>>
-        requires alive { IsSome (get self.old.tasks caller) }
+        requires target { target_of_call self.old caller call.now ≡ Some target }
+        requires there { IsSome (get self.old.tasks target) }
         requires dropping { is_dropping call.now ≡ true }
         ensures ok { IfOk result (λ reply.
             try_call (wiring_of wired.now) self.old caller (call_of call.now)
@@ -164,15 +199,15 @@ impl State {
         ensures err { OnErr result (self.new ≡ self.old) }
     {
         match *call {
-            Call::Deallocate { task, name } => self.deallocate(caller, task, name)?,
-            Call::Destroy { task, name } => self.destroy_name(caller, task, name)?,
+            Call::Deallocate { task, name } => self.deallocate(caller, task, target, name)?,
+            Call::Destroy { task, name } => self.destroy_name(caller, task, target, name)?,
             Call::ModRefs {
                 task,
                 name,
                 right,
                 delta,
-            } => self.mod_refs(caller, task, name, right, delta)?,
-            Call::Terminate { task } => self.terminate(caller, task)?,
+            } => self.mod_refs(caller, task, target, name, right, delta)?,
+            Call::Terminate { task } => self.terminate(caller, task, target)?,
             _ => unreachable!(),
         }
         Ok(Reply::Done)
@@ -183,9 +218,12 @@ impl State {
         &mut self,
         wired: &Wired,
         caller: TaskId,
+        target: TaskId,
         call: &Call,
     ) -> Result<Reply, OrMemory<Code>>
-        requires alive { IsSome (get self.old.tasks caller) }
+        requires caller { IsSome (get self.old.tasks caller) }
+        requires target { target_of_call self.old caller call.now ≡ Some target }
+        requires there { IsSome (get self.old.tasks target) }
         requires coded { IsCoded call.now }
         requires asks_not { is_asking call.now ≡ false }
         requires drops_not { is_dropping call.now ≡ false }
@@ -199,7 +237,7 @@ impl State {
     {
         match *call {
             Call::Allocate { task, right, kind } => {
-                let name = self.allocate(wired, caller, task, right, kind)?;
+                let name = self.allocate(wired, caller, task, target, right, kind)?;
                 Ok(Reply::Name(name))
             }
             Call::InsertRight {
@@ -208,29 +246,29 @@ impl State {
                 right,
                 disp,
             } => {
-                self.insert_right(caller, task, name, right, disp)?;
+                self.insert_right(caller, task, target, name, right, disp)?;
                 Ok(Reply::Done)
             }
             Call::ExtractRight { task, name, disp } => {
-                let given = self.extract_right(caller, task, name, disp)?;
+                let given = self.extract_right(caller, task, target, name, disp)?;
                 Ok(Reply::Name(given))
             }
             Call::SetQlimit { task, name, limit } => {
-                match self.set_qlimit(caller, task, name, limit) {
+                match self.set_qlimit(caller, task, target, name, limit) {
                     Ok(()) => Ok(Reply::Done),
                     Err(code) => Err(OrMemory::Fault(code)),
                 }
             }
             Call::CreateTask { task } => {
-                let (child, name) = self.create_task(caller, task)?;
+                let (child, name) = self.create_task(caller, task, target)?;
                 Ok(Reply::Created { task: child, name })
             }
             Call::Rename { task, old, new } => {
-                self.rename(caller, task, old, new)?;
+                self.rename(caller, task, target, old, new)?;
                 Ok(Reply::Done)
             }
             Call::MoveMember { task, member, set } => {
-                match self.move_member(caller, task, member, set) {
+                match self.move_member(caller, task, target, member, set) {
                     Ok(()) => Ok(Reply::Done),
                     Err(code) => Err(OrMemory::Fault(code)),
                 }

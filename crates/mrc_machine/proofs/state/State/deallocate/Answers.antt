@@ -6,23 +6,18 @@ use Rattle.mrc_names.specs.Changes.{drop_reference}
 use Rattle.mrc_names.proofs.Granting.{wanting}
 use Rattle.mrc_machine.proofs.Trying.{err_bind, always}
 use Rattle.mrc_machine.proofs.AllocateLaws.{put_after}
-use Rattle.mrc_machine.proofs.DropLaws.{deallocate_no_task, deallocate_by_space, reference_stays}
+use Rattle.mrc_machine.proofs.DropLaws.{deallocate_by_space, reference_stays}
 use Rattle.mrc_machine.proofs.DropLaws.{on_drop, drop_done, drop_goes, stayed, undone}
 use Rattle.mrc_machine.proofs.state.State.deallocate.Goals as goal
-
-pub returns-in_default-clause-refused : goal.returns-in_default-clause-refused
-returns-in_default-clause-refused c =
-    deallocate_no_task c.args.self.now c.args.caller c.args.task c.args.name
-    (sym c.target.ensures.exact ∙ c.in_default.is)
 
 pub returns-in_err-finish_drop-in-Ok-clause-refused :
     goal.returns-in_err-finish_drop-in-Ok-clause-refused
 returns-in_err-finish_drop-in-Ok-clause-refused c =
     let w = c.args.self.now in
-    let u = c.in-Some.target in
+    let u = c.args.target in
     let x = c.take_space-space.result in
     let call = deallocate_by_space w c.args.caller c.args.task c.args.name u
-    (sym c.target.ensures.exact ∙ c.in-Some.is)
+    c.requires.target
     ∙ ap (λ (k : Space). drop_reference k c.args.name >>= on_drop w u c.args.name)
     (sym c.take_space-space.ensures.out) in
     let put = put_after w _ _ u _ c.drop_reference-answer.new.self c.take_space-space.ensures.left
@@ -36,10 +31,10 @@ returns-in_err-finish_drop-in-Ok-clause-refused c =
 pub returns-in_err-finish_drop-in-Ok-clause-err : goal.returns-in_err-finish_drop-in-Ok-clause-err
 returns-in_err-finish_drop-in-Ok-clause-err c =
     let w = c.args.self.now in
-    let u = c.in-Some.target in
+    let u = c.args.target in
     let x = c.take_space-space.result in
     let call = deallocate_by_space w c.args.caller c.args.task c.args.name u
-    (sym c.target.ensures.exact ∙ c.in-Some.is)
+    c.requires.target
     ∙ ap (λ (k : Space). drop_reference k c.args.name >>= on_drop w u c.args.name)
     (sym c.take_space-space.ensures.out) in
     let put = put_after w _ _ u _ c.drop_reference-answer.new.self c.take_space-space.ensures.left
@@ -56,10 +51,10 @@ returns-in_err-finish_drop-in-Ok-clause-err c =
 pub returns-in_ok-finish_drop-in-Ok-clause-ok : goal.returns-in_ok-finish_drop-in-Ok-clause-ok
 returns-in_ok-finish_drop-in-Ok-clause-ok c =
     let w = c.args.self.now in
-    let u = c.in-Some.target in
+    let u = c.args.target in
     let x = c.take_space-space.result in
     let call = deallocate_by_space w c.args.caller c.args.task c.args.name u
-    (sym c.target.ensures.exact ∙ c.in-Some.is)
+    c.requires.target
     ∙ ap (λ (k : Space). drop_reference k c.args.name >>= on_drop w u c.args.name)
     (sym c.take_space-space.ensures.out) in
     let put = put_after w _ _ u _ c.drop_reference-answer.new.self c.take_space-space.ensures.left
@@ -73,9 +68,9 @@ returns-in_ok-finish_drop-in-Ok-clause-ok c =
 pub returns-in-Err-clause-refused : goal.returns-in-Err-clause-refused
 returns-in-Err-clause-refused c =
     let w = c.args.self.now in
-    let u = c.in-Some.target in
+    let u = c.args.target in
     deallocate_by_space w c.args.caller c.args.task c.args.name u
-    (sym c.target.ensures.exact ∙ c.in-Some.is)
+    c.requires.target
     ∙ ap (λ (k : Space). drop_reference k c.args.name >>= on_drop w u c.args.name)
     (sym c.take_space-space.ensures.out)
     ∙ err_bind _ _ (Refused c.in-Err.code) c.in-Err.ensures.refused
@@ -83,7 +78,7 @@ returns-in-Err-clause-refused c =
 pub returns-in-Err-clause-err : goal.returns-in-Err-clause-err
 returns-in-Err-clause-err c =
     let w = c.args.self.now in
-    let u = c.in-Some.target in
+    let u = c.args.target in
     put_after w _ _ u _ c.drop_reference-answer.new.self c.take_space-space.ensures.left c.put_space.ensures
     ∙ ap (with_space w u) c.in-Err.ensures.err
     ∙ c.take_space-space.ensures.back

@@ -2,29 +2,24 @@ use Rattle.std.proofs.Common.{Ok, sym, ap, ◌∙◌}
 use Rattle.mrc_model.specs.Reply.{Done}
 use Rattle.mrc_model.specs.World.{World}
 use Rattle.mrc_names.proofs.Granting.{wanting}
-use Rattle.mrc_machine.proofs.DropLaws.{destroy_no_task, destroy_no_name, destroy_done}
+use Rattle.mrc_machine.proofs.DropLaws.{destroy_no_name, destroy_done}
 use Rattle.mrc_machine.proofs.DropLaws.{destroy_goes, no_some}
 use Rattle.mrc_machine.proofs.state.State.destroy_name.Goals as goal
 
-pub returns-in_default-clause-refused : goal.returns-in_default-clause-refused
-returns-in_default-clause-refused c =
-    destroy_no_task c.args.self.now c.args.caller c.args.task c.args.name
-    (sym c.target.ensures.exact ∙ c.in_default.is)
-
 pub returns-then-is_none-clause-refused : goal.returns-then-is_none-clause-refused
 returns-then-is_none-clause-refused c =
-    destroy_no_name c.args.self.now c.args.caller c.args.task c.args.name c.in-Some.task
-    (sym c.target.ensures.exact ∙ c.in-Some.is) _ c.space.ensures _ c.get.ensures
+    destroy_no_name c.args.self.now c.args.caller c.args.task c.args.name c.args.target
+    c.requires.target _ c.space.ensures _ c.get.ensures
     (no_some c.get.result c.if-is_none.ensures)
 
 pub returns-in_err-destroy-clause-refused : goal.returns-in_err-destroy-clause-refused
 returns-in_err-destroy-clause-refused c =
     wanting c.from_residual.result _ c.from_residual.ensures.1
-    (destroy_goes c.args.self.now c.args.caller c.args.task c.args.name c.in-Some.task
-    (sym c.target.ensures.exact ∙ c.in-Some.is) _ c.space.ensures _ c.get.ensures c.if-is_none.ensures)
+    (destroy_goes c.args.self.now c.args.caller c.args.task c.args.name c.args.target
+    c.requires.target _ c.space.ensures _ c.get.ensures c.if-is_none.ensures)
 
 pub returns-clause-ok : goal.returns-clause-ok
 returns-clause-ok c =
-    destroy_done c.args.self.now c.args.caller c.args.task c.args.name c.in-Some.task
-    (sym c.target.ensures.exact ∙ c.in-Some.is) _ c.space.ensures _ c.get.ensures c.if-is_none.ensures
+    destroy_done c.args.self.now c.args.caller c.args.task c.args.name c.args.target
+    c.requires.target _ c.space.ensures _ c.get.ensures c.if-is_none.ensures
     ∙ ap (λ (w : World). Ok (w, Done)) (sym c.in_ok-destroy.ensures.ok)

@@ -1,34 +1,29 @@
 use Rattle.std.proofs.Common.{sym, ◌∙◌}
 use Rattle.std.proofs.lemmas.Result.{err_from_is_err_and}
 use Rattle.mrc_model.specs.Reply.{Refused}
-use Rattle.mrc_machine.proofs.MoveLaws.{insert_no_task, insert_bad_name, insert_gives_none}
+use Rattle.mrc_machine.proofs.MoveLaws.{insert_bad_name, insert_gives_none}
 use Rattle.mrc_machine.proofs.MoveLaws.{insert_not_taken, insert_not_given, insert_given}
 use Rattle.mrc_machine.proofs.MoveLaws.{insert_foretold, insert_allowed}
 use Rattle.mrc_names.proofs.Granting.{wanting}
 use Rattle.mrc_machine.proofs.state.State.insert_right.Goals as goal
 
-pub returns-in_default-clause-refused : goal.returns-in_default-clause-refused
-returns-in_default-clause-refused c =
-    insert_no_task c.args.self.now c.args.caller c.args.task c.args.name c.args.right c.args.disp
-    (sym c.target.ensures.exact ∙ c.in_default.is)
-
 pub returns-then-is_reserved-clause-refused : goal.returns-then-is_reserved-clause-refused
 returns-then-is_reserved-clause-refused c =
     insert_bad_name c.args.self.now c.args.caller c.args.task c.args.name c.args.right c.args.disp
-    c.in-Some.target (sym c.target.ensures.exact ∙ c.in-Some.is) (sym c.is_reserved.ensures
+    c.args.target c.requires.target (sym c.is_reserved.ensures
     ∙ c.if-is_reserved.true)
 
 pub returns-then-gives_none-clause-refused : goal.returns-then-gives_none-clause-refused
 returns-then-gives_none-clause-refused c =
     insert_gives_none c.args.self.now c.args.caller c.args.task c.args.name c.args.right c.args.disp
-    c.in-Some.target (sym c.target.ensures.exact ∙ c.in-Some.is) (sym c.is_reserved.ensures
+    c.args.target c.requires.target (sym c.is_reserved.ensures
     ∙ c.if-is_reserved.false)
     (sym c.gives_none.ensures ∙ c.if-gives_none.true)
 
 pub returns-in-Err-clause-refused : goal.returns-in-Err-clause-refused
 returns-in-Err-clause-refused c =
     insert_foretold c.args.self.now c.args.caller c.args.task c.args.name c.args.right c.args.disp
-    c.in-Some.target (sym c.target.ensures.exact ∙ c.in-Some.is) (sym c.is_reserved.ensures
+    c.args.target c.requires.target (sym c.is_reserved.ensures
     ∙ c.if-is_reserved.false)
     (sym c.gives_none.ensures ∙ c.if-gives_none.false) (Refused c.in-Err.code) c.in-Err.ensures
 
@@ -36,22 +31,22 @@ pub returns-in_err-giver-clause-refused : goal.returns-in_err-giver-clause-refus
 returns-in_err-giver-clause-refused c =
     wanting c.from_residual.result _ c.from_residual.ensures.1
     (insert_allowed c.args.self.now c.args.caller c.args.task c.args.name c.args.right c.args.disp
-    c.in-Some.target (sym c.target.ensures.exact ∙ c.in-Some.is) (sym c.is_reserved.ensures
+    c.args.target c.requires.target (sym c.is_reserved.ensures
     ∙ c.if-is_reserved.false)
-    (sym c.gives_none.ensures ∙ c.if-gives_none.false) c.in_default-foretell_second.ensures)
+    (sym c.gives_none.ensures ∙ c.if-gives_none.false) c.in_default.ensures)
 
 pub returns-in_err-taker-clause-refused : goal.returns-in_err-taker-clause-refused
 returns-in_err-taker-clause-refused c =
     wanting c.from_residual-in_err-taker.result _ c.from_residual-in_err-taker.ensures.1
     (insert_allowed c.args.self.now c.args.caller c.args.task c.args.name c.args.right c.args.disp
-    c.in-Some.target (sym c.target.ensures.exact ∙ c.in-Some.is) (sym c.is_reserved.ensures
+    c.args.target c.requires.target (sym c.is_reserved.ensures
     ∙ c.if-is_reserved.false)
-    (sym c.gives_none.ensures ∙ c.if-gives_none.false) c.in_default-foretell_second.ensures)
+    (sym c.gives_none.ensures ∙ c.if-gives_none.false) c.in_default.ensures)
 
 pub returns-in-Err-take-clause-refused : goal.returns-in-Err-take-clause-refused
 returns-in-Err-take-clause-refused c =
     insert_not_taken c.args.self.now c.args.caller c.args.task c.args.name c.args.right c.args.disp
-    c.in-Some.target (sym c.target.ensures.exact ∙ c.in-Some.is) (sym c.is_reserved.ensures
+    c.args.target c.requires.target (sym c.is_reserved.ensures
     ∙ c.if-is_reserved.false)
     (sym c.gives_none.ensures ∙ c.if-gives_none.false) c.in_ok-giver.giver c.in_ok-giver.ensures
     (Refused c.in-Err-take.code) c.in-Err-take.ensures.refused
@@ -62,7 +57,7 @@ returns-in_err-insert_at-clause-refused c =
     c.from_residual-in_err-insert_at.ensures.1 in
     rw (p.1, p.2) (insert_not_given c.args.self.now c.args.caller c.args.task c.args.name
     c.args.right c.args.disp
-    c.in-Some.target (sym c.target.ensures.exact ∙ c.in-Some.is) (sym c.is_reserved.ensures
+    c.args.target c.requires.target (sym c.is_reserved.ensures
     ∙ c.if-is_reserved.false)
     (sym c.gives_none.ensures ∙ c.if-gives_none.false) c.in_ok-giver.giver c.in_ok-giver.ensures
     c.take.new.self
@@ -73,7 +68,7 @@ returns-in_err-insert_at-clause-refused c =
 pub returns-clause-ok : goal.returns-clause-ok
 returns-clause-ok c =
     insert_given c.args.self.now c.args.caller c.args.task c.args.name c.args.right c.args.disp
-    c.in-Some.target (sym c.target.ensures.exact ∙ c.in-Some.is) (sym c.is_reserved.ensures
+    c.args.target c.requires.target (sym c.is_reserved.ensures
     ∙ c.if-is_reserved.false)
     (sym c.gives_none.ensures ∙ c.if-gives_none.false) c.in_ok-giver.giver c.in_ok-giver.ensures
     c.take.new.self

@@ -7,23 +7,18 @@ use Rattle.mrc_names.specs.Changes.{drop_refs}
 use Rattle.mrc_names.proofs.Granting.{wanting}
 use Rattle.mrc_machine.proofs.Trying.{err_bind, always}
 use Rattle.mrc_machine.proofs.AllocateLaws.{put_after}
-use Rattle.mrc_machine.proofs.DropLaws.{mod_refs_no_task, mod_refs_by_space, refs_stay}
+use Rattle.mrc_machine.proofs.DropLaws.{mod_refs_by_space, refs_stay}
 use Rattle.mrc_machine.proofs.DropLaws.{on_drop, drop_done, drop_goes, stayed, undone}
 use Rattle.mrc_machine.proofs.state.State.mod_refs.Goals as goal
-
-pub returns-in_default-clause-refused : goal.returns-in_default-clause-refused
-returns-in_default-clause-refused c =
-    mod_refs_no_task c.args.self.now c.args.caller c.args.task c.args.name c.args.right c.args.delta
-    (sym c.target.ensures.exact ∙ c.in_default.is)
 
 pub returns-in_err-finish_drop-in-Ok-clause-refused :
     goal.returns-in_err-finish_drop-in-Ok-clause-refused
 returns-in_err-finish_drop-in-Ok-clause-refused c =
     let w = c.args.self.now in
-    let u = c.in-Some.target in
+    let u = c.args.target in
     let x = c.take_space-space.result in
     let call = mod_refs_by_space w c.args.caller c.args.task c.args.name u
-    (sym c.target.ensures.exact ∙ c.in-Some.is) c.args.right c.args.delta
+    c.requires.target c.args.right c.args.delta
     ∙ ap (λ (k : Space). drop_refs k c.args.name c.args.right c.args.delta >>= on_drop w u c.args.name)
     (sym c.take_space-space.ensures.out) in
     let told = ap (drop_refs x c.args.name c.args.right) (sym (to_z-of_z c.ranges.delta))
@@ -39,10 +34,10 @@ returns-in_err-finish_drop-in-Ok-clause-refused c =
 pub returns-in_err-finish_drop-in-Ok-clause-err : goal.returns-in_err-finish_drop-in-Ok-clause-err
 returns-in_err-finish_drop-in-Ok-clause-err c =
     let w = c.args.self.now in
-    let u = c.in-Some.target in
+    let u = c.args.target in
     let x = c.take_space-space.result in
     let call = mod_refs_by_space w c.args.caller c.args.task c.args.name u
-    (sym c.target.ensures.exact ∙ c.in-Some.is) c.args.right c.args.delta
+    c.requires.target c.args.right c.args.delta
     ∙ ap (λ (k : Space). drop_refs k c.args.name c.args.right c.args.delta >>= on_drop w u c.args.name)
     (sym c.take_space-space.ensures.out) in
     let told = ap (drop_refs x c.args.name c.args.right) (sym (to_z-of_z c.ranges.delta))
@@ -61,10 +56,10 @@ returns-in_err-finish_drop-in-Ok-clause-err c =
 pub returns-in_ok-finish_drop-in-Ok-clause-ok : goal.returns-in_ok-finish_drop-in-Ok-clause-ok
 returns-in_ok-finish_drop-in-Ok-clause-ok c =
     let w = c.args.self.now in
-    let u = c.in-Some.target in
+    let u = c.args.target in
     let x = c.take_space-space.result in
     let call = mod_refs_by_space w c.args.caller c.args.task c.args.name u
-    (sym c.target.ensures.exact ∙ c.in-Some.is) c.args.right c.args.delta
+    c.requires.target c.args.right c.args.delta
     ∙ ap (λ (k : Space). drop_refs k c.args.name c.args.right c.args.delta >>= on_drop w u c.args.name)
     (sym c.take_space-space.ensures.out) in
     let told = ap (drop_refs x c.args.name c.args.right) (sym (to_z-of_z c.ranges.delta))
@@ -80,9 +75,9 @@ returns-in_ok-finish_drop-in-Ok-clause-ok c =
 pub returns-in-Err-clause-refused : goal.returns-in-Err-clause-refused
 returns-in-Err-clause-refused c =
     let w = c.args.self.now in
-    let u = c.in-Some.target in
+    let u = c.args.target in
     mod_refs_by_space w c.args.caller c.args.task c.args.name u
-    (sym c.target.ensures.exact ∙ c.in-Some.is) c.args.right c.args.delta
+    c.requires.target c.args.right c.args.delta
     ∙ ap (λ (k : Space). drop_refs k c.args.name c.args.right c.args.delta >>= on_drop w u c.args.name)
     (sym c.take_space-space.ensures.out)
     ∙ err_bind _ _ (Refused c.in-Err.code)
@@ -92,7 +87,7 @@ returns-in-Err-clause-refused c =
 pub returns-in-Err-clause-err : goal.returns-in-Err-clause-err
 returns-in-Err-clause-err c =
     let w = c.args.self.now in
-    let u = c.in-Some.target in
+    let u = c.args.target in
     put_after w _ _ u _ c.drop_refs-answer.new.self c.take_space-space.ensures.left c.put_space.ensures
     ∙ ap (with_space w u) c.in-Err.ensures.err
     ∙ c.take_space-space.ensures.back

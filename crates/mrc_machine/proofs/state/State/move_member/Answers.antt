@@ -6,21 +6,16 @@ use Rattle.mrc_names.specs.Changes.{move_member}
 use Rattle.mrc_machine.proofs.Trying.{goes_on, is_refused_by, seen_as, on_err}
 use Rattle.mrc_machine.proofs.AllocateLaws.{put_after}
 use Rattle.mrc_machine.proofs.RenameLaws.{on_renamed}
-use Rattle.mrc_machine.proofs.MoveMemberLaws.{member_no_task, move_by_space}
+use Rattle.mrc_machine.proofs.MoveMemberLaws.{move_by_space}
 use Rattle.mrc_machine.proofs.state.State.move_member.Goals as goal
-
-pub returns-in_default-clause-refused : goal.returns-in_default-clause-refused
-returns-in_default-clause-refused c =
-    member_no_task c.args.self.now c.args.caller c.args.task c.args.member c.args.set
-    (sym c.target.ensures.exact ∙ c.in_default.is)
 
 pub returns-clause-ok : goal.returns-clause-ok
 returns-clause-ok c =
     let w = c.args.self.now in
-    let u = c.in-Some.target in
+    let u = c.args.target in
     let y = c.move_member-moved.new.self in
     let call = move_by_space w c.args.caller c.args.task c.args.member c.args.set u
-    (sym c.target.ensures.exact ∙ c.in-Some.is)
+    c.requires.target
     ∙ ap (λ (x : Space). move_member x c.args.member c.args.set >>= on_renamed w u)
     (sym c.take_space-space.ensures.out) in
     let put = put_after w _ _ u _ y c.take_space-space.ensures.left c.put_space.ensures in
@@ -30,9 +25,9 @@ returns-clause-ok c =
 pub returns-clause-refused : goal.returns-clause-refused
 returns-clause-refused c =
     let w = c.args.self.now in
-    let u = c.in-Some.target in
+    let u = c.args.target in
     let call = move_by_space w c.args.caller c.args.task c.args.member c.args.set u
-    (sym c.target.ensures.exact ∙ c.in-Some.is)
+    c.requires.target
     ∙ ap (λ (x : Space). move_member x c.args.member c.args.set >>= on_renamed w u)
     (sym c.take_space-space.ensures.out) in
     is_refused_by c.move_member-moved.result _ _ _ call c.move_member-moved.ensures.refused
@@ -40,7 +35,7 @@ returns-clause-refused c =
 pub returns-clause-err : goal.returns-clause-err
 returns-clause-err c =
     let w = c.args.self.now in
-    let u = c.in-Some.target in
+    let u = c.args.target in
     let put = put_after w _ _ u _ c.move_member-moved.new.self c.take_space-space.ensures.left
     c.put_space.ensures in
     on_err c.move_member-moved.result _ _

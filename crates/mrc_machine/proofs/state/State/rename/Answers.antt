@@ -5,21 +5,16 @@ use Rattle.mrc_model.specs.Target.{with_space}
 use Rattle.mrc_names.specs.Takes.{rename_entry}
 use Rattle.mrc_machine.proofs.Trying.{goes_on, is_refused, seen_as, on_err}
 use Rattle.mrc_machine.proofs.AllocateLaws.{put_after}
-use Rattle.mrc_machine.proofs.RenameLaws.{rename_no_task, rename_by_space, on_renamed}
+use Rattle.mrc_machine.proofs.RenameLaws.{rename_by_space, on_renamed}
 use Rattle.mrc_machine.proofs.state.State.rename.Goals as goal
-
-pub returns-in_default-clause-refused : goal.returns-in_default-clause-refused
-returns-in_default-clause-refused c =
-    rename_no_task c.args.self.now c.args.caller c.args.task c.args.old c.args.new
-    (sym c.target.ensures.exact ∙ c.in_default.is)
 
 pub returns-clause-ok : goal.returns-clause-ok
 returns-clause-ok c =
     let w = c.args.self.now in
-    let u = c.in-Some.target in
+    let u = c.args.target in
     let y = c.rename-renamed.new.self in
     let call = rename_by_space w c.args.caller c.args.task c.args.old c.args.new u
-    (sym c.target.ensures.exact ∙ c.in-Some.is)
+    c.requires.target
     ∙ ap (λ (x : Space). rename_entry x c.args.old c.args.new >>= on_renamed w u)
     (sym c.take_space-space.ensures.out) in
     let put = put_after w _ _ u _ y c.take_space-space.ensures.left c.put_space.ensures in
@@ -29,9 +24,9 @@ returns-clause-ok c =
 pub returns-clause-refused : goal.returns-clause-refused
 returns-clause-refused c =
     let w = c.args.self.now in
-    let u = c.in-Some.target in
+    let u = c.args.target in
     let call = rename_by_space w c.args.caller c.args.task c.args.old c.args.new u
-    (sym c.target.ensures.exact ∙ c.in-Some.is)
+    c.requires.target
     ∙ ap (λ (x : Space). rename_entry x c.args.old c.args.new >>= on_renamed w u)
     (sym c.take_space-space.ensures.out) in
     is_refused c.rename-renamed.result _ _ _ (λ y. refl) call c.rename-renamed.ensures.refused
@@ -39,7 +34,7 @@ returns-clause-refused c =
 pub returns-clause-err : goal.returns-clause-err
 returns-clause-err c =
     let w = c.args.self.now in
-    let u = c.in-Some.target in
+    let u = c.args.target in
     let put = put_after w _ _ u _ c.rename-renamed.new.self c.take_space-space.ensures.left
     c.put_space.ensures in
     on_err c.rename-renamed.result _ _

@@ -8,26 +8,19 @@ use Rattle.mrc_names.proofs.Granting.{granted}
 use Rattle.mrc_machine.specs.Calls.{refusal_reply}
 use Rattle.mrc_machine.specs.Requests.{given_backup}
 use Rattle.mrc_machine.proofs.Trying.{wanting_by}
-use Rattle.mrc_machine.proofs.RequestLaws.{request_no_task, request_no_kind, request_no_name}
+use Rattle.mrc_machine.proofs.RequestLaws.{request_no_kind, request_no_name}
 use Rattle.mrc_machine.proofs.RequestLaws.{request_no_backup, request_no_port, request_full}
 use Rattle.mrc_machine.proofs.RequestLaws.{request_goes, request_done, request_stored}
 use Rattle.mrc_machine.proofs.RequestLaws.{left_there, port_there, port_gone}
 use Rattle.mrc_machine.proofs.state.State.request_notification.Goals as goal
-
-pub returns-in_default-clause-refused : goal.returns-in_default-clause-refused
-returns-in_default-clause-refused c =
-    let W = wiring_of c.args.wired.now in
-    let w = c.args.self.now in
-    request_no_task W w c.args.caller c.args.task c.args.name c.args.id c.args.sync c.args.notify c.args.disp
-    (sym c.target.ensures.exact ∙ c.in_default.is)
 
 pub returns-then-not-is_request-clause-refused : goal.returns-then-not-is_request-clause-refused
 returns-then-not-is_request-clause-refused c =
     let W = wiring_of c.args.wired.now in
     let w = c.args.self.now in
     request_no_kind W w c.args.caller c.args.task c.args.name c.args.id c.args.sync c.args.notify c.args.disp
-    c.in-Some.target
-    (sym c.target.ensures.exact ∙ c.in-Some.is)
+    c.args.target
+    c.requires.target
     (sym c.is_request.ensures ∙ c.if-not-is_request.true)
 
 pub returns-in-Err-clause-refused : goal.returns-in-Err-clause-refused
@@ -35,8 +28,8 @@ returns-in-Err-clause-refused c =
     let W = wiring_of c.args.wired.now in
     let w = c.args.self.now in
     request_no_name W w c.args.caller c.args.task c.args.name c.args.id c.args.sync c.args.notify c.args.disp
-    c.in-Some.target
-    (sym c.target.ensures.exact ∙ c.in-Some.is)
+    c.args.target
+    c.requires.target
     (sym c.is_request.ensures ∙ c.if-not-is_request.false) (Refused c.in-Err.code)
     c.in-Err.ensures.refused
 
@@ -45,25 +38,25 @@ returns-in-Err-named_backup-clause-refused c =
     let W = wiring_of c.args.wired.now in
     let w = c.args.self.now in
     request_no_backup W w c.args.caller c.args.task c.args.name c.args.id c.args.sync c.args.notify c.args.disp
-    c.in-Some.target
-    (sym c.target.ensures.exact ∙ c.in-Some.is)
+    c.args.target
+    c.requires.target
     (sym c.is_request.ensures ∙ c.if-not-is_request.false)
     c.in-Ok.port c.in-Ok.ensures.ok c.housing.ensures.kept
     (refusal_reply c.in-Err-named_backup.refusal) c.in-Err-named_backup.ensures.refused
 
-pub returns-in_default-backup_of-clause-refused : goal.returns-in_default-backup_of-clause-refused
-returns-in_default-backup_of-clause-refused c =
+pub returns-in_default-clause-refused : goal.returns-in_default-clause-refused
+returns-in_default-clause-refused c =
     let W = wiring_of c.args.wired.now in
     let w = c.args.self.now in
     let (a, left) = left_there W w.store c.args.caller c.args.notify c.args.disp
     c.in-Ok-named_backup.backup c.in-Ok-named_backup.ensures.ok in
     request_no_port W w c.args.caller c.args.task c.args.name c.args.id c.args.sync c.args.notify c.args.disp
-    c.in-Some.target
-    (sym c.target.ensures.exact ∙ c.in-Some.is)
+    c.args.target
+    c.requires.target
     (sym c.is_request.ensures ∙ c.if-not-is_request.false)
     c.in-Ok.port c.in-Ok.ensures.ok c.housing.ensures.kept
     c.in-Ok-named_backup.backup c.in-Ok-named_backup.ensures.ok a left
-    (port_gone w.store c.in-Ok.port (sym c.backup_of.ensures ∙ c.in_default-backup_of.is))
+    (port_gone w.store c.in-Ok.port (sym c.backup_of.ensures ∙ c.in_default.is))
 
 pub returns-then-lacks_room-clause-refused : goal.returns-then-lacks_room-clause-refused
 returns-then-lacks_room-clause-refused c =
@@ -71,11 +64,11 @@ returns-then-lacks_room-clause-refused c =
     let w = c.args.self.now in
     let (a, left) = left_there W w.store c.args.caller c.args.notify c.args.disp
     c.in-Ok-named_backup.backup c.in-Ok-named_backup.ensures.ok in
-    let (y, there, same) = port_there w.store c.in-Ok.port c.in-Some-backup_of.previous
-    (sym c.backup_of.ensures ∙ c.in-Some-backup_of.is) in
+    let (y, there, same) = port_there w.store c.in-Ok.port c.in-Some.previous
+    (sym c.backup_of.ensures ∙ c.in-Some.is) in
     request_full W w c.args.caller c.args.task c.args.name c.args.id c.args.sync c.args.notify c.args.disp
-    c.in-Some.target
-    (sym c.target.ensures.exact ∙ c.in-Some.is)
+    c.args.target
+    c.requires.target
     (sym c.is_request.ensures ∙ c.if-not-is_request.false)
     c.in-Ok.port c.in-Ok.ensures.ok c.housing.ensures.kept
     c.in-Ok-named_backup.backup c.in-Ok-named_backup.ensures.ok a left y there
@@ -88,12 +81,12 @@ returns-in_err-space-clause-refused c =
     let w = c.args.self.now in
     let (a, left) = left_there W w.store c.args.caller c.args.notify c.args.disp
     c.in-Ok-named_backup.backup c.in-Ok-named_backup.ensures.ok in
-    let (y, there, same) = port_there w.store c.in-Ok.port c.in-Some-backup_of.previous
-    (sym c.backup_of.ensures ∙ c.in-Some-backup_of.is) in
+    let (y, there, same) = port_there w.store c.in-Ok.port c.in-Some.previous
+    (sym c.backup_of.ensures ∙ c.in-Some.is) in
     wanting_by c.from_residual.result _ c.from_residual.ensures.1
     (request_goes W w c.args.caller c.args.task c.args.name c.args.id c.args.sync c.args.notify c.args.disp
-    c.in-Some.target
-    (sym c.target.ensures.exact ∙ c.in-Some.is)
+    c.args.target
+    c.requires.target
     (sym c.is_request.ensures ∙ c.if-not-is_request.false)
     c.in-Ok.port c.in-Ok.ensures.ok c.housing.ensures.kept
     c.in-Ok-named_backup.backup c.in-Ok-named_backup.ensures.ok a left y there
@@ -106,13 +99,13 @@ returns-in_err-given-clause-refused c =
     let w = c.args.self.now in
     let (a, left) = left_there W w.store c.args.caller c.args.notify c.args.disp
     c.in-Ok-named_backup.backup c.in-Ok-named_backup.ensures.ok in
-    let (y, there, same) = port_there w.store c.in-Ok.port c.in-Some-backup_of.previous
-    (sym c.backup_of.ensures ∙ c.in-Some-backup_of.is) in
+    let (y, there, same) = port_there w.store c.in-Ok.port c.in-Some.previous
+    (sym c.backup_of.ensures ∙ c.in-Some.is) in
     wanting_by c.from_residual-in_err-given.result _
     c.from_residual-in_err-given.ensures.1
     (request_goes W w c.args.caller c.args.task c.args.name c.args.id c.args.sync c.args.notify c.args.disp
-    c.in-Some.target
-    (sym c.target.ensures.exact ∙ c.in-Some.is)
+    c.args.target
+    c.requires.target
     (sym c.is_request.ensures ∙ c.if-not-is_request.false)
     c.in-Ok.port c.in-Ok.ensures.ok c.housing.ensures.kept
     c.in-Ok-named_backup.backup c.in-Ok-named_backup.ensures.ok a left y there
@@ -125,11 +118,11 @@ returns-clause-ok c =
     let w = c.args.self.now in
     let a = c.in_ok-space.space in
     let left = c.in_ok-space.ensures in
-    let (y, there, same) = port_there w.store c.in-Ok.port c.in-Some-backup_of.previous
-    (sym c.backup_of.ensures ∙ c.in-Some-backup_of.is) in
+    let (y, there, same) = port_there w.store c.in-Ok.port c.in-Some.previous
+    (sym c.backup_of.ensures ∙ c.in-Some.is) in
     request_done W w c.args.caller c.args.task c.args.name c.args.id c.args.sync c.args.notify c.args.disp
-    c.in-Some.target
-    (sym c.target.ensures.exact ∙ c.in-Some.is)
+    c.args.target
+    c.requires.target
     (sym c.is_request.ensures ∙ c.if-not-is_request.false)
     c.in-Ok.port c.in-Ok.ensures.ok c.housing.ensures.kept
     c.in-Ok-named_backup.backup c.in-Ok-named_backup.ensures.ok a left y there

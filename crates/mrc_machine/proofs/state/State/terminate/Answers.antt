@@ -1,21 +1,15 @@
-use Rattle.std.proofs.Common.{sym, ◌∙◌}
 use Rattle.mrc_names.proofs.Granting.{wanting}
-use Rattle.mrc_machine.proofs.TerminateLaws.{terminate_no_task, terminate_done, terminate_goes}
+use Rattle.mrc_machine.proofs.TerminateLaws.{terminate_done, terminate_goes}
 use Rattle.mrc_machine.proofs.state.State.terminate.Goals as goal
-
-pub returns-in_default-clause-refused : goal.returns-in_default-clause-refused
-returns-in_default-clause-refused c =
-    terminate_no_task c.args.self.now c.args.caller c.args.task
-    (sym c.target.ensures.exact ∙ c.in_default.is)
 
 pub returns-in_err-destroy-clause-refused : goal.returns-in_err-destroy-clause-refused
 returns-in_err-destroy-clause-refused c =
     wanting c.from_residual.result _ c.from_residual.ensures.1
-    (terminate_goes c.args.self.now c.args.caller c.args.task c.in-Some.task
-    c.kernel-kernel.result (sym c.target.ensures.exact ∙ c.in-Some.is) c.kernel-kernel.ensures)
+    (terminate_goes c.args.self.now c.args.caller c.args.task c.args.target
+    c.kernel-kernel.result c.requires.target c.kernel-kernel.ensures)
 
 pub returns-clause-ok : goal.returns-clause-ok
 returns-clause-ok c =
-    terminate_done c.args.self.now c.args.caller c.args.task c.in-Some.task
-    c.kernel-kernel.result (sym c.target.ensures.exact ∙ c.in-Some.is) c.kernel-kernel.ensures _ _
+    terminate_done c.args.self.now c.args.caller c.args.task c.args.target
+    c.kernel-kernel.result c.requires.target c.kernel-kernel.ensures _ _
     c.in_ok-destroy.ensures.ok c.end.ensures

@@ -1,0 +1,10 @@
+use Rattle.std.proofs.Common.{sym, ◌∙◌}
+use Rattle.mrc_wiring.specs.Table.{wiring_of}
+use Rattle.mrc_machine.proofs.BadTaskLaws.{call_no_task}
+use Rattle.mrc_machine.proofs.state.State.call.Goals as goal
+
+pub returns-in_default-target-clause-refused : goal.returns-in_default-target-clause-refused
+returns-in_default-target-clause-refused c =
+    call_no_task (wiring_of c.args.wired.now) c.args.self.now c.args.caller c.in-Some.task
+    c.args.call.now c.bad_task.result (sym c.task_name.ensures ∙ c.in-Some.is)
+    (sym c.target.ensures.exact ∙ c.in_default-target.is) c.bad_task.ensures
