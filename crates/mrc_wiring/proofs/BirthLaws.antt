@@ -1,10 +1,10 @@
 -- The births of tasks by their kinds: which class is whose, how many there are, and one more row.
-use Rattle.std.proofs.Common.{◌≡◌, ℕ, zero, suc, ◌+◌, ◌-◌, ◌*◌, ◌<◌, ◌≤◌, Bool, true, false, cond}
+use Rattle.std.proofs.Common.{◌≡◌, ℕ, zero, suc, ◌+◌, ◌*◌, ◌<◌, ◌≤◌, Bool, true, false, cond}
 use Rattle.std.proofs.Common.{List, [], ◌∷◌, ◌++◌, length, map, Option, Some, None, refl, ap, sym}
 use Rattle.std.proofs.Common.{◌∙◌}
-use Rattle.std.proofs.Common.{arith, inl, inr, subst, take, drop, set, ◌&&◌, ◌||◌, ◌==◌, not, eqb}
+use Rattle.std.proofs.Common.{arith, inl, inr, subst, set, ◌&&◌, ◌||◌, ◌==◌, not}
 use Rattle.std.proofs.Common.{ltb, ◌⊎◌}
-use Rattle.std.specs.Prelude.{slice_get, position, IsTrue, nat_lt, if◌then◌else◌, is_some}
+use Rattle.std.specs.Prelude.{slice_get, position, IsTrue, nat_lt}
 use Rattle.std.specs.List.{list_any, AllByRecursion, position_or_len, insert}
 use Rattle.std.specs.Option.{option_map}
 use Rattle.std.proofs.lemmas.Bool.{cases_Bool, and_parts, and_from, eqb-true, eqb-false, eq-eqb}
@@ -13,11 +13,10 @@ use Rattle.std.proofs.lemmas.Option.{none-some, same_Some}
 use Rattle.std.proofs.lemmas.List.Folds.{list_any-append}
 use Rattle.mrc_model.specs.declared.LabelItem.{LabelItem}
 use Rattle.mrc_model.specs.Wiring.{births_from, births_class}
-use Rattle.mrc_base.specs.Limits.{limit_of_kinds}
 use Rattle.mrc_wiring.specs.declared.births.BirthRow.{BirthRow}
-use Rattle.mrc_wiring.specs.Births.{is_row, comes_before, is_said, has_row, new_row, said_row}
+use Rattle.mrc_wiring.specs.Births.{is_row, comes_before, has_row, new_row, said_row}
 use Rattle.mrc_wiring.specs.Births.{put_row, pair_of, AreAscending}
-use Rattle.mrc_wiring.specs.RowPlaces.{place_of, is_there, stands_at}
+use Rattle.mrc_wiring.specs.RowPlaces.{place_of, stands_at}
 use Rattle.mrc_wiring.specs.Births.{AreBirths, AreKinds}
 use Rattle.mrc_wiring.specs.declared.names.ClassKind.{ClassKind}
 use Rattle.mrc_wiring.specs.declared.names.ClassKind.TheVariants.{Births}

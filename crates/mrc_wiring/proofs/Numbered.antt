@@ -1,20 +1,18 @@
 -- Classes of births are numbered without a gap, each once, by task and then by kind.
-use Rattle.std.proofs.Common.{◌≡◌, ℕ, zero, suc, ◌+◌, ◌-◌, ◌<◌, ◌≤◌, ◌||◌, ◌==◌, Bool, true, false}
-use Rattle.std.proofs.Common.{List, [], ◌∷◌, length, map, Option, Some, None, refl, ap, sym, ◌∙◌}
+use Rattle.std.proofs.Common.{◌≡◌, ℕ, zero, suc, ◌+◌, ◌-◌, ◌<◌, ◌≤◌, ◌||◌, ◌==◌, true}
+use Rattle.std.proofs.Common.{List, [], ◌∷◌, length, map, Option, Some, refl, ap, sym, ◌∙◌}
 use Rattle.std.proofs.Common.{arith, inl, inr, subst}
-use Rattle.std.specs.Prelude.{slice_get, position, IsTrue, is_some}
+use Rattle.std.specs.Prelude.{slice_get, IsTrue, is_some}
 use Rattle.std.specs.List.{AllByRecursion}
 use Rattle.std.specs.Option.{option_map}
 use Rattle.std.proofs.lemmas.Bool.{cases_Bool, and_parts, eqb-true, false≢true, cases_lt}
 use Rattle.std.proofs.lemmas.List.{length-map}
 use Rattle.std.proofs.lemmas.Option.{none-some, same_Some, slice_get_within}
-use Rattle.mrc_model.specs.Wiring.{births_from, births_class, classes}
+use Rattle.mrc_model.specs.Wiring.{births_from}
 use Rattle.mrc_wiring.specs.declared.births.BirthRow.{BirthRow}
 use Rattle.mrc_wiring.specs.Births.{is_row, has_row, pair_of, AreAscending}
-use Rattle.mrc_wiring.specs.RowPlaces.{place_of, stands_at}
 use Rattle.mrc_wiring.specs.Births.{AreBirths}
-use Rattle.mrc_wiring.specs.Table.{Table, IsTable, wiring_of}
-use Rattle.mrc_wiring.specs.ClassNumbers.{IsEarlier, AreNumbered, BirthsAreNumbered}
+use Rattle.mrc_wiring.specs.ClassNumbers.{IsEarlier, BirthsAreNumbered}
 use Rattle.mrc_wiring.proofs.BirthLaws.{IsBefore, before_is, births_are, births_at, births_found}
 use Rattle.mrc_wiring.proofs.BirthLaws.{each_get}
 use Rattle.mrc_wiring.proofs.RowPlaces.{has_placed, position_placed}

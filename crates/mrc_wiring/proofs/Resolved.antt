@@ -1,18 +1,18 @@
 -- What lines mean over interfaces is a table that lines can mean.
-use Rattle.std.proofs.Common.{◌≡◌, ℕ, ◌<◌, ◌≤◌, Bool, false, List, [], ◌∷◌, length}
-use Rattle.std.proofs.Common.{Option, Some, None, Result, Ok, Err, refl, ap, sym, subst, ◌∙◌}
+use Rattle.std.proofs.Common.{◌≡◌, ℕ, ◌<◌, false, List, [], ◌∷◌, length}
+use Rattle.std.proofs.Common.{Option, Some, Ok, refl, ap, subst}
 use Rattle.std.proofs.Common.{arith, nat_lt, nat_le}
 use Rattle.std.specs.Prelude.{is_some, position, slice_get}
 use Rattle.std.specs.Option.{ok_or}
 use Rattle.std.proofs.lemmas.Bool.{leb-false, ltb-false}
 use Rattle.mrc_base.specs.Limits.{limit_of_tasks, limit_of_wired_ports, limit_of_names}
 use Rattle.mrc_base.specs.declared.PortRight.{PortRight}
-use Rattle.mrc_base.specs.declared.PortRight.TheVariants.{Send, Receive}
+use Rattle.mrc_base.specs.declared.PortRight.TheVariants.{Send}
 use Rattle.mrc_base.proofs.Steps.{bind_ok, not_stopped, ok_or_is, ok_is}
 use Rattle.mrc_model.specs.declared.LabelItem.{LabelItem}
 use Rattle.mrc_model.specs.declared.FirstLine.TheVariants.{Hold as HoldLine}
 use Rattle.mrc_model.specs.Rights.{is_receive}
-use Rattle.mrc_model.specs.FirstHoldings.{line_holdings, names_given}
+use Rattle.mrc_model.specs.FirstHoldings.{names_given}
 use Rattle.mrc_interface.specs.Tables.{Table as Interface}
 use Rattle.mrc_wiring_text.specs.declared.reading.Line.{Line}
 use Rattle.mrc_wiring_text.specs.declared.policy.ClassName.{ClassName}
@@ -36,7 +36,7 @@ use Rattle.mrc_wiring.specs.Resolving.{add_births, place_hold, right_held, port_
 use Rattle.mrc_wiring.specs.Resolving.{add_hold_port, add_hold_task, admitted_said, add_admit}
 use Rattle.mrc_wiring.specs.Resolving.{add_line, add_lines, empty_table, has_twice, started}
 use Rattle.mrc_wiring.specs.Resolving.{resolved}
-use Rattle.mrc_wiring.specs.State.{held_more, next_birth}
+use Rattle.mrc_wiring.specs.State.{next_birth}
 use Rattle.mrc_wiring.proofs.Lines.{holdings_port, holdings_hold, kernel_below, wired_below}
 use Rattle.mrc_wiring.proofs.NameLemmas.{named_at, read_within}
 use Rattle.mrc_wiring.proofs.TableLemmas.{next_is, and_then_is, task_table, port_table, hold_table}

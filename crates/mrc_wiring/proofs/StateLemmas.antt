@@ -1,22 +1,18 @@
 -- What is kept beside the table stays what the table's lines say, with one more line.
-use Rattle.std.proofs.Common.{◌≡◌, inl, inr, ℕ, ◌+◌, ◌<◌, ◌≤◌, Bool, true, false, List, []}
-use Rattle.std.proofs.Common.{◌∷◌, ◌++◌, length, Option, Some, None, refl, ap, sym, subst, ◌∙◌}
+use Rattle.std.proofs.Common.{◌≡◌, ℕ, ◌<◌, ◌≤◌, Bool, true, false, List, []}
+use Rattle.std.proofs.Common.{◌∷◌, ◌++◌, length, Some, refl, ap, sym, subst, ◌∙◌}
 use Rattle.std.proofs.Common.{arith}
-use Rattle.std.proofs.Common.{IsTrue, length-append, append-nil, length-set, is_some, ◌||◌}
-use Rattle.std.proofs.Common.{not}
+use Rattle.std.proofs.Common.{IsTrue, append-nil, is_some}
 use Rattle.std.proofs.Common.{Ok, Err, nat_le, if◌then◌else◌}
-use Rattle.std.specs.Prelude.{slice_index, slice_get, option_and_then}
+use Rattle.std.specs.Prelude.{slice_index, slice_get}
 use Rattle.std.proofs.lemmas.Bool.{lt-ltb, le-ltb}
-use Rattle.std.specs.List.{list_any}
 use Rattle.mrc_base.specs.declared.PortRight.{PortRight}
 use Rattle.mrc_base.specs.declared.PortRight.TheVariants.{Send, Receive}
 use Rattle.mrc_model.specs.declared.LabelItem.{LabelItem}
 use Rattle.mrc_model.specs.declared.FirstLine.TheVariants.{Task as TaskLine, Port as PortLine}
 use Rattle.mrc_model.specs.declared.FirstLine.TheVariants.{Hold as HoldLine}
-use Rattle.mrc_model.specs.Rights.{is_receive, is_once}
-use Rattle.mrc_model.specs.Breach.{Holding}
-use Rattle.mrc_model.specs.FirstHoldings.{line_holdings, line_births, names_given, one_if}
-use Rattle.mrc_model.specs.FirstHoldings.{is_named}
+use Rattle.mrc_model.specs.Rights.{is_receive}
+use Rattle.mrc_model.specs.FirstHoldings.{line_holdings, names_given}
 use Rattle.mrc_interface.specs.Tables.{Table as Interface}
 use Rattle.mrc_wiring_text.specs.Names.{is_name}
 use Rattle.mrc_wiring.specs.declared.table.AdmitLine.{AdmitLine}
@@ -26,7 +22,7 @@ use Rattle.mrc_wiring.specs.declared.faults.ResolveFault.TheVariants.{TooManyNam
 use Rattle.mrc_wiring.specs.Labels.{clash_among}
 use Rattle.mrc_wiring.specs.declared.births.BirthRow.{BirthRow}
 use Rattle.mrc_wiring.specs.Births.{put_row}
-use Rattle.mrc_wiring.specs.Table.{Table, IsTable, kernel_births}
+use Rattle.mrc_wiring.specs.Table.{Table, kernel_births}
 use Rattle.mrc_wiring.specs.Table.{port_births}
 use Rattle.mrc_wiring.specs.Names.{number_of}
 use Rattle.mrc_wiring.specs.Resolving.{with_births, with_admit, empty_table, with_line, with_port}
@@ -36,7 +32,7 @@ use Rattle.mrc_wiring.specs.State.{state_with_task, state_with_port, state_with_
 use Rattle.mrc_wiring.proofs.Lines.{holdings_task, holdings_port, holdings_hold, kernels_more}
 use Rattle.mrc_wiring.proofs.Lines.{kernel_below, wired_below}
 use Rattle.mrc_wiring.proofs.Lines.{wired_more, fresh_task}
-use Rattle.mrc_wiring.proofs.TableLemmas.{and_then_is, next_is, names_at_most, task_table}
+use Rattle.mrc_wiring.proofs.TableLemmas.{and_then_is, next_is, task_table}
 use Rattle.mrc_wiring.proofs.BirthLaws.{kinds_more, kinds_put}
 use Rattle.mrc_wiring.proofs.TableLemmas.{port_table, hold_table, births_table, admit_table}
 use Rattle.mrc_wiring.proofs.TableLemmas.{empty_is_table}

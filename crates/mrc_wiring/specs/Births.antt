@@ -2,7 +2,7 @@
 -- choice.
 use Rattle.std.specs.Prelude.{ℕ, ◌<◌, ◌&&◌, ◌||◌, ◌==◌, Bool, nat_lt}
 use Rattle.std.specs.Prelude.{IsTrue}
-use Rattle.std.specs.Prelude.{List, [], ◌∷◌, ⊤, Option, Some, None, is_some, unwrap_or}
+use Rattle.std.specs.Prelude.{List, [], ◌∷◌, ⊤, Some, None, is_some, unwrap_or}
 use Rattle.std.specs.Prelude.{if◌then◌else◌}
 use Rattle.std.specs.List.{list_any, AllByRecursion}
 use Rattle.mrc_base.specs.Limits.{limit_of_kinds}

@@ -1,5 +1,5 @@
--- Where the row of a task's births of a kind stands among ascending rows: it is looked up by halves.
--- This profile's own choice.
+-- Where the row of a task's births of a kind stands among ascending rows, which are looked up by
+-- halves. This profile's own choice.
 use Rattle.std.specs.Prelude.{ℕ, Bool, false, not, List, Option, Some, None, slice_get}
 use Rattle.std.specs.List.{position_or_len}
 use Rattle.mrc_wiring.specs.declared.births.BirthRow.{BirthRow}

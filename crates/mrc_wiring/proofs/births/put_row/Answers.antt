@@ -1,6 +1,5 @@
 use Rattle.std.proofs.Common.{◌≡◌, ◌∙◌, ℕ, List, Bool, ap, sym, set, arith}
 use Rattle.std.specs.List.{insert}
-use Rattle.mrc_model.specs.declared.LabelItem.{LabelItem}
 use Rattle.mrc_wiring.specs.declared.births.BirthRow.{BirthRow}
 use Rattle.mrc_wiring.specs.Births.{said_row}
 use Rattle.mrc_wiring.specs.RowPlaces.{place_of, stands_at}

@@ -1,9 +1,6 @@
-use Rattle.std.proofs.Common.{◌≡◌, ℕ, List, Option, map, arith, drop, ◌+◌}
-use Rattle.std.specs.Prelude.{find, flat_map}
-use Rattle.std.specs.Option.{option_map, option_or}
+use Rattle.std.proofs.Common.{arith}
 use Rattle.mrc_model.specs.Wiring.{OfReply}
 use Rattle.mrc_interface.specs.Tables.{Row}
-use Rattle.mrc_wiring.specs.Sorts.{Sort}
 use Rattle.mrc_wiring.specs.ModelForms.{reply_in}
 use Rattle.mrc_wiring.specs.Finding.{has_id}
 use Rattle.mrc_wiring.proofs.Findings.{find_turn, found_here, not_here}

@@ -1,4 +1,4 @@
-use Rattle.std.proofs.Common.{◌≡◌, refl, sym, ◌∙◌}
+use Rattle.std.proofs.Common.{sym, ◌∙◌}
 use Rattle.mrc_wiring.proofs.BirthLaws.{no_kind_class, kind_class_at}
 use Rattle.mrc_wiring.proofs.table.class_of.Goals as goal
 

@@ -1,4 +1,4 @@
-use Rattle.std.proofs.Common.{List, map, ◌≡◌, ◌<◌, ◌≤◌, length, ap, subst, sym, ◌∙◌, arith}
+use Rattle.std.proofs.Common.{List, map, ◌<◌, ◌≤◌, length, ap, subst, ◌∙◌}
 use Rattle.std.specs.Prelude.{find}
 use Rattle.mrc_interface.specs.Forms.{Slot}
 use Rattle.mrc_interface.specs.View.{slot_of}

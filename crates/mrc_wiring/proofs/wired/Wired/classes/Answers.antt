@@ -1,4 +1,4 @@
-use Rattle.std.proofs.Common.{length, arith}
+use Rattle.std.proofs.Common.{arith}
 use Rattle.std.proofs.lemmas.List.{length-map}
 use Rattle.mrc_wiring.specs.Births.{pair_of}
 use Rattle.mrc_wiring.proofs.wired.Wired.classes.Goals as goal

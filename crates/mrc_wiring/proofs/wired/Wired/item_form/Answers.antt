@@ -1,4 +1,4 @@
-use Rattle.std.proofs.Common.{◌≡◌, ap, map, sym, ◌∙◌}
+use Rattle.std.proofs.Common.{ap, map, sym, ◌∙◌}
 use Rattle.std.specs.Prelude.{find}
 use Rattle.std.specs.Option.{option_map}
 use Rattle.mrc_model.specs.declared.LabelItem.{LabelItem}
