@@ -1,5 +1,5 @@
 -- From what each step answered to what the texts say.
-use Rattle.std.proofs.Common.{◌≡◌, ℕ, List, [], Result, Ok, Err, refl, ap, sym, subst, ◌∙◌}
+use Rattle.std.proofs.Common.{◌≡◌, ℕ, List, Result, Ok, Err, refl, ap, sym, subst, ◌∙◌}
 use Rattle.std.specs.Prelude.{codes, IfOk, IfErr}
 use Rattle.mrc_base.specs.declared.memory.OrMemory.{OrMemory}
 use Rattle.mrc_base.specs.declared.memory.OrMemory.TheVariants.{Fault, Memory}
@@ -23,7 +23,7 @@ use Rattle.mrc_check.specs.declared.texts.TextsFault.TheVariants.{Defs, Wiring, 
 use Rattle.mrc_check.specs.declared.texts.TextsFault.TheVariants.{Certificate, Check}
 use Rattle.mrc_check.specs.Verdict.{Case, IsAccepted}
 use Rattle.mrc_check.specs.Texts.{InDefs, InWiring, InSystem, InPolicy, InCertificate, SayYes}
-use Rattle.mrc_check.specs.Texts.{table_over, table_of, claim_of, case_over, case_of, IsTold, Tells}
+use Rattle.mrc_check.specs.Texts.{table_over, table_of, claim_of, case_of, IsTold, Tells}
 use Rattle.mrc_check.proofs.Accepted.{no_reason}
 
 -- a step that answers goes on
