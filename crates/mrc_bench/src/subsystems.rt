@@ -2,7 +2,7 @@
 
 use anyhow::{Result, anyhow};
 use mrc_base::limits;
-use mrc_interface::Interface;
+use mrc_interface::forms_of;
 use mrc_mig_parse::parse;
 use mrc_mig_symbols::lex;
 use std::alloc::{AllocError, Global};
@@ -113,7 +113,7 @@ pub fn parentheses(alloc: Global, size: usize) -> Result<String, AllocError> {
 fn once(text: &str, alloc: Global) -> Result<()> {
     let tokens = lex(alloc, text)?;
     let subsystem = parse(alloc, &tokens)?;
-    match Interface::of(alloc, subsystem) {
+    match forms_of(alloc, subsystem) {
         Ok(_) => Ok(()),
         Err((_, refusal)) => Err(anyhow!("{refusal}")),
     }

@@ -3,9 +3,8 @@
 use crate::messages::bytes_of;
 use anyhow::Result;
 use mrc_base::OrMemory;
-use mrc_interface::{
-    FileFault, Form, FormKind, Interface, RequestKind, Shape, read_interface, read_interfaces,
-};
+use mrc_forms::{Form, FormKind, Interface, RequestKind, Shape};
+use mrc_interface::{FileFault, read_interface, read_interfaces};
 use std::alloc::{AllocError, Global};
 
 fn kind_word(kind: FormKind) -> &'static str {

@@ -4,14 +4,14 @@ use Rattle.std.proofs.Common.{length, drop, cond, Option, Some, None, refl, ap, 
 use Rattle.std.proofs.Common.{arith, get_or, add-one, drop-cons}
 use Rattle.std.specs.Option.{option_or}
 use Rattle.std.proofs.lemmas.List.{get_or_default}
-use Rattle.mrc_mig_parse.specs.declared.subsystem.Shape.{Shape as TextShape}
+use Rattle.mrc_forms.specs.declared.shape.Shape.{Shape as TextShape}
 use Rattle.mrc_model.specs.declared.Denied.{Denied}
 use Rattle.mrc_model.specs.declared.Denied.TheVariants.{WrongShape}
 use Rattle.mrc_model.specs.Message.{Arg, Data, Ports}
 use Rattle.mrc_model.specs.Filter.{arg_name, first_difference}
 use Rattle.mrc_desc.specs.declared.argument.Argument.{Argument}
 use Rattle.mrc_desc.specs.View.{argument_of, arguments_of, desc_of}
-use Rattle.mrc_interface.specs.Forms.{Slot}
+use Rattle.mrc_forms.specs.Forms.{Slot}
 use Rattle.mrc_wiring.specs.Sorts.{Sort}
 use Rattle.mrc_wiring.specs.ModelForms.{shape_of, shapes_from}
 

@@ -9,14 +9,14 @@ ghost use Rattle.mrc_model.specs.Wiring as model;
 ghost use Rattle.mrc_model.specs.Filter.{has_size, first_difference, is_zero_data, expected};
 ghost use Rattle.mrc_model.specs.Filter.{fits_reply, judge_found};
 ghost use Rattle.mrc_desc.specs.View.{argument_of, arguments_of};
-ghost use Rattle.mrc_interface.specs.Forms as forms;
+ghost use Rattle.mrc_forms.specs.Forms as forms;
 ghost use Rattle.mrc_wiring.specs.Sorts.{Sort};
 ghost use Rattle.mrc_wiring.specs.ModelForms.{shape_of, shapes_from};
 ghost use Rattle.mrc_wiring.specs.Finding.{form_by, model_form};
 
 use mrc_base::{Disp, is_port_number};
 use mrc_desc::{Argument, Message};
-use mrc_interface::{Form, FormKind, RequestKind, Shape};
+use mrc_forms::{Form, FormKind, RequestKind, Shape};
 use mrc_model::Denied;
 
 /// Whether the items are as large and as many as the form says.

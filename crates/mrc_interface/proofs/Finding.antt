@@ -12,10 +12,11 @@ use Rattle.mrc_model.specs.IsIn.{IsIn, here, later}
 use Rattle.mrc_mig_parse.proofs.PhraseLemmas.{in_two, where_true}
 use Rattle.mrc_mig_parse.specs.Files.{Meaning, Row as Statement, Routine, SimpleRoutine, Skip}
 use Rattle.mrc_interface.specs.declared.fault.InterfaceFault.TheVariants.{IdRange}
-use Rattle.mrc_interface.specs.declared.form.FormKind.{FormKind}
-use Rattle.mrc_interface.specs.Forms.{Form}
-use Rattle.mrc_interface.specs.Tables.{Row, Table, row_of, last_id, row_at, rows_at, table_of}
-use Rattle.mrc_interface.specs.Tables.{row_behind}
+use Rattle.mrc_forms.specs.declared.form.FormKind.{FormKind}
+use Rattle.mrc_forms.specs.Forms.{Form}
+use Rattle.mrc_interface.specs.Subsystems.{row_of, last_id, row_at, rows_at, table_of}
+use Rattle.mrc_forms.specs.Tables.{Row, Table}
+use Rattle.mrc_forms.specs.Tables.{row_behind}
 use Rattle.mrc_interface.specs.Laws.{forms_at, HasForm, IsRequest, IsReply}
 
 -- what is found by a function of what is found

@@ -20,7 +20,8 @@ use Rattle.mrc_mig_parse.specs.Files.{Meaning, meaning_of}
 use Rattle.mrc_mig_parse.specs.Grammar.{IsFile}
 use Rattle.mrc_mig_parse.proofs.FilePhrases.{read_is_file, file_is_read}
 use Rattle.mrc_interface.specs.declared.fault.InterfaceFault.{InterfaceFault}
-use Rattle.mrc_interface.specs.Tables.{Table, table_of}
+use Rattle.mrc_interface.specs.Subsystems.{table_of}
+use Rattle.mrc_forms.specs.Tables.{Table}
 use Rattle.mrc_interface.specs.Reading.{IsInterface, AreInterfaces, Reason, NoText, NoTokens}
 use Rattle.mrc_interface.specs.Reading.{NoFile, NoTable, IsReason, Refused, IsFirstRefused}
 use Rattle.mrc_interface.specs.Reading.{step, interface_of, interfaces_from, interfaces_of, GivesAs}

@@ -8,11 +8,12 @@ use Rattle.mrc_base.specs.declared.Disp.{Disp}
 use Rattle.mrc_model.specs.IsIn.{IsIn, here, later}
 use Rattle.mrc_base.specs.Disposition.{disp_of_number}
 use Rattle.mrc_model.proofs.Maps.{same_Some, not_None}
-use Rattle.mrc_mig_parse.specs.declared.subsystem.Shape.{Shape}
+use Rattle.mrc_forms.specs.declared.shape.Shape.{Shape}
 use Rattle.mrc_mig_parse.specs.Arguments.{Item}
-use Rattle.mrc_interface.specs.declared.form.FormKind.{FormKind}
-use Rattle.mrc_interface.specs.declared.form.FormKind.TheVariants.{Request, Reply}
-use Rattle.mrc_interface.specs.Forms.{Slot, slot_by, slots_from, body, form_of}
+use Rattle.mrc_forms.specs.declared.form.FormKind.{FormKind}
+use Rattle.mrc_forms.specs.declared.form.FormKind.TheVariants.{Request, Reply}
+use Rattle.mrc_interface.specs.Bodies.{slots_from, body, form_of}
+use Rattle.mrc_forms.specs.Forms.{Slot, slot_by}
 use Rattle.mrc_interface.specs.Laws.{HasSlot}
 use Rattle.mrc_interface.proofs.Finding.{by_function}
 

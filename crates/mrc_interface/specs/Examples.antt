@@ -16,8 +16,9 @@ use Rattle.mrc_mig_parse.specs.Files.{after_sides, number_at, named_number_at, h
 use Rattle.mrc_mig_parse.specs.Files.{statement_at, has_more, statements_at, meaning_of}
 use Rattle.mrc_interface.specs.declared.fault.InterfaceFault.{InterfaceFault}
 use Rattle.mrc_interface.specs.declared.fault.InterfaceFault.TheVariants.{IdRange}
-use Rattle.mrc_interface.specs.Forms.{Form}
-use Rattle.mrc_interface.specs.Tables.{Table, table_of, request_form, reply_form}
+use Rattle.mrc_forms.specs.Forms.{Form}
+use Rattle.mrc_interface.specs.Subsystems.{table_of}
+use Rattle.mrc_forms.specs.Tables.{Table, request_form, reply_form}
 use Rattle.mrc_interface.specs.Reading.{NoText, NoTokens, NoFile, interface_of, interfaces_of}
 
 -- one item of a type that has this number

@@ -5,13 +5,15 @@ use Rattle.mrc_base.specs.declared.Disp.{Disp}
 use Rattle.mrc_model.specs.IsIn.{IsIn}
 use Rattle.mrc_base.specs.Disposition.{disp_of_number}
 use Rattle.mrc_model.specs.declared.RequestKind.TheVariants as requests
-use Rattle.mrc_mig_parse.specs.declared.subsystem.Shape.{Shape}
+use Rattle.mrc_forms.specs.declared.shape.Shape.{Shape}
 use Rattle.mrc_mig_parse.specs.Arguments.{Item}
 use Rattle.mrc_mig_parse.specs.Files.{Meaning, Row as Statement, Routine, SimpleRoutine, Skip}
-use Rattle.mrc_interface.specs.declared.form.FormKind.{FormKind}
-use Rattle.mrc_interface.specs.declared.form.FormKind.TheVariants.{Request, Reply}
-use Rattle.mrc_interface.specs.Forms.{Slot, Form, form_of}
-use Rattle.mrc_interface.specs.Tables.{Table, table_of, request_form, reply_form}
+use Rattle.mrc_forms.specs.declared.form.FormKind.{FormKind}
+use Rattle.mrc_forms.specs.declared.form.FormKind.TheVariants.{Request, Reply}
+use Rattle.mrc_interface.specs.Bodies.{form_of}
+use Rattle.mrc_forms.specs.Forms.{Slot, Form}
+use Rattle.mrc_interface.specs.Subsystems.{table_of}
+use Rattle.mrc_forms.specs.Tables.{Table, request_form, reply_form}
 use Rattle.mrc_interface.specs.Reading.{IsInterface, AreInterfaces, Reason, IsReason, Refused}
 use Rattle.mrc_interface.specs.Reading.{IsFirstRefused, interface_of, interfaces_of}
 

@@ -1,5 +1,5 @@
-pub mod Forms
-pub mod Tables
+pub mod Bodies
+pub mod Subsystems
 pub mod View
 pub mod Reading
 pub mod Laws

@@ -18,7 +18,8 @@ use Rattle.mrc_interface.specs.declared.fault.InterfaceFault.{InterfaceFault}
 use Rattle.mrc_interface.specs.declared.fault.DefsFault.{DefsFault}
 use Rattle.mrc_interface.specs.declared.fault.DefsFault.TheVariants.{NotUtf8, Lex, Parse, Interface}
 use Rattle.mrc_interface.specs.declared.fault.FileFault.{FileFault}
-use Rattle.mrc_interface.specs.Tables.{Table, table_of}
+use Rattle.mrc_interface.specs.Subsystems.{table_of}
+use Rattle.mrc_forms.specs.Tables.{Table}
 
 -- The bytes are a MIG file, and this is the table of its forms: they are a text, made of tokens
 -- that by the grammar are a subsystem, whose ids are not too great.

@@ -5,14 +5,16 @@ ghost use Rattle.std.specs.Option.{ok_or};
 ghost use Rattle.mrc_base.specs.Reading.{UnlessMemory};
 ghost use Rattle.mrc_mig_lex.specs.Lexing.{tokens_of};
 ghost use Rattle.mrc_mig_parse.specs.Files.{meaning_of};
-ghost use Rattle.mrc_interface.specs.Tables.{Table, table_of};
+ghost use Rattle.mrc_interface.specs.Subsystems.{table_of};
+ghost use Rattle.mrc_forms.specs.Tables.{Table};
 ghost use Rattle.mrc_interface.specs.Reading.{NoTokens, NoFile, NoTable, reason_of, refused_of};
 ghost use Rattle.mrc_interface.specs.Reading.{IsInterface, IsReason, AreInterfaces, IsFirstRefused};
 ghost use Rattle.mrc_interface.specs.Reading.{step, text_of, interface_of, interfaces_of, GivesAs};
 
 use crate::fault::{DefsFault, FileFault};
-use crate::interface::Interface;
+use crate::interface::forms_of;
 use mrc_base::OrMemory;
+use mrc_forms::Interface;
 use mrc_mig_parse::{Subsystem, parse};
 use mrc_mig_symbols::{Tokens, lex};
 use std::alloc::Global;
@@ -56,7 +58,7 @@ fn subsystem_of(alloc: Global, tokens: &Tokens<'_>) -> Result<Subsystem, OrMemor
 fn table_of(alloc: Global, subsystem: Subsystem) -> Result<Interface, OrMemory<DefsFault>>
     ensures { GivesAs (λ table. table) reason_of result (step NoTable (table_of subsystem)) }
 {
-    match Interface::of(alloc, subsystem) {
+    match forms_of(alloc, subsystem) {
         Ok(interface) => Ok(interface),
         Err((_, OrMemory::Fault(fault))) => Err(OrMemory::Fault(DefsFault::Interface(fault))),
         Err((_, OrMemory::Memory)) => Err(OrMemory::Memory),

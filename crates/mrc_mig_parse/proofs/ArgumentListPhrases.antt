@@ -8,7 +8,7 @@ use Rattle.mrc_mig_lex.specs.declared.token.Sign.TheVariants.{Semicolon, ClosePa
 use Rattle.mrc_mig_symbols.specs.declared.symbol.Symbol.{Symbol}
 use Rattle.mrc_mig_symbols.specs.declared.symbol.Symbol.TheVariants.{Sign}
 use Rattle.mrc_mig_symbols.specs.Symbols.{first_of, tail_of}
-use Rattle.mrc_mig_parse.specs.declared.subsystem.Shape.{Shape}
+use Rattle.mrc_forms.specs.declared.shape.Shape.{Shape}
 use Rattle.mrc_mig_parse.specs.Arguments.{Parameter, is_semicolon, is_closing, goes_on}
 use Rattle.mrc_mig_parse.specs.Arguments.{next_argument as next_at, some_arguments_at, arguments_at}
 use Rattle.mrc_mig_parse.specs.Grammar.{unmarked, marked, IsArgument, argument, IsNextArgument}

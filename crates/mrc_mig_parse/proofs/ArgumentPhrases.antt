@@ -13,7 +13,7 @@ use Rattle.mrc_mig_symbols.specs.declared.word.Direction.{Direction as Way}
 use Rattle.mrc_mig_symbols.specs.declared.word.Word.TheVariants as words
 use Rattle.mrc_mig_symbols.specs.Tables.{entry_of}
 use Rattle.mrc_mig_symbols.specs.Symbols.{first_of, text_of, tail_of, after_sign, name_at}
-use Rattle.mrc_mig_parse.specs.declared.subsystem.Shape.{Shape}
+use Rattle.mrc_forms.specs.declared.shape.Shape.{Shape}
 use Rattle.mrc_mig_parse.specs.declared.types.Use.{Use}
 use Rattle.mrc_mig_parse.specs.Types.{fits_use, flag_by, flag_follows, declared_by, declared_at}
 use Rattle.mrc_mig_parse.specs.Types.{shape_at}

@@ -4,7 +4,7 @@ use Rattle.std.proofs.Common.{drop, get_or, Option, None, Some, Bool, cond, Bor,
 use Rattle.std.proofs.Common.{add-one, drop-cons, arith}
 use Rattle.std.proofs.lemmas.List.{drop_all}
 use Rattle.mrc_mig_lex.specs.Tokens.{Lexeme}
-use Rattle.mrc_mig_parse.specs.declared.subsystem.Shape.{Shape}
+use Rattle.mrc_forms.specs.declared.shape.Shape.{Shape}
 use Rattle.mrc_mig_symbols.specs.Symbols.{◌>>=◌, first_of, tail_of}
 use Rattle.mrc_mig_parse.specs.Files.{after_sides, is_side, one, is_declared, declared_with}
 use Rattle.mrc_mig_parse.specs.Files.{declared_with_all}

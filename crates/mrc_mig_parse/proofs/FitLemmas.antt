@@ -15,16 +15,18 @@ use Rattle.mrc_mig_symbols.specs.declared.word.Basic.{Basic}
 use Rattle.mrc_mig_symbols.specs.declared.word.Basic.TheVariants.{Plain}
 use Rattle.mrc_mig_symbols.specs.Tables.{entry_of}
 use Rattle.mrc_mig_symbols.specs.Words.{basics, basic_of}
-use Rattle.mrc_mig_parse.specs.declared.subsystem.Shape.{Shape}
+use Rattle.mrc_forms.specs.declared.shape.Shape.{Shape}
 use Rattle.mrc_mig_parse.specs.declared.types.Around.{Around}
 use Rattle.mrc_mig_parse.specs.declared.types.Use.{Use}
-use Rattle.mrc_mig_parse.specs.Types.{times, items, size_fits, nested}
+use Rattle.mrc_mig_parse.specs.Types.{times, items, nested}
+use Rattle.mrc_forms.specs.Shapes.{size_fits}
 use Rattle.mrc_mig_parse.specs.Arguments.{Parameter, Item, as_written, as_request_port, is_in}
 use Rattle.mrc_mig_parse.specs.Arguments.{is_of_port_type, is_marked, unmarked_items, items_of}
 use Rattle.mrc_mig_parse.specs.Files.{Row, Routine, SimpleRoutine, Skip, State, table, with_row}
 use Rattle.mrc_mig_parse.specs.Files.{is_declared, declared_with, declared_with_all, include_by}
 use Rattle.mrc_mig_parse.specs.Files.{lines_at, statements_at}
-use Rattle.mrc_mig_parse.specs.Bounds.{shape_fits, items_fit, row_fits}
+use Rattle.mrc_mig_parse.specs.Bounds.{items_fit, row_fits}
+use Rattle.mrc_forms.specs.Shapes.{shape_fits}
 use Rattle.mrc_mig_parse.specs.Grammar.{IsCount, count, IsDimension, fixed, IsVariableDimension}
 use Rattle.mrc_mig_parse.specs.Grammar.{not_variable, IsRoutine, named}
 use Rattle.mrc_mig_parse.specs.Grammar.{at_most, IsLayer, array, struct, IsInnerType, basic, sized}

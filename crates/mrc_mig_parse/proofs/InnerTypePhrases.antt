@@ -15,11 +15,12 @@ use Rattle.mrc_mig_symbols.specs.Words.{basic_of}
 use Rattle.mrc_mig_symbols.specs.Symbols.{first_of, text_of, tail_of}
 use Rattle.mrc_mig_symbols.specs.Expressions.{expression_at}
 use Rattle.mrc_mig_symbols.specs.ExpressionGrammar.{goes_on}
-use Rattle.mrc_mig_parse.specs.declared.subsystem.Shape.{Shape}
+use Rattle.mrc_forms.specs.declared.shape.Shape.{Shape}
 use Rattle.mrc_mig_parse.specs.declared.types.Around.{Around}
 use Rattle.mrc_mig_parse.specs.declared.types.Use.{Use}
 use Rattle.mrc_mig_parse.specs.Types.{fits_use, items, is_layer, flag_follows, is_bar}
-use Rattle.mrc_mig_parse.specs.Types.{basic_item, size_fits, size_at, basic_by, basic_at, sized_at}
+use Rattle.mrc_mig_parse.specs.Types.{basic_item, size_at, basic_by, basic_at, sized_at}
+use Rattle.mrc_forms.specs.Shapes.{size_fits}
 use Rattle.mrc_mig_parse.specs.Types.{plain_by, declared_by, declared_at, named_by, named_at}
 use Rattle.mrc_mig_parse.specs.Types.{string_at, shape_by}
 use Rattle.mrc_mig_parse.specs.Grammar.{Is, IsExpression, IsInnerType, basic, sized, string}

@@ -9,7 +9,7 @@ use Rattle.mrc_mig_symbols.specs.declared.symbol.Symbol.TheVariants.{Word, Sign}
 use Rattle.mrc_mig_symbols.specs.declared.word.Word.{Word as Reserved}
 use Rattle.mrc_mig_symbols.specs.declared.word.Word.TheVariants as words
 use Rattle.mrc_mig_symbols.specs.Symbols.{first_of, tail_of}
-use Rattle.mrc_mig_parse.specs.declared.subsystem.Shape.{Shape}
+use Rattle.mrc_forms.specs.declared.shape.Shape.{Shape}
 use Rattle.mrc_mig_parse.specs.declared.types.Use.TheVariants.{Any}
 use Rattle.mrc_mig_parse.specs.Arguments.{Item}
 use Rattle.mrc_mig_parse.specs.Files.{State, is_declared, declaration_at, routine_at}

@@ -7,7 +7,7 @@ use Rattle.mrc_mig_symbols.specs.declared.symbol.Symbol.{Symbol}
 use Rattle.mrc_mig_symbols.specs.declared.symbol.Symbol.TheVariants.{Word, Sign}
 use Rattle.mrc_mig_symbols.specs.declared.word.Word.TheVariants as words
 use Rattle.mrc_mig_symbols.specs.Symbols.{first_of}
-use Rattle.mrc_mig_parse.specs.declared.subsystem.Shape.{Shape}
+use Rattle.mrc_forms.specs.declared.shape.Shape.{Shape}
 use Rattle.mrc_mig_parse.specs.declared.types.Use.{Use}
 use Rattle.mrc_mig_parse.specs.Types.{is_bar, shape_at}
 use Rattle.mrc_mig_parse.specs.Grammar.{IsType, type}

@@ -1,17 +1,11 @@
 -- What holds of every subsystem that is read: its counts and sizes, and how many arguments a
 -- routine has. The bounds are this profile's own choice.
-use Rattle.std.specs.Prelude.{List, length, Bool, true, ◌&&◌, nat_lt, nat_le}
+use Rattle.std.specs.Prelude.{List, length, Bool, true, ◌&&◌, nat_le}
 use Rattle.std.specs.List.{list_all}
-use Rattle.mrc_base.specs.Limits.{limit_of_items, limit_of_arguments}
-use Rattle.mrc_mig_parse.specs.declared.subsystem.Shape.{Shape}
-use Rattle.mrc_mig_parse.specs.Types.{size_fits}
+use Rattle.mrc_base.specs.Limits.{limit_of_arguments}
 use Rattle.mrc_mig_parse.specs.Arguments.{Item}
+use Rattle.mrc_forms.specs.Shapes.{shape_fits}
 use Rattle.mrc_mig_parse.specs.Files.{Row, Routine, SimpleRoutine, Skip}
-
--- a size that its type can have, and 1 to 8,192 items
-abbrev pub shape_fits : Shape → Bool
-shape_fits shape =
-    size_fits shape.name shape.size && (nat_lt 0 shape.number && nat_le shape.number limit_of_items)
 
 -- at most 32 arguments, with such shapes
 abbrev pub items_fit : List Item → Bool

@@ -9,7 +9,7 @@ use Rattle.mrc_mig_lex.specs.Tokens.{Lexeme}
 use Rattle.mrc_mig_lex.specs.declared.token.Sign.TheVariants as signs
 use Rattle.mrc_mig_symbols.specs.declared.directive.Directive.{Directive}
 use Rattle.mrc_mig_symbols.specs.declared.directive.Directive.TheVariants as directives
-use Rattle.mrc_mig_parse.specs.declared.subsystem.Shape.{Shape}
+use Rattle.mrc_forms.specs.declared.shape.Shape.{Shape}
 use Rattle.mrc_mig_symbols.specs.declared.symbol.Symbol.{Symbol}
 use Rattle.mrc_mig_symbols.specs.declared.symbol.Symbol.TheVariants as symbols
 use Rattle.mrc_mig_parse.specs.declared.types.Use.TheVariants as uses

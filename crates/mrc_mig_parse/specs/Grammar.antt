@@ -21,11 +21,12 @@ use Rattle.mrc_mig_symbols.specs.Tables.{entry_of}
 use Rattle.mrc_mig_symbols.specs.Words.{basic_of}
 use Rattle.mrc_mig_symbols.specs.Symbols.{symbol_of}
 use Rattle.mrc_mig_symbols.specs.ExpressionGrammar.{Spells, Sum}
-use Rattle.mrc_mig_parse.specs.declared.subsystem.Shape.{Shape}
+use Rattle.mrc_forms.specs.declared.shape.Shape.{Shape}
 use Rattle.mrc_mig_parse.specs.declared.types.Around.{Around}
 use Rattle.mrc_mig_parse.specs.declared.types.Use.{Use}
 use Rattle.mrc_mig_parse.specs.declared.types.Use.TheVariants.{Any}
-use Rattle.mrc_mig_parse.specs.Types.{fits_use, nothing_around, times, items, basic_item, size_fits}
+use Rattle.mrc_mig_parse.specs.Types.{fits_use, nothing_around, times, items, basic_item}
+use Rattle.mrc_forms.specs.Shapes.{size_fits}
 use Rattle.mrc_mig_parse.specs.Types.{nested}
 use Rattle.mrc_mig_parse.specs.Arguments.{Parameter, is_reply_port, has_reply_port, has_name}
 use Rattle.mrc_mig_parse.specs.Arguments.{use_of, Item, items_of}

@@ -28,7 +28,7 @@ use Rattle.mrc_mig_symbols.specs.Symbols.{after_sign, name_at, name_stop}
 use Rattle.mrc_mig_symbols.specs.Expressions.{expression_at}
 use Rattle.mrc_mig_symbols.specs.ExpressionStops.{expression_stop}
 use Rattle.mrc_mig_symbols.specs.Places.{fault_of}
-use Rattle.mrc_mig_parse.specs.declared.subsystem.Shape.{Shape}
+use Rattle.mrc_forms.specs.declared.shape.Shape.{Shape}
 use Rattle.mrc_mig_parse.specs.declared.types.Around.{Around}
 use Rattle.mrc_mig_parse.specs.declared.types.Use.{Use}
 use Rattle.mrc_mig_parse.specs.declared.types.Use.TheVariants as uses

@@ -1,13 +1,14 @@
 -- The types of a MIG file, as the Server Writer's Guide for MIG has them. Which of them are read,
 -- and the bounds of counts and sizes, are this profile's own choice.
-use Rattle.std.specs.Prelude.{ℕ, ◌*◌, ◌%◌, List, length, Bool, true, false, not, ◌&&◌, ◌||◌, Option}
-use Rattle.std.specs.Prelude.{Some, None, nat_le, nat_lt, ◌==◌, if◌then◌else◌}
+use Rattle.std.specs.Prelude.{ℕ, ◌*◌, List, length, Bool, true, false, not, ◌&&◌, ◌||◌, Option}
+use Rattle.std.specs.Prelude.{Some, None, nat_le, ◌==◌, if◌then◌else◌}
 use Rattle.mrc_base.specs.declared.Disp.TheVariants.{MoveSendOnce, MakeSendOnce}
-use Rattle.mrc_base.specs.Disposition.{disp_number, is_port_number}
+use Rattle.mrc_base.specs.Disposition.{disp_number}
 use Rattle.mrc_base.specs.Limits.{limit_of_items}
 use Rattle.mrc_mig_lex.specs.Tokens.{Lexeme}
 use Rattle.mrc_mig_lex.specs.declared.token.Sign.TheVariants as signs
-use Rattle.mrc_mig_parse.specs.declared.subsystem.Shape.{Shape}
+use Rattle.mrc_forms.specs.Shapes.{size_fits}
+use Rattle.mrc_forms.specs.declared.shape.Shape.{Shape}
 use Rattle.mrc_mig_symbols.specs.declared.symbol.Symbol.{Symbol}
 use Rattle.mrc_mig_symbols.specs.declared.symbol.Symbol.TheVariants as symbols
 use Rattle.mrc_mig_parse.specs.declared.types.Around.{Around}
@@ -144,12 +145,6 @@ basic_item (basic.Plain name size) wanted = guard (fits_use wanted name) >>= λ 
 basic_item (basic.Unsized name) wanted = guard (fits_use wanted name) >>= λ _. Some (name, 0)
 basic_item basic.Polymorphic wanted = None
 basic_item basic.Real wanted = None
-
--- multiples of 8 from 8 to 65,528, and 32 for ports
-abbrev pub size_fits : ℕ → ℕ → Bool
-size_fits name size =
-    nat_lt 0 size && nat_le size 65528 && (size % 8 == 0)
-    && (not (is_port_number name) || size == 32)
 
 -- the bits of an item of a type of this number
 unfoldable pub size_at : ℕ → List Lexeme → Option (ℕ × List Lexeme)

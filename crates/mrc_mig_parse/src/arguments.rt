@@ -19,10 +19,11 @@ ghost use Rattle.mrc_mig_parse.specs.Stops.{more_arguments_stop, own_type_stop};
 ghost use Rattle.mrc_mig_symbols.specs.Symbols.{StopsAt, StopsAtOrMemory};
 
 use crate::options::options;
-use crate::subsystem::{Argument, Shape};
+use crate::subsystem::Argument;
 use crate::table::Types;
 use crate::types::{Use, declared, no_flag, shape};
 use mrc_base::{OrMemory, is_port_number, limits};
+use mrc_forms::Shape;
 use mrc_mig_lex::Sign;
 use mrc_mig_symbols::{Direction, Feature, Rest, Stop, Symbol, Why, Word, name, sign, stop_at};
 use std::alloc::{AllocError, Global};

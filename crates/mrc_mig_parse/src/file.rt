@@ -23,10 +23,11 @@ ghost use Rattle.mrc_mig_symbols.specs.Symbols.{StopsAt, StopsAtOrMemory, unexpe
 
 use crate::arguments::{arguments, resolved};
 use crate::options::options;
-use crate::subsystem::{Argument, Entry, Shape, Subsystem};
+use crate::subsystem::{Argument, Entry, Subsystem};
 use crate::table::Types;
 use crate::types::{Use, shape};
 use mrc_base::{OrMemory, limits};
+use mrc_forms::Shape;
 use mrc_mig_lex::Sign;
 use mrc_mig_symbols::{
     Directive, Feature, ParseFault, Rest, Stop, Symbol, Tokens, Why, Word, fault_of, name, sign,

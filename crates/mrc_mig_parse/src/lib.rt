@@ -12,4 +12,4 @@ mod types;
 pub use file::parse;
 pub use laws::files_by_grammar;
 pub use mrc_mig_symbols::{Direction, Feature, ParseFault};
-pub use subsystem::{Argument, Entry, Shape, Subsystem};
+pub use subsystem::{Argument, Entry, Subsystem};

@@ -3,7 +3,7 @@
 ghost use Rattle.std.specs.Prelude.{◌≡◌, ◌++◌, [], ◌∷◌, None, OnOk, OnErr};
 ghost use Rattle.mrc_mig_symbols.specs.Tables.{entry_of};
 
-use crate::subsystem::Shape;
+use mrc_forms::Shape;
 use std::alloc::{AllocError, Global};
 use std::collections::BTreeMap;
 use std::marker::Model;
@@ -20,7 +20,7 @@ pub struct Types<'t> {
 impl<'t> Model for Types<'t> {
     ghost use Rattle.std.specs.Prelude.{ℕ, List};
     ghost use Rattle.mrc_mig_symbols.specs.Tables.{plain};
-    ghost use Rattle.mrc_mig_parse.specs.declared.subsystem.Shape.{Shape};
+    ghost use Rattle.mrc_forms.specs.declared.shape.Shape.{Shape};
     ghost use Rattle.mrc_mig_parse.specs.Places.{HasPlaces};
 
     ghost Value = { List (List ℕ × Shape) };

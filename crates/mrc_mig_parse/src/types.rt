@@ -17,9 +17,9 @@ ghost use Rattle.mrc_mig_parse.specs.Stops.{structure_stop, too_many, use_stop};
 ghost use Rattle.mrc_mig_parse.specs.Stops.{variable_dimension_stop};
 ghost use Rattle.mrc_mig_symbols.specs.Symbols.{StopsAt, StopsAtOrMemory, unexpected};
 
-use crate::subsystem::Shape;
 use crate::table::Types;
 use mrc_base::{Disp, OrMemory, is_port_number, limits};
+use mrc_forms::Shape;
 use mrc_mig_lex::Sign;
 use mrc_mig_symbols::{
     Basic, Feature, Rest, Stop, Symbol, Why, Word, basic_of, expression, sign, stop_at,

@@ -1,10 +1,8 @@
 //! Readers of MIG files where memory runs out.
 
 use mrc_base::{Disp, OrMemory};
-use mrc_interface::{
-    DefsFault, FileFault, Form, FormKind, Interface, RequestKind, Shape, Slot, read_interface,
-    read_interfaces,
-};
+use mrc_forms::{Form, FormKind, Interface, RequestKind, Shape, Slot};
+use mrc_interface::{DefsFault, FileFault, read_interface, read_interfaces};
 use std::alloc::{AllocError, Global};
 use std::test::Fail;
 

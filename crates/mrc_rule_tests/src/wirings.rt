@@ -2,7 +2,8 @@
 
 use crate::samples::{FILES, FSYS};
 use mrc_base::{ClassId, OrMemory, PortRight};
-use mrc_interface::{DefsFault, Interface, read_interface};
+use mrc_forms::Interface;
+use mrc_interface::{DefsFault, read_interface};
 use mrc_wiring::{Claim, ClaimFault, ForbiddenLine, NotResolved, Wired};
 use mrc_wiring_text::{
     ClassName, Item, PolicyLine, TextFault, WiringLine, WiringSays, read_policy, read_wiring,

@@ -11,10 +11,10 @@ use Rattle.mrc_model.specs.IsIn.{IsIn, here, later}
 use Rattle.mrc_model.specs.declared.LabelItem.{LabelItem}
 use Rattle.mrc_model.specs.declared.LabelItem.TheVariants as label
 use Rattle.mrc_model.specs.Wiring.{Interface, Form, OfRequest, OfReply, form_id, item_forms}
-use Rattle.mrc_interface.specs.declared.form.FormKind.TheVariants as kinds
-use Rattle.mrc_interface.specs.declared.form.FormKind.{FormKind}
-use Rattle.mrc_interface.specs.Forms.{Form as TextForm}
-use Rattle.mrc_interface.specs.Tables.{Row, Table as Text}
+use Rattle.mrc_forms.specs.declared.form.FormKind.TheVariants as kinds
+use Rattle.mrc_forms.specs.declared.form.FormKind.{FormKind}
+use Rattle.mrc_forms.specs.Forms.{Form as TextForm}
+use Rattle.mrc_forms.specs.Tables.{Row, Table as Text}
 use Rattle.mrc_model.specs.Wiring.{Shape}
 use Rattle.mrc_wiring.specs.Sorts.{Sort, sorts_of}
 use Rattle.mrc_wiring.specs.Table.{Table, wiring_of}

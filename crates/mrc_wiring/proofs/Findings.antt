@@ -5,13 +5,13 @@ use Rattle.std.specs.Prelude.{slice_get, flat_map, find, option_and_then}
 use Rattle.std.specs.Option.{option_or}
 use Rattle.std.proofs.lemmas.List.{map-append}
 use Rattle.std.proofs.lemmas.List.Folds.{find-append}
-use Rattle.mrc_mig_parse.specs.declared.subsystem.Shape.{Shape as TextShape}
+use Rattle.mrc_forms.specs.declared.shape.Shape.{Shape as TextShape}
 use Rattle.mrc_model.specs.CallSend.{first_sort}
 use Rattle.mrc_model.specs.Wiring.{Shape, Form, form_shapes}
-use Rattle.mrc_interface.specs.declared.form.FormKind.{FormKind}
-use Rattle.mrc_interface.specs.declared.form.FormKind.TheVariants.{Request, Reply}
-use Rattle.mrc_interface.specs.Forms.{Slot, Form as TextForm}
-use Rattle.mrc_interface.specs.Tables.{Row}
+use Rattle.mrc_forms.specs.declared.form.FormKind.{FormKind}
+use Rattle.mrc_forms.specs.declared.form.FormKind.TheVariants.{Request, Reply}
+use Rattle.mrc_forms.specs.Forms.{Slot, Form as TextForm}
+use Rattle.mrc_forms.specs.Tables.{Row}
 use Rattle.mrc_wiring.specs.Sorts.{Sort}
 use Rattle.mrc_wiring.specs.ModelForms.{slot_number, is_at, shapes_from}
 use Rattle.mrc_wiring.specs.Finding.{form_by, sort_at}

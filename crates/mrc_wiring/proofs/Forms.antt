@@ -6,8 +6,8 @@ use Rattle.std.specs.Prelude.{slice_get, flat_map, option_and_then, unwrap_or}
 use Rattle.std.specs.List.{list_any}
 use Rattle.std.proofs.lemmas.List.Folds.{list_any-append}
 use Rattle.mrc_base.specs.declared.Disp.{Disp}
-use Rattle.mrc_interface.specs.Forms.{Form as TextForm}
-use Rattle.mrc_interface.specs.Tables.{Row, Table as Text}
+use Rattle.mrc_forms.specs.Forms.{Form as TextForm}
+use Rattle.mrc_forms.specs.Tables.{Row, Table as Text}
 use Rattle.mrc_model.specs.Wiring.{Wiring, Interface, RequestForm, ReplyForm, OfRequest, OfReply}
 use Rattle.mrc_model.specs.Wiring.{interface}
 use Rattle.mrc_wiring.specs.Sorts.{Sort, sorts_of}

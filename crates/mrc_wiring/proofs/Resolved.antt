@@ -13,7 +13,7 @@ use Rattle.mrc_model.specs.declared.LabelItem.{LabelItem}
 use Rattle.mrc_model.specs.declared.FirstLine.TheVariants.{Hold as HoldLine}
 use Rattle.mrc_model.specs.Rights.{is_receive}
 use Rattle.mrc_model.specs.FirstHoldings.{names_given}
-use Rattle.mrc_interface.specs.Tables.{Table as Interface}
+use Rattle.mrc_forms.specs.Tables.{Table as Interface}
 use Rattle.mrc_wiring_text.specs.declared.reading.Line.{Line}
 use Rattle.mrc_wiring_text.specs.declared.policy.ClassName.{ClassName}
 use Rattle.mrc_wiring_text.specs.declared.items.Item.{Item}

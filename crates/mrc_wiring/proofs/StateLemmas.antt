@@ -13,7 +13,7 @@ use Rattle.mrc_model.specs.declared.FirstLine.TheVariants.{Task as TaskLine, Por
 use Rattle.mrc_model.specs.declared.FirstLine.TheVariants.{Hold as HoldLine}
 use Rattle.mrc_model.specs.Rights.{is_receive}
 use Rattle.mrc_model.specs.FirstHoldings.{line_holdings, names_given}
-use Rattle.mrc_interface.specs.Tables.{Table as Interface}
+use Rattle.mrc_forms.specs.Tables.{Table as Interface}
 use Rattle.mrc_wiring_text.specs.Names.{is_name}
 use Rattle.mrc_wiring.specs.declared.table.AdmitLine.{AdmitLine}
 use Rattle.mrc_wiring.specs.Sorts.{Sort, sorts_of}

@@ -6,8 +6,8 @@ use Rattle.std.proofs.lemmas.List.{take_all}
 use Rattle.std.specs.Prelude.{slice_get, flat_map, map, option_and_then}
 use Rattle.std.specs.List.{list_any}
 use Rattle.std.proofs.lemmas.Option.{slice_get-get_or}
-use Rattle.mrc_interface.specs.Forms.{Form}
-use Rattle.mrc_interface.specs.Tables.{Row, Table as Interface}
+use Rattle.mrc_forms.specs.Forms.{Form}
+use Rattle.mrc_forms.specs.Tables.{Row, Table as Interface}
 use Rattle.std.proofs.lemmas.List.{map-append}
 use Rattle.mrc_wiring.specs.Sorts.{Sort, slot_sort, form_slots, row_slots, interface_sorts}
 use Rattle.mrc_wiring.specs.Sorts.{sorts_from}

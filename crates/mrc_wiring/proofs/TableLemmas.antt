@@ -13,7 +13,7 @@ use Rattle.mrc_model.specs.Rights.{is_receive, is_once}
 use Rattle.mrc_model.specs.Breach.{Holding}
 use Rattle.mrc_model.specs.FirstHoldings.{line_holdings, line_births, names_given, one_if}
 use Rattle.mrc_model.specs.FirstHoldings.{is_named}
-use Rattle.mrc_interface.specs.Tables.{Table as Interface}
+use Rattle.mrc_forms.specs.Tables.{Table as Interface}
 use Rattle.mrc_wiring.specs.declared.table.AdmitLine.{AdmitLine}
 use Rattle.mrc_wiring.specs.Births.{AreBirths, new_row}
 use Rattle.mrc_wiring.specs.Table.{Table, IsTable}

@@ -1,13 +1,12 @@
 -- A worked wiring: a file server and its client, over one interface.
-use Rattle.std.specs.Prelude.{◌≡◌, ℕ, false, List, [], ◌∷◌, Option, Some, None, Result, Ok, Err}
+use Rattle.std.specs.Prelude.{◌≡◌, ℕ, Bool, false, List, [], ◌∷◌, Option, Some, None, Result, Ok, Err}
 use Rattle.std.specs.Prelude.{refl, codes, length}
+use Rattle.mrc_base.specs.declared.Disp.TheVariants.{CopySend}
 use Rattle.mrc_base.specs.declared.PortRight.TheVariants.{Send}
-use Rattle.mrc_mig_symbols.specs.declared.word.Direction.{Direction}
-use Rattle.mrc_mig_symbols.specs.declared.word.Direction.TheVariants.{In, Out, RequestPort}
-use Rattle.mrc_mig_parse.specs.declared.subsystem.Shape.{Shape as TextShape}
-use Rattle.mrc_mig_parse.specs.Arguments.{Item as Argument}
-use Rattle.mrc_mig_parse.specs.Files.{Routine, one}
-use Rattle.mrc_interface.specs.Tables.{Table as Interface, row_of}
+use Rattle.mrc_forms.specs.declared.shape.Shape.{Shape as TextShape}
+use Rattle.mrc_forms.specs.declared.form.FormKind.TheVariants as kind
+use Rattle.mrc_forms.specs.Forms.{return_code}
+use Rattle.mrc_forms.specs.Tables.{Table as Interface}
 use Rattle.mrc_model.specs.declared.RequestKind.TheVariants as requests
 use Rattle.mrc_model.specs.declared.LabelItem.TheVariants as label
 use Rattle.mrc_model.specs.declared.FirstLine.TheVariants.{Task as TaskLine, Port as PortLine}
@@ -28,10 +27,10 @@ use Rattle.mrc_wiring.specs.Resolving.{resolved, add_task, add_port, place_port,
 use Rattle.mrc_wiring.specs.Resolving.{place_births, add_hold_port, place_hold}
 use Rattle.mrc_wiring.specs.Resolving.{add_admit}
 
--- one argument
-abbrev argument : Direction → TextShape → List ℕ → Argument
-argument direction shape name =
-    record { direction = direction; shape = shape; type_name = name }
+-- `count` items, or at most so many, of the type of this number, of so many bits each
+abbrev shape : ℕ → ℕ → ℕ → Bool → TextShape
+shape name size count is_bound =
+    record { name = name; size = size; number = count; is_bound = is_bound }
 
 -- subsystem fsys 3000; type file_t = MACH_MSG_TYPE_COPY_SEND; type path_t = c_string[64];
 -- routine open(root : mach_port_t; in path : path_t; out file : file_t);
@@ -39,9 +38,20 @@ abbrev fsys : Interface
 fsys = record {
   name = codes "fsys";
   base = 3000;
-  rows = row_of 3000 (Routine (argument RequestPort (one 19 32) (codes "mach_port_t")
-      ∷ argument In (record { name = 12; size = 8; number = 64; is_bound = false }) (codes "path_t")
-      ∷ argument Out (one 19 32) (codes "file_t") ∷ [])) ∷ [];
+  rows = record {
+    request = Some record {
+      id = 3000;
+      kind = kind.Request requests.Routine;
+      arguments = shape 12 8 64 false ∷ [];
+      slots = [];
+    };
+    reply = Some record {
+      id = 3100;
+      kind = kind.Reply;
+      arguments = return_code ∷ shape 19 32 1 false ∷ [];
+      slots = record { argument = 1; disposition = CopySend; type_name = codes "file_t" } ∷ [];
+    };
+  } ∷ [];
 }
 
 -- a line of this number

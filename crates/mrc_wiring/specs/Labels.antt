@@ -10,10 +10,10 @@ use Rattle.mrc_model.specs.declared.LabelItem.{LabelItem}
 use Rattle.mrc_model.specs.declared.LabelItem.TheVariants as label
 use Rattle.mrc_model.specs.IsIn.{IsIn}
 use Rattle.mrc_model.specs.Wiring.{Wiring, Form as ModelForm, form_id, item_forms}
-use Rattle.mrc_interface.specs.declared.form.FormKind.{FormKind}
-use Rattle.mrc_interface.specs.declared.form.FormKind.TheVariants as kinds
-use Rattle.mrc_interface.specs.Forms.{Form}
-use Rattle.mrc_interface.specs.Tables.{Row, Table as Interface}
+use Rattle.mrc_forms.specs.declared.form.FormKind.{FormKind}
+use Rattle.mrc_forms.specs.declared.form.FormKind.TheVariants as kinds
+use Rattle.mrc_forms.specs.Forms.{Form}
+use Rattle.mrc_forms.specs.Tables.{Row, Table as Interface}
 use Rattle.mrc_wiring_text.specs.declared.items.Item.{Item}
 use Rattle.mrc_wiring_text.specs.declared.items.Item.TheVariants.{Request, Reply, Destroyed}
 use Rattle.mrc_wiring.specs.declared.faults.ResolveFault.{ResolveFault}

@@ -3,11 +3,11 @@
 use Rattle.std.specs.Prelude.{ℕ, ◌+◌, ◌==◌, Bool, List, [], ◌∷◌, length, flat_map, find, Option}
 use Rattle.std.specs.Prelude.{Some}
 use Rattle.std.specs.Prelude.{None}
-use Rattle.mrc_mig_parse.specs.declared.subsystem.Shape.{Shape as TextShape}
-use Rattle.mrc_interface.specs.declared.form.FormKind.{FormKind}
-use Rattle.mrc_interface.specs.declared.form.FormKind.TheVariants.{Request, Reply}
-use Rattle.mrc_interface.specs.Forms.{Slot, Form}
-use Rattle.mrc_interface.specs.Tables.{Row, Table}
+use Rattle.mrc_forms.specs.declared.shape.Shape.{Shape as TextShape}
+use Rattle.mrc_forms.specs.declared.form.FormKind.{FormKind}
+use Rattle.mrc_forms.specs.declared.form.FormKind.TheVariants.{Request, Reply}
+use Rattle.mrc_forms.specs.Forms.{Slot, Form}
+use Rattle.mrc_forms.specs.Tables.{Row, Table}
 use Rattle.mrc_model.specs.Wiring.{Shape, RequestForm, ReplyForm, Interface}
 use Rattle.mrc_wiring.specs.Sorts.{Sort, sort_number}
 

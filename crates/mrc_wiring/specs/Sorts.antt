@@ -3,8 +3,8 @@
 -- and port arguments are is MIG's (Server Writer's Guide).
 use Rattle.std.specs.Prelude.{◌≡◌, ◌↔◌, ℕ, ◌+◌, ◌++◌, ◌<◌, ◌==◌, ◌&&◌, Bool, List, [], ◌∷◌, length}
 use Rattle.std.specs.Prelude.{map, flat_map, bytes_eq, Option, Some, None, position, unwrap_or}
-use Rattle.mrc_interface.specs.Forms.{Slot, Form}
-use Rattle.mrc_interface.specs.Tables.{Row, Table as Interface}
+use Rattle.mrc_forms.specs.Forms.{Slot, Form}
+use Rattle.mrc_forms.specs.Tables.{Row, Table as Interface}
 use Rattle.mrc_model.specs.IsIn.{IsIn}
 
 -- a type of a port argument: the number of the interface, and the type's name

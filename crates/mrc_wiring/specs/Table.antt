@@ -10,7 +10,7 @@ use Rattle.mrc_model.specs.declared.FirstLine.TheVariants.{Hold as HoldLine}
 use Rattle.mrc_model.specs.Rights.{is_receive}
 use Rattle.mrc_model.specs.Wiring.{Wiring, births_from}
 use Rattle.mrc_model.specs.FirstHoldings.{first_names}
-use Rattle.mrc_interface.specs.Tables.{Table as Interface}
+use Rattle.mrc_forms.specs.Tables.{Table as Interface}
 use Rattle.mrc_wiring.specs.declared.names.ClassKind.{ClassKind}
 use Rattle.mrc_wiring.specs.declared.names.ClassKind.TheVariants as kinds
 use Rattle.mrc_wiring.specs.declared.names.NumberedClass.{NumberedClass}

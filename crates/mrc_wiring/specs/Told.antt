@@ -1,7 +1,7 @@
 -- What resolving a wiring answers, as its caller sees it. This profile's own choice.
 use Rattle.std.specs.Prelude.{◌≡◌, List, Option, Some, None, Result, Ok, Err}
 use Rattle.mrc_base.specs.Reading.{Refuses}
-use Rattle.mrc_interface.specs.Tables.{Table as Interface}
+use Rattle.mrc_forms.specs.Tables.{Table as Interface}
 use Rattle.mrc_wiring.specs.declared.faults.ResolveFault.{ResolveFault}
 use Rattle.mrc_wiring.specs.declared.resolving.NotResolved.{NotResolved}
 use Rattle.mrc_wiring.specs.Table.{Table}

@@ -9,7 +9,7 @@ ghost use Rattle.mrc_wiring.specs.ModelForms.{request_in, reply_in, interface_of
 ghost use Rattle.mrc_wiring.specs.Finding.{model_form, has_id, item_interface, sort_at};
 
 use crate::wired::Wired;
-use mrc_interface::{Form, FormKind, Interface};
+use mrc_forms::{Form, FormKind, Interface};
 use mrc_model::LabelItem;
 
 /// The form, where there is one and it is a request with the id.

@@ -10,7 +10,7 @@ ghost use Rattle.mrc_wiring.specs.Labels.{clash_among};
 
 use crate::faults::ResolveFault;
 use mrc_base::{Copies, OrMemory, copy_all, same_all};
-use mrc_interface::{Form, FormKind, Interface};
+use mrc_forms::{Form, FormKind, Interface};
 use mrc_model::LabelItem;
 use mrc_wiring_text::{Item, Items};
 use std::alloc::{AllocError, Global};

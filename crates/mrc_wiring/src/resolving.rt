@@ -31,7 +31,7 @@ use crate::sorts::{Sort, sort_place, sorts_of};
 use crate::table::AdmitLine;
 use mrc_base::limits::{INTERFACES, NAMES, TASKS, WIRED_PORTS};
 use mrc_base::{OrMemory, PortId, PortRight, TaskId};
-use mrc_interface::Interface;
+use mrc_forms::Interface;
 use mrc_model::FirstLine;
 use mrc_wiring_text::{ClassName, HeldRight, Items, Kind, Name, WiringLine, WiringSays};
 use std::alloc::{AllocError, Global};

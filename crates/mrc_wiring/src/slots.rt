@@ -3,7 +3,7 @@
 ghost use Rattle.std.specs.Prelude.{◌≡◌, find, map};
 ghost use Rattle.std.specs.List.{list_any};
 ghost use Rattle.std.specs.Option.{option_map};
-ghost use Rattle.mrc_interface.specs.View.{slot_of};
+ghost use Rattle.mrc_forms.specs.View.{slot_of};
 ghost use Rattle.mrc_model.specs.Wiring.{accepts_destroyed, accepts_routine, has_routine};
 ghost use Rattle.mrc_model.specs.Wiring.{item_forms, is_destroyed_item, is_routine};
 ghost use Rattle.mrc_wiring.specs.Table.{wiring_of};
@@ -15,7 +15,7 @@ ghost use Rattle.mrc_wiring.specs.Slots.{replies_take};
 
 use crate::wired::Wired;
 use mrc_base::{ClassId, Disp};
-use mrc_interface::{Form, FormKind, Interface, RequestKind, Shape, Slot};
+use mrc_forms::{Form, FormKind, Interface, RequestKind, Shape, Slot};
 use mrc_model::LabelItem;
 
 impl Wired {

@@ -2,11 +2,11 @@
 
 ghost use Rattle.std.specs.Prelude.{◌≡◌, ◌++◌, ◌<◌, map, length, position, IfOk, OnOk, IfSome};
 ghost use Rattle.std.specs.Option.{option_map};
-ghost use Rattle.mrc_interface.specs.Forms.{Form as FormValue};
+ghost use Rattle.mrc_forms.specs.Forms.{Form as FormValue};
 ghost use Rattle.mrc_wiring.specs.Sorts.{is_sort, form_slots, slot_sort, interface_sorts};
 ghost use Rattle.mrc_wiring.specs.Sorts.{sorts_of, sort_number};
 
-use mrc_interface::{Form, Interface};
+use mrc_forms::{Form, Interface};
 use std::alloc::{AllocError, Global};
 use std::marker::Model;
 

@@ -24,7 +24,7 @@ use crate::resolving::{NotResolved, resolved};
 use crate::sorts::{Sort, sort_number, sorts_of};
 use crate::table::{AdmitLine, admitted_of, class_of};
 use mrc_base::{ClassId, OrMemory, TaskId, copy_all, same_all};
-use mrc_interface::Interface;
+use mrc_forms::Interface;
 use mrc_model::{FirstLine, LabelItem};
 use mrc_wiring_text::{ClassName, Name, WiringLine};
 use std::alloc::{AllocError, Global};

@@ -1,7 +1,7 @@
 use Rattle.std.proofs.Common.{◌≡◌, ℕ, List}
 use Rattle.mrc_model.specs.Filter.{first_difference}
 use Rattle.mrc_desc.specs.View.{arguments_of}
-use Rattle.mrc_interface.specs.Forms.{Slot}
+use Rattle.mrc_forms.specs.Forms.{Slot}
 use Rattle.mrc_wiring.specs.Sorts.{Sort}
 use Rattle.mrc_wiring.specs.ModelForms.{shapes_from}
 use Rattle.mrc_filter.proofs.Shapes.{differs_from}

@@ -1,7 +1,7 @@
 use Rattle.std.proofs.Common.{◌≡◌, ◌++◌, map, drop, Ok, length}
 use Rattle.mrc_base.specs.Reading.{◌>>=◌}
 use Rattle.mrc_mig_parse.specs.Meanings.{row_of}
-use Rattle.mrc_interface.specs.Tables.{rows_at}
+use Rattle.mrc_interface.specs.Subsystems.{rows_at}
 use Rattle.mrc_interface.proofs.interface.rows_at.Given as goal
 
 abbrev pub invariant-loop-entry : goal.invariant-loop-entry

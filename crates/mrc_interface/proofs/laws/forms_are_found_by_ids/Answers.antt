@@ -1,5 +1,5 @@
 use Rattle.std.proofs.Common.{◌≡◌, subst, Some, ◌↔◌}
-use Rattle.mrc_interface.specs.Tables.{Table, request_form, reply_form}
+use Rattle.mrc_forms.specs.Tables.{Table, request_form, reply_form}
 use Rattle.mrc_interface.specs.Laws.{HasForm, IsRequest, IsReply}
 use Rattle.mrc_interface.proofs.Finding.{rows_of_table, requests, replies, form_found}
 use Rattle.mrc_interface.proofs.laws.forms_are_found_by_ids.Goals as goal

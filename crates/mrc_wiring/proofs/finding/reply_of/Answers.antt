@@ -1,6 +1,6 @@
 use Rattle.std.proofs.Common.{arith}
 use Rattle.mrc_model.specs.Wiring.{OfReply}
-use Rattle.mrc_interface.specs.Tables.{Row}
+use Rattle.mrc_forms.specs.Tables.{Row}
 use Rattle.mrc_wiring.specs.ModelForms.{reply_in}
 use Rattle.mrc_wiring.specs.Finding.{has_id}
 use Rattle.mrc_wiring.proofs.Findings.{find_turn, found_here, not_here}

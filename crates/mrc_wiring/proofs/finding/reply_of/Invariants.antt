@@ -1,7 +1,7 @@
 use Rattle.std.proofs.Common.{◌≡◌, ℕ, List, drop, length, map}
 use Rattle.std.specs.Prelude.{find, flat_map}
 use Rattle.mrc_model.specs.Wiring.{OfReply}
-use Rattle.mrc_interface.specs.Tables.{Row}
+use Rattle.mrc_forms.specs.Tables.{Row}
 use Rattle.mrc_wiring.specs.Sorts.{Sort}
 use Rattle.mrc_wiring.specs.ModelForms.{reply_in, interface_of}
 use Rattle.mrc_wiring.specs.Finding.{has_id}

@@ -1,5 +1,5 @@
 use Rattle.std.proofs.Common.{◌++◌, ap, ◌∙◌, arith}
-use Rattle.mrc_interface.specs.Tables.{Row}
+use Rattle.mrc_forms.specs.Tables.{Row}
 use Rattle.mrc_wiring.specs.Labels.{reply_id}
 use Rattle.mrc_wiring.proofs.Steps.{row_next, moves}
 use Rattle.mrc_wiring.proofs.labels.reply_ids.Goals as goal

@@ -1,6 +1,6 @@
 use Rattle.std.proofs.Common.{◌≡◌, ◌++◌, drop, length}
 use Rattle.std.specs.Prelude.{flat_map}
-use Rattle.mrc_interface.specs.Tables.{Row}
+use Rattle.mrc_forms.specs.Tables.{Row}
 use Rattle.mrc_wiring.specs.Labels.{reply_id, reply_ids}
 use Rattle.mrc_wiring.proofs.labels.reply_ids.Given as goal
 

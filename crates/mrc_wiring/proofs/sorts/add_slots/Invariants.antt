@@ -1,5 +1,5 @@
 use Rattle.std.proofs.Common.{◌≡◌, ◌++◌, drop, map}
-use Rattle.mrc_interface.specs.View.{slot_of}
+use Rattle.mrc_forms.specs.View.{slot_of}
 use Rattle.mrc_wiring.specs.Sorts.{slot_sort}
 use Rattle.mrc_wiring.proofs.sorts.add_slots.Given as goal
 

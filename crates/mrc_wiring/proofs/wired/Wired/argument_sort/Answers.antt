@@ -1,7 +1,7 @@
 use Rattle.std.proofs.Common.{List, map, ◌<◌, ◌≤◌, length, ap, subst, ◌∙◌}
 use Rattle.std.specs.Prelude.{find}
-use Rattle.mrc_interface.specs.Forms.{Slot}
-use Rattle.mrc_interface.specs.View.{slot_of}
+use Rattle.mrc_forms.specs.Forms.{Slot}
+use Rattle.mrc_forms.specs.View.{slot_of}
 use Rattle.mrc_wiring.specs.Sorts.{sorts_of}
 use Rattle.mrc_wiring.specs.ModelForms.{slot_number, is_at}
 use Rattle.mrc_wiring.specs.Finding.{item_interface}

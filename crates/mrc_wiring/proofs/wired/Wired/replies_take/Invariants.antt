@@ -1,6 +1,6 @@
 use Rattle.std.proofs.Common.{◌≡◌, drop, length}
 use Rattle.std.specs.Prelude.{flat_map}
-use Rattle.mrc_interface.specs.Tables.{Row}
+use Rattle.mrc_forms.specs.Tables.{Row}
 use Rattle.mrc_wiring.specs.Table.{wiring_of}
 use Rattle.mrc_wiring.specs.Sorts.{sorts_of}
 use Rattle.mrc_wiring.specs.ModelForms.{reply_in, interface_of}

@@ -1,6 +1,6 @@
 use Rattle.std.proofs.Common.{◌≡◌, drop, map}
 use Rattle.std.specs.Prelude.{find}
-use Rattle.mrc_interface.specs.View.{slot_of}
+use Rattle.mrc_forms.specs.View.{slot_of}
 use Rattle.mrc_wiring.specs.ModelForms.{is_at}
 use Rattle.mrc_wiring.proofs.wired.Wired.slot_number.Given as goal
 

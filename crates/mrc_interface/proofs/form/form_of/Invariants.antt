@@ -1,7 +1,7 @@
 use Rattle.std.proofs.Common.{◌≡◌, ◌≤◌, ◌+◌, ◌++◌, map, drop, length}
 use Rattle.mrc_mig_parse.specs.Meanings.{item_of}
-use Rattle.mrc_interface.specs.Forms.{form_of, body, slots_from}
-use Rattle.mrc_interface.proofs.form.Form.of.Given as goal
+use Rattle.mrc_interface.specs.Bodies.{form_of, body, slots_from}
+use Rattle.mrc_interface.proofs.form.form_of.Given as goal
 
 abbrev pub invariant-loop-argument : goal.invariant-loop-argument
 invariant-loop-argument l =

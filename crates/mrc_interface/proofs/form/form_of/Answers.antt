@@ -4,9 +4,9 @@ use Rattle.std.proofs.lemmas.List.Folds.{list_all-map}
 use Rattle.std.proofs.lemmas.List.Sums.{AllPass-from_list_all}
 use Rattle.mrc_mig_parse.specs.declared.subsystem.Argument.{Argument}
 use Rattle.mrc_mig_parse.specs.Arguments.{Item}
-use Rattle.mrc_mig_parse.specs.Bounds.{shape_fits}
+use Rattle.mrc_forms.specs.Shapes.{shape_fits}
 use Rattle.mrc_mig_parse.specs.Meanings.{item_of}
-use Rattle.mrc_interface.proofs.form.Form.of.Goals as goal
+use Rattle.mrc_interface.proofs.form.form_of.Goals as goal
 
 -- each argument has a shape that fits
 pub push-requires-clause-fits : goal.push-requires-clause-fits

@@ -1,6 +1,6 @@
 use Rattle.std.proofs.Common.{◌≡◌, ◌↔◌, drop, map}
-use Rattle.mrc_interface.specs.View.{slot_of}
-use Rattle.mrc_interface.proofs.form.same_slots.Given as goal
+use Rattle.mrc_forms.specs.View.{slot_of}
+use Rattle.mrc_forms.proofs.form.same_slots.Given as goal
 
 abbrev pub invariant-loop-i : goal.invariant-loop-i
 invariant-loop-i l = (map slot_of (drop l.i l.slots) ≡ map slot_of (drop l.i l.others))

@@ -1,0 +1,4 @@
+pub mod Shapes
+pub mod Forms
+pub mod Tables
+pub mod View

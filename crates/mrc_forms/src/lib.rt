@@ -1,0 +1,11 @@
+//! The forms of a subsystem's messages, by their ids.
+#![tactic(auto)]
+
+mod form;
+mod interface;
+mod shape;
+
+pub use form::{Form, FormKind, Slot};
+pub use interface::{Interface, Row};
+pub use mrc_model::RequestKind;
+pub use shape::Shape;
