@@ -6,8 +6,8 @@ use thiserror::Error;
 /// order here. Line 0 stands for the list of interfaces.
 #[derive(Clone, Copy, Debug, PartialEq, Eq, Error)]
 pub enum ResolveFault {
-    /// The line names a task, a port or a kind of births that no earlier line has, an interface that
-    /// is not there, or a type that no port argument of the interface has.
+    /// The line names a task, a port or a kind of births that no earlier line has, an interface
+    /// that is not there, or a type that no port argument of the interface has.
     #[error("UnknownName {0}")]
     UnknownName(u32),
     /// The line gives a name that an earlier line gave to another of its kind, or says once more

@@ -101,8 +101,8 @@ kind_left_out = refl
 
 admit_by_kind : wiring_says Second (words (codes "admit fsys.file_t births fs 1"))
     ≡ Some (Admit (codes "fsys") (codes "file_t") (Some (class.Births (codes "fs") 1)))
-unfolding words between_blanks is_blank wiring_says admit_line admitted class_of births_with_kind is_name
-    kind_of
+unfolding words between_blanks is_blank wiring_says admit_line admitted class_of births_with_kind
+    is_name kind_of
 admit_by_kind = refl
 
 no_kind_in_version_1 : says (codes "admit fsys.file_t births fs 1") ≡ None

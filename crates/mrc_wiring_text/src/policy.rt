@@ -24,8 +24,8 @@ pub enum ClassName {
     Port(Name),
     /// `task U`: the kernel port of U.
     Task(Name),
-    /// `births U K`: the ports of kind K that U's space, or that of a task that is made like U, is the
-    /// first to hold. `births U` are those of kind 0.
+    /// `births U K`: the ports of kind K that U's space, or that of a task that is made like U, is
+    /// the first to hold. `births U` are those of kind 0.
     Births {
         /// U.
         task: Name,

@@ -46,9 +46,9 @@ pub enum WiringSays {
         /// What the port's class accepts.
         accepts: Items,
     },
-    /// `births T K accepts ITEMS`: the ports of kind K that T's space, or that of a task that is made
-    /// like T, is the first to hold accept the items. In version 1 it is `births T accepts ITEMS`,
-    /// which are those of kind 0.
+    /// `births T K accepts ITEMS`: the ports of kind K that T's space, or that of a task that is
+    /// made like T, is the first to hold accept the items. In version 1 it is
+    /// `births T accepts ITEMS`, which are those of kind 0.
     Births {
         /// T.
         task: Name,
