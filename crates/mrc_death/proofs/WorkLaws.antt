@@ -7,7 +7,7 @@ use Rattle.mrc_model.specs.World.{Space, Store, Held, set_space}
 use Rattle.mrc_model.specs.Death.{Doomed, has, has_receive, queued_on, queued_rights, dying, bury}
 use Rattle.mrc_model.specs.Death.{notify_once, notify_destroyed, perished_port, destroy}
 use Rattle.mrc_model.specs.Destroyed as model
-use Rattle.mrc_model.specs.Destroyed.{TakenOut, destroyed, destroy_out, taken_out}
+use Rattle.mrc_model.specs.Destroyed.{destroyed, destroy_out, taken_out}
 use Rattle.mrc_death.specs.Losing.{is_losing}
 use Rattle.mrc_death.specs.Plans.{HasRoom, Work, work_done, once_ports, kept_ports, tell_once}
 use Rattle.mrc_death.specs.Plans.{tell_destroyed, carried_out, IsReadyFor, IsWorkOf, IsPlanOf}

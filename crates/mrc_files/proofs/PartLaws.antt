@@ -1,11 +1,11 @@
 -- A path's two parts, and how long the name of a part file is.
 use Rattle.std.proofs.Common.{◌≡◌, ℕ, ◌+◌, ◌<◌, ◌≤◌, ◌^◌, ◌⊎◌, inl, inr, List, [], ◌∷◌, ◌++◌, length}
-use Rattle.std.proofs.Common.{refl, sym, ap, ap₂, subst, ◌∙◌, arith, true, false}
-use Rattle.std.specs.Prelude.{◌≢◌, codes, decimal, nat_le}
-use Rattle.std.specs.Path.{has_no_slash, HasNoSlash}
+use Rattle.std.proofs.Common.{refl, ap, ap₂, ◌∙◌, arith, true}
+use Rattle.std.specs.Prelude.{◌≢◌, codes, decimal}
+use Rattle.std.specs.Path.{has_no_slash}
 use Rattle.std.proofs.lemmas.List.{length-append}
 use Rattle.std.proofs.lemmas.Fmt.{length-decimal-le}
-use Rattle.std.proofs.lemmas.Bool.{cond-true, cond-false, cond_both, cases_Bool}
+use Rattle.std.proofs.lemmas.Bool.{cond-true, cond-false, cases_Bool}
 use Rattle.std.proofs.lemmas.Bool.Decides.{leb_tells}
 use Rattle.std.proofs.lemmas.Float.{T_from_true}
 use Rattle.mrc_files.specs.Paths.{folder, name, shown, part_name, part}

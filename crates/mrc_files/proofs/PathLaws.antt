@@ -1,8 +1,8 @@
 -- Paths and their two parts.
-use Rattle.std.proofs.Common.{◌≡◌, ℕ, zero, suc, ◌+◌, ◌<◌, ◌≤◌, List, [], ◌∷◌, ◌++◌, length, take}
-use Rattle.std.proofs.Common.{drop, get_or, refl, sym, ap, ap₂, subst, ◌∙◌, arith, rules, true, false}
-use Rattle.std.specs.Prelude.{Bool, ◌&&◌, not, cond}
-use Rattle.std.specs.Path.{slash, has_no_slash, HasNoSlash}
+use Rattle.std.proofs.Common.{◌≡◌, ℕ, suc, ◌+◌, ◌<◌, List, [], ◌∷◌, ◌++◌, length}
+use Rattle.std.proofs.Common.{drop, get_or, refl, sym, ap, ap₂, ◌∙◌, arith, true, false}
+use Rattle.std.specs.Prelude.{◌&&◌, not}
+use Rattle.std.specs.Path.{slash, has_no_slash}
 use Rattle.std.specs.Prelude.{Option, Some, None, MatchOption}
 use Rattle.std.specs.Str.Pattern.{RFindsChar, SplitsAroundMatch}
 use Rattle.std.proofs.Common.{Bor, eqb}

@@ -1,6 +1,6 @@
 -- The journal of a server: a run of its machine, and each seat's part of it. This profile's own
 -- choice.
-use Rattle.std.specs.Prelude.{◌≡◌, ℕ, List, [], ◌∷◌, map, if◌then◌else◌, ◌==◌}
+use Rattle.std.specs.Prelude.{ℕ, List, [], ◌∷◌, map, if◌then◌else◌, ◌==◌}
 use Rattle.mrc_check.specs.Verdict.{Case}
 use Rattle.mrc_confine.specs.Guards.{wiring_in}
 use Rattle.mrc_live.specs.declared.event.Event.{Event}

@@ -9,7 +9,7 @@ use Rattle.std.specs.Prelude.{if◌then◌else◌}
 use Rattle.std.specs.List.{list_all, after_last, starts_with, prefix_len, suffix_len, take_while}
 use Rattle.std.specs.Option.{ok_or}
 use Rattle.std.specs.Char.{is_ascii_digit}
-use Rattle.std.proofs.lemmas.Bool.{cond_both, eqb-true, not-true, and_parts, and_from, and_right}
+use Rattle.std.proofs.lemmas.Bool.{eqb-true, not-true, and_parts, and_from, and_right}
 use Rattle.std.proofs.lemmas.Bool.{or_parts, cond-true, cond-false, cases_Bool, false≢true}
 use Rattle.std.proofs.lemmas.Bool.{ltb-true, lt-ltb, le-leb, leb-true, eq-eqb, or_left, and_left}
 use Rattle.std.proofs.lemmas.Bool.Decides.{nat_tests}
@@ -34,7 +34,7 @@ use Rattle.mrc_mig_lex.specs.Lexing.{lexeme_of, tokens_from, tokens_of}
 use Rattle.mrc_mig_lex.proofs.LexingLaws.{passed_over}
 use Rattle.mrc_mig_lex.proofs.PieceLaws.{Yields, yields, fails, choice, option, piece_is, IsOther}
 use Rattle.mrc_mig_lex.proofs.PieceLaws.{sign_other}
-use Rattle.mrc_mig_lex.specs.Parts.{Part, Ends, is_fresh, NoClose, IsBlank, stays_open, IsClosed}
+use Rattle.mrc_mig_lex.specs.Parts.{Part, Ends, is_fresh, NoClose, stays_open, IsClosed}
 use Rattle.mrc_mig_lex.specs.Parts.{IsToken, IsPart, AreParts, tokens_among, HasTokens}
 
 -- whether only blanks stand on the line, after one more character

@@ -1,16 +1,12 @@
 -- Each call keeps all tasks, with their kernel ports and classes.
 use Rattle.std.proofs.Common.{◌≡◌, ℕ, inl, inr, Bool, true, false, Some, Ok, Err, refl, sym, ◌∙◌}
-use Rattle.std.proofs.Common.{ap, ℤ, if◌then◌else◌}
+use Rattle.std.proofs.Common.{ap, if◌then◌else◌}
 use Rattle.std.proofs.lemmas.Bool.{cases_eq}
-use Rattle.mrc_base.specs.declared.Disp.{Disp}
 use Rattle.mrc_base.specs.declared.Right.{Right}
 use Rattle.mrc_base.specs.declared.Right.TheVariants as named
 use Rattle.mrc_model.specs.declared.Entry.{Entry}
-use Rattle.mrc_model.specs.declared.Entry.TheVariants.{Receive as ReceiveEntry, Send as SendEntry}
-use Rattle.mrc_model.specs.declared.Entry.TheVariants.{SendOnce as OnceEntry, PortSet as SetEntry}
-use Rattle.mrc_model.specs.declared.Entry.TheVariants.{DeadName as DeadEntry}
+use Rattle.mrc_model.specs.declared.Entry.TheVariants.{Receive as ReceiveEntry}
 use Rattle.mrc_model.specs.Map.{get, insert, next_key}
-use Rattle.mrc_model.specs.Message.{Message}
 use Rattle.mrc_model.specs.Wiring.{Wiring}
 use Rattle.mrc_model.specs.World.{Store, Task, World}
 use Rattle.mrc_model.specs.Reply.{Reply, DeadTask, Try, Call}

@@ -21,7 +21,7 @@ use Rattle.mrc_files.specs.declared.streams.ReadFault.TheVariants.{Memory as NoM
 use Rattle.mrc_command.specs.declared.command.LiveFiles.{LiveFiles}
 use Rattle.mrc_files.specs.Files.{Held, IsFirstUnread}
 use Rattle.mrc_program.specs.Texts.{CheckTexts, LiveTexts, AreAccepted, said_by}
-use Rattle.mrc_program.specs.Told.{status_of, out_of, IsError, IsFaultOf}
+use Rattle.mrc_program.specs.Told.{status_of, out_of, IsError}
 use Rattle.mrc_program.specs.Told.{ToldMemory, ToldFault, ToldNo, ToldOfScript, UnreadTold}
 use Rattle.mrc_program.specs.Told.{ToldHalted, ToldUnread}
 use Rattle.mrc_command.specs.declared.command.Command.{Command}

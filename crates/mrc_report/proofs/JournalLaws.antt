@@ -27,7 +27,7 @@ use Rattle.mrc_report.specs.Plays.{Begins, SaysAll, SaysFirst, asked_of, calls_o
 use Rattle.mrc_report.specs.Printing.{event_line, end_line}
 use Rattle.mrc_report.specs.Replay.{event_lines}
 use Rattle.mrc_report.specs.declared.script.TaskCall.{TaskCall}
-use Rattle.mrc_wiring.specs.Table.{Table, wiring_of}
+use Rattle.mrc_wiring.specs.Table.{Table}
 use Rattle.mrc_wiring_text.specs.declared.reading.Line.{Line}
 
 -- the line of one more event

@@ -1,12 +1,11 @@
 -- The lines that tasks say next, counted line by line and event by event.
 use Rattle.std.proofs.Common.{◌≡◌, ◌+◌, ◌≤◌, ℕ, zero, suc, List, [], ◌∷◌, ◌++◌, Some, None, Bool}
 use Rattle.std.proofs.Common.{true, false, take, drop, length, map, slice_get, refl, sym, ap, ◌∙◌}
-use Rattle.std.proofs.Common.{subst, arith, ◌==◌, cond}
+use Rattle.std.proofs.Common.{arith, ◌==◌, cond}
 use Rattle.std.proofs.lemmas.List.{take-append-drop, append-nil, length-append, map-append}
 use Rattle.mrc_live.proofs.Following.{take_next}
 use Rattle.mrc_live.specs.Runs.{event_of}
 use Rattle.mrc_live.specs.declared.event.Event.{Event as LiveEvent}
-use Rattle.mrc_model.specs.Reply.{Call}
 use Rattle.mrc_model.specs.Runs.{Event}
 use Rattle.mrc_report.specs.Halts.{lines_of}
 use Rattle.mrc_report.specs.Journal.{calls_by}

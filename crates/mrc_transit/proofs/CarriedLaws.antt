@@ -8,11 +8,10 @@ use Rattle.mrc_base.specs.declared.Disp.{Disp}
 use Rattle.mrc_base.specs.Disposition.{given, disp_of_number}
 use Rattle.mrc_model.specs.declared.Item.{Item}
 use Rattle.mrc_model.specs.declared.Code.TheVariants.{MachSendInvalidRight}
-use Rattle.mrc_model.specs.Rights.{given_number}
 use Rattle.mrc_model.specs.Message.{Arg, Data, Ports, Message}
 use Rattle.mrc_model.specs.Wiring.{Wiring, Shape}
 use Rattle.mrc_model.specs.World.{Store, QueuedArg, QueuedData, QueuedItems}
-use Rattle.mrc_model.specs.Reply.{Reply, Refused, Try, ◌>>=◌, ◌>>◌, or_refuse}
+use Rattle.mrc_model.specs.Reply.{Refused, Try, ◌>>=◌, ◌>>◌, or_refuse}
 use Rattle.mrc_model.specs.CallSend.{take_item, admit_item, take_items, take_arg, take_args}
 use Rattle.mrc_model.specs.CallSend.{first_sort, rest_of}
 use Rattle.mrc_desc.specs.Laws.{OtherArg, OtherArgs}

@@ -1,4 +1,4 @@
-use Rattle.std.proofs.Common.{◌≡◌, ◌++◌, [], ◌∷◌, Some, slice_get, ap, sym, refl, ◌∙◌, ◌==◌}
+use Rattle.std.proofs.Common.{◌≡◌, ◌++◌, [], ◌∷◌, Some, slice_get, ap, sym, ◌∙◌, ◌==◌}
 use Rattle.std.proofs.Common.{rules}
 use Rattle.std.proofs.lemmas.Option.{slice_get_read}
 use Rattle.mrc_report.specs.Plays.{calls_of}
