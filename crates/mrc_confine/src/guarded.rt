@@ -81,8 +81,8 @@ impl Guarded {
     /// The world that the machine has come to.
     pub fn world(&self) -> &World
         ensures exact { result.now ≡ self.now.world }
-        // It is well formed, the accepted facts cover it, it has no breach of the policy, and it has
-        // all tasks of the wiring.
+        // It is well formed, the accepted facts cover it, it has no breach of the policy, and it
+        // has all tasks of the wiring.
         ensures kept { IsGuarded self.now.confined self.now.world }
     {
         &self.world

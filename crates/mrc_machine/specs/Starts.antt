@@ -14,8 +14,8 @@ use Rattle.mrc_model.specs.CallCreateTask as made
 use Rattle.mrc_model.specs.First.{First}
 use Rattle.mrc_names.specs.Takes.{give_right}
 
--- each number below that of the task lines is a task's, the next one is free, and there were as many
--- births as task lines and port lines
+-- each number below that of the task lines is a task's, the next one is free, and there were as
+-- many births as task lines and port lines
 pub record IsStart (f : First) : Type 0 where
   pub tasks : (t : ℕ) → t < f.tasks → IsSome (get f.world.tasks t)
   pub next : next_key f.world.tasks ≡ f.tasks

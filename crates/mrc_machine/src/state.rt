@@ -42,8 +42,8 @@ use mrc_ports::Store;
 use std::alloc::{AllocError, Global};
 use std::marker::Model;
 
-/// All tasks, and the store with their spaces and all ports. Each task has a space, and of two tasks
-/// the later one's kernel port was born later.
+/// All tasks, and the store with their spaces and all ports. Each task has a space, and of two
+/// tasks the later one's kernel port was born later.
 #[derive(Debug, Drop)]
 pub(crate) struct State {
     pub(crate) alloc: Global,

@@ -219,7 +219,8 @@ abbrev pub CutLeast : MakeFiles → Table → Held → Told → Type 0
 CutLeast files table after told = OfLeast (λ draft. ToldCut files draft after) table told
 
 -- what is told of the wiring that texts mean
-pub record OfWiring (Tells : Table → Told → Type 0) (texts : SystemTexts) (told : Told) : Type 0 where
+pub record OfWiring (Tells : Table → Told → Type 0) (texts : SystemTexts) (told : Told)
+    : Type 0 where
   pub table : Table
   pub says : wired_by texts ≡ Ok table
   pub tells : Tells table told
@@ -257,8 +258,8 @@ pub record ToldWorkers (files : MakeFiles) (told : Told) : Type 0 where
 pub record ToldUnmade (files : MakeFiles) (told : Told) : Type 0 where
   pub why : ToldUnwritten files told ⊎ ToldWorkers files told
 
--- what is told where the certificate was not taken: how many bytes were, or that memory ran out. Want
--- of memory is no file's fault
+-- what is told where the certificate was not taken: how many bytes were, or that memory ran out.
+-- Want of memory is no file's fault
 abbrev pub UnwrittenTold : MakeFiles → OrMemory WriteFault → Result Told AllocError → Type 0
 UnwrittenTold files (Fault fault) result = IsOkAnd result (ToldTaken files fault.written)
 UnwrittenTold files Memory result = IfOk result ToldMemory

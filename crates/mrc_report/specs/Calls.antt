@@ -203,8 +203,8 @@ child_of_word wired digits = do
   n ← number_of_word digits
   if nat_lt n wired then None else Some n
 
--- who calls in a replay: the task that has this one of the names, or `@N`, the task of the number N,
--- which is not wired
+-- who calls in a replay: the task that has this one of the names, or `@N`, the task of the number
+-- N, which is not wired
 unfoldable pub caller_of_word : List (List ℕ) → List ℕ → Option ℕ
 caller_of_word tasks [] = None
 caller_of_word tasks (byte ∷ digits) =

@@ -1,5 +1,5 @@
--- What a line of a script says where tasks run as threads: the call of a wired task, written as in a
--- replay, or `wait NAME LIMIT`, which is a receive that waits for a message. This profile's own
+-- What a line of a script says where tasks run as threads: the call of a wired task, written as in
+-- a replay, or `wait NAME LIMIT`, which is a receive that waits for a message. This profile's own
 -- choice.
 use Rattle.std.specs.Prelude.{ℕ, Bool, true, false, bytes_eq, codes, List, ◌∷◌, Option, Some}
 use Rattle.std.specs.Prelude.{None, if◌then◌else◌}

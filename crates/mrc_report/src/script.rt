@@ -128,8 +128,8 @@ fn script_of(
 /// Reads a script of a wiring's tasks, or tells its first line that is none of the grammar. A line
 /// is the name of a wired task, a call by Mach's name without `mach_port_`, and the call's
 /// parameters in order. In a replay a task that is not wired stands as `@N`, N its number. Where
-/// tasks run as threads (`live`) all are wired, and a line may also be `wait` with the parameters of
-/// a receive.
+/// tasks run as threads (`live`) all are wired, and a line may also be `wait` with the parameters
+/// of a receive.
 pub fn read_script(
     alloc: Global,
     wired: &Wired,
