@@ -1,6 +1,7 @@
 //! What a wiring says by numbers and names.
 
 use mrc_base::{ClassId, Disp, Fact, TaskId};
+use mrc_forms::{Interface, MessageKind};
 use mrc_model::{FirstLine, LabelItem};
 use mrc_wiring::Wired;
 use mrc_words::{class_word, right_word, task_word};
@@ -83,6 +84,42 @@ pub fn accepts(alloc: Global, wired: &Wired) -> Result<String, AllocError> {
     Ok(out)
 }
 
+/// The number of a type in the forms of this message of an interface.
+fn sort_in(
+    wired: &Wired,
+    interface: &Interface,
+    kind: MessageKind,
+    item: LabelItem,
+    type_name: &str,
+) -> Option<usize> {
+    for row in interface.rows() {
+        if let Some(form) = row.form(kind) {
+            for slot in form.slots() {
+                if type_name == slot.type_name.as_str() {
+                    let typed = wired.item_form(item, form.id())?;
+                    return Some(typed.sort(slot.argument));
+                }
+            }
+        }
+    }
+    None
+}
+
+/// The number of a type of the interface of a number; one that no type has where there is none.
+fn sort_of(wired: &Wired, number: usize, type_name: &str) -> usize {
+    let Some(interface) = wired.interface(number) else {
+        return usize::MAX;
+    };
+    let request = LabelItem::Request(number);
+    match sort_in(wired, interface, MessageKind::Request, request, type_name) {
+        Some(sort) => sort,
+        None => {
+            let reply = LabelItem::Reply(number);
+            sort_in(wired, interface, MessageKind::Reply, reply, type_name).unwrap_or(usize::MAX)
+        }
+    }
+}
+
 /// The classes that a type admits: the type is given as the number of its interface, `.` and its
 /// name.
 pub fn admitted(alloc: Global, wired: &Wired, text: &str) -> Result<String, AllocError> {
@@ -90,7 +127,7 @@ pub fn admitted(alloc: Global, wired: &Wired, text: &str) -> Result<String, Allo
     let Ok(number) = number.parse() else {
         return String::from_str(alloc, "no number");
     };
-    let sort = wired.sort(number, type_name);
+    let sort = sort_of(wired, number, type_name);
     let mut out = String::new(alloc);
     for class in 0..wired.classes() + 1 {
         if wired.admits(sort, ClassId(class)) {

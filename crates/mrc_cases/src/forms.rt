@@ -3,9 +3,10 @@
 use crate::messages::bytes_of;
 use anyhow::Result;
 use mrc_base::OrMemory;
-use mrc_forms::{Form, FormKind, Interface, RequestKind, Shape};
+use mrc_forms::{Form, FormKind, Interface, MessageKind, RequestKind, Shape};
 use mrc_interface::{FileFault, read_interface, read_interfaces};
 use std::alloc::{AllocError, Global};
+use std::fmt::Write;
 
 fn kind_word(kind: FormKind) -> &'static str {
     match kind {
@@ -30,8 +31,8 @@ fn shape_text(alloc: Global, shape: &Shape) -> Result<String, AllocError> {
 /// A form: what it is, its id, its arguments, and its slots by argument, disposition and type.
 fn form_text(alloc: Global, form: &Form) -> Result<String, AllocError> {
     let mut text = format!(in alloc; "; {} {}", kind_word(form.kind()), form.id())?;
-    for shape in form.arguments() {
-        text.push_str(shape_text(alloc, shape)?.as_str())?;
+    for argument in form.arguments() {
+        text.push_str(shape_text(alloc, &argument.shape)?.as_str())?;
     }
     for slot in form.slots() {
         let disposition = slot.disposition.number();
@@ -66,6 +67,50 @@ fn table_text(alloc: Global, interface: &Interface) -> Result<String, AllocError
 pub fn forms(alloc: Global, bytes: &[u8]) -> Result<String> {
     match read_interface(alloc, bytes) {
         Ok(interface) => Ok(table_text(alloc, &interface)?),
+        Err(fault) => Ok(fault.to_string(alloc)?),
+    }
+}
+
+/// A form by the name of its routine: its id, and the name of each argument, where it is a slot
+/// with its number and its type.
+fn named_text(
+    alloc: Global,
+    interface: &Interface,
+    kind: MessageKind,
+    name: &str,
+) -> Result<String, AllocError> {
+    let Some(form) = interface.form_named(kind, name) else {
+        return format!(in alloc; "; {name} has none");
+    };
+    let mut text = format!(in alloc; "; {} {name} {}", kind_word(form.kind()), form.id())?;
+    for argument in form.arguments() {
+        let name = argument.name.as_str();
+        write!(text, " {name}")?;
+        if let Some(slot) = form.slot_named(name) {
+            write!(text, "={}:{}", slot.argument, slot.type_name.as_str())?;
+        }
+    }
+    Ok(text)
+}
+
+/// The forms of a table by the names of their routines, those of replies behind those of requests.
+fn names_text(alloc: Global, interface: &Interface) -> Result<String, AllocError> {
+    let mut text = String::from_str(alloc, interface.name())?;
+    for kind in [MessageKind::Request, MessageKind::Reply] {
+        for row in interface.rows() {
+            if let Some(request) = row.form(MessageKind::Request) {
+                let named = named_text(alloc, interface, kind, request.name())?;
+                text.push_str(named.as_str())?;
+            }
+        }
+    }
+    Ok(text)
+}
+
+/// The names in the forms of a MIG file, or the fault of the reader that refuses it.
+pub fn names(alloc: Global, bytes: &[u8]) -> Result<String> {
+    match read_interface(alloc, bytes) {
+        Ok(interface) => Ok(names_text(alloc, &interface)?),
         Err(fault) => Ok(fault.to_string(alloc)?),
     }
 }

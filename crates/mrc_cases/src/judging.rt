@@ -33,7 +33,7 @@ fn class_of(wired: &Wired, text: &str) -> Result<ClassId> {
 
 /// Whether the slot of a form may carry a port: its argument's number and the port's class, with a
 /// blank between them.
-fn port_text(alloc: Global, wired: &Wired, form: &Form, port: &str) -> Result<String> {
+fn port_text(alloc: Global, wired: &Wired, form: &Form<'_>, port: &str) -> Result<String> {
     let (slot, class) = port.split_once(' ').unwrap_or((port, ""));
     Ok(
         match admit_port(wired, form, slot.parse()?, class_of(wired, class)?) {
@@ -44,7 +44,7 @@ fn port_text(alloc: Global, wired: &Wired, form: &Form, port: &str) -> Result<St
 }
 
 /// Where the form stands, and whether its slots may carry ports, which have `,` between them.
-fn form_text(alloc: Global, wired: &Wired, form: &Form, ports: &str) -> Result<String> {
+fn form_text(alloc: Global, wired: &Wired, form: &Form<'_>, ports: &str) -> Result<String> {
     let mut text = format!(in alloc; "item {} id {}", form.item, form.id)?;
     if ports.is_empty() {
         return Ok(text);

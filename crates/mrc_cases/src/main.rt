@@ -11,6 +11,7 @@
 //! - `basic`: the basic type of a name
 //! - `value`: the value of an expression, and where the first token stands that is behind it
 //! - `forms`: the table of forms of a MIG file
+//! - `names`: the forms of a MIG file by the names of their routines, with those of their arguments
 //! - `defs`: a list of MIG files, in hexadecimal digits with `,` between them: their names
 //! - `disposition`: what a number of MIG's port types needs of a sender and gives a receiver
 //! - `message`: in hexadecimal digits, what a message is written as that was read
@@ -62,6 +63,7 @@ fn said(alloc: Global, line: &str) -> Result<String> {
         "basic" => tokens::basic(alloc, text.as_str()),
         "value" => tokens::value(alloc, text.as_str()),
         "forms" => forms::forms(alloc, text.as_str().as_bytes()),
+        "names" => forms::names(alloc, text.as_str().as_bytes()),
         "defs" => forms::defs(alloc, text.as_str()),
         "disposition" => numbers::disposition(alloc, text.as_str()),
         "judge" => judging::judged(alloc, text.as_str()),

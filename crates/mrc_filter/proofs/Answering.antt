@@ -83,6 +83,14 @@ judge_is : (W : Wiring) (c : ℕ) (m : Message) (o : Option Form)
 unfolding judge
 judge_is W c m o e = ap (judge_found m) e
 
+-- where the form of this id is found
+pub judged_by : (W : Wiring) (c id : ℕ) (m : Message) (o : Option Form)
+    → id ≡ m.id
+    → o ≡ find (has_id id) (forms W c)
+    → judge W c m ≡ judge_found m o
+judged_by W c id m o same e =
+    judge_is W c m o (ap (λ n. find (has_id n) (forms W c)) (sym same) ∙ sym e)
+
 pub answered : (W : Wiring) (c : ℕ) (m : Message) → IsAnswer W c m (judge W c m)
 answered W c m =
     subst (IsAnswer W c m) (sym (judge_is W c m (find (has_id m.id) (forms W c)) refl))

@@ -4,16 +4,13 @@ use Rattle.std.proofs.Common.{length, drop, cond, Option, Some, None, refl, ap, 
 use Rattle.std.proofs.Common.{arith, get_or, add-one, drop-cons}
 use Rattle.std.specs.Option.{option_or}
 use Rattle.std.proofs.lemmas.List.{get_or_default}
-use Rattle.mrc_forms.specs.declared.shape.Shape.{Shape as TextShape}
 use Rattle.mrc_model.specs.declared.Denied.{Denied}
 use Rattle.mrc_model.specs.declared.Denied.TheVariants.{WrongShape}
 use Rattle.mrc_model.specs.Message.{Arg, Data, Ports}
 use Rattle.mrc_model.specs.Filter.{arg_name, first_difference}
 use Rattle.mrc_desc.specs.declared.argument.Argument.{Argument}
 use Rattle.mrc_desc.specs.View.{argument_of, arguments_of, desc_of}
-use Rattle.mrc_forms.specs.Forms.{Slot}
-use Rattle.mrc_wiring.specs.Sorts.{Sort}
-use Rattle.mrc_wiring.specs.ModelForms.{shape_of, shapes_from}
+use Rattle.mrc_model.specs.Wiring.{Shape}
 
 -- what a descriptor says is what the filter looks at
 pub name_of : (a : Arg) → (desc_of a).name ≡ arg_name a
@@ -28,10 +25,8 @@ pub not_chosen : {X : Type 0} (b : Bool) (x y : X) → false ≡ b → cond b x 
 not_chosen b x y e = ap (λ c. cond c x y) (sym e)
 
 -- the first difference from place i on
-abbrev pub differs_from : List Sort → ℕ → List Slot → ℕ → List TextShape → List Argument
-    → Option Denied
-differs_from sorts s slots i shapes args =
-    first_difference i (shapes_from sorts s slots i (drop i shapes)) (arguments_of (drop i args))
+abbrev pub differs_from : ℕ → List Shape → List Argument → Option Denied
+differs_from i shapes args = first_difference i (drop i shapes) (arguments_of (drop i args))
 
 -- what stands at a place, and what is behind it
 pub at_place : {X : Type 0} (xs : List X) (i : ℕ) (x : X) → i < length xs → x ≡ get_or xs i x
@@ -48,63 +43,55 @@ past (x ∷ xs) zero more = absurd (omega arith)
 past (x ∷ xs) (suc i) more = past xs i (omega arith)
 
 -- one place more
-pub place_turn : (sorts : List Sort) (s : ℕ) (slots : List Slot) (i : ℕ)
-    (shapes : List TextShape) (args : List Argument) (shape : TextShape) (a : Argument)
-    (here all : Option Denied)
+pub place_turn : (i : ℕ) (shapes : List Shape) (args : List Argument) (shape : Shape)
+    (a : Argument) (here all : Option Denied)
     → i < length args → a ≡ get_or args i a
     → i < length shapes → shape ≡ get_or shapes i shape
-    → first_difference i (shape_of sorts s slots i shape
-    ∷ shapes_from sorts s slots (i + 1) (drop (i + 1) shapes))
+    → first_difference i (shape ∷ drop (i + 1) shapes)
     (argument_of a ∷ arguments_of (drop (i + 1) args))
-    ≡ option_or here (differs_from sorts s slots (i + 1) shapes args)
-    → all ≡ differs_from sorts s slots i shapes args
-    → all ≡ option_or here (differs_from sorts s slots (i + 1) shapes args)
-place_turn sorts s slots i shapes args shape a here all less is there said told so_far =
+    ≡ option_or here (differs_from (i + 1) shapes args)
+    → all ≡ differs_from i shapes args
+    → all ≡ option_or here (differs_from (i + 1) shapes args)
+place_turn i shapes args shape a here all less is there said told so_far =
     so_far
-    ∙ ap (λ xs. first_difference i (shapes_from sorts s slots i xs) (arguments_of (drop i args)))
+    ∙ ap (λ xs. first_difference i xs (arguments_of (drop i args)))
     (at_place shapes i shape there said)
-    ∙ ap (λ ys. first_difference i (shapes_from sorts s slots i (shape ∷ drop (i + 1) shapes))
-    (arguments_of ys)) (at_place args i a less is)
+    ∙ ap (λ ys. first_difference i (shape ∷ drop (i + 1) shapes) (arguments_of ys))
+    (at_place args i a less is)
     ∙ told
 
 -- an argument that the form does not have
-pub extra : (sorts : List Sort) (s : ℕ) (slots : List Slot) (i : ℕ)
-    (shapes : List TextShape) (args : List Argument) (a : Argument) (all : Option Denied)
+pub extra : (i : ℕ) (shapes : List Shape) (args : List Argument) (a : Argument)
+    (all : Option Denied)
     → i < length args → a ≡ get_or args i a
     → length shapes ≤ i
-    → all ≡ differs_from sorts s slots i shapes args
+    → all ≡ differs_from i shapes args
     → Some (WrongShape i) ≡ all
-extra sorts s slots i shapes args a all less is more so_far =
+extra i shapes args a all less is more so_far =
     sym (so_far
-    ∙ ap (λ xs. first_difference i (shapes_from sorts s slots i xs) (arguments_of (drop i args)))
-    (past shapes i more)
+    ∙ ap (λ xs. first_difference i xs (arguments_of (drop i args))) (past shapes i more)
     ∙ ap (λ ys. first_difference i [] (arguments_of ys)) (at_place args i a less is))
 
 -- an argument that is missing
-pub missing : (sorts : List Sort) (s : ℕ) (slots : List Slot) (i : ℕ)
-    (shapes : List TextShape) (args : List Argument) (all : Option Denied)
+pub missing : (i : ℕ) (shapes : List Shape) (args : List Argument) (all : Option Denied)
     → length args ≤ i
     → i < length shapes
-    → all ≡ differs_from sorts s slots i shapes args
+    → all ≡ differs_from i shapes args
     → Some (WrongShape i) ≡ all
-missing sorts s slots i [] args all more less so_far = absurd (omega arith)
-missing sorts s slots i (x ∷ xs) args all more less so_far =
+missing i [] args all more less so_far = absurd (omega arith)
+missing i (x ∷ xs) args all more less so_far =
     sym (so_far
-    ∙ ap (λ ys. first_difference i (shapes_from sorts s slots i (drop i (x ∷ xs)))
-    (arguments_of ys)) (past args i more)
-    ∙ ap (λ zs. first_difference i (shapes_from sorts s slots i zs) [])
-    (at_place (x ∷ xs) i (get_or (x ∷ xs) i x) less
+    ∙ ap (λ ys. first_difference i (drop i (x ∷ xs)) (arguments_of ys)) (past args i more)
+    ∙ ap (λ zs. first_difference i zs []) (at_place (x ∷ xs) i (get_or (x ∷ xs) i x) less
     (get_or_default (x ∷ xs) i x (get_or (x ∷ xs) i x) less)))
 
 -- and none is
-pub all_met : (sorts : List Sort) (s : ℕ) (slots : List Slot) (i : ℕ)
-    (shapes : List TextShape) (args : List Argument) (all : Option Denied)
+pub all_met : (i : ℕ) (shapes : List Shape) (args : List Argument) (all : Option Denied)
     → length args ≤ i
     → length shapes ≤ i
-    → all ≡ differs_from sorts s slots i shapes args
+    → all ≡ differs_from i shapes args
     → None ≡ all
-all_met sorts s slots i shapes args all more less so_far =
+all_met i shapes args all more less so_far =
     sym (so_far
-    ∙ ap (λ ys. first_difference i (shapes_from sorts s slots i (drop i shapes))
-    (arguments_of ys)) (past args i more)
-    ∙ ap (λ zs. first_difference i (shapes_from sorts s slots i zs) []) (past shapes i less))
+    ∙ ap (λ ys. first_difference i (drop i shapes) (arguments_of ys)) (past args i more)
+    ∙ ap (λ zs. first_difference i zs []) (past shapes i less))

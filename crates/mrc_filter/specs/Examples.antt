@@ -8,8 +8,8 @@ use Rattle.mrc_model.specs.Filter.{judge}
 use Rattle.mrc_model.specs.Message.{Message, Arg, Data, Ports}
 use Rattle.mrc_model.specs.Wiring.{Wiring, Shape, RequestForm, ReplyForm}
 use Rattle.mrc_model.specs.Wiring.{OfRequest, OfReply, forms, admits}
-use Rattle.mrc_filter.specs.declared.form.Form.{Form}
-use Rattle.mrc_filter.specs.Places.{form_at, shapes_at, IsJudged, admitted}
+use Rattle.mrc_wiring.specs.Finding.{form_at}
+use Rattle.mrc_filter.specs.Places.{admitted}
 
 -- a simpleroutine that hands over a receive right
 abbrev hand : RequestForm
@@ -50,22 +50,19 @@ message id args = record {
 }
 
 -- the second item has the request, the first has none of the id
-abbrev place : ℕ → Form
-place item = record { class = 0; item = item; id = 2000 }
-
-second : form_at filing (place 1) ≡ Some (OfRequest hand)
+second : form_at filing 0 1 2000 ≡ Some (OfRequest hand)
 second = refl
 
-first : form_at filing (place 0) ≡ None
+first : form_at filing 0 0 2000 ≡ None
 first = refl
 
-behind : form_at filing (place 2) ≡ None
+behind : form_at filing 0 2 2000 ≡ None
 behind = refl
 
--- a message that meets the request, and the answer that tells it by its place
-met : IsJudged filing (Ok (place 1)) (judge filing 0 (message 2000 (Ports 16 (4 ∷ []) ∷ [])))
+-- a message that meets the request
+met : judge filing 0 (message 2000 (Ports 16 (4 ∷ []) ∷ [])) ≡ Ok (OfRequest hand)
 unfolding judge forms
-met = (OfRequest hand, refl, refl)
+met = refl
 
 -- another disposition, another id, a class that accepts nothing
 other : judge filing 0 (message 2000 (Ports 19 (4 ∷ []) ∷ [])) ≡ Err (WrongDisposition 0)
@@ -91,10 +88,10 @@ unfolding judge forms
 done = refl
 
 -- the slot admits ports of its own class
-own : admitted filing (shapes_at filing (place 1)) 0 0 ≡ Ok tt
+own : admitted filing hand.shapes 0 0 ≡ Ok tt
 unfolding admits
 own = refl
 
-kernel_port : admitted filing (shapes_at filing (place 1)) 0 1 ≡ Err (NotAdmitted 0)
+kernel_port : admitted filing hand.shapes 0 1 ≡ Err (NotAdmitted 0)
 unfolding admits
 kernel_port = refl

@@ -1,14 +1,17 @@
 //! Forms that classes accept, by where they stand.
 
 use mrc_base::ClassId;
+use mrc_wiring::TypedForm;
 
-/// A form that a class accepts, by where it stands in the wiring by which a message was judged.
-#[derive(Clone, Copy, Debug, PartialEq, Eq)]
-pub struct Form {
+/// A form that a class accepts, and where it stands in the wiring by which a message was judged.
+#[derive(Clone, Copy, Debug)]
+pub struct Form<'w> {
     /// The class.
     pub class: ClassId,
     /// The place of the form's item in the class's label, from 0.
     pub item: usize,
     /// The id of its messages.
     pub id: u32,
+    /// The form itself.
+    pub found: &'w TypedForm,
 }

@@ -15,20 +15,19 @@ use mrc_wiring::Wired;
 /// of the class has the message's id (`NoSuchId`), an argument is the first that differs from the
 /// form that has it (`WrongShape`, `WrongDisposition`), or all arguments fit and the disposition of
 /// the reply port does not (`ReplySlot`). Which ports the form's slots admit is not asked here.
-pub fn judge(wired: &Wired, class: ClassId, message: &Message) -> Result<Form, Denied>
-    ensures exact { IsJudged (wiring_of wired.now) result
-        (judge (wiring_of wired.now) class message.now) }
+pub fn judge<'w>(wired: &'w Wired, class: ClassId, message: &Message) -> Result<Form<'w>, Denied>
+    ensures exact { IsJudged (wiring_of wired.entry.now) result
+        (judge (wiring_of wired.entry.now) class message.now) }
 {
     let id = message.header().id;
-    for (place, item) in wired.label(class).iter().enumerate() {
-        if let Some(form) = wired.item_form(*item, id) {
-            meet(form, message)?;
-            return Ok(Form {
-                class,
-                item: place,
-                id,
-            });
-        }
-    }
-    Err(Denied::NoSuchId)
+    let Some((item, found)) = wired.form_of(class, id) else {
+        return Err(Denied::NoSuchId);
+    };
+    meet(found, message)?;
+    Ok(Form {
+        class,
+        item,
+        id,
+        found,
+    })
 }

@@ -8,7 +8,7 @@ mod judging;
 mod laws;
 mod meeting;
 
-pub use admit::{admit_port, sort_of};
+pub use admit::admit_port;
 pub use form::Form;
 pub use judging::judge;
 pub use laws::{admitting_is_sending, judging_is_meeting};

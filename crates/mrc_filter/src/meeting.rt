@@ -9,21 +9,19 @@ ghost use Rattle.mrc_model.specs.Wiring as model;
 ghost use Rattle.mrc_model.specs.Filter.{has_size, first_difference, is_zero_data, expected};
 ghost use Rattle.mrc_model.specs.Filter.{fits_reply, judge_found};
 ghost use Rattle.mrc_desc.specs.View.{argument_of, arguments_of};
-ghost use Rattle.mrc_forms.specs.Forms as forms;
-ghost use Rattle.mrc_wiring.specs.Sorts.{Sort};
-ghost use Rattle.mrc_wiring.specs.ModelForms.{shape_of, shapes_from};
-ghost use Rattle.mrc_wiring.specs.Finding.{form_by, model_form};
+ghost use Rattle.mrc_wiring.specs.Finding.{form_by};
 
 use mrc_base::{Disp, is_port_number};
 use mrc_desc::{Argument, Message};
-use mrc_forms::{Form, FormKind, RequestKind, Shape};
+use mrc_forms::{FormKind, RequestKind};
 use mrc_model::Denied;
+use mrc_wiring::{TypedArgument, TypedForm};
 
 /// Whether the items are as large and as many as the form says.
-fn has_size(shape: &Shape, argument: &Argument) -> bool
-    ensures { (sorts : List Sort) (s : ℕ) (slots : List forms.Slot) (i : ℕ)
-        → result ≡ has_size (shape_of sorts s slots i shape.now) (argument_of argument.now) }
+fn has_size(says: &TypedArgument, argument: &Argument) -> bool
+    ensures { result ≡ has_size says.now (argument_of argument.now) }
 {
+    let shape = says.shape;
     let number = shape.number as usize;
     shape.size == argument.size()
         && if shape.is_bound {
@@ -34,18 +32,16 @@ fn has_size(shape: &Shape, argument: &Argument) -> bool
 }
 
 /// How the argument, which has this number, differs from what the form says of it.
-fn difference(number: u32, shape: &Shape, argument: &Argument) -> Option<Denied>
-    ensures { (sorts : List Sort) (s : ℕ) (slots : List forms.Slot) (i : ℕ)
-        (shapes : List model.Shape) (args : List Arg)
-        → first_difference number (shape_of sorts s slots i shape.now ∷ shapes)
-        (argument_of argument.now ∷ args)
+fn difference(number: u32, says: &TypedArgument, argument: &Argument) -> Option<Denied>
+    ensures { (shapes : List model.Shape) (args : List Arg)
+        → first_difference number (says.now ∷ shapes) (argument_of argument.now ∷ args)
         ≡ option_or result (first_difference (number + 1) shapes args) }
 {
-    if !has_size(shape, argument) {
+    if !has_size(says, argument) {
         Some(Denied::WrongShape(number))
-    } else if shape.name == argument.name() {
+    } else if says.shape.name == argument.name() {
         None
-    } else if is_port_number(shape.name) && is_port_number(argument.name()) {
+    } else if is_port_number(says.shape.name) && is_port_number(argument.name()) {
         Some(Denied::WrongDisposition(number))
     } else {
         Some(Denied::WrongShape(number))
@@ -54,18 +50,16 @@ fn difference(number: u32, shape: &Shape, argument: &Argument) -> Option<Denied>
 
 /// The first difference between arguments and what a form says of them, a missing or an extra one
 /// included.
-fn first_difference(shapes: &[Shape], args: &[Argument]) -> Option<Denied>
+fn first_difference(shapes: &[TypedArgument], args: &[Argument]) -> Option<Denied>
     requires { length args.now < 2 ^ 32 }
-    ensures { (sorts : List Sort) (s : ℕ) (slots : List forms.Slot)
-        → result ≡ first_difference 0 (shapes_from sorts s slots 0 shapes.now)
-        (arguments_of args.now) }
+    ensures { result ≡ first_difference 0 shapes.now (arguments_of args.now) }
 {
     for (i, argument) in args.iter().enumerate() {
         let number = i as u32;
-        let Some(shape) = shapes.get(i) else {
+        let Some(says) = shapes.get(i) else {
             return Some(Denied::WrongShape(number));
         };
-        if let Some(denied) = difference(number, shape, argument) {
+        if let Some(denied) = difference(number, says, argument) {
             return Some(denied);
         }
     }
@@ -95,10 +89,8 @@ fn is_zero_data(args: &[Argument]) -> bool
 }
 
 /// What the form wants of these arguments: a reply whose code is not 0 has the code alone.
-fn expected<'a>(form: &'a Form, args: &[Argument]) -> &'a [Shape]
-    ensures { (sorts : List Sort) (s : ℕ)
-        → shapes_from sorts s form.entry.now.slots 0 result.now
-        ≡ expected (model_form sorts s form.entry.now) (arguments_of args.now) }
+fn expected<'a>(form: &'a TypedForm, args: &[Argument]) -> &'a [TypedArgument]
+    ensures { result.now ≡ expected form.entry.now (arguments_of args.now) }
 {
     let shapes = form.arguments();
     match form.kind() {
@@ -131,11 +123,10 @@ fn fits_reply(kind: FormKind, disp: u8) -> bool
 }
 
 /// Whether the message, which has the form's id, meets the form, or why it does not.
-pub(crate) fn meet(form: &Form, message: &Message) -> Result<(), Denied>
-    ensures { (sorts : List Sort) (s : ℕ) → MatchResult result
-        (λ _. judge_found message.now (Some (model_form sorts s form.now))
-        ≡ Ok (model_form sorts s form.now))
-        (λ denied. judge_found message.now (Some (model_form sorts s form.now)) ≡ Err denied) }
+pub(crate) fn meet(form: &TypedForm, message: &Message) -> Result<(), Denied>
+    ensures { MatchResult result
+        (λ _. judge_found message.now (Some form.now) ≡ Ok form.now)
+        (λ denied. judge_found message.now (Some form.now) ≡ Err denied) }
 {
     let args = message.args();
     if let Some(denied) = first_difference(expected(form, args), args) {

@@ -1,18 +1,27 @@
 //! What the body of a message looks like.
 
-ghost use Rattle.std.specs.Prelude.{◌≡◌, ◌≤◌, ◌+◌, ◌++◌, ◌↔◌, [], ◌∷◌, length, map, IfOk, OnOk};
-ghost use Rattle.std.specs.Prelude.{IsTrue};
+ghost use Rattle.std.specs.Prelude.{◌≡◌, ◌≤◌, ◌+◌, length, slice_get, IfOk, OnOk, IsTrue};
 ghost use Rattle.std.specs.List.{list_all};
+ghost use Rattle.std.specs.Option.{option_map};
 ghost use Rattle.mrc_base.specs.Limits.{limit_of_arguments};
 ghost use Rattle.mrc_forms.specs.Shapes.{shape_fits};
-ghost use Rattle.mrc_forms.specs.Forms.{empty_form, with_argument};
-ghost use Rattle.mrc_forms.specs.View.{slot_of};
+ghost use Rattle.mrc_forms.specs.Forms.{argument_fits, empty_form, has_name, slot_named};
+ghost use Rattle.mrc_forms.specs.Forms.{with_argument};
 
 use crate::shape::Shape;
 use mrc_base::{Copies, Disp, copy_all, same_all};
 use mrc_model::RequestKind;
 use std::alloc::{AllocError, Global};
 use std::marker::Model;
+
+/// Which of the two messages of a routine.
+#[derive(Clone, Copy, Debug, PartialEq, Eq)]
+pub enum MessageKind {
+    /// The request.
+    Request,
+    /// The reply.
+    Reply,
+}
 
 /// Which message of a routine a form is of.
 #[derive(Clone, Copy, Debug, PartialEq, Eq)]
@@ -23,9 +32,27 @@ pub enum FormKind {
     Reply,
 }
 
+/// An argument of the body of a message.
+#[derive(Debug, Drop)]
+pub struct Argument {
+    /// Its name in the routine; that of a return code is `RetCode`.
+    pub name: String,
+    /// What its data look like.
+    pub shape: Shape,
+}
+
+impl Model for Argument {
+    ghost use Rattle.std.specs.Prelude.{string_bytes};
+    ghost use Rattle.mrc_forms.specs.Forms as forms;
+
+    ghost Value = { forms.Argument };
+
+    ghost view = { λ a. record { name = string_bytes a.name; shape = a.shape } };
+}
+
 /// An argument that carries port rights. Where the argument is an array, each of its items is such
 /// a right.
-#[derive(Debug, PartialEq, Eq, Drop)]
+#[derive(Debug, Drop)]
 pub struct Slot {
     /// Its number among the arguments of the body, from 0.
     pub argument: usize,
@@ -35,39 +62,56 @@ pub struct Slot {
     pub type_name: String,
 }
 
+impl Model for Slot {
+    ghost use Rattle.std.specs.Prelude.{string_bytes};
+    ghost use Rattle.mrc_forms.specs.Forms as forms;
+
+    ghost Value = { forms.Slot };
+
+    ghost view = { λ s. record {
+      argument = s.argument;
+      disposition = s.disposition;
+      type_name = string_bytes s.type_name;
+    } };
+}
+
 /// What the body of a message looks like: its arguments, in order, and which of them carry port
 /// rights. There are 32 at most and the return code, of sizes and counts that types can have.
 #[derive(Debug, Drop)]
 pub struct Form {
+    name: String,
     id: u32,
     kind: FormKind,
-    arguments: Vec<Shape>,
+    arguments: Vec<Argument>,
     slots: Vec<Slot>,
 }
 
 impl Model for Form {
-    ghost use Rattle.std.specs.Prelude.{◌≡◌, ◌≤◌, ◌+◌, length, map, true};
+    ghost use Rattle.std.specs.Prelude.{◌≡◌, ◌≤◌, ◌+◌, length, string_bytes, true};
     ghost use Rattle.std.specs.List.{list_all};
     ghost use Rattle.mrc_base.specs.Limits.{limit_of_arguments};
-    ghost use Rattle.mrc_forms.specs.Shapes.{shape_fits};
     ghost use Rattle.mrc_forms.specs.Forms as forms;
-    ghost use Rattle.mrc_forms.specs.View.{slot_of};
+    ghost use Rattle.mrc_forms.specs.Forms.{argument_fits};
 
     ghost Value = { forms.Form };
 
     ghost view = { λ f. record {
+      name = string_bytes f.name;
       id = f.id;
       kind = f.kind;
       arguments = f.arguments.items;
-      slots = map slot_of f.slots.items;
+      slots = f.slots.items;
     } };
 
     ghost invariant = { λ f. (length f.arguments.items ≤ limit_of_arguments + 1)
-        × (list_all shape_fits f.arguments.items ≡ true) };
+        × (list_all argument_fits f.arguments.items ≡ true) };
 }
 
-/// The return code of a reply.
-const RETURN_CODE: Shape = Shape {
+/// The name of the return code.
+const RETURN_CODE: &str = "RetCode";
+
+/// What the return code's data look like: one INTEGER_32.
+const CODE: Shape = Shape {
     name: 2,
     size: 32,
     number: 1,
@@ -75,6 +119,13 @@ const RETURN_CODE: Shape = Shape {
 };
 
 impl Form {
+    /// The name of its routine.
+    pub fn name(&self) -> &str
+        ensures { result.now ≡ self.now.name }
+    {
+        self.name.as_str()
+    }
+
     /// The number that the message has as its msgh_id.
     pub fn id(&self) -> u32
         ensures { result ≡ self.now.id }
@@ -89,32 +140,54 @@ impl Form {
         self.kind
     }
 
-    /// What the data of each argument of the body look like, in order. In a reply the return code
-    /// is the first.
-    pub fn arguments(&self) -> &[Shape]
+    /// The arguments of the body, in order. In a reply the return code is the first.
+    pub fn arguments(&self) -> &[Argument]
         ensures shown { result.now ≡ self.now.arguments }
         ensures few { length result.now ≤ limit_of_arguments + 1 }
-        ensures kept { IsTrue (list_all shape_fits result.now) }
+        ensures kept { IsTrue (list_all argument_fits result.now) }
     {
         self.arguments.as_slice()
     }
 
     /// The arguments that carry port rights, in order.
     pub fn slots(&self) -> &[Slot]
-        ensures { map slot_of result.now ≡ self.now.slots }
+        ensures { result.now ≡ self.now.slots }
     {
         self.slots.as_slice()
     }
 
-    /// A form with no arguments but those that stand in front.
-    pub fn empty(alloc: Global, id: u32, kind: FormKind) -> Result<Form, AllocError>
-        ensures { IfOk result (λ form. form ≡ empty_form id kind) }
+    /// Whether the argument of this number is there, and has this name.
+    fn has_name(&self, argument: usize, name: &str) -> bool
+        ensures { result ≡ has_name name.now (slice_get self.now.arguments argument) }
+    {
+        match self.arguments.get(argument) {
+            Some(argument) => name == argument.name.as_str(),
+            None => false,
+        }
+    }
+
+    /// The slot that is the argument of this name.
+    pub fn slot_named(&self, name: &str) -> Option<&Slot>
+        ensures { option_map (λ slot. slot.now) result ≡ slot_named self.now name.now }
+    {
+        self.slots
+            .iter()
+            .find(|slot| self.has_name(slot.argument, name))
+    }
+
+    /// A form of a routine of this name, with no arguments but those that stand in front.
+    pub fn empty(alloc: Global, name: &str, id: u32, kind: FormKind) -> Result<Form, AllocError>
+        ensures { IfOk result (λ form. form ≡ empty_form name.now id kind) }
     {
         let mut arguments = Vec::new(alloc);
         if kind == FormKind::Reply {
-            arguments.push(RETURN_CODE)?;
+            arguments.push(Argument {
+                name: String::from_str(alloc, RETURN_CODE)?,
+                shape: CODE,
+            })?;
         }
         Ok(Form {
+            name: String::from_str(alloc, name)?,
             id,
             kind,
             arguments,
@@ -124,10 +197,16 @@ impl Form {
 
     /// Puts an argument behind the others. Where it carries port rights it is a slot, of the type
     /// of this name.
-    pub fn push(&mut self, alloc: Global, shape: Shape, type_name: &str) -> Result<(), AllocError>
+    pub fn push(
+        &mut self,
+        alloc: Global,
+        name: &str,
+        shape: Shape,
+        type_name: &str,
+    ) -> Result<(), AllocError>
         requires room { length self.old.arguments ≤ limit_of_arguments }
         requires fits { IsTrue (shape_fits shape) }
-        ensures { OnOk result (self.new ≡ with_argument self.old shape type_name.now) }
+        ensures { OnOk result (self.new ≡ with_argument self.old name.now shape type_name.now) }
     {
         if let Some(disposition) = Disp::of_number(shape.name) {
             self.slots.push(Slot {
@@ -136,16 +215,29 @@ impl Form {
                 type_name: String::from_str(alloc, type_name)?,
             })?;
         }
-        self.arguments.push(shape)?;
+        self.arguments.push(Argument {
+            name: String::from_str(alloc, name)?,
+            shape,
+        })?;
         Ok(())
     }
 }
 
-impl Slot {
-    /// An equal slot.
-    fn copy(&self, alloc: Global) -> Result<Slot, AllocError>
-        ensures { IfOk result (λ copy. slot_of copy ≡ slot_of self.now) }
-    {
+impl Copies for Argument {
+    fn copy(&self, alloc: Global) -> Result<Argument, AllocError> {
+        Ok(Argument {
+            name: String::from_str(alloc, self.name.as_str())?,
+            shape: self.shape,
+        })
+    }
+
+    fn same(&self, other: &Argument) -> bool {
+        self.name == other.name && self.shape == other.shape
+    }
+}
+
+impl Copies for Slot {
+    fn copy(&self, alloc: Global) -> Result<Slot, AllocError> {
         Ok(Slot {
             argument: self.argument,
             disposition: self.disposition,
@@ -153,56 +245,29 @@ impl Slot {
         })
     }
 
-    /// Whether the slots are equal.
-    fn same(&self, other: &Slot) -> bool
-        ensures { IsTrue result ↔ (slot_of self.now ≡ slot_of other.now) }
-    {
+    fn same(&self, other: &Slot) -> bool {
         self.argument == other.argument
             && self.disposition == other.disposition
             && self.type_name == other.type_name
     }
 }
 
-/// Equal slots, in the same order.
-fn copy_slots(alloc: Global, slots: &[Slot]) -> Result<Vec<Slot>, AllocError>
-    ensures { IfOk result (λ copies. map slot_of copies.items ≡ map slot_of slots.now) }
-{
-    let mut copies = Vec::with_capacity(alloc, slots.len())?;
-    for slot in slots {
-        copies.push(slot.copy(alloc)?)?;
-    }
-    Ok(copies)
-}
-
-/// Whether the slots are equal, in the same order.
-fn same_slots(slots: &[Slot], others: &[Slot]) -> bool
-    ensures { IsTrue result ↔ (map slot_of slots.now ≡ map slot_of others.now) }
-{
-    if slots.len() != others.len() {
-        return false;
-    }
-    for i in 0..slots.len() {
-        if !slots[i].same(&others[i]) {
-            return false;
-        }
-    }
-    true
-}
-
 impl Copies for Form {
     fn copy(&self, alloc: Global) -> Result<Form, AllocError> {
         Ok(Form {
+            name: String::from_str(alloc, self.name())?,
             id: self.id,
             kind: self.kind,
             arguments: copy_all(alloc, &self.arguments)?,
-            slots: copy_slots(alloc, &self.slots)?,
+            slots: copy_all(alloc, &self.slots)?,
         })
     }
 
     fn same(&self, other: &Form) -> bool {
-        self.id == other.id
+        self.name == other.name
+            && self.id == other.id
             && self.kind == other.kind
             && same_all(&self.arguments, &other.arguments)
-            && same_slots(&self.slots, &other.slots)
+            && same_all(&self.slots, &other.slots)
     }
 }

@@ -1,11 +1,13 @@
 //! The forms of a subsystem's messages by their ids.
 
-ghost use Rattle.std.specs.Prelude.{◌≡◌, ◌≤◌, ◌↔◌, length, None, string_bytes, IfOk, IfSome, IsTrue};
+ghost use Rattle.std.specs.Prelude.{◌≡◌, ◌≤◌, ◌↔◌, length, None, string_bytes};
+ghost use Rattle.std.specs.Prelude.{IfOk, IfSome, IsTrue};
 ghost use Rattle.std.specs.Option.{option_map};
 ghost use Rattle.mrc_base.specs.Limits.{limit_of_ids};
-ghost use Rattle.mrc_forms.specs.Tables.{request_form, reply_form, request_at, reply_at};
+ghost use Rattle.mrc_forms.specs.declared.form.MessageKind.TheVariants as messages;
+ghost use Rattle.mrc_forms.specs.Tables.{AreForms, form_in, form_named, form_of, place_of};
 
-use crate::form::Form;
+use crate::form::{Form, MessageKind};
 use mrc_base::{Copies, copy_all, same_all};
 use std::alloc::{AllocError, Global};
 use std::marker::Model;
@@ -28,6 +30,18 @@ impl Model for Row {
     ghost Value = { tables.Row };
 
     ghost view = { λ r. record { request = r.request; reply = r.reply } };
+}
+
+impl Row {
+    /// The form of this message.
+    pub fn form(&self, kind: MessageKind) -> Option<&Form>
+        ensures { option_map (λ form. form.now) result ≡ form_in kind self.now }
+    {
+        match kind {
+            MessageKind::Request => self.request.as_ref(),
+            MessageKind::Reply => self.reply.as_ref(),
+        }
+    }
 }
 
 impl Copies for Row {
@@ -54,7 +68,7 @@ pub struct Interface {
 impl Model for Interface {
     ghost use Rattle.std.specs.Prelude.{◌≤◌, length, string_bytes};
     ghost use Rattle.mrc_base.specs.Limits.{limit_of_ids};
-    ghost use Rattle.mrc_forms.specs.Tables.{Table};
+    ghost use Rattle.mrc_forms.specs.Tables.{AreForms, Table};
 
     ghost Value = { Table };
 
@@ -64,13 +78,19 @@ impl Model for Interface {
       rows = i.rows.items;
     } };
 
-    ghost invariant = { λ i. length i.rows.items ≤ limit_of_ids };
+    ghost invariant = { λ i. (length i.rows.items ≤ limit_of_ids)
+        × AreForms record { name = string_bytes i.name; base = i.base; rows = i.rows.items } };
 }
 
 impl Interface {
     /// The table of these rows, of which the first stands at this id.
     pub fn new(name: String, base: u32, rows: Vec<Row>) -> Interface
-        requires { length rows.items ≤ limit_of_ids }
+        requires few { length rows.items ≤ limit_of_ids }
+        requires formed { AreForms record {
+          name = string_bytes name;
+          base = base;
+          rows = rows.items;
+        } }
         ensures { result ≡ record { name = string_bytes name; base = base; rows = rows.items } }
     {
         Interface { name, base, rows }
@@ -89,42 +109,67 @@ impl Interface {
         ensures first { result.0 ≡ self.now.base }
         ensures count { result.1 ≡ length self.now.rows }
         ensures within { result.1 ≤ limit_of_ids }
+        ensures formed { AreForms self.now }
     {
         (self.base, self.rows.len())
     }
 
-    /// The form of the request that has the id of this place among the ids, counted from 0.
-    pub fn request_at(&self, place: usize) -> Option<&Form>
-        ensures { option_map (λ form. form.now) result ≡ request_at self.now place }
+    /// What stands at each id, in the order of the ids.
+    pub fn rows(&self) -> &[Row]
+        ensures { result.now ≡ self.now.rows }
     {
-        let row = self.rows.get(place)?;
-        row.request.as_ref()
+        self.rows.as_slice()
     }
 
-    /// The form of the reply to the request that has the id of this place.
-    pub fn reply_at(&self, place: usize) -> Option<&Form>
-        ensures { option_map (λ form. form.now) result ≡ reply_at self.now place }
+    /// The place among the ids, counted from 0, of the one whose message of this kind has the id;
+    /// none where the id is below that of all such messages.
+    pub fn place_of(&self, kind: MessageKind, id: u32) -> Option<usize>
+        ensures { result ≡ place_of kind self.now id }
     {
-        let row = self.rows.get(place)?;
-        row.reply.as_ref()
+        let id = match kind {
+            MessageKind::Request => id,
+            MessageKind::Reply => id.checked_sub(REPLY)?,
+        };
+        Some(id.checked_sub(self.base)? as usize)
+    }
+
+    /// The form of this message that has the id.
+    pub fn form_of(&self, kind: MessageKind, id: u32) -> Option<&Form>
+        ensures { option_map (λ form. form.now) result ≡ form_of kind self.now id }
+    {
+        let row = self.rows.get(self.place_of(kind, id)?)?;
+        row.form(kind)
     }
 
     /// The form of the request that has this id. No id is that of a request and of a reply.
     pub fn request_form(&self, id: u32) -> Option<&Form>
-        ensures exact { option_map (λ form. form.now) result ≡ request_form self.now id }
-        ensures once { IfSome result (λ _. reply_form self.now id ≡ None) }
+        ensures exact { option_map (λ form. form.now) result
+            ≡ form_of messages.Request self.now id }
+        ensures once { IfSome result (λ _. form_of messages.Reply self.now id ≡ None) }
     {
-        let row = self.rows.get(id.checked_sub(self.base)? as usize)?;
-        row.request.as_ref()
+        let _ids = self.ids();
+        self.form_of(MessageKind::Request, id)
     }
 
     /// The form of the reply that has this id, which is 100 above that of its request.
     pub fn reply_form(&self, id: u32) -> Option<&Form>
-        ensures { option_map (λ form. form.now) result ≡ reply_form self.now id }
+        ensures { option_map (λ form. form.now) result ≡ form_of messages.Reply self.now id }
     {
-        let row_id = id.checked_sub(REPLY)?;
-        let row = self.rows.get(row_id.checked_sub(self.base)? as usize)?;
-        row.reply.as_ref()
+        self.form_of(MessageKind::Reply, id)
+    }
+
+    /// The form of this message of the routine of this name.
+    pub fn form_named(&self, kind: MessageKind, name: &str) -> Option<&Form>
+        ensures { option_map (λ form. form.now) result ≡ form_named kind self.now name.now }
+    {
+        for row in &self.rows {
+            if let Some(form) = row.form(kind) {
+                if name == form.name() {
+                    return Some(form);
+                }
+            }
+        }
+        None
     }
 
     /// An equal interface.

@@ -5,7 +5,7 @@ mod form;
 mod interface;
 mod shape;
 
-pub use form::{Form, FormKind, Slot};
+pub use form::{Argument, Form, FormKind, MessageKind, Slot};
 pub use interface::{Interface, Row};
 pub use mrc_model::RequestKind;
 pub use shape::Shape;

@@ -2,7 +2,7 @@
 use Rattle.std.proofs.Common.{◌≡◌, ℕ, zero, suc, ◌+◌, ◌-◌, true, List, [], ◌∷◌, Option}
 use Rattle.std.proofs.Common.{Some, None, Ok, refl, sym, ap, ◌∙◌, subst, arith, nat_le}
 use Rattle.std.specs.Prelude.{slice_get, ◌↔◌}
-use Rattle.std.specs.Option.{option_map, option_and_then}
+use Rattle.std.specs.Option.{option_map}
 use Rattle.std.proofs.lemmas.Bool.{leb-true, le-leb}
 use Rattle.mrc_base.specs.Limits.{limit_of_number}
 use Rattle.mrc_base.specs.Reading.{◌>>=◌}
@@ -12,12 +12,13 @@ use Rattle.mrc_model.specs.IsIn.{IsIn, here, later}
 use Rattle.mrc_mig_parse.proofs.PhraseLemmas.{in_two, where_true}
 use Rattle.mrc_mig_parse.specs.Files.{Meaning, Row as Statement, Routine, SimpleRoutine, Skip}
 use Rattle.mrc_interface.specs.declared.fault.InterfaceFault.TheVariants.{IdRange}
-use Rattle.mrc_forms.specs.declared.form.FormKind.{FormKind}
+use Rattle.mrc_forms.specs.declared.form.MessageKind.{MessageKind}
+use Rattle.mrc_forms.specs.declared.form.MessageKind.TheVariants as messages
 use Rattle.mrc_forms.specs.Forms.{Form}
+use Rattle.mrc_forms.specs.Tables.{Row, Table, form_in, form_at, form_of, first_id, place_of}
+use Rattle.mrc_forms.specs.Tables.{message_of, AreForms}
 use Rattle.mrc_interface.specs.Subsystems.{row_of, last_id, row_at, rows_at, table_of}
-use Rattle.mrc_forms.specs.Tables.{Row, Table}
-use Rattle.mrc_forms.specs.Tables.{row_behind}
-use Rattle.mrc_interface.specs.Laws.{forms_at, HasForm, IsRequest, IsReply}
+use Rattle.mrc_interface.specs.Laws.{forms_at, HasForm}
 
 -- what is found by a function of what is found
 pub by_function : {A B : Type 0} (f : A → B) (o : Option A) (b : B) → option_map f o ≡ Some b
@@ -51,103 +52,105 @@ row_of_statement id (s ∷ ss) rows e i =
     (ok_is (first.0 ∷ rest.0) rows rest.2)
     (at_place id s ss first.0 rest.0 row (row_of_statement (id + 1) ss rest.0 rest.1) i)
 
--- the request of a statement that takes this id is one of its forms
-request_of_statement : (n : ℕ) (s : Statement) (form : Form) → (row_of n s).request ≡ Some form
-    → IsIn form (forms_at n s) × IsRequest form.kind × (form.id ≡ n)
-request_of_statement n (Routine items) form e =
-    subst (λ (f : Form). IsIn f (forms_at n (Routine items)) × IsRequest f.kind × (f.id ≡ n))
-    (same_Some _ _ e) (here, tt, refl)
-request_of_statement n (SimpleRoutine items) form e =
-    subst (λ (f : Form). IsIn f (forms_at n (SimpleRoutine items)) × IsRequest f.kind × (f.id ≡ n))
-    (same_Some _ _ e) (here, tt, refl)
-request_of_statement n Skip form e = absurd (not_None form (sym e))
+-- the id of this message of a statement that takes this id
+abbrev pub id_of : MessageKind → ℕ → ℕ
+id_of messages.Request n = n
+id_of messages.Reply n = n + 100
 
--- the one of its forms that is a request
-statement_of_request : (n : ℕ) (s : Statement) (form : Form) → IsIn form (forms_at n s)
-    → IsRequest form.kind → ((row_of n s).request ≡ Some form) × (form.id ≡ n)
-statement_of_request n (Routine items) form (here) is = (refl, refl)
-statement_of_request n (Routine items) form (later (here)) is = absurd is
-statement_of_request n (Routine items) form (later (later h)) is = elim h [ ]
-statement_of_request n (SimpleRoutine items) form (here) is = (refl, refl)
-statement_of_request n (SimpleRoutine items) form (later h) is = elim h [ ]
-statement_of_request n Skip form h is = elim h [ ]
+-- the form is the one of this message that a statement has which takes this id
+abbrev pub IsOf : MessageKind → ℕ → Statement → Form → Type 0
+IsOf kind n s form = IsIn form (forms_at n s) × (message_of form.kind ≡ kind)
+    × (form.id ≡ id_of kind n)
 
--- the reply likewise, 100 above
-reply_of_statement : (n : ℕ) (s : Statement) (form : Form) → (row_of n s).reply ≡ Some form
-    → IsIn form (forms_at n s) × IsReply form.kind × (form.id ≡ n + 100)
-reply_of_statement n (Routine items) form e =
-    subst (λ (f : Form). IsIn f (forms_at n (Routine items)) × IsReply f.kind × (f.id ≡ n + 100))
-    (same_Some _ _ e) (later here, tt, refl)
-reply_of_statement n (SimpleRoutine items) form e = absurd (not_None form (sym e))
-reply_of_statement n Skip form e = absurd (not_None form (sym e))
+-- what stands in the row of a statement is such a form
+form_of_statement : (kind : MessageKind) (n : ℕ) (s : Statement) (form : Form)
+    → form_in kind (row_of n s) ≡ Some form → IsOf kind n s form
+form_of_statement messages.Request n (Routine name items) form e =
+    subst (IsOf messages.Request n (Routine name items)) (same_Some _ _ e) (here, refl, refl)
+form_of_statement messages.Reply n (Routine name items) form e =
+    subst (IsOf messages.Reply n (Routine name items)) (same_Some _ _ e) (later here, refl, refl)
+form_of_statement messages.Request n (SimpleRoutine name items) form e =
+    subst (IsOf messages.Request n (SimpleRoutine name items)) (same_Some _ _ e) (here, refl, refl)
+form_of_statement messages.Reply n (SimpleRoutine name items) form e =
+    absurd (not_None form (sym e))
+form_of_statement messages.Request n Skip form e = absurd (not_None form (sym e))
+form_of_statement messages.Reply n Skip form e = absurd (not_None form (sym e))
 
-statement_of_reply : (n : ℕ) (s : Statement) (form : Form) → IsIn form (forms_at n s)
-    → IsReply form.kind → ((row_of n s).reply ≡ Some form) × (form.id ≡ n + 100)
-statement_of_reply n (Routine items) form (here) is = absurd is
-statement_of_reply n (Routine items) form (later (here)) is = (refl, refl)
-statement_of_reply n (Routine items) form (later (later h)) is = elim h [ ]
-statement_of_reply n (SimpleRoutine items) form (here) is = absurd is
-statement_of_reply n (SimpleRoutine items) form (later h) is = elim h [ ]
-statement_of_reply n Skip form h is = elim h [ ]
+-- and such a form stands there
+statement_of_form : (kind : MessageKind) (n : ℕ) (s : Statement) (form : Form)
+    → IsIn form (forms_at n s) → message_of form.kind ≡ kind
+    → (form_in kind (row_of n s) ≡ Some form) × (form.id ≡ id_of kind n)
+statement_of_form messages.Request n (Routine name items) form (here) is = (refl, refl)
+statement_of_form messages.Reply n (Routine name items) form (here) is = absurd cc
+statement_of_form messages.Request n (Routine name items) form (later (here)) is = absurd cc
+statement_of_form messages.Reply n (Routine name items) form (later (here)) is = (refl, refl)
+statement_of_form kind n (Routine name items) form (later (later h)) is = elim h [ ]
+statement_of_form messages.Request n (SimpleRoutine name items) form (here) is = (refl, refl)
+statement_of_form messages.Reply n (SimpleRoutine name items) form (here) is = absurd cc
+statement_of_form kind n (SimpleRoutine name items) form (later h) is = elim h [ ]
+statement_of_form kind n Skip form h is = elim h [ ]
 
--- How the forms of a kind are picked of rows: that of a statement's row is the one of this kind
--- that the statement has, with the id that it takes.
-pub record Picks (pick : Row → Option Form) (Of : FormKind → Type 0) (id_of : ℕ → ℕ) : Type 0 where
-  pub picked : (n : ℕ) (s : Statement) (form : Form) → pick (row_of n s) ≡ Some form
-      → IsIn form (forms_at n s) × Of form.kind × (form.id ≡ id_of n)
-  pub has : (n : ℕ) (s : Statement) (form : Form) → IsIn form (forms_at n s) → Of form.kind
-      → (pick (row_of n s) ≡ Some form) × (form.id ≡ id_of n)
-  pub behind : (n i : ℕ) → id_of (n + i) ≡ id_of n + i
+-- the table of these rows
+abbrev pub table_with : Meaning → List Row → Table
+table_with m rows = record { name = m.name; base = m.base; rows = rows }
 
-pub requests : Picks (λ row. row.request) IsRequest (λ n. n)
-requests = record {
-  picked = request_of_statement;
-  has = statement_of_request;
-  behind = λ n i. refl;
-}
+-- the ids of this message follow one another
+behind : (kind : MessageKind) (m : Meaning) (rows : List Row) (i : ℕ)
+    → id_of kind (m.base + i) ≡ first_id kind (table_with m rows) + i
+behind messages.Request m rows i = refl
+behind messages.Reply m rows i = omega arith
 
-pub replies : Picks (λ row. row.reply) IsReply (λ n. n + 100)
-replies = record {
-  picked = reply_of_statement;
-  has = statement_of_reply;
-  behind = λ n i. omega arith;
-}
+-- the form in this place is that of the statement there
+pub statement_of_place : (m : Meaning) (rows : List Row) → rows_at m.base m.rows ≡ Ok rows
+    → (kind : MessageKind) (i : ℕ) (form : Form) → form_at kind (table_with m rows) i ≡ Some form
+    → (s : Statement) × (slice_get m.rows i ≡ Some s) × IsOf kind (m.base + i) s form
+statement_of_place m rows all kind i form e =
+    let (row, there, stands) = in_two (slice_get rows i) (form_in kind) form e in
+    let (s, at, is) = by_function (row_of (m.base + i)) (slice_get m.rows i) row
+    (sym (row_of_statement m.base m.rows rows all i) ∙ there) in
+    (s, at, form_of_statement kind (m.base + i) s form (ap (form_in kind) is ∙ stands))
 
--- the form that is found by its id is the one of its kind that the subsystem has
-pub form_found : {pick : Row → Option Form} {Of : FormKind → Type 0} {id_of : ℕ → ℕ}
-    → Picks pick Of id_of → (m : Meaning) (rows : List Row) → rows_at m.base m.rows ≡ Ok rows
-    → (id : ℕ) (form : Form)
-    → (option_and_then pick (row_behind (record { name = m.name; base = m.base; rows = rows }) id
-    (id_of m.base)) ≡ Some form)
-    ↔ (HasForm m form × Of form.kind × (form.id ≡ id))
-form_found {pick} {Of} {id_of} picks m rows all id form =
-    let table : Table = record { name = m.name; base = m.base; rows = rows } in
-    let first = id_of m.base in
-    let row_there = row_of_statement m.base m.rows rows all in (
+-- each form of the table is of its message and has the id of its place
+pub are_forms : (m : Meaning) (rows : List Row) → rows_at m.base m.rows ≡ Ok rows
+    → AreForms (table_with m rows)
+are_forms m rows all kind place form e =
+    let (s, at, (stands, of, takes)) = statement_of_place m rows all kind place form e in
+    (of, takes ∙ behind kind m rows place)
+
+-- the form that is found by its id is the one of its message that the subsystem has
+pub form_found : (m : Meaning) (rows : List Row) → rows_at m.base m.rows ≡ Ok rows
+    → (kind : MessageKind) (id : ℕ) (form : Form)
+    → (form_of kind (table_with m rows) id ≡ Some form)
+    ↔ (HasForm m form × (message_of form.kind ≡ kind) × (form.id ≡ id))
+form_found m rows all kind id form =
+    let table = table_with m rows in
+    let first = first_id kind table in (
       λ e.
-          let (row, found, chosen) = in_two (row_behind table id first) pick form e in
-          let i = id - first in
-          let (test, there) = where_true (nat_le first id) (slice_get rows i) row found in
-          let (s, at, is) = by_function (row_of (m.base + i)) (slice_get m.rows i) row
-          (sym (row_there i) ∙ there) in
-          let (stands, kind, takes) = picks.picked (m.base + i) s form (ap pick is ∙ chosen) in
+          let (i, placed, found) = in_two (place_of kind table id) (form_at kind table) form e in
+          let (test, same) = where_true (nat_le first id) (Some (id - first)) i placed in
+          let (s, at, (stands, of, takes)) = statement_of_place m rows all kind i form found in
           let le = leb-true first id test in
-          let place : first + i ≡ id = omega (arith, le) in
-          ((i, s, at, stands), kind, takes ∙ picks.behind m.base i ∙ place),
+          let i_is = same_Some (id - first) i same in
+          let place : first + i ≡ id = omega (arith, le, i_is) in
+          ((i, s, at, stands), of, takes ∙ behind kind m rows i ∙ place),
       λ h.
-          let ((i, s, at, stands), kind, is) = h in
-          let (chosen, takes) = picks.has (m.base + i) s form stands kind in
-          let place : id ≡ first + i = sym is ∙ takes ∙ picks.behind m.base i in
+          let ((i, s, at, stands), of, is) = h in
+          let (there, takes) = statement_of_form kind (m.base + i) s form stands of in
+          let place : id ≡ first + i = sym is ∙ takes ∙ behind kind m rows i in
           let le : nat_le first (first + i) ≡ true = le-leb first (first + i) (omega arith) in
           let k : first + i - first ≡ i = omega arith in
-          rw (place, le, k, row_there i ∙ ap (option_map (row_of (m.base + i))) at) chosen,
+          rw (
+            place,
+            le,
+            k,
+            row_of_statement m.base m.rows rows all i ∙ ap (option_map (row_of (m.base + i))) at,
+          ) there,
     )
 
--- the table of a subsystem has its name, its first id and the rows of its statements
+-- the table of a subsystem has the rows of its statements
 pub rows_of_table : (m : Meaning) (table : Table) → table_of m ≡ Ok table
-    → (rows : List Row) × (rows_at m.base m.rows ≡ Ok rows)
-    × (record { name = m.name; base = m.base; rows = rows } ≡ table)
+    → (rows : List Row) × (rows_at m.base m.rows ≡ Ok rows) × (table_with m rows ≡ table)
 rows_of_table m table e =
-    let made : List Row → Table = λ rows. record { name = m.name; base = m.base; rows = rows } in
-    let found = bind_ok (rows_at m.base m.rows) (λ rows. Ok (made rows)) table e in
-    (found.0, found.1, ok_is (made found.0) table found.2)
+    let (rows, found, made) = bind_ok (rows_at m.base m.rows) (λ rows. Ok (table_with m rows)) table
+    e in
+    (rows, found, ok_is (table_with m rows) table made)

@@ -8,12 +8,11 @@ use Rattle.mrc_base.specs.declared.Disp.{Disp}
 use Rattle.mrc_model.specs.IsIn.{IsIn, here, later}
 use Rattle.mrc_base.specs.Disposition.{disp_of_number}
 use Rattle.mrc_model.proofs.Maps.{same_Some, not_None}
-use Rattle.mrc_forms.specs.declared.shape.Shape.{Shape}
 use Rattle.mrc_mig_parse.specs.Arguments.{Item}
 use Rattle.mrc_forms.specs.declared.form.FormKind.{FormKind}
 use Rattle.mrc_forms.specs.declared.form.FormKind.TheVariants.{Request, Reply}
-use Rattle.mrc_interface.specs.Bodies.{slots_from, body, form_of}
-use Rattle.mrc_forms.specs.Forms.{Slot, slot_by}
+use Rattle.mrc_forms.specs.Forms.{Argument, Slot, slot_by}
+use Rattle.mrc_interface.specs.Bodies.{argument_of, slots_from, body, form_of}
 use Rattle.mrc_interface.specs.Laws.{HasSlot}
 use Rattle.mrc_interface.proofs.Finding.{by_function}
 
@@ -66,53 +65,54 @@ port_is_slot n (item ∷ items) (suc j) d p =
     by (disp_of_number item.shape.name)
 
 -- the argument in this place carries port rights in this way
-abbrev IsPortArgument : List Shape → ℕ → Disp → Type 0
-IsPortArgument arguments i d = (argument : Shape) × (slice_get arguments i ≡ Some argument)
-    × (disp_of_number argument.name ≡ Some d)
+abbrev IsPortArgument : List Argument → ℕ → Disp → Type 0
+IsPortArgument arguments i d = (argument : Argument) × (slice_get arguments i ≡ Some argument)
+    × (disp_of_number argument.shape.name ≡ Some d)
 
 -- the same of the items
 item_of_argument : (items : List Item) (j : ℕ) (d : Disp)
-    → IsPortArgument (map (λ item. item.shape) items) j d → IsPortAt items j d
+    → IsPortArgument (map argument_of items) j d → IsPortAt items j d
 item_of_argument items j d p =
-    let (item, at, is) = by_function (λ (item : Item). item.shape) (slice_get items j) p.0
-    (sym (slice_get-map (λ (item : Item). item.shape) items j) ∙ p.1) in
-    (item, at, ap (λ (k : Shape). disp_of_number k.name) is ∙ p.2)
+    let (item, at, is) = by_function argument_of (slice_get items j) p.0
+    (sym (slice_get-map argument_of items j) ∙ p.1) in
+    (item, at, ap (λ (a : Argument). disp_of_number a.shape.name) is ∙ p.2)
 
 argument_of_item : (items : List Item) (j : ℕ) (d : Disp) → IsPortAt items j d
-    → IsPortArgument (map (λ item. item.shape) items) j d
+    → IsPortArgument (map argument_of items) j d
 argument_of_item items j d p = (
-  p.0.shape,
-  slice_get-map (λ (item : Item). item.shape) items j
-      ∙ ap (option_map (λ (item : Item). item.shape)) p.1,
+  argument_of p.0,
+  slice_get-map argument_of items j ∙ ap (option_map argument_of) p.1,
   p.2,
 )
 
 -- a slot of a form is one of its arguments
-pub slot_is_argument : (id : ℕ) (kind : FormKind) (items : List Item) (i : ℕ) (d : Disp)
-    → HasSlot (form_of id kind items) i d → IsPortArgument (form_of id kind items).arguments i d
-slot_is_argument id (Request k) items i d h =
+pub slot_is_argument : (name : List ℕ) (id : ℕ) (kind : FormKind) (items : List Item) (i : ℕ)
+    (d : Disp) → HasSlot (form_of name id kind items) i d
+    → IsPortArgument (form_of name id kind items).arguments i d
+slot_is_argument name id (Request k) items i d h =
     let r = slot_is_port 0 (body (Request k) items) i d h in
     let e : r.0 ≡ i = let z = r.1 in omega arith in
-    subst (λ (j : ℕ). IsPortArgument (map (λ item. item.shape) (body (Request k) items)) j d) e
+    subst (λ (j : ℕ). IsPortArgument (map argument_of (body (Request k) items)) j d) e
     (argument_of_item (body (Request k) items) r.0 d r.2)
-slot_is_argument id Reply items i d h =
+slot_is_argument name id Reply items i d h =
     let r = slot_is_port 1 (body Reply items) i d h in
     let e : suc r.0 ≡ i = let z = r.1 in omega arith in
-    subst (λ (j : ℕ). IsPortArgument (form_of id Reply items).arguments j d) e
+    subst (λ (j : ℕ). IsPortArgument (form_of name id Reply items).arguments j d) e
     (argument_of_item (body Reply items) r.0 d r.2)
 
 -- an argument that carries port rights is a slot
-pub argument_is_slot : (id : ℕ) (kind : FormKind) (items : List Item) (i : ℕ) (d : Disp)
-    → IsPortArgument (form_of id kind items).arguments i d → HasSlot (form_of id kind items) i d
-argument_is_slot id (Request k) items i d p =
+pub argument_is_slot : (name : List ℕ) (id : ℕ) (kind : FormKind) (items : List Item) (i : ℕ)
+    (d : Disp) → IsPortArgument (form_of name id kind items).arguments i d
+    → HasSlot (form_of name id kind items) i d
+argument_is_slot name id (Request k) items i d p =
     let e : 0 + i ≡ i = omega arith in
     subst (λ (j : ℕ). HasSlotIn (slots_from 0 (body (Request k) items)) j d) e
     (port_is_slot 0 (body (Request k) items) i d
     (item_of_argument (body (Request k) items) i d p))
-argument_is_slot id Reply items zero d p =
+argument_is_slot name id Reply items zero d p =
     absurd (not_None d (sym p.2
-    ∙ ap (λ (k : Shape). disp_of_number k.name) (sym (same_Some _ _ p.1))))
-argument_is_slot id Reply items (suc j) d p =
+    ∙ ap (λ (a : Argument). disp_of_number a.shape.name) (sym (same_Some _ _ p.1))))
+argument_is_slot name id Reply items (suc j) d p =
     let e : 1 + j ≡ suc j = omega arith in
     subst (λ (k : ℕ). HasSlotIn (slots_from 1 (body Reply items)) k d) e
     (port_is_slot 1 (body Reply items) j d (item_of_argument (body Reply items) j d p))

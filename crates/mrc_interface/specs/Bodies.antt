@@ -9,7 +9,7 @@ use Rattle.mrc_mig_symbols.specs.declared.word.Direction.TheVariants as directio
 use Rattle.mrc_mig_parse.specs.Arguments.{Item}
 use Rattle.mrc_forms.specs.declared.form.FormKind.{FormKind}
 use Rattle.mrc_forms.specs.declared.form.FormKind.TheVariants.{Request, Reply}
-use Rattle.mrc_forms.specs.Forms.{Slot, Form, in_front, slot_by}
+use Rattle.mrc_forms.specs.Forms.{Argument, Slot, Form, in_front, slot_by}
 
 -- an argument that goes this way is in the body of such a message
 abbrev pub is_in_body : FormKind → Direction → Bool
@@ -23,6 +23,10 @@ is_in_body _ _ = false
 abbrev pub body : FormKind → List Item → List Item
 body kind items = filter (λ item. is_in_body kind item.direction) items
 
+-- what the body shows of an argument
+abbrev pub argument_of : Item → Argument
+argument_of item = record { name = item.name; shape = item.shape }
+
 -- this argument, where it carries port rights, which has this number
 abbrev pub slot_of_item : ℕ → Item → List Slot
 slot_of_item i item = slot_by i item.type_name (disp_of_number item.shape.name)
@@ -32,11 +36,12 @@ abbrev pub slots_from : ℕ → List Item → List Slot
 slots_from i [] = []
 slots_from i (item ∷ items) = slot_of_item i item ++ slots_from (i + 1) items
 
--- the form of such a message of a routine with these arguments
-abbrev pub form_of : ℕ → FormKind → List Item → Form
-form_of id kind items = record {
+-- the form of such a message of a routine of this name, with these arguments
+abbrev pub form_of : List ℕ → ℕ → FormKind → List Item → Form
+form_of name id kind items = record {
+  name = name;
   id = id;
   kind = kind;
-  arguments = in_front kind ++ map (λ item. item.shape) (body kind items);
+  arguments = in_front kind ++ map argument_of (body kind items);
   slots = slots_from (length (in_front kind)) (body kind items);
 }

@@ -1,6 +1,6 @@
 -- Worked examples of forms, and of files that are read.
-use Rattle.std.specs.Prelude.{◌≡◌, ℕ, [], ◌∷◌, ◌++◌, Option, Some, None, Result, Ok, Err, refl}
-use Rattle.std.specs.Prelude.{codes, option_map}
+use Rattle.std.specs.Prelude.{◌≡◌, ℕ, List, [], ◌∷◌, ◌++◌, Option, Some, None, Result, Ok, Err}
+use Rattle.std.specs.Prelude.{refl, codes, option_map}
 use Rattle.std.specs.Str.{is_utf8, chars}
 use Rattle.mrc_base.specs.declared.Disp.TheVariants.{CopySend}
 use Rattle.mrc_mig_lex.specs.Pieces.{piece_at}
@@ -10,34 +10,49 @@ use Rattle.mrc_mig_symbols.specs.Symbols.{name_at}
 use Rattle.mrc_mig_symbols.specs.Tables.{entry_of}
 use Rattle.mrc_mig_symbols.specs.declared.word.Direction.{Direction}
 use Rattle.mrc_mig_symbols.specs.declared.word.Direction.TheVariants.{In, Out, RequestPort}
-use Rattle.mrc_mig_parse.specs.Arguments.{Item}
+use Rattle.mrc_mig_parse.specs.Types.{begins_layer, layers_at, flag_follows, declared_at, named_at}
+use Rattle.mrc_mig_parse.specs.Types.{shape_at}
+use Rattle.mrc_mig_parse.specs.Arguments.{begins_option, option_at, options_at, direction_at}
+use Rattle.mrc_mig_parse.specs.Arguments.{argument_name_at, known_type_at, argument_type_at}
+use Rattle.mrc_mig_parse.specs.Arguments.{argument_at, goes_on, next_argument, some_arguments_at}
+use Rattle.mrc_mig_parse.specs.Arguments.{arguments_at, Item, items_of}
 use Rattle.mrc_mig_parse.specs.Files.{Meaning, Routine, Skip, one, begins_line, line_at, lines_at}
 use Rattle.mrc_mig_parse.specs.Files.{after_sides, number_at, named_number_at, heading_at, row_at}
-use Rattle.mrc_mig_parse.specs.Files.{statement_at, has_more, statements_at, meaning_of}
+use Rattle.mrc_mig_parse.specs.Files.{declaration_at, routine_at, statement_at, has_more}
+use Rattle.mrc_mig_parse.specs.Files.{statements_at, meaning_of}
 use Rattle.mrc_interface.specs.declared.fault.InterfaceFault.{InterfaceFault}
 use Rattle.mrc_interface.specs.declared.fault.InterfaceFault.TheVariants.{IdRange}
-use Rattle.mrc_forms.specs.Forms.{Form}
+use Rattle.mrc_model.specs.declared.RequestKind.TheVariants.{Simple}
+use Rattle.mrc_forms.specs.declared.form.FormKind.TheVariants as kinds
+use Rattle.mrc_forms.specs.declared.form.MessageKind.TheVariants.{Request, Reply}
+use Rattle.mrc_forms.specs.Forms.{Argument, Form, return_code}
 use Rattle.mrc_interface.specs.Subsystems.{table_of}
-use Rattle.mrc_forms.specs.Tables.{Table, request_form, reply_form}
+use Rattle.mrc_forms.specs.Tables.{Table, form_of}
 use Rattle.mrc_interface.specs.Reading.{NoText, NoTokens, NoFile, interface_of, interfaces_of}
 
--- one item of a type that has this number
-abbrev of_type : Direction → ℕ → Item
-of_type direction name = record {
+-- an argument of this name: one item of a type that has this number
+abbrev item : List ℕ → Direction → ℕ → Item
+item name direction type_number = record {
+  name = name;
   direction = direction;
-  shape = one name 32;
+  shape = one type_number 32;
   type_name = codes "t";
 }
 
--- a routine with a request port that takes an int and gives one, a skip, and a routine with a
--- request port alone
+-- the same in a body
+abbrev argument : List ℕ → ℕ → Argument
+argument name type_number = record { name = name; shape = one type_number 32 }
+
+-- the routine `next`, with a request port, that takes an int and gives one, a skip, and the routine
+-- `stop`, with a request port alone
 abbrev two : Meaning
 two = record {
   name = codes "two";
   base = 1000;
   rows =
-      Routine (of_type RequestPort 19 ∷ of_type In 2 ∷ of_type Out 2 ∷ []) ∷ Skip
-      ∷ Routine (of_type RequestPort 19 ∷ []) ∷ [];
+      Routine (codes "next") (item (codes "port") RequestPort 19 ∷ item (codes "old") In 2
+      ∷ item (codes "new") Out 2 ∷ []) ∷ Skip
+      ∷ Routine (codes "stop") (item (codes "port") RequestPort 19 ∷ []) ∷ [];
 }
 
 -- the form that is found in a table
@@ -47,47 +62,58 @@ found_in (Err fault) find = None
 
 -- the request of this id
 abbrev request_of : Meaning → ℕ → Option Form
-request_of m id = found_in (table_of m) (λ table. request_form table id)
+request_of m id = found_in (table_of m) (λ table. form_of Request table id)
 
 -- the reply of this id
 abbrev reply_of : Meaning → ℕ → Option Form
-reply_of m id = found_in (table_of m) (λ table. reply_form table id)
+reply_of m id = found_in (table_of m) (λ table. form_of Reply table id)
 
 -- the request has the int that goes in
-pub first_request : option_map (λ form. form.arguments) (request_of two 1000) ≡ Some (one 2 32 ∷ [])
+pub first_request : option_map (λ form. form.arguments) (request_of two 1000)
+    ≡ Some (argument (codes "old") 2 ∷ [])
 first_request = refl
 
 -- the reply has the return code and the int that comes out
 pub first_reply : option_map (λ form. form.arguments) (reply_of two 1100)
-    ≡ Some (one 2 32 ∷ one 2 32 ∷ [])
+    ≡ Some (argument (codes "RetCode") 2 ∷ argument (codes "new") 2 ∷ [])
 first_reply = refl
+
+-- both have the name of their routine
+pub request_named : option_map (λ form. form.name) (request_of two 1000) ≡ Some (codes "next")
+request_named = refl
+
+pub reply_named : option_map (λ form. form.name) (reply_of two 1100) ≡ Some (codes "next")
+reply_named = refl
 
 -- nothing stands at the id that is skipped
 pub skipped : request_of two 1001 ≡ None
 skipped = refl
 
 -- the reply of the last routine has the return code alone
-pub last_reply : option_map (λ form. form.arguments) (reply_of two 1102) ≡ Some (one 2 32 ∷ [])
+pub last_reply : option_map (λ form. form.arguments) (reply_of two 1102) ≡ Some (return_code ∷ [])
 last_reply = refl
 
 -- a port that comes out is the second argument of its reply
 pub slot_of_a_reply :
     option_map (λ form. form.slots)
     (reply_of
-    (record two { rows = Routine (of_type RequestPort 19 ∷ of_type Out 19 ∷ []) ∷ [] }) 1100)
+    (record two {
+      rows = Routine (codes "r") (item (codes "port") RequestPort 19
+          ∷ item (codes "new") Out 19 ∷ []) ∷ [];
+    }) 1100)
     ≡ Some (record { argument = 1; disposition = CopySend; type_name = codes "t" } ∷ [])
 slot_of_a_reply = refl
 
 -- the id of a reply may be the last one
 pub last_reply_fits :
     option_map (λ form. form.id)
-    (reply_of (record two { base = 2147483547; rows = Routine [] ∷ [] }) 2147483647)
+    (reply_of (record two { base = 2147483547; rows = Routine (codes "r") [] ∷ [] }) 2147483647)
     ≡ Some 2147483647
 last_reply_fits = refl
 
 -- and no greater
 pub one_id_too_many :
-    table_of (record two { base = 2147483548; rows = Routine [] ∷ [] }) ≡ Err IdRange
+    table_of (record two { base = 2147483548; rows = Routine (codes "r") [] ∷ [] }) ≡ Err IdRange
 one_id_too_many = refl
 
 -- a file of one skip
@@ -101,6 +127,33 @@ unfolding is_utf8 chars lib.Utf8.encode piece_at symbol_of many first_of text_of
     name_at entry_of begins_line line_at lines_at after_sides number_at named_number_at heading_at
     row_at statement_at has_more statements_at meaning_of
 file_of_a_skip = refl
+
+-- the names of a routine and of its arguments come from the text into the form
+pub names_of_a_file : interface_of
+    (codes "subsystem s 7; type t = MACH_MSG_TYPE_COPY_SEND; simpleroutine r(p : t; n : t);")
+    ≡ Ok (record {
+      name = codes "s";
+      base = 7;
+      rows =
+          record {
+            request = Some (record {
+              name = codes "r";
+              id = 7;
+              kind = kinds.Request Simple;
+              arguments = argument (codes "n") 19 ∷ [];
+              slots =
+                  record { argument = 0; disposition = CopySend; type_name = codes "t" } ∷ [];
+            });
+            reply = None;
+          } ∷ [];
+    })
+unfolding is_utf8 chars lib.Utf8.encode piece_at symbol_of many first_of text_of tail_of after_sign
+    name_at entry_of begins_line line_at lines_at after_sides number_at named_number_at heading_at
+    declaration_at begins_layer layers_at named_at shape_at options_at option_at begins_option
+    flag_follows declared_at known_type_at argument_type_at direction_at argument_name_at
+    argument_at goes_on next_argument some_arguments_at arguments_at items_of routine_at row_at
+    statement_at has_more statements_at meaning_of
+names_of_a_file = refl
 
 -- no character begins with this byte, also in a comment
 pub no_text : interface_of (codes "/*" ++ 255 ∷ codes "*/ @") ≡ Err NoText

@@ -5,23 +5,23 @@ use Rattle.mrc_base.specs.declared.Disp.{Disp}
 use Rattle.mrc_model.specs.IsIn.{IsIn}
 use Rattle.mrc_base.specs.Disposition.{disp_of_number}
 use Rattle.mrc_model.specs.declared.RequestKind.TheVariants as requests
-use Rattle.mrc_forms.specs.declared.shape.Shape.{Shape}
 use Rattle.mrc_mig_parse.specs.Arguments.{Item}
 use Rattle.mrc_mig_parse.specs.Files.{Meaning, Row as Statement, Routine, SimpleRoutine, Skip}
 use Rattle.mrc_forms.specs.declared.form.FormKind.{FormKind}
 use Rattle.mrc_forms.specs.declared.form.FormKind.TheVariants.{Request, Reply}
+use Rattle.mrc_forms.specs.declared.form.MessageKind.{MessageKind}
+use Rattle.mrc_forms.specs.Forms.{Argument, Slot, Form}
+use Rattle.mrc_forms.specs.Tables.{Table, message_of, form_of as form_with_id}
 use Rattle.mrc_interface.specs.Bodies.{form_of}
-use Rattle.mrc_forms.specs.Forms.{Slot, Form}
 use Rattle.mrc_interface.specs.Subsystems.{table_of}
-use Rattle.mrc_forms.specs.Tables.{Table, request_form, reply_form}
 use Rattle.mrc_interface.specs.Reading.{IsInterface, AreInterfaces, Reason, IsReason, Refused}
 use Rattle.mrc_interface.specs.Reading.{IsFirstRefused, interface_of, interfaces_of}
 
 -- the forms of a statement that takes this id
 abbrev pub forms_at : ℕ → Statement → List Form
-forms_at id (Routine items) =
-    form_of id (Request requests.Routine) items ∷ form_of (id + 100) Reply items ∷ []
-forms_at id (SimpleRoutine items) = form_of id (Request requests.Simple) items ∷ []
+forms_at id (Routine name items) =
+    form_of name id (Request requests.Routine) items ∷ form_of name (id + 100) Reply items ∷ []
+forms_at id (SimpleRoutine name items) = form_of name id (Request requests.Simple) items ∷ []
 forms_at id Skip = []
 
 -- a statement of the subsystem has the form. That with i statements in front of it takes the id
@@ -31,23 +31,13 @@ HasForm m form =
     (i : ℕ) × (statement : Statement) × (slice_get m.rows i ≡ Some statement)
     × IsIn form (forms_at (m.base + i) statement)
 
--- the form is that of a request
-abbrev pub IsRequest : FormKind → Type 0
-IsRequest (Request kind) = Unit {0}
-IsRequest Reply = ⊥
-
--- the form is that of a reply
-abbrev pub IsReply : FormKind → Type 0
-IsReply (Request kind) = ⊥
-IsReply Reply = Unit {0}
-
 -- the request that is found by its id is the one that the subsystem has, and so is the reply
 abbrev pub FoundByIds : Type 0
 FoundByIds =
-    (m : Meaning) (table : Table) → table_of m ≡ Ok table → (id : ℕ) (form : Form)
-    → ((request_form table id ≡ Some form)
-    ↔ (HasForm m form × IsRequest form.kind × (form.id ≡ id)))
-    × ((reply_form table id ≡ Some form) ↔ (HasForm m form × IsReply form.kind × (form.id ≡ id)))
+    (m : Meaning) (table : Table) → table_of m ≡ Ok table
+    → (kind : MessageKind) (id : ℕ) (form : Form)
+    → (form_with_id kind table id ≡ Some form)
+    ↔ (HasForm m form × (message_of form.kind ≡ kind) × (form.id ≡ id))
 
 -- a slot of this disposition and this place is there
 abbrev pub HasSlot : Form → ℕ → Disp → Type 0
@@ -57,10 +47,11 @@ HasSlot form i disposition =
 -- the slots are exactly the arguments whose type number is a disposition's
 abbrev pub SlotsArePorts : Type 0
 SlotsArePorts =
-    (id : ℕ) (kind : FormKind) (items : List Item) (i : ℕ) (disposition : Disp)
-    → HasSlot (form_of id kind items) i disposition
-    ↔ ((argument : Shape) × (slice_get (form_of id kind items).arguments i ≡ Some argument)
-    × (disp_of_number argument.name ≡ Some disposition))
+    (name : List ℕ) (id : ℕ) (kind : FormKind) (items : List Item) (i : ℕ) (disposition : Disp)
+    → HasSlot (form_of name id kind items) i disposition
+    ↔ ((argument : Argument)
+    × (slice_get (form_of name id kind items).arguments i ≡ Some argument)
+    × (disp_of_number argument.shape.name ≡ Some disposition))
 
 -- reading finds exactly the table that bytes have
 abbrev pub ReadsInterface : Type 0

@@ -14,20 +14,20 @@ use Rattle.mrc_interface.specs.Bodies.{form_of}
 
 -- the row of a statement that takes this id. A reply's id is 100 above that of its request
 abbrev pub row_of : ℕ → Statement → Row
-row_of id (Routine items) = record {
-  request = Some (form_of id (Request requests.Routine) items);
-  reply = Some (form_of (id + 100) Reply items);
+row_of id (Routine name items) = record {
+  request = Some (form_of name id (Request requests.Routine) items);
+  reply = Some (form_of name (id + 100) Reply items);
 }
-row_of id (SimpleRoutine items) = record {
-  request = Some (form_of id (Request requests.Simple) items);
+row_of id (SimpleRoutine name items) = record {
+  request = Some (form_of name id (Request requests.Simple) items);
   reply = None;
 }
 row_of id Skip = record { request = None; reply = None }
 
 -- the greatest id of its messages; a skip takes its own
 abbrev pub last_id : ℕ → Statement → ℕ
-last_id id (Routine items) = id + 100
-last_id id (SimpleRoutine items) = id
+last_id id (Routine name items) = id + 100
+last_id id (SimpleRoutine name items) = id
 last_id id Skip = id
 
 -- the same, where there are such ids

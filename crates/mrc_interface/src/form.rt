@@ -21,20 +21,22 @@ fn is_in_body(kind: FormKind, direction: Direction) -> bool
     }
 }
 
-/// The form of a message of a routine with these arguments.
+/// The form of a message of a routine of this name, with these arguments.
 pub(crate) fn form_of(
     alloc: Global,
+    name: &str,
     id: u32,
     kind: FormKind,
     arguments: &[Argument],
 ) -> Result<Form, AllocError>
     requires { IsTrue (items_fit (map item_of arguments.now)) }
-    ensures { IfOk result (λ form. form ≡ form_of id kind (map item_of arguments.now)) }
+    ensures { IfOk result (λ form. form ≡ form_of name.now id kind (map item_of arguments.now)) }
 {
-    let mut form = Form::empty(alloc, id, kind)?;
+    let mut form = Form::empty(alloc, name, id, kind)?;
     for argument in arguments {
         if is_in_body(kind, argument.direction) {
-            form.push(alloc, argument.shape, argument.type_name.as_str())?;
+            let type_name = argument.type_name.as_str();
+            form.push(alloc, argument.name.as_str(), argument.shape, type_name)?;
         }
     }
     Ok(form)

@@ -19,22 +19,23 @@ use std::alloc::Global;
 /// How far the id of a reply is above that of its request.
 const REPLY: u32 = 100;
 
-/// The row of a routine that takes this id.
+/// The row of a routine of this name that takes this id.
 fn routine_row(
     alloc: Global,
     id: u32,
+    name: &str,
     arguments: &[Argument],
 ) -> Result<Row, OrMemory<InterfaceFault>>
     requires { IsTrue (items_fit (map item_of arguments.now)) }
-    ensures { Gives (λ row. row) result (row_at id (Routine (map item_of arguments.now))) }
+    ensures { Gives (λ row. row) result (row_at id (Routine name.now (map item_of arguments.now))) }
 {
     if id > limits::NUMBER - REPLY {
         return Err(OrMemory::Fault(InterfaceFault::IdRange));
     }
     let kind = FormKind::Request(RequestKind::Routine);
     Ok(Row {
-        request: Some(form_of(alloc, id, kind, arguments)?),
-        reply: Some(form_of(alloc, id + REPLY, FormKind::Reply, arguments)?),
+        request: Some(form_of(alloc, name, id, kind, arguments)?),
+        reply: Some(form_of(alloc, name, id + REPLY, FormKind::Reply, arguments)?),
     })
 }
 
@@ -47,11 +48,14 @@ fn row_at(alloc: Global, id: u32, entry: &Entry) -> Result<Row, OrMemory<Interfa
         return Err(OrMemory::Fault(InterfaceFault::IdRange));
     }
     match entry {
-        Entry::Routine(arguments) => routine_row(alloc, id, arguments.as_slice()),
-        Entry::SimpleRoutine(arguments) => {
+        Entry::Routine { name, arguments } => {
+            routine_row(alloc, id, name.as_str(), arguments.as_slice())
+        }
+        Entry::SimpleRoutine { name, arguments } => {
             let kind = FormKind::Request(RequestKind::Simple);
+            let form = form_of(alloc, name.as_str(), id, kind, arguments.as_slice())?;
             Ok(Row {
-                request: Some(form_of(alloc, id, kind, arguments.as_slice())?),
+                request: Some(form),
                 reply: None,
             })
         }
@@ -86,9 +90,10 @@ fn rows_at(
 fn table_of(alloc: Global, subsystem: &Subsystem) -> Result<Interface, OrMemory<InterfaceFault>>
     ensures { Gives (λ table. table) result (table_of subsystem.now) }
 {
-    let rows = rows_at(alloc, subsystem.base(), subsystem.entries())?;
+    let base = subsystem.base();
+    let rows = rows_at(alloc, base, subsystem.entries())?;
     let name = String::from_str(alloc, subsystem.name())?;
-    Ok(Interface::new(name, subsystem.base(), rows))
+    Ok(Interface::new(name, base, rows))
 }
 
 /// The forms of a subsystem: refused by IdRange exactly where an id would be too great. With a

@@ -10,7 +10,9 @@ mod reading;
 pub use fault::{DefsFault, FileFault, InterfaceFault};
 pub use interface::forms_of;
 pub use laws::{files_are_read, forms_are_found_by_ids, slots_are_ports};
-pub use mrc_forms::{Form, FormKind, Interface, RequestKind, Row, Shape, Slot};
+pub use mrc_forms::{
+    Argument, Form, FormKind, Interface, MessageKind, RequestKind, Row, Shape, Slot,
+};
 pub use mrc_mig_lex::LexFault;
 pub use mrc_mig_parse::{Feature, ParseFault};
 pub use reading::{read_interface, read_interfaces};

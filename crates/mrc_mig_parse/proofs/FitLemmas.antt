@@ -264,9 +264,9 @@ line_fits (marker is) fits = fits
 line_fits (include {s = s} {t = t} is declares) fits = include_fits s.has_table s t fits declares
 
 -- with one row more, where there may be one more
-one_more_row : (s : State) (names : List (List ℕ)) (row : Row) → StateFits s
-    → length s.rows < limit_of_ids → row_fits row ≡ true → StateFits (with_row s names row)
-one_more_row s names row all room fits = record {
+one_more_row : (s : State) (row : Row) → StateFits s → length s.rows < limit_of_ids
+    → row_fits row ≡ true → StateFits (with_row s row)
+one_more_row s row all room fits = record {
   types = all.types;
   few = rw (length-append s.rows (row ∷ [])) (omega (arith, room));
   rows = list_all-append row_fits s.rows (row ∷ [])
@@ -288,11 +288,11 @@ statement_fits (declaration {s = s} {name = name} {shape = shape} _ _ _ _ is _ _
   few = fits.few;
   rows = fits.rows;
 }
-statement_fits (routine {s = s} {items = items} _ room is) fits =
-    one_more_row s _ (Routine items) fits room (routine_fits is fits)
-statement_fits (simple_routine {s = s} {items = items} _ room is) fits =
-    one_more_row s _ (SimpleRoutine items) fits room (routine_fits is fits)
-statement_fits (skip {s = s} _ room _) fits = one_more_row s [] Skip fits room refl
+statement_fits (routine {s = s} {name = name} {items = items} _ room is) fits =
+    one_more_row s (Routine name items) fits room (routine_fits is fits)
+statement_fits (simple_routine {s = s} {name = name} {items = items} _ room is) fits =
+    one_more_row s (SimpleRoutine name items) fits room (routine_fits is fits)
+statement_fits (skip {s = s} _ room _) fits = one_more_row s Skip fits room refl
 statement_fits (note _ _) fits = fits
 
 -- what a file that is read declares is in its bounds

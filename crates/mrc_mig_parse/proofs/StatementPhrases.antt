@@ -91,7 +91,7 @@ routine_is is_simple s tokens found e =
     let joined : tokens ≡ written ++ end.0 = named.1 ∙ ap (λ t. named.0 ∷ t) (opens.1
     ∙ ap (λ t. opens.0 ∷ t) (arguments.1 ∙ ap (λ t. arguments.0 ++ t) (closes.1
     ∙ ap (λ t. closes.0 ∷ t) semicolon.1) ∙ sym regroup)) in
-    let new_name = ap (λ b. is_routine b s.routines) named.3 ∙ new.0 in
+    let new_name = ap (λ b. is_routine b s.rows) named.3 ∙ new.0 in
     subst (λ f. Leads (λ w. IsRoutine is_simple s w f.0.0 f.0.1) tokens f.1) (same_Some _ _ end.2) (
       written,
       joined,

@@ -215,6 +215,7 @@ arguments_at types is_simple tokens =
 
 -- an argument as it is meant
 pub record Item : Type 0 where
+  pub name : List ℕ
   pub direction : Direction
   pub shape : Shape
   pub type_name : List ℕ
@@ -222,6 +223,7 @@ pub record Item : Type 0 where
 -- an argument with no word is `in`
 abbrev pub as_written : Parameter → Item
 as_written p = record {
+  name = p.name;
   direction = unwrap_or p.direction directions.In;
   shape = p.shape;
   type_name = p.type_name;
@@ -230,6 +232,7 @@ as_written p = record {
 -- the request port
 abbrev pub as_request_port : Parameter → Item
 as_request_port p = record {
+  name = p.name;
   direction = directions.RequestPort;
   shape = p.shape;
   type_name = p.type_name;

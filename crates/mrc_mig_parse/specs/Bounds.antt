@@ -15,6 +15,6 @@ items_fit items =
 
 -- the arguments of a routine
 abbrev pub row_fits : Row → Bool
-row_fits (Routine items) = items_fit items
-row_fits (SimpleRoutine items) = items_fit items
+row_fits (Routine name items) = items_fit items
+row_fits (SimpleRoutine name items) = items_fit items
 row_fits Skip = true

@@ -72,7 +72,8 @@ pub one_simpleroutine : meaning_of
       name = codes "ping";
       base = 500;
       rows =
-          SimpleRoutine (record {
+          SimpleRoutine (codes "ping") (record {
+            name = codes "server";
             direction = RequestPort;
             shape = one 19 32;
             type_name = codes "mach_port_t";

@@ -21,10 +21,10 @@ use Rattle.mrc_mig_symbols.specs.Symbols.{tail_of, after_sign, name_at}
 use Rattle.mrc_mig_parse.specs.Types.{shape_at}
 use Rattle.mrc_mig_parse.specs.Arguments.{Item, options_at, arguments_at, items_of}
 
--- what stands at an id
+-- what stands at an id: a routine or a simpleroutine, its name and its arguments, or a skip
 pub data Row : Type 0 where
-  Routine : List Item → Row
-  SimpleRoutine : List Item → Row
+  Routine : List ℕ → List Item → Row
+  SimpleRoutine : List ℕ → List Item → Row
   Skip : Row
 
 -- what a file means: the subsystem's name, the id of its first row, and its rows
@@ -37,7 +37,6 @@ pub record Meaning : Type 0 where
 pub record State : Type 0 where
   pub types : List (List ℕ × Shape)
   pub has_table : Bool
-  pub routines : List (List ℕ)
   pub rows : List Row
 
 -- one item of this type number and size
@@ -159,15 +158,21 @@ declaration_at s tokens = do
   rest ← after_sign signs.Semicolon after
   Some (record s { types = s.types ++ (name.0, shape.0) ∷ [] }, rest)
 
+-- the row is that of a routine of this name
+abbrev pub is_named : List ℕ → Row → Bool
+is_named name (Routine other items) = bytes_eq other name
+is_named name (SimpleRoutine other items) = bytes_eq other name
+is_named name Skip = false
+
 -- a routine has this name
-abbrev pub is_routine : List ℕ → List (List ℕ) → Bool
-is_routine name routines = list_any (λ other. bytes_eq other name) routines
+abbrev pub is_routine : List ℕ → List Row → Bool
+is_routine name rows = list_any (is_named name) rows
 
 -- `name (arguments);`, behind `routine` or `simpleroutine`
 unfoldable pub routine_at : Bool → State → List Lexeme → Option ((List ℕ × List Item) × List Lexeme)
 routine_at is_simple s tokens = do
   name ← name_at tokens
-  _ ← guard (not (is_routine name.0 s.routines))
+  _ ← guard (not (is_routine name.0 s.rows))
   inside ← after_sign signs.OpenParenthesis name.1
   arguments ← arguments_at s.types is_simple inside
   closed ← after_sign signs.CloseParenthesis arguments.1
@@ -175,18 +180,18 @@ routine_at is_simple s tokens = do
   rest ← after_sign signs.Semicolon closed
   Some ((name.0, items), rest)
 
--- with these names of routines and one more row
-abbrev pub with_row : State → List (List ℕ) → Row → State
-with_row s names row = record s { routines = s.routines ++ names; rows = s.rows ++ row ∷ [] }
+-- with one more row
+abbrev pub with_row : State → Row → State
+with_row s row = record s { rows = s.rows ++ row ∷ [] }
 
 -- a statement that takes an id
 abbrev pub row_by : Word → State → List Lexeme → Option (State × List Lexeme)
 row_by words.Routine s tokens =
-    routine_at false s tokens >>= λ r. Some (with_row s (r.0.0 ∷ []) (Routine r.0.1), r.1)
+    routine_at false s tokens >>= λ r. Some (with_row s (Routine r.0.0 r.0.1), r.1)
 row_by words.SimpleRoutine s tokens =
-    routine_at true s tokens >>= λ r. Some (with_row s (r.0.0 ∷ []) (SimpleRoutine r.0.1), r.1)
+    routine_at true s tokens >>= λ r. Some (with_row s (SimpleRoutine r.0.0 r.0.1), r.1)
 row_by words.Skip s tokens =
-    after_sign signs.Semicolon tokens >>= λ rest. Some (with_row s [] Skip, rest)
+    after_sign signs.Semicolon tokens >>= λ rest. Some (with_row s Skip, rest)
 row_by _ s tokens = None
 
 -- the same, where there may be one id more
@@ -262,7 +267,7 @@ lines_at s tokens = many begins_line line_at (length tokens) (s, tokens)
 
 -- nothing is declared
 abbrev pub nothing_declared : State
-nothing_declared = record { types = []; has_table = false; routines = []; rows = [] }
+nothing_declared = record { types = []; has_table = false; rows = [] }
 
 -- what the tokens of a file mean, where they mean anything
 unfoldable pub meaning_of : List Lexeme → Option Meaning

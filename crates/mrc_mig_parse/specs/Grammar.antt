@@ -260,7 +260,7 @@ pub data IsRoutine (is_simple : Bool) (s : State) : List Lexeme → List ℕ →
   named : {name opens closes semicolon : Lexeme} {arguments : List Lexeme} {all : List Parameter}
       {items : List Item}
       → IsName name
-      → is_routine name.bytes s.routines ≡ false
+      → is_routine name.bytes s.rows ≡ false
       → Is (Sign OpenParenthesis) opens
       → IsArguments s.types is_simple arguments all
       → Is (Sign CloseParenthesis) closes
@@ -309,20 +309,20 @@ pub data IsStatement : State → List Lexeme → State → Type 0 where
       → Is (Word words.Routine) word
       → length s.rows < limit_of_ids
       → IsRoutine false s others name items
-      → IsStatement s (word ∷ others) (with_row s (name ∷ []) (Routine items))
+      → IsStatement s (word ∷ others) (with_row s (Routine name items))
   -- `simpleroutine name ( arguments ) ;`
   simple_routine : {s : State} {word : Lexeme} {others : List Lexeme} {name : List ℕ}
       {items : List Item}
       → Is (Word words.SimpleRoutine) word
       → length s.rows < limit_of_ids
       → IsRoutine true s others name items
-      → IsStatement s (word ∷ others) (with_row s (name ∷ []) (SimpleRoutine items))
+      → IsStatement s (word ∷ others) (with_row s (SimpleRoutine name items))
   -- `skip ;`, which takes an id
   skip : {s : State} {word semicolon : Lexeme}
       → Is (Word words.Skip) word
       → length s.rows < limit_of_ids
       → Is (Sign Semicolon) semicolon
-      → IsStatement s (word ∷ semicolon ∷ []) (with_row s [] Skip)
+      → IsStatement s (word ∷ semicolon ∷ []) (with_row s Skip)
   -- one that declares nothing
   note : {s : State} {word : Lexeme} {kind : Reserved} {others : List Lexeme}
       → Is (Word kind) word

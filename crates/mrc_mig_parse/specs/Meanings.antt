@@ -9,6 +9,7 @@ use Rattle.mrc_mig_parse.specs.Files.{Row, Routine, SimpleRoutine, Skip}
 -- an argument of a routine
 abbrev pub item_of : Argument → Item
 item_of a = record {
+  name = string_bytes a.name;
   direction = a.direction;
   shape = a.shape;
   type_name = string_bytes a.type_name;
@@ -16,6 +17,8 @@ item_of a = record {
 
 -- what stands at an id
 abbrev pub row_of : Entry → Row
-row_of (entries.Routine arguments) = Routine (map item_of arguments.items)
-row_of (entries.SimpleRoutine arguments) = SimpleRoutine (map item_of arguments.items)
+row_of (entries.Routine name arguments) =
+    Routine (string_bytes name) (map item_of arguments.items)
+row_of (entries.SimpleRoutine name arguments) =
+    SimpleRoutine (string_bytes name) (map item_of arguments.items)
 row_of entries.Skip = Skip

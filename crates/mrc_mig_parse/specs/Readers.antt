@@ -20,7 +20,5 @@ abbrev pub state_of : File → State
 state_of file = record {
   types = file.types;
   has_table = file.has_table;
-  routines =
-      map (λ name. name.now) file.routines.items;
   rows = map row_of file.entries.items;
 }

@@ -393,7 +393,7 @@ closing_stop seen tokens =
 unfoldable pub routine_stop : Bool → State → List Lexeme → Stop
 routine_stop is_simple s tokens =
     first_stop (name_at tokens) (name_stop tokens) (λ name.
-    first_stop (guard (not (is_routine name.0 s.routines))) (stop why.TwiceNamed tokens) (λ _.
+    first_stop (guard (not (is_routine name.0 s.rows))) (stop why.TwiceNamed tokens) (λ _.
     first_stop (after_sign signs.OpenParenthesis name.1) (unexpected name.1) (λ inside.
     first_stop (arguments_at s.types is_simple inside) (arguments_stop s.types is_simple inside)
     (λ arguments. closing_stop arguments.0 arguments.1))))

@@ -316,12 +316,14 @@ fn with_direction(
 ) -> Result<Argument, AllocError>
     ensures { IfOk result (λ a. item_of a ≡
         record {
+          name = written.now.name.now;
           direction = direction;
           shape = written.now.shape;
           type_name = written.now.type_name.now;
         }) }
 {
     Ok(Argument {
+        name: String::from_str(alloc, written.name)?,
         direction,
         shape: written.shape,
         type_name: String::from_str(alloc, written.type_name)?,

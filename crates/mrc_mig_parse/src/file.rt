@@ -9,10 +9,10 @@ ghost use Rattle.mrc_mig_parse.specs.Files.{State, Meaning, one, table, is_decla
 ghost use Rattle.mrc_mig_parse.specs.Files.{declared_with_all, include_by, directive_by};
 ghost use Rattle.mrc_mig_parse.specs.Files.{begins_line, line_at, lines_at, is_side, after_sides};
 ghost use Rattle.mrc_mig_parse.specs.Files.{number_at, named_number_at, heading_at, declaration_at};
-ghost use Rattle.mrc_mig_parse.specs.Files.{is_routine, routine_at, row_by, row_at, worded_by};
-ghost use Rattle.mrc_mig_parse.specs.Files.{has_more, import_at, rcsid_at, prefix_at, statement_at};
-ghost use Rattle.mrc_mig_parse.specs.Files.{statements_at, meaning_of};
-ghost use Rattle.mrc_mig_parse.specs.Meanings.{item_of};
+ghost use Rattle.mrc_mig_parse.specs.Files.{is_named, is_routine, routine_at, row_by, row_at};
+ghost use Rattle.mrc_mig_parse.specs.Files.{worded_by, has_more, import_at, rcsid_at, prefix_at};
+ghost use Rattle.mrc_mig_parse.specs.Files.{statement_at, statements_at, meaning_of};
+ghost use Rattle.mrc_mig_parse.specs.Meanings.{item_of, row_of};
 ghost use Rattle.mrc_mig_parse.specs.Readers.{state_of};
 ghost use Rattle.mrc_mig_parse.specs.Stops.{declaration_stop, directive_stop, each_statement_stop};
 ghost use Rattle.mrc_mig_parse.specs.Stops.{file_stop, heading_stop, import_stop, line_stop};
@@ -60,7 +60,6 @@ const TABLE: [(&str, u16, u16); 16] = [
 struct File<'t> {
     types: Types<'t>,
     has_table: bool,
-    routines: Vec<&'t str>,
     entries: Vec<Entry>,
 }
 
@@ -251,10 +250,21 @@ fn declaration<'t>(
     Ok(rest)
 }
 
-fn is_routine(name: &str, routines: &[&str]) -> bool
-    ensures { result ≡ is_routine name.now (map (λ other. other.now) routines.now) }
+fn is_named(name: &str, entry: &Entry) -> bool
+    ensures { result ≡ is_named name.now (row_of entry.now) }
 {
-    routines.iter().any(|other| *other == name)
+    match entry {
+        Entry::Routine { name: other, .. } | Entry::SimpleRoutine { name: other, .. } => {
+            other.as_str() == name
+        }
+        Entry::Skip => false,
+    }
+}
+
+fn is_routine(name: &str, entries: &[Entry]) -> bool
+    ensures { result ≡ is_routine name.now (map row_of entries.now) }
+{
+    entries.iter().any(|entry| is_named(name, entry))
 }
 
 /// Reads `name (arguments);`.
@@ -272,7 +282,7 @@ fn routine<'t>(
 {
     let at = rest.len();
     let (name, rest) = name(rest)?;
-    if is_routine(name, file.routines.as_slice()) {
+    if is_routine(name, file.entries.as_slice()) {
         return Err(OrMemory::Fault(stop_at(Why::TwiceNamed, at)));
     }
     let rest = sign(rest, Sign::OpenParenthesis)?;
@@ -301,14 +311,14 @@ fn row<'t>(
     match word {
         Word::Routine => {
             let (name, arguments, rest) = routine(alloc, file, false, rest)?;
-            file.routines.push(name)?;
-            file.entries.push(Entry::Routine(arguments))?;
+            let name = String::from_str(alloc, name)?;
+            file.entries.push(Entry::Routine { name, arguments })?;
             Ok(rest)
         }
         Word::SimpleRoutine => {
             let (name, arguments, rest) = routine(alloc, file, true, rest)?;
-            file.routines.push(name)?;
-            file.entries.push(Entry::SimpleRoutine(arguments))?;
+            let name = String::from_str(alloc, name)?;
+            file.entries.push(Entry::SimpleRoutine { name, arguments })?;
             Ok(rest)
         }
         Word::Skip => {
@@ -474,7 +484,6 @@ fn whole_file(alloc: Global, tokens: &Tokens<'_>) -> Result<Subsystem, OrMemory<
     let mut file = File {
         types: Types::new(alloc),
         has_table: false,
-        routines: Vec::new(alloc),
         entries: Vec::new(alloc),
     };
     let rest = lines(&mut file, Rest::new(tokens))?;

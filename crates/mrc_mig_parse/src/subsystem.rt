@@ -14,6 +14,8 @@ use std::marker::Model;
 /// An argument of a routine.
 #[derive(Debug, PartialEq, Eq, Drop)]
 pub struct Argument {
+    /// Its name.
+    pub name: String,
     /// Which way it goes. An argument with no word is `In`, or the request port.
     pub direction: Direction,
     /// Its data.
@@ -25,10 +27,20 @@ pub struct Argument {
 /// What stands at an id.
 #[derive(Debug, PartialEq, Eq, Drop)]
 pub enum Entry {
-    /// A `routine`, which is answered by a reply, with its arguments in their order.
-    Routine(Vec<Argument>),
+    /// A `routine`, which is answered by a reply.
+    Routine {
+        /// Its name.
+        name: String,
+        /// Its arguments, in their order.
+        arguments: Vec<Argument>,
+    },
     /// A `simpleroutine`, which has no reply.
-    SimpleRoutine(Vec<Argument>),
+    SimpleRoutine {
+        /// Its name.
+        name: String,
+        /// Its arguments, in their order.
+        arguments: Vec<Argument>,
+    },
     /// A `skip`.
     Skip,
 }

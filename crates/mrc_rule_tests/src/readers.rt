@@ -66,7 +66,13 @@ fn form_of(interface: &Interface, id: u32) -> Option<&Form> {
 
 /// Whether a form is of this kind and has just these arguments.
 fn is_form(form: &Form, kind: FormKind, arguments: &[Shape]) -> bool {
-    form.kind() == kind && form.arguments() == arguments
+    form.kind() == kind
+        && form.arguments().len() == arguments.len()
+        && form
+            .arguments()
+            .iter()
+            .zip(arguments)
+            .all(|(argument, shape)| argument.shape == *shape)
 }
 
 /// Whether the id is that of a form of this kind with just these arguments.

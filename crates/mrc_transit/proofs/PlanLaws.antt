@@ -30,7 +30,7 @@ use Rattle.mrc_desc.specs.declared.message.Header.{Header}
 use Rattle.mrc_desc.specs.View.{HasHeader}
 use Rattle.mrc_ports.specs.Queues.{is_full_for}
 use Rattle.mrc_filter.specs.declared.form.Form.{Form}
-use Rattle.mrc_filter.specs.Places.{shapes_at, shapes_in, IsJudged}
+use Rattle.mrc_filter.specs.Places.{IsJudged}
 use Rattle.mrc_transit.specs.declared.taking.NotHeld.{NotHeld}
 use Rattle.mrc_transit.specs.declared.sending.SendFault.{SendFault}
 use Rattle.mrc_transit.specs.declared.sending.SendFault.TheVariants as faults
@@ -188,9 +188,9 @@ module _ (W : Wiring) (s : Store) (t : ℕ) (m : Message) (h : Header) (has : Ha
               (at_port w (Some dest) live) denied
               (ap (λ c. judge W c m) (sym class_is) ∙ judged)
 
-          module _ (place : Form) (judged : IsJudged W (Ok place) (judge W class m)) where
-            form_is : judge W dest.class m ≡ Ok judged.0
-            form_is = ap (λ c. judge W c m) (sym class_is) ∙ judged.2
+          module _ (form : Form) (judged : IsJudged W (Ok form) (judge W class m)) where
+            form_is : judge W dest.class m ≡ Ok form.found.now
+            form_is = ap (λ c. judge W c m) (sym class_is) ∙ judged.1
 
             module _ (o : Option Disp) (o_is : o ≡ disp_of_number h.local_disp) where
               of_reply : (e : Reply) (r : Try (Store × Item))
@@ -207,7 +207,7 @@ module _ (W : Wiring) (s : Store) (t : ℕ) (m : Message) (h : Header) (has : Ha
                   → IsNotSent (refused_by MachSendInvalidReply fault) W s t m
               plan_no_reply (Fault held) refused = λ w.
                   send_no_reply W (with_store w s) t m x disp_of (staged s t g1) d took dest
-                  (at_port w (Some dest) live) judged.0 form_is
+                  (at_port w (Some dest) live) form.found.now form_is
                   (of_reply (Refused MachSendInvalidReply) _
                   (refused (Refused MachSendInvalidReply)))
               plan_no_reply Memory refused = λ w. tt
@@ -223,32 +223,33 @@ module _ (W : Wiring) (s : Store) (t : ℕ) (m : Message) (h : Header) (has : Ha
                     (answered (Refused MachSendInvalidReply))
 
                 of_args : (r : Try (Store × List QueuedArg))
-                    → take_args W t 0 (shapes_at W place) (staged s t g2) args ≡ r
-                    → take_args W t 0 (form_shapes judged.0) (staged s t g2) m.args ≡ r
+                    → take_args W t 0 (form_shapes form.found.now) (staged s t g2) args ≡ r
+                    → take_args W t 0 (form_shapes form.found.now) (staged s t g2) m.args ≡ r
                 of_args r is =
-                    ap (take_args W t 0 (form_shapes judged.0) (staged s t g2)) (sym args_are)
-                    ∙ ap (λ f. take_args W t 0 (shapes_in f) (staged s t g2) args) (sym judged.1)
+                    ap (take_args W t 0 (form_shapes form.found.now) (staged s t g2)) (sym args_are)
                     ∙ is
 
                 pub plan_no_args : (fault : OrMemory SendFault)
                     → IsSendRefusal fault
-                    (take_args W t 0 (shapes_at W place) (staged s t g2) args)
+                    (take_args W t 0 (form_shapes form.found.now) (staged s t g2) args)
                     → IsNotSent fault W s t m
                 plan_no_args (Fault fault) refused = λ w.
                     send_no_args W (with_store w s) t m x disp_of (staged s t g1) d took dest
-                    (at_port w (Some dest) live) judged.0 form_is (staged s t g2) reply replied
+                    (at_port w (Some dest) live) form.found.now form_is (staged s t g2)
+                    reply replied
                     (fault_reply fault) (of_args _ refused)
                 plan_no_args Memory refused = λ w. tt
 
                 module _ (g3 : Taking) (queued : List QueuedArg)
-                    (taken : take_args W t 0 (shapes_at W place) (staged s t g2) args
+                    (taken : take_args W t 0 (form_shapes form.found.now) (staged s t g2) args
                     ≡ Ok (staged s t g3, queued)) (b : Bool) (once : b ≡ is_once (given x)) where
                   pub plan_no_room : (fault : OrMemory SendFault)
                       → IsNoRoom fault dest b
                       → IsNotSent fault W s t m
                   plan_no_room (Fault fault) full = λ w.
                       send_full W (with_store w s) t m x disp_of (staged s t g1) d took dest
-                      (at_port w (Some dest) live) judged.0 form_is (staged s t g2) reply replied
+                      (at_port w (Some dest) live) form.found.now form_is (staged s t g2)
+                      reply replied
                       (staged s t g3) queued (of_args _ taken)
                       (ap (λ k. not k && nat_le dest.limit (length dest.queue)) (sym once)
                       ∙ full.1)
@@ -271,7 +272,8 @@ module _ (W : Wiring) (s : Store) (t : ℕ) (m : Message) (h : Header) (has : Ha
                     unfolding sent
                     plan_done w =
                         send_done W (with_store w s) t m x disp_of (staged s t g1) d took dest
-                        (at_port w (Some dest) live) judged.0 form_is (staged s t g2) reply replied
+                        (at_port w (Some dest) live) form.found.now form_is (staged s t g2)
+                        reply replied
                         (staged s t g3) queued (of_args _ taken)
                         (ap (λ k. not k && nat_le dest.limit (length dest.queue)) (sym once)
                         ∙ either_fails _ _ room)

@@ -3,7 +3,7 @@
 ghost use Rattle.std.specs.Prelude.{◌≡◌, ◌<◌, ◌^◌, ℕ, length, map, Ok, IfOk, IfErr};
 ghost use Rattle.mrc_model.specs.CallSend.{take_items, take_arg, take_args};
 ghost use Rattle.mrc_wiring.specs.Table.{wiring_of};
-ghost use Rattle.mrc_filter.specs.Places.{shapes_at};
+ghost use Rattle.mrc_model.specs.Wiring.{form_shapes};
 ghost use Rattle.mrc_desc.specs.View.{argument_of, arguments_of};
 ghost use Rattle.mrc_ports.specs.Parcels.{queued_of};
 ghost use Rattle.mrc_transit.specs.Staging.{staged};
@@ -13,7 +13,7 @@ use crate::sending::{SendFault, Slot, admit, refused_by};
 use crate::taking::Taking;
 use mrc_base::{Disp, OrMemory, give};
 use mrc_desc::Argument;
-use mrc_filter::{Form, sort_of};
+use mrc_filter::Form;
 use mrc_model::{Code, Item};
 use mrc_ports::{Items, QueuedArgument, Store};
 use mrc_wiring::Wired;
@@ -107,23 +107,23 @@ impl Taking {
         &mut self,
         wired: &Wired,
         store: &Store,
-        form: &Form,
+        form: &Form<'_>,
         arguments: &[Argument],
     ) -> Result<Vec<QueuedArgument>, OrMemory<SendFault>>
         requires { length arguments.now < 2 ^ 32 }
         ensures taken { IfOk result (λ queued. (t : ℕ)
-            → take_args (wiring_of wired.now) t 0 (shapes_at (wiring_of wired.now) form.now)
+            → take_args (wiring_of wired.now) t 0 (form_shapes form.now.found.now)
             (staged store.now t self.old) (arguments_of arguments.now)
             ≡ Ok (staged store.now t self.new, map queued_of queued.items)) }
         ensures refused { IfErr result (λ fault. (t : ℕ)
             → IsSendRefusal fault (take_args (wiring_of wired.now) t 0
-            (shapes_at (wiring_of wired.now) form.now) (staged store.now t self.old)
+            (form_shapes form.now.found.now) (staged store.now t self.old)
             (arguments_of arguments.now))) }
     {
         let mut queued = Vec::with_capacity(self.alloc, arguments.len())?;
         for (i, argument) in arguments.iter().enumerate() {
             let slot = Slot {
-                sort: sort_of(wired, form, i),
+                sort: form.found.sort(i),
                 argument: i as u32,
             };
             let next = self.take_arg(wired, store, slot, argument)?;

@@ -3,104 +3,48 @@ use Rattle.std.proofs.Common.{◌≡◌, ◌⊎◌, inl, inr, ℕ, zero, suc, �
 use Rattle.std.proofs.Common.{List, [], ◌∷◌, ◌++◌, map, Option, Some, None, refl, ap, sym}
 use Rattle.std.proofs.Common.{subst}
 use Rattle.std.proofs.Common.{◌∙◌, arith, ◌==◌, ◌||◌}
-use Rattle.std.specs.Prelude.{slice_get, flat_map}
+use Rattle.std.specs.Prelude.{slice_get}
 use Rattle.std.specs.List.{list_any}
 use Rattle.std.proofs.lemmas.Bool.{eqb-true, eq-eqb}
-use Rattle.std.proofs.lemmas.List.{map-append}
 use Rattle.mrc_model.specs.IsIn.{IsIn, here, later}
 use Rattle.mrc_model.specs.declared.LabelItem.{LabelItem}
 use Rattle.mrc_model.specs.declared.LabelItem.TheVariants as label
-use Rattle.mrc_model.specs.Wiring.{Interface, Form, OfRequest, OfReply, form_id, item_forms}
-use Rattle.mrc_forms.specs.declared.form.FormKind.TheVariants as kinds
-use Rattle.mrc_forms.specs.declared.form.FormKind.{FormKind}
+use Rattle.mrc_model.specs.Wiring.{Form, form_id, item_forms}
+use Rattle.mrc_forms.specs.declared.form.MessageKind.{MessageKind}
+use Rattle.mrc_forms.specs.declared.form.MessageKind.TheVariants.{Request, Reply}
 use Rattle.mrc_forms.specs.Forms.{Form as TextForm}
-use Rattle.mrc_forms.specs.Tables.{Row, Table as Text}
-use Rattle.mrc_model.specs.Wiring.{Shape}
+use Rattle.mrc_forms.specs.Tables.{Table as Text, forms_by}
 use Rattle.mrc_wiring.specs.Sorts.{Sort, sorts_of}
 use Rattle.mrc_wiring.specs.Table.{Table, wiring_of}
-use Rattle.mrc_wiring.specs.ModelForms.{request_in, reply_in, as_request, as_reply, shapes_of}
-use Rattle.mrc_wiring.specs.ModelForms.{interface_of}
-use Rattle.mrc_wiring.specs.Labels.{ids_of, request_id, reply_id, id_of_request, id_of_reply}
-use Rattle.mrc_wiring.specs.Labels.{is_known, clash_among, HasId, AreClashing, ids_in, request_ids}
-use Rattle.mrc_wiring.specs.Labels.{reply_ids}
+use Rattle.mrc_wiring.specs.ModelForms.{model_form}
+use Rattle.mrc_wiring.specs.Finding.{message_forms}
+use Rattle.mrc_wiring.specs.Labels.{ids_by, ids_of, is_known, clash_among, HasId, AreClashing}
 use Rattle.mrc_wiring.specs.ClashLaw.{ClashesAreTwoItems}
-use Rattle.mrc_wiring.proofs.Forms.{interface_there, interface_not}
+use Rattle.mrc_wiring.proofs.Findings.{messages_there, messages_not}
 
 -- the ids of an item are those of its forms
 
-kind_request : (kind : FormKind) (id : ℕ) (shapes : List Shape)
-    → map form_id (map OfRequest (as_request kind id shapes)) ≡ id_of_request kind id
-kind_request (kinds.Request kind) id shapes = refl
-kind_request kinds.Reply id shapes = refl
+-- a form keeps its id
+made_ids : (kind : MessageKind) (sorts : List Sort) (s : ℕ) (forms : List TextForm)
+    → map form_id (map (model_form kind sorts s) forms) ≡ map (λ (form : TextForm). form.id) forms
+made_ids kind sorts s [] = refl
+made_ids Request sorts s (form ∷ forms) =
+    ap (λ ids. form.id ∷ ids) (made_ids Request sorts s forms)
+made_ids Reply sorts s (form ∷ forms) =
+    ap (λ ids. form.id ∷ ids) (made_ids Reply sorts s forms)
 
-kind_reply : (kind : FormKind) (id : ℕ) (shapes : List Shape)
-    → map form_id (map OfReply (as_reply kind id shapes)) ≡ id_of_reply kind id
-kind_reply (kinds.Request kind) id shapes = refl
-kind_reply kinds.Reply id shapes = refl
-
-row_request : (sorts : List Sort) (s : ℕ) (o : Option TextForm)
-    → map form_id (map OfRequest (request_in sorts s o)) ≡ request_id o
-row_request sorts s None = refl
-row_request sorts s (Some form) = kind_request form.kind form.id (shapes_of sorts s form)
-
-row_reply : (sorts : List Sort) (s : ℕ) (o : Option TextForm)
-    → map form_id (map OfReply (reply_in sorts s o)) ≡ reply_id o
-row_reply sorts s None = refl
-row_reply sorts s (Some form) = kind_reply form.kind form.id (shapes_of sorts s form)
-
--- of what is made of each row and joined
-joined : {X Y : Type 0} (m : List X → List Y) (f : Row → List X) (g : Row → List Y)
-    → (m [] ≡ [])
-    → ((xs ys : List X) → m (xs ++ ys) ≡ m xs ++ m ys)
-    → ((row : Row) → m (f row) ≡ g row)
-    → (rows : List Row)
-    → m (flat_map f rows) ≡ flat_map g rows
-joined m f g none both each [] = none
-joined m f g none both each (row ∷ rows) =
-    both (f row) (flat_map f rows)
-    ∙ ap (λ ys. ys ++ m (flat_map f rows)) (each row)
-    ∙ ap (λ ys. g row ++ ys) (joined m f g none both each rows)
-
-twice_append : {X Y Z : Type 0} (f : X → Y) (g : Y → Z) (xs ys : List X)
-    → map g (map f (xs ++ ys)) ≡ map g (map f xs) ++ map g (map f ys)
-twice_append f g xs ys = ap (map g) (map-append f xs ys) ∙ map-append g (map f xs) (map f ys)
-
-requests_are : (sorts : List Sort) (s : ℕ) (t : Text)
-    → map form_id (map OfRequest (interface_of sorts s t).requests) ≡ request_ids t
-requests_are sorts s t =
-    joined (λ fs. map form_id (map OfRequest fs)) (λ (row : Row). request_in sorts s row.request)
-    (λ (row : Row). request_id row.request) refl (twice_append OfRequest form_id)
-    (λ row. row_request sorts s row.request) t.rows
-
-replies_are : (sorts : List Sort) (s : ℕ) (t : Text)
-    → map form_id (map OfReply (interface_of sorts s t).replies) ≡ reply_ids t
-replies_are sorts s t =
-    joined (λ fs. map form_id (map OfReply fs)) (λ (row : Row). reply_in sorts s row.reply)
-    (λ (row : Row). reply_id row.reply) refl (twice_append OfReply form_id)
-    (λ row. row_reply sorts s row.reply) t.rows
-
-requests_of : (table : Table) (s : ℕ) (o : Option Text)
+ids_by_message : (table : Table) (kind : MessageKind) (s : ℕ) (o : Option Text)
     → slice_get table.interfaces s ≡ o
-    → map form_id (item_forms (wiring_of table) (label.Request s)) ≡ ids_in request_ids o
-requests_of table s None e =
-    ap (λ (i : Interface). map form_id (map OfRequest i.requests)) (interface_not table s e)
-requests_of table s (Some t) e =
-    ap (λ (i : Interface). map form_id (map OfRequest i.requests)) (interface_there table s t e)
-    ∙ requests_are (sorts_of table.interfaces) s t
-
-replies_of : (table : Table) (s : ℕ) (o : Option Text)
-    → slice_get table.interfaces s ≡ o
-    → map form_id (item_forms (wiring_of table) (label.Reply s)) ≡ ids_in reply_ids o
-replies_of table s None e =
-    ap (λ (i : Interface). map form_id (map OfReply i.replies)) (interface_not table s e)
-replies_of table s (Some t) e =
-    ap (λ (i : Interface). map form_id (map OfReply i.replies)) (interface_there table s t e)
-    ∙ replies_are (sorts_of table.interfaces) s t
+    → map form_id (message_forms kind (wiring_of table) s) ≡ ids_by kind o
+ids_by_message table kind s None e = ap (map form_id) (messages_not table kind s e)
+ids_by_message table kind s (Some t) e =
+    ap (map form_id) (messages_there table kind s t e)
+    ∙ made_ids kind (sorts_of table.interfaces) s (forms_by kind t)
 
 ids_are : (table : Table) (item : LabelItem)
     → map form_id (item_forms (wiring_of table) item) ≡ ids_of table.interfaces item
-ids_are table (label.Request s) = requests_of table s _ refl
-ids_are table (label.Reply s) = replies_of table s _ refl
+ids_are table (label.Request s) = ids_by_message table Request s _ refl
+ids_are table (label.Reply s) = ids_by_message table Reply s _ refl
 ids_are table label.Destroyed = refl
 
 in_map : (f : Form) (fs : List Form) → IsIn f fs → IsIn (form_id f) (map form_id fs)

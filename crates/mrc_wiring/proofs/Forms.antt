@@ -1,21 +1,17 @@
 -- Tests of the forms of interfaces, row by row, and the model's interface of a number.
 use Rattle.std.proofs.Common.{◌≡◌, ℕ, zero, suc, ◌+◌, ◌<◌, Bool, true, false, ◌||◌, List, [], ◌∷◌}
-use Rattle.std.proofs.Common.{length, get_or, drop, Option, Some, None, refl, ap, sym, ◌∙◌}
+use Rattle.std.proofs.Common.{length, get_or, drop, Some, None, refl, ap, sym, ◌∙◌}
 use Rattle.std.proofs.Common.{arith}
-use Rattle.std.specs.Prelude.{slice_get, flat_map, option_and_then, unwrap_or}
+use Rattle.std.specs.Prelude.{slice_get, flat_map, unwrap_or}
 use Rattle.std.specs.List.{list_any}
 use Rattle.std.proofs.lemmas.List.Folds.{list_any-append}
-use Rattle.mrc_base.specs.declared.Disp.{Disp}
-use Rattle.mrc_forms.specs.Forms.{Form as TextForm}
-use Rattle.mrc_forms.specs.Tables.{Row, Table as Text}
-use Rattle.mrc_model.specs.Wiring.{Wiring, Interface, RequestForm, ReplyForm, OfRequest, OfReply}
+use Rattle.mrc_forms.specs.Tables.{Table as Text}
+use Rattle.mrc_model.specs.Wiring.{Interface}
 use Rattle.mrc_model.specs.Wiring.{interface}
 use Rattle.mrc_wiring.specs.Sorts.{Sort, sorts_of}
 use Rattle.mrc_wiring.specs.ModelForms.{interface_of, interfaces_from}
 use Rattle.mrc_wiring.specs.Table.{Table, wiring_of}
-use Rattle.mrc_wiring.specs.Slots.{form_takes, requests_take, replies_take}
-use Rattle.mrc_wiring.proofs.Steps.{next_is, row_next}
-use Rattle.mrc_wiring.proofs.Classes.{any_of_map}
+use Rattle.mrc_wiring.proofs.Steps.{next_is}
 
 -- a turn that finds, and one that does not
 pub hit : (all x found rest : Bool) → all ≡ x → x ≡ (found || rest) → found ≡ true → true ≡ all
@@ -33,51 +29,6 @@ pub any_turn : {X : Type 0} (p : X → Bool) (xs : List X) (i : ℕ) (x : X) (fo
 any_turn p xs i x found less is e =
     ap (list_any p) (next_is xs i x less)
     ∙ ap (λ b. b || list_any p (drop (i + 1) xs)) (ap p (sym is) ∙ sym e)
-
--- one turn over rows
-pub rows_turn : {Y : Type 0} (p : Y → Bool) (g : Row → Option TextForm)
-    (h : Option TextForm → List Y) (rows : List Row) (i : ℕ) (o : Option TextForm) (found : Bool)
-    → i < length rows
-    → o ≡ option_and_then g (slice_get rows i)
-    → found ≡ list_any p (h o)
-    → list_any p (flat_map (λ row. h (g row)) (drop i rows))
-    ≡ (found || list_any p (flat_map (λ row. h (g row)) (drop (i + 1) rows)))
-rows_turn p g h rows i o found less e told =
-    let rest = flat_map (λ row. h (g row)) (drop (i + 1) rows) in
-    ap (list_any p) (row_next g h rows i less)
-    ∙ list_any-append p (h (option_and_then g (slice_get rows i))) rest
-    ∙ ap (λ b. b || list_any p rest) (ap (λ x. list_any p (h x)) (sym e) ∙ sym told)
-
-pub requests_turn : (W : Wiring) (x : Disp) (c : ℕ) (g : Row → Option TextForm)
-    (h : Option TextForm → List RequestForm) (rows : List Row) (i : ℕ) (o : Option TextForm)
-    (found : Bool)
-    → i < length rows
-    → o ≡ option_and_then g (slice_get rows i)
-    → found ≡ requests_take W x c (h o)
-    → requests_take W x c (flat_map (λ row. h (g row)) (drop i rows))
-    ≡ (found || requests_take W x c (flat_map (λ row. h (g row)) (drop (i + 1) rows)))
-requests_turn W x c g h rows i o found less e told =
-    any_of_map (form_takes W x c) OfRequest (flat_map (λ row. h (g row)) (drop i rows))
-    ∙ rows_turn (λ f. form_takes W x c (OfRequest f)) g h rows i o found less e
-    (told ∙ any_of_map (form_takes W x c) OfRequest (h o))
-    ∙ ap (λ b. found || b)
-    (sym (any_of_map (form_takes W x c) OfRequest (flat_map (λ row. h (g row)) (drop (i + 1)
-    rows))))
-
-pub replies_turn : (W : Wiring) (x : Disp) (c : ℕ) (g : Row → Option TextForm)
-    (h : Option TextForm → List ReplyForm) (rows : List Row) (i : ℕ) (o : Option TextForm)
-    (found : Bool)
-    → i < length rows
-    → o ≡ option_and_then g (slice_get rows i)
-    → found ≡ replies_take W x c (h o)
-    → replies_take W x c (flat_map (λ row. h (g row)) (drop i rows))
-    ≡ (found || replies_take W x c (flat_map (λ row. h (g row)) (drop (i + 1) rows)))
-replies_turn W x c g h rows i o found less e told =
-    any_of_map (form_takes W x c) OfReply (flat_map (λ row. h (g row)) (drop i rows))
-    ∙ rows_turn (λ f. form_takes W x c (OfReply f)) g h rows i o found less e
-    (told ∙ any_of_map (form_takes W x c) OfReply (h o))
-    ∙ ap (λ b. found || b)
-    (sym (any_of_map (form_takes W x c) OfReply (flat_map (λ row. h (g row)) (drop (i + 1) rows))))
 
 -- one turn over a label's items
 pub items_turn : {X Y : Type 0} (p : Y → Bool) (f : X → List Y) (xs : List X) (i : ℕ) (x : X)

@@ -1,11 +1,10 @@
 -- A worked wiring: a file server and its client, over one interface.
-use Rattle.std.specs.Prelude.{◌≡◌, ℕ, Bool, false, List, [], ◌∷◌, Option, Some, None, Result, Ok, Err}
+use Rattle.std.specs.Prelude.{◌≡◌, ℕ, false, List, [], ◌∷◌, Option, Some, None, Result, Ok, Err}
 use Rattle.std.specs.Prelude.{refl, codes, length}
 use Rattle.mrc_base.specs.declared.Disp.TheVariants.{CopySend}
 use Rattle.mrc_base.specs.declared.PortRight.TheVariants.{Send}
-use Rattle.mrc_forms.specs.declared.shape.Shape.{Shape as TextShape}
 use Rattle.mrc_forms.specs.declared.form.FormKind.TheVariants as kind
-use Rattle.mrc_forms.specs.Forms.{return_code}
+use Rattle.mrc_forms.specs.Forms.{Argument, return_code}
 use Rattle.mrc_forms.specs.Tables.{Table as Interface}
 use Rattle.mrc_model.specs.declared.RequestKind.TheVariants as requests
 use Rattle.mrc_model.specs.declared.LabelItem.TheVariants as label
@@ -27,10 +26,12 @@ use Rattle.mrc_wiring.specs.Resolving.{resolved, add_task, add_port, place_port,
 use Rattle.mrc_wiring.specs.Resolving.{place_births, add_hold_port, place_hold}
 use Rattle.mrc_wiring.specs.Resolving.{add_admit}
 
--- `count` items, or at most so many, of the type of this number, of so many bits each
-abbrev shape : ℕ → ℕ → ℕ → Bool → TextShape
-shape name size count is_bound =
-    record { name = name; size = size; number = count; is_bound = is_bound }
+-- an argument of this name: `count` items of the type of this number, of so many bits each
+abbrev argument : List ℕ → ℕ → ℕ → ℕ → Argument
+argument name number size count = record {
+  name = name;
+  shape = record { name = number; size = size; number = count; is_bound = false };
+}
 
 -- subsystem fsys 3000; type file_t = MACH_MSG_TYPE_COPY_SEND; type path_t = c_string[64];
 -- routine open(root : mach_port_t; in path : path_t; out file : file_t);
@@ -40,15 +41,17 @@ fsys = record {
   base = 3000;
   rows = record {
     request = Some record {
+      name = codes "open";
       id = 3000;
       kind = kind.Request requests.Routine;
-      arguments = shape 12 8 64 false ∷ [];
+      arguments = argument (codes "path") 12 8 64 ∷ [];
       slots = [];
     };
     reply = Some record {
+      name = codes "open";
       id = 3100;
       kind = kind.Reply;
-      arguments = return_code ∷ shape 19 32 1 false ∷ [];
+      arguments = return_code ∷ argument (codes "file") 19 32 1 ∷ [];
       slots = record { argument = 1; disposition = CopySend; type_name = codes "file_t" } ∷ [];
     };
   } ∷ [];

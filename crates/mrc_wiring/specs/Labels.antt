@@ -1,7 +1,6 @@
 -- What a class accepts, by the numbers of interfaces, and when two items of it clash. This
--- profile's
--- own choice.
-use Rattle.std.specs.Prelude.{◌≡◌, ℕ, ◌<◌, ◌==◌, ◌||◌, ◌++◌, Bool, false, List, [], ◌∷◌, flat_map}
+-- profile's own choice.
+use Rattle.std.specs.Prelude.{◌≡◌, ℕ, ◌<◌, ◌==◌, ◌||◌, ◌++◌, Bool, false, List, [], ◌∷◌, map}
 use Rattle.std.specs.Prelude.{bytes_eq, position, slice_get, Option, Some, None, Result, Ok}
 use Rattle.std.specs.List.{list_any}
 use Rattle.std.specs.Option.{option_map, ok_or}
@@ -10,10 +9,10 @@ use Rattle.mrc_model.specs.declared.LabelItem.{LabelItem}
 use Rattle.mrc_model.specs.declared.LabelItem.TheVariants as label
 use Rattle.mrc_model.specs.IsIn.{IsIn}
 use Rattle.mrc_model.specs.Wiring.{Wiring, Form as ModelForm, form_id, item_forms}
-use Rattle.mrc_forms.specs.declared.form.FormKind.{FormKind}
-use Rattle.mrc_forms.specs.declared.form.FormKind.TheVariants as kinds
+use Rattle.mrc_forms.specs.declared.form.MessageKind.{MessageKind}
+use Rattle.mrc_forms.specs.declared.form.MessageKind.TheVariants as messages
 use Rattle.mrc_forms.specs.Forms.{Form}
-use Rattle.mrc_forms.specs.Tables.{Row, Table as Interface}
+use Rattle.mrc_forms.specs.Tables.{Table as Interface, forms_by}
 use Rattle.mrc_wiring_text.specs.declared.items.Item.{Item}
 use Rattle.mrc_wiring_text.specs.declared.items.Item.TheVariants.{Request, Reply, Destroyed}
 use Rattle.mrc_wiring.specs.declared.faults.ResolveFault.{ResolveFault}
@@ -38,43 +37,15 @@ label_said interfaces n (item ∷ items) = do
   others ← label_said interfaces n items
   Ok (first ∷ others)
 
--- the id of a form, where it is a request
-abbrev pub id_of_request : FormKind → ℕ → List ℕ
-id_of_request (kinds.Request kind) id = id ∷ []
-id_of_request kinds.Reply id = []
-
--- the id of a form, where it is a reply
-abbrev pub id_of_reply : FormKind → ℕ → List ℕ
-id_of_reply (kinds.Request kind) id = []
-id_of_reply kinds.Reply id = id ∷ []
-
--- the id of the request that stands at an id, if there is one
-abbrev pub request_id : Option Form → List ℕ
-request_id None = []
-request_id (Some form) = id_of_request form.kind form.id
-
--- the id of the reply that stands at an id, if there is one
-abbrev pub reply_id : Option Form → List ℕ
-reply_id None = []
-reply_id (Some form) = id_of_reply form.kind form.id
-
--- the ids of an interface's requests
-abbrev pub request_ids : Interface → List ℕ
-request_ids interface = flat_map (λ (row : Row). request_id row.request) interface.rows
-
--- the ids of an interface's replies
-abbrev pub reply_ids : Interface → List ℕ
-reply_ids interface = flat_map (λ (row : Row). reply_id row.reply) interface.rows
-
--- the ids of an interface, where it is there
-abbrev pub ids_in : (Interface → List ℕ) → Option Interface → List ℕ
-ids_in ids None = []
-ids_in ids (Some interface) = ids interface
+-- the ids of this message of an interface, where it is there
+abbrev pub ids_by : MessageKind → Option Interface → List ℕ
+ids_by kind None = []
+ids_by kind (Some interface) = map (λ (form : Form). form.id) (forms_by kind interface)
 
 -- the ids of the forms that an item stands for
 abbrev pub ids_of : List Interface → LabelItem → List ℕ
-ids_of interfaces (label.Request s) = ids_in request_ids (slice_get interfaces s)
-ids_of interfaces (label.Reply s) = ids_in reply_ids (slice_get interfaces s)
+ids_of interfaces (label.Request s) = ids_by messages.Request (slice_get interfaces s)
+ids_of interfaces (label.Reply s) = ids_by messages.Reply (slice_get interfaces s)
 ids_of interfaces label.Destroyed = []
 
 -- the number is one of these

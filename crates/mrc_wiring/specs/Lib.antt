@@ -10,6 +10,7 @@ pub mod ClashLaw
 pub mod ClassNumbers
 pub mod Resolving
 pub mod State
+pub mod Kept
 pub mod Slots
 pub mod Finding
 pub mod Told

@@ -4,7 +4,9 @@ ghost use Rattle.std.specs.Prelude.{◌≡◌, ◌++◌, IfOk, OnOk, slice_get};
 ghost use Rattle.mrc_model.specs.FirstHoldings.{given_classes, given_holdings, facts_by, fact_at};
 ghost use Rattle.mrc_wiring.specs.Table.{wiring_of};
 ghost use Rattle.mrc_wiring.specs.FirstState.{HasFirstHolds};
+ghost use Rattle.mrc_wiring.specs.State.{IsState};
 
+use crate::resolving::Resolving;
 use crate::wired::Wired;
 use mrc_base::{ClassId, Fact, PortRight};
 use mrc_model::FirstLine;
@@ -38,32 +40,32 @@ fn add_hold(
     }
 }
 
-impl Wired {
-    /// The class of each port of the first state, by birth number.
-    fn first_classes(&self, alloc: Global) -> Result<Vec<ClassId>, AllocError>
-        ensures { IfOk result (λ classes. classes.items ≡ given_classes (wiring_of self.now)) }
-    {
-        let _kept = self.tasks();
-        let wired = self.ports();
-        let mut classes = Vec::new(alloc);
-        let mut tasks = 0u16;
-        let mut ports = 0u16;
-        for line in self.first_lines() {
-            match line {
-                FirstLine::Task => {
-                    classes.push(ClassId(wired + tasks))?;
-                    tasks += 1;
-                }
-                FirstLine::Port { .. } => {
-                    classes.push(ClassId(ports))?;
-                    ports += 1;
-                }
-                FirstLine::Hold { .. } => {}
+/// The class of each port of the first state, by birth number.
+pub(crate) fn first_classes(alloc: Global, table: &Resolving) -> Result<Vec<ClassId>, AllocError>
+    requires { IsState table.now }
+    ensures { IfOk result (λ classes. classes.items ≡ given_classes (wiring_of table.now.table)) }
+{
+    let wired = table.ports.len() as u16;
+    let mut classes = Vec::new(alloc);
+    let mut tasks = 0u16;
+    let mut ports = 0u16;
+    for line in &table.lines {
+        match line {
+            FirstLine::Task => {
+                classes.push(ClassId(wired + tasks))?;
+                tasks += 1;
             }
+            FirstLine::Port { .. } => {
+                classes.push(ClassId(ports))?;
+                ports += 1;
+            }
+            FirstLine::Hold { .. } => {}
         }
-        Ok(classes)
     }
+    Ok(classes)
+}
 
+impl Wired {
     /// What each line gives, where ports have these classes by their birth numbers.
     fn line_holds(&self, alloc: Global, classes: &[ClassId]) -> Result<Vec<Fact>, AllocError>
         ensures { IfOk result (λ holds. holds.items
@@ -98,7 +100,6 @@ impl Wired {
         ensures { IfOk result (λ holds. HasFirstHolds (wiring_of self.now) holds.items) }
     {
         let _kept = self.tasks();
-        let classes = self.first_classes(alloc)?;
-        self.line_holds(alloc, classes.as_slice())
+        self.line_holds(alloc, self.first_classes())
     }
 }

@@ -1,16 +1,15 @@
 //! What a class accepts, by the numbers of interfaces.
 
-ghost use Rattle.std.specs.Prelude.{◌≡◌, ◌++◌, [], IfOk, OnOk};
+ghost use Rattle.std.specs.Prelude.{◌≡◌, [], IfOk};
 ghost use Rattle.std.specs.Option.{option_map};
 ghost use Rattle.std.specs.List.{list_any};
 ghost use Rattle.mrc_base.specs.Reading.{Gives};
 ghost use Rattle.mrc_wiring.specs.Labels.{interface_number, item_said, label_said, is_known};
-ghost use Rattle.mrc_wiring.specs.Labels.{request_id, reply_id, request_ids, reply_ids, ids_of};
-ghost use Rattle.mrc_wiring.specs.Labels.{clash_among};
+ghost use Rattle.mrc_wiring.specs.Labels.{ids_by, ids_of, clash_among};
 
 use crate::faults::ResolveFault;
 use mrc_base::{Copies, OrMemory, copy_all, same_all};
-use mrc_forms::{Form, FormKind, Interface};
+use mrc_forms::{Interface, MessageKind};
 use mrc_model::LabelItem;
 use mrc_wiring_text::{Item, Items};
 use std::alloc::{AllocError, Global};
@@ -98,54 +97,23 @@ pub(crate) fn label_said(
     Ok(Label { items })
 }
 
-/// Adds the id of a form, where it is there and is a request.
-fn add_request_id(ids: &mut Vec<u32>, form: Option<&Form>) -> Result<(), AllocError>
-    ensures { OnOk result (ids.new.items
-        ≡ ids.old.items ++ request_id (option_map (λ form. form.now) form.entry)) }
-{
-    let Some(form) = form else {
-        return Ok(());
-    };
-    if let FormKind::Request(_) = form.kind() {
-        ids.push(form.id())?;
-    }
-    Ok(())
-}
-
-/// Adds the id of a form, where it is there and is a reply.
-fn add_reply_id(ids: &mut Vec<u32>, form: Option<&Form>) -> Result<(), AllocError>
-    ensures { OnOk result (ids.new.items
-        ≡ ids.old.items ++ reply_id (option_map (λ form. form.now) form.entry)) }
-{
-    let Some(form) = form else {
-        return Ok(());
-    };
-    if let FormKind::Reply = form.kind() {
-        ids.push(form.id())?;
-    }
-    Ok(())
-}
-
-/// The ids of an interface's requests.
-fn request_ids(alloc: Global, interface: &Interface) -> Result<Vec<u32>, AllocError>
-    ensures { IfOk result (λ ids. ids.items ≡ request_ids interface.now) }
+/// The ids of this message of an interface.
+fn ids_by(
+    alloc: Global,
+    kind: MessageKind,
+    interface: Option<&Interface>,
+) -> Result<Vec<u32>, AllocError>
+    ensures { IfOk result (λ ids. ids.items
+        ≡ ids_by kind (option_map (λ interface. interface.now) interface.entry)) }
 {
     let mut ids = Vec::new(alloc);
-    let (_, count) = interface.ids();
-    for place in 0..count {
-        add_request_id(&mut ids, interface.request_at(place))?;
-    }
-    Ok(ids)
-}
-
-/// The ids of an interface's replies.
-fn reply_ids(alloc: Global, interface: &Interface) -> Result<Vec<u32>, AllocError>
-    ensures { IfOk result (λ ids. ids.items ≡ reply_ids interface.now) }
-{
-    let mut ids = Vec::new(alloc);
-    let (_, count) = interface.ids();
-    for place in 0..count {
-        add_reply_id(&mut ids, interface.reply_at(place))?;
+    let Some(interface) = interface else {
+        return Ok(ids);
+    };
+    for row in interface.rows() {
+        if let Some(form) = row.form(kind) {
+            ids.push(form.id())?;
+        }
     }
     Ok(ids)
 }
@@ -159,14 +127,8 @@ fn item_ids(
     ensures { IfOk result (λ ids. ids.items ≡ ids_of interfaces.now item) }
 {
     match item {
-        LabelItem::Request(number) => match interfaces.get(number) {
-            Some(interface) => request_ids(alloc, interface),
-            None => Ok(Vec::new(alloc)),
-        },
-        LabelItem::Reply(number) => match interfaces.get(number) {
-            Some(interface) => reply_ids(alloc, interface),
-            None => Ok(Vec::new(alloc)),
-        },
+        LabelItem::Request(number) => ids_by(alloc, MessageKind::Request, interfaces.get(number)),
+        LabelItem::Reply(number) => ids_by(alloc, MessageKind::Reply, interfaces.get(number)),
         LabelItem::Destroyed => Ok(Vec::new(alloc)),
     }
 }

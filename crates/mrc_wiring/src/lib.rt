@@ -15,6 +15,7 @@ mod resolving;
 mod slots;
 mod sorts;
 mod table;
+mod typed;
 mod wired;
 
 pub use claim::{Claim, ForbiddenLine};
@@ -22,4 +23,5 @@ pub use faults::{ClaimFault, ResolveFault};
 pub use laws::{births_are_numbered, clashes_are_two_items, sorts_are_types};
 pub use names::{ClassKind, ClassLabel, kind_word};
 pub use resolving::NotResolved;
+pub use typed::{TypedArgument, TypedForm};
 pub use wired::Wired;

@@ -1,12 +1,11 @@
 //! The types of port arguments, by numbers.
 
-ghost use Rattle.std.specs.Prelude.{◌≡◌, ◌++◌, ◌<◌, map, length, position, IfOk, OnOk, IfSome};
+ghost use Rattle.std.specs.Prelude.{◌≡◌, ◌++◌, map, position, IfOk, OnOk};
 ghost use Rattle.std.specs.Option.{option_map};
-ghost use Rattle.mrc_forms.specs.Forms.{Form as FormValue};
 ghost use Rattle.mrc_wiring.specs.Sorts.{is_sort, form_slots, slot_sort, interface_sorts};
-ghost use Rattle.mrc_wiring.specs.Sorts.{sorts_of, sort_number};
+ghost use Rattle.mrc_wiring.specs.Sorts.{sorts_of};
 
-use mrc_forms::{Form, Interface};
+use mrc_forms::{Form, Interface, MessageKind};
 use std::alloc::{AllocError, Global};
 use std::marker::Model;
 
@@ -64,10 +63,9 @@ fn add_interface(
     ensures { OnOk result (sorts.new.items
         ≡ sorts.old.items ++ interface_sorts number interface.now) }
 {
-    let (_, count) = interface.ids();
-    for place in 0..count {
-        add_form(sorts, number, interface.request_at(place))?;
-        add_form(sorts, number, interface.reply_at(place))?;
+    for row in interface.rows() {
+        add_form(sorts, number, row.form(MessageKind::Request))?;
+        add_form(sorts, number, row.form(MessageKind::Reply))?;
     }
     Ok(())
 }
@@ -89,11 +87,4 @@ pub(crate) fn sort_place(sorts: &[Sort], interface: usize, type_name: &str) -> O
 {
     sorts.iter().position(|sort| sort.interface == interface
         && type_name == sort.type_name.as_str())
-}
-
-/// The number of a type.
-pub(crate) fn sort_number(sorts: &[Sort], interface: usize, type_name: &str) -> usize
-    ensures { result ≡ sort_number sorts.now interface type_name.now }
-{
-    sort_place(sorts, interface, type_name).unwrap_or(sorts.len())
 }

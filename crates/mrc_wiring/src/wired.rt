@@ -1,16 +1,21 @@
 //! Wirings, resolved to numbers.
 
-ghost use Rattle.std.specs.Prelude.{◌≡◌, ◌≤◌, ◌<◌, ◌+◌, ◌*◌, ℕ, [], length, map, get_or};
+ghost use Rattle.std.specs.Prelude.{◌≡◌, ◌≤◌, ◌<◌, ◌+◌, ◌*◌, ℕ, [], flat_map, length, map, get_or};
 ghost use Rattle.std.specs.Prelude.{◌↔◌, slice_get, Some, IfOk, IfSome, IsTrue};
 ghost use Rattle.std.specs.List.{list_any};
-ghost use Rattle.std.specs.Option.{option_map, IfNone};
+ghost use Rattle.std.specs.Option.{option_map, option_to_list, IfNone};
 ghost use Rattle.mrc_base.specs.Limits.{limit_of_tasks, limit_of_wired_ports, limit_of_kinds};
 ghost use Rattle.mrc_model.specs.First.{is_sound};
+ghost use Rattle.mrc_model.specs.FirstHoldings.{given_classes};
 ghost use Rattle.mrc_model.specs.Wiring.{classes, births_class, label, admits, is_line_of};
 ghost use Rattle.mrc_model.specs.Wiring.{admits_by};
 ghost use Rattle.mrc_wiring.specs.Births.{AreAscending, AreKinds, of_row};
-ghost use Rattle.mrc_wiring.specs.Table.{IsTable, wiring_of};
-ghost use Rattle.mrc_wiring.specs.Sorts.{sorts_of, sort_number};
+ghost use Rattle.mrc_wiring.specs.Table.{IsTable, admitted_of, wiring_of};
+ghost use Rattle.mrc_wiring.specs.Sorts.{sorts_of};
+ghost use Rattle.mrc_wiring.specs.ModelForms.{typed_from};
+ghost use Rattle.mrc_wiring.specs.Finding.{message_forms, typed_at};
+ghost use Rattle.mrc_wiring.specs.State.{IsState};
+ghost use Rattle.mrc_forms.specs.declared.form.MessageKind.TheVariants as messages;
 ghost use Rattle.mrc_wiring.specs.Resolving.{resolved};
 ghost use Rattle.mrc_wiring.specs.Told.{ResolveTold};
 ghost use Rattle.mrc_wiring.specs.Names.{AreNames, number_of, class_label, shown_label};
@@ -18,17 +23,59 @@ ghost use Rattle.mrc_wiring.specs.Names.{class_named, births_named};
 ghost use Rattle.mrc_wiring.specs.Claims.{class_number};
 
 use crate::births::{BirthRow, row_of};
+use crate::holdings::first_classes;
 use crate::labels::Label;
 use crate::names::{ClassKind, ClassLabel, class_said, kind_named, number_of};
-use crate::resolving::{NotResolved, resolved};
-use crate::sorts::{Sort, sort_number, sorts_of};
+use crate::resolving::{NotResolved, Resolving, resolved};
 use crate::table::{AdmitLine, admitted_of, class_of};
+use crate::typed::{TypedForm, TypedForms, forms_at, typed_of};
 use mrc_base::{ClassId, OrMemory, TaskId, copy_all, same_all};
-use mrc_forms::Interface;
+use mrc_forms::{Interface, MessageKind};
 use mrc_model::{FirstLine, LabelItem};
 use mrc_wiring_text::{ClassName, Name, WiringLine};
 use std::alloc::{AllocError, Global};
 use std::marker::Model;
+
+/// What the lines of a wiring mean by the numbers of types and classes, once all are read.
+#[derive(Drop)]
+struct ByNumbers {
+    requests: Vec<TypedForms>,
+    replies: Vec<TypedForms>,
+    admitted: Vec<(usize, Option<usize>)>,
+    first_classes: Vec<ClassId>,
+}
+
+/// The forms of the interfaces with the numbers of types, what the admit lines admit, and the
+/// classes of the ports of the first state.
+fn numbered(alloc: Global, table: &Resolving) -> Result<ByNumbers, AllocError>
+    requires { IsState table.now }
+    ensures requests { IfOk result (λ numbered. numbered.requests.items
+        ≡ typed_from messages.Request (sorts_of table.now.table.interfaces) 0
+        table.now.table.interfaces) }
+    ensures replies { IfOk result (λ numbered. numbered.replies.items
+        ≡ typed_from messages.Reply (sorts_of table.now.table.interfaces) 0
+        table.now.table.interfaces) }
+    ensures admitted { IfOk result (λ numbered. numbered.admitted.items
+        ≡ admitted_of (length table.now.table.ports) (length table.now.table.names)
+        table.now.table.births table.now.table.admits) }
+    ensures classes { IfOk result (λ numbered. numbered.first_classes.items
+        ≡ given_classes (wiring_of table.now.table)) }
+{
+    let interfaces = table.interfaces.as_slice();
+    let sorts = table.sorts.as_slice();
+    Ok(ByNumbers {
+        requests: typed_of(alloc, MessageKind::Request, sorts, interfaces)?,
+        replies: typed_of(alloc, MessageKind::Reply, sorts, interfaces)?,
+        admitted: admitted_of(
+            alloc,
+            table.ports.len(),
+            table.names.len(),
+            &table.births,
+            &table.admits,
+        )?,
+        first_classes: first_classes(alloc, table)?,
+    })
+}
 
 /// A wiring by numbers: its tasks and wired ports, its classes and what they accept, what slots
 /// admit, and what makes its first state. It keeps the names and the interfaces.
@@ -41,16 +88,15 @@ pub struct Wired {
     pub(crate) lines: Vec<FirstLine>,
     admits: Vec<AdmitLine>,
     interfaces: Vec<Interface>,
-    pub(crate) sorts: Vec<Sort>,
+    requests: Vec<TypedForms>,
+    replies: Vec<TypedForms>,
     admitted: Vec<(usize, Option<usize>)>,
+    first_classes: Vec<ClassId>,
 }
 
 impl Model for Wired {
-    ghost use Rattle.std.specs.Prelude.{◌≡◌, length};
-    ghost use Rattle.mrc_wiring.specs.Births.{AreKinds};
-    ghost use Rattle.mrc_wiring.specs.Names.{AreNames};
-    ghost use Rattle.mrc_wiring.specs.Sorts.{sorts_of};
-    ghost use Rattle.mrc_wiring.specs.Table.{Table, IsTable, admitted_of};
+    ghost use Rattle.mrc_wiring.specs.Kept.{IsKept};
+    ghost use Rattle.mrc_wiring.specs.Table.{Table};
 
     ghost Value = { Table };
 
@@ -64,7 +110,7 @@ impl Model for Wired {
       interfaces = w.interfaces.items;
     } };
 
-    ghost invariant = { λ w. IsTable record {
+    ghost invariant = { λ w. IsKept record {
       names = w.names.items;
       births = w.births.items;
       ports = w.ports.items;
@@ -72,10 +118,7 @@ impl Model for Wired {
       lines = w.lines.items;
       admits = w.admits.items;
       interfaces = w.interfaces.items;
-    } × AreNames w.names.items × AreNames w.ports.items × AreKinds w.births.items
-        × (w.sorts.items ≡ sorts_of w.interfaces.items)
-        × (w.admitted.items ≡ admitted_of (length w.ports.items) (length w.names.items)
-        w.births.items w.admits.items) };
+    } w.requests.items w.replies.items w.admitted.items w.first_classes.items };
 }
 
 impl Wired {
@@ -89,32 +132,25 @@ impl Wired {
         ensures { ResolveTold interfaces.items result (resolved interfaces.items lines.now) }
     {
         let table = resolved(alloc, lines, interfaces)?;
-        let admitted = match admitted_of(
-            alloc,
-            table.ports.len(),
-            table.names.len(),
-            &table.births,
-            &table.admits,
-        ) {
-            Ok(admitted) => admitted,
-            Err(error) => {
-                return Err(NotResolved {
-                    interfaces: table.interfaces,
-                    why: OrMemory::from(error),
-                });
-            }
-        };
-        Ok(Wired {
-            names: table.names,
-            births: table.births,
-            ports: table.ports,
-            accepts: table.accepts,
-            lines: table.lines,
-            admits: table.admits,
-            interfaces: table.interfaces,
-            sorts: table.sorts,
-            admitted,
-        })
+        match numbered(alloc, &table) {
+            Ok(by_numbers) => Ok(Wired {
+                names: table.names,
+                births: table.births,
+                ports: table.ports,
+                accepts: table.accepts,
+                lines: table.lines,
+                admits: table.admits,
+                interfaces: table.interfaces,
+                requests: by_numbers.requests,
+                replies: by_numbers.replies,
+                admitted: by_numbers.admitted,
+                first_classes: by_numbers.first_classes,
+            }),
+            Err(error) => Err(NotResolved {
+                interfaces: table.interfaces,
+                why: OrMemory::from(error),
+            }),
+        }
     }
 
     /// How many tasks there are: no more than a wiring may have.
@@ -172,6 +208,13 @@ impl Wired {
         ensures { result.now ≡ (wiring_of self.now).lines }
     {
         self.lines.as_slice()
+    }
+
+    /// The class of each port of the first state, by birth number.
+    pub fn first_classes(&self) -> &[ClassId]
+        ensures { result.now ≡ given_classes (wiring_of self.now) }
+    {
+        self.first_classes.as_slice()
     }
 
     /// The class of the births of a task, by their kind, if there are births of the kind.
@@ -274,12 +317,24 @@ impl Wired {
         self.interfaces.get(number)
     }
 
-    /// The number of the type of this name in the interface of this number; the number of no type
-    /// where no port argument of the interface has the type.
-    pub fn sort(&self, interface: usize, type_name: &str) -> usize
-        ensures { result ≡ sort_number (sorts_of self.now.interfaces) interface type_name.now }
+    /// The forms of this message, by the numbers of the interfaces.
+    fn typed(&self, kind: MessageKind) -> &[TypedForms]
+        ensures { result.now
+            ≡ typed_from kind (sorts_of self.now.interfaces) 0 self.now.interfaces }
     {
-        sort_number(self.sorts.as_slice(), interface, type_name)
+        match kind {
+            MessageKind::Request => self.requests.as_slice(),
+            MessageKind::Reply => self.replies.as_slice(),
+        }
+    }
+
+    /// The form of this message at each id of the interface of this number.
+    pub(crate) fn forms(&self, kind: MessageKind, number: usize) -> &[Option<TypedForm>]
+        ensures exact { result.now ≡ typed_at kind self.now.interfaces number }
+        ensures those { flat_map option_to_list result.now
+            ≡ message_forms kind (wiring_of self.now) number }
+    {
+        forms_at(self.typed(kind), number)
     }
 
     /// The name of a task.
@@ -383,7 +438,8 @@ impl Wired {
             lines: copy_all(alloc, &self.lines)?,
             admits: copy_all(alloc, &self.admits)?,
             interfaces: copy_all(alloc, &self.interfaces)?,
-            sorts: sorts_of(alloc, self.interfaces())?,
+            requests: copy_all(alloc, &self.requests)?,
+            replies: copy_all(alloc, &self.replies)?,
             admitted: admitted_of(
                 alloc,
                 self.ports.len(),
@@ -391,6 +447,7 @@ impl Wired {
                 self.births(),
                 &self.admits,
             )?,
+            first_classes: self.first_classes().to_vec(alloc)?,
         })
     }
 

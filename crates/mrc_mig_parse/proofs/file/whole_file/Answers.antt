@@ -8,7 +8,7 @@ use Rattle.mrc_mig_parse.proofs.file.whole_file.Goals as goal
 pub invariant_of-result : goal.invariant_of-result
 invariant_of-result c =
     let fits = all_fits _ _ _ _ _ _ c.new.ensures
-    (ap (λ entries. map row_of entries) c.new-3.ensures.items) c.in_ok-rest.ensures.exact
+    (ap (λ entries. map row_of entries) c.new-2.ensures.items) c.in_ok-rest.ensures.exact
     c.in_ok-statements.ensures.exact in (
       subst (λ (n : ℕ). n ≤ limit_of_ids)
           (length-map c.statements.new.file.entries.items row_of) fits.few,

@@ -1,13 +1,10 @@
-use Rattle.std.proofs.Common.{◌≡◌, ◌++◌, drop, map, length}
+use Rattle.std.proofs.Common.{◌≡◌, ◌++◌, drop, map}
 use Rattle.std.specs.Prelude.{flat_map}
 use Rattle.mrc_wiring.specs.Sorts.{slot_sort, row_slots, interface_sorts}
 use Rattle.mrc_wiring.proofs.sorts.add_interface.Given as goal
 
 -- the types so far and those of the rows that are left are all
-abbrev pub invariant-loop-place : goal.invariant-loop-place
-invariant-loop-place l = record {
-  told : l.sorts.items ++ map (slot_sort l.number) (flat_map row_slots (drop l.place
-      l.interface.rows))
-      ≡ l.fn.sorts.items ++ interface_sorts l.number l.interface;
-  count : l.count ≡ length l.interface.rows;
-}
+abbrev pub invariant-loop-row : goal.invariant-loop-row
+invariant-loop-row l =
+    l.sorts.items ++ map (slot_sort l.number) (flat_map row_slots (drop l.row-index l.row-items))
+    ≡ l.fn.sorts.items ++ interface_sorts l.number l.interface

@@ -1,6 +1,6 @@
 use Rattle.std.proofs.Common.{ℕ}
 use Rattle.mrc_wiring.specs.Table.{wiring_of}
-use Rattle.mrc_filter.specs.Places.{shapes_at}
+use Rattle.mrc_model.specs.Wiring.{form_shapes}
 use Rattle.mrc_transit.specs.Staging.{staged}
 use Rattle.mrc_transit.proofs.ArgumentLaws.{ArgsSoFar}
 use Rattle.mrc_transit.proofs.taking.Taking.take_args.Given as goal
@@ -8,5 +8,5 @@ use Rattle.mrc_transit.proofs.taking.Taking.take_args.Given as goal
 -- what the rest of the arguments gives stands behind those so far
 abbrev pub invariant-loop-i : goal.invariant-loop-i
 invariant-loop-i l =
-    (t : ℕ) → ArgsSoFar (wiring_of l.wired) t (shapes_at (wiring_of l.wired) l.form)
+    (t : ℕ) → ArgsSoFar (wiring_of l.wired) t (form_shapes l.form.found.now)
     (staged l.store t l.fn.self) (staged l.store t l.self) l.queued.items l.i l.arguments

@@ -1,7 +1,7 @@
-use Rattle.std.proofs.Common.{◌≡◌, ap, subst, sym, ◌∙◌, Result, Ok, Err}
+use Rattle.std.proofs.Common.{ap, subst, sym, ◌∙◌, Result, Ok, Err}
 use Rattle.std.specs.Prelude.{IfOk}
 use Rattle.mrc_model.proofs.FirstHeld.{first_given}
-use Rattle.mrc_model.specs.FirstHoldings.{given_classes, given_holdings, facts_by}
+use Rattle.mrc_model.specs.FirstHoldings.{given_holdings, facts_by}
 use Rattle.mrc_wiring.specs.Table.{wiring_of}
 use Rattle.mrc_wiring.specs.FirstState.{HasFirstHolds}
 use Rattle.mrc_wiring.proofs.FirstHolds.{facts_are_held}
@@ -17,7 +17,6 @@ pub returns : goal.returns
 returns c =
     let W = wiring_of c.args.self.now in
     let holds = facts_are_held W (first_given W c.tasks-kept.ensures.sound) in
-    let classes : c.as_slice.result.now ≡ given_classes W = c.as_slice.ensures.value
-    ∙ c.in_ok-classes.ensures in
     told c.line_holds.result _ _ (λ v e. subst (HasFirstHolds W)
-    (sym (e ∙ ap (λ cs. facts_by cs (given_holdings W)) classes)) holds) c.line_holds.ensures
+    (sym (e ∙ ap (λ cs. facts_by cs (given_holdings W)) c.first_classes.ensures)) holds)
+    c.line_holds.ensures
