@@ -14,6 +14,7 @@ pub mod Classes
 pub mod Forms
 pub mod FirstHolds
 pub mod SortLaws
+pub mod SortPlaceLaws
 pub mod Takers
 pub mod Findings
 pub mod LabelForms

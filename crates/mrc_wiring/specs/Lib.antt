@@ -1,4 +1,5 @@
 pub mod Sorts
+pub mod SortPlaces
 pub mod ModelForms
 pub mod Births
 pub mod RowPlaces

@@ -27,7 +27,7 @@ use crate::faults::ResolveFault;
 use crate::first_names::NamesGiven;
 use crate::labels::{Label, has_clash, interface_number, label_said};
 use crate::names::{NumberedClass, class_said, number_of};
-use crate::sorts::{Sort, sort_place, sorts_of};
+use crate::sorts::{Sorts, sorts_of};
 use crate::table::AdmitLine;
 use mrc_base::limits::{INTERFACES, NAMES, TASKS, WIRED_PORTS};
 use mrc_base::{OrMemory, PortId, PortRight, TaskId};
@@ -47,7 +47,7 @@ pub(crate) struct Resolving {
     pub(crate) lines: Vec<FirstLine>,
     pub(crate) admits: Vec<AdmitLine>,
     pub(crate) interfaces: Vec<Interface>,
-    pub(crate) sorts: Vec<Sort>,
+    pub(crate) sorts: Sorts,
     pub(crate) kernels: Vec<PortId>,
     pub(crate) wired: Vec<PortId>,
     pub(crate) given: NamesGiven,
@@ -68,7 +68,7 @@ impl Model for Resolving {
         admits = r.admits.items;
         interfaces = r.interfaces.items;
       };
-      sorts = r.sorts.items;
+      sorts = r.sorts;
       kernels = r.kernels.items;
       wired = r.wired.items;
       given = r.given;
@@ -450,9 +450,10 @@ impl Resolving {
         let interface = interface_number(self.interfaces.as_slice(), subsystem.as_str()).ok_or(
             OrMemory::Fault(ResolveFault::UnknownName(line)),
         )?;
-        let sort = sort_place(self.sorts.as_slice(), interface, type_name.as_str()).ok_or(
-            OrMemory::Fault(ResolveFault::UnknownName(line)),
-        )?;
+        let sort = self
+            .sorts
+            .place(interface, type_name.as_str())
+            .ok_or(OrMemory::Fault(ResolveFault::UnknownName(line)))?;
         let class = self.admitted_said(line, class)?;
         self.admits.push(AdmitLine { sort, class })?;
         Ok(())
@@ -536,11 +537,8 @@ pub struct NotResolved {
 }
 
 /// What is kept beside a table of no line.
-fn kept_beside(
-    alloc: Global,
-    interfaces: &[Interface],
-) -> Result<(Vec<Sort>, NamesGiven), AllocError>
-    ensures sorts { IfOk result (λ kept. kept.0.items ≡ sorts_of interfaces.now) }
+fn kept_beside(alloc: Global, interfaces: &[Interface]) -> Result<(Sorts, NamesGiven), AllocError>
+    ensures sorts { IfOk result (λ kept. kept.0 ≡ sorts_of interfaces.now) }
     ensures given { IfOk result (λ kept. IsGiven [] kept.1) }
 {
     let sorts = sorts_of(alloc, interfaces)?;

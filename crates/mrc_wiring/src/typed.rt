@@ -6,7 +6,7 @@ ghost use Rattle.mrc_wiring.specs.Finding.{form_by, is_of_routine, sort_at};
 ghost use Rattle.mrc_wiring.specs.ModelForms.{slot_number, is_at, shapes_of, model_form};
 ghost use Rattle.mrc_wiring.specs.ModelForms.{request_kind, typed_forms, typed_from};
 
-use crate::sorts::{Sort, sort_place};
+use crate::sorts::Sorts;
 use mrc_base::{Copies, copy_all, same_all};
 use mrc_forms::{Form, FormKind, Interface, MessageKind, RequestKind, Shape, Slot};
 use std::alloc::{AllocError, Global};
@@ -67,12 +67,12 @@ impl Model for TypedForm {
 }
 
 /// The number of the type of the slot that is this argument, or a number that no type has.
-fn slot_number(sorts: &[Sort], interface: usize, slots: &[Slot], argument: usize) -> usize
+fn slot_number(sorts: &Sorts, interface: usize, slots: &[Slot], argument: usize) -> usize
     ensures { result ≡ slot_number sorts.now interface (find (is_at argument) slots.now) }
 {
     for slot in slots {
         if slot.argument == argument {
-            let place = sort_place(sorts, interface, slot.type_name.as_str());
+            let place = sorts.place(interface, slot.type_name.as_str());
             return place.unwrap_or(sorts.len());
         }
     }
@@ -82,7 +82,7 @@ fn slot_number(sorts: &[Sort], interface: usize, slots: &[Slot], argument: usize
 /// The arguments of a form of the interface of this number.
 fn typed_arguments(
     alloc: Global,
-    sorts: &[Sort],
+    sorts: &Sorts,
     interface: usize,
     form: &Form,
 ) -> Result<Vec<TypedArgument>, AllocError>
@@ -113,7 +113,7 @@ impl TypedForm {
     fn of(
         alloc: Global,
         kind: MessageKind,
-        sorts: &[Sort],
+        sorts: &Sorts,
         interface: usize,
         form: &Form,
     ) -> Result<TypedForm, AllocError>
@@ -206,7 +206,7 @@ impl TypedForms {
     fn of(
         alloc: Global,
         kind: MessageKind,
-        sorts: &[Sort],
+        sorts: &Sorts,
         number: usize,
         interface: &Interface,
     ) -> Result<TypedForms, AllocError>
@@ -257,7 +257,7 @@ pub(crate) fn forms_at(typed: &[TypedForms], number: usize) -> &[Option<TypedFor
 pub(crate) fn typed_of(
     alloc: Global,
     kind: MessageKind,
-    sorts: &[Sort],
+    sorts: &Sorts,
     interfaces: &[Interface],
 ) -> Result<Vec<TypedForms>, AllocError>
     ensures { IfOk result (λ typed. typed.items ≡ typed_from kind sorts.now 0 interfaces.now) }

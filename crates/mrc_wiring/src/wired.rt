@@ -62,7 +62,7 @@ fn numbered(alloc: Global, table: &Resolving) -> Result<ByNumbers, AllocError>
         ≡ given_classes (wiring_of table.now.table)) }
 {
     let interfaces = table.interfaces.as_slice();
-    let sorts = table.sorts.as_slice();
+    let sorts = &table.sorts;
     Ok(ByNumbers {
         requests: typed_of(alloc, MessageKind::Request, sorts, interfaces)?,
         replies: typed_of(alloc, MessageKind::Reply, sorts, interfaces)?,
