@@ -12,8 +12,8 @@ use mrc_base::{Copies, copy_all, same_all};
 use std::alloc::{AllocError, Global};
 use std::marker::Model;
 
-/// How far the id of a reply is above that of its request.
-const REPLY: u32 = 100;
+/// How far the id of a reply is above that of its request, by MIG's rule.
+pub const REPLY: u32 = 100;
 
 /// What stands at an id: a skip has neither form, a simpleroutine has no reply.
 #[derive(Debug, Drop)]
@@ -83,7 +83,9 @@ impl Model for Interface {
 }
 
 impl Interface {
-    /// The table of these rows, of which the first stands at this id.
+    /// The table of these rows, 100 at most, of which the first stands at this id. In each row the
+    /// request is a form of a request with the id of the row's place, the reply one of a reply
+    /// with an id 100 above it.
     pub fn new(name: String, base: u32, rows: Vec<Row>) -> Interface
         requires few { length rows.items ≤ limit_of_ids }
         requires formed { AreForms record {

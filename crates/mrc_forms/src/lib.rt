@@ -6,6 +6,6 @@ mod interface;
 mod shape;
 
 pub use form::{Argument, Form, FormKind, MessageKind, Slot};
-pub use interface::{Interface, Row};
+pub use interface::{Interface, REPLY, Row};
 pub use mrc_model::RequestKind;
 pub use shape::Shape;

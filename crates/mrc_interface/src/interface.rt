@@ -12,12 +12,9 @@ ghost use Rattle.mrc_interface.specs.View.{GivesOrReturns};
 use crate::fault::InterfaceFault;
 use crate::form::form_of;
 use mrc_base::{OrMemory, limits};
-use mrc_forms::{FormKind, Interface, RequestKind, Row};
+use mrc_forms::{FormKind, Interface, REPLY, RequestKind, Row};
 use mrc_mig_parse::{Argument, Entry, Subsystem};
 use std::alloc::Global;
-
-/// How far the id of a reply is above that of its request.
-const REPLY: u32 = 100;
 
 /// The row of a routine of this name that takes this id.
 fn routine_row(
