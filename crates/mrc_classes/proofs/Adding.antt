@@ -1,16 +1,10 @@
 -- How sets grow by parts.
-use Rattle.std.proofs.Common.{◌≡◌, ℕ, ◌+◌, Bool, true, false, refl, sym, subst, ◌∙◌, IsTrue}
+use Rattle.std.proofs.Common.{◌≡◌, ℕ, ◌+◌, Bool, true, subst, ◌∙◌}
 use Rattle.std.proofs.Common.{◌⊎◌, inl, inr, arith}
 use Rattle.std.specs.Prelude.{◌||◌}
-use Rattle.std.proofs.lemmas.Bool.{cases_eq, or_cases, or_left, or_right, false≢true}
+use Rattle.std.proofs.lemmas.Bool.{cases_eq}
 use Rattle.mrc_base.specs.declared.Fact.{Fact}
-use Rattle.mrc_facts.specs.Order.{is_same}
-use Rattle.mrc_classes.specs.Growing.{Added, Only, If, Below}
-use Rattle.mrc_facts.proofs.Total.{equal_from_same, same_itself}
-
--- nothing more is added
-pub added_none : (F : Fact → Bool) (P : Fact → Type 0) → ((g : Fact) → P g → ⊥) → Added F F P
-added_none F P none = record { kept = λ g h. h; all = λ g p. absurd (none g p); new = λ g h. inl h }
+use Rattle.mrc_classes.specs.Growing.{Added, If, Below}
 
 -- one part after the other
 pub added_both : (F G H : Fact → Bool) (P Q : Fact → Type 0)
@@ -46,33 +40,11 @@ pub added_then : {F G H : Fact → Bool} {P Q : Fact → Type 0}
     → Added F H (λ g. P g ⊎ Q g)
 added_then p q = added_both _ _ _ _ _ p q
 
-pub added_only : (F G : Fact → Bool) (f : Fact)
-    → ((g : Fact) → G g ≡ (is_same g f || F g))
-    → Added F G (Only true f)
-added_only F G f put = record {
-  kept = λ g h. subst IsTrue (sym (put g)) (or_right (is_same g f) (F g) h);
-  all = λ g x. subst IsTrue (sym (put g)) (or_left (is_same g f) (F g)
-      (subst (λ y. IsTrue (is_same y f)) (sym x.is) (same_itself f)));
-  new = λ g h. elim (or_cases (is_same g f) (F g) (subst IsTrue (put g) h)) [
-    | inl same ↦ inr (record { there = refl; is = equal_from_same g f same })
-    | inr old ↦ inl old
-  ];
-}
-
-pub not_only : (F : Fact → Bool) (f : Fact) → Added F F (Only false f)
-not_only F f = added_none F (Only false f) (λ g x. false≢true x.there)
-
 pub added_if : (b : Bool) {F G : Fact → Bool} {P : Fact → Type 0}
     → b ≡ true
     → Added F G P
     → Added F G (If b P)
 added_if b e p = added_as _ _ _ _ p (λ g x. record { there = e; at = x }) (λ g x. x.at)
-
-pub not_if : (b : Bool) (F : Fact → Bool) (P : Fact → Type 0) → b ≡ false → Added F F (If b P)
-not_if b F P e = added_none F (If b P) (λ g x. false≢true (sym e ∙ x.there))
-
-pub below_none : (F : Fact → Bool) (Q : ℕ → Fact → Type 0) → Added F F (Below 0 Q)
-below_none F Q = added_none F (Below 0 Q) (λ g x. omega (arith, x.below))
 
 pub below_more : {F G H : Fact → Bool} (i : ℕ) (Q : ℕ → Fact → Type 0)
     → Added F G (Below i Q)

@@ -309,21 +309,6 @@ placed W Request row c r h = h
 placed W Notice row c r h = h
 placed W Returned row c r h = h
 
-in_place : (W : Wiring) (rule : RuleName) (row c : ℕ) (r : PortRight)
-    → row < rows W rule
-    → c < classes W
-    → InRange W (conclusion rule row c r)
-in_place W First row c r low high = (low, high)
-in_place W Births row c r low high = (low, high)
-in_place W Weaker row c r low high = (low, high)
-in_place W Slot row c r low high = (low, high)
-in_place W Reply row c r low high = (low, high)
-in_place W Received row c r low high = (low, high)
-in_place W KernelPort row c r low high = (low, high)
-in_place W Request row c r low high = (low, high)
-in_place W Notice row c r low high = (low, high)
-in_place W Returned row c r low high = (low, high)
-
 -- a conclusion that comes before another of the same rule has a lesser place
 less_place : (rule : RuleName) (a c : ℕ) (q : PortRight) (b d : ℕ) (p : PortRight)
     → is_before (conclusion rule a c q) (conclusion rule b d p) ≡ true

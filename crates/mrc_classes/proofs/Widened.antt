@@ -3,14 +3,14 @@ use Rattle.std.proofs.Common.{◌≡◌, ℕ, ◌+◌, ◌*◌, ◌/◌, ◌%◌
 use Rattle.std.proofs.Common.{length, replicate, refl, ap, sym, ◌∙◌, inl, inr, arith}
 use Rattle.std.specs.Prelude.{◌||◌, ◌&&◌, nat_lt}
 use Rattle.std.specs.Int.{bit_at}
-use Rattle.std.proofs.lemmas.Bool.{cases_lt, lt-ltb, le-ltb}
+use Rattle.std.proofs.lemmas.Bool.{cases_lt, le-ltb}
 use Rattle.std.proofs.lemmas.Bool.{true≢false}
 use Rattle.std.proofs.lemmas.List.{get_or_past}
 use Rattle.std.proofs.lemmas.Nat.Bits.{bit_at-zero}
 use Rattle.mrc_bits.specs.Bits.{is_set, IsNextBit}
 use Rattle.mrc_rows.proofs.Joins.{joined_more}
 use Rattle.mrc_rows.proofs.Rows.{no_bit}
-use Rattle.mrc_classes.specs.Widening.{source, has_source, is_wider}
+use Rattle.mrc_classes.specs.Widening.{source, has_source}
 use Rattle.mrc_classes.specs.declared.wider.Wider.{Wider}
 
 -- a bit is within its row
@@ -59,18 +59,3 @@ more_wider wider words row after_it at place so_far next put p =
     (λ there above under set. absurd (true≢false (sym set
     ∙ next.first (source wider p) above under)))
     next.from_there
-
-pub all_wider : (wider : Wider) (words row : List ℕ) (at : ℕ) → WiderSoFar wider words row at
-    → ((j : ℕ) → at ≤ j → is_set words j ≡ false)
-    → (p : ℕ) → is_set row p ≡ is_wider wider words p
-all_wider wider words row at so_far none p =
-    so_far p ∙ ap (λ b. has_source wider p && b) (elim (cases_lt (source wider p) at) [
-      | inl low ↦ ap (λ b. is_set words (source wider p) && b) (lt-ltb (source wider p) at low)
-          ∙ and_true (is_set words (source wider p))
-      | inr high ↦ ap (λ b. b && nat_lt (source wider p) at) (none (source wider p) high)
-          ∙ sym (none (source wider p) high)
-    ])
-  where
-    and_true : (b : Bool) → (b && true) ≡ b
-    and_true true = refl
-    and_true false = refl

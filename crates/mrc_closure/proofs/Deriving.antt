@@ -8,7 +8,6 @@ use Rattle.mrc_base.specs.declared.Fact.{Fact}
 use Rattle.mrc_model.specs.IsIn.{IsIn, here, later}
 use Rattle.mrc_model.specs.Wiring.{Wiring}
 use Rattle.mrc_model.specs.Rules.{Has, InRange, Rule, Instance, Derives, EndsIn}
-use Rattle.mrc_model.specs.Rules.{IsDerivation}
 use Rattle.mrc_facts.specs.Order.{is_same}
 use Rattle.mrc_facts.specs.Sets.{has, IsAscending}
 use Rattle.mrc_classes.specs.Following.{IsFirstFact, IsListOf}
@@ -389,16 +388,3 @@ module _ (W : Wiring) (fact : Fact) (facts order needed : List Fact) (links : Li
             (subst (λ fs. IsSearch W fact facts_then rest fs links) (sym kept.0)
             (idle facts_then same none))
       ]
-
--- nothing is left of the order
-pub search_done : (W : Wiring) (fact : Fact) (facts order needed : List Fact) (links : List Link)
-    → IsSearch W fact facts order needed links
-    → order ≡ []
-    → IsDerivation W (backward links []) fact
-search_done W fact facts order needed links s none = record {
-  derives = s.derives [] (λ p need at. absurd (let left = subst (λ fs. IsTrue (has fs p)) none at in cc));
-  concludes = elim s.ends [
-    | inl x ↦ absurd (let left = subst (λ fs. IsTrue (has fs fact)) none x.3 in cc)
-    | inr x ↦ x
-  ];
-}

@@ -7,7 +7,7 @@ use Rattle.mrc_base.specs.declared.Fact.{Fact}
 use Rattle.mrc_model.specs.IsIn.{IsIn, here, later}
 use Rattle.mrc_model.specs.Wiring.{Wiring}
 use Rattle.mrc_model.specs.Rules.{Has, InRange, Rule, Instance, Derives, EndsIn}
-use Rattle.mrc_model.specs.Rules.{IsDerivation, Closed}
+use Rattle.mrc_model.specs.Rules.{Closed}
 use Rattle.mrc_classes.specs.Missing.{rule_number}
 use Rattle.mrc_classes.specs.Instances.{premise_list}
 use Rattle.mrc_classes.specs.declared.instances.FewFacts.{FewFacts}
@@ -19,7 +19,7 @@ use Rattle.mrc_closure.specs.Chains.{place_list, IsAt, AreAt, IsStep, AreSteps, 
 use Rattle.mrc_closure.specs.Chains.{ChainsAreLeast}
 use Rattle.mrc_closure.specs.Orders.{link_instance, backward, HasStep, IsPlaced}
 use Rattle.std.proofs.lemmas.List.{length-append}
-use Rattle.mrc_closure.proofs.Cuts.{cut_none, cut_push, cut_longer}
+use Rattle.mrc_closure.proofs.Cuts.{cut_push, cut_longer}
 use Rattle.mrc_closure.proofs.Deriving.{backward_push}
 
 get_left : (xs ys : List Step) (n : ℕ) (s : Step)
@@ -51,17 +51,6 @@ pub record IsPlacing (W : Wiring) (f : Fact) (links : List Link) (steps : List S
   pub derives : Derives W known (backward links [])
   pub concluded : (p : Fact) → IsIn p known → (n : ℕ) × IsAt steps n p
   pub ends : EndsIn (backward links []) f ⊎ ((backward links [] ≡ []) × Concludes steps f)
-
-pub placing_begun : (W : Wiring) (f : Fact) (links : List Link)
-    → IsDerivation W (backward links []) f
-    → IsPlacing W f links []
-placing_begun W f links d = record {
-  are_steps = λ before s behind e. absurd (cut_none before s behind e);
-  known = [];
-  derives = d.derives;
-  concluded = λ p at. elim at [ ];
-  ends = inl d.concludes;
-}
 
 all_concluded : (steps : List Step) (known fs : List Fact)
     → ((p : Fact) → IsIn p known → (n : ℕ) × IsAt steps n p)

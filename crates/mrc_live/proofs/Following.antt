@@ -6,13 +6,12 @@ use Rattle.std.proofs.Common.{inr}
 use Rattle.std.proofs.lemmas.Bool.Decides.{eqb_tells, leb_tells}
 use Rattle.std.proofs.lemmas.List.{get_or-set_same, get_or-set_other, append-nil, get_or-replicate}
 use Rattle.std.proofs.lemmas.List.{get_or_past, length-replicate}
-use Rattle.std.proofs.Math.Seq.{take-length}
 use Rattle.std.proofs.lemmas.Option.{slice_get_within, get_or_from_slice_get}
 use Rattle.mrc_live.specs.declared.event.Event.{Event}
 use Rattle.mrc_live.specs.declared.event.Made.{Made}
 use Rattle.mrc_live.specs.Runs.{part_of}
 use Rattle.mrc_live.specs.Desks.{SeatState}
-use Rattle.mrc_live.specs.Parts.{AreApart, IsSeated, ArePlaced, EachIsItsPart, Follows, IsNext}
+use Rattle.mrc_live.specs.Parts.{AreApart, IsSeated, ArePlaced, Follows, IsNext}
 use Rattle.mrc_live.specs.Parts.{made_of}
 
 -- one list has one element at a place
@@ -111,14 +110,6 @@ follows_more seats places next place mine e es placed there is_place is_next ins
 pub seated : (seats : List SeatState) (place : ℕ) (mine : SeatState) (e : Event) (at : ℕ)
     → slice_get seats place ≡ Some mine → IsNext e mine at → IsSeated seats e
 seated seats place mine e at there is_next = (place, (mine, there, is_next.0, is_next.1))
-
--- where each list has ended, it is the whole part
-pub whole_parts : (seats : List SeatState) (next : List ℕ) (es : List Event) → Follows seats next es
-    → ((i : ℕ) (s : SeatState) → slice_get seats i ≡ Some s
-    → slice_index next s.number ≡ length s.calls)
-    → EachIsItsPart seats es
-whole_parts seats next es follows ends i s at = (follows i s at).0
-    ∙ ap (λ n. take n s.calls) (ends i s at) ∙ take-length s.calls
 
 -- a fact of the element at each place below the next one
 pub each_more : {X : Type 0} (P : ℕ → X → Type 0) (xs : List X) (n : ℕ) (x : X)

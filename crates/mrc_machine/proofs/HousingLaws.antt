@@ -9,7 +9,7 @@ use Rattle.mrc_model.specs.Rising.{is_rising, find_key, right_holds}
 use Rattle.mrc_model.specs.Map.{Map, empty, get, insert, next_key, Each}
 use Rattle.mrc_model.specs.World.{Space, Port, Parcel, Store, Task, World, set_space}
 use Rattle.mrc_model.specs.CallReceive.{first_parcel}
-use Rattle.mrc_model.specs.Target.{first_task, has_kernel, with_space, is_alive}
+use Rattle.mrc_model.specs.Target.{first_task, has_kernel, with_space}
 use Rattle.mrc_model.proofs.Maps.{get-insert, get-insert_same, get-insert_other, get-empty}
 use Rattle.mrc_model.proofs.Maps.{Each-insert, same_Some, not_None, find_here, find_later}
 use Rattle.mrc_model.proofs.Maps.{next_key-same, below-next_key, origin-insert, find_is_low}
@@ -224,11 +224,6 @@ pub task_there : (m : Map Task) (p : ℕ) (o : Option ℕ)
 unfolding get
 task_there m p None is = tt
 task_there m p (Some u) is = task_found p m.list u (sym is)
-
--- a live task is there
-pub alive_there : (o : Option Task) → is_alive o ≡ true → IsSome o
-alive_there None is = cc
-alive_there (Some x) is = refl
 
 -- the number of the first such task is short
 pub found_number : (ts : Map Task) (s : Store) (es : List (ℕ × Task)) (p u : ℕ) (o : Option ℕ)

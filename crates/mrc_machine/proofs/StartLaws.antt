@@ -1,9 +1,9 @@
 -- What the lines of a wiring come to, from what each step of code tells.
 use Rattle.std.proofs.Common.{◌≡◌, ℕ, ◌+◌, ◌<◌, ◌≤◌, Bool, true, false, Option, Some, None, Ok, Err}
 use Rattle.std.proofs.Common.{inl, inr, refl, sym, ◌∙◌, ap, subst, arith}
-use Rattle.std.specs.Prelude.{IsSome, is_some, unwrap_or, ◌^◌, nat_le, nat_lt, IsOk}
+use Rattle.std.specs.Prelude.{IsSome, is_some, unwrap_or, ◌^◌, nat_lt, IsOk}
 use Rattle.std.specs.Prelude.{if◌then◌else◌}
-use Rattle.std.proofs.lemmas.Bool.{lt-ltb, le-ltb, lt-leb, cases_eq}
+use Rattle.std.proofs.lemmas.Bool.{lt-ltb, le-ltb, cases_eq}
 use Rattle.mrc_base.specs.Limits.{limit_of_tasks, limit_of_wired_ports}
 use Rattle.mrc_base.specs.declared.memory.OrMemory.{OrMemory}
 use Rattle.mrc_base.specs.declared.memory.OrMemory.TheVariants.{Fault, Memory}
@@ -34,7 +34,6 @@ use Rattle.mrc_model.proofs.Maps.{next_key-insert}
 use Rattle.mrc_map.specs.Entries.{below}
 use Rattle.mrc_names.specs.Takes.{give_right}
 use Rattle.mrc_names.proofs.GivingLaws.{over_full}
-use Rattle.mrc_ports.specs.Tables.{table_of, is_short}
 use Rattle.mrc_machine.specs.Starts.{IsStart, with_task, with_right}
 use Rattle.mrc_machine.proofs.HousingLaws.{kept_there}
 use Rattle.mrc_machine.proofs.Trying.{same_Ok, not_Err, ok_bind, err_bind, ok_goes}
@@ -49,15 +48,6 @@ start_none w is = record {
   few_tasks = omega arith;
   few_ports = omega arith;
 }
-
--- there is room for many more ports
-pub start_not_short : (f : First) → IsStart f → is_short (table_of f.world.store) ≡ false
-start_not_short f h =
-    let ports : nat_le 65536 (len f.world.store.ports) ≡ false =
-    lt-leb 65536 (len f.world.store.ports) (omega (arith, h.few, h.few_tasks, h.few_ports)) in
-    let births : nat_le (2 ^ 48) f.world.store.next ≡ false =
-    lt-leb (2 ^ 48) f.world.store.next (omega (arith, h.births, h.few_tasks, h.few_ports)) in
-    rw (ports, births) refl
 
 -- the next task has the number of the next task line
 pub start_next : (f : First) (t : ℕ) → IsStart f → f.tasks < limit_of_tasks → t ≡ f.tasks

@@ -8,11 +8,8 @@ use Rattle.mrc_model.specs.Space.{IsSpace}
 use Rattle.mrc_model.specs.Target.{is_alive}
 use Rattle.mrc_model.specs.Step.{step, try_call}
 use Rattle.mrc_model.specs.Covers.{HasSpaces}
-use Rattle.std.specs.Prelude.{IsTrue, is_ok}
-use Rattle.mrc_model.specs.Reply.{Try}
-use Rattle.mrc_model.specs.First.{First, first, built, world_of, is_sound}
+use Rattle.mrc_model.specs.First.{First, first, built, world_of}
 use Rattle.mrc_model.proofs.KeptCalls.{step_kept, first_kept}
-use Rattle.mrc_machine.proofs.Trying.{not_Err}
 
 module _ (W : Wiring) (w : World) (t : ℕ) (call : Call) where
   pub step_dead : is_alive (get w.tasks t) ≡ false → step W w t call ≡ (w, DeadTask)
@@ -51,10 +48,3 @@ first_is W f w is world = world ∙ ap world_of (sym is)
 pub first_spaces : (W : Wiring) (w : World) → w ≡ first W → HasSpaces w
 first_spaces W w is t =
     subst (λ (v : World). IsSpace (space v.store t)) (sym is) ((first_kept W).of t)
-
-pub sound_built : (W : Wiring) (e : Reply) → IsTrue (is_sound W) → built W ≡ Err e → ⊥
-sound_built W e sound is = go (built W) sound is
-  where
-    go : (r : Try First) → is_ok r ≡ true → r ≡ Err e → ⊥
-    go (Ok f) ok err = not_Err _ _ err
-    go (Err x) ok err = cc

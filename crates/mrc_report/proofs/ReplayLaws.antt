@@ -1,6 +1,6 @@
 -- Runs that go on by one call after the other.
 use Rattle.std.proofs.Common.{◌≡◌, ℕ, suc, ◌+◌, ◌<◌, ◌≤◌, List, [], ◌∷◌, ◌++◌, length, map, take}
-use Rattle.std.proofs.Common.{get_or, refl, sym, ap, subst, ◌∙◌, arith, append_assoc}
+use Rattle.std.proofs.Common.{get_or, sym, ap, subst, ◌∙◌, arith, append_assoc}
 use Rattle.std.proofs.lemmas.List.{append-nil, length-map, map-append, length-take, take_all}
 use Rattle.std.proofs.Math.Seq.{take-suc}
 use Rattle.mrc_model.specs.Map.{len}
@@ -52,13 +52,6 @@ pub record Played (table : Table) (lines : List (Line TaskCall)) (world : World)
   pub calls : map made events ≡ map asked lines
   pub run : Run (wiring_of table) (first (wiring_of table)) events world
   pub printed : text ≡ event_lines table 0 events
-
--- nothing, before the first line
-pub nothing_played : (table : Table) (world : World) (text : List ℕ)
-    → world ≡ first (wiring_of table) → text ≡ []
-    → Played table [] world text
-nothing_played table world text begins none =
-    record { events = []; calls = refl; run = sym begins; printed = none }
 
 -- as many events as lines
 count : (events : List Event) (lines : List (Line TaskCall)) → map made events ≡ map asked lines

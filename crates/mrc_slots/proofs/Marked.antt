@@ -15,7 +15,7 @@ use Rattle.mrc_rows.proofs.Rows.{words_at, words_past, no_bit, right_there}
 use Rattle.mrc_rows.proofs.Joins.{class_of_place, right_of_place, next_below}
 use Rattle.mrc_model.specs.Wiring.{Wiring, classes, label}
 use Rattle.mrc_slots.specs.Passing.{passes, is_passed}
-use Rattle.mrc_slots.specs.Masks.{IsMask, AreMasks, AreFirstRows, is_any, is_taken}
+use Rattle.mrc_slots.specs.Masks.{IsMask, AreMasks, AreFirstRows, is_taken}
 use Rattle.mrc_slots.proofs.Passing.{same_label_passes}
 
 abbrev Row : Type 0
@@ -182,15 +182,6 @@ one_more_row W m rows longer row first mask pushed = record {
       pushed;
   len = more_rows m rows longer row first.len pushed;
 }
-
-pub any_bit : (n : ℕ) (row : List ℕ) → IsMask is_any (3 * n) row → (c : ℕ) (r : PortRight)
-    → is_set row (right_place c r) ≡ nat_lt c n
-any_bit n row mask c r =
-    mask.bits (right_place c r) ∙ (and_true (nat_lt (right_place c r) (3 * n)) ∙ below_place n c r)
-  where
-    and_true : (b : Bool) → (b && true) ≡ b
-    and_true true = refl
-    and_true false = refl
 
 pub row_is : (words : List ℕ) (rows read : List Row) (number place : ℕ)
     → words ≡ words_of read number → read ≡ rows → number ≡ place → words ≡ words_of rows place

@@ -111,10 +111,3 @@ module _ (W : Wiring) (s : Store) (t n : ℕ) (d : Disp) (sort i : ℕ) (g h : T
       → take_admitted W t d sort i (staged s t g) n ≡ Err e
   unfolding take_admitted ◌>>=◌ ◌>>◌
   not_admitted e fails = rw (took, admit_staged W s t sort i h item, fails) refl
-
-pub not_taken : (W : Wiring) (s : Store) (t n : ℕ) (d : Disp) (sort i : ℕ) (g : Taking)
-    → take_item (staged s t g) t n d (Refused MachSendInvalidRight)
-    ≡ Err (Refused MachSendInvalidRight)
-    → take_admitted W t d sort i (staged s t g) n ≡ Err (Refused MachSendInvalidRight)
-unfolding take_admitted ◌>>=◌
-not_taken W s t n d sort i g fails = rw fails refl

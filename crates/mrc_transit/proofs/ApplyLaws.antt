@@ -1,6 +1,6 @@
 -- What carrying out a plan comes to.
 use Rattle.std.proofs.Common.{◌≡◌, ℕ, ◌+◌, ◌<◌, ◌≤◌, true, false, List, [], ◌∷◌, length, drop}
-use Rattle.std.proofs.Common.{get_or, Option, Some, None, Result, Ok, Err, refl, inl, inr}
+use Rattle.std.proofs.Common.{Option, Some, None, Result, Ok, Err, refl, inl, inr}
 use Rattle.std.proofs.Common.{sym, ◌∙◌, ap, subst}
 use Rattle.std.specs.Prelude.{IsOk, is_err}
 use Rattle.std.proofs.lemmas.Bool.{cases_eq}
@@ -10,18 +10,11 @@ use Rattle.mrc_model.specs.Space.{restart, restart_port}
 use Rattle.mrc_model.specs.Death.{append, append_to}
 use Rattle.mrc_model.proofs.Maps.{same_Some, get-insert_same, get-insert_other}
 use Rattle.mrc_ports.specs.Queues.{is_full_for, with_message}
-use Rattle.mrc_filter.proofs.Shapes.{at_place, past}
+use Rattle.mrc_filter.proofs.Shapes.{past}
 use Rattle.mrc_transit.specs.Staging.{restart_each, staged}
 use Rattle.mrc_transit.specs.SendPlans.{SendPlan, sent, IsReady}
 
 -- the receipts of ports, one after the other
-
-pub restart_turn : (s z : Store) (k p : ℕ) (ps : List ℕ)
-    → restart_each s ps ≡ restart_each z (drop k ps)
-    → k < length ps
-    → p ≡ get_or ps k p
-    → restart_each s ps ≡ restart_each (restart z p) (drop (k + 1) ps)
-restart_turn s z k p ps far less here = far ∙ ap (restart_each z) (at_place ps k p less here)
 
 pub restart_done : (s z : Store) (k : ℕ) (ps : List ℕ)
     → restart_each s ps ≡ restart_each z (drop k ps)

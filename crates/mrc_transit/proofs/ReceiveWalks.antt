@@ -48,25 +48,6 @@ ItemsWalk x0 x items rest names =
     → give_items t (set_space s t x0) items
     ≡ with_front names (give_items t (set_space s t x) rest)
 
-pub items_next : (x0 x y : Space) (items : List Item) (i : ℕ) (item : Item) (names more : List ℕ)
-    (name : ℕ)
-    → ItemsWalk x0 x items (drop i items) names
-    → i < length items
-    → item ≡ get_or items i item
-    → ((s : Store) (t : ℕ) → give_item (set_space s t x) t item ≡ (set_space s t y, name))
-    → more ≡ names ++ name ∷ []
-    → ItemsWalk x0 y items (drop (i + 1) items) more
-items_next x0 x y items i item names more name so_far here is given pushed = λ s t.
-    so_far s t
-    ∙ ap (λ r. with_front names (give_items t (set_space s t x) r))
-    (item_first items i item here is)
-    ∙ ap (λ (a : Store × ℕ). with_front names (
-      (give_items t a.0 (drop (i + 1) items)).0,
-      a.1 ∷ (give_items t a.0 (drop (i + 1) items)).1,
-    )) (given s t)
-    ∙ regroup names name (give_items t (set_space s t y) (drop (i + 1) items))
-    ∙ ap (λ ns. with_front ns (give_items t (set_space s t y) (drop (i + 1) items))) (sym pushed)
-
 pub items_done : (x0 x : Space) (items rest : List Item) (names : List ℕ)
     → ItemsWalk x0 x items rest names
     → rest ≡ []

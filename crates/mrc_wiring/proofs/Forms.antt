@@ -1,5 +1,5 @@
 -- Tests of the forms of interfaces, row by row, and the model's interface of a number.
-use Rattle.std.proofs.Common.{◌≡◌, ℕ, zero, suc, ◌+◌, ◌<◌, Bool, true, false, ◌||◌, List, [], ◌∷◌}
+use Rattle.std.proofs.Common.{◌≡◌, ℕ, zero, suc, ◌+◌, ◌<◌, Bool, ◌||◌, List, [], ◌∷◌}
 use Rattle.std.proofs.Common.{length, get_or, drop, Some, None, refl, ap, sym, ◌∙◌}
 use Rattle.std.proofs.Common.{arith}
 use Rattle.std.specs.Prelude.{slice_get, flat_map, unwrap_or}
@@ -12,23 +12,6 @@ use Rattle.mrc_wiring.specs.Sorts.{Sort, sorts_of}
 use Rattle.mrc_wiring.specs.ModelForms.{interface_of, interfaces_from}
 use Rattle.mrc_wiring.specs.Table.{Table, wiring_of}
 use Rattle.mrc_wiring.proofs.Steps.{next_is}
-
--- a turn that finds, and one that does not
-pub hit : (all x found rest : Bool) → all ≡ x → x ≡ (found || rest) → found ≡ true → true ≡ all
-hit all x found rest e f g = sym (e ∙ f ∙ ap (λ b. b || rest) g)
-
-pub miss : (all x found rest : Bool) → all ≡ x → x ≡ (found || rest) → found ≡ false → all ≡ rest
-miss all x found rest e f g = e ∙ f ∙ ap (λ b. b || rest) g
-
--- one turn over a list
-pub any_turn : {X : Type 0} (p : X → Bool) (xs : List X) (i : ℕ) (x : X) (found : Bool)
-    → i < length xs
-    → x ≡ get_or xs i x
-    → found ≡ p x
-    → list_any p (drop i xs) ≡ (found || list_any p (drop (i + 1) xs))
-any_turn p xs i x found less is e =
-    ap (list_any p) (next_is xs i x less)
-    ∙ ap (λ b. b || list_any p (drop (i + 1) xs)) (ap p (sym is) ∙ sym e)
 
 -- one turn over a label's items
 pub items_turn : {X Y : Type 0} (p : Y → Bool) (f : X → List Y) (xs : List X) (i : ℕ) (x : X)

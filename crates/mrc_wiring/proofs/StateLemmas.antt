@@ -13,10 +13,8 @@ use Rattle.mrc_model.specs.declared.FirstLine.TheVariants.{Task as TaskLine, Por
 use Rattle.mrc_model.specs.declared.FirstLine.TheVariants.{Hold as HoldLine}
 use Rattle.mrc_model.specs.Rights.{is_receive}
 use Rattle.mrc_model.specs.FirstHoldings.{line_holdings, names_given}
-use Rattle.mrc_forms.specs.Tables.{Table as Interface}
 use Rattle.mrc_wiring_text.specs.Names.{is_name}
 use Rattle.mrc_wiring.specs.declared.table.AdmitLine.{AdmitLine}
-use Rattle.mrc_wiring.specs.Sorts.{Sort, sorts_of}
 use Rattle.mrc_wiring.specs.declared.faults.ResolveFault.TheVariants.{TwiceNamed, TooMany}
 use Rattle.mrc_wiring.specs.declared.faults.ResolveFault.TheVariants.{TooManyNames, IdClash}
 use Rattle.mrc_wiring.specs.Labels.{clash_among}
@@ -25,7 +23,7 @@ use Rattle.mrc_wiring.specs.Births.{put_row}
 use Rattle.mrc_wiring.specs.Table.{Table, kernel_births}
 use Rattle.mrc_wiring.specs.Table.{port_births}
 use Rattle.mrc_wiring.specs.Names.{number_of}
-use Rattle.mrc_wiring.specs.Resolving.{with_births, with_admit, empty_table, with_line, with_port}
+use Rattle.mrc_wiring.specs.Resolving.{with_births, with_admit, with_line, with_port}
 use Rattle.mrc_wiring.specs.Resolving.{is_over, place_hold, place_port, port_birth, kernel_birth}
 use Rattle.mrc_wiring.specs.State.{Given, IsGiven, GivesMore, held_more, State, IsState, next_birth}
 use Rattle.mrc_wiring.specs.State.{state_with_task, state_with_port, state_with_hold}
@@ -35,8 +33,7 @@ use Rattle.mrc_wiring.proofs.Lines.{wired_more, fresh_task}
 use Rattle.mrc_wiring.proofs.TableLemmas.{and_then_is, next_is, task_table}
 use Rattle.mrc_wiring.proofs.BirthLaws.{kinds_more, kinds_put}
 use Rattle.mrc_wiring.proofs.TableLemmas.{port_table, hold_table, births_table, admit_table}
-use Rattle.mrc_wiring.proofs.TableLemmas.{empty_is_table}
-use Rattle.mrc_wiring.proofs.NameLemmas.{name_pushed, no_names}
+use Rattle.mrc_wiring.proofs.NameLemmas.{name_pushed}
 
 -- the next task has no name yet
 pub fresh_count : (s : State)
@@ -48,17 +45,6 @@ fresh_count s is room =
     let counted = is.given.counted (length s.table.names) room in
     let none = fresh_task s.table.lines 0 0 (length s.table.names) [] is.is_table.earlier
     (omega arith) in
-    omega arith
-
--- a task that is there has few names
-pub task_count : (s : State) (t : ℕ)
-    → IsState s
-    → t < length s.table.names
-    → slice_index s.given.counts t ≤ 4096
-task_count s t is there =
-    let few = is.is_table.few_tasks in
-    let counted = is.given.counted t (omega arith) in
-    let names = is.is_table.few_names t there in
     omega arith
 
 pub task_kept : (s : State) (name : List ℕ) (new : Given)
@@ -191,27 +177,6 @@ admit_kept s line is = record {
   kinds = is.kinds;
   names = is.names;
   ports = is.ports;
-}
-
-pub start_kept : (interfaces : List Interface) (sorts : List Sort) (given : Given)
-    → sorts ≡ sorts_of interfaces
-    → IsGiven [] given
-    → IsState record {
-      table = empty_table interfaces;
-      sorts = sorts;
-      kernels = [];
-      wired = [];
-      given = given;
-    }
-start_kept interfaces sorts given e is = record {
-  is_table = empty_is_table interfaces;
-  sorts = e;
-  kernels = refl;
-  wired = refl;
-  given = is;
-  kinds = tt;
-  names = no_names;
-  ports = no_names;
 }
 
 -- the birth number of a wired port, or of a kernel port, is that of a port that is there
