@@ -12,6 +12,13 @@ use Rattle.mrc_closure.specs.declared.chains.Link.{Link}
 use Rattle.mrc_closure.specs.declared.chains.Step.{Step}
 use Rattle.mrc_closure.specs.Chains.{place_list, IsAt, AreAt}
 
+-- Facts as a set, the same in an order, and for each round how many facts it and the rounds before
+-- it have found.
+pub record Ordered : Type 0 where
+  pub facts : List Fact
+  pub order : List Fact
+  pub ends : List ℕ
+
 -- a rule concludes the fact from the set
 pub record IsFollowing (W : Wiring) (S : Fact → Bool) (f : Fact) : Type 0 where
   pub rule : ℕ

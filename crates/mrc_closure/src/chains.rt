@@ -75,12 +75,44 @@ struct Link {
     instance: Instance,
 }
 
-/// The facts of a wiring in an order in which each follows from those before it, and the same as a
-/// set.
+/// The facts of the least closed set, in the order of the rounds that find them. A round finds what
+/// follows from the facts of the rounds before it.
 #[derive(Drop)]
-struct Derived {
+pub struct Rounds {
     facts: Facts,
     order: Vec<Fact>,
+    ends: Vec<usize>,
+}
+
+impl Model for Rounds {
+    ghost use Rattle.mrc_closure.specs.Orders.{Ordered};
+
+    ghost Value = { Ordered };
+
+    ghost view = { λ r. record { facts = r.facts; order = r.order.items; ends = r.ends.items } };
+}
+
+impl Rounds {
+    /// The facts as a set.
+    pub fn facts(&self) -> &Facts
+        ensures { result.now ≡ self.now.facts }
+    {
+        &self.facts
+    }
+
+    /// The facts, each of which follows from those before it.
+    pub fn order(&self) -> &[Fact]
+        ensures { result.now ≡ self.now.order }
+    {
+        self.order.as_slice()
+    }
+
+    /// For each round how many facts it and the rounds before it have found.
+    pub fn ends(&self) -> &[usize]
+        ensures { result.now ≡ self.now.ends }
+    {
+        self.ends.as_slice()
+    }
 }
 
 /// Puts the fact at the end of the list, and answers the next one of the set.
@@ -106,12 +138,13 @@ fn list_all(list: &mut Vec<Fact>, facts: &Premises) -> Result<(), AllocError>
 }
 
 /// The rounds from the first facts on, until one has nothing new. Answers the facts in the order of
-/// the rounds.
+/// the rounds, and puts how many there are after each round into `ends`.
 fn rounds_in_order(
     alloc: Global,
     slots: &Slots,
     first: &Facts,
     facts: &mut Premises,
+    ends: &mut Vec<usize>,
 ) -> Result<Vec<Fact>, AllocError>
     requires empty { facts.old ≡ [] }
     requires first { IsListOf (IsFirstFact (wiring_of slots.now)) first.now }
@@ -126,26 +159,41 @@ fn rounds_in_order(
     merge(alloc, facts, &mut new, first)?;
     while !new.is_empty() {
         list_all(&mut order, &new)?;
+        ends.push(order.len())?;
         next_round(alloc, slots, facts, &mut new)?;
     }
     Ok(order)
 }
 
 /// The facts of the least closed set, round by round.
-fn derive_all(alloc: Global, wired: &Wired, first: &Facts) -> Result<Derived, AllocError>
+fn derive_all(alloc: Global, wired: &Wired, first: &Facts) -> Result<Rounds, AllocError>
     requires { IsListOf (IsFirstFact (wiring_of wired.now)) first.now }
     ensures least { IfOk result (λ d. IsLeast (wiring_of wired.now) (has d.facts)) }
-    ensures order { IfOk result (λ d. IsOrder (wiring_of wired.now) d.order.items) }
-    ensures once { IfOk result (λ d. IsOnce d.order.items) }
-    ensures same { IfOk result (λ d. HaveSame d.facts d.order.items) }
+    ensures order { IfOk result (λ d. IsOrder (wiring_of wired.now) d.order) }
+    ensures once { IfOk result (λ d. IsOnce d.order) }
+    ensures same { IfOk result (λ d. HaveSame d.facts d.order) }
 {
     let slots = Slots::new(alloc, wired)?;
     let mut facts = Premises::new(alloc);
-    let order = rounds_in_order(alloc, &slots, first, &mut facts)?;
-    Ok(Derived {
+    let mut ends = Vec::new(alloc);
+    let order = rounds_in_order(alloc, &slots, first, &mut facts, &mut ends)?;
+    Ok(Rounds {
         facts: facts.into_facts(),
         order,
+        ends,
     })
+}
+
+/// The facts of the least closed set, round by round.
+pub fn rounds_of(alloc: Global, wired: &Wired) -> Result<Rounds, AllocError>
+    ensures least { IfOk result (λ r. IsLeast (wiring_of wired.now) (has r.facts)) }
+    // Each fact follows from those before it, and stands there once.
+    ensures order { IfOk result (λ r. IsOrder (wiring_of wired.now) r.order) }
+    ensures once { IfOk result (λ r. IsOnce r.order) }
+    ensures same { IfOk result (λ r. HaveSame r.facts r.order) }
+{
+    let first = first_rules(alloc, wired)?;
+    derive_all(alloc, wired, &first)
 }
 
 /// Puts the premises into the set.
@@ -197,20 +245,21 @@ fn links_to(
     alloc: Global,
     wired: &Wired,
     first: &Facts,
-    derived: Derived,
+    derived: Rounds,
     fact: Fact,
 ) -> Result<Vec<Link>, AllocError>
     requires first { IsListOf (IsFirstFact (wiring_of wired.now)) first.now }
-    requires order { IsOrder (wiring_of wired.now) derived.order.items }
-    requires once { IsOnce derived.order.items }
-    requires same { HaveSame derived.facts derived.order.items }
+    requires order { IsOrder (wiring_of wired.now) derived.order }
+    requires once { IsOnce derived.order }
+    requires same { HaveSame derived.facts derived.order }
     requires there { IsTrue (has derived.facts fact) }
     ensures { IfOk result (λ links.
         IsDerivation (wiring_of wired.now) (backward links.items []) fact) }
 {
-    let Derived {
+    let Rounds {
         mut facts,
         mut order,
+        ..
     } = derived;
     let mut needed = Facts::new(alloc);
     let _new = needed.insert(fact)?;

@@ -6,6 +6,6 @@ pub mod laws;
 mod rounds;
 mod workers;
 
-pub use chains::{Chain, Places, Step, explain};
+pub use chains::{Chain, Places, Rounds, Step, explain, rounds_of};
 pub use rounds::make_alone;
 pub use workers::{Gate, MakeFault, make};
