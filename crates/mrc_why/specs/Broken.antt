@@ -1,0 +1,70 @@
+-- The lines of a policy that are broken, each with a chain that derives what it forbids. This
+-- profile's own choice.
+use Rattle.std.specs.Prelude.{◌≡◌, ◌⊎◌, Bool, true, false, List, [], ◌∷◌, ◌++◌, filter, map}
+use Rattle.mrc_base.specs.declared.Fact.{Fact}
+use Rattle.mrc_base.specs.declared.Fact.TheVariants.{Hold}
+use Rattle.mrc_model.specs.Rules.{IsLeast, SaysYes}
+use Rattle.mrc_wiring.specs.declared.claim.ForbiddenLine.{ForbiddenLine}
+use Rattle.mrc_wiring.specs.Claims.{Claimed, policy_of}
+use Rattle.mrc_wiring.specs.Table.{wiring_of}
+use Rattle.mrc_facts.specs.Sets.{has}
+use Rattle.mrc_closure.specs.declared.chains.Step.{Step}
+use Rattle.mrc_closure.specs.Chains.{IsChain}
+use Rattle.mrc_why.specs.Derived.{Derived}
+
+-- A line that is broken, and the steps that lead there.
+pub record BrokenLine : Type 0 where
+  pub line : ForbiddenLine
+  pub steps : List Step
+
+-- the fact that a line forbids
+abbrev pub forbidden_fact : ForbiddenLine → Fact
+forbidden_fact line = Hold line.task line.class line.right
+
+-- the set has what the line forbids
+abbrev pub is_broken : (Fact → Bool) → ForbiddenLine → Bool
+is_broken set line = set (forbidden_fact line)
+
+-- those of the lines that forbid a fact of the set, in order
+abbrev pub broken_lines : (Fact → Bool) → List ForbiddenLine → List ForbiddenLine
+broken_lines set lines = filter (is_broken set) lines
+
+-- the line of a broken line
+abbrev pub line_of : BrokenLine → ForbiddenLine
+line_of broken = broken.line
+
+-- they are the lines of the claim's policy that forbid a fact of the least set: no other, none is
+-- left out, and in their order
+abbrev pub AreBroken : Claimed → List BrokenLine → Type 0
+AreBroken claim broken = (set : Fact → Bool) → IsLeast (wiring_of claim.table) set
+    → map line_of broken ≡ broken_lines set claim.lines
+
+-- the steps derive what the line forbids
+abbrev pub IsDerived : Claimed → BrokenLine → Type 0
+IsDerived claim broken = IsChain (wiring_of claim.table) (forbidden_fact broken.line) broken.steps
+
+-- a least set of the claim's wiring that the checker says yes to
+pub record IsYes (claim : Claimed) (facts : List Fact) : Type 0 where
+  pub least : IsLeast (wiring_of claim.table) (has facts)
+  pub says : SaysYes (wiring_of claim.table) (policy_of claim) (has facts)
+
+-- there is one
+abbrev pub HasYes : Claimed → Type 0
+HasYes claim = (facts : List Fact) × IsYes claim facts
+
+-- the checker says yes to no set
+abbrev pub HasNoYes : Claimed → Type 0
+HasNoYes claim = (set : Fact → Bool) → SaysYes (wiring_of claim.table) (policy_of claim) set → ⊥
+
+-- one more line is told, with a chain that derives what it forbids
+pub record HasOneMore (d : Derived) (line : ForbiddenLine) (before after : List BrokenLine)
+    : Type 0 where
+  pub steps : List Step
+  pub derives : IsChain (wiring_of d.table) (forbidden_fact line) steps
+  pub pushed : after ≡ before ++ (record { line = line; steps = steps }) ∷ []
+
+-- the line is told where it is broken, and else nothing is
+abbrev pub IsJudged : Derived → ForbiddenLine → List BrokenLine → List BrokenLine → Type 0
+IsJudged d line before after =
+    ((is_broken (has d.facts) line ≡ true) × HasOneMore d line before after)
+    ⊎ ((is_broken (has d.facts) line ≡ false) × (after ≡ before))

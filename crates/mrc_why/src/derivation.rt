@@ -1,0 +1,237 @@
+//! Short derivations of the facts of a least set.
+
+ghost use Rattle.std.specs.Prelude.{◌≡◌, IfOk, IfSome, IfNone};
+ghost use Rattle.mrc_facts.specs.Sets.{has};
+ghost use Rattle.mrc_model.specs.Rules.{IsLeast, Least};
+ghost use Rattle.mrc_wiring.specs.Table.{wiring_of};
+ghost use Rattle.mrc_closure.specs.Chains.{AreSteps, IsChain};
+
+use crate::checked::{Proposal, concludes, steps_by};
+use crate::proposing::{Known, count_steps};
+use crate::ranks::{Ranked, rank_of, ranks_of};
+use mrc_base::Fact;
+use mrc_classes::{Facts, FewFacts, first_rules};
+use mrc_closure::{Rounds, Step, explain, rounds_of};
+use mrc_wiring::Wired;
+use std::alloc::{AllocError, Global};
+use std::collections::BTreeMap;
+use std::marker::Model;
+
+/// Derivations of the facts of a wiring's least closed set. What is found at first is kept, so
+/// that each chain takes only what it needs.
+#[derive(Drop)]
+pub struct Derivations<'a> {
+    wired: &'a Wired,
+    first: Facts,
+    rounds: Rounds,
+    ranked: Vec<Ranked>,
+    chosen: BTreeMap<Fact, FewFacts>,
+}
+
+impl<'a> Model for Derivations<'a> {
+    ghost use Rattle.mrc_facts.specs.Sets.{has};
+    ghost use Rattle.mrc_model.specs.Rules.{IsLeast};
+    ghost use Rattle.mrc_wiring.specs.Table.{wiring_of};
+    ghost use Rattle.mrc_classes.specs.Following.{IsListOf, IsFirstFact};
+    ghost use Rattle.mrc_why.specs.Derived.{Derived};
+
+    ghost Value = { Derived };
+
+    ghost view = { λ d. record { table = d.wired.now; facts = d.rounds.facts } };
+
+    ghost invariant = { λ d. IsListOf (IsFirstFact (wiring_of d.wired.now)) d.first
+        × IsLeast (wiring_of d.wired.now) (has d.rounds.facts) };
+}
+
+/// The premises that are proposed for the fact.
+fn proposed(known: &Known<'_>, fact: &Fact) -> FewFacts {
+    let Some(rank) = rank_of(known.ranked, fact) else {
+        return FewFacts::Empty;
+    };
+    match known.choice(rank.round, fact) {
+        Some(choice) => choice.premises,
+        None => FewFacts::Empty,
+    }
+}
+
+/// The same; they are kept.
+fn chosen(
+    known: &Known<'_>,
+    kept: &mut BTreeMap<Fact, FewFacts>,
+    fact: &Fact,
+) -> Result<FewFacts, AllocError> {
+    if kept.get(fact).is_none() {
+        let _ = kept.insert(*fact, proposed(known, fact))?;
+    }
+    match kept.get(fact) {
+        Some(premises) => Ok(*premises),
+        None => Ok(FewFacts::Empty),
+    }
+}
+
+/// Puts the facts at the end of the list.
+fn push_all(list: &mut Vec<Fact>, facts: FewFacts) -> Result<(), AllocError> {
+    match facts {
+        FewFacts::Empty => {}
+        FewFacts::One(fact) => {
+            list.push(fact)?;
+        }
+        FewFacts::Two(one, other) => {
+            list.push(one)?;
+            list.push(other)?;
+        }
+    }
+    Ok(())
+}
+
+/// The facts that a chain needs: those whose premises are still to be looked at, and those that
+/// were seen, with their rounds.
+#[derive(Drop)]
+struct Needs {
+    open: Vec<Fact>,
+    seen: BTreeMap<Fact, ()>,
+    list: Vec<(u32, Fact)>,
+}
+
+impl Needs {
+    /// Puts the fact down, and has its premises looked at, where it was not seen.
+    fn see(
+        &mut self,
+        known: &Known<'_>,
+        kept: &mut BTreeMap<Fact, FewFacts>,
+        fact: &Fact,
+    ) -> Result<(), AllocError> {
+        if self.seen.insert(*fact, ())?.is_some() {
+            return Ok(());
+        }
+        if let Some(rank) = rank_of(known.ranked, fact) {
+            self.list.push((rank.round, *fact))?;
+        }
+        push_all(&mut self.open, chosen(known, kept, fact)?)
+    }
+}
+
+/// The facts that a chain for the goal needs, by their rounds and then by their bytes. The goal is
+/// the last.
+fn needed(
+    alloc: Global,
+    known: &Known<'_>,
+    kept: &mut BTreeMap<Fact, FewFacts>,
+    goal: Fact,
+) -> Result<Vec<(u32, Fact)>, AllocError> {
+    let mut needs = Needs {
+        open: Vec::new(alloc),
+        seen: BTreeMap::new(alloc),
+        list: Vec::new(alloc),
+    };
+    needs.open.push(goal)?;
+    for _ in 0..known.ranked.len().saturating_mul(2).saturating_add(1) {
+        let Some(fact) = needs.open.pop() else {
+            break;
+        };
+        needs.see(known, kept, &fact)?;
+    }
+    let Needs { mut list, .. } = needs;
+    list.sort()?;
+    Ok(list)
+}
+
+/// The proposals for a chain for the goal, in the order of their steps.
+fn proposals_for(
+    alloc: Global,
+    known: &Known<'_>,
+    kept: &mut BTreeMap<Fact, FewFacts>,
+    goal: Fact,
+) -> Result<Vec<Proposal>, AllocError> {
+    let mut proposals = Vec::new(alloc);
+    for (_, fact) in &needed(alloc, known, kept, goal)? {
+        let premises = chosen(known, kept, fact)?;
+        proposals.push(Proposal {
+            fact: *fact,
+            premises,
+        })?;
+    }
+    Ok(proposals)
+}
+
+/// The steps of a derivation of the fact, as `explain` finds it.
+fn explained(alloc: Global, wired: &Wired, fact: Fact) -> Result<Option<Vec<Step>>, AllocError>
+    ensures some { IfOk result (λ answer. IfSome answer (λ steps.
+        IsChain (wiring_of wired.now) fact steps.items)) }
+    ensures none { IfOk result (λ answer. IfNone answer (Least (wiring_of wired.now) fact → ⊥)) }
+{
+    match explain(alloc, wired, fact)? {
+        Some(chain) => Ok(Some(chain.steps().to_vec(alloc)?)),
+        None => Ok(None),
+    }
+}
+
+impl<'a> Derivations<'a> {
+    /// The least set of the wiring, found by rounds.
+    pub fn new(alloc: Global, wired: &'a Wired) -> Result<Derivations<'a>, AllocError>
+        ensures table { IfOk result (λ d. d.table ≡ wired.now) }
+        ensures least { IfOk result (λ d. IsLeast (wiring_of wired.now) (has d.facts)) }
+    {
+        let first = first_rules(alloc, wired)?;
+        let rounds = rounds_of(alloc, wired)?;
+        let mut ranked = ranks_of(alloc, &rounds)?;
+        count_steps(wired, &first, rounds.facts(), rounds.order(), &mut ranked);
+        Ok(Derivations {
+            wired,
+            first,
+            rounds,
+            ranked,
+            chosen: BTreeMap::new(alloc),
+        })
+    }
+
+    /// The wiring.
+    pub fn wired(&self) -> &'a Wired
+        ensures { result.now ≡ self.now.table }
+    {
+        self.wired
+    }
+
+    /// The least set.
+    pub fn facts(&self) -> &Facts
+        ensures exact { result.now ≡ self.now.facts }
+        ensures least { IsLeast (wiring_of self.now.table) (has result.now) }
+    {
+        self.rounds.facts()
+    }
+
+    /// Steps that conclude the fact, so far as what is proposed checks out.
+    fn steps_to(&mut self, alloc: Global, fact: &Fact) -> Result<Vec<Step>, AllocError>
+        ensures kept { self.new ≡ self.old }
+        ensures steps { IfOk result (λ steps.
+            AreSteps (wiring_of self.old.table) steps.items) }
+    {
+        let known = Known {
+            wired: self.wired,
+            first: &self.first,
+            facts: self.rounds.facts(),
+            ranked: self.ranked.as_slice(),
+        };
+        let proposals = proposals_for(alloc, &known, &mut self.chosen, *fact)?;
+        steps_by(alloc, self.wired, &self.first, &proposals)
+    }
+
+    /// A short derivation of the fact by the ten rules, from nothing. There is none exactly where
+    /// the fact is not in the least closed set. What was chosen is kept for the next chain.
+    pub fn chain(&mut self, alloc: Global, fact: Fact) -> Result<Option<Vec<Step>>, AllocError>
+        ensures kept { self.new ≡ self.old }
+        ensures some { IfOk result (λ answer. IfSome answer (λ steps.
+            IsChain (wiring_of self.old.table) fact steps.items)) }
+        ensures none { IfOk result (λ answer. IfNone answer
+            (Least (wiring_of self.old.table) fact → ⊥)) }
+    {
+        if !self.facts().has(&fact) {
+            return Ok(None);
+        }
+        let steps = self.steps_to(alloc, &fact)?;
+        if concludes(steps.as_slice(), fact) {
+            return Ok(Some(steps));
+        }
+        explained(alloc, self.wired, fact)
+    }
+}

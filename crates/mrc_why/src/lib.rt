@@ -1,0 +1,22 @@
+//! Why a policy is broken: the lines that are, a short chain for each, and where each step comes
+//! from in the files of a system.
+#![tactic(auto)]
+
+mod checked;
+mod derivation;
+mod given_lines;
+mod judging;
+mod origins;
+mod printing;
+mod proposing;
+mod ranks;
+mod slots;
+mod sources;
+mod trees;
+
+pub use derivation::Derivations;
+pub use judging::{Broken, forbidden_fact, verify};
+pub use mrc_closure::{Places, Step};
+pub use origins::{SlotNames, Source};
+pub use printing::{Layout, chain_text, source_text, verify_text};
+pub use sources::Sources;

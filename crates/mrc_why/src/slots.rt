@@ -1,0 +1,210 @@
+//! The slot of a form through which a right passes, and the subsystem whose requests bring reply
+//! rights.
+
+ghost use Rattle.std.specs.Prelude.{◌≡◌, IsTrue, IfSome, Some, find, slice_get};
+ghost use Rattle.std.specs.Option.{option_map};
+ghost use Rattle.mrc_model.specs.IsIn.{IsIn};
+ghost use Rattle.mrc_model.specs.declared.LabelItem.TheVariants as label;
+ghost use Rattle.mrc_wiring.specs.ModelForms.{is_at};
+ghost use Rattle.mrc_wiring.specs.Table.{wiring_of};
+ghost use Rattle.mrc_why.specs.Sources.{item_of, IsPassing, IsItemSlot, IsSlot};
+ghost use Rattle.mrc_why.specs.Sources.{HasRoutine, IsRoutineItem, AcceptsRoutine};
+ghost use Rattle.mrc_why.specs.Slots.{IsFormPlace, IsRoutineForm};
+
+use crate::origins::SlotNames;
+use mrc_base::{ClassId, PortRight, give, need};
+use mrc_forms::{Form, FormKind, Interface, MessageKind, RequestKind, Row, Slot};
+use mrc_model::LabelItem;
+use mrc_wiring::{TypedForm, Wired};
+
+/// What is to pass through a slot: what its sender holds, on a port of which class, and what its
+/// receiver gets.
+#[derive(Clone, Copy, Debug)]
+pub(crate) struct Passing {
+    pub(crate) class: ClassId,
+    pub(crate) held: PortRight,
+    pub(crate) right: PortRight,
+}
+
+fn same_right(one: PortRight, other: PortRight) -> bool
+    ensures { IsTrue result → one ≡ other }
+{
+    match one {
+        PortRight::Send => matches!(other, PortRight::Send),
+        PortRight::Receive => matches!(other, PortRight::Receive),
+        PortRight::SendOnce => matches!(other, PortRight::SendOnce),
+    }
+}
+
+fn item_of(kind: MessageKind, number: usize) -> LabelItem
+    ensures { result ≡ item_of kind number }
+{
+    match kind {
+        MessageKind::Request => LabelItem::Request(number),
+        MessageKind::Reply => LabelItem::Reply(number),
+    }
+}
+
+/// The slot that is the argument of this number.
+fn slot_at(form: &Form, argument: usize) -> Option<&Slot>
+    ensures { option_map (λ slot. slot.now) result ≡ find (is_at argument) form.now.slots }
+{
+    form.slots().iter().find(|slot| slot.argument == argument)
+}
+
+/// Whether the slot, of a type of this number, lets the right pass.
+fn passes(wired: &Wired, slot: &Slot, sort: usize, passing: &Passing) -> bool
+    ensures { IsTrue result → IsPassing (wiring_of wired.now) passing.now.class passing.now.held
+        passing.now.right slot.now sort }
+{
+    same_right(need(slot.disposition), passing.held)
+        && same_right(give(slot.disposition), passing.right)
+        && wired.admits(sort, passing.class)
+}
+
+/// The first argument of the form that is a slot and lets the right pass.
+fn slot_of_form<'a>(
+    wired: &Wired,
+    interface: &'a Interface,
+    form: &'a Form,
+    typed: &TypedForm,
+    passing: &Passing,
+) -> Option<SlotNames<'a>>
+    ensures { IfSome result (IsFormPlace (wiring_of wired.now) interface.now form.now typed.now
+        passing.now) }
+{
+    for (place, argument) in form.arguments().iter().enumerate() {
+        if let Some(slot) = slot_at(form, place) {
+            if passes(wired, slot, typed.sort(place), passing) {
+                return Some(SlotNames {
+                    subsystem: interface.name(),
+                    routine: form.name(),
+                    argument: argument.name.as_str(),
+                    type_name: slot.type_name.as_str(),
+                });
+            }
+        }
+    }
+    None
+}
+
+/// The same of the form of this message in a row of the interface of this number.
+fn slot_of_row<'a>(
+    wired: &Wired,
+    kind: MessageKind,
+    number: usize,
+    interface: &'a Interface,
+    row: &'a Row,
+    passing: &Passing,
+) -> Option<SlotNames<'a>>
+    requires there { slice_get wired.now.interfaces number ≡ Some interface.now }
+    requires row { IsIn row.now interface.now.rows }
+    ensures { IfSome result (IsItemSlot wired.now (item_of kind number) passing.now.class passing.now.held
+        passing.now.right) }
+{
+    let _ids = interface.ids();
+    let form = row.form(kind)?;
+    let typed = wired.item_form(item_of(kind, number), form.id())?;
+    slot_of_form(wired, interface, form, typed, passing)
+}
+
+/// The first slot of these messages of the interface of this number that lets the right pass.
+fn slot_of_messages<'a>(
+    wired: &'a Wired,
+    kind: MessageKind,
+    number: usize,
+    passing: &Passing,
+) -> Option<SlotNames<'a>>
+    ensures { IfSome result (IsItemSlot wired.now (item_of kind number) passing.now.class passing.now.held
+        passing.now.right) }
+{
+    let interface = wired.interface(number)?;
+    for row in interface.rows() {
+        if let Some(names) = slot_of_row(wired, kind, number, interface, row, passing) {
+            return Some(names);
+        }
+    }
+    None
+}
+
+/// The first slot of the forms of the item that lets the right pass.
+fn slot_of_item<'a>(wired: &'a Wired, item: LabelItem, passing: &Passing) -> Option<SlotNames<'a>>
+    ensures { IfSome result (IsItemSlot wired.now item passing.now.class passing.now.held
+        passing.now.right) }
+{
+    match item {
+        LabelItem::Request(number) => {
+            slot_of_messages(wired, MessageKind::Request, number, passing)
+        }
+        LabelItem::Reply(number) => slot_of_messages(wired, MessageKind::Reply, number, passing),
+        LabelItem::Destroyed => None,
+    }
+}
+
+/// The first slot of the forms that the class accepts that lets the right pass.
+pub(crate) fn slot_of<'a>(wired: &'a Wired, to: ClassId, passing: &Passing) -> Option<SlotNames<'a>>
+    ensures { IfSome result (IsSlot wired.now to passing.now.class passing.now.held passing.now.right) }
+{
+    for item in wired.label(to) {
+        if let Some(names) = slot_of_item(wired, *item, passing) {
+            return Some(names);
+        }
+    }
+    None
+}
+
+/// Whether it is the form of a routine's request.
+fn is_routine(form: Option<&Form>) -> bool
+    ensures { IsTrue result → IsRoutineForm (option_map (λ form. form.now) form.entry) }
+{
+    match form {
+        Some(form) => form.kind() == FormKind::Request(RequestKind::Routine),
+        None => false,
+    }
+}
+
+/// Whether the interface has a routine.
+fn has_routine(interface: &Interface) -> bool
+    ensures { IsTrue result → HasRoutine interface.now }
+{
+    for row in interface.rows() {
+        if is_routine(row.form(MessageKind::Request)) {
+            return true;
+        }
+    }
+    false
+}
+
+/// The name of the interface of this number, where it has a routine.
+fn routine_of_interface(wired: &Wired, number: usize) -> Option<&str>
+    ensures { IfSome result (λ name. IsRoutineItem wired.now (label.Request number) name.now) }
+{
+    let interface = wired.interface(number)?;
+    if has_routine(interface) {
+        Some(interface.name())
+    } else {
+        None
+    }
+}
+
+/// The name of the subsystem whose requests the item stands for, where it has a routine.
+fn routine_of_item(wired: &Wired, item: LabelItem) -> Option<&str>
+    ensures { IfSome result (λ name. IsRoutineItem wired.now item name.now) }
+{
+    match item {
+        LabelItem::Request(number) => routine_of_interface(wired, number),
+        LabelItem::Reply(_) | LabelItem::Destroyed => None,
+    }
+}
+
+/// The first subsystem with a routine whose requests the class accepts.
+pub(crate) fn routine_of(wired: &Wired, to: ClassId) -> Option<&str>
+    ensures { IfSome result (λ name. AcceptsRoutine wired.now to name.now) }
+{
+    for item in wired.label(to) {
+        if let Some(name) = routine_of_item(wired, *item) {
+            return Some(name);
+        }
+    }
+    None
+}
