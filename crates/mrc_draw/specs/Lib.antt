@@ -1,0 +1,5 @@
+pub mod Filters
+pub mod Pictures
+pub mod Dot
+pub mod Laws
+pub mod Drawings

@@ -1,0 +1,14 @@
+//! Facts as lists and as drawings: those of a set that are asked for, a line for each, and all of
+//! them as a text of graphviz's language DOT.
+#![tactic(auto)]
+
+mod dot;
+mod drawing;
+mod filter;
+pub mod laws;
+mod nodes;
+mod sets;
+
+pub use dot::graph_text;
+pub use filter::{Filter, FilterFault, facts_text, filter_of};
+pub use sets::set_of;

@@ -1,0 +1,47 @@
+//! Sets of facts from lists.
+
+ghost use Rattle.std.specs.Prelude.{◌≡◌, ◌||◌, map, IfOk, OnOk};
+ghost use Rattle.mrc_base.specs.declared.Fact.{Fact};
+ghost use Rattle.mrc_facts.specs.Sets.{has};
+ghost use Rattle.mrc_draw.specs.Pictures.{forbidden_hold};
+
+use mrc_base::Fact;
+use mrc_rows::Facts;
+use mrc_wiring::ForbiddenLine;
+use std::alloc::{AllocError, Global};
+
+/// The set of these facts.
+pub fn set_of(alloc: Global, facts: &[Fact]) -> Result<Facts, AllocError>
+    ensures { IfOk result (λ set. (f : Fact) → has set f ≡ has facts.now f) }
+{
+    let mut set = Facts::new(alloc);
+    for fact in facts {
+        let _new = set.insert(*fact)?;
+    }
+    Ok(set)
+}
+
+/// The hold that a line of a policy forbids.
+fn forbidden_hold(line: &ForbiddenLine) -> Fact
+    ensures { result ≡ forbidden_hold line.now }
+{
+    Fact::Hold {
+        task: line.task,
+        class: line.class,
+        right: line.right,
+    }
+}
+
+/// The holds that the lines of a policy forbid.
+pub(crate) fn forbidden_holds(
+    alloc: Global,
+    lines: &[ForbiddenLine],
+) -> Result<Vec<Fact>, AllocError>
+    ensures { IfOk result (λ holds. holds.items ≡ map forbidden_hold lines.now) }
+{
+    let mut holds = Vec::new(alloc);
+    for line in lines {
+        holds.push(forbidden_hold(line))?;
+    }
+    Ok(holds)
+}
