@@ -1,0 +1,3 @@
+mod Verdicts
+mod Lists
+mod ClaimLaws

@@ -1,0 +1,11 @@
+-- The line is one of the rest.
+use Rattle.std.proofs.Common.{◌≡◌, length}
+use Rattle.std.specs.Prelude.{slice_get}
+use Rattle.mrc_wiring_text.specs.Lexis.{lines}
+use Rattle.mrc_mend.proofs.printing.line_behind.Given as goal
+
+abbrev pub invariant-loop-rest : goal.invariant-loop-rest
+invariant-loop-rest l = slice_get (lines l.rest) l.left ≡ slice_get (lines l.text) l.before
+
+abbrev pub decreases-loop-rest : goal.decreases-loop-rest
+decreases-loop-rest l = length l.rest

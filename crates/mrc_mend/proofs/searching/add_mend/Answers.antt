@@ -1,0 +1,16 @@
+use Rattle.std.proofs.Common.{◌≡◌}
+use Rattle.std.proofs.lemmas.List.Elements.{All-same, All-push}
+use Rattle.mrc_mend.specs.declared.answers.Mend.{Mend}
+use Rattle.mrc_mend.specs.Judging.{MendOver}
+use Rattle.mrc_mend.proofs.Lists.{all_kept}
+use Rattle.mrc_mend.proofs.searching.add_mend.Goals as goal
+
+-- those that stay are mends, and the new one is
+pub returns : goal.returns
+returns c =
+    let s = c.args.system.now in
+    let P : Mend → Type 0 = λ m. MendOver s.interfaces.items s.wiring.now s.policy.now
+    m.changes.items in
+    All-same P _ _ c.in_ok-push.ensures.items
+    (All-push P _ c.args.mend (all_kept _ P _ _ _ c.retain.ensures.filtered c.requires.all)
+    c.requires.one)

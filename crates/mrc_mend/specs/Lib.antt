@@ -1,0 +1,3 @@
+pub mod Mending
+pub mod Judging
+pub mod Texts

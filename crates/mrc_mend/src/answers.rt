@@ -1,0 +1,119 @@
+//! The mends of a wiring.
+
+ghost use Rattle.std.specs.Prelude.{◌≡◌, IfOk, IfErr, Err, map};
+ghost use Rattle.mrc_base.specs.Reading.{UnlessMemory};
+ghost use Rattle.mrc_mend.specs.Judging.{claimed_of, no_claim_of, MendOver, IsMend, AreAnswered};
+ghost use Rattle.mrc_mend.specs.Judging.{AreAtMost, IsNeeded, IsNeededOf};
+
+use crate::changes::Change;
+use crate::claims::{MendFault, Said, said_by};
+use crate::cutting::children;
+use crate::judging::{System, first_broken};
+use crate::losing::First;
+use crate::searching::search;
+use mrc_base::{OrMemory, copy_all};
+use mrc_check::SystemFault;
+use mrc_closure::make_alone;
+use mrc_interface::read_interfaces;
+use std::alloc::{AllocError, Global};
+
+/// Changes after which the answer is yes.
+#[derive(Debug, Drop)]
+pub struct Mend {
+    /// The changes, in the order in which they are printed.
+    pub changes: Vec<Change>,
+    /// How many facts of the wiring's least set are lost by them.
+    pub lost: usize,
+}
+
+/// The mends that were found.
+#[derive(Debug, Drop)]
+pub struct Mends {
+    /// Those of fewer changes first, and among these those that lose fewer facts.
+    pub mends: Vec<Mend>,
+    /// Whether the search ended at its bound, so that there may be more.
+    pub cut_off: bool,
+}
+
+/// What there is to mend.
+#[derive(Debug, Drop)]
+pub enum Answer {
+    /// Nothing: the answer is yes.
+    Nothing,
+    /// The answer is no, and these mend it.
+    Found(Mends),
+}
+
+/// Who is told how far a search has come.
+pub trait Progress {
+    /// So many wirings were judged.
+    fn tried(&mut self, tries: usize);
+}
+
+/// What there is to mend of a claim over interfaces.
+fn answered<P: Progress>(
+    alloc: Global,
+    system: &System<'_>,
+    first: &Said,
+    most: usize,
+    progress: &mut P,
+) -> Result<Answer, AllocError>
+    ensures mends { IfOk result (AreAnswered (MendOver system.now.interfaces.items
+        system.now.wiring.now system.now.policy.now)) }
+    ensures within { IfOk result (AreAtMost most) }
+    ensures needed { IfOk result (IsNeeded first.now.claim) }
+{
+    let wired = first.claim.wired();
+    let made = make_alone(alloc, wired)?;
+    let facts = &made.facts;
+    let Some(line) = first_broken(&first.claim, facts) else {
+        return Ok(Answer::Nothing);
+    };
+    let next = children(alloc, first, facts, &[], &line)?;
+    let first = First { wired, facts };
+    Ok(Answer::Found(search(alloc, system, &first, next, most, progress)?))
+}
+
+/// The mends of a wiring for a policy over MIG files, all from their bytes: `most` of them at most,
+/// those of fewer changes first. Else the first of the files that has no meaning.
+pub fn find_mends<P: Progress>(
+    alloc: Global,
+    defs: &[Vec<u8>],
+    wiring: &[u8],
+    policy: &[u8],
+    most: usize,
+    progress: &mut P,
+) -> Result<Answer, OrMemory<MendFault>>
+    // Each mend that is answered was judged yes, applied as it is printed.
+    ensures found { IfOk result (AreAnswered
+        (IsMend (map (λ bytes. bytes.items) defs.now) wiring.now policy.now)) }
+    // There are no more than that.
+    ensures within { IfOk result (AreAtMost most) }
+    // Nothing is to be mended exactly where the least set is a yes; else no set is.
+    ensures needed { IfOk result (IsNeededOf
+        (claimed_of (map (λ bytes. bytes.items) defs.now) wiring.now policy.now)) }
+    // Which fault it is: that of the first file.
+    ensures fault { IfErr result (UnlessMemory (λ fault.
+        claimed_of (map (λ bytes. bytes.items) defs.now) wiring.now policy.now
+        ≡ Err (no_claim_of fault))) }
+{
+    let interfaces = match read_interfaces(alloc, defs) {
+        Ok(interfaces) => interfaces,
+        Err(OrMemory::Fault(fault)) => {
+            return Err(OrMemory::Fault(MendFault::System(SystemFault::Defs(fault))));
+        }
+        Err(OrMemory::Memory) => return Err(OrMemory::Memory),
+    };
+    let first = said_by(
+        alloc,
+        copy_all(alloc, interfaces.as_slice())?,
+        wiring,
+        policy,
+    )?;
+    let system = System {
+        interfaces,
+        wiring,
+        policy,
+    };
+    Ok(answered(alloc, &system, &first, most, progress)?)
+}

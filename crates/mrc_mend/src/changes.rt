@@ -1,0 +1,203 @@
+//! Changes of a wiring's text.
+
+ghost use Rattle.std.specs.Prelude.{◌≡◌, ◌++◌, IfOk, OnOk, map, flat_map, string_bytes};
+ghost use Rattle.std.specs.List.{list_any};
+ghost use Rattle.mrc_wiring_text.specs.Lexis.{lines};
+ghost use Rattle.mrc_mend.specs.Mending as definitions;
+ghost use Rattle.mrc_mend.specs.Mending.{behind_task, class_words, admit_line, class_line};
+ghost use Rattle.mrc_mend.specs.Mending.{admit_lines, added_lines, ended, leaves_out, line_left};
+ghost use Rattle.mrc_mend.specs.Mending.{lines_left};
+
+use mrc_wiring::{ClassKind, kind_word};
+use mrc_wiring_text::first_line;
+use std::alloc::{AllocError, Global};
+
+/// A class of ports by its kind and the name of its port or task.
+#[derive(Clone, Debug, Drop, PartialEq, Eq)]
+pub struct NamedClass {
+    /// Which kind of class it is.
+    pub kind: ClassKind,
+    /// The name of the wired port, or of the task.
+    pub name: String,
+}
+
+/// A type of port arguments, and the classes that its slots are to admit.
+#[derive(Clone, Debug, Drop)]
+pub struct Restriction {
+    /// The subsystem.
+    pub subsystem: String,
+    /// The type, one of the subsystem.
+    pub type_name: String,
+    /// The classes; none where it is to admit nothing.
+    pub classes: Vec<NamedClass>,
+}
+
+/// A change of a wiring's text.
+#[derive(Clone, Debug, Drop)]
+pub enum Change {
+    /// The line of this number, counted from 1, is left out.
+    Remove(u32),
+    /// Lines are added that restrict a type.
+    Restrict(Restriction),
+}
+
+/// The word of a kind of births, behind the name of their task.
+fn behind_task(alloc: Global, kind: u8) -> Result<String, AllocError>
+    ensures { IfOk result (λ text. string_bytes text ≡ behind_task kind) }
+{
+    if kind == 0 {
+        return Ok(String::new(alloc));
+    }
+    let word = kind_word(kind);
+    format!(in alloc; " {word}")
+}
+
+/// A class in the words of a wiring.
+fn class_words(alloc: Global, class: &NamedClass) -> Result<String, AllocError>
+    ensures { IfOk result (λ text. string_bytes text ≡ class_words class.now) }
+{
+    let name = class.name.as_str();
+    match class.kind {
+        ClassKind::Port => format!(in alloc; "port {name}"),
+        ClassKind::Task => format!(in alloc; "task {name}"),
+        ClassKind::Births(kind) => {
+            let behind = behind_task(alloc, kind)?;
+            format!(in alloc; "births {name}{behind}")
+        }
+    }
+}
+
+/// A line that says of the type what it admits.
+fn admit_line(
+    alloc: Global,
+    restriction: &Restriction,
+    admitted: &str,
+) -> Result<String, AllocError>
+    ensures { IfOk result (λ text. string_bytes text
+        ≡ admit_line restriction.now admitted.now) }
+{
+    let subsystem = restriction.subsystem.as_str();
+    let type_name = restriction.type_name.as_str();
+    format!(in alloc; "admit {subsystem}.{type_name} {admitted}")
+}
+
+/// Adds a line for each class that a type is to admit.
+fn add_class_lines(
+    alloc: Global,
+    added: &mut Vec<String>,
+    restriction: &Restriction,
+) -> Result<(), AllocError>
+    ensures { OnOk result (map string_bytes added.new.items ≡ map string_bytes added.old.items
+        ++ map (class_line restriction.now) restriction.now.classes.items) }
+{
+    for class in &restriction.classes {
+        let words = class_words(alloc, class)?;
+        added.push(admit_line(alloc, restriction, words.as_str())?)?;
+    }
+    Ok(())
+}
+
+/// Adds the lines that restrict a type.
+fn add_admit_lines(
+    alloc: Global,
+    added: &mut Vec<String>,
+    restriction: &Restriction,
+) -> Result<(), AllocError>
+    ensures { OnOk result (map string_bytes added.new.items ≡ map string_bytes added.old.items
+        ++ admit_lines restriction.now restriction.now.classes.items) }
+{
+    if restriction.classes.is_empty() {
+        added.push(admit_line(alloc, restriction, "none")?)?;
+        return Ok(());
+    }
+    add_class_lines(alloc, added, restriction)
+}
+
+/// The lines that a change adds.
+pub(crate) fn added_lines(alloc: Global, change: &Change) -> Result<Vec<String>, AllocError>
+    ensures { IfOk result (λ added. map string_bytes added.items ≡ added_lines change.now) }
+{
+    let mut added = Vec::new(alloc);
+    match change {
+        Change::Remove(_) => {}
+        Change::Restrict(restriction) => add_admit_lines(alloc, &mut added, restriction)?,
+    }
+    Ok(added)
+}
+
+/// Whether the change leaves out the line of this number.
+fn leaves_out(number: usize, change: &Change) -> bool
+    ensures { result ≡ leaves_out number change.now }
+{
+    match change {
+        Change::Remove(line) => *line as usize == number,
+        Change::Restrict(_) => false,
+    }
+}
+
+/// Whether a change leaves out the line of this number.
+fn is_left_out(changes: &[Change], number: usize) -> bool
+    ensures { result ≡ list_any (leaves_out number) changes.now }
+{
+    changes.iter().any(|change| leaves_out(number, change))
+}
+
+/// The line of this number: nothing where a change leaves it out.
+fn line_left<'a>(changes: &[Change], number: usize, line: &'a [u8]) -> &'a [u8]
+    ensures { result.now ≡ line_left changes.now number line.now }
+{
+    if is_left_out(changes, number) {
+        &[]
+    } else {
+        line
+    }
+}
+
+/// Adds a line with its end.
+fn add_line(text: &mut Vec<u8>, line: &[u8]) -> Result<(), AllocError>
+    ensures { OnOk result (text.new.items ≡ text.old.items ++ ended line.now) }
+{
+    text.extend_from_slice(line)?;
+    text.extend_from_slice(b"\n")?;
+    Ok(())
+}
+
+/// The lines of a text without those that are left out.
+fn lines_left(alloc: Global, wiring: &[u8], changes: &[Change]) -> Result<Vec<u8>, AllocError>
+    ensures { IfOk result (λ text. text.items ≡ lines_left changes.now 1 (lines wiring.now)) }
+{
+    let mut text = Vec::new(alloc);
+    let mut rest = wiring;
+    let mut before = 0usize;
+    while !rest.is_empty() {
+        let (line, after) = first_line(rest);
+        add_line(&mut text, line_left(changes, before + 1, line))?;
+        before += 1;
+        rest = after;
+    }
+    Ok(text)
+}
+
+/// Adds the lines that a change adds.
+fn add_lines(alloc: Global, text: &mut Vec<u8>, change: &Change) -> Result<(), AllocError>
+    ensures { OnOk result (text.new.items ≡ text.old.items
+        ++ flat_map ended (added_lines change.now)) }
+{
+    for line in &added_lines(alloc, change)? {
+        add_line(text, line.as_bytes())?;
+    }
+    Ok(())
+}
+
+/// The text of a wiring with the changes, as they are printed: the lines that are left out are
+/// blank, so that the others keep their numbers, and the lines that are added stand behind the
+/// last.
+pub fn mended(alloc: Global, wiring: &[u8], changes: &[Change]) -> Result<Vec<u8>, AllocError>
+    ensures { IfOk result (λ text. text.items ≡ definitions.mended wiring.now changes.now) }
+{
+    let mut text = lines_left(alloc, wiring, changes)?;
+    for change in changes {
+        add_lines(alloc, &mut text, change)?;
+    }
+    Ok(text)
+}

@@ -1,0 +1,281 @@
+//! The changes that cut a chain: what each leaves out, the chain needs.
+
+use crate::carrying::{TypeNames, carried};
+use crate::changes::{Change, NamedClass, Restriction};
+use crate::claims::Said;
+use crate::extending::{DEEPEST, extended, restriction_of};
+use mrc_base::{ClassId, Fact};
+use mrc_classes::Facts;
+use mrc_closure::{Step, explain};
+use mrc_why::{Source, Sources, forbidden_fact};
+use mrc_wiring::{ClassKind, ClassLabel, ForbiddenLine, Wired};
+use mrc_wiring_text::{ClassName, WiringLine, WiringSays};
+use std::alloc::{AllocError, Global};
+
+/// What was said and derived after some changes.
+#[derive(Clone, Copy)]
+struct Node<'a> {
+    said: &'a Said,
+    facts: &'a Facts,
+    changes: &'a [Change],
+}
+
+/// The admit lines of a type.
+#[derive(Clone, Copy, Debug)]
+struct AdmitLines {
+    /// How many there are.
+    count: usize,
+    /// The number of the first that lets the class pass.
+    letting: Option<u32>,
+}
+
+/// Whether the line gives a right that could be left out.
+fn is_hold(says: &WiringSays) -> bool {
+    match says {
+        WiringSays::HoldPort { .. } | WiringSays::HoldTask { .. } => true,
+        WiringSays::Task(_)
+        | WiringSays::Port { .. }
+        | WiringSays::Births { .. }
+        | WiringSays::Admit { .. } => false,
+    }
+}
+
+/// Whether the line of this number is one that gives a right.
+fn is_hold_line(lines: &[WiringLine], number: u32) -> bool {
+    for line in lines {
+        if line.number == number {
+            return is_hold(&line.says);
+        }
+    }
+    false
+}
+
+/// Whether the line names the class.
+fn is_class(class: &Option<ClassName>, label: &ClassLabel<'_>) -> bool {
+    match class {
+        Some(ClassName::Port(name)) => {
+            label.kind == ClassKind::Port && name.as_str() == label.name
+        }
+        Some(ClassName::Task(name)) => {
+            label.kind == ClassKind::Task && name.as_str() == label.name
+        }
+        Some(ClassName::Births { task, kind }) => {
+            label.kind == ClassKind::Births(kind.number()) && task.as_str() == label.name
+        }
+        None => false,
+    }
+}
+
+/// The admit lines of the type.
+fn admit_lines(lines: &[WiringLine], names: TypeNames<'_>, label: &ClassLabel<'_>) -> AdmitLines {
+    let mut count = 0usize;
+    let mut letting = None;
+    for line in lines {
+        if let WiringSays::Admit {
+            subsystem,
+            type_name,
+            class,
+        } = &line.says
+        {
+            if subsystem.as_str() == names.subsystem && type_name.as_str() == names.type_name {
+                count = count.saturating_add(1);
+                if letting.is_none() && is_class(class, label) {
+                    letting = Some(line.number);
+                }
+            }
+        }
+    }
+    AdmitLines { count, letting }
+}
+
+/// The restriction of a type to no class.
+fn to_none(alloc: Global, names: TypeNames<'_>) -> Result<Restriction, AllocError> {
+    Ok(Restriction {
+        subsystem: String::from_str(alloc, names.subsystem)?,
+        type_name: String::from_str(alloc, names.type_name)?,
+        classes: Vec::new(alloc),
+    })
+}
+
+/// Adds the class of this number.
+fn add_class(
+    alloc: Global,
+    classes: &mut Vec<NamedClass>,
+    wired: &Wired,
+    class: ClassId,
+) -> Result<(), AllocError> {
+    if let Some(label) = wired.class_name(class) {
+        classes.push(NamedClass {
+            kind: label.kind,
+            name: String::from_str(alloc, label.name)?,
+        })?;
+    }
+    Ok(())
+}
+
+/// The restriction of a type without admit lines to the classes that it carries but this one.
+fn to_others(
+    alloc: Global,
+    node: &Node<'_>,
+    names: TypeNames<'_>,
+    class: ClassId,
+) -> Result<Restriction, AllocError> {
+    let wired = node.said.claim.wired();
+    let mut restriction = to_none(alloc, names)?;
+    for other in &carried(alloc, wired, node.facts, names)? {
+        if *other != class {
+            add_class(alloc, &mut restriction.classes, wired, *other)?;
+        }
+    }
+    Ok(restriction)
+}
+
+/// The restriction without this class.
+fn without(
+    alloc: Global,
+    restriction: &Restriction,
+    label: &ClassLabel<'_>,
+) -> Result<Restriction, AllocError> {
+    let mut less = Restriction {
+        subsystem: restriction.subsystem.clone()?,
+        type_name: restriction.type_name.clone()?,
+        classes: Vec::new(alloc),
+    };
+    for class in &restriction.classes {
+        if class.kind != label.kind || class.name.as_str() != label.name {
+            less.classes.push(class.clone()?)?;
+        }
+    }
+    Ok(less)
+}
+
+/// Adds the changes with a restriction more, and with one to no class.
+fn add_restricted(
+    alloc: Global,
+    next: &mut Vec<Vec<Change>>,
+    changes: &[Change],
+    names: TypeNames<'_>,
+    restriction: Restriction,
+) -> Result<(), AllocError> {
+    let none = to_none(alloc, names)?;
+    next.push(extended(alloc, changes, Change::Restrict(restriction))?)?;
+    next.push(extended(alloc, changes, Change::Restrict(none))?)?;
+    Ok(())
+}
+
+/// Adds the changes without the line that lets the class pass. Where it is the type's only one,
+/// a line takes its place, since a type without lines admits all.
+fn add_unadmitted(
+    alloc: Global,
+    next: &mut Vec<Vec<Change>>,
+    changes: &[Change],
+    names: TypeNames<'_>,
+    lines: AdmitLines,
+) -> Result<(), AllocError> {
+    let Some(number) = lines.letting else {
+        return Ok(());
+    };
+    let removed = extended(alloc, changes, Change::Remove(number))?;
+    if lines.count > 1 {
+        next.push(removed)?;
+    } else {
+        let none = to_none(alloc, names)?;
+        next.push(extended(alloc, removed.as_slice(), Change::Restrict(none))?)?;
+    }
+    Ok(())
+}
+
+/// Adds the changes by which the type lets the class pass no more.
+fn cut_type(
+    alloc: Global,
+    next: &mut Vec<Vec<Change>>,
+    node: &Node<'_>,
+    names: TypeNames<'_>,
+    class: ClassId,
+) -> Result<(), AllocError> {
+    let wired = node.said.claim.wired();
+    let Some(label) = wired.class_name(class) else {
+        return Ok(());
+    };
+    if let Some(known) = restriction_of(node.changes, names) {
+        let less = without(alloc, known, &label)?;
+        return add_restricted(alloc, next, node.changes, names, less);
+    }
+    let lines = admit_lines(node.said.lines.as_slice(), names, &label);
+    if lines.count > 0 {
+        return add_unadmitted(alloc, next, node.changes, names, lines);
+    }
+    let others = to_others(alloc, node, names, class)?;
+    add_restricted(alloc, next, node.changes, names, others)
+}
+
+/// The class that a step carries.
+fn carried_class(step: &Step) -> Option<ClassId> {
+    match step.fact {
+        Fact::Carry { class, .. } => Some(class),
+        Fact::Hold { .. } | Fact::Backup { .. } => None,
+    }
+}
+
+/// Adds the changes that cut the step, which comes from there.
+fn cut_step(
+    alloc: Global,
+    next: &mut Vec<Vec<Change>>,
+    node: &Node<'_>,
+    step: &Step,
+    source: Option<Source<'_>>,
+) -> Result<(), AllocError> {
+    match source {
+        Some(Source::Line(number)) => {
+            if is_hold_line(node.said.lines.as_slice(), number) {
+                next.push(extended(alloc, node.changes, Change::Remove(number))?)?;
+            }
+            Ok(())
+        }
+        Some(Source::Slot(slot)) => {
+            let names = TypeNames {
+                subsystem: slot.subsystem,
+                type_name: slot.type_name,
+            };
+            match carried_class(step) {
+                Some(class) => cut_type(alloc, next, node, names, class),
+                None => Ok(()),
+            }
+        }
+        Some(Source::Subsystem(_)) | Some(Source::KernelPort(_)) | None => Ok(()),
+    }
+}
+
+/// The changes that cut one of the steps, beside those that were made.
+fn cuts(alloc: Global, node: &Node<'_>, steps: &[Step]) -> Result<Vec<Vec<Change>>, AllocError> {
+    let said = node.said;
+    let sources = Sources::new(alloc, said.claim.wired(), said.lines.as_slice())?;
+    let mut next = Vec::new(alloc);
+    for step in steps {
+        cut_step(alloc, &mut next, node, step, sources.source(steps, step))?;
+    }
+    Ok(next)
+}
+
+/// The changes to be tried where these were not enough and the line is broken: each cuts a chain
+/// that derives what the line forbids. There are none behind as many as a mend may have.
+pub(crate) fn children(
+    alloc: Global,
+    said: &Said,
+    facts: &Facts,
+    changes: &[Change],
+    line: &ForbiddenLine,
+) -> Result<Vec<Vec<Change>>, AllocError> {
+    if changes.len() >= DEEPEST {
+        return Ok(Vec::new(alloc));
+    }
+    let node = Node {
+        said,
+        facts,
+        changes,
+    };
+    match explain(alloc, said.claim.wired(), forbidden_fact(line))? {
+        Some(chain) => cuts(alloc, &node, chain.steps()),
+        None => Ok(Vec::new(alloc)),
+    }
+}

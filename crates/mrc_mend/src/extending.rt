@@ -1,0 +1,141 @@
+//! Lists of changes, and larger ones.
+
+use crate::carrying::TypeNames;
+use crate::changes::{Change, NamedClass, Restriction, added_lines};
+use std::alloc::{AllocError, Global};
+
+/// How many changes a mend has at most.
+pub(crate) const DEEPEST: usize = 3;
+
+/// Whether the restriction is of the type.
+pub(crate) fn is_of(restriction: &Restriction, names: TypeNames<'_>) -> bool {
+    restriction.subsystem.as_str() == names.subsystem
+        && restriction.type_name.as_str() == names.type_name
+}
+
+/// The restriction of the type, where the changes have one.
+pub(crate) fn restriction_of<'a>(
+    changes: &'a [Change],
+    names: TypeNames<'_>,
+) -> Option<&'a Restriction> {
+    for change in changes {
+        if let Change::Restrict(restriction) = change {
+            if is_of(restriction, names) {
+                return Some(restriction);
+            }
+        }
+    }
+    None
+}
+
+/// Whether the change is printed before the other: lines that are left out come first.
+fn is_before(change: &Change, other: &Change) -> bool {
+    match (change, other) {
+        (Change::Remove(line), Change::Remove(known)) => line < known,
+        (Change::Remove(_), Change::Restrict(_)) => true,
+        (Change::Restrict(_), Change::Remove(_)) => false,
+        (Change::Restrict(restriction), Change::Restrict(known)) => {
+            let subsystem = restriction.subsystem.as_str();
+            let type_name = restriction.type_name.as_str();
+            (subsystem, type_name) < (known.subsystem.as_str(), known.type_name.as_str())
+        }
+    }
+}
+
+/// Whether the change stands in the place of the other: both restrict one type.
+fn is_instead(change: &Change, other: &Change) -> bool {
+    match (change, other) {
+        (Change::Restrict(restriction), Change::Restrict(known)) => is_of(
+            known,
+            TypeNames {
+                subsystem: restriction.subsystem.as_str(),
+                type_name: restriction.type_name.as_str(),
+            },
+        ),
+        _ => false,
+    }
+}
+
+/// The changes with one more. A restriction takes the place of one of the same type.
+pub(crate) fn extended(
+    alloc: Global,
+    changes: &[Change],
+    change: Change,
+) -> Result<Vec<Change>, AllocError> {
+    let mut more = Vec::new(alloc);
+    let mut place = 0usize;
+    for known in changes {
+        if !is_instead(&change, known) {
+            more.push(known.clone()?)?;
+            if is_before(known, &change) {
+                place = more.len();
+            }
+        }
+    }
+    more.insert(place, change)?;
+    Ok(more)
+}
+
+/// Whether the restriction has the class.
+fn has_class(restriction: &Restriction, class: &NamedClass) -> bool {
+    restriction.classes.iter().any(|known| *known == *class)
+}
+
+/// Whether the restriction has each class of the other, which is of the same type.
+fn is_wider(restriction: &Restriction, other: &Restriction) -> bool {
+    for class in &other.classes {
+        if !has_class(restriction, class) {
+            return false;
+        }
+    }
+    true
+}
+
+/// Whether the changes have this one, or one that restricts the same type more.
+fn includes(changes: &[Change], change: &Change) -> bool {
+    for other in changes {
+        let same = match (change, other) {
+            (Change::Remove(line), Change::Remove(known)) => line == known,
+            (Change::Restrict(restriction), Change::Restrict(known)) => {
+                is_instead(change, other) && is_wider(restriction, known)
+            }
+            _ => false,
+        };
+        if same {
+            return true;
+        }
+    }
+    false
+}
+
+/// Whether the larger changes have all that the others have.
+pub(crate) fn includes_all(larger: &[Change], changes: &[Change]) -> bool {
+    for change in changes {
+        if !includes(larger, change) {
+            return false;
+        }
+    }
+    true
+}
+
+/// Adds a line for each line of a change.
+fn add_key(alloc: Global, key: &mut String, change: &Change) -> Result<(), AllocError> {
+    if let Change::Remove(line) = change {
+        let text = format!(in alloc; "{line}\n")?;
+        key.push_str(text.as_str())?;
+    }
+    for line in &added_lines(alloc, change)? {
+        key.push_str(line.as_str())?;
+        key.push_str("\n")?;
+    }
+    Ok(())
+}
+
+/// A text that no other list of changes has.
+pub(crate) fn key_of(alloc: Global, changes: &[Change]) -> Result<String, AllocError> {
+    let mut key = String::new(alloc);
+    for change in changes {
+        add_key(alloc, &mut key, change)?;
+    }
+    Ok(key)
+}

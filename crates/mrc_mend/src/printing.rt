@@ -1,0 +1,206 @@
+//! What is told of mends.
+
+ghost use Rattle.std.specs.Prelude.{◌≡◌, ◌++◌, [], flat_map, slice_get, unwrap_or, IfOk, OnOk, map};
+ghost use Rattle.std.specs.Prelude.{string_bytes};
+ghost use Rattle.mrc_wiring_text.specs.Lexis.{lines, words};
+ghost use Rattle.mrc_mend.specs.Texts as definitions;
+ghost use Rattle.mrc_mend.specs.Texts.{behind_blank, if_text, line_words, removed_line, added_line};
+ghost use Rattle.mrc_mend.specs.Texts.{change_lines, numbered_line, numbered, mend_text};
+ghost use Rattle.mrc_mend.specs.Texts.{mends_from};
+ghost use Rattle.mrc_mend.specs.Mending.{added_lines};
+
+use crate::answers::{Answer, Mend};
+use crate::changes::{Change, added_lines};
+use mrc_wiring_text::{between_blanks, first_line, spaced};
+use std::alloc::{AllocError, Global};
+use std::str;
+
+/// The words of a line, each behind a blank.
+#[tactic(auto, unfolding(mrc_wiring_text::specs::Lexis::words))]
+fn behind_blanks(alloc: Global, line: &[u8]) -> Result<Vec<u8>, AllocError>
+    ensures { IfOk result (λ text. text.items ≡ flat_map behind_blank (words line.now)) }
+{
+    let said = spaced(alloc, line)?;
+    let mut text = Vec::new(alloc);
+    for word in &between_blanks(alloc, &said)? {
+        text.push(b' ')?;
+        text.extend_from_slice(word)?;
+    }
+    Ok(text)
+}
+
+/// The line of a text that has so many before it; nothing where there is none.
+fn line_behind(text: &[u8], before: usize) -> &[u8]
+    ensures { result.now ≡ unwrap_or (slice_get (lines text.now) before) [] }
+{
+    let mut rest = text;
+    let mut left = before;
+    while !rest.is_empty() {
+        let (line, after) = first_line(rest);
+        if left == 0 {
+            return line;
+        }
+        left -= 1;
+        rest = after;
+    }
+    &[]
+}
+
+/// The bytes, where they are text; nothing where they are not.
+fn if_text(alloc: Global, bytes: &[u8]) -> Result<String, AllocError>
+    ensures { IfOk result (λ text. string_bytes text ≡ if_text bytes.now) }
+{
+    match str::from_utf8(bytes) {
+        Ok(text) => String::from_str(alloc, text),
+        Err(_) => Ok(String::new(alloc)),
+    }
+}
+
+/// The words of the line of this number, each behind a blank, where they are text.
+fn line_words(alloc: Global, wiring: &[u8], number: u32) -> Result<String, AllocError>
+    ensures { IfOk result (λ text. string_bytes text ≡ line_words wiring.now number) }
+{
+    let line = line_behind(wiring, number.saturating_sub(1) as usize);
+    let words = behind_blanks(alloc, line)?;
+    if_text(alloc, words.as_slice())
+}
+
+/// A line that is left out: its number and its words.
+fn removed_line(alloc: Global, wiring: &[u8], number: u32) -> Result<String, AllocError>
+    ensures { IfOk result (λ text. string_bytes text ≡ removed_line wiring.now number) }
+{
+    let words = line_words(alloc, wiring, number)?;
+    format!(in alloc; "remove line {number} #{words}")
+}
+
+/// Adds the lines that a change adds.
+fn add_added(alloc: Global, told: &mut Vec<String>, change: &Change) -> Result<(), AllocError>
+    ensures { OnOk result (map string_bytes told.new.items ≡ map string_bytes told.old.items
+        ++ map added_line (added_lines change.now)) }
+{
+    for line in &added_lines(alloc, change)? {
+        told.push(format!(in alloc; "add {line}")?)?;
+    }
+    Ok(())
+}
+
+/// Adds what is told of a change: a line that is left out, or those that are added.
+fn add_change(
+    alloc: Global,
+    told: &mut Vec<String>,
+    wiring: &[u8],
+    change: &Change,
+) -> Result<(), AllocError>
+    ensures { OnOk result (map string_bytes told.new.items ≡ map string_bytes told.old.items
+        ++ change_lines wiring.now change.now) }
+{
+    match change {
+        Change::Remove(number) => {
+            told.push(removed_line(alloc, wiring, *number)?)?;
+            Ok(())
+        }
+        Change::Restrict(_) => add_added(alloc, told, change),
+    }
+}
+
+/// What is told of changes.
+fn changes_told(alloc: Global, wiring: &[u8], changes: &[Change]) -> Result<Vec<String>, AllocError>
+    ensures { IfOk result (λ told. map string_bytes told.items
+        ≡ flat_map (change_lines wiring.now) changes.now) }
+{
+    let mut told = Vec::new(alloc);
+    for change in changes {
+        add_change(alloc, &mut told, wiring, change)?;
+    }
+    Ok(told)
+}
+
+/// A line of the mend of this number, with what stands behind it.
+fn numbered_line(
+    alloc: Global,
+    number: usize,
+    behind: &str,
+    line: &str,
+) -> Result<String, AllocError>
+    ensures { IfOk result (λ text. string_bytes text
+        ≡ numbered_line number behind.now line.now) }
+{
+    format!(in alloc; "{number} {line}{behind}\n")
+}
+
+/// Adds lines of the mend of this number.
+fn add_lines(
+    alloc: Global,
+    text: &mut String,
+    number: usize,
+    lines: &[String],
+) -> Result<(), AllocError>
+    ensures { OnOk result (string_bytes text.new ≡ string_bytes text.old
+        ++ flat_map (numbered_line number []) (map string_bytes lines.now)) }
+{
+    for line in lines {
+        let told = numbered_line(alloc, number, "", line.as_str())?;
+        text.push_str(told.as_str())?;
+    }
+    Ok(())
+}
+
+/// The lines of the mend of this number, with what stands behind the first.
+fn numbered(
+    alloc: Global,
+    number: usize,
+    behind: &str,
+    lines: &[String],
+) -> Result<String, AllocError>
+    ensures { IfOk result (λ text. string_bytes text
+        ≡ numbered number behind.now (map string_bytes lines.now)) }
+{
+    match lines {
+        [] => Ok(String::new(alloc)),
+        [first, rest @ ..] => {
+            let mut text = numbered_line(alloc, number, behind, first.as_str())?;
+            add_lines(alloc, &mut text, number, rest)?;
+            Ok(text)
+        }
+    }
+}
+
+/// A mend of this number.
+fn mend_text(alloc: Global, wiring: &[u8], number: usize, mend: &Mend) -> Result<String, AllocError>
+    ensures { IfOk result (λ text. string_bytes text ≡ mend_text wiring.now number mend.now) }
+{
+    let lost = mend.lost;
+    let loses = format!(in alloc; " # loses {lost} facts")?;
+    let lines = changes_told(alloc, wiring, &mend.changes)?;
+    numbered(alloc, number, loses.as_str(), &lines)
+}
+
+/// The mends that were found.
+fn found_text(alloc: Global, wiring: &[u8], mends: &[Mend]) -> Result<String, AllocError>
+    ensures { IfOk result (λ text. string_bytes text ≡ mends_from wiring.now 1 mends.now) }
+{
+    let mut text = String::new(alloc);
+    for (place, mend) in mends.iter().enumerate() {
+        let told = mend_text(alloc, wiring, place + 1, mend)?;
+        text.push_str(told.as_str())?;
+    }
+    Ok(text)
+}
+
+/// What is told of mends: `YES` where there is nothing to mend, a line for each changed line of
+/// each mend, or `none`. The words of lines that are left out are those of the wiring's text.
+pub fn mends_text(alloc: Global, wiring: &[u8], answer: &Answer) -> Result<String, AllocError>
+    ensures { IfOk result (λ text.
+        string_bytes text ≡ definitions.mends_text wiring.now answer.now) }
+{
+    match answer {
+        Answer::Nothing => String::from_str(alloc, "YES\n"),
+        Answer::Found(found) => {
+            if found.mends.is_empty() {
+                String::from_str(alloc, "none\n")
+            } else {
+                found_text(alloc, wiring, &found.mends)
+            }
+        }
+    }
+}

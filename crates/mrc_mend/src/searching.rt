@@ -1,0 +1,182 @@
+//! The search for mends: fewer changes first.
+
+ghost use Rattle.std.specs.Prelude.{◌≤◌, length, IfOk, OnOk};
+ghost use Rattle.mrc_mend.specs.Judging.{MendOver, AllAre};
+
+use crate::answers::{Mend, Mends, Progress};
+use crate::changes::Change;
+use crate::extending::{DEEPEST, includes_all, key_of};
+use crate::judging::{System, Verdict, judged};
+use crate::losing::First;
+use std::alloc::{AllocError, Global};
+use std::collections::BTreeMap;
+
+/// How many wirings are judged at most.
+const TRIES: usize = 2_000;
+
+/// How many wirings are judged at least, however large they are.
+const FEWEST: usize = 4;
+
+/// What judging them may cost: of 64 tasks, 320 classes and no facts it would be enough for 83.
+const COSTS: usize = 1_700_000;
+
+/// As many facts cost as much to find as one task at one class to look at.
+const FACTS: usize = 6;
+
+/// Changes that are to be tried, by how many they are, and then in the order in which they were
+/// found.
+#[derive(Drop)]
+struct Queue {
+    waiting: BTreeMap<(usize, usize), Vec<Change>>,
+    seen: BTreeMap<String, ()>,
+}
+
+impl Queue {
+    fn new(alloc: Global) -> Queue {
+        Queue {
+            waiting: BTreeMap::new(alloc),
+            seen: BTreeMap::new(alloc),
+        }
+    }
+
+    /// Adds changes that were not there before.
+    fn add(&mut self, alloc: Global, changes: Vec<Change>) -> Result<(), AllocError> {
+        if changes.len() > DEEPEST {
+            return Ok(());
+        }
+        let key = key_of(alloc, changes.as_slice())?;
+        if self.seen.insert(key, ())?.is_none() {
+            let place = (changes.len(), self.seen.len());
+            let _ = self.waiting.insert(place, changes)?;
+        }
+        Ok(())
+    }
+
+    /// Adds all of these that were not there before.
+    fn add_all(&mut self, alloc: Global, next: Vec<Vec<Change>>) -> Result<(), AllocError> {
+        for changes in next {
+            self.add(alloc, changes)?;
+        }
+        Ok(())
+    }
+}
+
+/// Whether one of the mends is a part of the changes.
+fn is_covered(found: &[Mend], changes: &[Change]) -> bool {
+    for mend in found {
+        if includes_all(changes, mend.changes.as_slice()) {
+            return true;
+        }
+    }
+    false
+}
+
+/// Whether no more mends are wanted than were found, where the next changes are so many: all mends
+/// that are as small as the last are found first.
+fn is_enough(found: &[Mend], most: usize, size: usize) -> bool {
+    match found.last() {
+        Some(last) => found.len() >= most && size > last.changes.len(),
+        None => most == 0,
+    }
+}
+
+/// The next changes to be tried.
+fn next_of(queue: &mut Queue, found: &[Mend], most: usize) -> Option<Vec<Change>> {
+    for _ in 0..queue.waiting.len() {
+        let (place, changes) = queue.waiting.pop_first()?;
+        if is_enough(found, most, place.0) {
+            return None;
+        }
+        if !is_covered(found, changes.as_slice()) {
+            return Some(changes);
+        }
+    }
+    None
+}
+
+/// Adds a mend, and drops those of which it is a part.
+fn add_mend(system: &System<'_>, found: &mut Vec<Mend>, mend: Mend) -> Result<(), AllocError>
+    requires one { MendOver system.now.interfaces.items system.now.wiring.now
+        system.now.policy.now mend.changes.items }
+    requires all { AllAre (MendOver system.now.interfaces.items system.now.wiring.now
+        system.now.policy.now) found.old.items }
+    ensures { OnOk result (AllAre (MendOver system.now.interfaces.items system.now.wiring.now
+        system.now.policy.now) found.new.items) }
+{
+    found.retain(|known| !includes_all(known.changes.as_slice(), mend.changes.as_slice()));
+    found.push(mend)?;
+    Ok(())
+}
+
+/// Tries the changes.
+fn try_one(
+    alloc: Global,
+    system: &System<'_>,
+    first: &First<'_>,
+    changes: Vec<Change>,
+    queue: &mut Queue,
+    found: &mut Vec<Mend>,
+) -> Result<(), AllocError>
+    requires { AllAre (MendOver system.now.interfaces.items system.now.wiring.now
+        system.now.policy.now) found.old.items }
+    ensures { OnOk result (AllAre (MendOver system.now.interfaces.items system.now.wiring.now
+        system.now.policy.now) found.new.items) }
+{
+    match judged(alloc, system, first, changes.as_slice())? {
+        Verdict::Mends(lost) => add_mend(system, found, Mend { changes, lost }),
+        Verdict::Fails(next) => queue.add_all(alloc, next),
+        Verdict::Senseless => Ok(()),
+    }
+}
+
+/// How many wirings are judged at most, where this is the first.
+fn tries_for(first: &First<'_>) -> usize {
+    let places = first.wired.tasks() as usize * first.wired.classes() as usize;
+    let cost = places.saturating_add(first.facts.len() / FACTS);
+    (COSTS / cost.max(1)).clamp(FEWEST, TRIES)
+}
+
+/// The best of the mends, so many at most.
+fn best(system: &System<'_>, mut found: Vec<Mend>, most: usize) -> Result<Vec<Mend>, AllocError>
+    requires { AllAre (MendOver system.now.interfaces.items system.now.wiring.now
+        system.now.policy.now) found.items }
+    ensures mends { IfOk result (λ best. AllAre (MendOver system.now.interfaces.items
+        system.now.wiring.now system.now.policy.now) best.items) }
+    ensures few { IfOk result (λ best. length best.items ≤ most) }
+{
+    found.sort_by_key(|mend| (mend.changes.len(), mend.lost))?;
+    found.truncate(most);
+    Ok(found)
+}
+
+/// The mends that are found from these changes on.
+pub(crate) fn search<P: Progress>(
+    alloc: Global,
+    system: &System<'_>,
+    first: &First<'_>,
+    next: Vec<Vec<Change>>,
+    most: usize,
+    progress: &mut P,
+) -> Result<Mends, AllocError>
+    ensures mends { IfOk result (λ mends. AllAre (MendOver system.now.interfaces.items
+        system.now.wiring.now system.now.policy.now) mends.mends.items) }
+    ensures few { IfOk result (λ mends. length mends.mends.items ≤ most) }
+{
+    let mut queue = Queue::new(alloc);
+    let mut found = Vec::new(alloc);
+    queue.add_all(alloc, next)?;
+    for tries in 0..tries_for(first) {
+        let Some(changes) = next_of(&mut queue, found.as_slice(), most) else {
+            let mends = best(system, found, most)?;
+            return Ok(Mends {
+                mends,
+                cut_off: false,
+            });
+        };
+        try_one(alloc, system, first, changes, &mut queue, &mut found)?;
+        progress.tried(tries + 1);
+    }
+    let cut_off = next_of(&mut queue, found.as_slice(), most).is_some();
+    let mends = best(system, found, most)?;
+    Ok(Mends { mends, cut_off })
+}
