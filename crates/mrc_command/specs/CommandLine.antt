@@ -1,6 +1,6 @@
 -- The command line that `clap` reads, and the words that it comes in. This profile's own choice.
 use Rattle.std.specs.Prelude.{◌≡◌, ◌⊎◌, ℕ, List, [], ◌∷◌, Some, true, codes, string_bytes, false}
-use Rattle.std.specs.Prelude.{unwrap_or, Option, None}
+use Rattle.std.specs.Prelude.{unwrap_or, Option, None, Bool}
 use Rattle.mrc_words.specs.Numbers.{number_of_word}
 use Rattle.std.specs.Option.{option_map}
 use Rattle.std.specs.declared.io.ErrorKind.{ErrorKind}
@@ -9,10 +9,10 @@ use Rattle.clap.specs.Words.{App, Rule, Text, new_app, new_rule, with_rule, with
 use Rattle.clap.specs.Words.{fault_of, IsAmong}
 use Rattle.clap.specs.Simple.{on_top}
 use Rattle.clap.specs.declared.parser.matches.Found.{Found}
-use Rattle.clap.specs.Matches.{matched_of, raw_values}
+use Rattle.clap.specs.Matches.{matched_of, one_text, raw_values}
 use Rattle.clap.specs.declared.builder.command.Command.{Command}
 use Rattle.clap.specs.declared.builder.command.Command.TheViews.{out-Command}
-use Rattle.clap.specs.declared.builder.action.ArgAction.TheVariants.{Set, Append}
+use Rattle.clap.specs.declared.builder.action.ArgAction.TheVariants.{Set, SetTrue, Append}
 use Rattle.clap.specs.declared.error.kind.ErrorKind.{ErrorKind as ClapKind}
 use Rattle.clap.specs.declared.error.kind.ErrorKind.TheVariants.{DisplayHelp, DisplayVersion}
 use Rattle.mrc_command.specs.declared.words.WordsFault.{WordsFault}
@@ -37,6 +37,14 @@ abbrev pub file_rule : Text → Rule
 file_rule name = record
     (new_rule name) { long = Some name; value_names = 1; action = Some Set; required = true }
 
+-- an option with one value, which need not be given
+abbrev pub free_rule : Text → Rule
+free_rule name = record (new_rule name) { long = Some name; value_names = 1; action = Some Set }
+
+-- an option without a value
+abbrev pub flag_rule : Text → Rule
+flag_rule name = record (new_rule name) { long = Some name; action = Some SetTrue }
+
 -- the MIG files: arguments without an option's name, as many as there are
 abbrev pub defs_rule : Rule
 defs_rule = record (new_rule (codes "defs")) { value_names = 1; action = Some Append }
@@ -52,20 +60,42 @@ check_options =
     with_rule (with_rule (new_app (codes "check")) (file_rule (codes "wiring")))
     (file_rule (codes "policy"))
 
--- `check --wiring FILE --policy FILE --cert FILE [DEFS]...`
+-- `check --wiring FILE --policy FILE --cert FILE [--verbose] [DEFS]...`
 abbrev pub check_app : App
-check_app = with_files check_options (codes "cert" ∷ [])
+check_app =
+    with_rule (with_rule (with_rule check_options (file_rule (codes "cert")))
+    (flag_rule (codes "verbose"))) defs_rule
 
--- the option that says how many workers there are, and need not be given
-abbrev pub workers_rule : Rule
-workers_rule = record
-    (new_rule (codes "workers"))
-    { long = Some (codes "workers"); value_names = 1; action = Some Set }
+-- `verify` with its first two options
+abbrev pub verify_options : App
+verify_options =
+    with_rule (with_rule (new_app (codes "verify")) (file_rule (codes "wiring")))
+    (file_rule (codes "policy"))
 
--- how many are asked for: 4 where no number is given, 0 where the text is no number
-abbrev pub workers_of : Option Text → ℕ
-workers_of None = 4
-workers_of (Some text) = unwrap_or (number_of_word text) 0
+-- `verify --wiring FILE --policy FILE [--tree] [DEFS]...`
+abbrev pub verify_app : App
+verify_app = with_rule (with_rule verify_options (flag_rule (codes "tree"))) defs_rule
+
+-- `mend` with its first two options
+abbrev pub mend_options : App
+mend_options =
+    with_rule (with_rule (new_app (codes "mend")) (file_rule (codes "wiring")))
+    (file_rule (codes "policy"))
+
+-- `mend --wiring FILE --policy FILE [--most N] [DEFS]...`
+abbrev pub mend_app : App
+mend_app = with_rule (with_rule mend_options (free_rule (codes "most"))) defs_rule
+
+-- the number that an option has: the usual one where none is given, 0 where the text is no number
+abbrev pub number_of : ℕ → Option Text → ℕ
+number_of usual None = usual
+number_of usual (Some text) = unwrap_or (number_of_word text) 0
+
+-- whether an option without a value is given, so far as `clap` says
+pub record IsFlag (found : Found) (name : Text) (given : Bool) : Type 0 where
+  pub on : one_text found name ≡ Some (codes "true") → given ≡ true
+  pub off : one_text found name ≡ Some (codes "false") → given ≡ false
+  pub none : one_text found name ≡ None → given ≡ false
 
 -- `make` with its two files
 abbrev pub make_options : App
@@ -75,11 +105,41 @@ make_options =
 
 -- `make --wiring FILE --out FILE [--workers N] [DEFS]...`
 abbrev pub make_app : App
-make_app = with_rule (with_rule make_options workers_rule) defs_rule
+make_app = with_rule (with_rule make_options (free_rule (codes "workers"))) defs_rule
 
--- `explain --wiring FILE --fact FACT [DEFS]...`
+-- `explain` with its first two options
+abbrev pub explain_options : App
+explain_options =
+    with_rule (with_rule (new_app (codes "explain")) (file_rule (codes "wiring")))
+    (file_rule (codes "fact"))
+
+-- `explain --wiring FILE --fact FACT [--by] [DEFS]...`
 abbrev pub explain_app : App
-explain_app = with_files (new_app (codes "explain")) (codes "wiring" ∷ codes "fact" ∷ [])
+explain_app = with_rule (with_rule explain_options (flag_rule (codes "by"))) defs_rule
+
+-- `facts` with its first two options
+abbrev pub facts_options : App
+facts_options =
+    with_rule (with_rule (new_app (codes "facts")) (file_rule (codes "wiring")))
+    (free_rule (codes "cert"))
+
+-- `facts --wiring FILE [--cert FILE] [--task TASK] [--class CLASS] [--right RIGHT] [DEFS]...`
+abbrev pub facts_app : App
+facts_app =
+    with_rule (with_rule (with_rule (with_rule facts_options (free_rule (codes "task")))
+    (free_rule (codes "class"))) (free_rule (codes "right"))) defs_rule
+
+-- `graph` with its first two options
+abbrev pub graph_options : App
+graph_options =
+    with_rule (with_rule (new_app (codes "graph")) (file_rule (codes "wiring")))
+    (free_rule (codes "cert"))
+
+-- `graph --wiring FILE [--cert FILE] [--policy FILE] [--fact FACT] [DEFS]...`
+abbrev pub graph_app : App
+graph_app =
+    with_rule (with_rule (with_rule graph_options (free_rule (codes "policy")))
+    (free_rule (codes "fact"))) defs_rule
 
 -- `replay --wiring FILE --script FILE [DEFS]...`
 abbrev pub replay_app : App
@@ -113,21 +173,25 @@ bare_app =
     })
     (new_app (codes "machcheck"))
 
--- the program with the commands that speak of certificates
+-- the program with the commands that answer what can come about
+abbrev pub answer_app : App
+answer_app = with_subcommand (with_subcommand bare_app verify_app.top) mend_app.top
+
+-- the same, and what speaks of certificates
 abbrev pub certificate_app : App
-certificate_app = with_subcommand (with_subcommand bare_app check_app.top) make_app.top
+certificate_app = with_subcommand (with_subcommand answer_app check_app.top) make_app.top
 
--- the same, and what explains a fact
+-- the same, and what speaks of facts
 abbrev pub fact_app : App
-fact_app = with_subcommand certificate_app explain_app.top
+fact_app = with_subcommand (with_subcommand certificate_app explain_app.top) facts_app.top
 
--- the same, and what replays a script
-abbrev pub script_app : App
-script_app = with_subcommand fact_app replay_app.top
+-- the same, and what draws
+abbrev pub drawing_app : App
+drawing_app = with_subcommand fact_app graph_app.top
 
 -- the program and its commands
 abbrev pub machcheck_app : App
-machcheck_app = with_subcommand script_app live_app.top
+machcheck_app = with_subcommand (with_subcommand drawing_app replay_app.top) live_app.top
 
 -- the words ask for help or for the version, as `clap` reads them; then they are no command
 abbrev pub AsksHelp : List Text → Type 0

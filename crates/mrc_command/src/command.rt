@@ -1,135 +1,37 @@
 //! The command line, read by `clap`.
 
-ghost use Rattle.std.specs.Prelude.{◌≡◌, codes, Some, true, false, map, string_bytes, IfErr, IfOk};
-ghost use Rattle.clap.specs.Words.{app_of, rule_of, kind_of};
+ghost use Rattle.std.specs.Prelude.{◌≡◌, codes, Some, map, string_bytes, IfErr, IfOk};
+ghost use Rattle.std.specs.Option.{option_map};
+ghost use Rattle.clap.specs.Words.{kind_of};
 ghost use Rattle.clap.specs.Matches.{found_of, first_value};
-ghost use Rattle.clap.specs.declared.error.kind.ErrorKind.TheVariants.{OutOfMemory, DisplayHelp};
-ghost use Rattle.clap.specs.declared.error.kind.ErrorKind.TheVariants.{DisplayVersion};
-ghost use Rattle.mrc_command.specs.CommandLine.{IsNoCommand, TellsError, file_rule, check_app};
-ghost use Rattle.mrc_command.specs.CommandLine.{check_options, certificate_app, explain_app};
-ghost use Rattle.mrc_command.specs.CommandLine.{fact_app};
-ghost use Rattle.mrc_command.specs.CommandLine.{defs_rule, workers_rule, workers_of, make_options};
-ghost use Rattle.mrc_command.specs.CommandLine.{make_app, replay_app, machcheck_app};
-ghost use Rattle.mrc_command.specs.CommandLine.{HasNoGlobals, all_values, live_app, live_options};
-ghost use Rattle.mrc_command.specs.CommandLine.{script_app};
+ghost use Rattle.clap.specs.declared.error.kind.ErrorKind.TheVariants.{OutOfMemory};
+ghost use Rattle.mrc_command.specs.CommandLine.{IsNoCommand, TellsError, IsFlag, all_values};
+ghost use Rattle.mrc_command.specs.CommandLine.{number_of};
 
+use crate::options::whole_command;
 use crate::told::Told;
 use clap::error::ErrorKind;
-use clap::{Arg, ArgAction, ArgMatches, Error};
+use clap::{ArgMatches, Error};
 use mrc_words::number_of_word;
 use std::alloc::{AllocError, AllocFailed, Global};
-
-const PROGRAM_HELP: &str = "Exit status of each command:
-  0  YES was printed, a certificate was made, a chain was printed, a script was replayed
-     or run by threads, or help or the version was printed
-  1  NO was printed, with the first reason, or none, where no chain leads to a fact
-  2  a fault was told on standard error: a file can't be read or has no meaning,
-     the command line is wrong, the output was not taken, or memory ran out
-
-`machcheck check --help`, and the same of the other commands, tells of the files. Read on
-in README.md, which starts with a worked example, and in docs/ARCHITECTURE.md.";
-
-const CHECK_HELP: &str = "Files, as README.md describes them:
-  MIG files have the messages of the interfaces that the wiring names,
-  a wiring has the tasks and ports, what they accept, and the rights that are held at first,
-  a policy has who must never hold what,
-  a certificate has who may come to hold what. It is not trusted.
-
-Exit status:
-  0  YES: no list of calls can lead to a holding that the policy forbids
-  1  NO, with the first reason: the certificate lacks what can come about,
-     or has what the policy forbids
-  2  a fault on standard error, as `machcheck: FILE: FAULT`: a file can't be read or has
-     no meaning, the command line is wrong, the output was not taken, or memory ran out
-
-Read on in README.md, and in docs/ARCHITECTURE.md.";
-
-const MAKE_HELP: &str = "Files, as README.md describes them:
-  MIG files have the messages of the interfaces that the wiring names,
-  a wiring has the tasks and ports, what they accept, and the rights that are held at first.
-
-The least certificate of the wiring is made: who may come to hold what, and nothing else. It
-is written beside the file that --out names and then takes its place, so that the file is
-never half written. Links are followed, and the file keeps its mode. A device, a pipe, a file
-with other hard links or another owner, and one in a folder that allows no new file are
-written in place: there WriteFailed N leaves the first N bytes. How many facts the
-certificate has is printed. --workers says how many threads make it; the certificate is the
-same whatever their number.
-
-Exit status:
-  0  the certificate was made
-  2  a fault on standard error, as `machcheck: FILE: FAULT`: a file can't be read or has
-     no meaning or was not taken, --workers is not a number from 1 to 64 (Workers), the
-     command line is wrong, or memory ran out
-
-Read on in README.md, and in docs/ARCHITECTURE.md.";
-
-const EXPLAIN_HELP: &str = "Files, as README.md describes them:
-  MIG files have the messages of the interfaces that the wiring names,
-  a wiring has the tasks and ports, what they accept, and the rights that are held at first.
-
-A fact is printed as in a NO: `hold TASK CLASS RIGHT`, `carry CLASS CLASS RIGHT` or
-`backup CLASS CLASS`. Where it is in the least certificate, a chain of rules is printed that
-derives it: a line for each step, with its number from 0, the rule, what it concludes, and the
-numbers of the steps that it follows from. The last step concludes the fact.
-
-Exit status:
-  0  a chain was printed
-  1  `none` was printed: the fact is not in the least certificate
-  2  a fault on standard error, as `machcheck: FILE: FAULT`: a file can't be read or has no
-     meaning, the text of the fact names none of the wiring (BadFact), the command line is
-     wrong, the output was not taken, or memory ran out
-
-Read on in README.md, and in docs/ARCHITECTURE.md.";
-
-const REPLAY_HELP: &str = "Files, as docs/FORMATS.md describes them:
-  MIG files have the messages of the interfaces that the wiring names,
-  a wiring has the tasks and ports, what they accept, and the rights that are held at first,
-  a script has a call of a task on each line.
-
-Each call is made, one after the other, from the wiring's first state on. A line is printed
-for each, with its number from 0, the task and the reply, and then how many there were and how
-many ports are live.
-
-Exit status:
-  0  the script was run to its end: a call that is refused is told, and the next one is made
-  2  a fault on standard error, as `machcheck: FILE: FAULT`: a file can't be read or has
-     no meaning, the command line is wrong, the output was not taken, or memory ran out
-
-Read on in README.md, and in docs/ARCHITECTURE.md.";
-
-const LIVE_HELP: &str = "Files, as docs/FORMATS.md describes them:
-  MIG files have the messages of the interfaces that the wiring names,
-  a wiring has the tasks and ports, what they accept, and the rights that are held at first,
-  a policy has who must never hold what,
-  a certificate has who may come to hold what. It is not trusted,
-  a script has a call of a task on each line.
-
-The certificate is checked first. Then each task runs as a thread, which makes the calls of its
-lines in order; between the tasks the order is that of the schedule. `wait NAME LIMIT` receives as
-`receive` does, but waits for a message. In the end the journal is printed: a line for each event,
-with its number from 0, the task and the reply, and then how many there were and how many ports are
-live. It has 1,000,000 events at most. So it is where all tasks that have lines left wait, and no
-message can come any more: then the lines that wait are named on standard error.
-
-Exit status:
-  0  the script was run to its end: a call that is refused is told, and the next one is made
-  1  NO, with the first reason, as `check` tells it: nothing was run
-  2  a fault on standard error, as `machcheck: FILE: FAULT`: a file can't be read or has
-     no meaning, the journal is full, all tasks that have lines left wait (`AllWait`, with
-     the lines), the command line is wrong, the output was not taken, or memory ran out
-
-Read on in README.md, and in docs/ARCHITECTURE.md.";
 
 /// What the user asks for.
 #[derive(Drop)]
 pub enum Command<'a> {
+    /// Can anything that the policy forbids come about, and how?
+    Verify(VerifyFiles<'a>),
+    /// Which changes of the wiring lead to a yes?
+    Mend(MendFiles<'a>),
     /// Is the certificate accepted for the wiring and the policy?
-    Check(CheckFiles<'a>),
+    Check(CheckWords<'a>),
     /// What may the tasks of the wiring come to hold?
     Make(MakeFiles<'a>),
     /// How may a fact come about?
     Explain(ExplainFiles<'a>),
+    /// Which facts does a certificate have?
+    Facts(FactsFiles<'a>),
+    /// The same as a drawing.
+    Graph(GraphFiles<'a>),
     /// What do the calls of the script answer?
     Replay(ReplayFiles<'a>),
     /// What do they answer where the certificate is accepted and tasks run as threads?
@@ -151,6 +53,48 @@ pub struct CheckFiles<'a> {
     pub certificate: &'a str,
 }
 
+/// The files of a `check`, and whether more is told where the certificate is of another wiring.
+#[derive(Drop)]
+pub struct CheckWords<'a> {
+    pub files: CheckFiles<'a>,
+    pub verbose: bool,
+}
+
+/// The files of a `verify`, and whether chains are told from their conclusions down.
+#[derive(Drop)]
+pub struct VerifyFiles<'a> {
+    pub system: SystemFiles<'a>,
+    pub policy: &'a str,
+    pub tree: bool,
+}
+
+/// The files of a `mend`, and how many mends are told at most.
+#[derive(Drop)]
+pub struct MendFiles<'a> {
+    pub system: SystemFiles<'a>,
+    pub policy: &'a str,
+    pub most: usize,
+}
+
+/// The files of a `facts`, and the words of its filter.
+#[derive(Drop)]
+pub struct FactsFiles<'a> {
+    pub system: SystemFiles<'a>,
+    pub certificate: Option<&'a str>,
+    pub task: Option<&'a str>,
+    pub class: Option<&'a str>,
+    pub right: Option<&'a str>,
+}
+
+/// The files of a `graph`, and the text of the fact whose chain alone is drawn.
+#[derive(Drop)]
+pub struct GraphFiles<'a> {
+    pub system: SystemFiles<'a>,
+    pub certificate: Option<&'a str>,
+    pub policy: Option<&'a str>,
+    pub fact: Option<&'a str>,
+}
+
 /// The files of a `make`, the last of which is written, and by how many workers it is made.
 #[derive(Drop)]
 pub struct MakeFiles<'a> {
@@ -159,11 +103,12 @@ pub struct MakeFiles<'a> {
     pub workers: usize,
 }
 
-/// The files of an `explain`, and the text of the fact.
+/// The files of an `explain`, the text of the fact, and whether it is told where steps come from.
 #[derive(Drop)]
 pub struct ExplainFiles<'a> {
     pub system: SystemFiles<'a>,
     pub fact: &'a str,
+    pub by: bool,
 }
 
 /// The files of a `replay`.
@@ -198,186 +143,6 @@ impl From<AllocError> for NoCommand {
     fn from(_e: AllocError) -> NoCommand {
         NoCommand::Memory
     }
-}
-
-/// An option that has to be given, with one value.
-fn value_option<'a>(alloc: Global, name: &'a str, value: &'a str, help: &'a str) -> Arg<'a>
-    ensures rule { rule_of result ≡ file_rule name.entry.now }
-    ensures local { result.global ≡ false }
-{
-    Arg::new(alloc, name)
-        .long(name)
-        .value_name(value)
-        .help(help)
-        .required(true)
-        .action(ArgAction::Set)
-}
-
-fn file_option<'a>(alloc: Global, name: &'a str, help: &'a str) -> Arg<'a>
-    ensures rule { rule_of result ≡ file_rule name.entry.now }
-    ensures local { result.global ≡ false }
-{
-    value_option(alloc, name, "FILE", help)
-}
-
-fn wiring_option<'a>(alloc: Global) -> Arg<'a>
-    ensures rule { rule_of result ≡ file_rule (codes "wiring") }
-    ensures local { result.global ≡ false }
-{
-    file_option(alloc, "wiring", "Tasks, ports and their first rights")
-}
-
-fn workers_option<'a>(alloc: Global) -> Arg<'a>
-    ensures rule { rule_of result ≡ workers_rule }
-    ensures local { result.global ≡ false }
-{
-    Arg::new(alloc, "workers")
-        .long("workers")
-        .value_name("N")
-        .help("How many threads make it, 1 to 64: 4 where it is not given")
-        .action(ArgAction::Set)
-}
-
-fn defs_arguments<'a>(alloc: Global) -> Arg<'a>
-    ensures rule { rule_of result ≡ defs_rule }
-    ensures local { result.global ≡ false }
-{
-    Arg::new(alloc, "defs")
-        .value_name("DEFS")
-        .help("The MIG files of the interfaces")
-        .action(ArgAction::Append)
-}
-
-/// The command with its first two options.
-fn check_options<'a>(alloc: Global) -> Result<clap::Command<'a>, AllocError>
-    ensures app { IfOk result (λ command. app_of command ≡ check_options) }
-    ensures local { IfOk result HasNoGlobals }
-{
-    clap::Command::new(alloc, "check")
-        .about("Says whether a certificate shows that no forbidden right can be obtained")
-        .after_help(CHECK_HELP)
-        .arg(wiring_option(alloc))?
-        .arg(file_option(alloc, "policy", "The forbidden holdings"))
-}
-
-fn check_command<'a>(alloc: Global) -> Result<clap::Command<'a>, AllocError>
-    ensures app { IfOk result (λ command. app_of command ≡ check_app) }
-    ensures local { IfOk result HasNoGlobals }
-{
-    check_options(alloc)?
-        .arg(file_option(alloc, "cert", "The certificate: who may come to hold what"))?
-        .arg(defs_arguments(alloc))
-}
-
-/// The command with its first two options.
-fn make_options<'a>(alloc: Global) -> Result<clap::Command<'a>, AllocError>
-    ensures app { IfOk result (λ command. app_of command ≡ make_options) }
-    ensures local { IfOk result HasNoGlobals }
-{
-    clap::Command::new(alloc, "make")
-        .about("Makes the least certificate of a wiring")
-        .after_help(MAKE_HELP)
-        .arg(wiring_option(alloc))?
-        .arg(file_option(alloc, "out", "The certificate that is written"))
-}
-
-fn make_command<'a>(alloc: Global) -> Result<clap::Command<'a>, AllocError>
-    ensures app { IfOk result (λ command. app_of command ≡ make_app) }
-    ensures local { IfOk result HasNoGlobals }
-{
-    make_options(alloc)?
-        .arg(workers_option(alloc))?
-        .arg(defs_arguments(alloc))
-}
-
-fn explain_command<'a>(alloc: Global) -> Result<clap::Command<'a>, AllocError>
-    ensures app { IfOk result (λ command. app_of command ≡ explain_app) }
-    ensures local { IfOk result HasNoGlobals }
-{
-    clap::Command::new(alloc, "explain")
-        .about("Shows how a fact comes to be in the least certificate of a wiring")
-        .after_help(EXPLAIN_HELP)
-        .arg(wiring_option(alloc))?
-        .arg(value_option(alloc, "fact", "FACT", "The fact, as it is printed in a NO"))?
-        .arg(defs_arguments(alloc))
-}
-
-fn replay_command<'a>(alloc: Global) -> Result<clap::Command<'a>, AllocError>
-    ensures app { IfOk result (λ command. app_of command ≡ replay_app) }
-    ensures local { IfOk result HasNoGlobals }
-{
-    clap::Command::new(alloc, "replay")
-        .about("Runs a script of calls, and prints the reply to each")
-        .after_help(REPLAY_HELP)
-        .arg(wiring_option(alloc))?
-        .arg(file_option(alloc, "script", "The calls, one a line"))?
-        .arg(defs_arguments(alloc))
-}
-
-/// The command with its first two options.
-fn live_options<'a>(alloc: Global) -> Result<clap::Command<'a>, AllocError>
-    ensures app { IfOk result (λ command. app_of command ≡ live_options) }
-    ensures local { IfOk result HasNoGlobals }
-{
-    clap::Command::new(alloc, "live")
-        .about("Checks, and runs a script of calls by tasks as threads")
-        .after_help(LIVE_HELP)
-        .arg(wiring_option(alloc))?
-        .arg(file_option(alloc, "policy", "The forbidden holdings"))
-}
-
-fn live_command<'a>(alloc: Global) -> Result<clap::Command<'a>, AllocError>
-    ensures app { IfOk result (λ command. app_of command ≡ live_app) }
-    ensures local { IfOk result HasNoGlobals }
-{
-    live_options(alloc)?
-        .arg(file_option(alloc, "cert", "The certificate: who may come to hold what"))?
-        .arg(file_option(alloc, "script", "The calls, one a line"))?
-        .arg(defs_arguments(alloc))
-}
-
-/// The program with the commands that speak of certificates.
-fn certificate_commands<'a>(alloc: Global) -> Result<clap::Command<'a>, AllocError>
-    ensures { IfOk result (λ command. app_of command ≡ certificate_app) }
-{
-    let check = check_command(alloc)?;
-    let make = make_command(alloc)?;
-    clap::Command::new(alloc, "machcheck")
-        .version("0.1.0")
-        .about(
-            "Checks that no task of a wired Mach 3 system can ever obtain a forbidden port right",
-        )
-        .after_help(PROGRAM_HELP)
-        .subcommand_required(true)
-        .arg_required_else_help(true)
-        .subcommand(check)?
-        .subcommand(make)
-}
-
-/// The same with the command that explains a fact.
-fn fact_commands<'a>(alloc: Global) -> Result<clap::Command<'a>, AllocError>
-    ensures { IfOk result (λ command. app_of command ≡ fact_app) }
-{
-    let commands = certificate_commands(alloc)?;
-    let explain = explain_command(alloc)?;
-    commands.subcommand(explain)
-}
-
-/// The same with the command that replays a script.
-fn script_commands<'a>(alloc: Global) -> Result<clap::Command<'a>, AllocError>
-    ensures { IfOk result (λ command. app_of command ≡ script_app) }
-{
-    let commands = fact_commands(alloc)?;
-    let replay = replay_command(alloc)?;
-    commands.subcommand(replay)
-}
-
-fn whole_command<'a>(alloc: Global) -> Result<clap::Command<'a>, AllocError>
-    ensures { IfOk result (λ command. app_of command ≡ machcheck_app) }
-{
-    let commands = script_commands(alloc)?;
-    let live = live_command(alloc)?;
-    commands.subcommand(live)
 }
 
 /// The text of clap: help and version go to standard output, all else to standard error.
@@ -418,16 +183,16 @@ fn file_given<'a>(matches: &ArgMatches<'a>, option: &str) -> Result<&'a str, NoC
     }
 }
 
-/// How many workers are asked for: 4 where the option is not given, 0 where it is no number.
-fn workers_given(matches: &ArgMatches<'_>) -> usize
-    ensures { result ≡ workers_of (first_value (found_of matches.now) (codes "workers")) }
+/// The number that an option has: this one where it is not given, 0 where it is no number.
+fn number_given(matches: &ArgMatches<'_>, option: &str, usual: usize) -> usize
+    ensures { result ≡ number_of usual (first_value (found_of matches.now) option.now) }
 {
-    match matches.get_str("workers") {
+    match matches.get_str(option) {
         Some(text) => match number_of_word(text.as_bytes()) {
             Some(number) => number as usize,
             None => 0,
         },
-        None => 4,
+        None => usual,
     }
 }
 
@@ -475,6 +240,67 @@ fn check_files<'a>(alloc: Global, matches: &ArgMatches<'a>) -> Result<CheckFiles
     })
 }
 
+fn check_words<'a>(alloc: Global, matches: &ArgMatches<'a>) -> Result<CheckWords<'a>, NoCommand>
+    ensures defs { IfOk result (λ words. map (λ file. file.now) words.files.system.defs.items
+        ≡ all_values (found_of matches.now) (codes "defs")) }
+    ensures wiring { IfOk result (λ words.
+        first_value (found_of matches.now) (codes "wiring")
+        ≡ Some words.files.system.wiring.now) }
+    ensures policy { IfOk result (λ words.
+        first_value (found_of matches.now) (codes "policy") ≡ Some words.files.policy.now) }
+    ensures certificate { IfOk result (λ words.
+        first_value (found_of matches.now) (codes "cert") ≡ Some words.files.certificate.now) }
+    ensures verbose { IfOk result
+        (λ words. IsFlag (found_of matches.now) (codes "verbose") words.verbose) }
+    ensures none { IfErr result (λ none. none ≡ NoCommand.Memory) }
+{
+    let files = check_files(alloc, matches)?;
+    let verbose = matches.get_flag("verbose");
+    Ok(CheckWords { files, verbose })
+}
+
+fn verify_files<'a>(alloc: Global, matches: &ArgMatches<'a>) -> Result<VerifyFiles<'a>, NoCommand>
+    ensures defs { IfOk result (λ files. map (λ file. file.now) files.system.defs.items
+        ≡ all_values (found_of matches.now) (codes "defs")) }
+    ensures wiring { IfOk result (λ files.
+        first_value (found_of matches.now) (codes "wiring") ≡ Some files.system.wiring.now) }
+    ensures policy { IfOk result
+        (λ files. first_value (found_of matches.now) (codes "policy") ≡ Some files.policy.now) }
+    ensures tree { IfOk result
+        (λ files. IsFlag (found_of matches.now) (codes "tree") files.tree) }
+    ensures none { IfErr result (λ none. none ≡ NoCommand.Memory) }
+{
+    let system = system_files(alloc, matches)?;
+    let policy = file_given(matches, "policy")?;
+    let tree = matches.get_flag("tree");
+    Ok(VerifyFiles {
+        system,
+        policy,
+        tree,
+    })
+}
+
+fn mend_files<'a>(alloc: Global, matches: &ArgMatches<'a>) -> Result<MendFiles<'a>, NoCommand>
+    ensures defs { IfOk result (λ files. map (λ file. file.now) files.system.defs.items
+        ≡ all_values (found_of matches.now) (codes "defs")) }
+    ensures wiring { IfOk result (λ files.
+        first_value (found_of matches.now) (codes "wiring") ≡ Some files.system.wiring.now) }
+    ensures policy { IfOk result
+        (λ files. first_value (found_of matches.now) (codes "policy") ≡ Some files.policy.now) }
+    ensures most { IfOk result (λ files. files.most
+        ≡ number_of 10 (first_value (found_of matches.now) (codes "most"))) }
+    ensures none { IfErr result (λ none. none ≡ NoCommand.Memory) }
+{
+    let system = system_files(alloc, matches)?;
+    let policy = file_given(matches, "policy")?;
+    let most = number_given(matches, "most", 10);
+    Ok(MendFiles {
+        system,
+        policy,
+        most,
+    })
+}
+
 fn make_files<'a>(alloc: Global, matches: &ArgMatches<'a>) -> Result<MakeFiles<'a>, NoCommand>
     ensures defs { IfOk result (λ files. map (λ file. file.now) files.system.defs.items
         ≡ all_values (found_of matches.now) (codes "defs")) }
@@ -483,12 +309,12 @@ fn make_files<'a>(alloc: Global, matches: &ArgMatches<'a>) -> Result<MakeFiles<'
     ensures out { IfOk result
         (λ files. first_value (found_of matches.now) (codes "out") ≡ Some files.out.now) }
     ensures workers { IfOk result (λ files. files.workers
-        ≡ workers_of (first_value (found_of matches.now) (codes "workers"))) }
+        ≡ number_of 4 (first_value (found_of matches.now) (codes "workers"))) }
     ensures none { IfErr result (λ none. none ≡ NoCommand.Memory) }
 {
     let system = system_files(alloc, matches)?;
     let out = file_given(matches, "out")?;
-    let workers = workers_given(matches);
+    let workers = number_given(matches, "workers", 4);
     Ok(MakeFiles {
         system,
         out,
@@ -503,11 +329,67 @@ fn explain_files<'a>(alloc: Global, matches: &ArgMatches<'a>) -> Result<ExplainF
         first_value (found_of matches.now) (codes "wiring") ≡ Some files.system.wiring.now) }
     ensures fact { IfOk result
         (λ files. first_value (found_of matches.now) (codes "fact") ≡ Some files.fact.now) }
+    ensures by { IfOk result (λ files. IsFlag (found_of matches.now) (codes "by") files.by) }
     ensures none { IfErr result (λ none. none ≡ NoCommand.Memory) }
 {
     let system = system_files(alloc, matches)?;
     let fact = file_given(matches, "fact")?;
-    Ok(ExplainFiles { system, fact })
+    let by = matches.get_flag("by");
+    Ok(ExplainFiles { system, fact, by })
+}
+
+fn facts_files<'a>(alloc: Global, matches: &ArgMatches<'a>) -> Result<FactsFiles<'a>, NoCommand>
+    ensures defs { IfOk result (λ files. map (λ file. file.now) files.system.defs.items
+        ≡ all_values (found_of matches.now) (codes "defs")) }
+    ensures wiring { IfOk result (λ files.
+        first_value (found_of matches.now) (codes "wiring") ≡ Some files.system.wiring.now) }
+    ensures certificate { IfOk result (λ files.
+        option_map (λ file. file.now) files.certificate
+        ≡ first_value (found_of matches.now) (codes "cert")) }
+    ensures task { IfOk result (λ files.
+        option_map (λ word. word.now) files.task
+        ≡ first_value (found_of matches.now) (codes "task")) }
+    ensures class { IfOk result (λ files.
+        option_map (λ word. word.now) files.class
+        ≡ first_value (found_of matches.now) (codes "class")) }
+    ensures right { IfOk result (λ files.
+        option_map (λ word. word.now) files.right
+        ≡ first_value (found_of matches.now) (codes "right")) }
+    ensures none { IfErr result (λ none. none ≡ NoCommand.Memory) }
+{
+    let system = system_files(alloc, matches)?;
+    Ok(FactsFiles {
+        system,
+        certificate: matches.get_str("cert"),
+        task: matches.get_str("task"),
+        class: matches.get_str("class"),
+        right: matches.get_str("right"),
+    })
+}
+
+fn graph_files<'a>(alloc: Global, matches: &ArgMatches<'a>) -> Result<GraphFiles<'a>, NoCommand>
+    ensures defs { IfOk result (λ files. map (λ file. file.now) files.system.defs.items
+        ≡ all_values (found_of matches.now) (codes "defs")) }
+    ensures wiring { IfOk result (λ files.
+        first_value (found_of matches.now) (codes "wiring") ≡ Some files.system.wiring.now) }
+    ensures certificate { IfOk result (λ files.
+        option_map (λ file. file.now) files.certificate
+        ≡ first_value (found_of matches.now) (codes "cert")) }
+    ensures policy { IfOk result (λ files.
+        option_map (λ file. file.now) files.policy
+        ≡ first_value (found_of matches.now) (codes "policy")) }
+    ensures fact { IfOk result (λ files.
+        option_map (λ text. text.now) files.fact
+        ≡ first_value (found_of matches.now) (codes "fact")) }
+    ensures none { IfErr result (λ none. none ≡ NoCommand.Memory) }
+{
+    let system = system_files(alloc, matches)?;
+    Ok(GraphFiles {
+        system,
+        certificate: matches.get_str("cert"),
+        policy: matches.get_str("policy"),
+        fact: matches.get_str("fact"),
+    })
 }
 
 fn replay_files<'a>(alloc: Global, matches: &ArgMatches<'a>) -> Result<ReplayFiles<'a>, NoCommand>
@@ -546,14 +428,26 @@ fn live_files<'a>(alloc: Global, matches: &ArgMatches<'a>) -> Result<LiveFiles<'
 fn command_of<'a>(alloc: Global, matches: &ArgMatches<'a>) -> Result<Command<'a>, NoCommand>
     ensures none { IfErr result (λ none. none ≡ NoCommand.Memory) }
 {
+    if let Some(matches) = matches.subcommand_matches("verify") {
+        return Ok(Command::Verify(verify_files(alloc, matches)?));
+    }
+    if let Some(matches) = matches.subcommand_matches("mend") {
+        return Ok(Command::Mend(mend_files(alloc, matches)?));
+    }
     if let Some(matches) = matches.subcommand_matches("check") {
-        return Ok(Command::Check(check_files(alloc, matches)?));
+        return Ok(Command::Check(check_words(alloc, matches)?));
     }
     if let Some(matches) = matches.subcommand_matches("make") {
         return Ok(Command::Make(make_files(alloc, matches)?));
     }
     if let Some(matches) = matches.subcommand_matches("explain") {
         return Ok(Command::Explain(explain_files(alloc, matches)?));
+    }
+    if let Some(matches) = matches.subcommand_matches("facts") {
+        return Ok(Command::Facts(facts_files(alloc, matches)?));
+    }
+    if let Some(matches) = matches.subcommand_matches("graph") {
+        return Ok(Command::Graph(graph_files(alloc, matches)?));
     }
     if let Some(matches) = matches.subcommand_matches("replay") {
         return Ok(Command::Replay(replay_files(alloc, matches)?));

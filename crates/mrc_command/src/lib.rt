@@ -2,12 +2,14 @@
 #![tactic(auto)]
 
 mod command;
+mod help;
+mod options;
 mod told;
 mod words;
 
 pub use command::{
-    CheckFiles, Command, ExplainFiles, LiveFiles, MakeFiles, NoCommand, ReplayFiles, SystemFiles,
-    read,
+    CheckFiles, CheckWords, Command, ExplainFiles, FactsFiles, GraphFiles, LiveFiles, MakeFiles,
+    MendFiles, NoCommand, ReplayFiles, SystemFiles, VerifyFiles, read,
 };
 pub use told::{Told, fault_of, memory, said};
 pub use words::{WordsFault, words_line, words_of};

@@ -1,17 +1,22 @@
 -- What is told of a script's run with status 2, and what then goes to standard output.
 use Rattle.std.proofs.Common.{◌≡◌, ◌⊎◌, ℕ, List, [], Result, Ok, Err, inl, inr, string_bytes}
 use Rattle.std.proofs.Common.{subst, sym}
-use Rattle.std.specs.Prelude.{IfOk}
+use Rattle.std.specs.Prelude.{IfOk, Option, Some, None}
 use Rattle.mrc_wiring.specs.Table.{Table}
 use Rattle.mrc_wiring_text.specs.declared.reading.Line.{Line}
 use Rattle.mrc_report.specs.declared.script.TaskCall.{TaskCall}
 use Rattle.mrc_command.specs.Lines.{fault_line}
 use Rattle.mrc_command.specs.declared.told.Told.{Told}
 use Rattle.mrc_command.specs.declared.command.Command.{Command}
-use Rattle.mrc_command.specs.declared.command.Command.TheVariants.{Check, Make, Explain, Replay, Live}
+use Rattle.mrc_command.specs.declared.command.Command.TheVariants.{Verify, Mend, Check, Make}
+use Rattle.mrc_command.specs.declared.command.Command.TheVariants.{Explain, Facts, Graph, Replay}
+use Rattle.mrc_command.specs.declared.command.Command.TheVariants.{Live}
+use Rattle.mrc_command.specs.declared.command.SystemFiles.{SystemFiles}
 use Rattle.mrc_command.specs.declared.command.LiveFiles.{LiveFiles}
 use Rattle.mrc_files.specs.Files.{Held}
 use Rattle.mrc_program.specs.Commands.{FaultOf, HaltedOf}
+use Rattle.mrc_program.specs.Listed.{word_of, ToldBadIfGiven}
+use Rattle.mrc_program.specs.Verified.{FaultOfClaim}
 use Rattle.mrc_program.specs.Texts.{LiveTexts}
 use Rattle.mrc_program.specs.Told.{IsFaultOf, IsToldHalted, ToldHalted, ToldMemory, ToldOfScript}
 use Rattle.mrc_program.specs.Told.{ToldUnserved}
@@ -38,10 +43,55 @@ unserved_so files texts (Ok told) fault = λ two. elim (fault two) [
 ]
 unserved_so files texts (Err e) fault = tt
 
+-- a fault of a claim, and that a text names no fact, give nothing to standard output
+claim_silent : (held : Held) (files : SystemFiles) (policy : List ℕ) (told : Told)
+    → FaultOfClaim held files policy told
+    → string_bytes told.out ≡ []
+claim_silent held files policy told fault = elim fault [
+  | inl memory ↦ memory.out
+  | inr (inl unread) ↦ unread.out
+  | inr (inr texts) ↦ texts.tells.out
+]
+
+bad_silent : (text : Option (List ℕ)) (table : Table) (told : Told)
+    → ToldBadIfGiven text table told
+    → string_bytes told.out ≡ []
+bad_silent None table told bad = absurd bad
+bad_silent (Some text) table told bad = bad.out
+
 -- with a fault nothing goes to standard output, but for a journal after which no task can go on
 silent : (held : Held) (command : Command) (told : Told) → FaultOf held command told
     → (string_bytes told.out ≡ []) ⊎ HaltedOf held command told
-silent held (Check files) told fault = inl (elim fault [
+silent held (Verify files) told fault =
+    inl (claim_silent held files.system files.policy.now told fault)
+silent held (Mend files) told fault = inl (elim fault [
+  | inl claim ↦ claim_silent held files.system files.policy.now told claim
+  | inr most ↦ most.out
+])
+silent held (Facts files) told fault = inl (elim fault [
+  | inl memory ↦ memory.out
+  | inr (inl unread) ↦ unread.out
+  | inr (inr texts) ↦ elim texts.tells [
+    | inl none ↦ none.out
+    | inr (wiring) ↦ elim wiring.tells [
+      | inl draft ↦ draft.out
+      | inr word ↦ word.out
+    ]
+  ]
+])
+silent held (Graph files) told fault = inl (elim fault [
+  | inl memory ↦ memory.out
+  | inr (inl unread) ↦ unread.out
+  | inr (inr texts) ↦ elim texts.tells [
+    | inl none ↦ none.out
+    | inr wiring ↦ elim wiring.tells [
+      | inl policy ↦ policy.out
+      | inr (inl draft) ↦ draft.out
+      | inr (inr bad) ↦ bad_silent (word_of files.fact) wiring.table told bad
+    ]
+  ]
+])
+silent held (Check words) told fault = inl (elim fault [
   | inl memory ↦ memory.out
   | inr (inl unread) ↦ unread.out
   | inr (inr texts) ↦ texts.tells.out

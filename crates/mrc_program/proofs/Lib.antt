@@ -3,3 +3,5 @@ pub mod ScriptLaws
 pub mod ChainLaws
 mod MakeLaws
 pub mod HaltLaws
+mod GraphLaws
+mod VerifyLaws

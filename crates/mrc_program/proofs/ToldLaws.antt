@@ -1,7 +1,7 @@
 -- From the checker's answer, and what is told of it, to what the texts say.
 use Rattle.std.proofs.Common.{◌≡◌, ◌⊎◌, ℕ, List, [], Result, Ok, Err, inl, inr}
 use Rattle.std.proofs.Common.{string_bytes, arith, codes, map, subst, Vec, Global}
-use Rattle.std.specs.Prelude.{IfOk, IfErr, Option}
+use Rattle.std.specs.Prelude.{IfOk, IfErr, Option, Bool}
 use Rattle.std.specs.Io.KnownBytes.{Appends}
 use Rattle.mrc_base.specs.declared.memory.OrMemory.{OrMemory}
 use Rattle.mrc_base.specs.declared.memory.OrMemory.TheVariants.{Fault, Memory}
@@ -11,7 +11,8 @@ use Rattle.mrc_check.specs.declared.texts.TextsFault.TheVariants.{Certificate, C
 use Rattle.mrc_interface.specs.Reading.{refused_of}
 use Rattle.mrc_certificate.specs.Spelling.{content}
 use Rattle.mrc_check.specs.Verdict.{Case}
-use Rattle.mrc_check.specs.Texts.{InSystem, InDefs, InWiring, InPolicy, InCertificate, Tells, SayYes}
+use Rattle.mrc_check.specs.Texts.{InSystem, InDefs, InWiring, InPolicy, InCertificate, Tells}
+use Rattle.mrc_check.specs.Texts.{SayYes}
 use Rattle.mrc_command.specs.Lines.{fault_line}
 use Rattle.mrc_command.specs.declared.told.Told.{Told}
 use Rattle.mrc_command.specs.declared.command.CheckFiles.{CheckFiles}
@@ -20,69 +21,77 @@ use Rattle.mrc_files.specs.declared.streams.ReadFault.TheVariants.{ReadFailed, T
 use Rattle.mrc_files.specs.declared.streams.ReadFault.TheVariants.{Memory as NoMemory}
 use Rattle.mrc_command.specs.declared.command.LiveFiles.{LiveFiles}
 use Rattle.mrc_files.specs.Files.{Held, IsFirstUnread}
-use Rattle.mrc_program.specs.Texts.{CheckTexts, LiveTexts, AreAccepted, said_by}
+use Rattle.mrc_base.specs.Reading.{UnlessMemory}
+use Rattle.mrc_check.specs.declared.texts.SystemFault.{SystemFault}
+use Rattle.mrc_check.specs.Texts.{no_table_of}
+use Rattle.mrc_command.specs.declared.command.SystemFiles.{SystemFiles}
+use Rattle.mrc_program.specs.Texts.{CheckTexts, LiveTexts, SystemTexts, AreAccepted, said_by}
+use Rattle.mrc_program.specs.Texts.{wired_by}
 use Rattle.mrc_program.specs.Told.{status_of, out_of, IsError}
 use Rattle.mrc_program.specs.Told.{ToldMemory, ToldFault, ToldNo, ToldOfScript, UnreadTold}
-use Rattle.mrc_program.specs.Told.{ToldHalted, ToldUnread}
+use Rattle.mrc_program.specs.Told.{ToldHalted, ToldUnread, ToldNoSystem, IsFaultOf, system_file}
 use Rattle.mrc_command.specs.declared.command.Command.{Command}
 use Rattle.mrc_program.specs.Commands.{SomeCommand, WentOut}
 
 -- what is told of an answer, where there is memory for it
-pub record Verdict {E : Type 0} (files : CheckFiles) (answer : Result Case (OrMemory TextsFault))
-    (result : Result Told E) : Type 0 where
+pub record Verdict {E : Type 0} (verbose : Bool) (files : CheckFiles)
+    (answer : Result Case (OrMemory TextsFault)) (result : Result Told E) : Type 0 where
   pub status : IfOk result (λ told. told.status ≡ status_of answer)
   pub out : IfOk result (λ told. string_bytes told.out ≡ out_of answer)
-  pub err : IfOk result (λ told. IsError files answer (string_bytes told.err))
+  pub err : IfOk result (λ told. IsError verbose files answer (string_bytes told.err))
 
-fault_of : {E : Type 0} (files : CheckFiles) (texts : CheckTexts)
+fault_of : {E : Type 0} (verbose : Bool) (files : CheckFiles) (texts : CheckTexts)
     (answer : Result Case (OrMemory TextsFault)) (told : Told)
-    → Verdict {E = E} files answer (Ok told) → Tells answer (said_by texts) → told.status ≡ 2
+    → Verdict {E = E} verbose files answer (Ok told) → Tells answer (said_by texts)
+    → told.status ≡ 2
     → ToldMemory told ⊎ ToldFault files texts told
-fault_of files texts (Ok case) told v says two =
+fault_of verbose files texts (Ok case) told v says two =
     let zero_is : told.status ≡ 0 = v.status in absurd (omega arith)
-fault_of files texts (Err Memory) told v says two =
+fault_of verbose files texts (Err Memory) told v says two =
     inl record { status = two; out = v.out; err = v.err }
-fault_of files texts (Err (Fault (Defs f))) told v says two =
+fault_of verbose files texts (Err (Fault (Defs f))) told v says two =
     inr record {
       fault = InSystem (InDefs (refused_of f));
       says = says;
       out = v.out;
       err = v.err;
     }
-fault_of files texts (Err (Fault (Wiring f))) told v says two =
+fault_of verbose files texts (Err (Fault (Wiring f))) told v says two =
     inr record { fault = InSystem (InWiring f); says = says; out = v.out; err = v.err }
-fault_of files texts (Err (Fault (Policy f))) told v says two =
+fault_of verbose files texts (Err (Fault (Policy f))) told v says two =
     inr record { fault = InPolicy f; says = says; out = v.out; err = v.err }
-fault_of files texts (Err (Fault (Certificate f))) told v says two =
+fault_of verbose files texts (Err (Fault (Certificate f))) told v says two =
     inr record { fault = InCertificate f; says = says; out = v.out; err = v.err }
-fault_of files texts (Err (Fault (Check r))) told v says two =
+fault_of verbose files texts (Err (Fault (Check r))) told v says two =
     let one_is : told.status ≡ 1 = v.status in absurd (omega arith)
 
 -- status 2 tells want of memory or a fault of the texts
-pub fault_told : {E : Type 0} (files : CheckFiles) (texts : CheckTexts)
+pub fault_told : {E : Type 0} (verbose : Bool) (files : CheckFiles) (texts : CheckTexts)
     (answer : Result Case (OrMemory TextsFault)) (result : Result Told E)
-    → Verdict files answer result → Tells answer (said_by texts)
+    → Verdict verbose files answer result → Tells answer (said_by texts)
     → IfOk result (λ told. told.status ≡ 2 → ToldMemory told ⊎ ToldFault files texts told)
-fault_told files texts answer (Ok told) v says = fault_of files texts answer told v says
-fault_told files texts answer (Err e) v says = tt
+fault_told verbose files texts answer (Ok told) v says =
+    fault_of verbose files texts answer told v says
+fault_told verbose files texts answer (Err e) v says = tt
 
-no_of : {E : Type 0} (files : CheckFiles) (texts : CheckTexts)
+no_of : {E : Type 0} (verbose : Bool) (files : CheckFiles) (texts : CheckTexts)
     (answer : Result Case (OrMemory TextsFault)) (told : Told)
-    → Verdict {E = E} files answer (Ok told) → Tells answer (said_by texts) → told.status ≡ 1
-    → ToldNo texts told
-no_of files texts (Ok case) told v says one =
+    → Verdict {E = E} verbose files answer (Ok told) → Tells answer (said_by texts)
+    → told.status ≡ 1
+    → ToldNo verbose texts told
+no_of verbose files texts (Ok case) told v says one =
     let zero_is : told.status ≡ 0 = v.status in absurd (omega arith)
-no_of files texts (Err Memory) told v says one =
+no_of verbose files texts (Err Memory) told v says one =
     let two_is : told.status ≡ 2 = v.status in absurd (omega arith)
-no_of files texts (Err (Fault (Defs f))) told v says one =
+no_of verbose files texts (Err (Fault (Defs f))) told v says one =
     let two_is : told.status ≡ 2 = v.status in absurd (omega arith)
-no_of files texts (Err (Fault (Wiring f))) told v says one =
+no_of verbose files texts (Err (Fault (Wiring f))) told v says one =
     let two_is : told.status ≡ 2 = v.status in absurd (omega arith)
-no_of files texts (Err (Fault (Policy f))) told v says one =
+no_of verbose files texts (Err (Fault (Policy f))) told v says one =
     let two_is : told.status ≡ 2 = v.status in absurd (omega arith)
-no_of files texts (Err (Fault (Certificate f))) told v says one =
+no_of verbose files texts (Err (Fault (Certificate f))) told v says one =
     let two_is : told.status ≡ 2 = v.status in absurd (omega arith)
-no_of files texts (Err (Fault (Check r))) told v says one = record {
+no_of verbose files texts (Err (Fault (Check r))) told v says one = record {
   case = record { claim = r.claim; draft = content r.draft };
   says = says.0;
   why = r.why;
@@ -92,12 +101,12 @@ no_of files texts (Err (Fault (Check r))) told v says one = record {
 }
 
 -- status 1 tells the checker's reason
-pub no_told : {E : Type 0} (files : CheckFiles) (texts : CheckTexts)
+pub no_told : {E : Type 0} (verbose : Bool) (files : CheckFiles) (texts : CheckTexts)
     (answer : Result Case (OrMemory TextsFault)) (result : Result Told E)
-    → Verdict files answer result → Tells answer (said_by texts)
-    → IfOk result (λ told. told.status ≡ 1 → ToldNo texts told)
-no_told files texts answer (Ok told) v says = no_of files texts answer told v says
-no_told files texts answer (Err e) v says = tt
+    → Verdict verbose files answer result → Tells answer (said_by texts)
+    → IfOk result (λ told. told.status ≡ 1 → ToldNo verbose texts told)
+no_told verbose files texts answer (Ok told) v says = no_of verbose files texts answer told v says
+no_told verbose files texts answer (Err e) v says = tt
 
 -- a fault of a script, beside texts that are accepted
 pub of_script : {E : Type 0} (files : LiveFiles) (texts : LiveTexts) (case : Case)
@@ -117,14 +126,15 @@ of_script files texts case fault (Ok told) accepted out err =
 of_script files texts case fault (Err e) accepted out err = tt
 
 -- an answer that is a yes or want of memory is told as such
-pub only_told : {E : Type 0} (files : CheckFiles) (answer : Result Case (OrMemory TextsFault))
-    (result : Result Told E)
-    → Verdict files answer result → IfErr answer (λ refusal. refusal ≡ Memory)
+pub only_told : {E : Type 0} (verbose : Bool) (files : CheckFiles)
+    (answer : Result Case (OrMemory TextsFault)) (result : Result Told E)
+    → Verdict verbose files answer result → IfErr answer (λ refusal. refusal ≡ Memory)
     → IfOk result (λ told. (told.status ≡ 0) ⊎ ToldMemory told)
-only_told files (Ok case) (Ok told) v memory = inl v.status
-only_told files (Err Memory) (Ok told) v memory = inr record { status = v.status; out = v.out; err = v.err }
-only_told files (Err (Fault f)) (Ok told) v memory = cc
-only_told files answer (Err e) v memory = tt
+only_told verbose files (Ok case) (Ok told) v memory = inl v.status
+only_told verbose files (Err Memory) (Ok told) v memory =
+    inr record { status = v.status; out = v.out; err = v.err }
+only_told verbose files (Err (Fault f)) (Ok told) v memory = cc
+only_told verbose files answer (Err e) v memory = tt
 
 -- what is told of the first file that can't be read: it is named, unless memory ran out
 pub unread_told : (held : Held) (files : List (List ℕ)) (file : List ℕ) (fault : ReadFault)
@@ -171,7 +181,30 @@ pub accepted_by_parts : (texts : CheckTexts) (case : Case) (defs : List (Vec ℕ
     → SayYes (map (λ (text : Vec ℕ Global). text.items) defs) wiring policy certificate case
 accepted_by_parts texts case defs wiring policy certificate d w p c says =
     let items = map (λ (text : Vec ℕ Global). text.items) defs in
-    let one = subst (λ x. SayYes x texts.system.wiring texts.policy texts.certificate case) d says in
+    let one =
+    subst (λ x. SayYes x texts.system.wiring texts.policy texts.certificate case) d says in
     let two = subst (λ x. SayYes items x texts.policy texts.certificate case) w one in
     let three = subst (λ x. SayYes items wiring x texts.certificate case) p two in
     subst (λ x. SayYes items wiring policy x case) c three
+
+-- that texts mean no wiring, beside whatever else may be told
+pub no_system_told : {E : Type 0} (files : SystemFiles) (texts : SystemTexts)
+    (refusal : OrMemory SystemFault) (fault shown : SystemFault) (result : Result Told E)
+    (Other : Told → Type 0)
+    → refusal ≡ Fault fault
+    → shown ≡ fault
+    → UnlessMemory (λ f. wired_by texts ≡ Err (no_table_of f)) refusal
+    → IfOk result (λ told. string_bytes told.out ≡ [])
+    → IfOk result (λ told.
+    IsFaultOf (system_file files (no_table_of shown)) (string_bytes told.err))
+    → IfOk result (λ told. told.status ≡ 2
+    → ToldMemory told ⊎ (ToldNoSystem files texts told ⊎ Other told))
+no_system_told files texts refusal fault shown (Ok told) Other is told_is says out err =
+    λ two. inr (inl (record {
+      fault = no_table_of fault;
+      says = subst (UnlessMemory (λ f. wired_by texts ≡ Err (no_table_of f))) is says;
+      out = out;
+      err = subst
+          (λ f. IsFaultOf (system_file files (no_table_of f)) (string_bytes told.err)) told_is err;
+    }))
+no_system_told files texts refusal fault shown (Err e) Other is told_is says out err = tt

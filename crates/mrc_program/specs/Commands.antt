@@ -4,59 +4,91 @@ use Rattle.std.specs.Prelude.{List, ℕ, Option, string_bytes}
 use Rattle.std.specs.Io.KnownBytes.{Appends}
 use Rattle.mrc_command.specs.declared.told.Told.{Told}
 use Rattle.mrc_command.specs.declared.command.Command.{Command}
-use Rattle.mrc_command.specs.declared.command.Command.TheVariants.{Check, Make, Explain, Replay, Live}
+use Rattle.mrc_command.specs.declared.command.Command.TheVariants.{Verify, Mend, Check, Make}
+use Rattle.mrc_command.specs.declared.command.Command.TheVariants.{Explain, Facts, Graph, Replay}
+use Rattle.mrc_command.specs.declared.command.Command.TheVariants.{Live}
 use Rattle.mrc_files.specs.Files.{Held}
 use Rattle.mrc_program.specs.Told.{YesOfFiles, NoOfFiles, FaultOfFiles, MadeOfFiles, FaultOfMake}
 use Rattle.mrc_program.specs.Told.{CutOfFiles}
 use Rattle.mrc_program.specs.Told.{ReplayOfFiles, FaultOfReplay, LiveOfFiles, NoOfLive, FaultOfLive}
 use Rattle.mrc_program.specs.Told.{HaltedOfFiles}
 use Rattle.mrc_program.specs.Explained.{ChainOfFiles, NoneOfFiles, FaultOfExplain}
+use Rattle.mrc_program.specs.Listed.{FactsOfFiles, OtherOfFiles, FaultOfFacts}
+use Rattle.mrc_program.specs.Listed.{GraphOfFiles, UndrawnOfFiles, FaultOfGraph}
+use Rattle.mrc_program.specs.Verified.{AllowedOfFiles, BrokenOfFiles, FaultOfVerify}
+use Rattle.mrc_program.specs.Verified.{MendsOfFiles, FaultOfMend}
 
--- with status 0: a yes, the making of a certificate, a chain, a replay or a journal
+-- with status 0: a yes, mends, the making of a certificate, a chain, facts, a drawing, a replay or
+-- a journal
 abbrev pub DoneOf : Held → Held → Command → Told → Type 0
-DoneOf before after (Check files) told = YesOfFiles before files told
+DoneOf before after (Verify files) told = AllowedOfFiles before files told
+DoneOf before after (Mend files) told = MendsOfFiles before files told
+DoneOf before after (Check words) told = YesOfFiles before words.files told
 DoneOf before after (Make files) told = MadeOfFiles before after files told
 DoneOf before after (Explain files) told = ChainOfFiles before files told
+DoneOf before after (Facts files) told = FactsOfFiles before files told
+DoneOf before after (Graph files) told = GraphOfFiles before files told
 DoneOf before after (Replay files) told = ReplayOfFiles before files told
 DoneOf before after (Live files) told = LiveOfFiles before files told
 
--- with status 1: a no, or that no chain leads to a fact; never of a `make` or a `replay`
+-- with status 1: a no, that no chain leads to a fact, or that no mend was found; never of a `make`
+-- or a `replay`
 abbrev pub NoOf : Held → Command → Told → Type 0
-NoOf held (Check files) told = NoOfFiles held files told
+NoOf held (Verify files) told = BrokenOfFiles held files told
+NoOf held (Mend files) told = MendsOfFiles held files told
+NoOf held (Check words) told = NoOfFiles held words told
 NoOf held (Make files) told = ⊥
 NoOf held (Explain files) told = NoneOfFiles held files told
+NoOf held (Facts files) told = OtherOfFiles held files told
+NoOf held (Graph files) told = UndrawnOfFiles held files told
 NoOf held (Replay files) told = ⊥
 NoOf held (Live files) told = NoOfLive held files told
 
 -- with status 2: why it is told
 abbrev pub FaultOf : Held → Command → Told → Type 0
-FaultOf held (Check files) told = FaultOfFiles held files told
+FaultOf held (Verify files) told = FaultOfVerify held files told
+FaultOf held (Mend files) told = FaultOfMend held files told
+FaultOf held (Check words) told = FaultOfFiles held words.files told
 FaultOf held (Make files) told = FaultOfMake held files told
 FaultOf held (Explain files) told = FaultOfExplain held files told
+FaultOf held (Facts files) told = FaultOfFacts held files told
+FaultOf held (Graph files) told = FaultOfGraph held files told
 FaultOf held (Replay files) told = FaultOfReplay held files told
 FaultOf held (Live files) told = FaultOfLive held files told
 
 -- with status 2: so many bytes of a certificate were written, and these the file has
 abbrev pub CutOf : Held → Held → Command → Told → Type 0
-CutOf before after (Check files) told = ⊥
+CutOf before after (Verify files) told = ⊥
+CutOf before after (Mend files) told = ⊥
+CutOf before after (Check words) told = ⊥
 CutOf before after (Make files) told = CutOfFiles before after files told
 CutOf before after (Explain files) told = ⊥
+CutOf before after (Facts files) told = ⊥
+CutOf before after (Graph files) told = ⊥
 CutOf before after (Replay files) told = ⊥
 CutOf before after (Live files) told = ⊥
 
 -- with status 2 and a text on standard output: that no task of a `live` can go on
 abbrev pub HaltedOf : Held → Command → Told → Type 0
-HaltedOf held (Check files) told = ⊥
+HaltedOf held (Verify files) told = ⊥
+HaltedOf held (Mend files) told = ⊥
+HaltedOf held (Check words) told = ⊥
 HaltedOf held (Make files) told = ⊥
 HaltedOf held (Explain files) told = ⊥
+HaltedOf held (Facts files) told = ⊥
+HaltedOf held (Graph files) told = ⊥
 HaltedOf held (Replay files) told = ⊥
 HaltedOf held (Live files) told = HaltedOfFiles held files told
 
 -- the command that may change a file
 abbrev pub IsMake : Command → Type 0
-IsMake (Check files) = ⊥
+IsMake (Verify files) = ⊥
+IsMake (Mend files) = ⊥
+IsMake (Check words) = ⊥
 IsMake (Make files) = Unit {0}
 IsMake (Explain files) = ⊥
+IsMake (Facts files) = ⊥
+IsMake (Graph files) = ⊥
 IsMake (Replay files) = ⊥
 IsMake (Live files) = ⊥
 

@@ -1,7 +1,7 @@
 -- What the program tells of a fact: the chain that derives it, or that there is none. This
 -- profile's own choice.
 use Rattle.std.specs.Prelude.{◌≡◌, ◌⊎◌, ℕ, ◌+◌, List, [], ◌∷◌, ◌++◌, Ok, codes, decimal, ◌==◌}
-use Rattle.std.specs.Prelude.{string_bytes, if◌then◌else◌}
+use Rattle.std.specs.Prelude.{string_bytes, if◌then◌else◌, Bool, true, false}
 use Rattle.mrc_base.specs.declared.Fact.{Fact}
 use Rattle.mrc_model.specs.Rules.{InRange, Least}
 use Rattle.mrc_wiring.specs.Table.{Table, wiring_of}
@@ -10,6 +10,12 @@ use Rattle.mrc_closure.specs.declared.chains.Places.{Places}
 use Rattle.mrc_closure.specs.declared.chains.Places.TheVariants.{Empty, One, Two}
 use Rattle.mrc_closure.specs.declared.chains.Step.{Step}
 use Rattle.mrc_closure.specs.Chains.{IsChain}
+use Rattle.mrc_wiring_text.specs.declared.reading.Line.{Line}
+use Rattle.mrc_wiring_text.specs.declared.wiring.WiringSays.{WiringSays}
+use Rattle.mrc_wiring_text.specs.Texts.{IsWiring}
+use Rattle.mrc_why.specs.declared.printing.Layout.TheVariants.{Flat}
+use Rattle.mrc_why.specs.Lines.{Numbered, first_numbers}
+use Rattle.mrc_why.specs.Texts.{IsChainText}
 use Rattle.mrc_words.specs.Words.{◌␣◌, fact_text}
 use Rattle.mrc_command.specs.Lines.{fault_line}
 use Rattle.mrc_command.specs.declared.told.Told.{Told}
@@ -42,13 +48,31 @@ pub record IsNamed (table : Table) (text : List ℕ) (fact : Fact) : Type 0 wher
   pub in_range : InRange (wiring_of table) fact
   pub is : fact_text table fact ≡ text
 
+-- the table of a wiring, with the numbers of those of these lines that make its first state
+abbrev pub numbered_by : Table → List (Line WiringSays) → Numbered
+numbered_by table lines = record { table = table; numbers = first_numbers lines }
+
+-- the text tells a chain, and what its steps come from in the wiring of these bytes
+pub record IsChainBy (wiring : List ℕ) (table : Table) (chain : List Step) (text : List ℕ)
+    : Type 0 where
+  pub lines : List (Line WiringSays)
+  pub is_wiring : IsWiring wiring lines
+  pub is : IsChainText Flat [] (numbered_by table lines) chain text
+
+-- the text tells a chain over the wiring of these bytes: where it is asked for, with what the steps
+-- come from
+abbrev pub IsToldChain : Bool → (wiring : List ℕ) → Table → List Step → List ℕ → Type 0
+IsToldChain false wiring table chain text = text ≡ lines_from table 0 chain
+IsToldChain true wiring table chain text = IsChainBy wiring table chain text
+
 -- a chain is told that derives the fact of the text
-pub record ToldChain (text : List ℕ) (table : Table) (told : Told) : Type 0 where
+pub record ToldChain (by : Bool) (wiring text : List ℕ) (table : Table) (told : Told)
+    : Type 0 where
   pub fact : Fact
   pub named : IsNamed table text fact
   pub chain : List Step
   pub derives : IsChain (wiring_of table) fact chain
-  pub out : string_bytes told.out ≡ lines_from table 0 chain
+  pub out : IsToldChain by wiring table chain (string_bytes told.out)
   pub err : string_bytes told.err ≡ []
 
 -- it is told that there is none, and the fact of the text is not in every closed set
@@ -75,7 +99,9 @@ pub record OfWiring (Tells : Table → Told → Type 0) (texts : SystemTexts) (t
 -- a chain is told of what the files hold
 abbrev pub ChainOfFiles : Held → ExplainFiles → Told → Type 0
 ChainOfFiles held files told =
-    OfFiles system_list (OfWiring (ToldChain files.fact.now)) held (system_names files.system) told
+    OfFiles system_list
+    (λ texts. OfWiring (ToldChain files.by texts.wiring files.fact.now) texts) held
+    (system_names files.system) told
 
 -- it is told of what the files hold that there is no chain
 abbrev pub NoneOfFiles : Held → ExplainFiles → Told → Type 0

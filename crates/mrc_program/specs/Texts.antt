@@ -1,6 +1,7 @@
 -- The texts that are judged together: those of MIG files and of a wiring, with those of a policy
 -- and a certificate, or with that of a script. This profile's own choice.
 use Rattle.std.specs.Prelude.{◌≡◌, ℕ, Bool, false, List, [], ◌∷◌, ◌++◌, Result, Ok, Err}
+use Rattle.std.specs.Prelude.{Option, Some, None}
 use Rattle.mrc_base.specs.declared.memory.OrMemory.{OrMemory}
 use Rattle.mrc_base.specs.Reading.{◌>>=◌, UnlessMemory}
 use Rattle.mrc_wiring_text.specs.declared.faults.TextFault.{TextFault}
@@ -8,6 +9,8 @@ use Rattle.mrc_wiring_text.specs.declared.reading.Line.{Line}
 use Rattle.mrc_wiring_text.specs.Reading.{utf8_text}
 use Rattle.mrc_interface.specs.Reading.{step}
 use Rattle.mrc_wiring.specs.Table.{Table}
+use Rattle.mrc_wiring.specs.Claims.{Claimed}
+use Rattle.mrc_mend.specs.Judging.{claimed_of}
 use Rattle.mrc_check.specs.Verdict.{Case}
 use Rattle.mrc_check.specs.Texts.{SayYes, NoSystem, Meaningless, case_of, table_of, no_table_of}
 use Rattle.mrc_report.specs.declared.script.TaskCall.{TaskCall}
@@ -47,6 +50,44 @@ AreAccepted texts case =
 -- what they say, or the first that has no meaning
 abbrev pub said_by : CheckTexts → Result Case Meaningless
 said_by texts = case_of texts.system.defs texts.system.wiring texts.policy texts.certificate
+
+-- with those of a system the bytes of a policy
+pub record PolicyTexts : Type 0 where
+  pub system : SystemTexts
+  pub policy : List ℕ
+
+-- one after the other
+abbrev pub policy_list : PolicyTexts → List (List ℕ)
+policy_list texts = system_list texts.system ++ texts.policy ∷ []
+
+-- what a policy forbids in the wiring that they mean, or the first that has no meaning
+abbrev pub claimed : PolicyTexts → Result Claimed Meaningless
+claimed texts = claimed_of texts.system.defs texts.system.wiring texts.policy
+
+-- a text that may be given
+abbrev pub text_if_given : Option (List ℕ) → List (List ℕ)
+text_if_given None = []
+text_if_given (Some text) = text ∷ []
+
+-- with those of a system the bytes of a certificate, where one is named
+pub record FactsTexts : Type 0 where
+  pub system : SystemTexts
+  pub certificate : Option (List ℕ)
+
+-- one after the other
+abbrev pub facts_list : FactsTexts → List (List ℕ)
+facts_list texts = system_list texts.system ++ text_if_given texts.certificate
+
+-- with those of a system the bytes of a policy and of a certificate, where they are named
+pub record GraphTexts : Type 0 where
+  pub system : SystemTexts
+  pub policy : Option (List ℕ)
+  pub certificate : Option (List ℕ)
+
+-- one after the other
+abbrev pub graph_list : GraphTexts → List (List ℕ)
+graph_list texts =
+    system_list texts.system ++ (text_if_given texts.policy ++ text_if_given texts.certificate)
 
 -- the bytes of MIG files and of a wiring, and those of a script
 pub record ReplayTexts : Type 0 where

@@ -1,7 +1,8 @@
 -- What the program tells of an answer of the checker, of a certificate that it makes, and of a
 -- replay: the status, and the texts on standard output and on standard error. This profile's own
 -- choice.
-use Rattle.std.specs.Prelude.{◌≡◌, ◌⊎◌, ◌<◌, ℕ, true, List, [], ◌++◌, Result, Ok, Err}
+use Rattle.std.specs.Prelude.{◌≡◌, ◌⊎◌, ◌<◌, ℕ, Bool, true, false, List, [], ◌++◌, Result, Ok}
+use Rattle.std.specs.Prelude.{Err}
 use Rattle.std.specs.Prelude.{codes, decimal, IfOk, IsOkAnd}
 use Rattle.std.specs.declared.alloc.AllocError.{AllocError}
 use Rattle.std.specs.Prelude.{string_bytes, get_or, length, take}
@@ -28,6 +29,7 @@ use Rattle.mrc_command.specs.Lines.{memory_line, fault_line}
 use Rattle.mrc_command.specs.declared.told.Told.{Told}
 use Rattle.mrc_command.specs.declared.command.SystemFiles.{SystemFiles}
 use Rattle.mrc_command.specs.declared.command.CheckFiles.{CheckFiles}
+use Rattle.mrc_command.specs.declared.command.CheckWords.{CheckWords}
 use Rattle.mrc_command.specs.declared.command.MakeFiles.{MakeFiles}
 use Rattle.mrc_command.specs.declared.command.LiveFiles.{LiveFiles}
 use Rattle.mrc_command.specs.declared.command.ReplayFiles.{ReplayFiles}
@@ -70,6 +72,20 @@ why_line table (NotClosed rule fact) =
     codes "NO not closed K" ++ (decimal (rule_number rule) ␣ fact_text table fact ++ codes "\n")
 why_line table (Forbidden number) = codes "NO forbidden line " ++ (decimal number ++ codes "\n")
 
+-- the line that tells it
+abbrev pub stale_line : List ℕ
+stale_line =
+    codes "machcheck: this certificate is not of this wiring: make it anew, or use verify\n"
+
+-- what is told besides where more is asked for: that the certificate is of another wiring, where it
+-- has not its numbers or lacks what is held at first
+abbrev pub stale_note : Bool → Why → List ℕ
+stale_note false why = []
+stale_note true Counts = stale_line
+stale_note true (MissingFirst fact) = stale_line
+stale_note true (NotClosed rule fact) = []
+stale_note true (Forbidden number) = []
+
 -- what an answer gives to standard output
 abbrev pub out_of : Result Case (OrMemory TextsFault) → List ℕ
 out_of (Ok case) = codes "YES\n"
@@ -89,14 +105,15 @@ abbrev pub defs_name : SystemFiles → ℕ → List ℕ
 defs_name files n = get_or (defs_names files) n []
 
 -- the text is what an answer gives to standard error
-abbrev pub IsError : CheckFiles → Result Case (OrMemory TextsFault) → List ℕ → Type 0
-IsError files (Ok case) text = text ≡ []
-IsError files (Err (Fault (Check refused))) text = text ≡ []
-IsError files (Err (Fault (Defs fault))) text = IsFaultOf (defs_name files.system fault.file) text
-IsError files (Err (Fault (Wiring fault))) text = IsFaultOf files.system.wiring.now text
-IsError files (Err (Fault (Policy fault))) text = IsFaultOf files.policy.now text
-IsError files (Err (Fault (Certificate fault))) text = IsFaultOf files.certificate.now text
-IsError files (Err Memory) text = text ≡ memory_line
+abbrev pub IsError : Bool → CheckFiles → Result Case (OrMemory TextsFault) → List ℕ → Type 0
+IsError verbose files (Ok case) text = text ≡ []
+IsError verbose files (Err (Fault (Check refused))) text = text ≡ stale_note verbose refused.why
+IsError verbose files (Err (Fault (Defs fault))) text =
+    IsFaultOf (defs_name files.system fault.file) text
+IsError verbose files (Err (Fault (Wiring fault))) text = IsFaultOf files.system.wiring.now text
+IsError verbose files (Err (Fault (Policy fault))) text = IsFaultOf files.policy.now text
+IsError verbose files (Err (Fault (Certificate fault))) text = IsFaultOf files.certificate.now text
+IsError verbose files (Err Memory) text = text ≡ memory_line
 
 -- it is told that memory ran out
 pub record ToldMemory (told : Told) : Type 0 where
@@ -135,13 +152,13 @@ pub record ToldYes (texts : CheckTexts) (told : Told) : Type 0 where
 
 -- `NO` is told of texts, and it is right: each of them has a meaning, together they are a case for
 -- the checker, and the reason that is told is the one by which the checker refuses the case
-pub record ToldNo (texts : CheckTexts) (told : Told) : Type 0 where
+pub record ToldNo (verbose : Bool) (texts : CheckTexts) (told : Told) : Type 0 where
   pub case : Case
   pub says : said_by texts ≡ Ok case
   pub why : Why
   pub is_why : IsWhy case.claim case.draft why
   pub out : string_bytes told.out ≡ why_line case.claim.table why
-  pub err : string_bytes told.err ≡ []
+  pub err : string_bytes told.err ≡ stale_note verbose why
 
 -- the file of a MIG text or a wiring that has no meaning
 abbrev pub system_file : SystemFiles → NoSystem → List ℕ
@@ -167,8 +184,9 @@ abbrev pub YesOfFiles : Held → CheckFiles → Told → Type 0
 YesOfFiles held files told = OfFiles check_list ToldYes held (check_names files) told
 
 -- `NO` is told of what the files hold
-abbrev pub NoOfFiles : Held → CheckFiles → Told → Type 0
-NoOfFiles held files told = OfFiles check_list ToldNo held (check_names files) told
+abbrev pub NoOfFiles : Held → CheckWords → Told → Type 0
+NoOfFiles held words told =
+    OfFiles check_list (ToldNo words.verbose) held (check_names words.files) told
 
 -- why status 2 is told of files: memory ran out, a file can't be read, or a text has no meaning
 abbrev pub FaultOfFiles : Held → CheckFiles → Told → Type 0
@@ -363,7 +381,7 @@ LiveOfFiles held files told = OfFiles live_list ToldLive held (live_names files)
 -- `NO` is told of what the files of a `live` hold
 abbrev pub NoOfLive : Held → LiveFiles → Told → Type 0
 NoOfLive held files told =
-    OfFiles live_list (λ texts. ToldNo texts.check) held (live_names files) told
+    OfFiles live_list (λ texts. ToldNo false texts.check) held (live_names files) told
 
 -- that no task can go on is told of what the files hold
 abbrev pub HaltedOfFiles : Held → LiveFiles → Told → Type 0

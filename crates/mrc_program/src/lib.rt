@@ -3,13 +3,20 @@
 #![tactic(auto)]
 
 mod explain;
+mod facts;
+mod given;
+mod graph;
+mod lines;
 mod live;
 mod make;
+mod mend;
+mod policy;
 mod replay;
 pub mod run;
 mod script;
 mod system;
 mod tell;
 mod told;
+mod verify;
 
 pub use run::start;

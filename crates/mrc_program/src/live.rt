@@ -1,6 +1,6 @@
 //! What the program tells of a certificate and of a script whose tasks run as threads.
 
-ghost use Rattle.std.specs.Prelude.{◌≡◌, ◌≤◌, ◌⊎◌, [], IfOk, IfErr, string_bytes};
+ghost use Rattle.std.specs.Prelude.{false, ◌≡◌, ◌≤◌, ◌⊎◌, [], IfOk, IfErr, string_bytes};
 ghost use Rattle.mrc_report.specs.Journal.{IsLive};
 ghost use Rattle.mrc_report.specs.Printing.{waits_text};
 ghost use Rattle.mrc_report.specs.Served.{IsServed};
@@ -166,11 +166,11 @@ fn refused_told(
     requires refused { IfOk answer.now (λ _. ⊥) }
     requires told { Tells answer.now (said_by bytes.now) }
     ensures status { IfOk result (λ told. (told.status ≡ 1) ⊎ (told.status ≡ 2)) }
-    ensures no { IfOk result (λ told. told.status ≡ 1 → ToldNo bytes.now told) }
+    ensures no { IfOk result (λ told. told.status ≡ 1 → ToldNo false bytes.now told) }
     ensures fault { IfOk result (λ told. told.status ≡ 2
         → ToldMemory told ⊎ ToldFault files.now bytes.now told) }
 {
-    verdict(alloc, files, bytes.system.wiring.as_slice(), answer)
+    verdict(alloc, files, false, bytes.system.wiring.as_slice(), answer)
 }
 
 /// What is told of the bytes of the files.
@@ -184,7 +184,7 @@ fn live_told<R: Threads + Wait + Sync>(
     // A journal is right.
     ensures live { IfOk result (λ told. told.status ≡ 0 → ToldLive bytes.now told) }
     // A no is right, and its reason is told.
-    ensures no { IfOk result (λ told. told.status ≡ 1 → ToldNo bytes.now.check told) }
+    ensures no { IfOk result (λ told. told.status ≡ 1 → ToldNo false bytes.now.check told) }
     // A fault is one of the first file that has one, unless memory ran out.
     ensures fault { IfOk result (λ told. told.status ≡ 2
         → ToldMemory told ⊎ ToldUnserved files.now bytes.now told) }

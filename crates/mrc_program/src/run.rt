@@ -17,15 +17,21 @@ ghost use Rattle.mrc_program.specs.Commands.{WentOut};
 ghost use Rattle.mrc_command.specs.CommandLine.{AsksHelp};
 
 use crate::explain::explain_files;
+use crate::facts::facts_files;
+use crate::graph::graph_files;
 use crate::live::live_files;
 use crate::make::make_files;
+use crate::mend::mend_files;
 use crate::replay::replay_files;
 use crate::system::{SystemBytes, system_bytes};
 use crate::tell::verdict;
 use crate::told::unread_told;
+use crate::verify::verify_files;
 use mrc_base::OrMemory;
 use mrc_check::{Confined, TextsFault, check_texts};
-use mrc_command::{CheckFiles, Command, NoCommand, Told, WordsFault, memory, read, words_line};
+use mrc_command::{
+    CheckFiles, CheckWords, Command, NoCommand, Told, WordsFault, memory, read, words_line,
+};
 use mrc_files::{Folder, ReadFault, Unread, bytes_of, write_text};
 use std::alloc::{AllocError, Global};
 use std::io::Write;
@@ -104,6 +110,7 @@ fn told_of<R: Threads + Sync>(
     rt: &R,
     alloc: Global,
     files: &CheckFiles<'_>,
+    verbose: bool,
     bytes: &CheckBytes,
 ) -> Result<Told, AllocError>
     ensures status { IfOk result (λ told. told.status ≤ 2) }
@@ -113,13 +120,19 @@ fn told_of<R: Threads + Sync>(
     ensures only { (case : Case) → AreAccepted bytes.now case
         → IfOk result (λ told. (told.status ≡ 0) ⊎ ToldMemory told) }
     // A no is right, and its reason is told.
-    ensures no { IfOk result (λ told. told.status ≡ 1 → ToldNo bytes.now told) }
+    ensures no { IfOk result (λ told. told.status ≡ 1 → ToldNo verbose bytes.now told) }
     // A fault is one of the first file that has one, unless memory ran out.
     ensures fault { IfOk result (λ told. told.status ≡ 2
         → ToldMemory told ⊎ ToldFault files.now bytes.now told) }
 {
     let answer = answer_of(rt, alloc, bytes);
-    verdict(alloc, files, bytes.system.wiring.as_slice(), &answer)
+    verdict(
+        alloc,
+        files,
+        verbose,
+        bytes.system.wiring.as_slice(),
+        &answer,
+    )
 }
 
 /// What is told of the files of a `check`.
@@ -127,19 +140,20 @@ fn check_files<F: Folder, R: Threads + Sync>(
     rt: &R,
     folder: &F,
     alloc: Global,
-    files: &CheckFiles<'_>,
+    words: &CheckWords<'_>,
 ) -> Result<Told, AllocError>
     ensures status { IfOk result (λ told. told.status ≤ 2) }
     // A yes or a no is right of what the files hold, so far as that is known.
     ensures yes { IfOk result (λ told. told.status ≡ 0
-        → YesOfFiles (F.held folder.now) files.now told) }
+        → YesOfFiles (F.held folder.now) words.now.files told) }
     ensures no { IfOk result (λ told. told.status ≡ 1
-        → NoOfFiles (F.held folder.now) files.now told) }
+        → NoOfFiles (F.held folder.now) words.now told) }
     ensures fault { IfOk result (λ told. told.status ≡ 2
-        → FaultOfFiles (F.held folder.now) files.now told) }
+        → FaultOfFiles (F.held folder.now) words.now.files told) }
 {
+    let files = &words.files;
     match check_bytes(folder, alloc, files) {
-        Ok(bytes) => told_of(rt, alloc, files, &bytes),
+        Ok(bytes) => told_of(rt, alloc, files, words.verbose, &bytes),
         Err(unread) => unread_told(alloc, &unread),
     }
 }
@@ -169,9 +183,13 @@ fn answer<F: Folder, R: Threads + Wait + Sync>(
         ⊎ (F.held folder.new ≡ F.held folder.old)) }
 {
     match command {
-        Command::Check(files) => check_files(rt, folder, alloc, files),
+        Command::Verify(files) => verify_files(folder, alloc, files),
+        Command::Mend(files) => mend_files(folder, alloc, files),
+        Command::Check(words) => check_files(rt, folder, alloc, words),
         Command::Make(files) => make_files(rt, folder, alloc, files),
         Command::Explain(files) => explain_files(folder, alloc, files),
+        Command::Facts(files) => facts_files(folder, alloc, files),
+        Command::Graph(files) => graph_files(folder, alloc, files),
         Command::Replay(files) => replay_files(folder, alloc, files),
         Command::Live(files) => live_files(rt, folder, alloc, files),
     }
@@ -227,9 +245,10 @@ fn write_told<O: Write, E: Write>(alloc: Global, told: &Told, out: &mut O, err: 
 }
 
 /// Runs the program on the words of a command line, its own name first, and on the files of a
-/// folder. The status is 0 for `YES`, for a certificate that is made, for a chain, for a replay,
-/// for a journal and for help and the version, 1 for `NO` and for `none`, and 2 for a fault and
-/// where all tasks of a `live` that have lines left wait for messages.
+/// folder. The status is 0 for `YES`, for mends, for a certificate that is made, for a chain, for
+/// facts, for a drawing, for a replay, for a journal and for help and the version, 1 for `NO` and
+/// for `none`, and 2 for a fault and where all tasks of a `live` that have lines left wait for
+/// messages.
 pub fn run<F: Folder, R: Threads + Wait + Sync, O: Write, E: Write>(
     rt: &R,
     folder: &mut F,
@@ -239,14 +258,15 @@ pub fn run<F: Folder, R: Threads + Wait + Sync, O: Write, E: Write>(
     err: &mut E,
 ) -> u8
     ensures status { result ≤ 2 }
-    // With status 0 a yes, the making of a certificate, a replay, a chain or a journal went out
-    // that is right of what the files held, unless the words ask for help or the version.
+    // With status 0 a yes, mends, the making of a certificate, a chain, facts, a drawing, a replay
+    // or a journal went out that is right of what the files held, unless the words ask for help or
+    // the version.
     ensures yes { result ≡ 0
         → WentOut (DoneOf (F.held folder.old) (F.held folder.new))
         (O.contents out.old) (O.contents out.new)
         ⊎ AsksHelp (map string_bytes words.now) }
-    // With status 1 a no went out, or that no chain leads to a fact, that is right of what the
-    // files hold.
+    // With status 1 a no went out, that no chain leads to a fact, or that no mend was found, that
+    // is right of what the files hold.
     ensures no { result ≡ 1
         → WentOut (NoOf (F.held folder.old)) (O.contents out.old) (O.contents out.new) }
 {
@@ -271,14 +291,15 @@ pub fn start<F: Folder, R: Threads + Wait + Sync, O: Write, E: Write>(
 ) -> u8
     ensures status { result ≤ 2 }
     ensures fault { IfErr words (λ _. result ≡ 2) }
-    // With status 0 a yes, the making of a certificate, a replay, a chain or a journal went out
-    // that is right of what the files held, unless the words ask for help or the version.
+    // With status 0 a yes, mends, the making of a certificate, a chain, facts, a drawing, a replay
+    // or a journal went out that is right of what the files held, unless the words ask for help or
+    // the version.
     ensures yes { result ≡ 0
         → WentOut (DoneOf (F.held folder.old) (F.held folder.new))
         (O.contents out.old) (O.contents out.new)
         ⊎ IsOkAnd words (λ given. AsksHelp (map string_bytes given.items)) }
-    // With status 1 a no went out, or that no chain leads to a fact, that is right of what the
-    // files hold.
+    // With status 1 a no went out, that no chain leads to a fact, or that no mend was found, that
+    // is right of what the files hold.
     ensures no { result ≡ 1
         → WentOut (NoOf (F.held folder.old)) (O.contents out.old) (O.contents out.new) }
 {

@@ -6,7 +6,7 @@ use Rattle.mrc_program.proofs.run.check_files.Goals as goal
 
 pub returns-in-Err-clause-fault : goal.returns-in-Err-clause-fault
 returns-in-Err-clause-fault g c =
-    let files = c.args.files.now in
+    let files = c.args.words.now.files in
     let held = g.F.Folder.held c.args.folder.now in
     unread_fault held (check_names files) _ _ c.unread_told.result
     (OfFiles check_list (ToldFault files) held (check_names files))

@@ -1,0 +1,193 @@
+//! The texts of help.
+
+pub(crate) const PROGRAM_HELP: &str = "Exit status of each command:
+  0  YES was printed, or changes that lead to it, a certificate was made, a chain, facts or a
+     drawing were printed, a script was replayed or run by threads, or help or the version
+     was printed
+  1  NO was printed, with a reason, or none: where no chain leads to a fact, or where no
+     change was found that leads to YES
+  2  a fault was told on standard error: a file can't be read or has no meaning,
+     the command line is wrong, the output was not taken, or memory ran out
+
+`machcheck check --help`, and the same of the other commands, tells of the files. Read on
+in README.md, which starts with a worked example, and in docs/ARCHITECTURE.md.";
+
+pub(crate) const CHECK_HELP: &str = "Files, as README.md describes them:
+  MIG files have the messages of the interfaces that the wiring names,
+  a wiring has the tasks and ports, what they accept, and the rights that are held at first,
+  a policy has who must never hold what,
+  a certificate has who may come to hold what. It is not trusted.
+
+--verbose says on standard error what to do where the certificate is not of this wiring.
+
+Exit status:
+  0  YES: no list of calls can lead to a holding that the policy forbids
+  1  NO, with the first reason: the certificate lacks what can come about,
+     or has what the policy forbids
+  2  a fault on standard error, as `machcheck: FILE: FAULT`: a file can't be read or has
+     no meaning, the command line is wrong, the output was not taken, or memory ran out
+
+Read on in README.md, and in docs/ARCHITECTURE.md.";
+
+pub(crate) const MAKE_HELP: &str = "Files, as README.md describes them:
+  MIG files have the messages of the interfaces that the wiring names,
+  a wiring has the tasks and ports, what they accept, and the rights that are held at first.
+
+The least certificate of the wiring is made: who may come to hold what, and nothing else. It
+is written beside the file that --out names and then takes its place, so that the file is
+never half written. Links are followed, and the file keeps its mode. A device, a pipe, a file
+with other hard links or another owner, and one in a folder that allows no new file are
+written in place: there WriteFailed N leaves the first N bytes. How many facts the
+certificate has is printed. --workers says how many threads make it; the certificate is the
+same whatever their number.
+
+Exit status:
+  0  the certificate was made
+  2  a fault on standard error, as `machcheck: FILE: FAULT`: a file can't be read or has
+     no meaning or was not taken, --workers is not a number from 1 to 64 (Workers), the
+     command line is wrong, or memory ran out
+
+Read on in README.md, and in docs/ARCHITECTURE.md.";
+
+pub(crate) const EXPLAIN_HELP: &str = "Files, as README.md describes them:
+  MIG files have the messages of the interfaces that the wiring names,
+  a wiring has the tasks and ports, what they accept, and the rights that are held at first.
+
+A fact is printed as in a NO: `hold TASK CLASS RIGHT`, `carry CLASS CLASS RIGHT` or
+`backup CLASS CLASS`. Where it is in the least certificate, a chain of rules is printed that
+derives it: a line for each step, with its number from 0, the rule, what it concludes, and the
+numbers of the steps that it follows from. The last step concludes the fact. --by adds where
+a step comes from in the files, as `verify` does.
+
+Exit status:
+  0  a chain was printed
+  1  `none` was printed: the fact is not in the least certificate
+  2  a fault on standard error, as `machcheck: FILE: FAULT`: a file can't be read or has no
+     meaning, the text of the fact names none of the wiring (BadFact), the command line is
+     wrong, the output was not taken, or memory ran out
+
+Read on in README.md, and in docs/ARCHITECTURE.md.";
+
+pub(crate) const REPLAY_HELP: &str = "Files, as docs/FORMATS.md describes them:
+  MIG files have the messages of the interfaces that the wiring names,
+  a wiring has the tasks and ports, what they accept, and the rights that are held at first,
+  a script has a call of a task on each line.
+
+Each call is made, one after the other, from the wiring's first state on. A line is printed
+for each, with its number from 0, the task and the reply, and then how many there were and how
+many ports are live.
+
+Exit status:
+  0  the script was run to its end: a call that is refused is told, and the next one is made
+  2  a fault on standard error, as `machcheck: FILE: FAULT`: a file can't be read or has
+     no meaning, the command line is wrong, the output was not taken, or memory ran out
+
+Read on in README.md, and in docs/ARCHITECTURE.md.";
+
+pub(crate) const LIVE_HELP: &str = "Files, as docs/FORMATS.md describes them:
+  MIG files have the messages of the interfaces that the wiring names,
+  a wiring has the tasks and ports, what they accept, and the rights that are held at first,
+  a policy has who must never hold what,
+  a certificate has who may come to hold what. It is not trusted,
+  a script has a call of a task on each line.
+
+The certificate is checked first. Then each task runs as a thread, which makes the calls of its
+lines in order; between the tasks the order is that of the schedule. `wait NAME LIMIT` receives as
+`receive` does, but waits for a message. In the end the journal is printed: a line for each event,
+with its number from 0, the task and the reply, and then how many there were and how many ports are
+live. It has 1,000,000 events at most. So it is where all tasks that have lines left wait, and no
+message can come any more: then the lines that wait are named on standard error.
+
+Exit status:
+  0  the script was run to its end: a call that is refused is told, and the next one is made
+  1  NO, with the first reason, as `check` tells it: nothing was run
+  2  a fault on standard error, as `machcheck: FILE: FAULT`: a file can't be read or has
+     no meaning, the journal is full, all tasks that have lines left wait (`AllWait`, with
+     the lines), the command line is wrong, the output was not taken, or memory ran out
+
+Read on in README.md, and in docs/ARCHITECTURE.md.";
+
+pub(crate) const VERIFY_HELP: &str = "Files, as README.md describes them:
+  MIG files have the messages of the interfaces that the wiring names,
+  a wiring has the tasks and ports, what they accept, and the rights that are held at first,
+  a policy has who must never hold what.
+
+All that may come about is found and judged: no certificate is needed, and none is written.
+YES is printed where the policy forbids none of it. Else each of its lines that is broken is
+told as `NO forbidden line N FACT`, and below it how the fact comes about, a line for each
+step: its number from 0, the rule, what it concludes, the numbers of the steps that it follows
+from, and where it comes from in the files: `by line N` of the wiring,
+`by SUBSYSTEM.ROUTINE.ARGUMENT (SUBSYSTEM.TYPE)`, `by SUBSYSTEM` for the reply right of a
+request, `by task:U` for the task whose kernel port is held. --tree prints the steps from the
+fact down instead, each above those that it follows from.
+
+Exit status:
+  0  YES: no list of calls can lead to a holding that the policy forbids
+  1  NO: each line that is broken, with the steps that lead to it
+  2  a fault on standard error, as `machcheck: FILE: FAULT`: a file can't be read or has
+     no meaning, the command line is wrong, the output was not taken, or memory ran out
+
+Read on in README.md, and in docs/ARCHITECTURE.md.";
+
+pub(crate) const MEND_HELP: &str = "Files, as README.md describes them:
+  MIG files have the messages of the interfaces that the wiring names,
+  a wiring has the tasks and ports, what they accept, and the rights that are held at first,
+  a policy has who must never hold what.
+
+Where `verify` says NO, changes of the wiring are looked for after which it says YES. Each is
+a line `K remove line N`, with the words of the line, or `K add admit S.TYPE CLASS`; the lines
+with the same K are to be made together. The smallest changes come first, and of those those
+that lose the fewest facts. Each one that is printed has been judged: with it the answer is
+YES. At most three changes are made together; --most says how many are printed, and is 10
+where it is not given.
+
+Exit status:
+  0  changes were printed, or YES: nothing has to be changed
+  1  `none` was printed: no such changes were found
+  2  a fault on standard error, as `machcheck: FILE: FAULT`: a file can't be read or has
+     no meaning, --most is not a number from 1 to 1000000 (BadMost), the command line is wrong,
+     the output was not taken, or memory ran out
+
+Read on in README.md, and in docs/ARCHITECTURE.md.";
+
+pub(crate) const FACTS_HELP: &str = "Files, as README.md describes them:
+  MIG files have the messages of the interfaces that the wiring names,
+  a wiring has the tasks and ports, what they accept, and the rights that are held at first,
+  a certificate has who may come to hold what.
+
+The facts of the certificate are printed, one a line, or those of the least certificate of the
+wiring where none is named. With --task those are left out that are no holdings of the task,
+with --class those that do not name the class, with --right those of another right. Of a
+certificate nothing is claimed but that it has these facts: `check` judges it. Two wirings are
+compared by `diff` of what is printed for each.
+
+Exit status:
+  0  the facts were printed
+  1  `NO counts` was printed: the certificate is not of this wiring
+  2  a fault on standard error, as `machcheck: FILE: FAULT`: a file can't be read or has
+     no meaning, --task, --class or --right names none of the wiring (BadTask, BadClass,
+     BadRight), the command line is wrong, the output was not taken, or memory ran out
+
+Read on in README.md, and in docs/ARCHITECTURE.md.";
+
+pub(crate) const GRAPH_HELP: &str = "Files, as README.md describes them:
+  MIG files have the messages of the interfaces that the wiring names,
+  a wiring has the tasks and ports, what they accept, and the rights that are held at first,
+  a certificate has who may come to hold what,
+  a policy has who must never hold what.
+
+The facts of the certificate are drawn, or those of the least certificate of the wiring where
+none is named: tasks, classes of ports, who may hold what, and what may be carried where. The
+drawing is printed in the language of graphviz: `machcheck graph .. | dot -Tsvg` makes a
+picture of it. What is held at first is solid, what comes about is dashed, and what the policy
+forbids is red. With --fact the steps alone are drawn that lead to the fact.
+
+Exit status:
+  0  the drawing was printed
+  1  `NO counts` was printed, where the certificate is not of this wiring, or `none`, where
+     no chain leads to the fact
+  2  a fault on standard error, as `machcheck: FILE: FAULT`: a file can't be read or has
+     no meaning, the text of the fact names none of the wiring (BadFact), the command line is
+     wrong, the output was not taken, or memory ran out
+
+Read on in README.md, and in docs/ARCHITECTURE.md.";

@@ -1,0 +1,116 @@
+-- What is told of a claim and of texts that make none.
+use Rattle.std.proofs.Common.{◌≡◌, ◌⊎◌, ◌∙◌, ℕ, List, [], Result, Ok, Err, ap, inl, inr, subst, sym}
+use Rattle.std.proofs.Common.{string_bytes}
+use Rattle.std.specs.Prelude.{All, IfOk}
+use Rattle.mrc_base.specs.declared.memory.OrMemory.{OrMemory}
+use Rattle.mrc_base.specs.declared.memory.OrMemory.TheVariants.{Fault}
+use Rattle.mrc_base.specs.Reading.{UnlessMemory}
+use Rattle.mrc_base.proofs.Steps.{ok_is}
+use Rattle.mrc_facts.specs.Sets.{has}
+use Rattle.mrc_wiring_text.specs.declared.reading.Line.{Line}
+use Rattle.mrc_wiring_text.specs.declared.wiring.WiringSays.{WiringSays}
+use Rattle.mrc_wiring_text.specs.Texts.{IsWiring}
+use Rattle.mrc_wiring.specs.Table.{Table}
+use Rattle.mrc_wiring.specs.Claims.{Claimed}
+use Rattle.mrc_check.specs.Texts.{Meaningless}
+use Rattle.mrc_why.specs.declared.printing.Layout.{Layout}
+use Rattle.mrc_why.specs.Lines.{Numbered, first_numbers}
+use Rattle.mrc_why.specs.Broken.{BrokenLine, AreBroken, IsDerived, HasYes, HasNoYes}
+use Rattle.mrc_why.specs.Texts.{IsVerdictText}
+use Rattle.mrc_mend.specs.declared.claims.MendFault.{MendFault}
+use Rattle.mrc_mend.specs.Judging.{no_claim_of}
+use Rattle.mrc_command.specs.declared.told.Told.{Told}
+use Rattle.mrc_command.specs.declared.command.SystemFiles.{SystemFiles}
+use Rattle.mrc_program.specs.Explained.{numbered_by}
+use Rattle.mrc_program.specs.Texts.{PolicyTexts, claimed}
+use Rattle.mrc_program.specs.Told.{ToldMemory, IsFaultOf}
+use Rattle.mrc_program.specs.Verified.{IsAllowed, ToldLines, ToldUnclaimed, claim_file}
+
+-- where no line is broken the text is a yes
+pub allowed : (layout : Layout) (numbered : Numbered) (broken : List BrokenLine) (claim : Claimed)
+    (told : Told) (text : List ℕ)
+    → broken ≡ []
+    → IsVerdictText layout numbered broken text
+    → string_bytes told.out ≡ text
+    → string_bytes told.err ≡ []
+    → HasYes claim
+    → IsAllowed claim told
+allowed layout numbered broken claim told text none tells out err has_yes = record {
+  yes = has_yes;
+  out = out ∙ subst (λ bs. IsVerdictText layout numbered bs text) none tells;
+  err = err;
+}
+
+-- the lines that are broken, by what was made
+pub lines_told : (layout by : Layout) (wiring : List ℕ) (claim : Claimed) (told : Told)
+    (lines given : List (Line WiringSays)) (table : Table) (numbered : Numbered)
+    (broken shown : List BrokenLine) (text : List ℕ)
+    → IsWiring wiring lines
+    → numbered ≡ record { table = table; numbers = first_numbers given }
+    → table ≡ claim.table
+    → given ≡ lines
+    → shown ≡ broken
+    → IsVerdictText by numbered shown text
+    → by ≡ layout
+    → string_bytes told.out ≡ text
+    → string_bytes told.err ≡ []
+    → AreBroken claim broken
+    → All (IsDerived claim) broken
+    → HasNoYes claim
+    → ToldLines layout wiring claim told
+lines_told layout by wiring claim told lines given table numbered broken shown text is_wiring made
+    is_table are_lines are_shown tells is_layout out err are chains none =
+    let is : numbered ≡ numbered_by claim.table lines =
+    made ∙ (ap (λ (t : Table). numbered_by t given) is_table
+    ∙ ap (numbered_by claim.table) are_lines) in
+    record {
+      lines = lines;
+      is_wiring = is_wiring;
+      broken = broken;
+      are = are;
+      chains = chains;
+      no = none;
+      out = subst (IsVerdictText layout (numbered_by claim.table lines) broken) (sym out)
+          (subst (λ n. IsVerdictText layout n broken text) is
+          (subst (λ bs. IsVerdictText layout numbered bs text) are_shown
+          (subst (λ l. IsVerdictText l numbered shown text) is_layout tells)));
+      err = err;
+    }
+
+-- of a claim that has a yes no line is told to be broken
+pub only_yes : {E : Type 0} (layout : Layout) (wiring : List ℕ) (claim other : Claimed)
+    (said : Result Claimed Meaningless) (result : Result Told E)
+    → said ≡ Ok claim
+    → said ≡ Ok other
+    → HasYes other
+    → IfOk result (λ told. (told.status ≡ 0) ⊎ (told.status ≡ 1))
+    → IfOk result (λ told. told.status ≡ 1 → ToldLines layout wiring claim told)
+    → IfOk result (λ told. (told.status ≡ 0) ⊎ ToldMemory told)
+only_yes layout wiring claim other said (Ok told) is also has_yes status broken = elim status [
+  | inl zero ↦ inl zero
+  | inr one ↦
+      let same : HasYes claim = subst HasYes (ok_is other claim (sym also ∙ is)) has_yes in
+      absurd ((broken one).no (has same.0) same.1.says)
+]
+only_yes layout wiring claim other said (Err e) is also has_yes status broken = tt
+
+-- that texts make no claim
+pub unclaimed_told : {E : Type 0} (files : SystemFiles) (policy : List ℕ) (texts : PolicyTexts)
+    (refusal : OrMemory MendFault) (fault shown : MendFault) (result : Result Told E)
+    → refusal ≡ Fault fault
+    → shown ≡ fault
+    → UnlessMemory (λ f. claimed texts ≡ Err (no_claim_of f)) refusal
+    → IfOk result (λ told. string_bytes told.out ≡ [])
+    → IfOk result (λ told.
+    IsFaultOf (claim_file files policy (no_claim_of shown)) (string_bytes told.err))
+    → IfOk result (λ told. told.status ≡ 2
+    → ToldMemory told ⊎ ToldUnclaimed files policy texts told)
+unclaimed_told files policy texts refusal fault shown (Ok told) is told_is says out err = λ two.
+    inr (record {
+      fault = no_claim_of fault;
+      says = subst (UnlessMemory (λ f. claimed texts ≡ Err (no_claim_of f))) is says;
+      out = out;
+      err = subst (λ f. IsFaultOf (claim_file files policy (no_claim_of f)) (string_bytes told.err))
+          told_is err;
+    })
+unclaimed_told files policy texts refusal fault shown (Err e) is told_is says out err = tt

@@ -1,0 +1,100 @@
+//! What the program tells of a wiring and a policy: a yes, or each line that is broken.
+
+ghost use Rattle.std.specs.Prelude.{◌≡◌, ◌⊎◌, ◌<◌, ◌≤◌, [], Ok, IfOk, IsOk, length};
+ghost use Rattle.mrc_wiring.specs.Claims.{Claimed};
+ghost use Rattle.mrc_why.specs.Broken.{HasYes};
+ghost use Rattle.mrc_program.specs.Texts.{claimed};
+ghost use Rattle.mrc_program.specs.Told.{ToldMemory};
+ghost use Rattle.mrc_program.specs.Verified.{layout_of, IsAllowed, ToldLines, ToldAllowed};
+ghost use Rattle.mrc_program.specs.Verified.{ToldBroken, ToldUnclaimed};
+ghost use Rattle.mrc_wiring_text.specs.Wiring.{wiring_of};
+ghost use Rattle.mrc_program.specs.Verified.{AllowedOfFiles, BrokenOfFiles, FaultOfVerify};
+
+use crate::lines::lines_of;
+use crate::policy::{PolicyBytes, claim_fault_told, claimed, policy_bytes};
+use crate::told::unread_told;
+use mrc_base::OrMemory;
+use mrc_command::{Told, VerifyFiles, memory, said};
+use mrc_files::Folder;
+use mrc_why::{Broken, Layout, Sources, verify, verify_text};
+use mrc_wiring::Claim;
+use std::alloc::{AllocError, Global};
+
+/// Chains are told from their conclusions down where a tree is asked for.
+fn layout_of(tree: bool) -> Layout
+    ensures { result ≡ layout_of tree }
+{
+    if tree { Layout::Tree } else { Layout::Flat }
+}
+
+/// The status of lines that are broken: 0 where there are none.
+fn status_of(broken: &[Broken]) -> u8
+    ensures status { (result ≡ 0) ⊎ (result ≡ 1) }
+    ensures none { result ≡ 0 → broken.now ≡ [] }
+    ensures some { result ≡ 1 → 0 < length broken.now }
+{
+    if broken.is_empty() { 0 } else { 1 }
+}
+
+/// What is told of a claim on a wiring of this text: that no line is broken, or those that are.
+fn claim_told(alloc: Global, tree: bool, wiring: &[u8], claim: &Claim) -> Result<Told, AllocError>
+    requires { IsOk (wiring_of wiring.now) }
+    ensures status { IfOk result (λ told. (told.status ≡ 0) ⊎ (told.status ≡ 1)) }
+    ensures yes { IfOk result (λ told. told.status ≡ 0 → IsAllowed claim.now told) }
+    ensures no { IfOk result (λ told. told.status ≡ 1
+        → ToldLines (layout_of tree) wiring.now claim.now told) }
+{
+    let lines = lines_of(alloc, wiring)?;
+    let sources = Sources::new(alloc, claim.wired(), lines.as_slice())?;
+    let broken = verify(alloc, claim)?;
+    let text = verify_text(alloc, &sources, broken.as_slice(), layout_of(tree))?;
+    Ok(said(alloc, text, status_of(broken.as_slice())))
+}
+
+/// What is told of the bytes of MIG files, a wiring and a policy.
+fn verify_told(
+    alloc: Global,
+    files: &VerifyFiles<'_>,
+    bytes: &PolicyBytes,
+) -> Result<Told, AllocError>
+    ensures status { IfOk result (λ told. told.status ≤ 2) }
+    ensures yes { IfOk result (λ told. told.status ≡ 0 → ToldAllowed bytes.now told) }
+    // Where the least set is a yes that is told, unless memory runs out.
+    ensures only { (claim : Claimed) → claimed bytes.now ≡ Ok claim → HasYes claim
+        → IfOk result (λ told. (told.status ≡ 0) ⊎ ToldMemory told) }
+    ensures no { IfOk result (λ told. told.status ≡ 1
+        → ToldBroken (layout_of files.now.tree) bytes.now told) }
+    // A fault is one of the first file that has one, unless memory ran out.
+    ensures fault { IfOk result (λ told. told.status ≡ 2
+        → ToldMemory told ⊎ ToldUnclaimed files.now.system files.now.policy.now bytes.now told) }
+{
+    match claimed(alloc, bytes) {
+        Ok(claim) => claim_told(alloc, files.tree, bytes.system.wiring.as_slice(), &claim),
+        Err(OrMemory::Fault(fault)) => {
+            claim_fault_told(alloc, &files.system, files.policy, bytes, fault)
+        }
+        Err(OrMemory::Memory) => memory(alloc),
+    }
+}
+
+/// What is told of the files of a `verify`.
+pub fn verify_files<F: Folder>(
+    folder: &F,
+    alloc: Global,
+    files: &VerifyFiles<'_>,
+) -> Result<Told, AllocError>
+    ensures status { IfOk result (λ told. told.status ≤ 2) }
+    // A yes, or the lines that are broken, is right of what the files hold, so far as that is
+    // known.
+    ensures yes { IfOk result (λ told. told.status ≡ 0
+        → AllowedOfFiles (F.held folder.now) files.now told) }
+    ensures no { IfOk result (λ told. told.status ≡ 1
+        → BrokenOfFiles (F.held folder.now) files.now told) }
+    ensures fault { IfOk result (λ told. told.status ≡ 2
+        → FaultOfVerify (F.held folder.now) files.now told) }
+{
+    match policy_bytes(folder, alloc, &files.system, files.policy) {
+        Ok(bytes) => verify_told(alloc, files, &bytes),
+        Err(unread) => unread_told(alloc, &unread),
+    }
+}
