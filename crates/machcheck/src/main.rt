@@ -5,11 +5,13 @@
 use mrc_command::words_of;
 use mrc_files::Disk;
 use mrc_program::start;
+use std::io::IsTerminal;
 use std::process::ExitCode;
 
 fn main(rt: HostRuntime) -> ExitCode {
     let mut out = rt.stdout();
     let mut err = rt.stderr();
+    let watched = err.is_terminal();
     let status = start(
         &rt,
         &mut Disk(&rt),
@@ -17,6 +19,7 @@ fn main(rt: HostRuntime) -> ExitCode {
         words_of(&rt),
         &mut out,
         &mut err,
+        watched,
     );
     ExitCode::from(status)
 }

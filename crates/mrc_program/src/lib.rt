@@ -11,6 +11,7 @@ mod live;
 mod make;
 mod mend;
 mod policy;
+mod progress;
 mod replay;
 pub mod run;
 mod script;

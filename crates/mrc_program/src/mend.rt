@@ -20,14 +20,6 @@ use std::alloc::{AllocError, Global};
 /// The most mends that may be asked for.
 const MOST: usize = 1_000_000;
 
-/// Nothing is told of what is tried.
-#[derive(Drop)]
-struct Silent;
-
-impl Progress for Silent {
-    fn tried(&mut self, _tries: usize) {}
-}
-
 /// The status of an answer: 1 where there are no mends.
 fn mend_status(answer: &Answer) -> u8
     ensures { result ≡ mend_status answer.now }
@@ -71,33 +63,42 @@ fn answer_told(alloc: Global, bytes: &PolicyBytes, answer: &Answer) -> Result<To
 }
 
 /// The mends of the wiring of these texts.
-fn mends_of(alloc: Global, bytes: &PolicyBytes, most: usize) -> Result<Answer, OrMemory<MendFault>>
+fn mends_of<P: Progress>(
+    alloc: Global,
+    bytes: &PolicyBytes,
+    most: usize,
+    progress: &mut P,
+) -> Result<Answer, OrMemory<MendFault>>
     ensures found { IfOk result (AreAnswered
         (IsMend bytes.now.system.defs bytes.now.system.wiring bytes.now.policy)) }
     ensures needed { IfOk result (IsNeededOf (claimed bytes.now)) }
     ensures fault { IfErr result (UnlessMemory (λ fault.
         claimed bytes.now ≡ Err (no_claim_of fault))) }
 {
-    let mut silent = Silent;
     find_mends(
         alloc,
         bytes.system.defs.as_slice(),
         bytes.system.wiring.as_slice(),
         bytes.policy.as_slice(),
         most,
-        &mut silent,
+        progress,
     )
 }
 
 /// What is told of the bytes of MIG files, a wiring and a policy.
-fn mend_told(alloc: Global, files: &MendFiles<'_>, bytes: &PolicyBytes) -> Result<Told, AllocError>
+fn mend_told<P: Progress>(
+    alloc: Global,
+    files: &MendFiles<'_>,
+    bytes: &PolicyBytes,
+    progress: &mut P,
+) -> Result<Told, AllocError>
     ensures status { IfOk result (λ told. told.status ≤ 2) }
     ensures mends { IfOk result (λ told. told.status ≤ 1 → ToldMends bytes.now told) }
     // A fault is one of the first file that has one, unless memory ran out.
     ensures fault { IfOk result (λ told. told.status ≡ 2
         → ToldMemory told ⊎ ToldUnclaimed files.now.system files.now.policy.now bytes.now told) }
 {
-    match mends_of(alloc, bytes, files.most) {
+    match mends_of(alloc, bytes, files.most, progress) {
         Ok(answer) => answer_told(alloc, bytes, &answer),
         Err(OrMemory::Fault(fault)) => {
             claim_fault_told(alloc, &files.system, files.policy, bytes, fault)
@@ -107,10 +108,11 @@ fn mend_told(alloc: Global, files: &MendFiles<'_>, bytes: &PolicyBytes) -> Resul
 }
 
 /// What is told of the files of a `mend`.
-pub fn mend_files<F: Folder>(
+pub fn mend_files<F: Folder, P: Progress>(
     folder: &F,
     alloc: Global,
     files: &MendFiles<'_>,
+    progress: &mut P,
 ) -> Result<Told, AllocError>
     ensures status { IfOk result (λ told. told.status ≤ 2) }
     // Mends, or that there are none, are right of what the files hold, so far as that is known.
@@ -126,7 +128,7 @@ pub fn mend_files<F: Folder>(
         return fault_of(alloc, "--most", "BadMost");
     }
     match policy_bytes(folder, alloc, &files.system, files.policy) {
-        Ok(bytes) => mend_told(alloc, files, &bytes),
+        Ok(bytes) => mend_told(alloc, files, &bytes, progress),
         Err(unread) => unread_told(alloc, &unread),
     }
 }

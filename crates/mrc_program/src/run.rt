@@ -22,6 +22,7 @@ use crate::graph::graph_files;
 use crate::live::live_files;
 use crate::make::make_files;
 use crate::mend::mend_files;
+use crate::progress::Counter;
 use crate::replay::replay_files;
 use crate::system::{SystemBytes, system_bytes};
 use crate::tell::verdict;
@@ -33,6 +34,7 @@ use mrc_command::{
     CheckFiles, CheckWords, Command, NoCommand, Told, WordsFault, memory, read, words_line,
 };
 use mrc_files::{Folder, ReadFault, Unread, bytes_of, write_text};
+use mrc_mend::Progress;
 use std::alloc::{AllocError, Global};
 use std::io::Write;
 use std::marker::Model;
@@ -159,11 +161,12 @@ fn check_files<F: Folder, R: Threads + Sync>(
 }
 
 /// What is told of a command. It is right of what the files held, so far as that is known.
-fn answer<F: Folder, R: Threads + Wait + Sync>(
+fn answer<F: Folder, R: Threads + Wait + Sync, P: Progress>(
     rt: &R,
     folder: &mut F,
     alloc: Global,
     command: &Command<'_>,
+    progress: &mut P,
 ) -> Result<Told, AllocError>
     ensures status { IfOk result (λ told. told.status ≤ 2) }
     ensures done { IfOk result (λ told. told.status ≡ 0
@@ -184,7 +187,7 @@ fn answer<F: Folder, R: Threads + Wait + Sync>(
 {
     match command {
         Command::Verify(files) => verify_files(folder, alloc, files),
-        Command::Mend(files) => mend_files(folder, alloc, files),
+        Command::Mend(files) => mend_files(folder, alloc, files, progress),
         Command::Check(words) => check_files(rt, folder, alloc, words),
         Command::Make(files) => make_files(rt, folder, alloc, files),
         Command::Explain(files) => explain_files(folder, alloc, files),
@@ -196,11 +199,12 @@ fn answer<F: Folder, R: Threads + Wait + Sync>(
 }
 
 /// What is told of the words of a command line.
-fn told<F: Folder, R: Threads + Wait + Sync>(
+fn told<F: Folder, R: Threads + Wait + Sync, P: Progress>(
     rt: &R,
     folder: &mut F,
     alloc: Global,
     words: &[String],
+    progress: &mut P,
 ) -> Result<Told, AllocError>
     ensures status { IfOk result (λ told. told.status ≤ 2) }
     // Status 0 is that of what a command asks for, unless the words ask for help or the version.
@@ -213,7 +217,7 @@ fn told<F: Folder, R: Threads + Wait + Sync>(
         ⊎ SomeCommand (HaltedOf (F.held folder.old)) told) }
 {
     match read(alloc, words) {
-        Ok(command) => answer(rt, folder, alloc, &command),
+        Ok(command) => answer(rt, folder, alloc, &command, progress),
         Err(NoCommand::Told(told)) => Ok(told),
         Err(NoCommand::Memory) => memory(alloc),
     }
@@ -245,10 +249,10 @@ fn write_told<O: Write, E: Write>(alloc: Global, told: &Told, out: &mut O, err: 
 }
 
 /// Runs the program on the words of a command line, its own name first, and on the files of a
-/// folder. The status is 0 for `YES`, for mends, for a certificate that is made, for a chain, for
-/// facts, for a drawing, for a replay, for a journal and for help and the version, 1 for `NO` and
-/// for `none`, and 2 for a fault and where all tasks of a `live` that have lines left wait for
-/// messages.
+/// folder. Where a person looks on, it tells on `err` how far a long search has come. The status is
+/// 0 for `YES`, for mends, for a certificate that is made, for a chain, for facts, for a drawing,
+/// for a replay, for a journal and for help and the version, 1 for `NO` and for `none`, and 2 for a
+/// fault and where all tasks of a `live` that have lines left wait for messages.
 pub fn run<F: Folder, R: Threads + Wait + Sync, O: Write, E: Write>(
     rt: &R,
     folder: &mut F,
@@ -256,6 +260,7 @@ pub fn run<F: Folder, R: Threads + Wait + Sync, O: Write, E: Write>(
     words: &[String],
     out: &mut O,
     err: &mut E,
+    watched: bool,
 ) -> u8
     ensures status { result ≤ 2 }
     // With status 0 a yes, mends, the making of a certificate, a chain, facts, a drawing, a replay
@@ -270,7 +275,8 @@ pub fn run<F: Folder, R: Threads + Wait + Sync, O: Write, E: Write>(
     ensures no { result ≡ 1
         → WentOut (NoOf (F.held folder.old)) (O.contents out.old) (O.contents out.new) }
 {
-    match told(rt, folder, alloc, words) {
+    let told = told(rt, folder, alloc, words, &mut Counter { err, watched });
+    match told {
         Ok(told) => write_told(alloc, &told, out, err),
         Err(AllocError) => {
             let _ = write_text(err, b"machcheck: Memory\n");
@@ -288,6 +294,7 @@ pub fn start<F: Folder, R: Threads + Wait + Sync, O: Write, E: Write>(
     words: Result<Vec<String>, WordsFault>,
     out: &mut O,
     err: &mut E,
+    watched: bool,
 ) -> u8
     ensures status { result ≤ 2 }
     ensures fault { IfErr words (λ _. result ≡ 2) }
@@ -304,7 +311,7 @@ pub fn start<F: Folder, R: Threads + Wait + Sync, O: Write, E: Write>(
         → WentOut (NoOf (F.held folder.old)) (O.contents out.old) (O.contents out.new) }
 {
     match words {
-        Ok(words) => run(rt, folder, alloc, words.as_slice(), out, err),
+        Ok(words) => run(rt, folder, alloc, words.as_slice(), out, err, watched),
         Err(fault) => {
             let _ = write_text(err, words_line(fault));
             2

@@ -386,6 +386,7 @@ fn ran_failing(
         words,
         &mut out,
         &mut err,
+        false,
     );
     (err, status)
 }

@@ -34,7 +34,7 @@ pub(crate) fn ran<F: Folder>(
 ) -> Outcome {
     let mut out = Vec::new(alloc);
     let mut err = Vec::new(alloc);
-    let status = run(rt, folder, alloc, words, &mut out, &mut err);
+    let status = run(rt, folder, alloc, words, &mut out, &mut err, false);
     Outcome { out, err, status }
 }
 

@@ -201,6 +201,7 @@ fn without_words(
         Err(fault),
         &mut out,
         &mut err,
+        false,
     );
     Outcome { out, err, status }
 }
