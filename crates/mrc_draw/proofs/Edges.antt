@@ -44,7 +44,8 @@ pub carry_told : (table : Table) (d c : ℕ) (test : PortRight → Bool) (send r
     → false ≡ (length label == 0)
     → arrow_line tail head label look
     ≡ flat_map (edge_line table) (if_any (Carrying d c) (rights_by test))
-carry_told table d c test send receive once s r o tail head label look at_tail at_head is looks some =
+carry_told table d c test send receive once s r o tail head label look at_tail at_head is looks
+    some =
     let rights = rights_by test in
     let label_is : label ≡ rights_text rights = is
     ∙ ap rights_text (three_told test send receive once s r o) in

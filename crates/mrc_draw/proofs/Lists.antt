@@ -1,6 +1,6 @@
 -- Lists that grow by one at their end.
-use Rattle.std.proofs.Common.{◌≡◌, ℕ, zero, suc, ◌+◌, ◌<◌, ◌≤◌, List, [], ◌∷◌, ◌++◌, length, take, refl}
-use Rattle.std.proofs.Common.{sym, ap, ◌∙◌, add-zero, append_assoc, get_or, arith}
+use Rattle.std.proofs.Common.{◌≡◌, ℕ, zero, suc, ◌+◌, ◌<◌, ◌≤◌, List, [], ◌∷◌, ◌++◌, length, take}
+use Rattle.std.proofs.Common.{refl, sym, ap, ◌∙◌, add-zero, append_assoc, get_or, arith}
 use Rattle.std.specs.Prelude.{flat_map, codes, if◌then◌else◌}
 use Rattle.std.specs.List.{range_with_len, join_by}
 use Rattle.std.proofs.lemmas.Grind.{flat_map-append}
@@ -89,8 +89,8 @@ pub names_more : (table : Table) (tasks : List ℕ) (i : ℕ) → i < length tas
 names_more table tasks i low text piece grown so_far is told =
     let t = get_or tasks i 0 in
     let names = join_by (task_word table) (codes "\\n") in
-    let long : length (take i tasks) ≡ i = omega (arith, length-take-le i tasks (omega (arith, low)))
-    in
+    let enough = length-take-le i tasks (omega (arith, low)) in
+    let long : length (take i tasks) ≡ i = omega (arith, enough) in
     told ∙ (ap (λ w. w ++ piece) so_far
     ∙ (ap (λ w. names (take i tasks) ++ w) (is ∙ ap (λ n. name_piece table n t) (sym long))
     ∙ (joined t (take i tasks) ∙ ap names (sym (take_more tasks i 0 low)))))

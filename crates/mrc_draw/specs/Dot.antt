@@ -16,7 +16,8 @@ rights_text rights = join_by right_word (codes ", ") rights
 -- the looks of a hold: dashed where K1 does not give it, red where the policy forbids it
 abbrev pub style_text : Style → List ℕ
 style_text s =
-    (if s.first then [] else codes ",style=dashed") ++ (if s.forbidden then codes ",color=red" else [])
+    (if s.first then [] else codes ",style=dashed")
+    ++ (if s.forbidden then codes ",color=red" else [])
 
 -- the line of an edge: from where, to where, its label, and its looks
 abbrev pub arrow_line : List ℕ → List ℕ → List ℕ → List ℕ → List ℕ

@@ -8,8 +8,8 @@ ghost use Rattle.mrc_draw.specs.Pictures.{picture_of, leaders_of, members_of, cl
 ghost use Rattle.mrc_draw.specs.Pictures.{rights_by, is_held, if_any, Holding, Carrying};
 ghost use Rattle.mrc_draw.specs.Pictures.{hold_edge, hold_edges, node_edges, carry_edge};
 ghost use Rattle.mrc_draw.specs.Pictures.{backup_edge, pair_edges, class_edges};
-ghost use Rattle.mrc_draw.specs.Dot.{rights_text, style_text, arrow_line, edge_line, node_line, box_line};
-ghost use Rattle.mrc_draw.specs.Dot.{node_text, graph_text, carry_look, backup_look};
+ghost use Rattle.mrc_draw.specs.Dot.{rights_text, style_text, arrow_line, edge_line, node_line};
+ghost use Rattle.mrc_draw.specs.Dot.{box_line, node_text, graph_text, carry_look, backup_look};
 ghost use Rattle.mrc_draw.specs.Drawings.{shown, by_three, name_piece};
 
 use crate::drawing::{Drawing, STYLES, Style, drawing_of, is_held};

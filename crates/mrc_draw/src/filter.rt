@@ -9,7 +9,7 @@ ghost use Rattle.mrc_draw.specs.Filters.{is_right, matches_task, matches_class, 
 ghost use Rattle.mrc_draw.specs.Filters.{matches, line_asked, facts_text, asked_by, filter_of};
 ghost use Rattle.mrc_draw.specs.declared.filter.FilterFault.TheVariants as faults;
 
-use mrc_base::{ClassId, Fact, PortRight, TaskId};
+use mrc_base::{ClassId, Fact, PortRight};
 use mrc_rows::Facts;
 use mrc_wiring::Wired;
 use mrc_words::{fact_text, right_named};
@@ -18,8 +18,8 @@ use std::alloc::{AllocError, Global};
 /// Which facts are asked for: those that have each part that is given.
 #[derive(Clone, Copy, Debug, PartialEq, Eq)]
 pub struct Filter {
-    /// Holds of this task.
-    pub task: Option<TaskId>,
+    /// Holds of the task of this number.
+    pub task: Option<u16>,
     /// Facts in which this class stands, at any place.
     pub class: Option<ClassId>,
     /// Holds and carries of this right.
@@ -37,13 +37,13 @@ pub enum FilterFault {
     Right,
 }
 
-fn task_asked(wired: &Wired, word: Option<&str>) -> Result<Option<TaskId>, FilterFault>
+fn task_asked(wired: &Wired, word: Option<&str>) -> Result<Option<u16>, FilterFault>
     ensures { result ≡ asked_by faults.Task (number_of wired.now.names)
         (option_map (λ word. word.now) word.entry) }
 {
     match word {
         Some(word) => match wired.task_named(word) {
-            Some(task) => Ok(Some(task)),
+            Some(task) => Ok(Some(task.0 as u16)),
             None => Err(FilterFault::Task),
         },
         None => Ok(None),
@@ -64,7 +64,8 @@ fn class_asked(wired: &Wired, word: Option<&str>) -> Result<Option<ClassId>, Fil
 }
 
 fn right_asked(word: Option<&str>) -> Result<Option<PortRight>, FilterFault>
-    ensures { result ≡ asked_by faults.Right right_named (option_map (λ word. word.now) word.entry) }
+    ensures { result ≡ asked_by faults.Right right_named
+        (option_map (λ word. word.now) word.entry) }
 {
     match word {
         Some(word) => match right_named(word) {
@@ -93,13 +94,13 @@ pub fn filter_of(
     })
 }
 
-fn matches_task(asked: Option<TaskId>, fact: &Fact) -> bool
+fn matches_task(asked: Option<u16>, fact: &Fact) -> bool
     ensures { result ≡ matches_task asked fact.now }
 {
     match asked {
         None => true,
         Some(asked) => match *fact {
-            Fact::Hold { task, .. } => u32::from(task) == asked.0,
+            Fact::Hold { task, .. } => task == asked,
             Fact::Carry { .. } | Fact::Backup { .. } => false,
         },
     }

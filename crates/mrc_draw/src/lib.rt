@@ -8,6 +8,8 @@ mod filter;
 pub mod laws;
 mod nodes;
 mod sets;
+#[cfg(test)]
+mod tests;
 
 pub use dot::graph_text;
 pub use filter::{Filter, FilterFault, facts_text, filter_of};

@@ -3,8 +3,7 @@
 ghost use Rattle.std.specs.Prelude.{◌≡◌, ◌==◌, ◌++◌, [], ◌∷◌, if◌then◌else◌, IfOk, OnOk};
 ghost use Rattle.std.specs.List.{list_any, find};
 ghost use Rattle.mrc_draw.specs.Pictures.{holds_kernel, are_one, with_task, leaders_of, leader_of};
-ghost use Rattle.mrc_draw.specs.Pictures.{hold_alike, hold_same};
-ghost use Rattle.mrc_draw.specs.Pictures.{members_of};
+ghost use Rattle.mrc_draw.specs.Pictures.{members_of, hold_alike, hold_same};
 ghost use Rattle.mrc_draw.specs.Drawings.{shown};
 
 use crate::drawing::{Drawing, holds_alike};

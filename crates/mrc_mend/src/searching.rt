@@ -17,8 +17,8 @@ const TRIES: usize = 2_000;
 /// How many wirings are judged at least, however large they are.
 const FEWEST: usize = 4;
 
-/// What judging them may cost: of 64 tasks, 320 classes and no facts it would be enough for 83.
-const COSTS: usize = 1_700_000;
+/// What judging them may cost: of 64 tasks, 384 classes and no facts it would be enough for 610.
+const COSTS: usize = 15_000_000;
 
 /// As many facts cost as much to find as one task at one class to look at.
 const FACTS: usize = 6;

@@ -103,11 +103,11 @@ pub sort_is : (table : Table) (kind : MessageKind) (s place i : ℕ) (interface 
     → slice_get form.arguments i ≡ Some argument
     → find (is_at i) form.slots ≡ Some slot
     → sort_at (form_shapes typed) i ≡ sort_number (sorts_of table.interfaces) s slot.type_name
-sort_is table kind s place i interface row form typed argument slot there are at is found arg slot_is =
+sort_is table kind s place i interface row form typed argument slot there are at is found arg by =
     ap (λ t. sort_at (form_shapes t) i)
     (typed_is table kind s place interface row form typed there are at is found)
     ∙ typed_sort kind (sorts_of table.interfaces) s i form slot
-    (slice_get_within form.arguments i argument arg) slot_is
+    (slice_get_within form.arguments i argument arg) by
 
 -- what is found in a form is a slot of the item
 pub item_slot : (table : Table) (kind : MessageKind) (s : ℕ) (interface : Interface) (row : Row)
@@ -121,8 +121,8 @@ pub item_slot : (table : Table) (kind : MessageKind) (s : ℕ) (interface : Inte
     → IsItemSlot table (item_of kind s) passing.class passing.held passing.right names
 item_slot table kind s interface row form typed passing names there are among is found x =
     let at = get_in interface.rows row among in
-    let sort = sort_is table kind s at.0 x.place interface row form typed x.argument x.slot there are
-    at.1 is found x.is.at x.is.is in
+    let sort = sort_is table kind s at.0 x.place interface row form typed x.argument x.slot there
+    are at.1 is found x.is.at x.is.is in
     record {
       at = record {
         kind = kind;

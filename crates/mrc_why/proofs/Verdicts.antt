@@ -1,5 +1,6 @@
 -- The lines of a policy that forbid a fact of the least set, and what follows for the verdict.
-use Rattle.std.proofs.Common.{◌≡◌, ℕ, ◌+◌, ◌<◌, ◌≤◌, inl, inr, Bool, true, false, List, [], ◌∷◌, ◌++◌, length}
+use Rattle.std.proofs.Common.{◌≡◌, ℕ, ◌+◌, ◌<◌, ◌≤◌, Bool, true, false, List, [], ◌∷◌, ◌++◌}
+use Rattle.std.proofs.Common.{inl, inr, length}
 use Rattle.std.proofs.Common.{map, take, get_or, refl, sym, ap, subst, ◌∙◌, IsTrue, arith}
 use Rattle.std.specs.Prelude.{filter, if◌then◌else◌}
 use Rattle.std.proofs.lemmas.Bool.{false≢true}
@@ -177,11 +178,12 @@ judged claim d lines i line before after of_claim less is (inl x) so_far chains 
     let b : BrokenLine = record { line = line; steps = x.1.steps } in (
       ap (map line_of) x.1.pushed
           ∙ map-append line_of before (b ∷ [])
-          ∙ line_told (is_broken (has d.facts)) lines (map line_of before) i line less is so_far x.0,
+          ∙ line_told (is_broken (has d.facts)) lines (map line_of before) i line less is so_far
+          x.0,
       subst (All (IsDerived claim)) (sym x.1.pushed)
           (All-push (IsDerived claim) before b chains
-          (subst (λ (table : Table). IsChain (wiring_of table) (forbidden_fact line) x.1.steps) of_claim
-          x.1.derives)),
+          (subst (λ (table : Table). IsChain (wiring_of table) (forbidden_fact line) x.1.steps)
+          of_claim x.1.derives)),
     )
 judged claim d lines i line before after of_claim less is (inr x) so_far chains = (
   ap (map line_of) x.1

@@ -99,8 +99,8 @@ fn slot_of_row<'a>(
 ) -> Option<SlotNames<'a>>
     requires there { slice_get wired.now.interfaces number ≡ Some interface.now }
     requires row { IsIn row.now interface.now.rows }
-    ensures { IfSome result (IsItemSlot wired.now (item_of kind number) passing.now.class passing.now.held
-        passing.now.right) }
+    ensures { IfSome result (IsItemSlot wired.now (item_of kind number) passing.now.class
+        passing.now.held passing.now.right) }
 {
     let _ids = interface.ids();
     let form = row.form(kind)?;
@@ -115,8 +115,8 @@ fn slot_of_messages<'a>(
     number: usize,
     passing: &Passing,
 ) -> Option<SlotNames<'a>>
-    ensures { IfSome result (IsItemSlot wired.now (item_of kind number) passing.now.class passing.now.held
-        passing.now.right) }
+    ensures { IfSome result (IsItemSlot wired.now (item_of kind number) passing.now.class
+        passing.now.held passing.now.right) }
 {
     let interface = wired.interface(number)?;
     for row in interface.rows() {
@@ -143,7 +143,8 @@ fn slot_of_item<'a>(wired: &'a Wired, item: LabelItem, passing: &Passing) -> Opt
 
 /// The first slot of the forms that the class accepts that lets the right pass.
 pub(crate) fn slot_of<'a>(wired: &'a Wired, to: ClassId, passing: &Passing) -> Option<SlotNames<'a>>
-    ensures { IfSome result (IsSlot wired.now to passing.now.class passing.now.held passing.now.right) }
+    ensures { IfSome result (IsSlot wired.now to passing.now.class passing.now.held
+        passing.now.right) }
 {
     for item in wired.label(to) {
         if let Some(names) = slot_of_item(wired, *item, passing) {

@@ -11,6 +11,6 @@ loop-place-preserved c =
     (string_bytes c.loop-place.text) c.as_str.result.now (string_bytes c.push_str.new.self)
     c.loop-place.invariant
     (c.as_str.ensures.value ∙ c.in_ok-line.ensures
-    ∙ ap (step_line c.args.blanks.now c.args.wired.now c.loop-place.place c.index-steps-place.result)
-    c.source_at.ensures)
+    ∙ ap (step_line c.args.blanks.now c.args.wired.now c.loop-place.place
+    c.index-steps-place.result) c.source_at.ensures)
     c.in_ok-push_str.ensures.bytes

@@ -14,5 +14,6 @@ returns c =
     c.args.kind c.args.number c.args.interface.now c.args.row.now c.in_ok-form.form.now
     c.in_ok-typed.typed.now c.args.passing.now names c.requires.there c.ids-ids.ensures.formed
     c.requires.row (sym c.in_ok-form.ensures)
-    (c.in_ok-typed.ensures ∙ ap (λ id. find (has_id id) (item_forms W c.item_of.result)) c.id.ensures
+    (c.in_ok-typed.ensures
+    ∙ ap (λ id. find (has_id id) (item_forms W c.item_of.result)) c.id.ensures
     ∙ ap (λ item. find (has_id c.in_ok-form.form.now.id) (item_forms W item)) c.item_of.ensures) x)
