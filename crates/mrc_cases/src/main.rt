@@ -12,6 +12,8 @@
 //! - `value`: the value of an expression, and where the first token stands that is behind it
 //! - `forms`: the table of forms of a MIG file
 //! - `names`: the forms of a MIG file by the names of their routines, with those of their arguments
+//! - `cut`: what is left out of a MIG text that is cut, and the table of forms of what is left
+//! - `rest`: what is left of it, with ` / ` between its lines
 //! - `defs`: a list of MIG files, in hexadecimal digits with `,` between them: their names
 //! - `disposition`: what a number of MIG's port types needs of a sender and gives a receiver
 //! - `message`: in hexadecimal digits, what a message is written as that was read
@@ -31,6 +33,7 @@
 mod answers;
 mod certificates;
 mod claims;
+mod cuts;
 mod escapes;
 mod forms;
 mod judging;
@@ -64,6 +67,8 @@ fn said(alloc: Global, line: &str) -> Result<String> {
         "value" => tokens::value(alloc, text.as_str()),
         "forms" => forms::forms(alloc, text.as_str().as_bytes()),
         "names" => forms::names(alloc, text.as_str().as_bytes()),
+        "cut" => cuts::cut_forms(alloc, text.as_str()),
+        "rest" => cuts::cut_lines(alloc, text.as_str()),
         "defs" => forms::defs(alloc, text.as_str()),
         "disposition" => numbers::disposition(alloc, text.as_str()),
         "judge" => judging::judged(alloc, text.as_str()),

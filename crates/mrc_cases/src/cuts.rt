@@ -1,0 +1,55 @@
+//! MIG files that are cut to what is read of them.
+
+use crate::forms::forms;
+use anyhow::Result;
+use mrc_mig_cut::{CutFile, cut};
+use std::alloc::Global;
+use std::str;
+
+/// How many routines are read, and the line, the name, the id and the word of each that is left
+/// out.
+fn told(alloc: Global, file: &CutFile) -> Result<String> {
+    let mut text = format!(in alloc; "{} read", file.read)?;
+    for routine in file.left_out.as_slice() {
+        let line = format!(in alloc;
+            "; {} {} {} {}",
+            routine.line,
+            routine.name.as_str(),
+            routine.id,
+            routine.word.as_str()
+        )?;
+        text.push_str(line.as_str())?;
+    }
+    Ok(text)
+}
+
+/// What is left out of a MIG text, and the table of the forms of what is left of it; or the fault
+/// for which nothing is made of it.
+pub fn cut_forms(alloc: Global, text: &str) -> Result<String> {
+    match cut(alloc, text.as_bytes()) {
+        Ok(file) => {
+            let told = told(alloc, &file)?;
+            let forms = forms(alloc, file.bytes.as_slice())?;
+            Ok(format!(in alloc; "{}; {}", told.as_str(), forms.as_str())?)
+        }
+        Err(fault) => Ok(fault.to_string(alloc)?),
+    }
+}
+
+/// What is left of a MIG text, with ` / ` between its lines; or the fault.
+pub fn cut_lines(alloc: Global, text: &str) -> Result<String> {
+    match cut(alloc, text.as_bytes()) {
+        Ok(file) => {
+            let text = str::from_utf8(file.bytes.as_slice()).unwrap_or("");
+            let mut lines = String::new(alloc);
+            for line in text.lines() {
+                if !lines.is_empty() {
+                    lines.push_str(" / ")?;
+                }
+                lines.push_str(line)?;
+            }
+            Ok(lines)
+        }
+        Err(fault) => Ok(fault.to_string(alloc)?),
+    }
+}

@@ -1,0 +1,175 @@
+//! Cuts out of a text what can't be read of it.
+
+ghost use Rattle.std.specs.Prelude.{◌≡◌, [], map, IfOk, IfErr, IsTrue};
+ghost use Rattle.std.specs.List.{count_by, list_all};
+ghost use Rattle.mrc_base.specs.Reading.{UnlessMemory};
+ghost use Rattle.mrc_forms.specs.Tables.{Table};
+ghost use Rattle.mrc_interface.specs.Reading.{IsInterface};
+ghost use Rattle.mrc_mig_cut.specs.Cuts.{has_request, requests, is_apart, IsCut};
+
+use crate::fault::CutFault;
+use crate::lines::{Lines, Marker};
+use crate::maker::{Made, Maker, Source};
+use crate::plain::plain_of;
+use crate::routine::LeftOut;
+use mrc_base::OrMemory;
+use mrc_forms::{Interface, MessageKind, Row};
+use mrc_interface::read_interface;
+use mrc_mig_symbols::{fault_of, lex};
+use std::alloc::{AllocError, Global};
+use std::str;
+
+/// What is made of a text.
+#[derive(Debug, Drop)]
+pub struct CutFile {
+    /// The bytes of a file that is read.
+    pub bytes: Vec<u8>,
+    /// How many routines are read of it.
+    pub read: usize,
+    /// The routines that are left out, in the order of their ids.
+    pub left_out: Vec<LeftOut>,
+}
+
+/// Cuts a text whose tokens are these.
+fn cut_tokens<'t>(
+    alloc: Global,
+    source: Source<'t>,
+    markers: &'t [Marker],
+) -> Result<Made, OrMemory<CutFault>> {
+    let mut lines = Lines::new(source.text.as_bytes(), markers);
+    let mut maker = Maker::new(alloc, markers)?;
+    match maker.each(alloc, source, &mut lines) {
+        Ok(()) => Ok(maker.finish()?),
+        Err(OrMemory::Fault(stop)) => {
+            let fault = fault_of(source.tokens, stop);
+            Err(OrMemory::Fault(CutFault::Parse(fault)))
+        }
+        Err(OrMemory::Memory) => Err(OrMemory::Memory),
+    }
+}
+
+/// Cuts a text.
+fn cut_text(alloc: Global, text: &str) -> Result<Made, OrMemory<CutFault>> {
+    let plain = plain_of(alloc, text)?;
+    let Ok(text) = str::from_utf8(plain.bytes.as_slice()) else {
+        return Err(OrMemory::Fault(CutFault::NotUtf8));
+    };
+    let tokens = match lex(alloc, text) {
+        Ok(tokens) => tokens,
+        Err(OrMemory::Fault(fault)) => return Err(OrMemory::Fault(CutFault::Lex(fault))),
+        Err(OrMemory::Memory) => return Err(OrMemory::Memory),
+    };
+    let source = Source {
+        text,
+        tokens: &tokens,
+    };
+    cut_tokens(alloc, source, plain.markers.as_slice())
+}
+
+/// Whether there is a request.
+#[tactic(auto, unfolding(crate::specs::Cuts::has_request))]
+fn has_request(row: &Row) -> bool
+    ensures { result ≡ has_request row.now }
+{
+    row.form(MessageKind::Request).is_some()
+}
+
+/// How many of the rows have a request.
+fn count_of(rows: &[Row]) -> usize
+    ensures { result ≡ count_by has_request rows.now }
+{
+    let mut count = 0;
+    for row in rows {
+        if has_request(row) {
+            count += 1;
+        }
+    }
+    count
+}
+
+/// How many requests there are.
+fn requests(interface: &Interface) -> usize
+    ensures { result ≡ requests interface.now }
+{
+    count_of(interface.rows())
+}
+
+/// Whether no request has the id of a routine that is left out.
+fn is_apart(interface: &Interface, routine: &LeftOut) -> bool
+    ensures { result ≡ is_apart interface.now routine.now.id }
+{
+    interface.request_form(routine.id).is_none()
+}
+
+/// Whether no request has the id of one of the routines that are left out.
+fn are_apart(interface: &Interface, left_out: &[LeftOut]) -> bool
+    ensures { result ≡ list_all (is_apart interface.now) (map (λ r. r.id) left_out.now) }
+{
+    left_out.iter().all(|routine| is_apart(interface, routine))
+}
+
+/// The bytes as they are, which have this table.
+fn whole(alloc: Global, bytes: &[u8], interface: &Interface) -> Result<CutFile, AllocError>
+    ensures read { IfOk result (λ cut. cut.read ≡ requests interface.now) }
+    ensures same { IfOk result (λ cut. cut.bytes.items ≡ bytes.now) }
+    ensures none { IfOk result (λ cut. cut.left_out.items ≡ []) }
+{
+    let mut copy = Vec::new(alloc);
+    copy.extend_from_slice(bytes)?;
+    Ok(CutFile {
+        bytes: copy,
+        read: requests(interface),
+        left_out: Vec::new(alloc),
+    })
+}
+
+/// What was made, where it is read and no routine that is left out has a form.
+fn seen(alloc: Global, made: Made) -> Result<CutFile, OrMemory<CutFault>>
+    ensures { IfOk result (λ cut.
+        IsCut cut.bytes.items cut.read (map (λ r. r.id) cut.left_out.items)) }
+{
+    match read_interface(alloc, made.bytes.as_slice()) {
+        Ok(interface) if are_apart(&interface, made.left_out.as_slice()) => Ok(CutFile {
+            read: requests(&interface),
+            bytes: made.bytes,
+            left_out: made.left_out,
+        }),
+        Ok(_) | Err(OrMemory::Fault(_)) => Err(OrMemory::Fault(CutFault::Rest)),
+        Err(OrMemory::Memory) => Err(OrMemory::Memory),
+    }
+}
+
+/// What the bytes of a text are cut to.
+fn cut_bytes(alloc: Global, bytes: &[u8]) -> Result<CutFile, OrMemory<CutFault>>
+    ensures { IfOk result (λ cut.
+        IsCut cut.bytes.items cut.read (map (λ r. r.id) cut.left_out.items)) }
+{
+    let Ok(text) = str::from_utf8(bytes) else {
+        return Err(OrMemory::Fault(CutFault::NotUtf8));
+    };
+    seen(alloc, cut_text(alloc, text)?)
+}
+
+/// Cuts a MIG file, whose macros, conditions and includes are worked out, to one that is read. A
+/// file that is read stays as it is. Of another each routine that can't be read is left out: a
+/// `skip` stands at its id.
+pub fn cut(alloc: Global, bytes: &[u8]) -> Result<CutFile, OrMemory<CutFault>>
+    // What is answered is a MIG file with so many routines, and no routine that is left out is one
+    // of them.
+    ensures found { IfOk result (λ cut.
+        IsCut cut.bytes.items cut.read (map (λ r. r.id) cut.left_out.items)) }
+    // A MIG file stays as it is, and nothing is left out.
+    ensures same { (table : Table) → IsInterface bytes.now table
+        → IfOk result (λ cut. cut.bytes.items ≡ bytes.now) }
+    ensures none { (table : Table) → IsInterface bytes.now table
+        → IfOk result (λ cut. cut.left_out.items ≡ []) }
+    // Nothing is refused that is a MIG file, unless memory ran out.
+    ensures refused { IfErr result (UnlessMemory (λ _. (table : Table)
+        → IsInterface bytes.now table → ⊥)) }
+{
+    match read_interface(alloc, bytes) {
+        Ok(interface) => Ok(whole(alloc, bytes, &interface)?),
+        Err(OrMemory::Fault(_)) => cut_bytes(alloc, bytes),
+        Err(OrMemory::Memory) => Err(OrMemory::Memory),
+    }
+}

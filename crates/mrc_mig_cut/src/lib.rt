@@ -1,0 +1,22 @@
+//! From the text of a MIG file to one that is read: what can't be read of it is cut out, and told.
+#![tactic(auto)]
+
+mod argument;
+mod cutting;
+mod fault;
+mod flags;
+mod kinds;
+mod laying;
+mod lines;
+mod maker;
+mod plain;
+mod routine;
+mod spelling;
+mod statement;
+mod structure;
+mod table;
+mod types;
+
+pub use cutting::{CutFile, cut};
+pub use fault::CutFault;
+pub use routine::LeftOut;
