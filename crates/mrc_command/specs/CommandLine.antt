@@ -49,6 +49,10 @@ flag_rule name = record (new_rule name) { long = Some name; action = Some SetTru
 abbrev pub defs_rule : Rule
 defs_rule = record (new_rule (codes "defs")) { value_names = 1; action = Some Append }
 
+-- the same where one MIG file at least has to be given
+abbrev pub given_defs_rule : Rule
+given_defs_rule = record defs_rule { required = true }
+
 -- a command of this name, with these options, and MIG files
 abbrev pub with_files : App → List Text → App
 with_files app [] = with_rule app defs_rule
@@ -155,6 +159,14 @@ live_options =
 abbrev pub live_app : App
 live_app = with_files live_options (codes "cert" ∷ codes "script" ∷ [])
 
+-- `mig` with its first option
+abbrev pub mig_options : App
+mig_options = with_rule (new_app (codes "mig")) (file_rule (codes "out"))
+
+-- `mig --out FOLDER [--strict] FILE...`
+abbrev pub mig_app : App
+mig_app = with_rule (with_rule mig_options (flag_rule (codes "strict"))) given_defs_rule
+
 -- all values that are given to an argument, none where it is not given
 abbrev pub all_values : Found → Text → List Text
 all_values found id = unwrap_or (option_map raw_values (matched_of found id)) []
@@ -189,9 +201,13 @@ fact_app = with_subcommand (with_subcommand certificate_app explain_app.top) fac
 abbrev pub drawing_app : App
 drawing_app = with_subcommand fact_app graph_app.top
 
+-- the same, and what runs scripts
+abbrev pub script_app : App
+script_app = with_subcommand (with_subcommand drawing_app replay_app.top) live_app.top
+
 -- the program and its commands
 abbrev pub machcheck_app : App
-machcheck_app = with_subcommand (with_subcommand drawing_app replay_app.top) live_app.top
+machcheck_app = with_subcommand script_app mig_app.top
 
 -- the words ask for help or for the version, as `clap` reads them; then they are no command
 abbrev pub AsksHelp : List Text → Type 0

@@ -36,6 +36,8 @@ pub enum Command<'a> {
     Replay(ReplayFiles<'a>),
     /// What do they answer where the certificate is accepted and tasks run as threads?
     Live(LiveFiles<'a>),
+    /// What can be read of MIG files of a system?
+    Mig(MigFiles<'a>),
 }
 
 /// The files of a system: the MIG files of its interfaces, and its wiring.
@@ -123,6 +125,14 @@ pub struct ReplayFiles<'a> {
 pub struct LiveFiles<'a> {
     pub check: CheckFiles<'a>,
     pub script: &'a str,
+}
+
+/// The files of a `mig`, the folder for what they are cut to, and whether nothing may be left out.
+#[derive(Drop)]
+pub struct MigFiles<'a> {
+    pub defs: Vec<&'a str>,
+    pub out: &'a str,
+    pub strict: bool,
 }
 
 /// Why there is no command to run.
@@ -425,6 +435,31 @@ fn live_files<'a>(alloc: Global, matches: &ArgMatches<'a>) -> Result<LiveFiles<'
     Ok(LiveFiles { check, script })
 }
 
+fn mig_files<'a>(alloc: Global, matches: &ArgMatches<'a>) -> Result<MigFiles<'a>, NoCommand>
+    ensures defs { IfOk result (λ files. map (λ file. file.now) files.defs.items
+        ≡ all_values (found_of matches.now) (codes "defs")) }
+    ensures out { IfOk result
+        (λ files. first_value (found_of matches.now) (codes "out") ≡ Some files.out.now) }
+    ensures strict { IfOk result
+        (λ files. IsFlag (found_of matches.now) (codes "strict") files.strict) }
+    ensures none { IfErr result (λ none. none ≡ NoCommand.Memory) }
+{
+    let defs = defs_given(alloc, matches)?;
+    let out = file_given(matches, "out")?;
+    let strict = matches.get_flag("strict");
+    Ok(MigFiles { defs, out, strict })
+}
+
+/// The last of the commands.
+fn last_command<'a>(alloc: Global, matches: &ArgMatches<'a>) -> Result<Command<'a>, NoCommand>
+    ensures none { IfErr result (λ none. none ≡ NoCommand.Memory) }
+{
+    match matches.subcommand_matches("mig") {
+        Some(matches) => Ok(Command::Mig(mig_files(alloc, matches)?)),
+        None => Err(NoCommand::Memory),
+    }
+}
+
 fn command_of<'a>(alloc: Global, matches: &ArgMatches<'a>) -> Result<Command<'a>, NoCommand>
     ensures none { IfErr result (λ none. none ≡ NoCommand.Memory) }
 {
@@ -454,7 +489,7 @@ fn command_of<'a>(alloc: Global, matches: &ArgMatches<'a>) -> Result<Command<'a>
     }
     match matches.subcommand_matches("live") {
         Some(matches) => Ok(Command::Live(live_files(alloc, matches)?)),
-        None => Err(NoCommand::Memory),
+        None => last_command(alloc, matches),
     }
 }
 

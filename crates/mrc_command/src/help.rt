@@ -2,12 +2,13 @@
 
 pub(crate) const PROGRAM_HELP: &str = "Exit status of each command:
   0  YES was printed, or changes that lead to it, a certificate was made, a chain, facts or a
-     drawing were printed, a script was replayed or run by threads, or help or the version
-     was printed
+     drawing were printed, a script was replayed or run by threads, MIG files were cut, or help
+     or the version was printed
   1  NO was printed, with a reason, or none: where no chain leads to a fact, or where no
      change was found that leads to YES
   2  a fault was told on standard error: a file can't be read or has no meaning,
-     the command line is wrong, the output was not taken, or memory ran out
+     the command line is wrong, the output was not taken, or memory ran out; or nothing is
+     left of MIG files
 
 `machcheck check --help`, and the same of the other commands, tells of the files. Read on
 in README.md, which starts with a worked example, and in docs/ARCHITECTURE.md.";
@@ -191,3 +192,22 @@ Exit status:
      wrong, the output was not taken, or memory ran out
 
 Read on in README.md, and in docs/ARCHITECTURE.md.";
+
+pub(crate) const MIG_HELP: &str = "Files, as docs/MIG.md describes them:
+  MIG files of a system, in which the C preprocessor has worked out conditions, macros and
+  includes. `bin/machcheck mig` does so before.
+
+Each file is cut to one of the same name in the folder that --out names. That one is read: each
+routine that can be read stands in it, and `skip;` at the id of each other. A file that is read as
+it is stays as it is. On standard error a line tells each routine that is left out, as
+`FILE:LINE: routine NAME (id N) left out: WORD`, with the word of the file that is the reason, and
+a line how many routines are read of each file, as `FILE: 5 of 8 routines read`. Files are written
+when all are cut, and replaced as `make` replaces a certificate.
+
+Exit status:
+  0  the files were written: of one of them at least a routine is read
+  2  no routine is read, or with --strict one is left out: nothing was written; or a fault on
+     standard error, as `machcheck: FILE: FAULT`: a file can't be read, can't be cut or was not
+     taken, two files have one name (SameName), the command line is wrong, or memory ran out
+
+Read on in README.md, and in docs/MIG.md.";

@@ -9,7 +9,7 @@ mod words;
 
 pub use command::{
     CheckFiles, CheckWords, Command, ExplainFiles, FactsFiles, GraphFiles, LiveFiles, MakeFiles,
-    MendFiles, NoCommand, ReplayFiles, SystemFiles, VerifyFiles, read,
+    MendFiles, MigFiles, NoCommand, ReplayFiles, SystemFiles, VerifyFiles, read,
 };
 pub use told::{Told, fault_of, memory, said};
 pub use words::{WordsFault, words_line, words_of};

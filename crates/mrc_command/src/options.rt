@@ -10,10 +10,11 @@ ghost use Rattle.mrc_command.specs.CommandLine.{facts_app};
 ghost use Rattle.mrc_command.specs.CommandLine.{graph_options, graph_app, replay_app};
 ghost use Rattle.mrc_command.specs.CommandLine.{live_options, live_app, HasNoGlobals};
 ghost use Rattle.mrc_command.specs.CommandLine.{answer_app, certificate_app, fact_app};
-ghost use Rattle.mrc_command.specs.CommandLine.{drawing_app, machcheck_app};
+ghost use Rattle.mrc_command.specs.CommandLine.{drawing_app, script_app, machcheck_app};
+ghost use Rattle.mrc_command.specs.CommandLine.{given_defs_rule, mig_options, mig_app};
 
 use crate::help::{
-    CHECK_HELP, EXPLAIN_HELP, FACTS_HELP, GRAPH_HELP, LIVE_HELP, MAKE_HELP, MEND_HELP,
+    CHECK_HELP, EXPLAIN_HELP, FACTS_HELP, GRAPH_HELP, LIVE_HELP, MAKE_HELP, MEND_HELP, MIG_HELP,
     PROGRAM_HELP, REPLAY_HELP, VERIFY_HELP,
 };
 use clap::{Arg, ArgAction};
@@ -302,6 +303,47 @@ fn live_command<'a>(alloc: Global) -> Result<clap::Command<'a>, AllocError>
         .arg(defs_arguments(alloc))
 }
 
+/// MIG files of which one at least has to be given.
+fn given_defs<'a>(alloc: Global) -> Arg<'a>
+    ensures rule { rule_of result ≡ given_defs_rule }
+    ensures local { result.global ≡ false }
+{
+    Arg::new(alloc, "defs")
+        .value_name("FILE")
+        .help("The MIG files, preprocessed")
+        .required(true)
+        .action(ArgAction::Append)
+}
+
+/// The command with its first option.
+fn mig_options<'a>(alloc: Global) -> Result<clap::Command<'a>, AllocError>
+    ensures app { IfOk result (λ command. app_of command ≡ mig_options) }
+    ensures local { IfOk result HasNoGlobals }
+{
+    clap::Command::new(alloc, "mig")
+        .about("Cuts MIG files of a system to files that can be read")
+        .after_help(MIG_HELP)
+        .arg(value_option(
+            alloc,
+            "out",
+            "FOLDER",
+            "The folder of the files that are written",
+        ))
+}
+
+fn mig_command<'a>(alloc: Global) -> Result<clap::Command<'a>, AllocError>
+    ensures app { IfOk result (λ command. app_of command ≡ mig_app) }
+    ensures local { IfOk result HasNoGlobals }
+{
+    mig_options(alloc)?
+        .arg(flag(
+            alloc,
+            "strict",
+            "Writes nothing where a routine is left out",
+        ))?
+        .arg(given_defs(alloc))
+}
+
 /// The program with the commands that answer what can come about.
 fn answer_commands<'a>(alloc: Global) -> Result<clap::Command<'a>, AllocError>
     ensures { IfOk result (λ command. app_of command ≡ answer_app) }
@@ -349,12 +391,21 @@ fn drawing_commands<'a>(alloc: Global) -> Result<clap::Command<'a>, AllocError>
     commands.subcommand(graph)
 }
 
-/// The program and its commands.
-pub(crate) fn whole_command<'a>(alloc: Global) -> Result<clap::Command<'a>, AllocError>
-    ensures { IfOk result (λ command. app_of command ≡ machcheck_app) }
+/// The same with the commands that run scripts.
+fn script_commands<'a>(alloc: Global) -> Result<clap::Command<'a>, AllocError>
+    ensures { IfOk result (λ command. app_of command ≡ script_app) }
 {
     let commands = drawing_commands(alloc)?;
     let replay = replay_command(alloc)?;
     let live = live_command(alloc)?;
     commands.subcommand(replay)?.subcommand(live)
+}
+
+/// The program and its commands.
+pub(crate) fn whole_command<'a>(alloc: Global) -> Result<clap::Command<'a>, AllocError>
+    ensures { IfOk result (λ command. app_of command ≡ machcheck_app) }
+{
+    let commands = script_commands(alloc)?;
+    let mig = mig_command(alloc)?;
+    commands.subcommand(mig)
 }

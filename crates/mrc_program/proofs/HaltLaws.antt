@@ -10,7 +10,7 @@ use Rattle.mrc_command.specs.declared.told.Told.{Told}
 use Rattle.mrc_command.specs.declared.command.Command.{Command}
 use Rattle.mrc_command.specs.declared.command.Command.TheVariants.{Verify, Mend, Check, Make}
 use Rattle.mrc_command.specs.declared.command.Command.TheVariants.{Explain, Facts, Graph, Replay}
-use Rattle.mrc_command.specs.declared.command.Command.TheVariants.{Live}
+use Rattle.mrc_command.specs.declared.command.Command.TheVariants.{Live, Mig}
 use Rattle.mrc_command.specs.declared.command.SystemFiles.{SystemFiles}
 use Rattle.mrc_command.specs.declared.command.LiveFiles.{LiveFiles}
 use Rattle.mrc_files.specs.Files.{Held}
@@ -129,6 +129,16 @@ silent held (Live files) told fault = elim fault [
     })
   ]
 ]
+silent held (Mig files) told fault = inl (elim fault [
+  | inl memory ↦ memory.out
+  | inr (inl unread) ↦ unread.out
+  | inr (inr (inl texts)) ↦ elim texts.tells [
+    | inl uncut ↦ uncut.out
+    | inr (inl less) ↦ less.tells.out
+    | inr (inr refused) ↦ refused.1.tells.tells.out
+  ]
+  | inr (inr (inr same)) ↦ same.out
+])
 
 -- the same of what is told of a command, by what it is
 pub silent_of : {E : Type 0} (held : Held) (result : Result Told E) (command is : Command)

@@ -2,6 +2,8 @@ pub mod ToldLaws
 pub mod ScriptLaws
 pub mod ChainLaws
 mod MakeLaws
+mod CutLaws
+mod CutExamples
 pub mod HaltLaws
 mod GraphLaws
 mod VerifyLaws

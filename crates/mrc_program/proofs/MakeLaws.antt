@@ -74,22 +74,21 @@ unwritten_is_fault files Memory (Ok told) memory = λ two. inl memory
 unwritten_is_fault files refusal (Err e) taken = tt
 
 -- pieces in a row
-in_a_row : (a b c d e : List ℕ) → (((a ++ b) ++ c) ++ d) ++ e ≡ a ++ (b ++ (c ++ (d ++ e)))
-in_a_row a b c d e = simp append_assoc
+in_a_row : (o a b c d e : List ℕ)
+    → ((((o ++ a) ++ b) ++ c) ++ d) ++ e ≡ o ++ (a ++ (b ++ (c ++ (d ++ e))))
+in_a_row o a b c d e = simp append_assoc
 
--- the line of a file that took so many bytes, piece by piece
-pub line_of_pieces : (none start named taken counted line file digits : List ℕ)
-    → none ≡ []
-    → start ≡ none ++ codes "machcheck: "
+-- the line of a file that took so many bytes, piece by piece behind a text
+pub line_of_pieces : (text start named taken counted line file digits : List ℕ)
+    → start ≡ text ++ codes "machcheck: "
     → named ≡ start ++ file
     → taken ≡ named ++ codes ": WriteFailed "
     → counted ≡ taken ++ digits
     → line ≡ counted ++ codes "\n"
-    → line ≡ fault_line file (codes "WriteFailed " ++ digits)
-line_of_pieces none start named taken counted line file digits h0 h1 h2 h3 h4 h5 =
-    let is_start : start ≡ codes "machcheck: " = h1 ∙ ap (λ l. l ++ codes "machcheck: ") h0 in
-    let is_named = h2 ∙ ap (λ l. l ++ file) is_start in
+    → line ≡ text ++ fault_line file (codes "WriteFailed " ++ digits)
+line_of_pieces text start named taken counted line file digits h1 h2 h3 h4 h5 =
+    let is_named = h2 ∙ ap (λ l. l ++ file) h1 in
     let is_taken = h3 ∙ ap (λ l. l ++ codes ": WriteFailed ") is_named in
     let is_counted = h4 ∙ ap (λ l. l ++ digits) is_taken in
     h5 ∙ ap (λ l. l ++ codes "\n") is_counted
-    ∙ in_a_row (codes "machcheck: ") file (codes ": WriteFailed ") digits (codes "\n")
+    ∙ in_a_row text (codes "machcheck: ") file (codes ": WriteFailed ") digits (codes "\n")

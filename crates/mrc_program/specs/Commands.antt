@@ -6,7 +6,7 @@ use Rattle.mrc_command.specs.declared.told.Told.{Told}
 use Rattle.mrc_command.specs.declared.command.Command.{Command}
 use Rattle.mrc_command.specs.declared.command.Command.TheVariants.{Verify, Mend, Check, Make}
 use Rattle.mrc_command.specs.declared.command.Command.TheVariants.{Explain, Facts, Graph, Replay}
-use Rattle.mrc_command.specs.declared.command.Command.TheVariants.{Live}
+use Rattle.mrc_command.specs.declared.command.Command.TheVariants.{Live, Mig}
 use Rattle.mrc_files.specs.Files.{Held}
 use Rattle.mrc_program.specs.Told.{YesOfFiles, NoOfFiles, FaultOfFiles, MadeOfFiles, FaultOfMake}
 use Rattle.mrc_program.specs.Told.{CutOfFiles}
@@ -17,9 +17,10 @@ use Rattle.mrc_program.specs.Listed.{FactsOfFiles, OtherOfFiles, FaultOfFacts}
 use Rattle.mrc_program.specs.Listed.{GraphOfFiles, UndrawnOfFiles, FaultOfGraph}
 use Rattle.mrc_program.specs.Verified.{AllowedOfFiles, BrokenOfFiles, FaultOfVerify}
 use Rattle.mrc_program.specs.Verified.{MendsOfFiles, FaultOfMend}
+use Rattle.mrc_program.specs.Cutting.{CutsOfFiles, RefusedOfFiles, FaultOfMig}
 
--- with status 0: a yes, mends, the making of a certificate, a chain, facts, a drawing, a replay or
--- a journal
+-- with status 0: a yes, mends, the making of a certificate, a chain, facts, a drawing, a replay, a
+-- journal, or what MIG files are cut to
 abbrev pub DoneOf : Held → Held → Command → Told → Type 0
 DoneOf before after (Verify files) told = AllowedOfFiles before files told
 DoneOf before after (Mend files) told = MendsOfFiles before files told
@@ -30,9 +31,10 @@ DoneOf before after (Facts files) told = FactsOfFiles before files told
 DoneOf before after (Graph files) told = GraphOfFiles before files told
 DoneOf before after (Replay files) told = ReplayOfFiles before files told
 DoneOf before after (Live files) told = LiveOfFiles before files told
+DoneOf before after (Mig files) told = CutsOfFiles before after files told
 
--- with status 1: a no, that no chain leads to a fact, or that no mend was found; never of a `make`
--- or a `replay`
+-- with status 1: a no, that no chain leads to a fact, or that no mend was found; never of a `make`,
+-- a `replay` or a `mig`
 abbrev pub NoOf : Held → Command → Told → Type 0
 NoOf held (Verify files) told = BrokenOfFiles held files told
 NoOf held (Mend files) told = MendsOfFiles held files told
@@ -43,6 +45,7 @@ NoOf held (Facts files) told = OtherOfFiles held files told
 NoOf held (Graph files) told = UndrawnOfFiles held files told
 NoOf held (Replay files) told = ⊥
 NoOf held (Live files) told = NoOfLive held files told
+NoOf held (Mig files) told = ⊥
 
 -- with status 2: why it is told
 abbrev pub FaultOf : Held → Command → Told → Type 0
@@ -55,8 +58,10 @@ FaultOf held (Facts files) told = FaultOfFacts held files told
 FaultOf held (Graph files) told = FaultOfGraph held files told
 FaultOf held (Replay files) told = FaultOfReplay held files told
 FaultOf held (Live files) told = FaultOfLive held files told
+FaultOf held (Mig files) told = FaultOfMig held files told
 
--- with status 2: so many bytes of a certificate were written, and these the file has
+-- with status 2: so many bytes of a certificate were written, and these the file has; or the
+-- writing of a file of a `mig` was refused, and this was left
 abbrev pub CutOf : Held → Held → Command → Told → Type 0
 CutOf before after (Verify files) told = ⊥
 CutOf before after (Mend files) told = ⊥
@@ -67,6 +72,7 @@ CutOf before after (Facts files) told = ⊥
 CutOf before after (Graph files) told = ⊥
 CutOf before after (Replay files) told = ⊥
 CutOf before after (Live files) told = ⊥
+CutOf before after (Mig files) told = RefusedOfFiles before after files told
 
 -- with status 2 and a text on standard output: that no task of a `live` can go on
 abbrev pub HaltedOf : Held → Command → Told → Type 0
@@ -79,18 +85,20 @@ HaltedOf held (Facts files) told = ⊥
 HaltedOf held (Graph files) told = ⊥
 HaltedOf held (Replay files) told = ⊥
 HaltedOf held (Live files) told = HaltedOfFiles held files told
+HaltedOf held (Mig files) told = ⊥
 
--- the command that may change a file
-abbrev pub IsMake : Command → Type 0
-IsMake (Verify files) = ⊥
-IsMake (Mend files) = ⊥
-IsMake (Check words) = ⊥
-IsMake (Make files) = Unit {0}
-IsMake (Explain files) = ⊥
-IsMake (Facts files) = ⊥
-IsMake (Graph files) = ⊥
-IsMake (Replay files) = ⊥
-IsMake (Live files) = ⊥
+-- a command that may change a file: it has an `--out`
+abbrev pub HasOut : Command → Type 0
+HasOut (Verify files) = ⊥
+HasOut (Mend files) = ⊥
+HasOut (Check words) = ⊥
+HasOut (Make files) = Unit {0}
+HasOut (Explain files) = ⊥
+HasOut (Facts files) = ⊥
+HasOut (Graph files) = ⊥
+HasOut (Replay files) = ⊥
+HasOut (Live files) = ⊥
+HasOut (Mig files) = Unit {0}
 
 -- it is told of some command
 abbrev pub SomeCommand : (Command → Told → Type 0) → Told → Type 0

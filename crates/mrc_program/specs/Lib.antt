@@ -4,4 +4,5 @@ pub mod Told
 pub mod Explained
 pub mod Listed
 pub mod Verified
+pub mod Cutting
 pub mod Commands

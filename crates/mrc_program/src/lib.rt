@@ -2,6 +2,7 @@
 //! pass a forbidden port right to a task.
 #![tactic(auto)]
 
+mod cuts;
 mod explain;
 mod facts;
 mod given;
@@ -10,6 +11,7 @@ mod lines;
 mod live;
 mod make;
 mod mend;
+mod mig;
 mod policy;
 mod progress;
 mod replay;
@@ -19,5 +21,6 @@ mod system;
 mod tell;
 mod told;
 mod verify;
+mod writing;
 
 pub use run::start;

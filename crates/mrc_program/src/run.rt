@@ -11,7 +11,7 @@ ghost use Rattle.mrc_files.specs.Files.{AreHeld, Exceeds, Fits, IsFirstUnread};
 ghost use Rattle.mrc_program.specs.Files.{check_names};
 ghost use Rattle.mrc_program.specs.Told.{ToldYes, ToldNo, ToldMemory, ToldFault, YesOfFiles};
 ghost use Rattle.mrc_program.specs.Told.{NoOfFiles, FaultOfFiles};
-ghost use Rattle.mrc_program.specs.Commands.{DoneOf, NoOf, FaultOf, CutOf, HaltedOf, IsMake};
+ghost use Rattle.mrc_program.specs.Commands.{DoneOf, NoOf, FaultOf, CutOf, HaltedOf, HasOut};
 ghost use Rattle.mrc_program.specs.Commands.{SomeCommand};
 ghost use Rattle.mrc_program.specs.Commands.{WentOut};
 ghost use Rattle.mrc_command.specs.CommandLine.{AsksHelp};
@@ -22,6 +22,7 @@ use crate::graph::graph_files;
 use crate::live::live_files;
 use crate::make::make_files;
 use crate::mend::mend_files;
+use crate::mig::mig_files;
 use crate::progress::Counter;
 use crate::replay::replay_files;
 use crate::system::{SystemBytes, system_bytes};
@@ -180,8 +181,9 @@ fn answer<F: Folder, R: Threads + Wait + Sync, P: Progress>(
     ensures silent { IfOk result (λ told. told.status ≡ 2 → (string_bytes told.out ≡ [])
         ⊎ HaltedOf (F.held folder.old) command.now told) }
     // A file is changed where a certificate is told, or that the file took so many of its bytes and
-    // has these, and nowhere else.
-    ensures kept { IsOkAnd result (λ told. (told.status ≡ 0) × IsMake command.now)
+    // has these; where MIG files are told to be cut, or that the writing of one was refused; and
+    // nowhere else.
+    ensures kept { IsOkAnd result (λ told. (told.status ≡ 0) × HasOut command.now)
         ⊎ (IsOkAnd result (CutOf (F.held folder.old) (F.held folder.new) command.now)
         ⊎ (F.held folder.new ≡ F.held folder.old)) }
 {
@@ -195,6 +197,7 @@ fn answer<F: Folder, R: Threads + Wait + Sync, P: Progress>(
         Command::Graph(files) => graph_files(folder, alloc, files),
         Command::Replay(files) => replay_files(folder, alloc, files),
         Command::Live(files) => live_files(rt, folder, alloc, files),
+        Command::Mig(files) => mig_files(folder, alloc, files),
     }
 }
 
@@ -251,8 +254,9 @@ fn write_told<O: Write, E: Write>(alloc: Global, told: &Told, out: &mut O, err: 
 /// Runs the program on the words of a command line, its own name first, and on the files of a
 /// folder. Where a person looks on, it tells on `err` how far a long search has come. The status is
 /// 0 for `YES`, for mends, for a certificate that is made, for a chain, for facts, for a drawing,
-/// for a replay, for a journal and for help and the version, 1 for `NO` and for `none`, and 2 for a
-/// fault and where all tasks of a `live` that have lines left wait for messages.
+/// for a replay, for a journal, for MIG files that are cut and for help and the version, 1 for `NO`
+/// and for `none`, and 2 for a fault, where too little is read of MIG files, and where all tasks of
+/// a `live` that have lines left wait for messages.
 pub fn run<F: Folder, R: Threads + Wait + Sync, O: Write, E: Write>(
     rt: &R,
     folder: &mut F,
@@ -263,9 +267,9 @@ pub fn run<F: Folder, R: Threads + Wait + Sync, O: Write, E: Write>(
     watched: bool,
 ) -> u8
     ensures status { result ≤ 2 }
-    // With status 0 a yes, mends, the making of a certificate, a chain, facts, a drawing, a replay
-    // or a journal went out that is right of what the files held, unless the words ask for help or
-    // the version.
+    // With status 0 a yes, mends, the making of a certificate, a chain, facts, a drawing, a replay,
+    // a journal or what MIG files are cut to went out that is right of what the files held, unless
+    // the words ask for help or the version.
     ensures yes { result ≡ 0
         → WentOut (DoneOf (F.held folder.old) (F.held folder.new))
         (O.contents out.old) (O.contents out.new)
@@ -298,9 +302,9 @@ pub fn start<F: Folder, R: Threads + Wait + Sync, O: Write, E: Write>(
 ) -> u8
     ensures status { result ≤ 2 }
     ensures fault { IfErr words (λ _. result ≡ 2) }
-    // With status 0 a yes, mends, the making of a certificate, a chain, facts, a drawing, a replay
-    // or a journal went out that is right of what the files held, unless the words ask for help or
-    // the version.
+    // With status 0 a yes, mends, the making of a certificate, a chain, facts, a drawing, a replay,
+    // a journal or what MIG files are cut to went out that is right of what the files held, unless
+    // the words ask for help or the version.
     ensures yes { result ≡ 0
         → WentOut (DoneOf (F.held folder.old) (F.held folder.new))
         (O.contents out.old) (O.contents out.new)

@@ -4,9 +4,11 @@ ghost use Rattle.std.specs.Prelude.{◌≡◌, ◌≤◌, ◌+◌, [], ◌++◌,
 ghost use Rattle.std.specs.Prelude.{string_bytes, string_capacity, string_len};
 ghost use Rattle.mrc_command.specs.Lines.{fault_line};
 ghost use Rattle.mrc_program.specs.Told.{UnreadTold};
+ghost use Rattle.mrc_program.specs.Cutting.{refusal_line};
 
+use mrc_base::OrMemory;
 use mrc_command::{Told, fault_of, memory};
-use mrc_files::{ReadFault, Unread};
+use mrc_files::{ReadFault, Unread, WriteFault};
 use std::alloc::{AllocError, Global};
 
 /// An empty text with room for the line that tells that a file did not take all bytes.
@@ -28,6 +30,33 @@ fn push(line: &mut String, text: &str)
     let _ = line.push_str(text);
 }
 
+/// Adds the line of a file that took so many bytes and then no more to a text that has room for it.
+fn add_failed(text: &mut String, file: &str, written: usize)
+    requires { string_len text.old + (length file.now + 66) ≤ string_capacity text.old }
+    ensures { string_bytes text.new ≡ string_bytes text.old
+        ++ fault_line file.now (codes "WriteFailed " ++ decimal written) }
+{
+    let mut digits = itoa::Buffer::new();
+    push(text, "machcheck: ");
+    push(text, file);
+    push(text, ": WriteFailed ");
+    push(text, digits.format(written));
+    push(text, "\n");
+}
+
+/// Adds the line of a file whose writing was refused to a text that has room for it. Want of memory
+/// is no file's fault.
+pub fn add_refusal(text: &mut String, file: &str, refusal: &OrMemory<WriteFault>)
+    requires { string_len text.old + (length file.now + 66) ≤ string_capacity text.old }
+    ensures { string_bytes text.new
+        ≡ string_bytes text.old ++ refusal_line file.now refusal.now }
+{
+    match refusal {
+        OrMemory::Fault(fault) => add_failed(text, file, fault.written),
+        OrMemory::Memory => push(text, "machcheck: Memory\n"),
+    }
+}
+
 /// A file that took so many bytes and then no more, in a line that has room for that. No memory is
 /// needed, so what a file was left with is told.
 pub fn write_failed(alloc: Global, line: String, file: &str, written: usize) -> Told
@@ -40,12 +69,7 @@ pub fn write_failed(alloc: Global, line: String, file: &str, written: usize) -> 
         ≡ fault_line file.now (codes "WriteFailed " ++ decimal written) }
 {
     let mut line = line;
-    let mut digits = itoa::Buffer::new();
-    push(&mut line, "machcheck: ");
-    push(&mut line, file);
-    push(&mut line, ": WriteFailed ");
-    push(&mut line, digits.format(written));
-    push(&mut line, "\n");
+    add_failed(&mut line, file, written);
     Told {
         out: String::new(alloc),
         err: line,

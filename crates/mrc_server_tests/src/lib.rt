@@ -17,6 +17,8 @@ mod lives;
 #[cfg(test)]
 mod makes;
 #[cfg(test)]
+mod migs;
+#[cfg(test)]
 mod printing;
 #[cfg(test)]
 mod replacing;

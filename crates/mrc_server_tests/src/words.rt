@@ -141,6 +141,22 @@ fn help_of_lives(rt: HostRuntime) -> Result<(), Fail> {
     tells_help(&rt, &rt, &["machcheck", "live", "--help"], &OF_LIVES)
 }
 
+const OF_MIGS: [&str; 8] = [
+    "Cuts MIG files of a system to files that can be read",
+    "Usage: machcheck mig [OPTIONS] --out <FOLDER> <FILE>...",
+    "--strict",
+    "`FILE:LINE: routine NAME (id N) left out: WORD`",
+    "  0  the files were written",
+    "  2  no routine is read",
+    "SameName",
+    "docs/MIG.md",
+];
+
+#[test]
+fn help_of_migs(rt: HostRuntime) -> Result<(), Fail> {
+    tells_help(&rt, &rt, &["machcheck", "mig", "--help"], &OF_MIGS)
+}
+
 /// Words as a system may give them.
 #[derive(Drop)]
 struct GivenWords<'a> {

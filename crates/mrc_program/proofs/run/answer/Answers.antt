@@ -104,3 +104,13 @@ pub returns-in-Graph-clause-silent : goal.returns-in-Graph-clause-silent
 returns-in-Graph-clause-silent g c =
     silent_of (g.F.Folder.held c.args.folder.now) c.graph_files.result c.args.command.now _
     c.in-Graph.is c.graph_files.ensures.fault
+
+pub returns-in-Mig-clause-fault : goal.returns-in-Mig-clause-fault
+returns-in-Mig-clause-fault g c =
+    of_command (g.F.Folder.held c.args.folder.now) c.mig_files.result c.args.command.now _
+    c.in-Mig.is c.mig_files.ensures.fault
+
+pub returns-in-Mig-clause-silent : goal.returns-in-Mig-clause-silent
+returns-in-Mig-clause-silent g c =
+    silent_of (g.F.Folder.held c.args.folder.now) c.mig_files.result c.args.command.now _
+    c.in-Mig.is c.mig_files.ensures.fault

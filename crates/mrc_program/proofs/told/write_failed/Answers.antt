@@ -1,10 +1,10 @@
-use Rattle.std.proofs.Common.{ap, ◌∙◌, ◌++◌, string_bytes}
-use Rattle.mrc_program.proofs.MakeLaws.{line_of_pieces}
+use Rattle.std.proofs.Common.{ap, ◌∙◌, ◌++◌}
+use Rattle.std.specs.Prelude.{codes, decimal}
+use Rattle.mrc_command.specs.Lines.{fault_line}
 use Rattle.mrc_program.proofs.told.write_failed.Goals as goal
 
 pub returns-clause-err : goal.returns-clause-err
 returns-clause-err c =
-    line_of_pieces _ _ _ _ _ _ c.args.file.now _ c.requires.empty c.push.ensures.bytes
-    c.push-2.ensures.bytes c.push-3.ensures.bytes
-    (c.push-4.ensures.bytes ∙ ap (λ digits. string_bytes c.push-3.new.line ++ digits) c.format.ensures.text)
-    c.push-5.ensures.bytes
+    c.add_failed.ensures
+    ∙ ap (λ l. l ++ fault_line c.args.file.now (codes "WriteFailed " ++ decimal c.args.written))
+    c.requires.empty
