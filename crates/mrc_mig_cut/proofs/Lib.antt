@@ -1,1 +1,7 @@
+mod AscendingLemmas
+mod LawLemmas
+mod LayoutLemmas
+mod MultipleLemmas
+mod NameLemmas
 mod Refusals
+mod StructLemmas

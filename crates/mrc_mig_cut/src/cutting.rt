@@ -1,11 +1,12 @@
 //! Cuts out of a text what can't be read of it.
 
-ghost use Rattle.std.specs.Prelude.{◌≡◌, [], map, IfOk, IfErr, IsTrue};
+ghost use Rattle.std.specs.Prelude.{◌≡◌, [], true, map, IfOk, IfErr, IsTrue};
 ghost use Rattle.std.specs.List.{count_by, list_all};
 ghost use Rattle.mrc_base.specs.Reading.{UnlessMemory};
 ghost use Rattle.mrc_forms.specs.Tables.{Table};
 ghost use Rattle.mrc_interface.specs.Reading.{IsInterface};
-ghost use Rattle.mrc_mig_cut.specs.Cuts.{has_request, requests, is_apart, IsCut};
+ghost use Rattle.mrc_mig_cut.specs.Cuts.{has_request, requests, is_apart, IsCut, follows};
+ghost use Rattle.mrc_mig_cut.specs.Cuts.{ascend_from, AreAscending};
 
 use crate::fault::CutFault;
 use crate::lines::{Lines, Marker};
@@ -29,6 +30,9 @@ pub struct CutFile {
     /// The routines that are left out, in the order of their ids.
     pub left_out: Vec<LeftOut>,
 }
+
+/// The largest id that is told.
+const MOST: u64 = u32::MAX as u64;
 
 /// Cuts a text whose tokens are these.
 fn cut_tokens<'t>(
@@ -108,11 +112,42 @@ fn are_apart(interface: &Interface, left_out: &[LeftOut]) -> bool
     left_out.iter().all(|routine| is_apart(interface, routine))
 }
 
+/// Whether an id is no smaller than the least that may come next, or the largest that is told.
+fn follows(least: u64, id: u64) -> bool
+    ensures { result ≡ follows least id }
+{
+    least <= id || id == MOST
+}
+
+/// Whether each id follows the one before it.
+#[tactic(auto, using(crate::proofs::AscendingLemmas::goes_on, crate::proofs::AscendingLemmas::stops, crate::proofs::AscendingLemmas::ends))]
+fn ascend(left_out: &[LeftOut]) -> bool
+    ensures { result ≡ ascend_from 0 (map (λ r. r.id) left_out.now) }
+{
+    let mut least = 0u64;
+    for routine in left_out {
+        let id = u64::from(routine.id);
+        if !follows(least, id) {
+            return false;
+        }
+        least = id + 1;
+    }
+    true
+}
+
+/// Whether each id is greater than the one before it, or the largest that is told.
+fn is_ascending(left_out: &[LeftOut]) -> bool
+    ensures { result ≡ true → AreAscending (map (λ r. r.id) left_out.now) }
+{
+    ascend(left_out)
+}
+
 /// The bytes as they are, which have this table.
 fn whole(alloc: Global, bytes: &[u8], interface: &Interface) -> Result<CutFile, AllocError>
     ensures read { IfOk result (λ cut. cut.read ≡ requests interface.now) }
     ensures same { IfOk result (λ cut. cut.bytes.items ≡ bytes.now) }
     ensures none { IfOk result (λ cut. cut.left_out.items ≡ []) }
+    ensures ascending { IfOk result (λ cut. AreAscending (map (λ r. r.id) cut.left_out.items)) }
 {
     let mut copy = Vec::new(alloc);
     copy.extend_from_slice(bytes)?;
@@ -125,9 +160,13 @@ fn whole(alloc: Global, bytes: &[u8], interface: &Interface) -> Result<CutFile, 
 
 /// What was made, where it is read and no routine that is left out has a form.
 fn seen(alloc: Global, made: Made) -> Result<CutFile, OrMemory<CutFault>>
-    ensures { IfOk result (λ cut.
+    ensures found { IfOk result (λ cut.
         IsCut cut.bytes.items cut.read (map (λ r. r.id) cut.left_out.items)) }
+    ensures ascending { IfOk result (λ cut. AreAscending (map (λ r. r.id) cut.left_out.items)) }
 {
+    if !is_ascending(made.left_out.as_slice()) {
+        return Err(OrMemory::Fault(CutFault::Rest));
+    }
     match read_interface(alloc, made.bytes.as_slice()) {
         Ok(interface) if are_apart(&interface, made.left_out.as_slice()) => Ok(CutFile {
             read: requests(&interface),
@@ -141,8 +180,9 @@ fn seen(alloc: Global, made: Made) -> Result<CutFile, OrMemory<CutFault>>
 
 /// What the bytes of a text are cut to.
 fn cut_bytes(alloc: Global, bytes: &[u8]) -> Result<CutFile, OrMemory<CutFault>>
-    ensures { IfOk result (λ cut.
+    ensures found { IfOk result (λ cut.
         IsCut cut.bytes.items cut.read (map (λ r. r.id) cut.left_out.items)) }
+    ensures ascending { IfOk result (λ cut. AreAscending (map (λ r. r.id) cut.left_out.items)) }
 {
     let Ok(text) = str::from_utf8(bytes) else {
         return Err(OrMemory::Fault(CutFault::NotUtf8));
@@ -158,6 +198,8 @@ pub fn cut(alloc: Global, bytes: &[u8]) -> Result<CutFile, OrMemory<CutFault>>
     // of them.
     ensures found { IfOk result (λ cut.
         IsCut cut.bytes.items cut.read (map (λ r. r.id) cut.left_out.items)) }
+    // The routines that are left out are told by ascending ids, none twice but the largest number.
+    ensures ascending { IfOk result (λ cut. AreAscending (map (λ r. r.id) cut.left_out.items)) }
     // A MIG file stays as it is, and nothing is left out.
     ensures same { (table : Table) → IsInterface bytes.now table
         → IfOk result (λ cut. cut.bytes.items ≡ bytes.now) }

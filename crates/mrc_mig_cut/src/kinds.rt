@@ -1,5 +1,8 @@
 //! What a type is to a message.
 
+ghost use Rattle.std.specs.Prelude.{◌≡◌, true, false};
+ghost use Rattle.mrc_mig_cut.specs.Kinds.{Items, NoForm, meant, item, basic_meant, sized_meant};
+
 use mrc_forms::Shape;
 use mrc_mig_symbols::Basic;
 
@@ -31,7 +34,9 @@ pub(crate) struct Other<'t> {
 }
 
 /// A type that has no form, for this word.
-pub(crate) fn no_form(word: &str) -> Kind<'_> {
+pub(crate) fn no_form(word: &str) -> Kind<'_>
+    ensures { meant result ≡ NoForm word.now false }
+{
     Kind::Other(Other {
         word,
         is_port: false,
@@ -39,7 +44,9 @@ pub(crate) fn no_form(word: &str) -> Kind<'_> {
 }
 
 /// A port whose right the sender picks.
-pub(crate) fn any_port(word: &str) -> Kind<'_> {
+pub(crate) fn any_port(word: &str) -> Kind<'_>
+    ensures { meant result ≡ NoForm word.now true }
+{
     Kind::Other(Other {
         word,
         is_port: true,
@@ -47,7 +54,9 @@ pub(crate) fn any_port(word: &str) -> Kind<'_> {
 }
 
 /// One item of this type number and so many bits.
-pub(crate) fn one(name: u16, size: u16) -> Kind<'static> {
+pub(crate) fn one(name: u16, size: u16) -> Kind<'static>
+    ensures { meant result ≡ Items (item name size) }
+{
     Kind::Data(Data {
         shape: Shape {
             name,
@@ -60,7 +69,9 @@ pub(crate) fn one(name: u16, size: u16) -> Kind<'static> {
 }
 
 /// An item of a basic type, which the text names, with no size of its own.
-pub(crate) fn basic_kind(basic: Option<Basic>, word: &str) -> Kind<'_> {
+pub(crate) fn basic_kind(basic: Option<Basic>, word: &str) -> Kind<'_>
+    ensures { meant result ≡ basic_meant basic word.now }
+{
     match basic {
         Some(Basic::Plain(name, size)) => one(name, size),
         Some(Basic::Polymorphic) => any_port(word),
@@ -69,7 +80,9 @@ pub(crate) fn basic_kind(basic: Option<Basic>, word: &str) -> Kind<'_> {
 }
 
 /// An item of a basic type, which the text names, of so many bits.
-pub(crate) fn sized_kind(basic: Option<Basic>, word: &str, size: u32) -> Kind<'_> {
+pub(crate) fn sized_kind(basic: Option<Basic>, word: &str, size: u32) -> Kind<'_>
+    ensures { meant result ≡ sized_meant basic word.now size }
+{
     match basic {
         Some(Basic::Plain(name, _) | Basic::Unsized(name)) => match u16::try_from(size) {
             Ok(size) => one(name, size),

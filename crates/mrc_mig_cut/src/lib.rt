@@ -6,6 +6,7 @@ mod cutting;
 mod fault;
 mod flags;
 mod kinds;
+mod laws;
 mod laying;
 mod lines;
 mod maker;
@@ -19,4 +20,5 @@ mod types;
 
 pub use cutting::{CutFile, cut};
 pub use fault::CutFault;
+pub use laws::structs_are_laid;
 pub use routine::LeftOut;

@@ -80,11 +80,16 @@ fn word_of_fault(fault: DefsFault) -> &'static str {
     }
 }
 
-/// Writes the statement of a type.
-fn push_type(alloc: Global, text: &mut String, declared: Declared<'_>) -> Result<(), AllocError> {
+/// Writes the statement of a type of this name.
+fn push_type(
+    alloc: Global,
+    text: &mut String,
+    name: &str,
+    declared: Declared<'_>,
+) -> Result<(), AllocError> {
     if let Kind::Data(data) = declared.kind {
         let spelled = shape_text(alloc, data.shape)?;
-        let line = format!(in alloc; "type {} = {};\n", declared.name, spelled.as_str())?;
+        let line = format!(in alloc; "type {name} = {};\n", spelled.as_str())?;
         text.push_str(line.as_str())?;
     }
     Ok(())
@@ -133,7 +138,7 @@ impl<'t> Maker<'t> {
         for name in names {
             if seen.insert(*name)? {
                 if let Some(declared) = self.table.get(name) {
-                    push_type(alloc, text, declared)?;
+                    push_type(alloc, text, name, declared)?;
                 }
             }
         }
@@ -163,7 +168,7 @@ impl<'t> Maker<'t> {
             if self.written.insert(*name)? {
                 if let Some(declared) = self.table.get(name) {
                     push_marker(alloc, &mut self.text, self.markers, declared.line)?;
-                    push_type(alloc, &mut self.text, declared)?;
+                    push_type(alloc, &mut self.text, name, declared)?;
                 }
             }
         }

@@ -1,10 +1,15 @@
 //! Types as they are written.
 
+ghost use Rattle.std.specs.Prelude.{◌≡◌, IfOk, string_bytes};
+ghost use Rattle.mrc_mig_cut.specs.Spelling.{words, word_from, item_text, shape_text};
+
 use mrc_forms::Shape;
 use std::alloc::{AllocError, Global};
 
 /// The name of a type number, and the size that it has without another; 0 where it has none.
-fn basic_word(name: u16) -> (&'static str, u16) {
+fn basic_word(name: u16) -> (&'static str, u16)
+    ensures { (result.0.now, result.1) ≡ word_from words name }
+{
     match name {
         0 => ("MACH_MSG_TYPE_BOOLEAN", 32),
         1 => ("MACH_MSG_TYPE_INTEGER_16", 16),
@@ -24,7 +29,9 @@ fn basic_word(name: u16) -> (&'static str, u16) {
 }
 
 /// One item as it is written.
-fn item_text(alloc: Global, shape: Shape) -> Result<String, AllocError> {
+fn item_text(alloc: Global, shape: Shape) -> Result<String, AllocError>
+    ensures { IfOk result (λ text. string_bytes text ≡ item_text shape) }
+{
     let (word, usual) = basic_word(shape.name);
     if usual == shape.size {
         String::from_str(alloc, word)
@@ -34,7 +41,9 @@ fn item_text(alloc: Global, shape: Shape) -> Result<String, AllocError> {
 }
 
 /// Items as they are written.
-pub(crate) fn shape_text(alloc: Global, shape: Shape) -> Result<String, AllocError> {
+pub(crate) fn shape_text(alloc: Global, shape: Shape) -> Result<String, AllocError>
+    ensures { IfOk result (λ text. string_bytes text ≡ shape_text shape) }
+{
     let item = item_text(alloc, shape)?;
     if shape.is_bound {
         format!(in alloc; "array[*:{}] of {}", shape.number, item.as_str())

@@ -1,6 +1,13 @@
 //! The types that a text knows.
 
-use crate::kinds::{Kind, any_port, no_form, one};
+ghost use Rattle.std.specs.Prelude.{◌≡◌, true, false, map, option_map, OnOk, IfOk};
+ghost use Rattle.mrc_mig_cut.specs.Kinds.{meant};
+ghost use Rattle.mrc_mig_cut.specs.Names.{known, nothing_known, kind_of, is_same, is_same_data};
+ghost use Rattle.mrc_mig_cut.specs.Names.{with_type};
+ghost use Rattle.mrc_mig_cut.specs.Names.{declared, declared_all, item_row, word_row};
+ghost use Rattle.mrc_mig_cut.specs.Names.{built_in, included};
+
+use crate::kinds::{Data, Kind, any_port, no_form, one};
 use crate::lines::Line;
 use std::alloc::{AllocError, Global};
 use std::collections::BTreeMap;
@@ -12,15 +19,12 @@ pub(crate) struct Declared<'t> {
     pub(crate) kind: Kind<'t>,
     /// The line of its statement.
     pub(crate) line: Line,
-    /// Its name.
-    pub(crate) name: &'t str,
 }
 
-/// The types that were declared, by their names, no two of one name.
+/// The types that were declared, by their names.
 #[derive(Drop)]
 pub(crate) struct Table<'t> {
-    entries: Vec<Declared<'t>>,
-    places: BTreeMap<&'t str, usize>,
+    types: BTreeMap<&'t str, Declared<'t>>,
 }
 
 /// Types of MIG itself: they need no statement.
@@ -85,35 +89,68 @@ const ANY_PORTS: [(&str, &str); 4] = [
     ("mach_port_poly_t", "polymorphic"),
 ];
 
-fn is_same(one: Kind<'_>, another: Kind<'_>) -> bool {
+/// Whether these are the same items.
+fn is_same_data(one: Data, another: Data) -> bool
+    ensures { result ≡ is_same_data one another }
+{
+    one.shape.name == another.shape.name
+        && one.shape.size == another.shape.size
+        && one.shape.number == another.shape.number
+        && one.shape.is_bound == another.shape.is_bound
+        && one.alignment == another.alignment
+}
+
+/// Whether these are the same items, or nothing for the same word.
+fn is_same(one: Kind<'_>, another: Kind<'_>) -> bool
+    ensures { result ≡ is_same (meant one.entry) (meant another.entry) }
+{
     match (one, another) {
-        (Kind::Data(one), Kind::Data(another)) => one == another,
+        (Kind::Data(one), Kind::Data(another)) => is_same_data(one, another),
         (Kind::Other(one), Kind::Other(another)) => one.word == another.word,
         _ => false,
     }
 }
 
 impl<'t> Table<'t> {
+    /// No type.
+    fn empty(alloc: Global) -> Table<'t>
+        ensures { known result ≡ nothing_known }
+    {
+        Table {
+            types: BTreeMap::new(alloc),
+        }
+    }
+
     /// The types of MIG itself.
-    pub(crate) fn new(alloc: Global) -> Result<Table<'t>, AllocError> {
+    pub(crate) fn new(alloc: Global) -> Result<Table<'t>, AllocError>
+        ensures { IfOk result (λ table. known table ≡ declared_all nothing_known built_in) }
+    {
         let line = Line {
             number: 1,
             markers: 0,
         };
-        let mut table = Table {
-            entries: Vec::new(alloc),
-            places: BTreeMap::new(alloc),
-        };
-        for (name, number, size) in &BUILT_IN {
-            table.declare(name, one(*number, *size), line)?;
-        }
+        let mut table = Table::empty(alloc);
+        table.declare_each(&BUILT_IN, line)?;
         Ok(table)
     }
 
     /// The type of this name.
-    pub(crate) fn get(&self, name: &str) -> Option<Declared<'t>> {
-        let place = self.places.get(name)?;
-        self.entries.as_slice().get(*place).copied()
+    pub(crate) fn get(&self, name: &str) -> Option<Declared<'t>>
+        ensures { option_map kind_of result ≡ known self.now name.now }
+    {
+        match self.types.get(name) {
+            None => None,
+            Some(found) => Some(*found),
+        }
+    }
+
+    /// Puts a type under a name.
+    fn put(&mut self, name: &'t str, kind: Kind<'t>, line: Line) -> Result<(), AllocError>
+        ensures { OnOk result (known self.new
+            ≡ with_type (known self.old) name.now (meant kind.entry)) }
+    {
+        self.types.insert(name, Declared { kind, line })?;
+        Ok(())
     }
 
     /// Declares a type. Where the name is that of another type, it is none from there on.
@@ -122,50 +159,66 @@ impl<'t> Table<'t> {
         name: &'t str,
         kind: Kind<'t>,
         line: Line,
-    ) -> Result<(), AllocError> {
-        if let Some(place) = self.places.get(name) {
-            if let Some(entry) = self.entries.as_mut_slice().get_mut(*place) {
-                if !is_same(entry.kind, kind) {
-                    entry.kind = no_form("type");
+    ) -> Result<(), AllocError>
+        ensures { OnOk result (known self.new
+            ≡ declared (known self.old) name.now (meant kind.entry)) }
+    {
+        match self.get(name) {
+            None => self.put(name, kind, line),
+            Some(other) => {
+                if is_same(other.kind, kind) {
+                    Ok(())
+                } else {
+                    self.put(name, no_form("type"), other.line)
                 }
             }
-            return Ok(());
         }
-        self.entries.reserve(1)?;
-        let place = self.entries.as_slice().len();
-        self.places.insert(name, place)?;
-        self.entries.push(Declared { kind, line, name })?;
-        Ok(())
     }
 
-    /// Declares the types of the file of standard types that have a form.
-    fn declare_standard(&mut self, line: Line) -> Result<(), AllocError> {
-        for (name, number, size) in &STANDARD {
+    /// Declares types of one item.
+    fn declare_each(&mut self, table: &[(&'t str, u16, u16)], line: Line) -> Result<(), AllocError>
+        ensures { OnOk result (known self.new
+            ≡ declared_all (known self.old) (map item_row table.now)) }
+    {
+        for (name, number, size) in table {
             self.declare(name, one(*number, *size), line)?;
         }
         Ok(())
     }
 
-    /// Declares those that have none.
-    fn declare_others(&mut self, line: Line) -> Result<(), AllocError> {
-        for (name, word) in &WITHOUT_FORM {
+    /// Declares types that have no form, each with the word that makes it so.
+    fn declare_others(&mut self, table: &[(&'t str, &'t str)], line: Line) -> Result<(), AllocError>
+        ensures { OnOk result (known self.new
+            ≡ declared_all (known self.old) (map (word_row false) table.now)) }
+    {
+        for (name, word) in table {
             self.declare(name, no_form(word), line)?;
         }
         Ok(())
     }
 
-    /// Declares those whose right the sender picks.
-    fn declare_any_ports(&mut self, line: Line) -> Result<(), AllocError> {
-        for (name, word) in &ANY_PORTS {
+    /// Declares ports whose right the sender picks, each with the word that says so.
+    fn declare_any_ports(
+        &mut self,
+        table: &[(&'t str, &'t str)],
+        line: Line,
+    ) -> Result<(), AllocError>
+        ensures { OnOk result (known self.new
+            ≡ declared_all (known self.old) (map (word_row true) table.now)) }
+    {
+        for (name, word) in table {
             self.declare(name, any_port(word), line)?;
         }
         Ok(())
     }
 
     /// Declares the types of the file of standard types.
-    pub(crate) fn include(&mut self, line: Line) -> Result<(), AllocError> {
-        self.declare_standard(line)?;
-        self.declare_others(line)?;
-        self.declare_any_ports(line)
+    pub(crate) fn include(&mut self, line: Line) -> Result<(), AllocError>
+        ensures { OnOk result (known self.new ≡ included (known self.old)) }
+    {
+        self.declare_each(&STANDARD, line)?;
+        self.declare_others(&WITHOUT_FORM, line)?;
+        self.declare_any_ports(&ANY_PORTS, line)?;
+        Ok(())
     }
 }

@@ -12,4 +12,4 @@ returns c =
     _ _ _ c.all.ensures.ran (YieldsList-from_slice c.args.left_out.now cc)
     (λ x b q k. search (rules, tests))
     ∙ sym (list_all-map (is_apart c.args.interface.now) (λ (r : LeftOut). r.id)
-        c.args.left_out.now)
+    c.args.left_out.now)

@@ -14,4 +14,4 @@ returns-in-Err-Fault-clause-none c = λ table is.
 pub returns-in-Err-Fault-clause-refused : goal.returns-in-Err-Fault-clause-refused
 returns-in-Err-Fault-clause-refused c =
     whatever (λ table is. refused reason_of table _ _ c.in-Err-Fault.field-0-is
-        (c.in-Err-Fault.ensures.only table is)) c.cut_bytes.result
+    (c.in-Err-Fault.ensures.only table is)) c.cut_bytes.result

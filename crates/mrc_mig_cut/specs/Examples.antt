@@ -1,0 +1,88 @@
+-- Worked examples: structs of C on i386, laid out by hand; arrays of them; and types as they are
+-- written.
+use Rattle.std.specs.Prelude.{◌≡◌, [], ◌∷◌, codes, false, true, refl}
+use Rattle.mrc_mig_cut.specs.declared.kinds.Data.{Data}
+use Rattle.mrc_mig_cut.specs.Kinds.{Items, NoForm, item}
+use Rattle.mrc_mig_cut.specs.Layout.{place_of, end_of, size_of, struct_of}
+use Rattle.mrc_mig_cut.specs.Spelling.{shape_text}
+use Rattle.mrc_mig_cut.specs.Types.{no_arrays, times, without, within, string}
+
+-- `char`, `short` and `int`, and an array of three `char`
+abbrev char : Data
+char = item 8 8
+
+abbrev short : Data
+short = item 1 16
+
+abbrev int : Data
+int = item 2 32
+
+abbrev char_array : Data
+char_array = record char { shape = record char.shape { number = 3 } }
+
+-- `struct { char a; int b; short c; }`: three bytes are free behind a, and two at the end
+pub second_field : place_of (end_of (char ∷ [])) int ≡ 4
+second_field = refl
+
+pub third_field : place_of (end_of (char ∷ int ∷ [])) short ≡ 8
+third_field = refl
+
+pub padded_end : size_of (char ∷ int ∷ short ∷ []) ≡ 12
+padded_end = refl
+
+-- it is sent as three words of 32 bits
+pub words : struct_of
+    ((Items char, codes "char") ∷ (Items int, codes "int") ∷ (Items short, codes "short") ∷ [])
+    (codes "struct")
+    ≡ Items (record {
+      shape = record { name = 2; size = 32; number = 3; is_bound = false };
+      alignment = 4;
+    })
+words = refl
+
+-- `struct { char a[3]; short b; }` has six bytes, which are three numbers of 16 bits
+pub half_words : struct_of
+    ((Items char_array, codes "a") ∷ (Items short, codes "short") ∷ []) (codes "struct")
+    ≡ Items (record {
+      shape = record { name = 1; size = 16; number = 3; is_bound = false };
+      alignment = 2;
+    })
+half_words = refl
+
+-- `struct { char a[3]; char b; }` is four bytes
+pub bytes : struct_of
+    ((Items char_array, codes "a") ∷ (Items char, codes "char") ∷ []) (codes "struct")
+    ≡ Items (record {
+      shape = record { name = 9; size = 8; number = 4; is_bound = false };
+      alignment = 1;
+    })
+bytes = refl
+
+-- a field of no form is the reason why the struct has none
+pub no_form : struct_of
+    ((Items int, codes "int") ∷ (NoForm (codes "^") true, codes "pointer_t") ∷ []) (codes "struct")
+    ≡ NoForm (codes "^") false
+no_form = refl
+
+-- `array[*:3] of struct[2] of int` is six words at most
+pub array_of_structs : within (times (times no_arrays 3 true) 2 false) (Items int)
+    ≡ Items (record {
+      shape = record { name = 2; size = 32; number = 6; is_bound = true };
+      alignment = 4;
+    })
+array_of_structs = refl
+
+-- `array[2] of c_string[*:9]`: a string of variable length has no form inside an array
+pub array_of_strings : within (times no_arrays 2 false) (Items (string 9 true))
+    ≡ NoForm (codes "array[*:n]") false
+array_of_strings = refl
+
+-- `^array[] of int`: the first word is the reason
+pub out_of_line : within (without (without no_arrays (codes "^")) (codes "array[]")) (Items int)
+    ≡ NoForm (codes "^") false
+out_of_line = refl
+
+-- one word, as it is written
+pub word_written : shape_text (record { name = 2; size = 32; number = 1; is_bound = false })
+    ≡ codes "MACH_MSG_TYPE_INTEGER_32"
+word_written = refl

@@ -1,0 +1,52 @@
+-- What a type is to a message: the items that are in its body, or the word for which it has no
+-- form. Which types have none is this profile's own choice; sizes and alignments are those of GNU
+-- MIG where addresses have 32 bits.
+use Rattle.std.specs.Prelude.{ℕ, ◌*◌, ◌/◌, ◌^◌, List, Bool, true, false, Option, Some, None, min}
+use Rattle.std.specs.Prelude.{nat_lt, if◌then◌else◌}
+use denote.Ref.{Bor}
+use Rattle.mrc_mig_symbols.specs.declared.word.Basic.{Basic}
+use Rattle.mrc_mig_symbols.specs.declared.word.Basic.TheVariants as basic
+use Rattle.mrc_mig_cut.specs.declared.kinds.Data.{Data}
+use Rattle.mrc_mig_cut.specs.declared.kinds.Kind.{Kind}
+use Rattle.mrc_mig_cut.specs.declared.kinds.Kind.TheVariants as kinds
+
+-- a text of code, wherever it lies
+abbrev pub told : Option (Bor (List ℕ)) → Option (List ℕ)
+told None = None
+told (Some text) = Some text.now
+
+-- Items in the body of a message; or none, with the word that makes it so, and whether the one
+-- thing that has no form is which right a port is sent with.
+pub data Meant : Type 0 where
+  Items : Data → Meant
+  NoForm : List ℕ → Bool → Meant
+
+-- a kind of code, wherever its word lies
+abbrev pub meant : Kind → Meant
+meant (kinds.Data sent) = Items sent
+meant (kinds.Other other) = NoForm other.word.now other.is_port
+
+-- one item of this type number and so many bits: in a struct it begins at a multiple of its own
+-- bytes, but of no more than 4
+abbrev pub item : ℕ → ℕ → Data
+item name size = record {
+  shape = record { name = name; size = size; number = 1; is_bound = false };
+  alignment = min (size / 8) 4;
+}
+
+-- what a basic type of this name is with no size of its own
+abbrev pub basic_meant : Option Basic → List ℕ → Meant
+basic_meant (Some (basic.Plain name size)) word = Items (item name size)
+basic_meant (Some basic.Polymorphic) word = NoForm word true
+basic_meant _ word = NoForm word false
+
+-- an item of so many bits, which fit the descriptor of a message
+abbrev pub fitted : ℕ → ℕ → List ℕ → Meant
+fitted name size word = if nat_lt size (2 ^ 16) then Items (item name size) else NoForm word false
+
+-- what a basic type of this name is with a size of its own
+abbrev pub sized_meant : Option Basic → List ℕ → ℕ → Meant
+sized_meant (Some (basic.Plain name usual)) word size = fitted name size word
+sized_meant (Some (basic.Unsized name)) word size = fitted name size word
+sized_meant (Some basic.Polymorphic) word size = NoForm word true
+sized_meant _ word size = NoForm word false
