@@ -1,5 +1,5 @@
 -- Worked examples of what is told of MIG files that are cut.
-use Rattle.std.proofs.Common.{◌≡◌, [], ◌∷◌, refl, true, false}
+use Rattle.std.proofs.Common.{◌≡◌, [], ◌∷◌, refl, false}
 use Rattle.std.specs.Prelude.{Some, None, codes}
 use Rattle.mrc_base.specs.declared.memory.OrMemory.TheVariants.{Memory}
 use Rattle.mrc_program.specs.Cutting.{same_name, refusal_line, are_written}

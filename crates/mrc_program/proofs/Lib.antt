@@ -7,3 +7,4 @@ mod CutExamples
 pub mod HaltLaws
 mod GraphLaws
 mod VerifyLaws
+mod NoticeExamples

@@ -21,28 +21,31 @@ use Rattle.mrc_mend.specs.declared.claims.MendFault.{MendFault}
 use Rattle.mrc_mend.specs.Judging.{no_claim_of}
 use Rattle.mrc_command.specs.declared.told.Told.{Told}
 use Rattle.mrc_command.specs.declared.command.SystemFiles.{SystemFiles}
+use Rattle.mrc_command.specs.declared.command.VerifyFiles.{VerifyFiles}
 use Rattle.mrc_program.specs.Explained.{numbered_by}
 use Rattle.mrc_program.specs.Texts.{PolicyTexts, claimed}
 use Rattle.mrc_program.specs.Told.{ToldMemory, IsFaultOf}
-use Rattle.mrc_program.specs.Verified.{IsAllowed, ToldLines, ToldUnclaimed, claim_file}
+use Rattle.mrc_program.specs.Notices.{notice}
+use Rattle.mrc_program.specs.Verified.{layout_of, IsAllowed, ToldLines, ToldUnclaimed, claim_file}
 
 -- where no line is broken the text is a yes
-pub allowed : (layout : Layout) (numbered : Numbered) (broken : List BrokenLine) (claim : Claimed)
-    (told : Told) (text : List ℕ)
+pub allowed : (layout : Layout) (numbered : Numbered) (broken : List BrokenLine)
+    (files : SystemFiles) (claim : Claimed) (told : Told) (text : List ℕ)
     → broken ≡ []
     → IsVerdictText layout numbered broken text
     → string_bytes told.out ≡ text
-    → string_bytes told.err ≡ []
+    → string_bytes told.err ≡ notice files claim.table.interfaces
     → HasYes claim
-    → IsAllowed claim told
-allowed layout numbered broken claim told text none tells out err has_yes = record {
+    → IsAllowed files claim told
+allowed layout numbered broken files claim told text none tells out err has_yes = record {
   yes = has_yes;
   out = out ∙ subst (λ bs. IsVerdictText layout numbered bs text) none tells;
   err = err;
 }
 
 -- the lines that are broken, by what was made
-pub lines_told : (layout by : Layout) (wiring : List ℕ) (claim : Claimed) (told : Told)
+pub lines_told : (files : VerifyFiles) (by : Layout) (wiring : List ℕ) (claim : Claimed)
+    (told : Told)
     (lines given : List (Line WiringSays)) (table : Table) (numbered : Numbered)
     (broken shown : List BrokenLine) (text : List ℕ)
     → IsWiring wiring lines
@@ -51,15 +54,16 @@ pub lines_told : (layout by : Layout) (wiring : List ℕ) (claim : Claimed) (tol
     → given ≡ lines
     → shown ≡ broken
     → IsVerdictText by numbered shown text
-    → by ≡ layout
+    → by ≡ layout_of files.tree
     → string_bytes told.out ≡ text
-    → string_bytes told.err ≡ []
+    → string_bytes told.err ≡ notice files.system claim.table.interfaces
     → AreBroken claim broken
     → All (IsDerived claim) broken
     → HasNoYes claim
-    → ToldLines layout wiring claim told
-lines_told layout by wiring claim told lines given table numbered broken shown text is_wiring made
+    → ToldLines files wiring claim told
+lines_told files by wiring claim told lines given table numbered broken shown text is_wiring made
     is_table are_lines are_shown tells is_layout out err are chains none =
+    let layout = layout_of files.tree in
     let is : numbered ≡ numbered_by claim.table lines =
     made ∙ (ap (λ (t : Table). numbered_by t given) is_table
     ∙ ap (numbered_by claim.table) are_lines) in
@@ -78,21 +82,21 @@ lines_told layout by wiring claim told lines given table numbered broken shown t
     }
 
 -- of a claim that has a yes no line is told to be broken
-pub only_yes : {E : Type 0} (layout : Layout) (wiring : List ℕ) (claim other : Claimed)
+pub only_yes : {E : Type 0} (files : VerifyFiles) (wiring : List ℕ) (claim other : Claimed)
     (said : Result Claimed Meaningless) (result : Result Told E)
     → said ≡ Ok claim
     → said ≡ Ok other
     → HasYes other
     → IfOk result (λ told. (told.status ≡ 0) ⊎ (told.status ≡ 1))
-    → IfOk result (λ told. told.status ≡ 1 → ToldLines layout wiring claim told)
+    → IfOk result (λ told. told.status ≡ 1 → ToldLines files wiring claim told)
     → IfOk result (λ told. (told.status ≡ 0) ⊎ ToldMemory told)
-only_yes layout wiring claim other said (Ok told) is also has_yes status broken = elim status [
+only_yes files wiring claim other said (Ok told) is also has_yes status broken = elim status [
   | inl zero ↦ inl zero
   | inr one ↦
       let same : HasYes claim = subst HasYes (ok_is other claim (sym also ∙ is)) has_yes in
       absurd ((broken one).no (has same.0) same.1.says)
 ]
-only_yes layout wiring claim other said (Err e) is also has_yes status broken = tt
+only_yes files wiring claim other said (Err e) is also has_yes status broken = tt
 
 -- that texts make no claim
 pub unclaimed_told : {E : Type 0} (files : SystemFiles) (policy : List ℕ) (texts : PolicyTexts)

@@ -1,6 +1,7 @@
 pub mod Files
 pub mod Texts
 pub mod Told
+pub mod Notices
 pub mod Explained
 pub mod Listed
 pub mod Verified

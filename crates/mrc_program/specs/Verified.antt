@@ -23,6 +23,7 @@ use Rattle.mrc_command.specs.declared.command.MendFiles.{MendFiles}
 use Rattle.mrc_files.specs.Files.{Held}
 use Rattle.mrc_program.specs.Explained.{numbered_by}
 use Rattle.mrc_program.specs.Files.{policy_names}
+use Rattle.mrc_program.specs.Notices.{notice}
 use Rattle.mrc_program.specs.Texts.{PolicyTexts, policy_list, claimed}
 use Rattle.mrc_program.specs.Told.{OfFiles, ToldMemory, ToldUnread, IsFaultOf, system_file}
 
@@ -31,21 +32,22 @@ abbrev pub layout_of : Bool → Layout
 layout_of true = Tree
 layout_of false = Flat
 
--- `YES` is told of a claim: its least set is a yes
-pub record IsAllowed (claim : Claimed) (told : Told) : Type 0 where
+-- `YES` is told of a claim: its least set is a yes; and the notice of its MIG files
+pub record IsAllowed (files : SystemFiles) (claim : Claimed) (told : Told) : Type 0 where
   pub yes : HasYes claim
   pub out : string_bytes told.out ≡ codes "YES\n"
-  pub err : string_bytes told.err ≡ []
+  pub err : string_bytes told.err ≡ notice files claim.table.interfaces
 
 -- `YES` is told of texts, and it is right: the least set of their wiring is a yes to their policy
-pub record ToldAllowed (texts : PolicyTexts) (told : Told) : Type 0 where
+pub record ToldAllowed (files : SystemFiles) (texts : PolicyTexts) (told : Told) : Type 0 where
   pub claim : Claimed
   pub says : claimed texts ≡ Ok claim
-  pub tells : IsAllowed claim told
+  pub tells : IsAllowed files claim told
 
 -- the lines that are broken are told of a claim, with chains that derive what they forbid, and the
--- lines and slots of these texts from which the steps come; no set of facts is a yes
-pub record ToldLines (layout : Layout) (wiring : List ℕ) (claim : Claimed) (told : Told)
+-- lines and slots of these texts from which the steps come, and the notice of the MIG files; no set
+-- of facts is a yes
+pub record ToldLines (files : VerifyFiles) (wiring : List ℕ) (claim : Claimed) (told : Told)
     : Type 0 where
   pub lines : List (Line WiringSays)
   pub is_wiring : IsWiring wiring lines
@@ -53,14 +55,15 @@ pub record ToldLines (layout : Layout) (wiring : List ℕ) (claim : Claimed) (to
   pub are : AreBroken claim broken
   pub chains : All (IsDerived claim) broken
   pub no : HasNoYes claim
-  pub out : IsVerdictText layout (numbered_by claim.table lines) broken (string_bytes told.out)
-  pub err : string_bytes told.err ≡ []
+  pub out : IsVerdictText (layout_of files.tree) (numbered_by claim.table lines) broken
+      (string_bytes told.out)
+  pub err : string_bytes told.err ≡ notice files.system claim.table.interfaces
 
 -- the lines that are broken are told of texts
-pub record ToldBroken (layout : Layout) (texts : PolicyTexts) (told : Told) : Type 0 where
+pub record ToldBroken (files : VerifyFiles) (texts : PolicyTexts) (told : Told) : Type 0 where
   pub claim : Claimed
   pub says : claimed texts ≡ Ok claim
-  pub tells : ToldLines layout texts.system.wiring claim told
+  pub tells : ToldLines files texts.system.wiring claim told
 
 -- the file of a text that has no meaning; a certificate is none of them
 abbrev pub claim_file : SystemFiles → List ℕ → Meaningless → List ℕ
@@ -84,12 +87,13 @@ OfPolicy Tells held files policy told =
 
 -- `YES` is told of what the files hold
 abbrev pub AllowedOfFiles : Held → VerifyFiles → Told → Type 0
-AllowedOfFiles held files told = OfPolicy ToldAllowed held files.system files.policy.now told
+AllowedOfFiles held files told =
+    OfPolicy (ToldAllowed files.system) held files.system files.policy.now told
 
 -- the lines that are broken are told of what the files hold
 abbrev pub BrokenOfFiles : Held → VerifyFiles → Told → Type 0
 BrokenOfFiles held files told =
-    OfPolicy (ToldBroken (layout_of files.tree)) held files.system files.policy.now told
+    OfPolicy (ToldBroken files) held files.system files.policy.now told
 
 -- why status 2 is told of files: memory ran out, a file can't be read, or a text has no meaning
 abbrev pub FaultOfClaim : Held → SystemFiles → List ℕ → Told → Type 0

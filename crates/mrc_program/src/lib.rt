@@ -12,6 +12,7 @@ mod live;
 mod make;
 mod mend;
 mod mig;
+mod notices;
 mod policy;
 mod progress;
 mod replay;

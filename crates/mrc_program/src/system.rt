@@ -65,7 +65,7 @@ pub fn wired_by(alloc: Global, bytes: &SystemBytes) -> Result<Wired, OrMemory<Sy
 }
 
 /// The name of the MIG file of this number. There is one for each that was read.
-fn defs_name<'a>(files: &SystemFiles<'a>, number: usize) -> &'a str
+pub fn defs_name<'a>(files: &SystemFiles<'a>, number: usize) -> &'a str
     ensures { result.now ≡ defs_name files.now number }
 {
     match files.defs.get(number) {

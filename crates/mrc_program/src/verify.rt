@@ -11,10 +11,11 @@ ghost use Rattle.mrc_wiring_text.specs.Wiring.{wiring_of};
 ghost use Rattle.mrc_program.specs.Verified.{AllowedOfFiles, BrokenOfFiles, FaultOfVerify};
 
 use crate::lines::lines_of;
+use crate::notices::notice;
 use crate::policy::{PolicyBytes, claim_fault_told, claimed, policy_bytes};
 use crate::told::unread_told;
 use mrc_base::OrMemory;
-use mrc_command::{Told, VerifyFiles, memory, said};
+use mrc_command::{Told, VerifyFiles, memory};
 use mrc_files::Folder;
 use mrc_why::{Broken, Layout, Sources, verify, verify_text};
 use mrc_wiring::Claim;
@@ -36,19 +37,31 @@ fn status_of(broken: &[Broken]) -> u8
     if broken.is_empty() { 0 } else { 1 }
 }
 
-/// What is told of a claim on a wiring of this text: that no line is broken, or those that are.
-fn claim_told(alloc: Global, tree: bool, wiring: &[u8], claim: &Claim) -> Result<Told, AllocError>
+/// What is told of a claim on a wiring of this text: that no line is broken, or those that are; and
+/// of MIG files with routines that the model has none of.
+fn claim_told(
+    alloc: Global,
+    files: &VerifyFiles<'_>,
+    wiring: &[u8],
+    claim: &Claim,
+) -> Result<Told, AllocError>
     requires { IsOk (wiring_of wiring.now) }
     ensures status { IfOk result (λ told. (told.status ≡ 0) ⊎ (told.status ≡ 1)) }
-    ensures yes { IfOk result (λ told. told.status ≡ 0 → IsAllowed claim.now told) }
+    ensures yes { IfOk result (λ told. told.status ≡ 0
+        → IsAllowed files.now.system claim.now told) }
     ensures no { IfOk result (λ told. told.status ≡ 1
-        → ToldLines (layout_of tree) wiring.now claim.now told) }
+        → ToldLines files.now wiring.now claim.now told) }
 {
     let lines = lines_of(alloc, wiring)?;
     let sources = Sources::new(alloc, claim.wired(), lines.as_slice())?;
     let broken = verify(alloc, claim)?;
-    let text = verify_text(alloc, &sources, broken.as_slice(), layout_of(tree))?;
-    Ok(said(alloc, text, status_of(broken.as_slice())))
+    let text = verify_text(alloc, &sources, broken.as_slice(), layout_of(files.tree))?;
+    let notice = notice(alloc, &files.system, claim.wired().interfaces())?;
+    Ok(Told {
+        out: text,
+        err: notice,
+        status: status_of(broken.as_slice()),
+    })
 }
 
 /// What is told of the bytes of MIG files, a wiring and a policy.
@@ -58,18 +71,19 @@ fn verify_told(
     bytes: &PolicyBytes,
 ) -> Result<Told, AllocError>
     ensures status { IfOk result (λ told. told.status ≤ 2) }
-    ensures yes { IfOk result (λ told. told.status ≡ 0 → ToldAllowed bytes.now told) }
+    ensures yes { IfOk result (λ told. told.status ≡ 0
+        → ToldAllowed files.now.system bytes.now told) }
     // Where the least set is a yes that is told, unless memory runs out.
     ensures only { (claim : Claimed) → claimed bytes.now ≡ Ok claim → HasYes claim
         → IfOk result (λ told. (told.status ≡ 0) ⊎ ToldMemory told) }
     ensures no { IfOk result (λ told. told.status ≡ 1
-        → ToldBroken (layout_of files.now.tree) bytes.now told) }
+        → ToldBroken files.now bytes.now told) }
     // A fault is one of the first file that has one, unless memory ran out.
     ensures fault { IfOk result (λ told. told.status ≡ 2
         → ToldMemory told ⊎ ToldUnclaimed files.now.system files.now.policy.now bytes.now told) }
 {
     match claimed(alloc, bytes) {
-        Ok(claim) => claim_told(alloc, files.tree, bytes.system.wiring.as_slice(), &claim),
+        Ok(claim) => claim_told(alloc, files, bytes.system.wiring.as_slice(), &claim),
         Err(OrMemory::Fault(fault)) => {
             claim_fault_told(alloc, &files.system, files.policy, bytes, fault)
         }

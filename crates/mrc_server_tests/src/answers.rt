@@ -9,7 +9,7 @@ use std::test::Fail;
 use std::thread::Threads;
 
 /// The file server may answer with any port.
-const CARELESS: &str = "wiring 1
+pub(crate) const CARELESS: &str = "wiring 1
 task app
 task fs
 port root receiver fs accepts request fsys
@@ -41,7 +41,8 @@ fn told_as(
 /// The words that ask for a yes or the lines that are broken.
 const VERIFY: [&str; 7] = ["machcheck", "verify", "--wiring", "w", "--policy", "p", "d"];
 
-const BROKEN: &str = "NO forbidden line 2 hold app task:fs send
+/// What is told of it: the chain to the file server's kernel port.
+pub(crate) const BROKEN: &str = "NO forbidden line 2 hold app task:fs send
   0 K1 hold app port:root send by line 6
   1 K2 hold app births:app receive
   2 K1 hold fs port:root receive by line 4

@@ -19,6 +19,8 @@ mod makes;
 #[cfg(test)]
 mod migs;
 #[cfg(test)]
+mod notices;
+#[cfg(test)]
 mod printing;
 #[cfg(test)]
 mod replacing;
