@@ -16,6 +16,7 @@ use mrc_model::Entry;
 use mrc_names::Space;
 use mrc_ports::Store;
 use std::alloc::{AllocError, Global};
+use std::collections::btree_map::Iter;
 
 /// What a call destroys.
 #[derive(Clone, Copy, Debug, PartialEq, Eq)]
@@ -72,12 +73,12 @@ fn add_rights(rights: &mut Vec<Held>, entry: &Entry) -> Result<(), AllocError>
 }
 
 /// The rights of all these entries.
-fn all_rights(alloc: Global, entries: &[(u64, Entry)]) -> Result<Vec<Held>, AllocError>
-    ensures { IfOk result (λ rights. rights.items ≡ all_rights entries.now) }
+fn all_rights(alloc: Global, entries: Iter<'_, u64, Entry>) -> Result<Vec<Held>, AllocError>
+    ensures { IfOk result (λ rights. rights.items ≡ all_rights entries.entry) }
 {
     let mut rights = Vec::new(alloc);
     for entry in entries {
-        add_rights(&mut rights, &entry.1)?;
+        add_rights(&mut rights, entry.1)?;
     }
     Ok(rights)
 }
@@ -87,7 +88,7 @@ fn space_rights(alloc: Global, store: &Store, task: TaskId) -> Result<Vec<Held>,
     ensures { IfOk result (λ rights. rights.items ≡ all_rights (space store.now task).list) }
 {
     match store.space(task) {
-        Some(found) => all_rights(alloc, found.entries()),
+        Some(found) => all_rights(alloc, found.iter()),
         None => Ok(Vec::new(alloc)),
     }
 }
@@ -170,12 +171,12 @@ pub(crate) struct Taken {
 }
 
 /// The space after the receive right left its entry; its send references stay.
-fn without_receive(alloc: Global, space: &Space, name: u32) -> Result<Space, AllocError>
+fn without_receive(space: &Space, name: u32) -> Result<Space, AllocError>
     requires { IsReceive (get space.now name) }
     ensures { IfOk result (λ left.
         left ≡ put_entry space.now name (left_of_receive (get space.now name))) }
 {
-    let mut left = space.copy(alloc)?;
+    let mut left = space.copy()?;
     match left.take(name, Disp::MoveReceive) {
         Ok(_) => Ok(left),
         Err(_) => unreachable!(),
@@ -202,7 +203,7 @@ fn take_receive(
     let Some(doomed) = doomed_receive(alloc, &entry)? else {
         return Ok(None);
     };
-    let space = without_receive(alloc, found, name)?;
+    let space = without_receive(found, name)?;
     Ok(Some(Taken {
         task,
         space,
@@ -228,7 +229,7 @@ fn take_entry(
         return Ok(None);
     };
     let doomed = Doomed::new(rights_of(alloc, &entry)?, None);
-    let mut space = found.copy(alloc)?;
+    let mut space = found.copy()?;
     let _ = space.remove(name);
     Ok(Some(Taken {
         task,
@@ -251,7 +252,7 @@ fn take_task(
     let Some(found) = store.space(task) else {
         return Err(AllocError);
     };
-    let rights = all_rights(alloc, found.entries())?;
+    let rights = all_rights(alloc, found.iter())?;
     Ok(Taken {
         task,
         space: Space::new(alloc),

@@ -1,14 +1,19 @@
 -- What making something in a space comes to, exit by exit.
 use Rattle.std.proofs.Common.{◌≡◌, ℕ, Bool, true, false, Option, Some, None, Ok, Err, refl}
-use Rattle.std.proofs.Common.{sym, ◌∙◌, ap}
-use Rattle.std.proofs.lemmas.Bool.{ne_eqb}
+use Rattle.std.proofs.Common.{sym, ◌∙◌, ap, inl, inr, Result}
+use Rattle.std.specs.Prelude.{OnOk, OnErr}
+use Rattle.std.proofs.lemmas.Bool.{ne_eqb, cases_eq}
 use Rattle.mrc_model.specs.declared.Entry.{Entry}
 use Rattle.mrc_model.specs.declared.Entry.TheVariants.{Receive as ReceiveEntry}
 use Rattle.mrc_model.specs.declared.Code.TheVariants.{KernInvalidValue, KernNoSpace}
 use Rattle.mrc_model.specs.declared.Code.TheVariants.{KernResourceShortage, KernInvalidTask}
 use Rattle.mrc_base.specs.declared.Right.{Right}
 use Rattle.mrc_model.specs.Wiring.{Wiring}
-use Rattle.mrc_model.specs.Map.{empty, insert, len}
+use Rattle.mrc_model.specs.Map.{empty, get, insert, remove, len}
+use Rattle.mrc_model.proofs.Maps.{get-insert_same, get-insert_other, get-remove_same}
+use Rattle.mrc_model.proofs.Maps.{get-remove_other}
+use Rattle.mrc_model.proofs.Spaces.{get-unused}
+use Rattle.mrc_map.proofs.SameMaps.{same_map}
 use Rattle.mrc_model.specs.World.{Space, World, space}
 use Rattle.mrc_model.specs.Reply.{Reply, Name, Refused, Try, ◌>>=◌, ◌>>◌}
 use Rattle.mrc_model.specs.Reply.{check, refuse_if, or_refuse}
@@ -16,6 +21,7 @@ use Rattle.mrc_model.specs.Space.{is_full, unused}
 use Rattle.mrc_model.specs.Target.{with_store, with_space}
 use Rattle.mrc_model.specs.CallAllocate.{allocate_port, allocate_entry, allocate_in, call_allocate}
 use Rattle.mrc_model.specs.CallAllocate.{birth}
+use Rattle.mrc_names.specs.Changes.{without}
 use Rattle.mrc_names.specs.Takes.{add_entry}
 use Rattle.mrc_names.proofs.GivingLaws.{added}
 use Rattle.mrc_ports.specs.Tables.{table_of, store_of, with_birth, is_short}
@@ -110,27 +116,79 @@ pub room_for_one : (x : Space) (e : Entry) (reply : Reply)
 room_for_one x e reply room is =
     not_Err _ _ (sym (added x (insert x (unused x) e) (unused x) e room refl refl) ∙ is)
 
--- what code makes of a birth
-pub born : (w z y : World) (t class : ℕ) (x a : Space) (e : Entry) (p name : ℕ)
-    → x ≡ space w.store t
-    → p ≡ w.store.next
+-- what stands in a space after the receive right of a new port was added to it
+pub right_added : (x a : Space) (e : Entry) (next p name : ℕ)
+    → p ≡ next
     → e ≡ ReceiveEntry p 0 None
-    → is_full (space w.store t) ≡ false
+    → is_full x ≡ false
     → add_entry x e ≡ Ok (a, name)
-    → z ≡ with_store w (store_of w.store.spaces (with_birth (table_of w.store) class))
+    → (a ≡ insert x (unused x) (ReceiveEntry next 0 None)) × (name ≡ unused x)
+right_added x a e next p name is entry room add =
+    let received : e ≡ ReceiveEntry next 0 None = entry ∙ ap (λ q. ReceiveEntry q 0 None) is in
+    let parts = added_parts x a e name room add in
+    (parts.0 ∙ ap (insert x (unused x)) received, parts.1)
+
+-- and after it was taken back
+pub right_taken_back : (x a y : Space) (e : Entry) (p name : ℕ)
+    → e ≡ ReceiveEntry p 0 None
+    → is_full x ≡ false
+    → add_entry x e ≡ Ok (a, name)
+    → y ≡ without a name (get a name)
+    → y ≡ x
+right_taken_back x a y e p name entry room add out =
+    let parts = right_added x a e p p name refl entry room add in
+    let right = ReceiveEntry p 0 None in
+    let there : get (insert x (unused x) right) (unused x) ≡ Some right =
+    get-insert_same x (unused x) right in
+    out
+    ∙ ap (λ n. without a n (get a n)) parts.1
+    ∙ ap (λ z. without z (unused x) (get z (unused x))) parts.0
+    ∙ ap (without (insert x (unused x) right) (unused x)) there
+    ∙ remove_new x (unused x) right (get-unused x)
+  where
+    remove_new : (z : Space) (n : ℕ) (f : Entry) → get z n ≡ None → remove (insert z n f) n ≡ z
+    remove_new z n f none = same_map _ _ (λ q. elim (cases_eq q n) [
+      | inl same ↦
+          ap (get (remove (insert z n f) n)) same ∙ get-remove_same (insert z n f) n
+          ∙ sym none ∙ ap (get z) (sym same)
+      | inr other ↦ get-remove_other (insert z n f) n q other ∙ get-insert_other z n f q other
+    ])
+
+-- the world where a space is put back into which a port was born
+pub born : (w v z y : World) (t class : ℕ) (x a : Space)
+    → x ≡ space w.store t
+    → v ≡ with_space w t empty
+    → z ≡ with_store v (store_of v.store.spaces (with_birth (table_of v.store) class))
+    → a ≡ insert x (unused x) (ReceiveEntry v.store.next 0 None)
     → y ≡ with_space z t a
-    → (y ≡ with_store w (birth w.store t class)) × (name ≡ unused (space w.store t))
-born w z y t class x a e p name copy next entry room add port put =
-    let received : e ≡ ReceiveEntry w.store.next 0 None =
-    entry ∙ ap (λ q. ReceiveEntry q 0 None) next in
-    let parts = added_parts (space w.store t) a (ReceiveEntry w.store.next 0 None) name room
-    (ap (λ k. add_entry k (ReceiveEntry w.store.next 0 None)) (sym copy)
-    ∙ ap (add_entry x) (sym received) ∙ add) in (
-      put ∙ ap (λ (v : World). with_space v t a) port
-          ∙ ap (with_space (with_store w
-          (store_of w.store.spaces (with_birth (table_of w.store) class))) t) parts.0,
-      parts.1,
-    )
+    → y ≡ with_store w (birth w.store t class)
+born w v z y t class x a out left port right put =
+    put
+    ∙ ap (λ k. with_space z t k) (right
+    ∙ ap (λ k. insert k (unused k) (ReceiveEntry v.store.next 0 None)) out
+    ∙ ap (λ (k : World). insert (space w.store t) (unused (space w.store t))
+    (ReceiveEntry k.store.next 0 None)) left)
+    ∙ ap (λ (k : World). with_space k t here) (port
+    ∙ ap (λ (k : World). with_store k
+    (store_of k.store.spaces (with_birth (table_of k.store) class))) left)
+    ∙ space_twice (with_store w (store_of w.store.spaces (with_birth (table_of w.store) class)))
+    t empty here
+  where
+    here : Space
+    here = insert (space w.store t) (unused (space w.store t)) (ReceiveEntry w.store.next 0 None)
+
+-- what two facts of an answer give
+pub on_two : {T E A B C : Type 0} (r : Result T E) → (A → B → C) → OnOk r A → OnOk r B → OnOk r C
+on_two (Ok x) f a b = f a b
+on_two (Err e) f a b = tt
+
+pub on_two_errs : {T E A B C : Type 0} (r : Result T E)
+    → (A → B → C)
+    → OnErr r A
+    → OnErr r B
+    → OnErr r C
+on_two_errs (Ok x) f a b = tt
+on_two_errs (Err e) f a b = f a b
 
 -- the call
 

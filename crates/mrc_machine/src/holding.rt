@@ -8,6 +8,7 @@ use mrc_base::{PortId, PortRight, TaskId};
 use mrc_model::Entry;
 use mrc_names::Space;
 use std::alloc::AllocError;
+use std::collections::btree_map::Iter;
 
 /// A task holds a right on a port.
 #[derive(Clone, Copy, Debug, PartialEq, Eq)]
@@ -73,13 +74,13 @@ fn push_entry(holdings: &mut Vec<Holding>, task: TaskId, entry: &Entry) -> Resul
 fn push_space(
     holdings: &mut Vec<Holding>,
     task: TaskId,
-    entries: &[(u64, Entry)],
+    entries: Iter<'_, u64, Entry>,
 ) -> Result<(), AllocError>
     ensures { OnOk result (holdings_of holdings.new.items
-        ≡ holdings_of holdings.old.items ++ space_holdings task entries.now) }
+        ≡ holdings_of holdings.old.items ++ space_holdings task entries.entry) }
 {
     for held in entries {
-        push_entry(holdings, task, &held.1)?;
+        push_entry(holdings, task, held.1)?;
     }
     Ok(())
 }
@@ -94,7 +95,7 @@ pub(crate) fn spaces_holdings(
         ≡ holdings_of holdings.old.items ++ spaces_holdings spaces.now) }
 {
     for space in spaces {
-        push_space(holdings, TaskId(space.0 as u32), space.1.entries())?;
+        push_space(holdings, TaskId(space.0 as u32), space.1.iter())?;
     }
     Ok(())
 }

@@ -191,14 +191,14 @@ impl State {
         requires { IsSome (get self.now.tasks task) }
         ensures { IfOk result (λ copy. copy ≡ space self.now.store task) }
     {
-        self.space(task).copy(self.alloc)
+        self.space(task).copy()
     }
 
     /// A copy of a space.
     pub(crate) fn copy_of(&self, space: &Space) -> Result<Space, AllocError>
         ensures { IfOk result (λ copy. copy ≡ space.now) }
     {
-        space.copy(self.alloc)
+        space.copy()
     }
 
     /// All names of a task with their rights.
@@ -410,6 +410,34 @@ impl State {
         }
     }
 
+    /// A new port of the class, whose receive right stands in this space under the least unused
+    /// name, which is answered.
+    fn birth_in(&mut self, space: &mut Space, class: ClassId) -> Result<u32, AllocError>
+        requires room { is_full space.old ≡ false }
+        requires few { is_short (table_of self.old.store) ≡ false }
+        ensures ok { OnOk result (self.new ≡ with_store self.old
+            (store_of self.old.store.spaces (with_birth (table_of self.old.store) class))) }
+        ensures space { OnOk result (space.new
+            ≡ insert space.old (unused space.old) (ReceiveEntry self.old.store.next 0 None)) }
+        ensures name { IfOk result (λ name. name ≡ unused space.old) }
+        ensures err { OnErr result (self.new ≡ self.old) }
+        ensures kept { OnErr result (space.new ≡ space.old) }
+        ensures tasks { self.new.tasks ≡ self.old.tasks }
+    {
+        let name = match space.add(received(self.next_port())) {
+            Ok(name) => name,
+            Err(OrMemory::Memory) => return Err(AllocError),
+            Err(OrMemory::Fault(_)) => unreachable!(),
+        };
+        match self.new_port(class) {
+            Ok(()) => Ok(name),
+            Err(error) => {
+                let _ = space.remove(name);
+                Err(error)
+            }
+        }
+    }
+
     /// A new port of the class, whose receive right the task gets under the least unused name,
     /// which is answered.
     pub(crate) fn birth(&mut self, task: TaskId, class: ClassId) -> Result<u32, AllocError>
@@ -421,15 +449,10 @@ impl State {
         ensures name { IfOk result (λ name. name ≡ unused (space self.old.store task)) }
         ensures err { OnErr result (self.new ≡ self.old) }
     {
-        let mut space = self.copy_space(task)?;
-        let name = match space.add(received(self.next_port())) {
-            Ok(name) => name,
-            Err(OrMemory::Memory) => return Err(AllocError),
-            Err(OrMemory::Fault(_)) => unreachable!(),
-        };
-        self.new_port(class)?;
+        let mut space = self.take_space(task);
+        let born = self.birth_in(&mut space, class);
         self.put_space(task, space);
-        Ok(name)
+        born
     }
 
     /// The space of a new task: a send right to its kernel port under name 1.

@@ -5,3 +5,4 @@ pub mod Values
 pub mod Filtered
 pub mod MemberLaws
 pub mod NextKeys
+pub mod TreeLaws

@@ -1,11 +1,10 @@
--- Lists of entries in code, read as the definitions' maps; and the index at which a key stands in
--- such a
--- list, or would stand. This profile's own choice.
+-- Lists of entries in code, read as the definitions' maps; the index at which a key stands in such
+-- a list, or would stand; and the entry that comes next. This profile's own choice.
 use Rattle.std.specs.Prelude.{◌≡◌, ℕ, suc, ◌<◌, ◌≤◌, Bool, true, false, T, List, [], ◌∷◌, length}
 use Rattle.std.specs.Prelude.{Option, Some, None, nat_lt, ◌==◌, if◌then◌else◌}
 use Rattle.std.specs.List.{slice_get, slice_index_or}
 use Rattle.mrc_model.specs.Rising.{is_rising}
-use Rattle.mrc_model.specs.Map.{Map, empty}
+use Rattle.mrc_model.specs.Map.{Map, empty, get}
 
 -- the map of a list that passed the test, else the empty one
 abbrev pub checked_map :
@@ -46,3 +45,9 @@ pub record IsMissingAt {X : Type 0} (k : ℕ) (es : List (ℕ × X)) (i : ℕ) :
 -- the number, where it is below the limit
 abbrev pub below : ℕ → ℕ → Option ℕ
 below limit k = if nat_lt k limit then Some k else None
+
+-- the entry is the first whose key is not below from
+pub record IsNext {X : Type 0} (m : Map X) (from k : ℕ) (v : X) : Type 0 where
+  pub at : get m k ≡ Some v
+  pub above : from ≤ k
+  pub first : (j : ℕ) → from ≤ j → j < k → get m j ≡ None

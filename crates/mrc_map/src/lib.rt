@@ -4,6 +4,8 @@
 
 mod map;
 mod ports;
+mod tree;
 
 pub use map::Map;
 pub use ports::Ports;
+pub use tree::Tree;

@@ -1,12 +1,13 @@
 //! Sets of ports.
 
-ghost use Rattle.std.specs.Prelude.{◌≡◌, ◌∷◌, ◌==◌, ◌||◌, ℕ, [], OnOk, IfOk, not};
+ghost use Rattle.std.specs.Prelude.{◌≡◌, ◌∷◌, ◌==◌, ◌||◌, ℕ, [], OnOk, IfOk, not, length};
 ghost use Rattle.mrc_model.specs.Death.{has};
 ghost use Rattle.mrc_map.specs.Members.{members};
 
 use mrc_base::PortId;
 use std::alloc::{AllocError, Global};
 use std::collections::BTreeSet;
+use std::collections::btree_set::Iter;
 use std::marker::Model;
 
 /// A set of ports, by the numbers of their births. The set of one port takes no memory.
@@ -54,6 +55,23 @@ impl Ports {
             one: Some(port),
             numbers: BTreeSet::new(alloc),
         }
+    }
+
+    /// How many ports the set has.
+    pub fn len(&self) -> usize
+        ensures { result ≡ length self.now }
+    {
+        match self.one {
+            Some(_) => self.numbers.len() + 1,
+            None => self.numbers.len(),
+        }
+    }
+
+    /// The ports of the set: one apart, and the numbers of the others, ascending.
+    pub fn parts(&self) -> (Option<PortId>, Iter<'_, u64>)
+        ensures { members result.0 result.1 ≡ self.now }
+    {
+        (self.one, self.numbers.iter())
     }
 
     /// Whether the set has the port.

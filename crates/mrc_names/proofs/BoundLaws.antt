@@ -1,15 +1,14 @@
 -- Changes of a space keep its bounds.
-use Rattle.std.proofs.Common.{◌≡◌, ℕ, ◌+◌, ◌<◌, ◌≤◌, ◌^◌, Bool, true, false, Option, Some, None}
-use Rattle.std.proofs.Common.{List, length}
+use Rattle.std.proofs.Common.{◌≡◌, ℕ, ◌+◌, ◌<◌, ◌≤◌, ◌^◌, false, Option, Some, None}
 use Rattle.std.proofs.Common.{refl, sym, ◌∙◌, ap, subst, arith}
-use Rattle.std.specs.Prelude.{IsSome, IfSome}
+use Rattle.std.specs.Prelude.{IsSome}
 use Rattle.std.proofs.lemmas.Bool.{leb-false}
 use Rattle.mrc_base.specs.declared.Disp.{Disp}
 use Rattle.mrc_model.specs.declared.Entry.{Entry}
 use Rattle.mrc_model.specs.CallSend.{dead_taken}
 use Rattle.mrc_model.specs.Map.{empty, get, insert, remove, alter_all, all_but, len}
 use Rattle.mrc_model.specs.World.{Space}
-use Rattle.mrc_model.specs.Space.{is_full, entry_of, outside, members_leave}
+use Rattle.mrc_model.specs.Space.{is_full, entry_of}
 use Rattle.mrc_model.proofs.Maps.{at_or_0, get-empty, Each-insert, Each-alter_all, len-insert}
 use Rattle.mrc_model.proofs.Maps.{len-alter_all, len-empty, not_None}
 use Rattle.mrc_model.proofs.Spaces.{entry_of-some}
@@ -80,11 +79,6 @@ bounded_altered x g b = record {
 pub bounded_less : (x : Space) (n : ℕ) → IsBounded x → IsBounded (remove x n)
 bounded_less x n b = bounded_altered x (all_but n) b
 
--- so does the going of a set's members
-pub bounded_left : (x : Space) (b : Bool) (n : ℕ) → IsBounded x → IsBounded (members_leave b n x)
-bounded_left x true n bounds = bounded_altered x (outside n) bounds
-bounded_left x false n bounds = bounds
-
 -- the name of a port's entry is short
 pub found_short : (x : Space) (p : ℕ) (f : ℕ × Entry)
     → IsBounded x
@@ -98,14 +92,6 @@ pub found_used : (x : Space) (p : ℕ) (f : ℕ × Entry)
     → IsSome (get x f.0)
 found_used x p f is = subst IsSome (sym (entry_of-some x p f is).0) refl
 
--- the name of what is found, if it is found
-pub found_bound : (x : Space) (p : ℕ) (o : Option (ℕ × Entry))
-    → IsBounded x
-    → o ≡ entry_of x p
-    → IfSome o (λ f. f.0 < 2 ^ 32)
-found_bound x p None b is = tt
-found_bound x p (Some f) b is = found_short x p f b (sym is)
-
 -- an entry that was found under a name, as code sees it
 pub used_at : (inside x : Space) (m n : ℕ) (e : Entry)
     → inside ≡ x
@@ -114,18 +100,6 @@ pub used_at : (inside x : Space) (m n : ℕ) (e : Entry)
     → IsSome (get inside m)
 used_at inside x m n e view name at =
     subst IsSome (sym (ap (λ y. get y m) view ∙ ap (get x) name ∙ at)) refl
-
--- a name that is not above the number of entries is short
-pub unused_bound : (x : Space) (es : List (ℕ × Entry)) (n : ℕ)
-    → IsBounded x
-    → es ≡ x.list
-    → n ≤ length es + 1
-    → n < 2 ^ 32
-unfolding len
-unused_bound x es n b is within =
-    let few = b.few in
-    let same : length es ≡ length x.list = ap length is in
-    omega arith
 
 -- what gives a dead right is there
 pub dead_used : (o : Option Entry) (d : Disp) (rest : Option Entry)

@@ -4,9 +4,7 @@ pub mod BoundLaws
 pub mod GivingLaws
 pub mod Altering
 pub mod RenamingLaws
-pub mod RenamingSets
 pub mod ListingLaws
 pub mod ForetellingLaws
 pub mod DroppingLaws
 pub mod ChangingLaws
-pub mod TurningLaws

@@ -1,83 +1,61 @@
 -- Listing the names of a space one after the other.
-use Rattle.std.proofs.Common.{◌≡◌, ℕ, suc, ◌+◌, ◌<◌, ◌≤◌, ◌^◌, List, [], ◌∷◌, ◌++◌, length, map}
-use Rattle.std.proofs.Common.{take, refl, sym, ◌∙◌, ap, subst, arith, add-one, length-take}
-use Rattle.std.proofs.lemmas.List.{length-map, map-append}
-use Rattle.std.proofs.Math.Seq.{take-suc}
-use Prim.Native.Nat.{zero}
-use Rattle.std.specs.List.{slice_index_or}
+use Rattle.std.proofs.Common.{◌≡◌, ℕ, ◌+◌, ◌<◌, ◌≤◌, ◌^◌, T, List, [], ◌∷◌, ◌++◌, length, map}
+use Rattle.std.proofs.Common.{Some, sym, ◌∙◌, ap, subst, arith}
+use Rattle.std.proofs.Common.{length-append}
+use Rattle.std.proofs.lemmas.List.{length-map}
+use Rattle.std.specs.List.{AllByRecursion}
 use Rattle.mrc_base.specs.Limits.{limit_of_names}
 use Rattle.mrc_model.specs.declared.Entry.{Entry}
-use Rattle.mrc_model.specs.Map.{len}
+use Rattle.mrc_model.specs.Rising.{is_rising, right_holds, find_key}
+use Rattle.mrc_model.specs.Map.{len, get}
 use Rattle.mrc_model.specs.World.{Space}
+use Rattle.mrc_model.proofs.Maps.{find_here, Each-rest}
 use Rattle.mrc_names.specs.declared.listing.NamedType.{NamedType}
 use Rattle.mrc_names.specs.Bounds.{IsBounded}
 use Rattle.mrc_names.specs.Listings.{name_of, names_of, entry_name}
-use Rattle.mrc_names.proofs.Altering.{each_at}
 
--- the name at an index is short
-pub short_at : (x : Space) (es : List (ℕ × Entry)) (i : ℕ) (d : ℕ × Entry)
+-- of these entries the rest is still to be listed
+pub record IsListed (all rest : List (ℕ × Entry)) (names : List NamedType) : Type 0 where
+  pub listed : names_of names ++ map entry_name rest ≡ map entry_name all
+  pub short : AllByRecursion (λ (e : ℕ × Entry). e.0 < 2 ^ 32) rest
+
+all_short : (low : ℕ) (es : List (ℕ × Entry))
+    → T (is_rising low es)
+    → ((k : ℕ) (v : Entry) → find_key k es ≡ Some v → k < 2 ^ 32)
+    → AllByRecursion (λ (e : ℕ × Entry). e.0 < 2 ^ 32) es
+all_short low [] r h = tt
+all_short low (e ∷ es) r h = (
+  h e.0 e.1 (find_here e es),
+  all_short (e.0 + 1) es (right_holds _ _ r) (Each-rest (λ k v. k < 2 ^ 32) low e es r h),
+)
+
+-- at the start all are
+pub none_listed : (x : Space) (es : List (ℕ × Entry)) (names : List NamedType)
     → IsBounded x
     → es ≡ x.list
-    → i < length es
-    → d ≡ slice_index_or es i d
-    → d.0 < 2 ^ 32
-short_at x es i d b is h at =
-    let inside : i < length x.list = subst (λ l. i < length l) is h in
-    let there : d ≡ slice_index_or x.list i d = at ∙ ap (λ l. slice_index_or l i d) is in
-    subst (λ (e : ℕ × Entry). e.0 < 2 ^ 32) (sym there)
-    (each_at (λ n e. n < 2 ^ 32) x i d b.short inside)
-
--- one name more
-pub listed_next : (es : List (ℕ × Entry)) (i : ℕ) (d : ℕ × Entry)
-    (names more : List NamedType) (n : NamedType)
-    → names_of names ≡ map entry_name (take i es)
-    → i < length es
-    → d ≡ slice_index_or es i d
-    → more ≡ names ++ n ∷ []
-    → name_of n ≡ entry_name d
-    → names_of more ≡ map entry_name (take (i + 1) es)
-listed_next es i d names more n so_far h at pushed is =
-    let last : take (i + 1) es ≡ take i es ++ slice_index_or es i d ∷ [] =
-    ap (λ k. take k es) (add-one i) ∙ take-suc es i d h in
-    ap names_of pushed
-    ∙ map-append name_of names (n ∷ [])
-    ∙ ap (λ l. l ++ name_of n ∷ []) so_far
-    ∙ ap (λ m. map entry_name (take i es) ++ m ∷ []) (is ∙ ap entry_name at)
-    ∙ sym (map-append entry_name (take i es) (slice_index_or es i d ∷ []))
-    ∙ ap (map entry_name) (sym last)
+    → names ≡ []
+    → IsListed es es names
+unfolding get
+none_listed x es names b is none = record {
+  listed = ap (λ l. names_of l ++ map entry_name es) none;
+  short =
+      subst (AllByRecursion (λ (e : ℕ × Entry). e.0 < 2 ^ 32)) (sym is)
+      (all_short 0 x.list x.rising b.short);
+}
 
 -- there are no more names than entries
-pub listed_few : (x : Space) (es : List (ℕ × Entry)) (i : ℕ) (names : List NamedType)
+pub listed_few : (x : Space) (all rest : List (ℕ × Entry)) (names : List NamedType)
     → IsBounded x
-    → es ≡ x.list
-    → names_of names ≡ map entry_name (take i es)
+    → all ≡ x.list
+    → IsListed all rest names
     → length names ≤ limit_of_names
 unfolding len
-listed_few x es i names b is so_far =
+listed_few x all rest names b is l =
     let few = b.few in
-    let same : length es ≡ length x.list = ap length is in
-    let count : length (names_of names) ≡ length (map entry_name (take i es)) = ap length so_far in
+    let same : length all ≡ length x.list = ap length is in
+    let count : length (names_of names ++ map entry_name rest) ≡ length (map entry_name all) =
+    ap length l.listed in
+    let both = length-append (names_of names) (map entry_name rest) in
     let left = length-map names name_of in
-    let right = length-map (take i es) entry_name in
-    let cut = length-take i es in
+    let right = length-map all entry_name in
     omega arith
-
--- a list up to its end
-whole : (es : List (ℕ × Entry)) (i : ℕ) → length es ≤ i → take i es ≡ es
-whole [] zero h = refl
-whole [] (suc i) h = refl
-whole (e ∷ es) zero h = absurd (omega arith)
-whole (e ∷ es) (suc i) h = ap (λ l. e ∷ l) (whole es i (omega arith))
-
--- all names
-pub listed_all : (inside x : Space) (es : List (ℕ × Entry)) (i : ℕ) (names : List NamedType)
-    (listing : List (ℕ × ℕ))
-    → inside ≡ x
-    → es ≡ inside.list
-    → names_of names ≡ map entry_name (take i es)
-    → length es ≤ i
-    → listing ≡ names_of names
-    → listing ≡ map entry_name x.list
-listed_all inside x es i names listing view is so_far h made =
-    made ∙ so_far
-    ∙ ap (map entry_name) (whole es i h ∙ is ∙ ap (λ y. y.list) view)

@@ -1,7 +1,7 @@
 -- What changes of a name's references, and of sets, leave of a space.
 -- From Mach 3 Kernel Interfaces, mach_port_mod_refs, mach_port_deallocate, mach_port_destroy and
 -- mach_port_move_member.
-use Rattle.std.specs.Prelude.{ℕ, ℤ, Option, Some, None, Ok, ◌==◌, if◌then◌else◌}
+use Rattle.std.specs.Prelude.{ℕ, ℤ, Option, Some, None, Ok, ◌==◌, if◌then◌else◌, ⊤}
 use Rattle.mrc_base.specs.declared.Right.{Right}
 use Rattle.mrc_model.specs.declared.Entry.{Entry}
 use Rattle.mrc_model.specs.declared.Entry.TheVariants.{Receive as ReceiveEntry, Send as SendEntry}
@@ -17,6 +17,7 @@ use Rattle.mrc_model.specs.CallDeallocate.{DestroysReceive as ReceiveT, Destroys
 use Rattle.mrc_model.specs.CallDeallocate.{drop_one}
 use Rattle.mrc_model.specs.CallModRefs.{change_refs}
 use Rattle.mrc_model.specs.CallMoveMember.{leave}
+use Rattle.mrc_index.specs.Names.{IsRestOf}
 use Rattle.mrc_names.specs.declared.dropping.Change.{Change}
 use Rattle.mrc_names.specs.declared.dropping.Change.TheVariants.{Remains, DestroysReceive}
 use Rattle.mrc_names.specs.declared.dropping.Change.TheVariants.{DestroysEntry}
@@ -29,6 +30,12 @@ abbrev pub change_of : Change → TChange
 change_of (Remains rest) = RemainsT rest
 change_of DestroysReceive = ReceiveT
 change_of DestroysEntry = EntryT
+
+-- what is left of the entry is of its port and kind, if anything is
+abbrev pub IsChangeOf : Entry → TChange → Type 0
+IsChangeOf e (RemainsT rest) = IsRestOf e rest
+IsChangeOf e ReceiveT = ⊤
+IsChangeOf e EntryT = ⊤
 
 -- The space after the change of the name's entry, and what is still to be destroyed: of that
 -- nothing has changed.

@@ -40,10 +40,6 @@ move_right x from d to = do
   got ← take_right x from d
   insert_at got.0 to got.1 (given d)
 
--- an entry of the space, once the name n has no more than the rest
-abbrev pub left_at : ℕ → Option Entry → ℕ → Entry → Option Entry
-left_at n rest k e = if k == n then rest else Some e
-
 -- the space after an entry was put under the least unused name, and that name; refused where the
 -- space is full
 unfoldable pub add_entry : Space → Entry → Try (Space × ℕ)

@@ -1,55 +1,40 @@
 //! Dropping references, taking a name out, and moving members between sets. Nothing of it takes
 //! memory.
 
-ghost use Rattle.std.specs.Prelude.{◌≡◌, Ok, Err, Some, IfOk, IfErr, OnOk, OnErr, IsSome};
-ghost use Rattle.mrc_model.specs.Map.{get, insert, alter_all};
+ghost use Rattle.std.specs.Prelude.{◌≡◌, Ok, Err, Some, IfOk, IfErr, OnOk, OnErr};
+ghost use Rattle.mrc_model.specs.Map.{get};
 ghost use Rattle.mrc_model.specs.Reply.{Refused};
-ghost use Rattle.mrc_model.specs.Space.{put_entry, is_set, outside, members_leave};
-ghost use Rattle.mrc_model.specs.declared.Entry.TheVariants.{Receive as ReceiveEntry};
+ghost use Rattle.mrc_model.specs.Space.{put_entry};
+ghost use Rattle.mrc_model.specs.declared.Entry.{Entry as TEntry};
+ghost use Rattle.mrc_index.specs.Names.{IsRestOf};
 ghost use Rattle.mrc_names.specs.Changes.{change_of, changed, drop_refs, drop_reference, without};
-ghost use Rattle.mrc_names.specs.Changes.{join_set, new_set, move_member};
+ghost use Rattle.mrc_names.specs.Changes.{new_set, move_member, IsChangeOf};
 
 use crate::dropping::{Change, Dropped, change_refs, drop_one};
 use crate::entry;
 use crate::space::Space;
 use mrc_base::Right;
-use mrc_map::Map;
+use mrc_index::entry::is_set;
 use mrc_model::{Code, Entry};
-
-/// The entries without members of this set.
-fn empty_set(entries: &mut Map<Entry>, set: u32)
-    ensures { entries.new ≡ alter_all (outside set) entries.old }
-{
-    for index in 0..entries.len() {
-        let held = entries.entries()[index].1;
-        entries.set_at(index, entry::outside(&held, set));
-    }
-}
-
-/// The members of a set leave it, if what goes is a set.
-fn let_members_go(entries: &mut Map<Entry>, held: &Entry, name: u32)
-    ensures { entries.new ≡ members_leave (is_set held.now) name entries.old }
-{
-    if entry::is_set(held) {
-        empty_set(entries, name);
-    }
-}
 
 impl Space {
     /// The name holds this from here on.
     fn leave(&mut self, name: u32, rest: Option<Entry>)
-        requires { IsSome (get self.old name) }
+        requires { (e : TEntry) × (get self.old name ≡ Some e) × IsRestOf e rest }
         ensures { self.new ≡ put_entry self.old name rest }
     {
         match rest {
-            Some(left) => self.entries.set(u64::from(name), left),
-            None => self.entries.remove(u64::from(name)),
+            Some(left) => self.entries.set(name, left),
+            None => {
+                let _ = self.entries.remove(name);
+            }
         }
     }
 
     /// The change of a name's entry, but for what is still to be destroyed.
     fn change(&mut self, name: u32, change: Change) -> Dropped
-        requires { IsSome (get self.old name) }
+        requires { (e : TEntry)
+            × (get self.old name ≡ Some e) × IsChangeOf e (change_of change) }
         ensures { changed self.old name (change_of change) ≡ (self.new, result) }
     {
         match change {
@@ -112,8 +97,10 @@ impl Space {
         let Some(held) = self.get(name) else {
             return None;
         };
-        self.entries.remove(u64::from(name));
-        let_members_go(&mut self.entries, &held, name);
+        let _ = self.entries.remove(name);
+        if is_set(&held) {
+            self.entries.let_go(name);
+        }
         Some(held)
     }
 
@@ -131,7 +118,7 @@ impl Space {
         let Some(held) = self.get(set) else {
             return Err(Code::KernInvalidName);
         };
-        if entry::is_set(&held) {
+        if is_set(&held) {
             Ok(Some(set))
         } else {
             Err(Code::KernInvalidRight)
@@ -157,8 +144,7 @@ impl Space {
         };
         match self.new_set(set, in_set) {
             Ok(joined) => {
-                self.entries
-                    .set(u64::from(member), entry::in_set(&held, joined));
+                self.entries.set(member, entry::in_set(&held, joined));
                 Ok(())
             }
             Err(code) => Err(code),

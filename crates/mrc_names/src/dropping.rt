@@ -1,14 +1,15 @@
 //! What is left of an entry when references of it are changed or dropped, or when its set changes.
 
-ghost use Rattle.std.specs.Prelude.{◌≡◌, Ok, Err, IfOk, IfErr, Some, option_map};
+ghost use Rattle.std.specs.Prelude.{◌≡◌, Ok, Err, IfOk, IfErr, IfSome, option_map};
 ghost use Rattle.mrc_model.specs.Reply.{Refused};
 ghost use Rattle.mrc_model.specs.CallDeallocate.{drop_one};
 ghost use Rattle.mrc_model.specs.CallModRefs.{plus, new_refs, by_one, change_refs};
 ghost use Rattle.mrc_model.specs.CallModRefs.{changed_refs, changed_beside, changed_sends};
-ghost use Rattle.mrc_names.specs.Changes.{change_of};
+ghost use Rattle.mrc_model.specs.declared.Entry.TheVariants.{Receive, Send, DeadName};
+ghost use Rattle.mrc_names.specs.Changes.{change_of, IsChangeOf};
 
-use crate::entry::{dead_entry, send_entry};
 use mrc_base::{PortId, Right, limits};
+use mrc_index::entry::{dead_entry, send_entry};
 use mrc_model::{Code, Entry};
 
 /// What a call does with an entry.
@@ -70,6 +71,8 @@ fn new_refs(refs: u16, delta: i32) -> Result<u16, Code>
 /// (KERN_INVALID_VALUE).
 fn by_one(delta: i32, entry: Entry, change: Change) -> Result<Change, Code>
     ensures ok { IfOk result (λ c. by_one delta entry (change_of change) ≡ Ok (change_of c)) }
+    ensures alike { IfOk result
+        (λ c. IsChangeOf entry (change_of change) → IsChangeOf entry (change_of c)) }
     ensures refused { IfErr result
         (λ code. by_one delta entry (change_of change) ≡ Err (Refused code)) }
 {
@@ -84,6 +87,7 @@ fn by_one(delta: i32, entry: Entry, change: Change) -> Result<Change, Code>
 /// (KERN_INVALID_RIGHT).
 fn changed_beside(port: PortId, sends: u16, in_set: Option<u32>, delta: i32) -> Result<Change, Code>
     ensures ok { IfOk result (λ c. changed_beside port sends in_set delta ≡ Ok (change_of c)) }
+    ensures alike { IfOk result (λ c. IsChangeOf (Receive port sends in_set) (change_of c)) }
     ensures refused { IfErr result
         (λ code. changed_beside port sends in_set delta ≡ Err (Refused code)) }
 {
@@ -104,6 +108,7 @@ fn changed_beside(port: PortId, sends: u16, in_set: Option<u32>, delta: i32) -> 
 /// The references of a send entry.
 fn changed_sends(port: PortId, sends: u16, delta: i32) -> Result<Change, Code>
     ensures ok { IfOk result (λ c. changed_sends port sends delta ≡ Ok (change_of c)) }
+    ensures alike { IfOk result (λ c. IsChangeOf (Send port sends) (change_of c)) }
     ensures refused { IfErr result (λ code. changed_sends port sends delta ≡ Err (Refused code)) }
 {
     match new_refs(sends, delta) {
@@ -115,6 +120,7 @@ fn changed_sends(port: PortId, sends: u16, delta: i32) -> Result<Change, Code>
 /// The references of a dead name.
 fn changed_refs(refs: u16, delta: i32) -> Result<Change, Code>
     ensures ok { IfOk result (λ c. changed_refs refs delta ≡ Ok (change_of c)) }
+    ensures alike { IfOk result (λ c. IsChangeOf (DeadName refs) (change_of c)) }
     ensures refused { IfErr result (λ code. changed_refs refs delta ≡ Err (Refused code)) }
 {
     match new_refs(refs, delta) {
@@ -127,6 +133,7 @@ fn changed_refs(refs: u16, delta: i32) -> Result<Change, Code>
 /// refused (KERN_INVALID_RIGHT).
 pub(crate) fn change_refs(entry: Entry, right: Right, delta: i32) -> Result<Change, Code>
     ensures ok { IfOk result (λ c. change_refs entry right delta ≡ Ok (change_of c)) }
+    ensures alike { IfOk result (λ c. IsChangeOf entry (change_of c)) }
     ensures refused { IfErr result (λ code. change_refs entry right delta ≡ Err (Refused code)) }
 {
     match entry {
@@ -169,7 +176,8 @@ pub(crate) fn change_refs(entry: Entry, right: Right, delta: i32) -> Result<Chan
 /// What becomes of an entry when one send or dead reference is dropped, or its send-once right is
 /// destroyed. None where it has none of them.
 pub(crate) fn drop_one(entry: Entry) -> Option<Change>
-    ensures { option_map change_of result ≡ drop_one entry }
+    ensures dropped { option_map change_of result ≡ drop_one entry }
+    ensures alike { IfSome result (λ c. IsChangeOf entry (change_of c)) }
 {
     match entry {
         Entry::Receive {

@@ -1,20 +1,19 @@
 //! Whether a right can be put under a name, told beforehand. Nothing changes, and no memory is
 //! taken.
 
-ghost use Rattle.std.specs.Prelude.{◌≡◌, ◌==◌, ℕ, Ok, Some, [], ◌∷◌};
+ghost use Rattle.std.specs.Prelude.{◌≡◌, ◌==◌, ℕ, Ok, Some, option_map};
 ghost use Rattle.std.specs.Prelude.{is_some, ◌&&◌, if◌then◌else◌};
 ghost use Rattle.mrc_base.specs.declared.PortRight.{PortRight as TRight};
 ghost use Rattle.mrc_model.specs.Map.{get};
-ghost use Rattle.mrc_model.specs.Rising.{alter_list};
 ghost use Rattle.mrc_model.specs.World.{Space as TSpace};
-ghost use Rattle.mrc_model.specs.Space.{first_entry, entry_of, is_full, insert_at, insert_new};
-ghost use Rattle.mrc_model.specs.Space.{insert_joined};
+ghost use Rattle.mrc_model.specs.Space.{entry_of, is_full, insert_at, insert_new, insert_joined};
 ghost use Rattle.mrc_names.specs.Refusals.{Foretells};
-ghost use Rattle.mrc_names.specs.Takes.{take_right, move_right, left_at};
+ghost use Rattle.mrc_names.specs.Takes.{take_right, move_right};
 
 use crate::entry;
 use crate::space::{Space, is_other};
 use mrc_base::{Disp, PortId, PortRight, give};
+use mrc_index::entry::is_entry_of;
 use mrc_model::{Code, Entry};
 
 /// Whether a new entry can stand where this one does, if one does.
@@ -36,7 +35,7 @@ fn foretell_join(held: &Entry, full: bool, port: PortId, right: PortRight) -> Re
     ensures { (x : TSpace) (name : ℕ) → is_full x ≡ full
         → Foretells result (insert_joined x name port right (Some held.now)) }
 {
-    if !entry::is_entry_of(port, held) {
+    if !is_entry_of(port, held) {
         return Err(Code::KernNameExists);
     }
     if entry::overflows(held, right) {
@@ -67,14 +66,15 @@ fn foretell_joined(
 /// Whether a right can be put under a name of a space, by the entry that the port has there, the
 /// entry of the name, and whether the space is full.
 fn foretell(
-    known: Option<(u64, Entry)>,
+    known: Option<u32>,
     held: Option<Entry>,
     full: bool,
     name: u32,
     port: PortId,
     right: PortRight,
 ) -> Result<(), Code>
-    ensures { (x : TSpace) → entry_of x port ≡ known → get x name ≡ held → is_full x ≡ full
+    ensures { (x : TSpace) → option_map (λ held. held.0) (entry_of x port) ≡ known
+        → get x name ≡ held → is_full x ≡ full
         → Foretells result (insert_at x name port right) }
 {
     if let PortRight::SendOnce = right {
@@ -86,63 +86,13 @@ fn foretell(
     foretell_joined(held, full, port, right)
 }
 
-/// An entry, once the name has no more than the rest.
-fn left_at(name: u32, rest: &Option<Entry>, held: &(u64, Entry)) -> Option<Entry>
-    ensures { result ≡ left_at name rest.now held.now.0 held.now.1 }
-{
-    if held.0 == u64::from(name) {
-        *rest
-    } else {
-        Some(held.1)
-    }
-}
-
-/// The same for the port's entries alone.
-fn port_left(
-    name: u32,
-    rest: &Option<Entry>,
-    held: &(u64, Entry),
-    port: PortId,
-) -> Option<(u64, Entry)>
-    ensures { result ≡ first_entry port (alter_list (left_at name rest.now) (held.now ∷ [])) }
-{
-    match left_at(name, rest, held) {
-        None => None,
-        Some(entry) => {
-            if entry::is_entry_of(port, &entry) {
-                Some((held.0, entry))
-            } else {
-                None
-            }
-        }
-    }
-}
-
-/// The port's first entry, once the name has no more than the rest.
-fn first_left(
-    entries: &[(u64, Entry)],
-    name: u32,
-    rest: &Option<Entry>,
-    port: PortId,
-) -> Option<(u64, Entry)>
-    ensures { result ≡ first_entry port (alter_list (left_at name rest.now) entries.now) }
-{
-    for held in entries {
-        let left = port_left(name, rest, held, port);
-        if left.is_some() {
-            return left;
-        }
-    }
-    None
-}
-
 impl Space {
     /// What `insert_at` would answer, as far as memory lasts.
     pub fn foretell_insert(&self, name: u32, port: PortId, right: PortRight) -> Result<(), Code>
         ensures { Foretells result (insert_at self.now name port right) }
     {
         foretell(
-            self.find_entry(port),
+            self.find(port),
             self.get(name),
             self.is_full(),
             name,
@@ -173,7 +123,7 @@ impl Space {
         let taken = self.parting(from, disp)?;
         let held = self.held_left(from, taken.1, to);
         let full = self.is_full_left(taken.1);
-        let known = first_left(self.entries(), from, &taken.1, taken.0);
+        let known = self.entries.name_left(from, taken.1, taken.0);
         foretell(known, held, full, to, taken.0, give(disp))
     }
 

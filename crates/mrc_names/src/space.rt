@@ -1,16 +1,17 @@
 //! What a task has under its names.
 
-ghost use Rattle.std.specs.Prelude.{◌≡◌, ◌≤◌, ◌<◌, ◌+◌, ◌^◌, length, Ok, Err, Some, IfOk, OnOk};
-ghost use Rattle.std.specs.Prelude.{OnErr, IfErr, IfSome, IsSome, false, option_map, map};
+ghost use Rattle.std.specs.Prelude.{◌≡◌, ◌==◌, ℕ, Option, Ok, Err, Some, None, IfOk, OnOk};
+ghost use Rattle.std.specs.Prelude.{OnErr, IfErr, IsSome, false, option_map, map};
 ghost use Rattle.std.specs.Prelude.{is_some, ◌&&◌};
-ghost use Rattle.mrc_model.specs.Map.{empty, get, insert, len, alter_all};
-ghost use Rattle.mrc_model.specs.Space.{first_entry, entry_of, is_full, insert_at, insert_new};
-ghost use Rattle.mrc_model.specs.Space.{insert_joined, is_other, least_from, unused, place_new};
+ghost use Rattle.mrc_model.specs.Map.{empty, get, insert, len};
+ghost use Rattle.mrc_model.specs.Space.{entry_of, is_full, insert_at, insert_new};
+ghost use Rattle.mrc_model.specs.Space.{insert_joined, is_other, unused};
 ghost use Rattle.mrc_model.specs.Space.{put_entry};
 ghost use Rattle.mrc_model.specs.Reply.{Refused};
 ghost use Rattle.mrc_model.specs.Target.{is_reserved};
 ghost use Rattle.mrc_model.specs.CallNames.{refs_of, mask_of};
-ghost use Rattle.mrc_model.specs.Space.{in_renamed, is_set, members_follow};
+ghost use Rattle.mrc_model.specs.declared.Entry.{Entry as TEntry};
+ghost use Rattle.mrc_index.specs.Undo.{CanPut};
 ghost use Rattle.mrc_names.specs.Bounds.{IsBounded};
 ghost use Rattle.mrc_names.specs.Listings.{entry_name};
 ghost use Rattle.mrc_names.specs.Refusals.{IsRefusal};
@@ -22,16 +23,18 @@ use crate::entry;
 use crate::listing::{Listing, NamedType};
 use crate::types::PortType;
 use mrc_base::{Disp, OrMemory, PortId, PortRight, Right, limits};
-use mrc_map::Map;
+use mrc_index::Names;
+use mrc_index::entry::{is_entry_of, is_set, joined, new_entry};
 use mrc_model::{Code, Entry};
 use std::alloc::{AllocError, Global};
+use std::collections::btree_map::Iter;
 use std::marker::Model;
 
 /// What a task has under its names: at most 4,096 entries. It keeps the allocator that it is made
 /// with.
 #[derive(Debug, Drop)]
 pub struct Space {
-    pub(crate) entries: Map<Entry>,
+    pub(crate) entries: Names,
 }
 
 impl Model for Space {
@@ -45,41 +48,14 @@ impl Model for Space {
     ghost invariant = { λ a. IsBounded a.entries };
 }
 
-/// The first of these entries that is the port's.
-fn first_entry(entries: &[(u64, Entry)], port: PortId) -> Option<(u64, Entry)>
-    ensures { result ≡ first_entry port entries.now }
-{
-    for held in entries {
-        if entry::is_entry_of(port, &held.1) {
-            return Some(*held);
-        }
-    }
-    None
-}
-
-/// The least number from 1 on that is no key.
-fn least_unused(entries: &[(u64, Entry)]) -> u64
-    ensures least { result ≡ least_from 1 entries.now }
-    ensures within { result ≤ length entries.now + 1 }
-{
-    let mut name = 1u64;
-    for held in entries {
-        if held.0 == name {
-            name += 1;
-        } else if name < held.0 {
-            return name;
-        }
-    }
-    name
-}
-
 /// Whether the entry has another name.
-pub(crate) fn is_other(name: u32, found: Option<(u64, Entry)>) -> bool
-    ensures { result ≡ is_other name found }
+pub(crate) fn is_other(name: u32, found: Option<u32>) -> bool
+    ensures { (o : Option (ℕ × TEntry)) → option_map (λ held. held.0) o ≡ found
+        → result ≡ is_other name o }
 {
     match found {
         None => false,
-        Some(held) => held.0 != u64::from(name),
+        Some(held) => held != name,
     }
 }
 
@@ -90,40 +66,28 @@ fn is_reserved(name: u32) -> bool
     name == 0 || name == 0xffff_ffff
 }
 
-/// The entries after a set of the space got another name. Its members stay members.
-fn rename_set(entries: &mut Map<Entry>, old: u32, new: u32)
-    ensures { entries.new ≡ alter_all (in_renamed old new) entries.old }
-{
-    for index in 0..entries.len() {
-        let held = entries.entries()[index].1;
-        entries.set_at(index, entry::in_renamed(&held, old, new));
-    }
-}
-
-/// The members of a set follow it, if what got the new name was a set.
-fn move_members(entries: &mut Map<Entry>, held: &Entry, old: u32, new: u32)
-    ensures { entries.new ≡ members_follow (is_set held.now) old new entries.old }
-{
-    if let Entry::PortSet = *held {
-        rename_set(entries, old, new);
-    }
-}
-
 impl Space {
     /// The space with no entry.
     pub fn new(alloc: Global) -> Space
         ensures { result ≡ empty }
     {
         Space {
-            entries: Map::new(alloc),
+            entries: Names::new(alloc),
         }
     }
 
     /// All entries with their names, ascending.
-    pub fn entries(&self) -> &[(u64, Entry)]
-        ensures { result.now ≡ self.now.list }
+    pub fn iter(&self) -> Iter<'_, u64, Entry>
+        ensures { result ≡ self.now.list }
     {
-        self.entries.entries()
+        self.entries.iter()
+    }
+
+    /// Whether there is no entry.
+    pub fn is_empty(&self) -> bool
+        ensures { result ≡ (len self.now == 0) }
+    {
+        self.entries.len() == 0
     }
 
     /// What the type keeps: there are at most 4,096 entries, under names of 32 bits.
@@ -137,15 +101,14 @@ impl Space {
     pub fn get(&self, name: u32) -> Option<Entry>
         ensures { result ≡ get self.now name }
     {
-        self.entries.get(u64::from(name)).copied()
+        self.entries.get(name)
     }
 
     /// The port's receive or send entry, with its name.
-    pub(crate) fn find_entry(&self, port: PortId) -> Option<(u64, Entry)>
-        ensures found { result ≡ entry_of self.now port }
-        ensures short { IfSome result (λ held. held.0 < 2 ^ 32) }
+    pub(crate) fn find_entry(&self, port: PortId) -> Option<(u32, Entry)>
+        ensures { result ≡ entry_of self.now port }
     {
-        first_entry(self.entries.entries(), port)
+        self.entries.find(port)
     }
 
     /// The name of the port's receive or send entry.
@@ -154,7 +117,7 @@ impl Space {
     {
         match self.find_entry(port) {
             None => None,
-            Some(held) => Some(held.0 as u32),
+            Some(held) => Some(held.0),
         }
     }
 
@@ -162,7 +125,7 @@ impl Space {
     fn unused(&self) -> u32
         ensures { result ≡ unused self.now }
     {
-        least_unused(self.entries.entries()) as u32
+        self.entries.unused()
     }
 
     /// Whether the space has 4,096 entries.
@@ -173,11 +136,11 @@ impl Space {
     }
 
     /// The same space once more.
-    pub fn copy(&self, alloc: Global) -> Result<Space, AllocError>
+    pub fn copy(&self) -> Result<Space, AllocError>
         ensures { IfOk result (λ copy. copy ≡ self.now) }
     {
         Ok(Space {
-            entries: self.entries.copy(alloc)?,
+            entries: self.entries.copy()?,
         })
     }
 
@@ -186,6 +149,7 @@ impl Space {
         ensures found { IfOk result (λ t.
             take_right self.now name disp ≡ Ok (put_entry self.now name t.1, t.0)) }
         ensures there { OnOk result (IsSome (get self.now name)) }
+        ensures alike { IfOk result (λ t. CanPut self.now name t.1) }
         ensures full { IfOk result (λ t.
             is_full (put_entry self.now name t.1) ≡ (is_some t.1 && is_full self.now)) }
         ensures refused { IfErr result
@@ -228,11 +192,11 @@ impl Space {
         let (port, rest) = taken;
         match rest {
             Some(left) => {
-                self.entries.set(u64::from(name), left);
+                self.entries.set(name, left);
                 Ok(port)
             }
             None => {
-                self.entries.remove(u64::from(name));
+                let _ = self.entries.remove(name);
                 Ok(port)
             }
         }
@@ -249,23 +213,24 @@ impl Space {
         };
         match rest {
             Some(left) => {
-                self.entries.set(u64::from(name), left);
+                self.entries.set(name, left);
                 true
             }
             None => {
-                self.entries.remove(u64::from(name));
+                let _ = self.entries.remove(name);
                 true
             }
         }
     }
 
-    /// Puts an entry under a name, where the space has room for one more.
+    /// Puts an entry under a name that has none, where the space has room for one more.
     pub(crate) fn put(&mut self, name: u32, entry: Entry) -> Result<(), AllocError>
-        requires { is_full self.old ≡ false }
+        requires room { is_full self.old ≡ false }
+        requires unused { get self.old name ≡ None }
         ensures ok { OnOk result (self.new ≡ insert self.old name entry) }
         ensures err { OnErr result (self.new ≡ self.old) }
     {
-        self.entries.insert(u64::from(name), entry)?;
+        self.entries.put(name, entry)?;
         Ok(())
     }
 
@@ -288,7 +253,7 @@ impl Space {
         if self.is_full() {
             return Err(OrMemory::Fault(Code::KernNoSpace));
         }
-        self.put(name, entry::new_entry(port, right))?;
+        self.put(name, new_entry(port, right))?;
         Ok(())
     }
 
@@ -307,7 +272,7 @@ impl Space {
             IsRefusal e (insert_joined self.old name port right (Some held))) }
         ensures err { OnErr result (self.new ≡ self.old) }
     {
-        if !entry::is_entry_of(port, &held) {
+        if !is_entry_of(port, &held) {
             return Err(OrMemory::Fault(Code::KernNameExists));
         }
         if entry::overflows(&held, right) {
@@ -316,8 +281,7 @@ impl Space {
         if self.is_full() {
             return Err(OrMemory::Fault(Code::KernNoSpace));
         }
-        self.entries
-            .set(u64::from(name), entry::joined(held, right));
+        self.entries.set(name, joined(held, right));
         Ok(())
     }
 
@@ -357,7 +321,7 @@ impl Space {
         if let PortRight::SendOnce = right {
             return self.insert_new(name, port, right);
         }
-        if is_other(name, self.find_entry(port)) {
+        if is_other(name, self.find(port)) {
             return Err(OrMemory::Fault(Code::KernRightExists));
         }
         self.insert_joined(name, port, right)
@@ -388,7 +352,7 @@ impl Space {
             return Err(OrMemory::Fault(Code::KernNoSpace));
         }
         let name = self.unused();
-        self.put(name, entry::new_entry(port, right))?;
+        self.put(name, new_entry(port, right))?;
         Ok(name)
     }
 
@@ -407,8 +371,8 @@ impl Space {
         let Some(held) = self.find_entry(port) else {
             return self.give_new(port, right);
         };
-        self.entries.set(held.0, entry::joined(held.1, right));
-        Ok(held.0 as u32)
+        self.entries.set(held.0, joined(held.1, right));
+        Ok(held.0)
     }
 
     /// How many references of a right a name has: 1 for a right that is there once, 0 for one that
@@ -436,12 +400,11 @@ impl Space {
     pub fn names(&self, alloc: Global) -> Result<Listing, AllocError>
         ensures { IfOk result (λ listing. listing ≡ map entry_name self.now.list) }
     {
-        let entries = self.entries.entries();
-        let mut names = Vec::with_capacity(alloc, entries.len())?;
-        for held in entries {
+        let mut names = Vec::with_capacity(alloc, self.entries.len())?;
+        for held in self.entries.iter() {
             names.push(NamedType {
-                name: held.0 as u32,
-                rights: PortType::of(&held.1),
+                name: *held.0 as u32,
+                rights: PortType::of(held.1),
             })?;
         }
         Ok(Listing::new(names))
@@ -464,9 +427,10 @@ impl Space {
         if self.get(new).is_some() {
             return Err(OrMemory::Fault(Code::KernNameExists));
         }
-        self.entries.insert(u64::from(new), held)?;
-        self.entries.remove(u64::from(old));
-        move_members(&mut self.entries, &held, old, new);
+        self.entries.rename(old, new, held)?;
+        if is_set(&held) {
+            self.entries.follow(old, new);
+        }
         Ok(())
     }
 }

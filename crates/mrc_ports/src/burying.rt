@@ -17,7 +17,7 @@ fn is_empty_at(spaces: &Map<Space>, index: usize) -> bool
     ensures { (d : ℕ × Space)
         → result ≡ (length (slice_index_or spaces.now.list index d).1.list == 0) }
 {
-    spaces.entries()[index].1.entries().is_empty()
+    spaces.entries()[index].1.is_empty()
 }
 
 /// The names of dead ports turn dead in the space at this index.

@@ -63,14 +63,14 @@ fn renamed(rt: &impl Abort, space: &mut Space, old: u32, new: u32) -> Result<(),
     }
 }
 
-fn copied(alloc: Global, space: &Space) -> Result<Space, AllocError> {
-    space.copy(alloc)
+fn copied(space: &Space) -> Result<Space, AllocError> {
+    space.copy()
 }
 
 /// The copy of a space, once more where memory ran out.
-fn copied_twice(alloc: Global, space: &Space) -> Result<Space, AllocError> {
-    match copied(alloc, space) {
-        Err(_) => copied(alloc, space),
+fn copied_twice(space: &Space) -> Result<Space, AllocError> {
+    match copied(space) {
+        Err(_) => copied(space),
         copy => copy,
     }
 }
@@ -114,7 +114,7 @@ fn assert_lists(rt: &impl Abort, listing: &Listing) {
 #[test]
 fn memory_that_runs_out_changes_nothing(rt: HostRuntime) -> Result<(), Fail> {
     let space = filled(&rt, rt.alloc())?;
-    let copy = copied_twice(rt.alloc(), &space)?;
+    let copy = copied_twice(&space)?;
     let sends = Entry::Send {
         port: PORT,
         sends: 2,

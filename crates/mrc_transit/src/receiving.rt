@@ -29,6 +29,7 @@ use mrc_model::{Code, Entry, Item};
 use mrc_names::Space;
 use mrc_ports::{Parcel, QueuedArgument, Store, moving};
 use std::alloc::{AllocError, Global};
+use std::collections::btree_map::Iter;
 use std::marker::Model;
 
 /// Why no message is received. Nothing has changed.
@@ -73,12 +74,12 @@ fn ready_member(store: &Store, set: u32, entry: &Entry) -> Option<PortId>
 }
 
 /// The first of these entries that is a member of the set with a message: its name and its port.
-fn first_ready(store: &Store, set: u32, entries: &[(u64, Entry)]) -> Option<(u64, PortId)>
-    ensures { option_map found_source result ≡ first_ready store.now set entries.now }
+fn first_ready(store: &Store, set: u32, entries: Iter<'_, u64, Entry>) -> Option<(u64, PortId)>
+    ensures { option_map found_source result ≡ first_ready store.now set entries.entry }
 {
     for held in entries {
-        if let Some(port) = ready_member(store, set, &held.1) {
-            return Some((held.0, port));
+        if let Some(port) = ready_member(store, set, held.1) {
+            return Some((*held.0, port));
         }
     }
     None
@@ -92,7 +93,7 @@ fn member_source(store: &Store, space: &Space, set: u32) -> Result<(u32, PortId)
         × (first_ready store.now set space.now.list ≡ None)) }
 {
     space.bounds();
-    match first_ready(store, set, space.entries()) {
+    match first_ready(store, set, space.iter()) {
         None => Err(Code::MachRcvTimedOut),
         Some(found) => Ok((found.0 as u32, found.1)),
     }
@@ -309,7 +310,7 @@ pub fn copy_out(
     if limit < size {
         return Err(OrMemory::Fault(ReceiveFault::TooLarge(size)));
     }
-    let mut space = space.copy(alloc)?;
+    let mut space = space.copy()?;
     let message = match received(alloc, &mut space, from, found.receipts(), parcel) {
         Ok(message) => message,
         Err(OrMemory::Fault(_)) => {

@@ -102,7 +102,7 @@ pub fn copy_in(
     let Some(space) = store.space(sender) else {
         return Err(OrMemory::Fault(SendFault::Refused(Code::MachSendInvalidDest)));
     };
-    let mut taking = Taking::new(alloc, space.copy(alloc)?);
+    let mut taking = Taking::new(alloc, space.copy()?);
     let destination = match taking.take(header.remote_port, disp) {
         Ok(port) => port,
         Err(fault) => return Err(refused_by(Code::MachSendInvalidDest, fault)),

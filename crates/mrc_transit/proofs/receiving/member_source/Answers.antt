@@ -10,5 +10,5 @@ pub overflow_cast-result : goal.overflow_cast-result
 overflow_cast-result c =
     Fits-of_lt (first_short c.args.store.now c.args.set c.args.space.now
     (found_source c.in-Some.found) c.bounds.ensures.kept
-    (ap (first_ready c.args.store.now c.args.set) (sym c.entries.ensures)
+    (ap (first_ready c.args.store.now c.args.set) (sym c.iter.ensures)
     ∙ sym c.first_ready.ensures ∙ ap (option_map found_source) c.in-Some.is))

@@ -1,11 +1,13 @@
 use Rattle.std.proofs.Common.{◌≡◌, sym, ap, ◌∙◌, subst, Ok, IfOk, IfErr}
-use Rattle.std.proofs.Math.Facts.{Fits-of_lt}
 use Rattle.std.specs.Prelude.{IsSome}
 use Rattle.mrc_model.specs.Map.{get, insert}
 use Rattle.mrc_names.specs.Bounds.{IsBounded}
 use Rattle.mrc_names.specs.Refusals.{IsRefusal}
-use Rattle.mrc_names.proofs.BoundLaws.{bounded_old, found_used, found_short}
+use Rattle.mrc_names.proofs.BoundLaws.{bounded_old, found_used}
 use Rattle.mrc_names.proofs.GivingLaws.{given_once, given_unknown, given_joined}
+use Rattle.mrc_model.proofs.Spaces.{entry_of-some}
+use Rattle.mrc_index.specs.Names.{HoldsAlike}
+use Rattle.mrc_index.proofs.UndoLaws.{joined_alike}
 use Rattle.mrc_names.proofs.space.Space.copyout.Goals as goal
 
 pub returns-in-SendOnce-clause-ok : goal.returns-in-SendOnce-clause-ok
@@ -22,7 +24,7 @@ returns-in-SendOnce-clause-refused c =
 pub returns-in_default-find_entry : goal.returns-in_default-find_entry
 returns-in_default-find_entry c =
     let gives = c.give_new-in_default-find_entry.ensures in
-    let none = sym c.find_entry.ensures.found ∙ c.in_default-find_entry.is in
+    let none = sym c.find_entry.ensures ∙ c.in_default-find_entry.is in
     let at =
     given_unknown c.args.self.now c.args.port c.args.right c.in_default.not-SendOnce none in
     record {
@@ -35,19 +37,17 @@ returns-in_default-find_entry c =
 
 pub set-requires : goal.set-requires
 set-requires c =
-    let found = sym c.find_entry.ensures.found ∙ c.in-Some.is in
-    subst (λ x. IsSome (get x c.in-Some.held.0)) (sym c.self.view_is)
-    (found_used c.args.self.now c.args.port c.in-Some.held found)
-
-pub overflow_cast-result : goal.overflow_cast-result
-overflow_cast-result c =
-    let found = sym c.find_entry.ensures.found ∙ c.in-Some.is in
-    let bounds = subst IsBounded c.self.view_is c.self.invariant in
-    Fits-of_lt (found_short c.args.self.now c.args.port c.in-Some.held bounds found)
+    let found = sym c.find_entry.ensures ∙ c.in-Some.is in
+    let there = entry_of-some c.args.self.now c.args.port c.in-Some.held found in (
+      c.in-Some.held.1,
+      ap (λ x. get x c.in-Some.held.0) c.self.view_is ∙ there.0,
+      subst (HoldsAlike c.in-Some.held.1) (sym c.joined.ensures)
+          (joined_alike c.in-Some.held.1 c.args.right),
+    )
 
 pub invariant_of-self : goal.invariant_of-self
 invariant_of-self c =
-    let found = sym c.find_entry.ensures.found ∙ c.in-Some.is in
+    let found = sym c.find_entry.ensures ∙ c.in-Some.is in
     let used = subst (λ x. IsSome (get x c.in-Some.held.0)) (sym c.self.view_is)
     (found_used c.args.self.now c.args.port c.in-Some.held found) in
     subst IsBounded (sym c.set.ensures)
@@ -55,7 +55,7 @@ invariant_of-self c =
 
 pub returns : goal.returns
 returns c =
-    let found = sym c.find_entry.ensures.found ∙ c.in-Some.is in
+    let found = sym c.find_entry.ensures ∙ c.in-Some.is in
     let bounds = subst IsBounded c.self.view_is c.self.invariant in
     let at = given_joined c.args.self.now c.args.port c.args.right c.in-Some.held bounds
     c.in_default.not-SendOnce found in

@@ -1,9 +1,8 @@
 use Rattle.std.proofs.Common.{sym, ◌∙◌, ap}
 use Rattle.std.proofs.lemmas.Result.{err_from_is_err_and}
-use Rattle.mrc_model.specs.Rising.{alter_list}
-use Rattle.mrc_model.specs.Space.{first_entry}
-use Rattle.mrc_names.specs.Takes.{left_at}
-use Rattle.mrc_names.proofs.ForetellingLaws.{entry_left, get_left, move_told, move_refused}
+use Rattle.std.specs.Option.{option_map}
+use Rattle.mrc_model.specs.Space.{entry_of, put_entry}
+use Rattle.mrc_names.proofs.ForetellingLaws.{get_left, move_told, move_refused}
 use Rattle.mrc_names.proofs.space.Space.foretell_move.Goals as goal
 
 pub returns-in_err-taken : goal.returns-in_err-taken
@@ -19,8 +18,7 @@ returns c =
     let rest = c.in_ok-taken.taken.1 in
     move_told c.foretell.result x _ c.args.from _ c.args.to c.args.disp c.give.result
     at.found c.give.ensures (c.foretell.ensures _
-    (entry_left x c.args.from at.there c.in_ok-taken.taken.0 rest
-    ∙ ap (λ es. first_entry c.in_ok-taken.taken.0 (alter_list (left_at c.args.from rest) es))
-    (sym c.entries.ensures) ∙ sym c.first_left-known.ensures)
+    (ap (λ z. option_map (λ (e : _). e.0) (entry_of (put_entry z c.args.from rest)
+    c.in_ok-taken.taken.0)) (sym c.self.view_is) ∙ sym c.name_left-known.ensures)
     (get_left x c.args.from at.there c.args.to rest ∙ sym c.held_left-held.ensures)
     (at.full ∙ sym c.is_full_left-full.ensures))

@@ -1,6 +1,8 @@
-use Rattle.std.proofs.Common.{sym, ◌∙◌}
+use Rattle.std.proofs.Common.{sym, ◌∙◌, ap}
 use Rattle.mrc_names.proofs.GivingLaws.{new_refused, new_given, given_as_new}
 use Rattle.mrc_names.proofs.Granting.{granted, wanting}
+use Rattle.mrc_model.specs.Map.{get}
+use Rattle.mrc_model.proofs.Spaces.{get-unused}
 use Rattle.mrc_names.proofs.space.Space.give_new.Goals as goal
 
 pub returns-then-is_full-clause-refused : goal.returns-then-is_full-clause-refused
@@ -18,3 +20,7 @@ returns-in_err-put-clause-refused c =
     wanting c.from_residual.result _ c.from_residual.ensures.1
     (granted _ _ (new_given c.args.self.now c.args.port c.args.right
     (sym c.is_full.ensures ∙ c.if-is_full.false)))
+
+pub put-requires-clause-unused : goal.put-requires-clause-unused
+put-requires-clause-unused c =
+    ap (get c.args.self.now) c.unused-name.ensures ∙ get-unused c.args.self.now

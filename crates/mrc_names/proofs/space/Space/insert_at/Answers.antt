@@ -1,5 +1,4 @@
-use Rattle.std.proofs.Common.{◌≡◌, refl, sym, ap, ◌∙◌, subst, Ok, OnOk, IfErr}
-use Rattle.mrc_model.specs.Space.{is_other}
+use Rattle.std.proofs.Common.{◌≡◌, refl, sym, ◌∙◌, subst, Ok, OnOk, IfErr}
 use Rattle.mrc_names.specs.Refusals.{IsRefusal}
 use Rattle.mrc_names.proofs.SpaceExits.{at_sent_once, at_other, at_known}
 use Rattle.mrc_names.proofs.space.Space.insert_at.Goals as goal
@@ -19,8 +18,7 @@ returns-in-SendOnce-clause-refused c =
 pub returns-then-is_other : goal.returns-then-is_other
 returns-then-is_other c =
     let other =
-    ap (is_other c.args.name) (sym c.find_entry.ensures.found) ∙ sym c.is_other.ensures
-    ∙ c.if-is_other.true in
+    sym (c.is_other.ensures _ (sym c.find.ensures)) ∙ c.if-is_other.true in
     record {
       ok = tt;
       refused =
@@ -32,8 +30,7 @@ returns-then-is_other c =
 pub returns : goal.returns
 returns c =
     let other =
-    ap (is_other c.args.name) (sym c.find_entry.ensures.found) ∙ sym c.is_other.ensures
-    ∙ c.if-is_other.false in
+    sym (c.is_other.ensures _ (sym c.find.ensures)) ∙ c.if-is_other.false in
     let at =
     at_known c.args.self.now c.args.name c.args.port c.args.right c.in_default.not-SendOnce other in
     record {

@@ -1,4 +1,4 @@
-use Rattle.std.proofs.Common.{sym, ◌∙◌, subst}
+use Rattle.std.proofs.Common.{sym, ◌∙◌, subst, refl}
 use Rattle.mrc_names.specs.Bounds.{IsBounded}
 use Rattle.mrc_names.proofs.SpaceExits.{join_other, join_over, join_full, join_done}
 use Rattle.mrc_names.proofs.BoundLaws.{bounded_old, used_at}
@@ -32,7 +32,7 @@ returns-clause-ok c =
 
 pub invariant_of-self : goal.invariant_of-self
 invariant_of-self c =
-    let used = used_at _ _ c.from.result c.args.name c.args.held c.self.view_is c.from.ensures
+    let used = used_at _ _ c.args.name c.args.name c.args.held c.self.view_is refl
     c.requires in
     subst IsBounded (sym c.set.ensures)
-    (bounded_old _ c.from.result c.joined.result c.self.invariant used)
+    (bounded_old _ c.args.name c.joined.result c.self.invariant used)

@@ -1,18 +1,14 @@
-use Rattle.std.proofs.Common.{sym, ap, ◌∙◌, subst}
-use Rattle.std.specs.Prelude.{IsSome}
-use Rattle.mrc_model.specs.Map.{get}
-use Rattle.mrc_model.specs.World.{Space}
+use Rattle.std.proofs.Common.{refl, sym, subst}
 use Rattle.mrc_names.specs.Bounds.{IsBounded}
-use Rattle.mrc_names.proofs.BoundLaws.{bounded_old, bounded_less}
+use Rattle.mrc_names.proofs.BoundLaws.{bounded_old, bounded_less, used_at}
 use Rattle.mrc_names.proofs.space.Space.leave.Goals as goal
 
 pub invariant_of-self : goal.invariant_of-self
 invariant_of-self c =
-    let here = subst IsSome (ap (λ (x : Space). get x c.args.name) (sym c.self.view_is)
-    ∙ ap (get c.self.inside.entries) (sym c.from.ensures)) c.requires in
+    let used = used_at _ _ c.args.name c.args.name c.requires.0 c.self.view_is refl c.requires.1 in
     subst IsBounded (sym c.set.ensures)
-    (bounded_old _ c.from.result c.in-Some.left c.self.invariant here)
+    (bounded_old _ c.args.name c.in-Some.left c.self.invariant used)
 
 pub invariant_of-self-in-None : goal.invariant_of-self-in-None
 invariant_of-self-in-None c =
-    subst IsBounded (sym c.remove.ensures) (bounded_less _ c.from-in-None.result c.self.invariant)
+    subst IsBounded (sym c.remove.ensures.removed) (bounded_less _ c.args.name c.self.invariant)

@@ -11,14 +11,14 @@ returns-in_default-clause-refused c =
 
 pub returns-in_default-take_from-clause-refused : goal.returns-in_default-take_from-clause-refused
 returns-in_default-take_from-clause-refused c =
-    let none = taken_none _ _ c.take_from.ensures c.in_default-take_from.is in
+    let none = taken_none _ _ c.take_from.ensures.taken c.in_default-take_from.is in
     take_no_right c.args.self.now c.args.name c.args.disp c.in-Some.held
     (sym c.get.ensures ∙ c.in-Some.is) none
 
 pub returns-clause-found : goal.returns-clause-found
 returns-clause-found c =
     parted c.args.self.now c.args.name _ c.args.disp c.in-Some.held c.take_from.result
-    c.in-Some-take_from.taken.1 (sym c.get.ensures ∙ c.in-Some.is) c.take_from.ensures
+    c.in-Some-take_from.taken.1 (sym c.get.ensures ∙ c.in-Some.is) c.take_from.ensures.taken
     c.in-Some-take_from.is
 
 pub returns-clause-full : goal.returns-clause-full

@@ -6,7 +6,7 @@ use Rattle.mrc_names.proofs.space.Space.put.Goals as goal
 
 pub invariant_of-self-2 : goal.invariant_of-self-2
 invariant_of-self-2 c =
-    let room = ap is_full c.self.view_is ∙ c.requires in
-    let short : c.from.result < 2 ^ 32 = omega (arith, c.ranges.name.fits, c.from.ensures) in
-    subst IsBounded (sym c.in_ok-insert.ensures.ok)
-    (bounded_new _ c.from.result c.args.entry c.self.invariant room short)
+    let room = ap is_full c.self.view_is ∙ c.requires.room in
+    let short : c.args.name < 2 ^ 32 = omega (arith, c.ranges.name.fits) in
+    subst IsBounded (sym c.in_ok-put.ensures.ok)
+    (bounded_new _ c.args.name c.args.entry c.self.invariant room short)

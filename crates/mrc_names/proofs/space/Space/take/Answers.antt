@@ -11,7 +11,7 @@ returns-in_default-clause-refused c =
 
 pub returns-in_default-take_from-clause-refused : goal.returns-in_default-take_from-clause-refused
 returns-in_default-take_from-clause-refused c =
-    let none = taken_none _ _ c.take_from.ensures c.in_default-take_from.is in
+    let none = taken_none _ _ c.take_from.ensures.taken c.in_default-take_from.is in
     take_no_right c.args.self.now c.args.name c.args.disp c.in-Some.held
     (sym c.get.ensures ∙ c.in-Some.is) none
 
@@ -19,24 +19,25 @@ pub returns-in-Some-rest-clause-taken : goal.returns-in-Some-rest-clause-taken
 returns-in-Some-rest-clause-taken c =
     take_leaves _ _ _ _ _ _ _ c.args.disp c.in-Some.held c.in-Some-rest.left c.take_from.result
     c.in-Some-take_from.taken.1
-    (sym c.get.ensures ∙ c.in-Some.is) c.take_from.ensures c.in-Some-take_from.is refl
+    (sym c.get.ensures ∙ c.in-Some.is) c.take_from.ensures.taken c.in-Some-take_from.is refl
     c.in-Some-rest.is
-    c.self.view_is c.from.ensures c.set.ensures
+    c.self.view_is refl c.set.ensures
 
 pub returns-in-None-clause-taken : goal.returns-in-None-clause-taken
 returns-in-None-clause-taken c =
     take_spends _ _ _ _ _ _ _ c.args.disp c.in-Some.held c.take_from.result
     c.in-Some-take_from.taken.1
-    (sym c.get.ensures ∙ c.in-Some.is) c.take_from.ensures c.in-Some-take_from.is refl c.in-None.is
-    c.self.view_is c.from-in-None.ensures c.remove.ensures
+    (sym c.get.ensures ∙ c.in-Some.is) c.take_from.ensures.taken c.in-Some-take_from.is refl
+    c.in-None.is
+    c.self.view_is refl c.remove.ensures.removed
 
 pub invariant_of-self : goal.invariant_of-self
 invariant_of-self c =
-    let used = used_at _ _ c.from.result c.args.name c.in-Some.held c.self.view_is c.from.ensures
+    let used = used_at _ _ c.args.name c.args.name c.in-Some.held c.self.view_is refl
     (sym c.get.ensures ∙ c.in-Some.is) in
     subst IsBounded (sym c.set.ensures)
-    (bounded_old _ c.from.result c.in-Some-rest.left c.self.invariant used)
+    (bounded_old _ c.args.name c.in-Some-rest.left c.self.invariant used)
 
 pub invariant_of-self-in-None : goal.invariant_of-self-in-None
 invariant_of-self-in-None c =
-    subst IsBounded (sym c.remove.ensures) (bounded_less _ c.from-in-None.result c.self.invariant)
+    subst IsBounded (sym c.remove.ensures.removed) (bounded_less _ c.args.name c.self.invariant)

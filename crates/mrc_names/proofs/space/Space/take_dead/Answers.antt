@@ -10,13 +10,12 @@ use Rattle.mrc_names.proofs.space.Space.take_dead.Goals as goal
 pub invariant_of-self : goal.invariant_of-self
 invariant_of-self c =
     let used = dead_used _ c.args.disp c.in-Some.rest
-    (ap (λ o. dead_taken o c.args.disp) (sym c.get.ensures) ∙ sym c.dead_taken.ensures
+    (ap (λ o. dead_taken o c.args.disp) (sym c.get.ensures) ∙ sym c.dead_taken.ensures.taken
     ∙ c.in-Some.is) in
-    let here = subst IsSome (ap (λ (x : Space). get x c.args.name) (sym c.self.view_is)
-    ∙ ap (get c.self.inside.entries) (sym c.from.ensures)) used in
+    let here = subst IsSome (ap (λ (x : Space). get x c.args.name) (sym c.self.view_is)) used in
     subst IsBounded (sym c.set.ensures)
-    (bounded_old _ c.from.result c.in-Some-rest.left c.self.invariant here)
+    (bounded_old _ c.args.name c.in-Some-rest.left c.self.invariant here)
 
 pub invariant_of-self-in-None : goal.invariant_of-self-in-None
 invariant_of-self-in-None c =
-    subst IsBounded (sym c.remove.ensures) (bounded_less _ c.from-in-None.result c.self.invariant)
+    subst IsBounded (sym c.remove.ensures.removed) (bounded_less _ c.args.name c.self.invariant)
