@@ -3,11 +3,13 @@ use Rattle.std.proofs.Common.{◌≡◌, ℕ, ◌+◌, ◌<◌, ◌≤◌, List,
 use Rattle.std.proofs.Common.{ap}
 use Rattle.std.proofs.lemmas.List.{at_drop_more, at_drop_all, append_assoc}
 use Rattle.mrc_model.specs.declared.Item.{Item}
-use Rattle.mrc_model.specs.World.{Parcel, Held, item_rights, args_rights, parcel_rights}
+use Rattle.mrc_model.specs.World.{Parcel, Port, Held, item_rights, args_rights, parcel_rights}
 use Rattle.mrc_model.specs.World.{queue_rights}
+use Rattle.mrc_model.specs.Death.{queued_on}
+use Rattle.mrc_map.proofs.Walks.{since, from_first}
 use Rattle.mrc_ports.specs.declared.parcel.QueuedArgument.{QueuedArgument}
 use Rattle.mrc_ports.specs.Parcels.{queued_of}
-use Rattle.mrc_death.specs.Rights.{flat, argument_rights}
+use Rattle.mrc_death.specs.Rights.{flat, argument_rights, rights_in}
 use Rattle.mrc_death.proofs.Following.{args_flat}
 
 -- what a message carries: its reply right, then those of its arguments
@@ -53,3 +55,10 @@ pub queue_done : (ms : List Parcel) (all old : List Held) (i : ℕ)
     → old ≡ all
 queue_done ms all old i h so_far =
     sym (nothing_behind old) ∙ ap (λ hs. old ++ hs) (sym (at_drop_all queue_rights ms i h)) ∙ so_far
+
+-- the rights that are queued on the ports of a set
+pub all_queued : (dead : List ℕ) (es : List (ℕ × Port))
+    → since (λ p x. rights_in x) dead 0 es ≡ queued_on dead es
+all_queued dead [] = refl
+all_queued dead (e ∷ es) = λ i.
+    from_first (λ p (x : Port). rights_in x) dead e i ++ all_queued dead es i

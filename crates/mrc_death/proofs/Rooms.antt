@@ -1,11 +1,10 @@
 -- Room for messages, and what takes some of it.
-use Rattle.std.proofs.Common.{◌≡◌, ℕ, ◌+◌, ◌-◌, ◌<◌, ◌≤◌, inl, inr, Bool, true, false, List, []}
-use Rattle.std.proofs.Common.{◌∷◌, ◌++◌, length, get_or, if◌then◌else◌}
-use Rattle.std.proofs.Common.{drop, map, Option, Some, None, refl, sym, ◌∙◌, ap, subst, arith}
+use Rattle.std.proofs.Common.{◌≡◌, ℕ, ◌+◌, ◌<◌, ◌≤◌, inl, inr, Bool, true, false, List, []}
+use Rattle.std.proofs.Common.{◌∷◌, ◌++◌, length, if◌then◌else◌}
+use Rattle.std.proofs.Common.{map, Option, Some, None, refl, sym, ◌∙◌, ap, subst, arith}
 use Rattle.std.proofs.lemmas.Bool.{cases_eq}
-use Rattle.std.proofs.lemmas.List.{at_drop_more, at_drop_all, length_push, length-map}
+use Rattle.std.proofs.lemmas.List.{length_push, length-map}
 use Rattle.mrc_model.specs.Map.{get, insert}
-use Rattle.mrc_model.specs.Rising.{find_key}
 use Rattle.mrc_model.specs.World.{Space, Parcel, Port, Store, set_space, set_port}
 use Rattle.mrc_model.specs.declared.Backup.{Backup}
 use Rattle.mrc_model.specs.declared.Backup.TheVariants.{Absent as NoBackup, Dead as DeadBackup}
@@ -13,10 +12,11 @@ use Rattle.mrc_model.specs.declared.Backup.TheVariants.{Port as BackupPort}
 use Rattle.mrc_model.specs.Death.{has, append, append_to, bury, perished_port, perished_parcel}
 use Rattle.mrc_model.specs.Death.{perished_backup}
 use Rattle.mrc_model.specs.Death.{once_notice, destroyed_notice, notify_port, notify_backup}
-use Rattle.mrc_model.proofs.Maps.{get-insert_same, get-insert_other, origin-alter_all, find_cases}
+use Rattle.mrc_model.proofs.Maps.{get-insert_same, get-insert_other, origin-alter_all}
 use Rattle.mrc_model.proofs.Maps.{same_Some, not_None}
-use Rattle.mrc_ports.specs.Queues.{limit_of_waiting}
-use Rattle.mrc_death.specs.Plans.{HasRoom, AllFit, tell_once, used_up}
+use Rattle.mrc_ports.specs.Queues.{limit_of_waiting, HaveRoom}
+use Rattle.mrc_ports.specs.Tables.{Table, table_of}
+use Rattle.mrc_death.specs.Plans.{HasRoom, tell_once, used_up}
 
 -- room for fewer
 pub room_less : (n k : ℕ) (s : Store) → n ≤ k → HasRoom k s → HasRoom n s
@@ -110,57 +110,12 @@ room_told n s (p ∷ ps) r =
     room_told n (append s p once_notice) ps
     (room_append (length ps + n) s p once_notice (room_less _ _ s more r))
 
--- one queue more has room
-pub fit_next : (more : ℕ) (es : List (ℕ × Port)) (i : ℕ) (e : ℕ × Port)
-    → i < length es
-    → e ≡ get_or es i e
-    → length e.1.queue + more ≤ limit_of_waiting
-    → (AllFit more (drop i es) → AllFit more es)
-    → AllFit more (drop (i + 1) es)
-    → AllFit more es
-fit_next more es i e h is fits so_far rest =
-    let parts : drop i es ≡ e ∷ drop (i + 1) es =
-    at_drop_more (λ fs. fs) es i e h ∙ ap (λ f. f ∷ drop (i + 1) es) (sym is) in
-    so_far (subst (AllFit more) (sym parts) (fits, rest))
-
--- all have room
-fit_at : (more : ℕ) (es : List (ℕ × Port)) (p : ℕ) (x : Port)
-    → AllFit more es
-    → find_key p es ≡ Some x
-    → length x.queue + more ≤ limit_of_waiting
-fit_at more [] p x fits at = cc
-fit_at more (e ∷ es) p x fits at = elim (find_cases e es p x at) [
-  | inl here ↦ subst (λ (y : Port). length y.queue + more ≤ limit_of_waiting) here.1 fits.0
-  | inr later ↦ fit_at more es p x fits.1 later
-]
-
-pub room_fits : (more : ℕ) (s : Store) → AllFit more s.ports.list → HasRoom more s
-unfolding get
-room_fits more s fits = record {
-  at = λ p k x at l. let room = fit_at more s.ports.list p x fits at in omega arith;
-}
-
--- the same, as code finds it
-pub fit_turn : (more n i : ℕ) (xs es : List (ℕ × Port)) (e : ℕ × Port)
-    → xs ≡ es
-    → i < length xs
-    → e ≡ get_or xs i e
-    → n ≡ length e.1.queue
-    → n ≤ limit_of_waiting
-    → more ≤ limit_of_waiting - n
-    → (AllFit more (drop i es) → AllFit more es)
-    → AllFit more (drop (i + 1) es)
-    → AllFit more es
-fit_turn more n i xs es e same h is size within rest so_far =
-    fit_next more es i e (subst (λ ys. i < length ys) same h) (is ∙ ap (λ ys. get_or ys i e) same)
-    (subst (λ k. k + more ≤ limit_of_waiting) size (omega arith)) so_far
-
-pub fit_all : (more i : ℕ) (xs : List (ℕ × Port)) (s : Store)
-    → xs ≡ s.ports.list
-    → length xs ≤ i
-    → (AllFit more (drop i s.ports.list) → AllFit more s.ports.list)
+-- as a table tells it
+pub room_of : (more : ℕ) (s : Store) (t : Table)
+    → t ≡ table_of s
+    → HaveRoom more t.ports
     → HasRoom more s
-fit_all more i xs s same h so_far =
-    let none : drop i s.ports.list ≡ [] =
-    at_drop_all (λ fs. fs) s.ports.list i (subst (λ ys. length ys ≤ i) same h) in
-    room_fits more s (so_far (subst (AllFit more) (sym none) tt))
+room_of more s t is room = record {
+  at = λ p k x at l.
+      let fits = room p x (ap (λ (u : Table). get u.ports p) is ∙ at) in omega arith;
+}

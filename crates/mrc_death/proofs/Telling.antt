@@ -16,12 +16,13 @@ use Rattle.mrc_model.specs.Death.{destroyed_notice, notify_once, notify_port, no
 use Rattle.mrc_model.specs.Death.{notify_destroyed, perished_port}
 use Rattle.mrc_model.proofs.Maps.{get-insert_same, same_Some}
 use Rattle.mrc_model.proofs.Dying.{or_left, or_right}
+use Rattle.mrc_map.proofs.Walks.{since, from_first}
 use Rattle.mrc_ports.specs.Queues.{limit_of_waiting, is_full_for, with_message}
 use Rattle.mrc_ports.specs.declared.table.NotQueued.{NotQueued}
 use Rattle.mrc_ports.specs.declared.table.NotQueued.TheVariants.{Absent, Full}
 use Rattle.mrc_ports.proofs.TableLaws.{insert_twice}
 use Rattle.mrc_death.specs.Plans.{HasRoom, tell_once, tell_destroyed, once_ports}
-use Rattle.mrc_death.specs.Plans.{kept_ports, named, backup_at, used_up}
+use Rattle.mrc_death.specs.Plans.{left_port, kept_ports, named, backup_at, used_up}
 use Rattle.mrc_death.proofs.Rooms.{room_used}
 
 -- SEND_ONCE goes to the ports of the send-once rights
@@ -156,3 +157,18 @@ backup_told s mid p b (Some x) at is used =
     go DeadBackup is = cc
     go (BackupPort c) is =
         ap (λ d. append (set_port s p (used_up x)) d (destroyed_notice p)) (same_Some b c is)
+
+-- the ports that lose their receive rights, and stay
+pub all_kept : (dead lost : List ℕ) (es : List (ℕ × Port))
+    → since (left_port dead) lost 0 es ≡ kept_ports dead lost es
+all_kept dead lost [] = refl
+all_kept dead lost (e ∷ es) = λ i.
+    (from_first (left_port dead) lost e ∙ both (has dead e.0) (has lost e.0) (e.0 ∷ [])) i
+    ++ all_kept dead lost es i
+  where
+    both : (b c : Bool) (ps : List ℕ)
+        → (if c then (if not b then ps else []) else []) ≡ (if not b && c then ps else [])
+    both true true ps = refl
+    both true false ps = refl
+    both false true ps = refl
+    both false false ps = refl

@@ -84,15 +84,14 @@ once_ports (h ∷ hs) = once_port h ++ once_ports hs
 abbrev pub kept_port : List ℕ → List ℕ → ℕ → List ℕ
 kept_port dead lost p = if not (has dead p) && has lost p then p ∷ [] else []
 
+-- a live port, where it stays
+abbrev pub left_port : List ℕ → ℕ → Port → List ℕ
+left_port dead p x = if not (has dead p) then p ∷ [] else []
+
 -- the ports of a table that lose their receive rights, and stay
 abbrev pub kept_ports : List ℕ → List ℕ → List (ℕ × Port) → List ℕ
 kept_ports dead lost [] = []
 kept_ports dead lost (e ∷ es) = kept_port dead lost e.0 ++ kept_ports dead lost es
-
--- the queues of these ports have room for so many messages more
-abbrev pub AllFit : ℕ → List (ℕ × Port) → Type 0
-AllFit more [] = Unit {0}
-AllFit more (e ∷ es) = (length e.1.queue + more ≤ limit_of_waiting) × AllFit more es
 
 -- the live backup that a request names
 abbrev pub named : Backup → Option ℕ

@@ -1,7 +1,6 @@
 -- The rights of what stands in a list, and of what code has. Steps of a proof.
-use Rattle.std.specs.Prelude.{ℕ, List, [], ◌∷◌, ◌++◌, if◌then◌else◌}
+use Rattle.std.specs.Prelude.{List, [], ◌∷◌, ◌++◌}
 use Rattle.mrc_model.specs.World.{Held, Port, arg_rights, queue_rights}
-use Rattle.mrc_model.specs.Death.{has}
 use Rattle.mrc_ports.specs.declared.parcel.QueuedArgument.{QueuedArgument}
 use Rattle.mrc_ports.specs.Parcels.{queued_of}
 
@@ -14,6 +13,6 @@ flat f (x ∷ xs) = f x ++ flat f xs
 abbrev pub argument_rights : QueuedArgument → List Held
 argument_rights a = arg_rights (queued_of a)
 
--- the rights that are queued on a port of a table, if it is one of these
-abbrev pub queued_at : List ℕ → ℕ × Port → List Held
-queued_at dead e = if has dead e.0 then queue_rights e.1.queue else []
+-- the rights that are queued on a port
+abbrev pub rights_in : Port → List Held
+rights_in x = queue_rights x.queue

@@ -4,13 +4,15 @@
 ghost use Rattle.std.specs.Prelude.{◌≡◌, ◌++◌, IfOk, OnOk};
 ghost use Rattle.mrc_model.specs.World.{item_rights, items_rights, parcel_rights, queue_rights};
 ghost use Rattle.mrc_model.specs.Death.{queued_rights};
-ghost use Rattle.mrc_death.specs.Rights.{flat, argument_rights, queued_at};
+ghost use Rattle.mrc_model.specs.Map.{get};
+ghost use Rattle.mrc_map.specs.Members.{of_some};
+ghost use Rattle.mrc_death.specs.Rights.{flat, argument_rights, rights_in};
 
 use crate::doomed::{Doomed, Held};
 use mrc_base::PortId;
 use mrc_map::Ports;
 use mrc_model::Item;
-use mrc_ports::{Parcel, Port, Queue, QueuedArgument, Store};
+use mrc_ports::{Parcel, Queue, QueuedArgument, Store};
 use std::alloc::AllocError;
 
 /// What stands in the place of a name.
@@ -80,24 +82,26 @@ fn add_queue(rights: &mut Vec<Held>, queue: &Queue) -> Result<(), AllocError>
     Ok(())
 }
 
-/// The rights that are queued on a port, if it dies.
-fn add_port(rights: &mut Vec<Held>, dead: &Ports, held: &(u64, Port)) -> Result<(), AllocError>
+/// The rights that are queued on a port, if it is live.
+fn add_port(rights: &mut Vec<Held>, store: &Store, port: PortId) -> Result<(), AllocError>
     ensures { OnOk result
-        (rights.new.items ≡ rights.old.items ++ queued_at dead.now held.now) }
+        (rights.new.items ≡ rights.old.items ++ of_some rights_in (get store.now.ports port)) }
 {
-    if dead.has(PortId(held.0)) {
-        add_queue(rights, held.1.queue())?;
+    if let Some(found) = store.ports().get(port) {
+        add_queue(rights, found.queue())?;
     }
     Ok(())
 }
 
-/// The rights that are queued on the ports that die.
+/// The rights that are queued on the ports that die, by ascending birth number.
 fn add_queued(rights: &mut Vec<Held>, store: &Store, dead: &Ports) -> Result<(), AllocError>
     ensures { OnOk result
         (rights.new.items ≡ rights.old.items ++ queued_rights store.now dead.now) }
 {
-    for held in store.ports().entries() {
-        add_port(rights, dead, held)?;
+    let mut last = None;
+    while let Some(port) = dead.after(last) {
+        add_port(rights, store, port)?;
+        last = Some(port);
     }
     Ok(())
 }

@@ -1,10 +1,11 @@
 //! The making of a plan.
 
-ghost use Rattle.std.specs.Prelude.{◌≡◌, ◌++◌, true, IfOk, OnOk, IsSome};
+ghost use Rattle.std.specs.Prelude.{◌≡◌, ◌++◌, IfOk, OnOk, IsSome};
 ghost use Rattle.mrc_model.specs.Map.{get};
 ghost use Rattle.mrc_death.specs.Taking.{destroyed_of};
-ghost use Rattle.mrc_death.specs.Plans.{HasRoom, IsPlanOf, IsWorkOf, once_port, once_ports};
-ghost use Rattle.mrc_death.specs.Plans.{kept_port, kept_ports};
+ghost use Rattle.mrc_map.specs.Members.{of_some};
+ghost use Rattle.mrc_death.specs.Plans.{IsPlanOf, IsWorkOf, once_port, once_ports};
+ghost use Rattle.mrc_death.specs.Plans.{left_port, kept_ports};
 
 use crate::doomed::Held;
 use crate::going::all_going;
@@ -13,11 +14,9 @@ use crate::plan::{Dying, Work};
 use crate::search::{Deaths, find_deaths};
 use crate::taking::{Destroyed, Taken, take_out};
 use mrc_base::{PortId, PortRight};
+use mrc_map::Ports;
 use mrc_ports::Store;
 use std::alloc::{AllocError, Global};
-
-/// How many messages can not wait at a port: memory has no room for them.
-const WAITING: usize = 1 << 62;
 
 /// Puts a send-once notice behind the others, if the right is a send-once right.
 fn add_once(
@@ -49,18 +48,18 @@ fn once_notices(
     Ok(notices)
 }
 
-/// Puts a port-destroyed notice behind the others, if the port loses its receive right, and stays.
+/// Puts a port-destroyed notice behind the others, if the port is live, and does not die.
 fn add_destroyed(
     alloc: Global,
     store: &Store,
-    deaths: &Deaths,
+    dead: &Ports,
     port: PortId,
     notices: &mut Vec<DestroyedNotice>,
 ) -> Result<(), AllocError>
-    ensures { OnOk result
-        (notices.new.items ≡ notices.old.items ++ kept_port deaths.now.dead deaths.now.lost port) }
+    ensures { OnOk result (notices.new.items
+        ≡ notices.old.items ++ of_some (left_port dead.now port) (get store.now.ports port)) }
 {
-    if !deaths.dead.has(port) && deaths.lost.has(port) {
+    if store.ports().get(port).is_some() && !dead.has(port) {
         notices.push(DestroyedNotice::new(alloc, store, port)?)?;
     }
     Ok(())
@@ -77,23 +76,12 @@ fn destroyed_notices(
         notices.items ≡ kept_ports deaths.now.dead deaths.now.lost store.now.ports.list) }
 {
     let mut notices = Vec::new(alloc);
-    for held in store.ports().entries() {
-        add_destroyed(alloc, store, deaths, PortId(held.0), &mut notices)?;
+    let mut last = None;
+    while let Some(port) = deaths.lost.after(last) {
+        add_destroyed(alloc, store, &deaths.dead, port, &mut notices)?;
+        last = Some(port);
     }
     Ok(notices)
-}
-
-/// Whether each queue has room for so many messages more.
-fn has_room(store: &Store, more: usize) -> bool
-    ensures { result ≡ true → HasRoom more store.now }
-{
-    for held in store.ports().entries() {
-        let waiting = held.1.queue().len();
-        if WAITING < waiting || WAITING - waiting < more {
-            return false;
-        }
-    }
-    true
 }
 
 /// The work where this is taken out.
@@ -110,7 +98,7 @@ fn work_of(alloc: Global, store: &Store, taken: Taken) -> Result<Work, AllocErro
     let lost = destroyed_notices(alloc, store, &deaths)?;
     let rights = all_going(store, doomed, &deaths.dead)?;
     let once = once_notices(alloc, store, &rights)?;
-    if !has_room(store, once.len() + lost.len()) {
+    if !store.ports().has_room(once.len() + lost.len()) {
         return Err(AllocError);
     }
     Ok(Work {

@@ -146,3 +146,37 @@ fn ports_run_short(rt: HostRuntime) -> Result<(), Fail> {
     assert_eq!(rt; next(&table), 65_536);
     Ok(())
 }
+
+fn bury(table: &mut PortTable, port: u64) {
+    table.bury(PortId(port));
+}
+
+/// A table where the second port stands in the slot that the first one had.
+fn with_a_slot_used_again(alloc: Global) -> Result<PortTable, OrMemory<Shortage>> {
+    let mut table = after_births(alloc, 2)?;
+    bury(&mut table, 0);
+    let _ = bear(&mut table, 2)?;
+    Ok(table)
+}
+
+// A slot that is used again does not let the number of a dead port reach the new one.
+#[test]
+fn numbers_of_dead_ports_reach_no_port(rt: HostRuntime) -> Result<(), Fail> {
+    let mut table = with_a_slot_used_again(rt.alloc())?;
+    assert!(rt; class_of(&table, 0).is_none());
+    assert!(rt; class_of(&table, 1) == Some(ClassId(1)));
+    assert!(rt; class_of(&table, 2) == Some(ClassId(2)));
+    assert!(rt; set_limit(&mut table, 0, 16) == Err(NoSuchPort));
+    assert_eq!(rt; limit_of(&table, 2), Some(5));
+    Ok(())
+}
+
+#[test]
+fn dead_ports_are_buried_once(rt: HostRuntime) -> Result<(), Fail> {
+    let mut table = with_a_slot_used_again(rt.alloc())?;
+    bury(&mut table, 0);
+    restart(&mut table, 0);
+    assert_eq!(rt; count(&table), 2);
+    assert_eq!(rt; next(&table), 3);
+    Ok(())
+}

@@ -1,8 +1,9 @@
 pub mod EntryLaws
 pub mod SameMaps
 pub mod Places
-pub mod Values
-pub mod Filtered
+pub mod Changing
+pub mod LookupLaws
 pub mod MemberLaws
 pub mod NextKeys
 pub mod TreeLaws
+pub mod Walks

@@ -42,6 +42,16 @@ pub record IsMissingAt {X : Type 0} (k : ℕ) (es : List (ℕ × X)) (i : ℕ) :
   pub within : i ≤ length es
   pub none : at_key k (slice_get es i) ≡ None
 
+-- each call leaves an entry its key, says true, and leaves the closure as it was
+abbrev pub KeepsKeys : {F X : Type 0}
+    → (F → ℕ × X → Bool → F → ℕ × X → Type 0)
+    → F
+    → Type 0
+KeepsKeys {F} {X} R f =
+    (e d : ℕ × X) (b : Bool) (g : F)
+    → R f e b g d
+    → (b ≡ true) × (d.0 ≡ e.0) × (g ≡ f)
+
 -- the number, where it is below the limit
 abbrev pub below : ℕ → ℕ → Option ℕ
 below limit k = if nat_lt k limit then Some k else None

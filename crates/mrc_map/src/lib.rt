@@ -2,10 +2,12 @@
 //! such maps. And sets of ports.
 #![tactic(auto)]
 
+mod lookup;
 mod map;
 mod ports;
 mod tree;
 
+pub use lookup::Lookup;
 pub use map::Map;
 pub use ports::Ports;
 pub use tree::Tree;

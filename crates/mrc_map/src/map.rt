@@ -1,12 +1,11 @@
 //! A map from numbers, as a list of its entries in the order of their keys.
 
-ghost use Rattle.std.specs.Prelude.{◌≡◌, ◌<◌, ℕ, length, IfOk, IfErr, OnOk, OnErr, IsSome, Some};
+ghost use Rattle.std.specs.Prelude.{◌≡◌, IfOk, IfErr, OnOk, OnErr, IsSome, Some};
+ghost use Rattle.std.specs.Fn.{CalledAtMut};
+ghost use Rattle.std.specs.List.Retain.{RetainsInTurn};
 ghost use Rattle.std.specs.Option.{option_copied};
-ghost use Rattle.std.specs.Fn.{CalledAt};
-ghost use Rattle.std.specs.List.Retain.{IsFiltered};
-ghost use Rattle.std.specs.List.{slice_set, slice_index_or};
 ghost use Rattle.mrc_model.specs.Map.{empty, get, insert, remove, len, next_key};
-ghost use Rattle.mrc_map.specs.Entries.{IsRising, place, IsAt, IsMissingAt, below};
+ghost use Rattle.mrc_map.specs.Entries.{IsRising, place, IsAt, IsMissingAt, KeepsKeys, below};
 
 use std::alloc::{AllocError, Global};
 use std::marker::Model;
@@ -152,39 +151,16 @@ impl<X> Map<X> {
         }
     }
 
-    /// Puts another value at the key that stands at this index, if one does. It takes no memory.
-    pub fn set_at(&mut self, index: usize, value: X)
+    /// Changes each entry's value, in the order of the keys, by a call that leaves the key and says
+    /// true. It takes no memory.
+    pub fn change<F: FnMut(&mut (u64, X)) -> bool>(&mut self, change: F)
     where
         X: Drop,
-        ensures { (d : ℕ × X) → self.new.list
-            ≡ slice_set self.old.list index ((slice_index_or self.old.list index d).0, value) }
+        requires callable { F.IsAlwaysCallable change }
+        requires keeps { KeepsKeys (CalledAtMut F.FnMut) change }
+        ensures { RetainsInTurn (CalledAtMut F.FnMut) change self.old.list self.new.list }
     {
-        if index < self.entries.as_slice().len() {
-            self.entries[index].1 = value;
-        }
-    }
-
-    /// Puts another value at the key that stands at this index, and gives back the one that stood
-    /// there. It takes no memory.
-    pub fn replace_at(&mut self, index: usize, value: X) -> X
-    where
-        X: Drop,
-        requires { index < length self.old.list }
-        ensures out { (d : ℕ × X) → result ≡ (slice_index_or self.old.list index d).1 }
-        ensures changed { (d : ℕ × X) → self.new.list
-            ≡ slice_set self.old.list index ((slice_index_or self.old.list index d).0, value) }
-    {
-        mem::replace(&mut self.entries[index].1, value)
-    }
-
-    /// Drops each entry of which the test says false. It takes no memory.
-    pub fn retain<F: FnMut(&(u64, X)) -> bool>(&mut self, test: F)
-    where
-        X: Drop,
-        requires { F.IsAlwaysCallable test }
-        ensures { IsFiltered (CalledAt F.FnMut) test self.old.list self.new.list }
-    {
-        self.entries.retain(test);
+        self.entries.retain_mut(change);
     }
 
     /// Takes the key out, with its value, if it has one.

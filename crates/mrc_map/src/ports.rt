@@ -2,13 +2,14 @@
 
 ghost use Rattle.std.specs.Prelude.{◌≡◌, ◌∷◌, ◌==◌, ◌||◌, ℕ, [], OnOk, IfOk, not, length};
 ghost use Rattle.mrc_model.specs.Death.{has};
-ghost use Rattle.mrc_map.specs.Members.{members};
+ghost use Rattle.mrc_map.specs.Members.{members, above, start, lesser, IsFirst};
 
 use mrc_base::PortId;
 use std::alloc::{AllocError, Global};
 use std::collections::BTreeSet;
 use std::collections::btree_set::Iter;
 use std::marker::Model;
+use std::ops::Bound;
 
 /// A set of ports, by the numbers of their births. The set of one port takes no memory.
 #[derive(Debug, Drop)]
@@ -33,6 +34,55 @@ fn is_own(own: Option<PortId>, port: PortId) -> bool
     match own {
         Some(found) => found.0 == port.0,
         None => false,
+    }
+}
+
+/// The number of a port, if there is one.
+fn number_of(port: Option<PortId>) -> Option<u64>
+    ensures { result ≡ port }
+{
+    match port {
+        Some(found) => Some(found.0),
+        None => None,
+    }
+}
+
+/// The number, if it is above the last one.
+fn own_after(own: Option<u64>, last: Option<u64>) -> Option<u64>
+    ensures { IsFirst (members own []) (above last) result }
+{
+    match (own, last) {
+        (Some(number), Some(last)) if number <= last => None,
+        _ => own,
+    }
+}
+
+/// Where the numbers above the last one begin.
+fn start_after(last: Option<u64>) -> Bound<u64>
+    ensures { result ≡ start last }
+{
+    match last {
+        Some(number) => Bound::Excluded(number),
+        None => Bound::Unbounded,
+    }
+}
+
+/// The first of these numbers above the last one.
+fn number_after(numbers: &BTreeSet<u64>, last: Option<u64>) -> Option<u64>
+    ensures { IsFirst numbers.now.keys (above last) result }
+{
+    let found = numbers.range((start_after(last), Bound::Unbounded)).next()?;
+    Some(*found)
+}
+
+/// The lesser of two numbers, or the one that there is.
+fn lesser(first: Option<u64>, other: Option<u64>) -> Option<u64>
+    ensures { result ≡ lesser first other }
+{
+    match (first, other) {
+        (Some(one), Some(number)) if number < one => other,
+        (None, _) => other,
+        _ => first,
     }
 }
 
@@ -79,6 +129,18 @@ impl Ports {
         ensures { result ≡ has self.now port }
     {
         is_own(self.one, port) || self.numbers.contains(&port.0)
+    }
+
+    /// The first port of the set above the last one, or of all where none was.
+    pub fn after(&self, last: Option<PortId>) -> Option<PortId>
+        ensures { IsFirst self.now (above last) result }
+    {
+        let last = number_of(last);
+        let own = own_after(number_of(self.one), last);
+        match lesser(own, number_after(&self.numbers, last)) {
+            Some(number) => Some(PortId(number)),
+            None => None,
+        }
     }
 
     /// Puts the port into the set, and answers whether it is new there.

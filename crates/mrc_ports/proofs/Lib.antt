@@ -1,2 +1,4 @@
+pub mod Dropping
+pub mod SlotLaws
 pub mod TableLaws
 pub mod Turning

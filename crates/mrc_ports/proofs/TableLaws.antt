@@ -1,19 +1,22 @@
 -- A port that is replaced twice is the last one.
 use Rattle.std.proofs.Common.{◌≡◌, ℕ, List, inl, inr, Option, Some, None, refl, sym, ◌∙◌, ap, subst}
-use Rattle.std.proofs.Common.{Bool, true, false, nat_lt, ◌<◌, if◌then◌else◌}
+use Rattle.std.proofs.Common.{Bool, true, false, nat_lt, ◌<◌, ◌≤◌, ◌+◌, length, arith}
+use Rattle.std.proofs.Common.{if◌then◌else◌}
 use Rattle.std.specs.Prelude.{IsSome}
+use Rattle.std.proofs.lemmas.List.{length-map}
 use Rattle.std.proofs.lemmas.Bool.{cases_eq, ltb-true}
 use Rattle.mrc_model.specs.CallCreateTask.{limit_of_task_numbers}
-use Rattle.mrc_model.specs.Map.{Map, get, insert, alter_all, remove, next_key}
-use Rattle.mrc_model.specs.Death.{perished_entry, bury}
+use Rattle.mrc_model.specs.Map.{Map, empty, get, insert, alter_all, remove, next_key}
+use Rattle.mrc_model.specs.Death.{has, perished_entry, perished_port, bury}
 use Rattle.mrc_model.specs.World.{Space, Port, Store, set_port}
 use Rattle.mrc_model.specs.Space.{restart, restart_port}
 use Rattle.mrc_model.proofs.Maps.{get-insert_same, get-insert_other, get-next_key, get-remove_same}
-use Rattle.mrc_model.proofs.Maps.{get-remove_other, same_Some, not_None}
+use Rattle.mrc_model.proofs.Maps.{get-remove_other, same_Some, not_None, get-empty, Each-insert}
+use Rattle.mrc_model.proofs.Maps.{Each-alter_all}
 use Rattle.mrc_map.specs.Entries.{below}
 use Rattle.mrc_map.proofs.SameMaps.{same_map}
-use Rattle.mrc_ports.specs.Burials.{buried}
-use Rattle.mrc_ports.specs.Tables.{Table, with_port, restarted, store_of, next_task}
+use Rattle.mrc_ports.specs.Burials.{buried, left_of}
+use Rattle.mrc_ports.specs.Tables.{Table, IsSound, with_port, restarted, store_of, next_task}
 
 -- the last value put at a key stands there
 pub insert_twice : {X : Type 0} (m : Map X) (k : ℕ) (v w : X)
@@ -26,16 +29,6 @@ insert_twice m k v w = same_map _ _ (λ q. elim (cases_eq q k) [
       get-insert_other (insert m k v) k w q other ∙ get-insert_other m k v q other
       ∙ sym (get-insert_other m k w q other)
 ])
-
--- a port that is put over a blank one
-pub put_over : (next : ℕ) (ports m : Map Port) (t : Table) (p : ℕ) (blank x : Port)
-    → record { next = next; ports = ports } ≡ t
-    → m ≡ insert ports p blank
-    → with_port (record { next = next; ports = m }) p x ≡ with_port t p x
-put_over next ports m t p blank x view put =
-    ap (λ (n : Map Port). with_port (record { next = next; ports = n }) p x) put
-    ∙ ap (λ (n : Map Port). record { next = next; ports = n }) (insert_twice ports p blank x)
-    ∙ ap (λ (u : Table). with_port u p x) view
 
 -- the blank one stands there
 pub stands_there : (ports m : Map Port) (p : ℕ) (blank : Port)
@@ -116,3 +109,80 @@ add_undone spaces put out t u s key j x view next key_is put_is out_is table =
     ap (λ m. store_of m u)
     (out_is ∙ ap (λ m. remove m key) put_is ∙ remove_next spaces key x number)
     ∙ ap (store_of spaces) table ∙ view
+
+-- what each port of a table keeps
+
+pub none_sound : (ports : Map Port) → ports ≡ empty → IsSound 0 0 ports
+none_sound ports is p x at =
+    absurd (not_None x (sym at ∙ ap (λ m. get m p) is ∙ get-empty p))
+
+-- no port has the number of the next birth
+pub unborn : (next longest : ℕ) (ports : Map Port)
+    → IsSound next longest ports
+    → get ports next ≡ None
+unborn next longest ports sound = go (get ports next) refl
+  where
+    go : (o : Option Port) → get ports next ≡ o → get ports next ≡ None
+    go None at = at
+    go (Some x) at = let young = (sound next x at).0 in absurd (omega arith)
+
+pub born_sound : (next longest : ℕ) (was now : Map Port) (x : Port)
+    → IsSound next longest was
+    → length x.queue ≤ longest
+    → now ≡ insert was next x
+    → IsSound (next + 1) longest now
+born_sound next longest was now x sound short is =
+    subst (IsSound (next + 1) longest) (sym is)
+    (Each-insert (λ p y. (p < next + 1) × (length y.queue ≤ longest)) was next x
+    (λ p y at. let old = sound p y at in (omega (arith, old.0), old.1))
+    (omega arith, short))
+
+-- a port that is taken out and put back changed
+pub put_sound : (next longest most : ℕ) (was mid now : Map Port) (p k : ℕ) (x y : Port)
+    → IsSound next longest was
+    → Some x ≡ get was p
+    → ((z : Port) → insert mid p z ≡ insert was p z)
+    → k ≡ p
+    → now ≡ insert mid k y
+    → longest ≤ most
+    → (length x.queue ≤ longest → length y.queue ≤ most)
+    → IsSound next most now
+put_sound next longest most was mid now p k x y sound at others key is more short =
+    let old = sound p x (sym at) in
+    subst (IsSound next most) (sym (is ∙ ap (λ q. insert mid q y) key ∙ others y))
+    (Each-insert (λ q z. (q < next) × (length z.queue ≤ most)) was p y
+    (λ q z there. let kept = sound q z there in (kept.0, omega (arith, kept.1, more)))
+    (old.0, short old.1))
+
+pub buried_sound : (next longest : ℕ) (dead : List ℕ) (was now : Map Port)
+    → IsSound next longest was
+    → now ≡ alter_all (perished_port dead) was
+    → IsSound next longest now
+buried_sound next longest dead was now sound is =
+    subst (IsSound next longest) (sym is)
+    (Each-alter_all kept kept (perished_port dead) was
+    (λ p x y at left h. (h.0, subst (λ n. n ≤ longest) (sym (as_long (has dead p) x y left)) h.1))
+    sound)
+  where
+    kept : ℕ → Port → Type 0
+    kept p x = (p < next) × (length x.queue ≤ longest)
+
+    as_long : (b : Bool) (x y : Port)
+        → (if b then None else Some (left_of dead x)) ≡ Some y
+        → length y.queue ≡ length x.queue
+    as_long true x y left = absurd (not_None y (sym left))
+    as_long false x y left =
+        ap (λ (z : Port). length z.queue) (sym (same_Some _ _ left)) ∙ length-map x.queue _
+
+-- the same where the queue stays
+pub kept_sound : (next longest : ℕ) (was mid now : Map Port) (p k : ℕ) (x y : Port)
+    → IsSound next longest was
+    → Some x ≡ get was p
+    → ((z : Port) → insert mid p z ≡ insert was p z)
+    → k ≡ p
+    → now ≡ insert mid k y
+    → y.queue ≡ x.queue
+    → IsSound next longest now
+kept_sound next longest was mid now p k x y sound at others key is same =
+    put_sound next longest longest was mid now p k x y sound at others key is (omega arith)
+    (λ h. subst (λ l. length l ≤ longest) (sym same) h)

@@ -1,10 +1,10 @@
 -- Queues of ports, and what sending and receiving leave of a port. From Mach 3 Kernel Interfaces,
 -- mach_msg. How many messages may wait at most, whatever the limit of a queue says, is this
 -- profile's own choice: memory has no room for as many.
-use Rattle.std.specs.Prelude.{ℕ, ◌+◌, ◌%◌, ◌^◌, Bool, false, not, ◌&&◌, ◌||◌, List, [], ◌∷◌}
+use Rattle.std.specs.Prelude.{ℕ, ◌≤◌, ◌+◌, ◌%◌, ◌^◌, Bool, false, not, ◌&&◌, ◌||◌, List, [], ◌∷◌}
 use Rattle.std.specs.Prelude.{◌++◌, length, Option, Some, None, nat_le}
 use Rattle.mrc_model.specs.declared.Item.TheVariants.{Null}
-use Rattle.mrc_model.specs.Map.{get}
+use Rattle.mrc_model.specs.Map.{Map, Each, get}
 use Rattle.mrc_model.specs.World.{Parcel, Port, Store, modulus_of_receipts}
 use Rattle.mrc_model.specs.CallReceive.{first_parcel}
 use Rattle.mrc_ports.specs.Tables.{Table, with_port, table_of, store_of}
@@ -12,6 +12,10 @@ use Rattle.mrc_ports.specs.Tables.{Table, with_port, table_of, store_of}
 -- how many messages can not wait at a port
 abbrev pub limit_of_waiting : ℕ
 limit_of_waiting = 2 ^ 62
+
+-- each queue has room for so many messages more
+abbrev pub HaveRoom : ℕ → Map Port → Type 0
+HaveRoom more ports = Each (λ p x. length x.queue + more ≤ limit_of_waiting) ports
 
 -- the port takes no such message now: one that was sent through a send-once right comes in also at
 -- the limit of the queue

@@ -1,10 +1,10 @@
 -- The live ports with the number of the next birth, and changes of them.
 -- From Mach 3 Kernel Interfaces, "Ports". That numbers never come again is this profile's own
 -- choice.
-use Rattle.std.specs.Prelude.{ℕ, ◌+◌, Bool, ◌||◌, Option, Some, None, nat_le}
+use Rattle.std.specs.Prelude.{ℕ, ◌+◌, ◌<◌, ◌≤◌, Bool, ◌||◌, Option, Some, None, nat_le, length}
 use Rattle.mrc_base.specs.Limits.{limit_of_ports, limit_of_births}
 use Rattle.mrc_model.specs.CallCreateTask.{limit_of_task_numbers}
-use Rattle.mrc_model.specs.Map.{Map, empty, insert, len, next_key}
+use Rattle.mrc_model.specs.Map.{Map, Each, empty, insert, len, next_key}
 use Rattle.mrc_map.specs.Entries.{below}
 use Rattle.mrc_model.specs.World.{Space, Port, Store}
 use Rattle.mrc_model.specs.CallAllocate.{new_port}
@@ -30,6 +30,10 @@ with_port t p x = record t { ports = insert t.ports p x }
 abbrev pub restarted : Table → ℕ → Option Port → Table
 restarted t p None = t
 restarted t p (Some x) = with_port t p (record x { receipts = 0 })
+
+-- each live port is older than the next birth, and its queue is no longer than this
+abbrev pub IsSound : ℕ → ℕ → Map Port → Type 0
+IsSound next longest ports = Each (λ p x. (p < next) × (length x.queue ≤ longest)) ports
 
 -- the table of a store
 abbrev pub table_of : Store → Table

@@ -4,6 +4,7 @@
 mod burying;
 mod parcel;
 mod port;
+mod slots;
 mod store;
 mod table;
 

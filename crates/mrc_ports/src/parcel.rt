@@ -23,6 +23,7 @@ use std::alloc::{AllocError, Global};
 use std::collections::LinkedList;
 use std::collections::linked_list::Iter;
 use std::marker::Model;
+use std::mem;
 
 /// The items that an argument of a queued message carries, in order.
 #[derive(Debug, Drop)]
@@ -419,11 +420,11 @@ impl Queue {
     }
 
     /// The messages as these ports' death leaves them. It takes no memory.
-    pub(crate) fn perished(self, dead: &Ports) -> Queue
-        ensures { result ≡ map (perished_parcel dead.now) self }
+    pub(crate) fn perish(&mut self, dead: &Ports)
+        ensures { self.new ≡ map (perished_parcel dead.now) self.old }
     {
-        Queue {
-            parcels: perish_parcels(self.parcels, dead),
-        }
+        let none = LinkedList::new(*self.parcels.allocator());
+        let parcels = mem::replace(&mut self.parcels, none);
+        self.parcels = perish_parcels(parcels, dead);
     }
 }

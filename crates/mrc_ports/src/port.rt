@@ -15,7 +15,7 @@ use std::alloc::Global;
 use std::marker::Model;
 
 /// How many messages can not wait at a port: memory has no room for them.
-const WAITING: usize = 1 << 62;
+pub(crate) const WAITING: usize = 1 << 62;
 
 /// A live port.
 #[derive(Debug, Drop)]
@@ -193,16 +193,11 @@ impl Port {
         }
     }
 
-    /// The same port as the death of others leaves it.
-    pub(crate) fn perished(self, dead: &Ports) -> Port
-        ensures { result ≡ left_of dead.now self }
+    /// The port as the death of others leaves it.
+    pub(crate) fn perish(&mut self, dead: &Ports)
+        ensures { self.new ≡ left_of dead.now self.old }
     {
-        Port {
-            class: self.class,
-            queue: self.queue.perished(dead),
-            backup: perish_backup(self.backup, dead),
-            limit: self.limit,
-            receipts: self.receipts,
-        }
+        self.queue.perish(dead);
+        self.backup = perish_backup(self.backup, dead);
     }
 }

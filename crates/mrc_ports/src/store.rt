@@ -173,6 +173,9 @@ impl Store {
     pub fn bury_all(&mut self, dead: &Ports)
         ensures { self.new ≡ bury self.old dead.now }
     {
+        if dead.len() == 0 {
+            return;
+        }
         bury_spaces(&mut self.spaces, dead);
         self.table.bury_all(dead);
     }

@@ -1,21 +1,22 @@
 //! All live ports.
 
-ghost use Rattle.std.specs.Prelude.{◌≡◌, ◌↔◌, Some, IfOk, OnOk, OnErr, None, IsSome, IsOk, IsErr};
-ghost use Rattle.std.specs.Prelude.{IsErrAnd, IsTrue, Err, true, false};
+ghost use Rattle.std.specs.Prelude.{◌≡◌, ◌≤◌, ◌↔◌, Some, IfOk, OnOk, OnErr, None, IsSome, IsOk};
+ghost use Rattle.std.specs.Prelude.{IsErr, IsErrAnd, IsTrue, Err, true, false};
 ghost use Rattle.std.specs.Option.{option_copied};
-ghost use Rattle.mrc_model.specs.Map.{empty, get, len};
+ghost use Rattle.mrc_model.specs.Map.{empty, get, insert, len};
 ghost use Rattle.mrc_ports.specs.Burials.{buried, buried_port};
 ghost use Rattle.mrc_ports.specs.Tables.{with_birth, is_short, with_port, restarted};
 ghost use Rattle.mrc_model.specs.World.{Port as TPort};
 ghost use Rattle.mrc_ports.specs.declared.table.NotQueued.TheVariants.{Absent, Full};
 ghost use Rattle.mrc_ports.specs.Faults.{IsFault};
-ghost use Rattle.mrc_ports.specs.Queues.{is_full_for, with_message, received_from};
+ghost use Rattle.mrc_ports.specs.Queues.{HaveRoom, is_full_for, with_message, received_from};
 
 use crate::burying::bury_ports;
 use crate::parcel::{Parcel, Ready};
-use crate::port::Port;
+use crate::port::{Port, WAITING};
+use crate::slots::Slots;
 use mrc_base::{ClassId, OrMemory, PortId, limits};
-use mrc_map::{Map, Ports};
+use mrc_map::Ports;
 use mrc_model::Backup;
 use std::alloc::{AllocError, Global};
 use std::marker::Model;
@@ -46,15 +47,37 @@ pub enum NotQueued {
 pub struct PortTable {
     alloc: Global,
     next: u64,
-    ports: Map<Port>,
+    /// No queue has been longer.
+    longest: usize,
+    ports: Slots,
 }
 
 impl Model for PortTable {
-    ghost use Rattle.mrc_ports.specs.Tables.{Table};
+    ghost use Rattle.mrc_ports.specs.Tables.{Table, IsSound};
 
     ghost Value = { Table };
 
     ghost view = { λ a. record { next = a.next; ports = a.ports } };
+
+    ghost invariant = { λ a. IsSound a.next a.longest a.ports };
+}
+
+/// Takes a port out, and puts another one in its place for now.
+fn taken(ports: &mut Slots, alloc: Global, port: PortId) -> Port
+    requires { IsSome (get ports.old port) }
+    ensures port { Some result ≡ get ports.old port }
+    ensures others { (x : TPort) → insert ports.new port x ≡ insert ports.old port x }
+    ensures there { IsSome (get ports.new port) }
+{
+    ports.replace(port.0, Port::new(alloc, ClassId(0)))
+}
+
+/// The greater of two lengths.
+fn longer(first: usize, other: usize) -> usize
+    ensures first { first ≤ result }
+    ensures other { other ≤ result }
+{
+    if first < other { other } else { first }
 }
 
 impl PortTable {
@@ -65,7 +88,8 @@ impl PortTable {
         PortTable {
             alloc,
             next: 0,
-            ports: Map::new(alloc),
+            longest: 0,
+            ports: Slots::new(alloc),
         }
     }
 
@@ -74,13 +98,6 @@ impl PortTable {
         ensures { option_copied result ≡ get self.now.ports port }
     {
         self.ports.get(port.0)
-    }
-
-    /// The live ports by the numbers of their births, ascending.
-    pub fn entries(&self) -> &[(u64, Port)]
-        ensures { result.now ≡ self.now.ports.list }
-    {
-        self.ports.entries()
     }
 
     /// How many live ports there are.
@@ -116,20 +133,9 @@ impl PortTable {
             return Err(OrMemory::Fault(Shortage));
         }
         let port = self.next();
-        self.ports.insert(self.next, Port::new(self.alloc, class))?;
+        self.ports.add(self.next, Port::new(self.alloc, class))?;
         self.next += 1;
         Ok(port)
-    }
-
-    /// Takes a port out of the table, and puts another one in its place for now.
-    fn taken(&mut self, port: PortId) -> Port
-        requires { IsSome (get self.old.ports port) }
-        ensures port { Some result ≡ get self.old.ports port }
-        ensures others { (x : TPort) → with_port self.new port x ≡ with_port self.old port x }
-        ensures there { IsSome (get self.new.ports port) }
-    {
-        let blank = Port::new(self.alloc, ClassId(0));
-        self.ports.replace(port.0, blank)
     }
 
     /// Sets how many messages the queue of a port takes. Refused exactly where no live port has
@@ -143,8 +149,8 @@ impl PortTable {
         if self.ports.get(port.0).is_none() {
             return Err(NoSuchPort);
         }
-        let found = self.taken(port);
-        self.ports.set(port.0, found.limited(limit));
+        let found = taken(&mut self.ports, self.alloc, port);
+        let _ = self.ports.replace(port.0, found.limited(limit));
         Ok(())
     }
 
@@ -159,8 +165,8 @@ impl PortTable {
         if self.ports.get(port.0).is_none() {
             return Err(NoSuchPort);
         }
-        let found = self.taken(port);
-        self.ports.set(port.0, found.with_backup(backup));
+        let found = taken(&mut self.ports, self.alloc, port);
+        let _ = self.ports.replace(port.0, found.with_backup(backup));
         Ok(())
     }
 
@@ -192,8 +198,16 @@ impl PortTable {
         if self.ports.get(port.0).is_none() {
             return;
         }
-        let found = self.taken(port);
-        self.ports.set(port.0, found.restarted());
+        let found = taken(&mut self.ports, self.alloc, port);
+        let _ = self.ports.replace(port.0, found.restarted());
+    }
+
+    /// Whether each queue has room for so many messages more; it may say no once 2^62 messages,
+    /// less these, have waited at a port.
+    pub fn has_room(&self, more: usize) -> bool
+        ensures { result ≡ true → HaveRoom more self.now.ports }
+    {
+        self.longest <= WAITING && more <= WAITING - self.longest
     }
 
     /// A message with its own room on a queue.
@@ -222,8 +236,10 @@ impl PortTable {
         if full {
             return Err(NotQueued::Full(ready));
         }
-        let found = self.taken(port);
-        self.ports.set(port.0, found.with_message(ready));
+        let found = taken(&mut self.ports, self.alloc, port);
+        let filled = found.with_message(ready);
+        self.longest = longer(self.longest, filled.queue().len());
+        let _ = self.ports.replace(port.0, filled);
         Ok(())
     }
 
@@ -235,9 +251,9 @@ impl PortTable {
         if self.ports.get(port.0)?.queue().len() == 0 {
             return None;
         }
-        let found = self.taken(port);
+        let found = taken(&mut self.ports, self.alloc, port);
         let (parcel, left) = found.received();
-        self.ports.set(port.0, left);
+        let _ = self.ports.replace(port.0, left);
         Some(parcel)
     }
 }

@@ -1,6 +1,9 @@
 //! Ordered maps.
 
-use mrc_map::Map;
+ghost use Rattle.std.specs.Prelude.{◌≡◌, true};
+
+use mrc_base::PortId;
+use mrc_map::{Lookup, Map, Ports};
 use std::alloc::{AllocError, Global};
 use std::process::Abort;
 use std::test::Fail;
@@ -77,8 +80,17 @@ fn set(rt: &impl Abort, map: &mut Map<u8>, key: u64, value: u8) {
     map.set(key, value);
 }
 
-fn set_at(map: &mut Map<u8>, index: usize, value: u8) {
-    map.set_at(index, value);
+/// Each value is one more.
+fn count_up(map: &mut Map<u8>) {
+    map.change(
+        |held: &mut (u64, u8)| -> bool
+            ensures stays { result ≡ true }
+            ensures key { held.new.0 ≡ held.old.0 }
+        {
+            held.1 = held.1.wrapping_add(1);
+            true
+        },
+    );
 }
 
 #[test]
@@ -87,10 +99,8 @@ fn another_value_at_a_key(rt: HostRuntime) -> Result<(), Fail> {
     for (key, value) in [(9, 91), (2, 21)] {
         set(&rt, &mut map, key, value);
     }
-    set_at(&mut map, 1, 51);
-    // There is no fourth entry.
-    set_at(&mut map, 3, 1);
-    assert_has(&rt, &map, &[(2, 21), (5, 51), (9, 91)]);
+    count_up(&mut map);
+    assert_has(&rt, &map, &[(2, 22), (5, 51), (9, 92)]);
     Ok(())
 }
 
@@ -205,5 +215,72 @@ fn memory_that_runs_out_changes_nothing(rt: HostRuntime) -> Result<(), Fail> {
     let map = filled(&rt, rt.alloc())?;
     let copy = copied_twice(rt.alloc(), &map)?;
     assert_has(&rt, &copy, &[(2, 20), (5, 51), (7, 70), (8, 80), (9, 90)]);
+    Ok(())
+}
+
+fn put_hashed(map: &mut Lookup<u64>, key: u64, value: u64) -> Result<(), AllocError> {
+    map.insert(key, value)
+}
+
+fn hashed_at(map: &Lookup<u64>, key: u64) -> Option<u64> {
+    map.get(key).copied()
+}
+
+fn drop_hashed(map: &mut Lookup<u64>, key: u64) -> Option<u64> {
+    map.remove(key)
+}
+
+/// A table of hashes with 1,000 keys, each with its double.
+fn doubles(alloc: Global) -> Result<Lookup<u64>, AllocError> {
+    let mut map = Lookup::new(alloc);
+    for key in 0..1_000u64 {
+        put_hashed(&mut map, key, 2 * key)?;
+    }
+    Ok(map)
+}
+
+// What goes from a table of hashes leaves the others.
+#[test]
+fn hashed_keys_come_and_go(rt: HostRuntime) -> Result<(), Fail> {
+    let mut map = doubles(rt.alloc())?;
+    for key in 0..500u64 {
+        assert_eq!(rt; drop_hashed(&mut map, 2 * key), Some(4 * key), "at {key}");
+        assert_eq!(rt; drop_hashed(&mut map, 2 * key), None, "once more at {key}");
+    }
+    put_hashed(&mut map, 7, 1)?;
+    assert_eq!(rt; map.len(), 500);
+    for key in 0..500u64 {
+        let odd = 2 * key + 1;
+        let want = if odd == 7 { 1 } else { 2 * odd };
+        assert_eq!(rt; hashed_at(&map, odd), Some(want), "at {odd}");
+        assert_eq!(rt; hashed_at(&map, 2 * key), None, "beside {odd}");
+    }
+    Ok(())
+}
+
+fn join(ports: &mut Ports, port: u64) -> Result<bool, AllocError> {
+    ports.insert(PortId(port))
+}
+
+fn after(ports: &Ports, last: Option<u64>) -> Option<u64> {
+    let last = match last {
+        Some(port) => Some(PortId(port)),
+        None => None,
+    };
+    Some(ports.after(last)?.0)
+}
+
+// The port of a set of one has its place among those that come later.
+#[test]
+fn ports_are_gone_through_ascending(rt: HostRuntime) -> Result<(), Fail> {
+    let mut ports = Ports::one(rt.alloc(), PortId(5));
+    assert!(rt; join(&mut ports, u64::MAX)?);
+    assert!(rt; join(&mut ports, 0)?);
+    assert!(rt; !join(&mut ports, 5)?);
+    assert_eq!(rt; after(&ports, None), Some(0));
+    assert_eq!(rt; after(&ports, Some(0)), Some(5));
+    assert_eq!(rt; after(&ports, Some(4)), Some(5));
+    assert_eq!(rt; after(&ports, Some(5)), Some(u64::MAX));
+    assert_eq!(rt; after(&ports, Some(u64::MAX)), None);
     Ok(())
 }

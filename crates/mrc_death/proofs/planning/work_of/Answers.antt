@@ -1,4 +1,5 @@
 use Rattle.std.proofs.Common.{length}
+use Rattle.mrc_death.proofs.Rooms.{room_of}
 use Rattle.mrc_death.proofs.WorkLaws.{work_planned, room_as}
 use Rattle.mrc_death.proofs.planning.work_of.Goals as goal
 
@@ -12,7 +13,8 @@ returns c =
         has_space = c.requires;
         room = room_as s c.len.result c.len-2.result (length once.items) (length lost.items) _ _
             c.len.ensures once.ok.0 c.len-2.ensures lost.ok.0
-            (c.has_room.ensures c.if-not-has_room.false);
+            (room_of _ s c.ports.result.now c.ports.ensures
+            (c.has_room.ensures c.if-not-has_room.false));
       };
       exact = work_planned s c.args.taken.task c.args.taken.space c.args.taken.doomed
           c.in_ok-deaths.deaths.dead c.in_ok-deaths.deaths.lost once.items lost.items

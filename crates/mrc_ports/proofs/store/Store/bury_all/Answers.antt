@@ -1,5 +1,11 @@
+use Rattle.std.proofs.Common.{sym, ◌∙◌}
+use Rattle.mrc_ports.proofs.Dropping.{bury_none}
 use Rattle.mrc_ports.proofs.TableLaws.{bury_as}
 use Rattle.mrc_ports.proofs.store.Store.bury_all.Goals as goal
+
+pub returns-then-len-eq0 : goal.returns-then-len-eq0
+returns-then-len-eq0 c =
+    bury_none c.args.self.now c.args.dead.now (sym c.len.ensures ∙ c.if-len-eq0.true)
 
 pub returns : goal.returns
 returns c =
