@@ -1,26 +1,23 @@
 -- Undoing changes of a space, one after the other.
-use Rattle.std.proofs.Common.{◌≡◌, ℕ, ◌+◌, ◌<◌, ◌≤◌, List, [], ◌∷◌, ◌++◌, length}
-use Rattle.std.proofs.Common.{Option, Some, None, refl, sym, ◌∙◌, ap, subst, arith, inl, inr, drop}
+use Rattle.std.proofs.Common.{◌≡◌, ℕ, List, [], ◌∷◌, ◌++◌, length}
+use Rattle.std.proofs.Common.{Option, Some, None, refl, sym, ◌∙◌, ap, subst, arith, inl, inr}
 use Rattle.std.proofs.lemmas.Bool.{cases_eq}
-use Rattle.std.proofs.Common.{get_or}
-use Rattle.std.proofs.lemmas.List.{drop_more}
 use Rattle.mrc_base.specs.declared.PortRight.{PortRight}
 use Rattle.mrc_base.specs.declared.PortRight.TheVariants.{Send, Receive, SendOnce}
 use Rattle.mrc_model.specs.declared.Entry.{Entry}
 use Rattle.mrc_model.specs.declared.Entry.TheVariants.{Receive as ReceiveEntry, Send as SendEntry}
 use Rattle.mrc_model.specs.declared.Entry.TheVariants.{SendOnce as OnceEntry, PortSet as SetEntry}
 use Rattle.mrc_model.specs.declared.Entry.TheVariants.{DeadName as DeadEntry}
-use Rattle.mrc_model.specs.Map.{get, insert, remove, len}
+use Rattle.mrc_model.specs.Map.{get, insert, remove}
 use Rattle.mrc_model.specs.World.{Space}
-use Rattle.mrc_model.specs.Space.{put_entry, joined, new_entry, unused, place, place_at}
-use Rattle.mrc_model.specs.Space.{entry_of}
+use Rattle.mrc_model.specs.Space.{put_entry, joined}
 use Rattle.mrc_model.proofs.Maps.{get-insert_same, get-insert_other, get-remove_same, not_None}
-use Rattle.mrc_model.proofs.Maps.{get-remove_other, len-insert}
+use Rattle.mrc_model.proofs.Maps.{get-remove_other}
 use Rattle.mrc_map.proofs.SameMaps.{same_map, remove-insert}
 use Rattle.mrc_map.proofs.EntryLaws.{not_some}
 use Rattle.std.specs.Prelude.{IsSome}
 use Rattle.mrc_index.specs.Names.{HoldsAlike}
-use Rattle.mrc_index.specs.Undo.{CanPut, CanUndo, undone, placed_all}
+use Rattle.mrc_index.specs.Undo.{CanPut, CanUndo, undone}
 
 -- what was put under an unused name goes again
 pub took_back : (x : Space) (n : ℕ) (e : Entry) → get x n ≡ None → remove (insert x n e) n ≡ x
@@ -69,20 +66,6 @@ renamed x y z old new e at none put gone =
     gone ∙ ap (λ m. remove m old) put
     ∙ remove-insert x old new e (λ s. not_None e (sym at ∙ ap (get x) s ∙ none))
 
--- a giving has one entry more at most
-grown : (x : Space) (n : ℕ) (e : Entry) → len (insert x n e) ≤ len x + 1
-grown x n e = omega (arith, len-insert x n e)
-
-grown_at : (x : Space) (p : ℕ) (r : PortRight) (o : Option (ℕ × Entry))
-    → len (place_at x p r o).space ≤ len x + 1
-grown_at x p r None = grown x (unused x) (new_entry p r)
-grown_at x p r (Some e) = grown x e.0 (joined e.1 r)
-
-pub grown_by : (x : Space) (p : ℕ) (r : PortRight) → len (place x p r).space ≤ len x + 1
-grown_by x p Send = grown_at x p Send (entry_of x p)
-grown_by x p Receive = grown_at x p Receive (entry_of x p)
-grown_by x p SendOnce = grown x (unused x) (new_entry p SendOnce)
-
 -- the change at the end is undone first
 pub undone_end : (xs : List (ℕ × Option Entry)) (s : ℕ × Option Entry) (x : Space)
     → undone (xs ++ s ∷ []) x ≡ undone xs (put_entry x s.0 s.1)
@@ -127,10 +110,6 @@ pub step_same : (ys xs : List (ℕ × Option Entry)) (s : ℕ × Option Entry) (
 step_same ys xs s x y e is =
     ap (undone xs) is ∙ sym (undone_end xs s x) ∙ ap (λ z. undone z x) (sym e)
 
-pub all_undone : (ys : List (ℕ × Option Entry)) (x : Space) → length ys ≡ 0 → undone ys x ≡ x
-all_undone [] x e = refl
-all_undone (s ∷ ys) x e = absurd (omega arith)
-
 -- a step of giving
 pub give_can : (xs : List (ℕ × Option Entry)) (s : ℕ × Option Entry) (x y : Space)
     → CanUndo xs x
@@ -144,15 +123,6 @@ pub give_back : (xs : List (ℕ × Option Entry)) (s : ℕ × Option Entry) (x y
     → put_entry y s.0 s.1 ≡ x
     → undone (xs ++ s ∷ []) y ≡ z
 give_back xs s x y z same back = undone_end xs s y ∙ ap (undone xs) back ∙ same
-
-pub give_done : (rs : List (ℕ × PortRight)) (i : ℕ) (d : ℕ × PortRight) (x y z : Space)
-    → i < length rs
-    → placed_all (drop i rs) x ≡ z
-    → y ≡ (place x (get_or rs i d).0 (get_or rs i d).1).space
-    → placed_all (drop (i + 1) rs) y ≡ z
-give_done rs i d x y z h done is =
-    ap (placed_all (drop (i + 1) rs)) is ∙ sym (ap (λ l. placed_all l x) (drop_more rs i d h))
-    ∙ done
 
 -- a right may come under an unused name before it goes from another
 apart_names : (x : Space) (n m : ℕ) → IsSome (get x n) → get x m ≡ None → n ≡ m → ⊥

@@ -1,10 +1,9 @@
 -- Changes of a space that can be undone without memory. This profile's own choice.
 use Rattle.std.specs.Prelude.{◌≡◌, ℕ, List, [], ◌∷◌, Option, Some, None, ⊤}
-use Rattle.mrc_base.specs.declared.PortRight.{PortRight}
 use Rattle.mrc_model.specs.declared.Entry.{Entry}
 use Rattle.mrc_model.specs.Map.{get}
 use Rattle.mrc_model.specs.World.{Space}
-use Rattle.mrc_model.specs.Space.{place, put_entry}
+use Rattle.mrc_model.specs.Space.{put_entry}
 use Rattle.mrc_index.specs.Names.{HoldsAlike}
 
 -- this can come under the name without memory: nothing, or an entry of the same port and kind
@@ -21,8 +20,3 @@ undone (s ∷ ss) x = put_entry (undone ss x) s.0 s.1
 abbrev pub CanUndo : List (ℕ × Option Entry) → Space → Type 0
 CanUndo [] x = ⊤
 CanUndo (s ∷ ss) x = CanPut (undone ss x) s.0 s.1 × CanUndo ss x
-
--- the space after these rights were given, one after the other
-abbrev pub placed_all : List (ℕ × PortRight) → Space → Space
-placed_all [] x = x
-placed_all (r ∷ rs) x = placed_all rs (place x r.0 r.1).space

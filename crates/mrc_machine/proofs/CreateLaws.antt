@@ -19,20 +19,28 @@ use Rattle.mrc_model.specs.World.{task_class}
 use Rattle.mrc_model.specs.declared.Entry.TheVariants.{Send as SendEntry}
 use Rattle.mrc_model.specs.CallAllocate.{new_port}
 use Rattle.mrc_model.specs.Reply.{Created, Refused, ◌>>=◌, ◌>>◌, or_refuse, refuse_if}
-use Rattle.mrc_model.specs.Space.{is_full, place, give_item}
+use Rattle.mrc_model.specs.declared.Entry.{Entry}
+use Rattle.mrc_model.specs.Space.{is_full, place, put_entry, give_item}
 use Rattle.mrc_model.specs.Target.{with_space, with_store}
 use Rattle.mrc_model.specs.declared.Item.TheVariants.{Right as RightItem}
 use Rattle.mrc_model.specs.CallCreateTask.{call_create_task, is_short_of_tasks, with_task}
-use Rattle.mrc_model.proofs.Maps.{get-insert_other, get-next_key, not_None}
+use Rattle.mrc_model.proofs.Maps.{get-insert_same, get-insert_other, get-next_key, not_None}
 use Rattle.mrc_map.specs.Entries.{below}
 use Rattle.mrc_names.specs.Refusals.{IsRefusal}
 use Rattle.mrc_names.specs.Takes.{give_right}
 use Rattle.mrc_ports.specs.Tables.{table_of, is_short, with_home}
 use Rattle.mrc_ports.proofs.TableLaws.{below_is, remove_next}
 use Rattle.mrc_machine.specs.Housing.{target_of, kernel_class_of, IsHoused}
-use Rattle.mrc_machine.proofs.HousingLaws.{housed_task, next_number, kept_there}
+use Rattle.mrc_machine.proofs.HousingLaws.{housed_task, next_number, space_back}
+use Rattle.mrc_machine.proofs.AllocateLaws.{put_after}
+use Rattle.mrc_machine.proofs.MoveLaws.{swap_spaces}
 use Rattle.mrc_machine.proofs.TakeLaws.{given_parts, not_given}
 use Rattle.mrc_machine.proofs.TargetLaws.{target_none, target_some}
+
+-- a space that is there
+some_space : (o : Option Space) → IsSome o → Some (unwrap_or o empty) ≡ o
+some_space None has = cc
+some_space (Some x) has = refl
 
 -- one of three tests
 
@@ -199,6 +207,42 @@ module _ (w : World) (t task : ℕ) where
                     let name = parts.1 ∙ ap (λ k. k.name) here in
                     created ∙ (λ i. Ok (sym whole i, Created (number i) (sym name i)))
 
+-- where the caller was given its right first
+pub given_first : (w w1 v : World) (t child wired c : ℕ) (y : Space)
+    → IsSome (get w.tasks t)
+    → below limit_of_task_numbers (next_key w.tasks) ≡ Some child
+    → w1 ≡ with_space w t y
+    → v ≡ with_task w1 child wired c
+    → v ≡ with_space (with_task w child wired c) t y
+given_first w w1 v t child wired c y there next gave begin =
+    let number = (below_is limit_of_task_numbers (next_key w.tasks) child next).0 in
+    let apart : t ≡ child → ⊥ = λ same.
+    let none : false ≡ true = subst (λ o. IsSome o)
+    (ap (get w.tasks) (same ∙ sym number) ∙ get-next_key w.tasks) there in cc in
+    begin ∙ ap (λ (k : World). with_task k child wired c) gave
+    ∙ ap (λ (m : Map Space). record (with_task w child wired c) {
+      store = record (with_task w child wired c).store { spaces = m };
+    }) (swap_spaces w.store.spaces child t (insert empty 1 (SendEntry w.store.next 1)) y apart)
+
+-- the caller has that space
+pub own_space : (w v : World) (t : ℕ) (y : Space) → v ≡ with_space w t y → space v.store t ≡ y
+own_space w v t y is =
+    ap (λ (k : World). space k.store t) is
+    ∙ ap (λ o. unwrap_or o empty) (get-insert_same w.store.spaces t y)
+
+-- the right is taken back
+pub gone_back : (w w1 v : World) (t n : ℕ) (y : Space) (former : Option Entry)
+    → IsSome (get w.store.spaces t)
+    → w1 ≡ with_space w t y
+    → put_entry y n former ≡ space w.store t
+    → v ≡ with_space w1 t (put_entry (space w1.store t) n former)
+    → v ≡ w
+gone_back w w1 v t n y former there gave back left =
+    let own : space w1.store t ≡ y = own_space w w1 t y gave in
+    put_after w w1 v t y (space w.store t) gave
+    (left ∙ ap (with_space w1 t) (ap (λ k. put_entry k n former) own ∙ back))
+    ∙ space_back w t (space w.store t) (some_space (get w.store.spaces t) there)
+
 -- a task that begins
 
 -- the world with a task of one number and a space of another
@@ -284,11 +328,3 @@ module _ (ts us : Map Task) (s : Store) (w : World) (t key : ℕ) (task : Task)
       record { tasks = ts; store = s } =
       λ i. record { tasks = tasks_back out is i; store = same i } in
       back ∙ view
-
--- the caller is still there
-pub still_there : (w v : World) (t n wired c : ℕ)
-    → IsSome (get w.tasks t)
-    → v ≡ with_task w n wired c
-    → IsSome (get v.tasks t)
-still_there w v t n wired c there is =
-    subst (λ (z : World). IsSome (get z.tasks t)) (sym is) (kept_there w.tasks n t _ there)

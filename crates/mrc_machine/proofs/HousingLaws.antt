@@ -7,8 +7,7 @@ use Rattle.std.specs.Option.{is_some}
 use Rattle.std.proofs.lemmas.Bool.{cases_eq}
 use Rattle.mrc_model.specs.Rising.{is_rising, find_key, right_holds}
 use Rattle.mrc_model.specs.Map.{Map, empty, get, insert, next_key, Each}
-use Rattle.mrc_model.specs.World.{Space, Port, Parcel, Store, Task, World, set_space}
-use Rattle.mrc_model.specs.CallReceive.{first_parcel}
+use Rattle.mrc_model.specs.World.{Space, Store, Task, World, set_space}
 use Rattle.mrc_model.specs.Target.{first_task, has_kernel, with_space}
 use Rattle.mrc_model.proofs.Maps.{get-insert, get-insert_same, get-insert_other, get-empty}
 use Rattle.mrc_model.proofs.Maps.{Each-insert, same_Some, not_None, find_here, find_later}
@@ -18,11 +17,9 @@ use Rattle.std.proofs.lemmas.Bool.{cases_lt}
 use Rattle.mrc_map.proofs.SameMaps.{same_map}
 use Rattle.mrc_ports.specs.Tables.{no_store}
 use Rattle.mrc_ports.proofs.TableLaws.{insert_twice}
-use Rattle.mrc_transit.specs.SendPlans.{SendPlan, sent, IsReady}
+use Rattle.mrc_transit.specs.SendPlans.{SendPlan, sent, taking_of, IsReady}
 use Rattle.mrc_transit.proofs.ApplyLaws.{sent_spaces, sent_next}
-use Rattle.mrc_ports.specs.Tables.{Table, table_of}
-use Rattle.mrc_ports.specs.Queues.{received_by, received_from, received_at}
-use Rattle.mrc_transit.specs.Receiving.{ReceivePlan, replaced, carried_out}
+use Rattle.mrc_transit.specs.Receiving.{AreHousedAlike}
 use Rattle.std.specs.List.{AllByRecursion}
 use Rattle.mrc_machine.specs.Holdings.{AreShort}
 use Rattle.mrc_machine.specs.Housing.{AreByKernel, IsHoused}
@@ -121,46 +118,28 @@ pub housed_sent : (ts : Map Task) (s z : Store) (plan : SendPlan)
     → z ≡ sent s plan
     → IsHoused record { tasks = ts; store = z }
 housed_sent ts s z plan h ready is =
-    housed_same ts (set_space s plan.sender plan.taking.space) z
-    (housed_space ts s _ plan.sender plan.taking.space h
+    housed_same ts (set_space s plan.sender (taking_of s plan).space) z
+    (housed_space ts s _ plan.sender (taking_of s plan).space h
     (h.homes plan.sender ready.has_space) refl) (
       ap (λ (y : Store). y.spaces) is ∙ sent_spaces s plan,
       ap (λ (y : Store). y.next) is ∙ sent_next s plan,
     )
 
--- no port is born where a message is taken off a queue
-taken_next : (t : Table) (p : ℕ) (x : Port) (o : Option (Parcel × List Parcel))
-    → (received_at t p x o).1.next ≡ t.next
-taken_next t p x None = refl
-taken_next t p x (Some got) = refl
-
-received_next : (t : Table) (p : ℕ) (o : Option Port) → (received_from t p o).1.next ≡ t.next
-received_next t p None = refl
-received_next t p (Some x) = taken_next t p x (first_parcel x.queue)
-
--- where a message was received
-pub housed_received : (ts : Map Task) (s z : Store) (plan : ReceivePlan)
+-- where no task gained or lost a space
+pub housed_alike : (ts : Map Task) (s z : Store)
     → IsHoused record { tasks = ts; store = s }
-    → z ≡ carried_out s plan
+    → AreHousedAlike s z
     → IsHoused record { tasks = ts; store = z }
-housed_received ts s z plan h is =
-    subst (λ (y : Store). IsHoused record { tasks = ts; store = y }) (sym is)
-    (go (get s.spaces plan.task) refl)
-  where
-    same : AreSame s (received_by s plan.port).1
-    same = (refl, received_next (table_of s) plan.port (get s.ports plan.port))
-
-    go : (o : Option Space)
-        → get s.spaces plan.task ≡ o
-        → IsHoused record {
-          tasks = ts;
-          store = replaced (received_by s plan.port).1 plan.task plan.space o;
-        }
-    go None at = housed_same ts s (received_by s plan.port).1 h same
-    go (Some y) at =
-        housed_space ts (received_by s plan.port).1 _ plan.task plan.space
-        (housed_same ts s (received_by s plan.port).1 h same)
-        (h.homes plan.task (subst (λ o. IsSome o) (sym at) refl)) refl
+housed_alike ts s z h alike = record {
+  spaces = λ t has. alike.spaces t ∙ h.spaces t has;
+  homes = λ t has. h.homes t (sym (alike.spaces t) ∙ has);
+  tasks = h.tasks;
+  owners = λ t x at.
+      each_there (λ q. q < 2 ^ 32) s.spaces t (get s.spaces t) h.owners refl
+      (sym (alike.spaces t) ∙ ap is_some at);
+  order = h.order;
+  born = λ t x at. let low = h.born t x at in let same = alike.next in omega arith;
+}
 
 -- what is known of a task, where a world is open
 module _ (ts : Map Task) (s : Store) (w : World) (t : ℕ)

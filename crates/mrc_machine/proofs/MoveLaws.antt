@@ -1,9 +1,9 @@
 -- What moving a right between two tasks comes to, from what each step of code tells.
-use Rattle.std.proofs.Common.{◌≡◌, ℕ, true, false, Result}
+use Rattle.std.proofs.Common.{◌≡◌, ℕ, Bool, true, false, Option, inl, inr}
 use Rattle.std.proofs.Common.{Some, None, Ok, Err, refl}
 use Rattle.std.proofs.Common.{sym, ◌∙◌, ap, subst, ◌==◌, if◌then◌else◌}
-use Rattle.std.specs.Prelude.{◌||◌, IsOk}
-use Rattle.std.proofs.lemmas.Bool.{eq-eqb, ne_eqb}
+use Rattle.std.specs.Prelude.{◌||◌, IsOk, unwrap_or}
+use Rattle.std.proofs.lemmas.Bool.{cases_eq, eq-eqb, ne_eqb}
 use Rattle.mrc_base.specs.declared.memory.OrMemory.{OrMemory}
 use Rattle.mrc_base.specs.declared.memory.OrMemory.TheVariants.{Fault, Memory}
 use Rattle.mrc_base.specs.declared.PortRight.{PortRight}
@@ -14,79 +14,194 @@ use Rattle.mrc_model.specs.declared.Code.TheVariants.{KernInvalidTask, KernInval
 use Rattle.mrc_model.specs.declared.Code.TheVariants.{KernNoSpace}
 use Rattle.mrc_model.specs.declared.Code.TheVariants.{KernInvalidCapability}
 use Rattle.mrc_model.specs.Rights.{is_receive}
-use Rattle.mrc_model.specs.Map.{get}
-use Rattle.mrc_model.specs.World.{Space, Store, World, space, set_space}
+use Rattle.mrc_model.specs.Map.{Map, empty, get, insert}
+use Rattle.mrc_model.specs.World.{Space, Port, Store, World, space, set_space}
 use Rattle.mrc_model.specs.Reply.{Reply, Done, Name, Refused, Try, ◌>>=◌}
 use Rattle.mrc_model.specs.Reply.{◌>>◌, refuse_if}
-use Rattle.mrc_model.specs.Space.{restart_if, insert_at, give_item}
+use Rattle.mrc_model.specs.Space.{restart, restart_port, restart_if, insert_at, give_item}
 use Rattle.mrc_model.specs.Space.{is_full, place}
-use Rattle.mrc_model.specs.Target.{is_reserved, with_store}
+use Rattle.mrc_model.specs.Target.{is_reserved, with_store, with_space}
 use Rattle.mrc_model.specs.CallSend.{dead_taken, is_dead_taken}
 use Rattle.mrc_model.specs.CallInsertRight.{call_insert_right, call_extract_right}
-use Rattle.mrc_model.proofs.Maps.{if_true, if_false}
+use Rattle.mrc_model.proofs.Maps.{if_true, if_false, get-insert_same, get-insert_other}
 use Rattle.mrc_names.specs.Takes.{take_right, taken_port, move_right, give_right}
-use Rattle.mrc_names.specs.Refusals.{IsRefusal, Foretells}
+use Rattle.mrc_names.specs.Refusals.{IsRefusal}
+use Rattle.mrc_names.proofs.MovingLaws.{move_is, move_err}
 use Rattle.mrc_names.proofs.SpaceExits.{port_of_taken}
 use Rattle.mrc_machine.specs.Housing.{target_of}
-use Rattle.mrc_machine.specs.Moves.{moved, space_beside, second_space}
+use Rattle.mrc_machine.specs.Moves.{moved, space_beside, with_moved}
 use Rattle.mrc_machine.proofs.StoreLaws.{space_moved}
 use Rattle.mrc_machine.proofs.TargetLaws.{target_none, target_some}
 use Rattle.mrc_machine.proofs.TakeLaws.{on_taken, take_by_space}
 use Rattle.mrc_machine.proofs.TakeLaws.{given_parts, not_given}
 use Rattle.mrc_machine.proofs.Trying.{bind_bind, ok_bind, err_bind}
-use Rattle.mrc_machine.proofs.Trying.{ok_goes, ok_after, err_after}
+use Rattle.mrc_machine.proofs.Trying.{ok_goes}
+use Rattle.mrc_map.proofs.SameMaps.{same_map}
+use Rattle.mrc_ports.proofs.TableLaws.{insert_twice}
 
--- what is told of the second space
+-- a right that went, by what each step of code leaves
 
--- where it is the first one
-pub second_same : {U : Type 0} (r : Result U Code) (s : Store) (t u n name : ℕ) (x : Disp)
-    (y : Space)
-    → u ≡ t
-    → y ≡ space s t
-    → Foretells r (move_right y n x name)
-    → Foretells r (second_space s t u n x name)
-unfolding second_space move_right ◌>>=◌
-second_same r s t u n name x y same is told =
-    subst (Foretells r) (ap (λ z. move_right z n x name) is ∙ sym (go (take_right (space s t) n x)))
-    told
+restart_put_at : (s : Store) (p u : ℕ) (y : Space) (o : Option Port)
+    → restart_port (set_space s u y) p o ≡ set_space (restart_port s p o) u y
+restart_put_at s p u y None = refl
+restart_put_at s p u y (Some x) = refl
+
+restart_put : (b : Bool) (s : Store) (p u : ℕ) (y : Space)
+    → restart_if b (set_space s u y) p ≡ set_space (restart_if b s p) u y
+unfolding restart
+restart_put true s p u y = restart_put_at s p u y (get s.ports p)
+restart_put false s p u y = refl
+
+-- two spaces in any order
+pub swap_spaces : (m : Map Space) (t u : ℕ) (x y : Space)
+    → (u ≡ t → ⊥)
+    → insert (insert m u y) t x ≡ insert (insert m t x) u y
+swap_spaces m t u x y apart = same_map _ _ (λ q. elim (cases_eq q t) [
+  | inl here ↦
+      ap (get (insert (insert m u y) t x)) here ∙ get-insert_same (insert m u y) t x
+      ∙ sym (get-insert_same m t x)
+      ∙ sym (get-insert_other (insert m t x) u y t (λ k. apart (sym k)))
+      ∙ ap (get (insert (insert m t x) u y)) (sym here)
+  | inr off ↦ elim (cases_eq q u) [
+    | inl there ↦
+        get-insert_other (insert m u y) t x q off ∙ ap (get (insert m u y)) there
+        ∙ get-insert_same m u y ∙ sym (get-insert_same (insert m t x) u y)
+        ∙ ap (get (insert (insert m t x) u y)) (sym there)
+    | inr far ↦
+        get-insert_other (insert m u y) t x q off ∙ get-insert_other m u y q far
+        ∙ sym (get-insert_other m t x q off) ∙ sym (get-insert_other (insert m t x) u y q far)
+  ]
+])
+
+-- the space of another task stays
+pub other_space : (w v : World) (t u : ℕ) (y : Space)
+    → (u ≡ t → ⊥)
+    → v ≡ with_space w u y
+    → space v.store t ≡ space w.store t
+other_space w v t u y apart is =
+    ap (λ (z : World). space z.store t) is
+    ∙ ap (λ o. unwrap_or o empty) (get-insert_other w.store.spaces u y t (λ k. apart (sym k)))
+
+-- between two tasks: first it is given, then it goes
+pub moved_across : (w w1 w2 w3 : World) (t u p : ℕ) (h y : Space) (r : PortRight)
+    → (u ≡ t → ⊥)
+    → w1 ≡ with_space w u y
+    → w2 ≡ with_space w1 t h
+    → w3 ≡ with_store w2 (restart_if (is_receive r) w2.store p)
+    → w3 ≡ with_store w (moved w.store t h p r u y)
+moved_across w w1 w2 w3 t u p h y r apart one two three =
+    three
+    ∙ ap (λ (v : World). with_store v (restart_if (is_receive r) v.store p))
+    (two ∙ ap (λ (v : World). with_space v t h) one)
+    ∙ ap (λ (m : Map Space). with_store w
+    (restart_if (is_receive r) (record w.store { spaces = m }) p))
+    (swap_spaces w.store.spaces t u h y apart)
+    ∙ ap (with_store w) (restart_put (is_receive r) (set_space w.store t h) p u y)
+
+-- within one task
+pub moved_within : (w w1 w2 : World) (t p : ℕ) (h y : Space) (r : PortRight)
+    → w1 ≡ with_space w t y
+    → w2 ≡ with_store w1 (restart_if (is_receive r) w1.store p)
+    → w2 ≡ with_store w (moved w.store t h p r t y)
+moved_within w w1 w2 t p h y r one two =
+    two ∙ ap (λ (v : World). with_store v (restart_if (is_receive r) v.store p)) one
+    ∙ ap (λ (m : Map Space). with_store w
+    (restart_if (is_receive r) (record w.store { spaces = m }) p))
+    (sym (insert_twice w.store.spaces t h y))
+    ∙ ap (with_store w) (restart_put (is_receive r) (set_space w.store t h) p t y)
+
+-- a right that goes under a name
+
+module _ (w : World) (t n u name : ℕ) (x : Disp) where
+  pub moved_not_taken : (e : Reply)
+      → take_right (space w.store t) n x ≡ Err e
+      → with_moved w t n x u name ≡ Err e
+  unfolding with_moved ◌>>=◌
+  moved_not_taken e is = rw is refl
+
+  module _ (h : Space) (p : ℕ) (took : take_right (space w.store t) n x ≡ Ok (h, p)) where
+    moved_by : with_moved w t n x u name
+        ≡ (insert_at (space_beside w.store t u h) name p (given x)
+        >>= λ y. Ok (with_store w (moved w.store t h p (given x) u y)))
+    unfolding with_moved ◌>>=◌
+    moved_by = rw took refl
+
+    module _ (z : Space) (second : z ≡ space_beside w.store t u h) (r : PortRight)
+        (right : r ≡ given x) where
+      at_second : insert_at (space_beside w.store t u h) name p (given x) ≡ insert_at z name p r
+      at_second = ap (λ k. insert_at k name p (given x)) (sym second)
+          ∙ ap (insert_at z name p) (sym right)
+
+      pub moved_not_put : (e : OrMemory Code)
+          → IsRefusal e (insert_at z name p r)
+          → IsRefusal e (with_moved w t n x u name)
+      moved_not_put (Fault code) refused =
+          moved_by ∙ err_bind _ _ (Refused code) (at_second ∙ refused)
+      moved_not_put Memory refused =
+          subst IsOk (sym moved_by) (ok_goes _ _ (λ y. refl) (subst IsOk (sym at_second) refused))
+
+      pub moved_put : (y : Space) (v : World)
+          → insert_at z name p r ≡ Ok y
+          → v ≡ with_store w (moved w.store t h p r u y)
+          → with_moved w t n x u name ≡ Ok v
+      moved_put y v put is =
+          moved_by ∙ ok_bind _ y _ (at_second ∙ put)
+          ∙ ap (λ k. Ok (with_store w (moved w.store t h p k u y))) (sym right) ∙ ap Ok (sym is)
+
+-- the space beside another task's is its own; beside its own, it is what is left
+pub beside_other : (s : Store) (t u : ℕ) (h : Space)
+    → (u ≡ t → ⊥)
+    → space s u ≡ space_beside s t u h
+beside_other s t u h apart = sym (if_false (u == t) h (space s u) (ne_eqb u t apart))
+
+pub beside_same : (s : Store) (t u : ℕ) (h : Space) → u ≡ t → h ≡ space_beside s t u h
+beside_same s t u h same = sym (if_true (u == t) h (space s u) (eq-eqb u t same))
+
+-- a right that goes under a name of its own task
+pub moved_own : (w w1 w2 : World) (t n name p : ℕ) (x : Disp) (y : Space) (r : PortRight)
+    → taken_port (space w.store t) n x ≡ Ok p
+    → move_right (space w.store t) n x name ≡ Ok y
+    → r ≡ given x
+    → w1 ≡ with_space w t y
+    → w2 ≡ with_store w1 (restart_if (is_receive r) w1.store p)
+    → with_moved w t n x t name ≡ Ok w2
+moved_own w w1 w2 t n name p x y r port put right one two =
+    let (h, took) = port_of_taken (space w.store t) n p x port in
+    moved_put w t n t name x h p took h (beside_same w.store t t h refl) r right y w2
+    (ap (insert_at h name p) right ∙ sym (move_is (space w.store t) n name x h p took) ∙ put)
+    (moved_within w w1 w2 t p h y r one two)
+
+-- how it is refused there
+
+reason : {A : Type 0} → Try A → Reply
+reason (Ok a) = Done
+reason (Err why) = why
+
+own_not_taken : (w : World) (t n name : ℕ) (x : Disp) (e : OrMemory Code) (why : Reply)
+    → take_right (space w.store t) n x ≡ Err why
+    → IsRefusal e (move_right (space w.store t) n x name)
+    → IsRefusal e (with_moved w t n x t name)
+unfolding reason
+own_not_taken w t n name x (Fault code) why is refused =
+    moved_not_taken w t n t name x why is
+    ∙ ap Err (ap reason (sym (move_err (space w.store t) n name x why is) ∙ refused))
+own_not_taken w t n name x Memory why is ok =
+    let never : IsOk {T = Space} {E = Reply} (Err why) =
+    subst IsOk (move_err (space w.store t) n name x why is) ok in cc
+
+pub own_refused : (w : World) (t n name : ℕ) (x : Disp) (e : OrMemory Code)
+    → IsRefusal e (move_right (space w.store t) n x name)
+    → IsRefusal e (with_moved w t n x t name)
+own_refused w t n name x e refused = go (take_right (space w.store t) n x) refl
   where
     go : (m : Try (Space × ℕ))
-        → (m >>= λ got. insert_at (space_beside s t u got.0) name got.1 (given x))
-        ≡ (m >>= λ got. insert_at got.0 name got.1 (given x))
-    go (Ok got) =
-        ap (λ z. insert_at z name got.1 (given x))
-        (if_true (u == t) got.0 (space s u) (eq-eqb u t same))
-    go (Err e) = refl
-
--- where it is another one
-pub second_other : {U : Type 0} (r : Result U Code) (s : Store) (t u n name p : ℕ) (x : Disp)
-    (y z : Space) (g : PortRight)
-    → (u ≡ t → ⊥)
-    → y ≡ space s t
-    → taken_port y n x ≡ Ok p
-    → z ≡ space s u
-    → g ≡ given x
-    → Foretells r (insert_at z name p g)
-    → Foretells r (second_space s t u n x name)
-unfolding second_space ◌>>=◌
-second_other r s t u n name p x y z g other is port there right told =
-    let (k, took) = port_of_taken y n p x port in
-    let took' : take_right (space s t) n x ≡ Ok (k, p) =
-    ap (λ v. take_right v n x) (sym is) ∙ took in
-    let at = if_false (u == t) k (space s u) (ne_eqb u t other) in
-    rw (took', at) (subst (Foretells r)
-    (ap (λ v. insert_at v name p g) there ∙ ap (insert_at (space s u) name p) right) told)
-
--- where no right is taken
-pub second_refused : (s : Store) (t u n name : ℕ) (x : Disp) (y : Space) (code : Code)
-    → y ≡ space s t
-    → take_right y n x ≡ Err (Refused code)
-    → second_space s t u n x name ≡ Err (Refused code)
-unfolding second_space ◌>>=◌
-second_refused s t u n name x y code is refused =
-    let refused' : take_right (space s t) n x ≡ Err (Refused code) =
-    ap (λ v. take_right v n x) (sym is) ∙ refused in
-    rw refused' refl
+        → take_right (space w.store t) n x ≡ m
+        → IsRefusal e (with_moved w t n x t name)
+    go (Err why) is = own_not_taken w t n name x e why is refused
+    go (Ok got) is =
+        moved_not_put w t n t name x got.0 got.1 is got.0
+        (beside_same w.store t t got.0 refl) (given x) refl e
+        (subst (IsRefusal e) (move_is (space w.store t) n name x got.0 got.1 is) refused)
 
 -- inserting a right
 
@@ -134,65 +249,22 @@ module _ (w : World) (t task name right : ℕ) (x : Disp) where
             got.1 (given x)
             >>= λ y. Ok (with_store w (moved w.store t got.0 got.1 (given x) u y), Done)))
 
-        -- what is told of the second space is told of the call
-        pub insert_foretold : (e : Reply)
-            → second_space w.store t u right x name ≡ Err e
-            → call_insert_right w t task name right x ≡ Err e
-        unfolding second_space
-        insert_foretold e told =
-            insert_by_spaces ∙ err_after (take_right (space w.store t) right x)
-            (λ got. insert_at (space_beside w.store t u got.0) name got.1 (given x))
-            (λ got y. Ok (with_store w (moved w.store t got.0 got.1 (given x) u y), Done)) e told
-
-        pub insert_allowed : IsOk (second_space w.store t u right x name)
-            → IsOk (call_insert_right w t task name right x)
-        unfolding second_space
-        insert_allowed ok =
-            subst IsOk (sym insert_by_spaces) (ok_after (take_right (space w.store t) right x)
-            (λ got. insert_at (space_beside w.store t u got.0) name got.1 (given x))
-            (λ got y. Ok (with_store w (moved w.store t got.0 got.1 (given x) u y), Done))
-            (λ got y. refl) ok)
-
-        module _ (g : Space) (copy : g ≡ space w.store t) where
-          pub insert_not_taken : (e : Reply)
-              → take_right g right x ≡ Err e
-              → call_insert_right w t task name right x ≡ Err e
-          insert_not_taken e refused =
-              insert_by_spaces ∙ err_bind _ (inserted w t u name x) e
-              (ap (λ y. take_right y right x) (sym copy) ∙ refused)
-
-          module _ (h y : Space) (p : ℕ) (r : PortRight)
-              (taken : take_right g right x ≡ Ok (h, p))
-              (second : y ≡ (if u == t then h else space w.store u))
-              (r_is : r ≡ given x) where
-            insert_taken : call_insert_right w t task name right x ≡ inserted w t u name x (h, p)
-            insert_taken =
-                insert_by_spaces ∙ ok_bind _ (h, p) (inserted w t u name x)
-                (ap (λ z. take_right z right x) (sym copy) ∙ taken)
-
-            at_second : insert_at (if u == t then h else space w.store u) name p (given x)
-                ≡ insert_at y name p r
-            at_second = ap (λ z. insert_at z name p (given x)) (sym second)
-                ∙ ap (insert_at y name p) (sym r_is)
-
-            pub insert_not_given : (e : OrMemory Code)
-                → IsRefusal e (insert_at y name p r)
-                → IsRefusal e (call_insert_right w t task name right x)
-            insert_not_given (Fault code) refused =
-                insert_taken ∙ err_bind _ _ (Refused code) (at_second ∙ refused)
-            insert_not_given Memory refused =
-                subst IsOk (sym insert_taken)
-                (ok_goes _ _ (λ z. refl) (subst IsOk (sym at_second) refused))
-
-            pub insert_given : (z : Space) (q : PortRight) (v : World)
-                → insert_at y name p r ≡ Ok z
-                → q ≡ given x
-                → v ≡ with_store w (moved w.store t h p q u z)
-                → call_insert_right w t task name right x ≡ Ok (v, Done)
-            insert_given z q v put q_is done =
-                insert_taken ∙ ok_bind _ z _ (at_second ∙ put)
-                ∙ ap (λ (a : World). Ok (a, Done)) (sym (done
-                ∙ ap (λ k. with_store w (moved w.store t h p k u z)) q_is))
+        -- what comes of the moving comes of the call
+        pub insert_is : call_insert_right w t task name right x
+            ≡ (with_moved w t right x u name >>= λ v. Ok (v, Done))
+        unfolding with_moved ◌>>=◌
+        insert_is =
+            let last : World → Try (World × Reply) = λ v. Ok (v, Done) in
+            let done : Space × ℕ → Space → Try World = λ got y.
+            Ok (with_store w (moved w.store t got.0 got.1 (given x) u y)) in
+            let put : Space × ℕ → Try Space = λ got.
+            insert_at (space_beside w.store t u got.0) name got.1 (given x) in
+            insert_by_spaces
+            ∙ sym (bind_bind (take_right (space w.store t) right x)
+            (λ got. put got >>= done got) last
+            ∙ ap (λ (f : Space × ℕ → Try (World × Reply)).
+            take_right (space w.store t) right x >>= f)
+            (λ i got. bind_bind (put got) (done got) last i))
 
 -- extracting a right
 

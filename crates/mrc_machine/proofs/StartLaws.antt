@@ -1,7 +1,7 @@
 -- What the lines of a wiring come to, from what each step of code tells.
 use Rattle.std.proofs.Common.{◌≡◌, ℕ, ◌+◌, ◌<◌, ◌≤◌, Bool, true, false, Option, Some, None, Ok, Err}
 use Rattle.std.proofs.Common.{inl, inr, refl, sym, ◌∙◌, ap, subst, arith}
-use Rattle.std.specs.Prelude.{IsSome, is_some, unwrap_or, ◌^◌, nat_lt, IsOk}
+use Rattle.std.specs.Prelude.{IsSome, is_some, unwrap_or, nat_lt, IsOk}
 use Rattle.std.specs.Prelude.{if◌then◌else◌}
 use Rattle.std.proofs.lemmas.Bool.{lt-ltb, le-ltb, cases_eq}
 use Rattle.mrc_base.specs.Limits.{limit_of_tasks, limit_of_wired_ports}

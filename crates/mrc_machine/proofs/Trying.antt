@@ -1,6 +1,6 @@
 -- Steps that may be refused, one after the other: in whichever way they stand together.
 use Rattle.std.proofs.Common.{◌≡◌, Result, Ok, Err, refl, sym, ap, ◌∙◌, subst}
-use Rattle.std.specs.Prelude.{IsOk, IfOk, IfErr, OnErr, IsErrAnd}
+use Rattle.std.specs.Prelude.{IsOk, IfOk, IfErr, OnOk, OnErr, IsErrAnd}
 use Rattle.std.specs.Result.{result_unwrap_or}
 use Rattle.mrc_base.specs.declared.memory.OrMemory.{OrMemory}
 use Rattle.mrc_base.specs.declared.memory.OrMemory.TheVariants.{Fault, Memory}
@@ -9,7 +9,7 @@ use Rattle.mrc_names.specs.Refusals.{IsRefusal}
 use Rattle.mrc_machine.specs.declared.refusal.Refusal.{Refusal}
 use Rattle.mrc_machine.specs.Calls.{IsRefusedBy}
 use Rattle.mrc_machine.specs.Starts.{IsFaultOf}
-use Rattle.mrc_model.specs.Reply.{Reply, Done, Refused, Try, ◌>>=◌, ◌>>◌}
+use Rattle.mrc_model.specs.Reply.{Reply, Refused, Try, ◌>>=◌, ◌>>◌}
 
 -- three steps, each with what the one before gives
 pub bind_bind : {A B C : Type 0} (m : Try A) (f : A → Try B) (g : B → Try C)
@@ -44,28 +44,6 @@ pub ok_goes : {A B : Type 0} (m : Try A) (f : A → Try B)
 unfolding ◌>>=◌
 ok_goes (Ok a) f total ok = total a
 ok_goes (Err e) f total ok = ok
-
--- the same behind another step
-pub ok_after : {A B C : Type 0} (m : Try A) (f : A → Try B) (k : A → B → Try C)
-    → ((a : A) (b : B) → IsOk (k a b))
-    → IsOk (m >>= f)
-    → IsOk (m >>= λ a. f a >>= k a)
-unfolding ◌>>=◌
-ok_after (Ok a) f k total ok = ok_goes (f a) (k a) (total a) ok
-ok_after (Err e) f k total ok = ok
-
--- why a step is refused
-abbrev why : {A : Type 0} → Try A → Reply
-why (Ok a) = Done
-why (Err e) = e
-
--- what is refused is refused whatever comes behind it
-pub err_after : {A B C : Type 0} (m : Try A) (f : A → Try B) (k : A → B → Try C) (e : Reply)
-    → (m >>= f) ≡ Err e
-    → (m >>= λ a. f a >>= k a) ≡ Err e
-unfolding ◌>>=◌
-err_after (Ok a) f k e is = err_bind (f a) (k a) e is
-err_after (Err d) f k e is = ap Err (ap why is)
 
 -- what code answers for a call of which a step is the definition's
 
@@ -120,6 +98,27 @@ pub seen_as : {A B E : Type 0} (r : Result A E) (call : Try B) (f g : A → B)
     → IfOk r (λ a. call ≡ Ok (g a))
 seen_as (Ok a) call f g same is = is ∙ ap Ok (same a)
 seen_as (Err e) call f g same is = tt
+
+-- what follows where all went well
+pub on_ok : {A E : Type 0} (r : Result A E) (P Q : Type 0) → (P → Q) → OnOk r P → OnOk r Q
+on_ok (Ok a) P Q go p = go p
+on_ok (Err e) P Q go p = tt
+
+pub if_ok : {A E : Type 0} (r : Result A E) (P Q : A → Type 0)
+    → ((a : A) → P a → Q a)
+    → IfOk r P
+    → IfOk r Q
+if_ok (Ok a) P Q go p = go a p
+if_ok (Err e) P Q go p = tt
+
+pub if_ok_all : {A E : Type 0} (r : Result A E) (P Q R S : A → Type 0)
+    → ((a : A) → P a → Q a → R a → S a)
+    → IfOk r P
+    → IfOk r Q
+    → IfOk r R
+    → IfOk r S
+if_ok_all (Ok a) P Q R S go p q k = go a p q k
+if_ok_all (Err e) P Q R S go p q k = tt
 
 -- what follows from an error
 pub on_err : {A E : Type 0} (r : Result A E) (P Q : Type 0) → (P → Q) → OnErr r P → OnErr r Q

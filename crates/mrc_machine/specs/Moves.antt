@@ -26,9 +26,9 @@ limited w p limit = do
 abbrev pub space_beside : Store → ℕ → ℕ → Space → Space
 space_beside s t u x = if u == t then x else space s u
 
--- the space of u in the end, where a right of t's name n is put under a name of u: t and u may be
--- one task
-unfoldable pub second_space : Store → ℕ → ℕ → ℕ → Disp → ℕ → Try Space
-second_space s t u n x name = do
-  got ← take_right (space s t) n x
-  insert_at (space_beside s t u got.0) name got.1 (given x)
+-- the world after a right that a name n of t gives went under a name of u: t and u may be one task
+unfoldable pub with_moved : World → ℕ → ℕ → Disp → ℕ → ℕ → Try World
+with_moved w t n x u name = do
+  got ← take_right (space w.store t) n x
+  y ← insert_at (space_beside w.store t u got.0) name got.1 (given x)
+  Ok (with_store w (moved w.store t got.0 got.1 (given x) u y))

@@ -5,13 +5,41 @@ ghost use Rattle.mrc_model.specs.Map.{get};
 ghost use Rattle.mrc_model.specs.Reply.{Created};
 ghost use Rattle.mrc_model.specs.CallCreateTask.{call_create_task};
 ghost use Rattle.mrc_names.specs.Refusals.{IsRefusal};
+ghost use Rattle.mrc_model.specs.World.{Space as TSpace, space};
+ghost use Rattle.mrc_model.specs.Space.{put_entry};
+ghost use Rattle.mrc_model.specs.Target.{with_space};
+ghost use Rattle.mrc_index.specs.Undo.{CanPut};
+ghost use Rattle.mrc_names.specs.Takes.{give_right};
 ghost use Rattle.mrc_machine.specs.Housing.{target_of};
 
 use crate::state::State;
-use mrc_base::{OrMemory, PortRight, TaskId};
-use mrc_model::Code;
+use mrc_base::{OrMemory, PortId, PortRight, TaskId};
+use mrc_model::{Code, Entry};
 
 impl State {
+    /// Gives a task a right, as a receiver gets it: its name, and what stood there.
+    fn give_noted(
+        &mut self,
+        task: TaskId,
+        port: PortId,
+        right: PortRight,
+    ) -> Result<(u32, Option<Entry>), OrMemory<Code>>
+        requires { IsSome (get self.old.tasks task) }
+        ensures ok { IfOk result (λ s. (y : TSpace)
+            × (give_right (space self.old.store task) port right ≡ Ok (y, s.0))
+            × (put_entry y s.0 s.1 ≡ space self.old.store task)
+            × CanPut y s.0 s.1
+            × (self.new ≡ with_space self.old task y)) }
+        ensures refused { IfErr result
+            (λ e. IsRefusal e (give_right (space self.old.store task) port right)) }
+        ensures err { OnErr result (self.new ≡ self.old) }
+    {
+        let mut space = self.take_space(task);
+        let given = space.give(port, right);
+        self.put_space(task, space);
+        given
+    }
+
     /// Makes a task from another one: its number, and the caller's name for its kernel port.
     pub(crate) fn create_task(
         &mut self,
@@ -39,10 +67,16 @@ impl State {
         let Some(number) = self.next_task() else {
             return Err(OrMemory::Fault(Code::KernResourceShortage));
         };
-        let mut space = self.copy_space(caller)?;
-        let name = space.copyout(self.next_port(), PortRight::Send)?;
-        self.begin(number, self.task_class(target), class)?;
-        self.put_space(caller, space);
-        Ok((number, name))
+        self.housing(caller);
+        let given = self.give_noted(caller, self.next_port(), PortRight::Send)?;
+        let name = given.0;
+        let former = given.1;
+        match self.begin(number, self.task_class(target), class) {
+            Ok(()) => Ok((number, name)),
+            Err(_) => {
+                self.leave(caller, name, former);
+                Err(OrMemory::Memory)
+            }
+        }
     }
 }

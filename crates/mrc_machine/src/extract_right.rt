@@ -1,35 +1,107 @@
 //! Giving a right of a task to the caller.
 
-ghost use Rattle.std.specs.Prelude.{◌≡◌, ℕ, Some, Ok, OnErr, IfOk, IfErr, IsSome};
+ghost use Rattle.std.specs.Prelude.{◌≡◌, Some, Ok, OnErr, IfOk, IfErr, IsSome};
 ghost use Rattle.mrc_model.specs.Map.{get};
 ghost use Rattle.mrc_model.specs.World.{Space as TSpace, space};
-ghost use Rattle.mrc_model.specs.Space.{is_full};
 ghost use Rattle.mrc_model.specs.Reply.{Name};
+ghost use Rattle.mrc_model.specs.Target.{with_space};
 ghost use Rattle.mrc_model.specs.CallInsertRight.{call_extract_right};
 ghost use Rattle.mrc_names.specs.Refusals.{IsRefusal};
-ghost use Rattle.mrc_names.specs.Takes.{take_right};
+ghost use Rattle.mrc_names.specs.Takes.{give_right};
 ghost use Rattle.mrc_machine.specs.Housing.{target_of};
-ghost use Rattle.mrc_machine.specs.Moves.{space_beside};
 
 use crate::state::State;
-use mrc_base::{Disp, OrMemory, TaskId, give};
+use mrc_base::{Disp, OrMemory, PortId, PortRight, TaskId, give};
 use mrc_model::Code;
 
 impl State {
-    /// Whether the space of the second task, which may be the first, has 4,096 entries after a
-    /// right was taken from a name of the first one.
-    fn is_second_full(&self, first: TaskId, name: u32, disp: Disp, second: TaskId) -> bool
-        requires first { IsSome (get self.now.tasks first) }
-        requires second { IsSome (get self.now.tasks second) }
-        ensures { (x : TSpace) (port : ℕ) →
-            take_right (space self.now.store first) name disp ≡ Ok (x, port)
-            → result ≡ is_full (space_beside self.now.store first second x) }
+    /// Gives a task a right, as a receiver gets it: its name.
+    fn copyout(
+        &mut self,
+        task: TaskId,
+        port: PortId,
+        right: PortRight,
+    ) -> Result<u32, OrMemory<Code>>
+        requires { IsSome (get self.old.tasks task) }
+        ensures ok { IfOk result (λ name. (y : TSpace)
+            × (give_right (space self.old.store task) port right ≡ Ok (y, name))
+            × (self.new ≡ with_space self.old task y)) }
+        ensures refused { IfErr result
+            (λ e. IsRefusal e (give_right (space self.old.store task) port right)) }
+        ensures err { OnErr result (self.new ≡ self.old) }
     {
-        if second.0 == first.0 {
-            self.space(first).is_full_after(name, disp)
-        } else {
-            self.space(second).is_full()
+        let mut space = self.take_space(task);
+        let given = space.copyout(port, right);
+        self.put_space(task, space);
+        given
+    }
+
+    /// Gives a right of another task to the caller, and answers its name. What can fail comes
+    /// first.
+    fn extract_across(
+        &mut self,
+        caller: TaskId,
+        task: u32,
+        target: TaskId,
+        name: u32,
+        disp: Disp,
+    ) -> Result<u32, OrMemory<Code>>
+        requires caller { IsSome (get self.old.tasks caller) }
+        requires target { target_of self.old caller task ≡ Some target }
+        requires there { IsSome (get self.old.tasks target) }
+        requires apart { caller ≡ target → ⊥ }
+        ensures ok { IfOk result (λ given.
+            call_extract_right self.old caller task name disp ≡ Ok (self.new, Name given)) }
+        ensures refused { IfErr result
+            (λ e. IsRefusal e (call_extract_right self.old caller task name disp)) }
+        ensures err { OnErr result (self.new ≡ self.old) }
+    {
+        let (port, rest) = match self.space(target).parting(name, disp) {
+            Ok(taken) => taken,
+            Err(code) => return Err(OrMemory::Fault(code)),
+        };
+        if self.space(caller).is_full() {
+            return Err(OrMemory::Fault(Code::KernNoSpace));
         }
+        let right = give(disp);
+        let given = self.copyout(caller, port, right)?;
+        self.leave(target, name, rest);
+        self.restart_moved(right, port);
+        Ok(given)
+    }
+
+    /// Gives a right of the caller to the caller, and answers its name.
+    fn extract_within(
+        &mut self,
+        caller: TaskId,
+        task: u32,
+        name: u32,
+        disp: Disp,
+    ) -> Result<u32, OrMemory<Code>>
+        requires caller { IsSome (get self.old.tasks caller) }
+        requires target { target_of self.old caller task ≡ Some caller }
+        ensures ok { IfOk result (λ given.
+            call_extract_right self.old caller task name disp ≡ Ok (self.new, Name given)) }
+        ensures refused { IfErr result
+            (λ e. IsRefusal e (call_extract_right self.old caller task name disp)) }
+        ensures err { OnErr result (self.new ≡ self.old) }
+    {
+        if let Err(code) = self.space(caller).peek(name, disp) {
+            return Err(OrMemory::Fault(code));
+        }
+        if self.space(caller).is_full_after(name, disp) {
+            return Err(OrMemory::Fault(Code::KernNoSpace));
+        }
+        let mut space = self.copy_space(caller)?;
+        let port = match space.take(name, disp) {
+            Ok(port) => port,
+            Err(code) => return Err(OrMemory::Fault(code)),
+        };
+        let right = give(disp);
+        let given = space.copyout(port, right)?;
+        self.put_space(caller, space);
+        self.restart_moved(right, port);
+        Ok(given)
     }
 
     /// Gives a right of the task to the caller, and answers its name.
@@ -50,20 +122,9 @@ impl State {
             (λ e. IsRefusal e (call_extract_right self.old caller task name disp)) }
         ensures err { OnErr result (self.new ≡ self.old) }
     {
-        if let Err(code) = self.space(target).peek(name, disp) {
-            return Err(OrMemory::Fault(code));
+        if target.0 == caller.0 {
+            return self.extract_within(caller, task, name, disp);
         }
-        if self.is_second_full(target, name, disp, caller) {
-            return Err(OrMemory::Fault(Code::KernNoSpace));
-        }
-        let mut giver = self.copy_space(target)?;
-        let port = match giver.take(name, disp) {
-            Ok(port) => port,
-            Err(code) => return Err(OrMemory::Fault(code)),
-        };
-        let mut taker = self.copy_second(target, &giver, caller)?;
-        let given = taker.copyout(port, give(disp))?;
-        self.move_right(target, giver, port, give(disp), caller, taker);
-        Ok(given)
+        self.extract_across(caller, task, target, name, disp)
     }
 }

@@ -2,20 +2,19 @@
 
 ghost use Rattle.std.specs.Prelude.{◌≡◌, ◌||◌, Some, Ok, OnOk, OnErr, IfOk, IfErr, IsSome};
 ghost use Rattle.mrc_model.specs.Map.{get};
-ghost use Rattle.mrc_model.specs.World.{space};
+ghost use Rattle.mrc_model.specs.World.{Space as TSpace, space};
+ghost use Rattle.mrc_model.specs.Space.{insert_at};
 ghost use Rattle.mrc_model.specs.Reply.{Done};
-ghost use Rattle.mrc_model.specs.Target.{is_reserved};
+ghost use Rattle.mrc_model.specs.Target.{is_reserved, with_space};
 ghost use Rattle.mrc_model.specs.CallSend.{dead_taken, is_dead_taken};
 ghost use Rattle.mrc_model.specs.CallInsertRight.{call_insert_right};
-ghost use Rattle.mrc_names.specs.Refusals.{IsRefusal, Foretells};
+ghost use Rattle.mrc_names.specs.Refusals.{IsRefusal};
 ghost use Rattle.mrc_machine.specs.Housing.{target_of};
-ghost use Rattle.mrc_machine.specs.Moves.{space_beside, second_space};
+ghost use Rattle.mrc_machine.specs.Moves.{with_moved};
 
 use crate::state::State;
-use mrc_base::{Disp, OrMemory, TaskId, give};
+use mrc_base::{Disp, OrMemory, PortId, PortRight, TaskId, give};
 use mrc_model::{Code, Entry};
-use mrc_names::Space;
-use std::alloc::AllocError;
 
 /// Whether the name stands for no entry: 0 is MACH_PORT_NULL, 0xffffffff MACH_PORT_DEAD.
 fn is_reserved(name: u32) -> bool
@@ -48,43 +47,77 @@ impl State {
         is_reserved(name) || gives_dead(self.space(task).get(name), disp)
     }
 
-    /// Whether the right that a task takes from a name can be put under a name of the second task,
-    /// which may be the same, or how it is refused.
-    fn foretell_second(
-        &self,
+    /// Puts a right on a port under a name of a task.
+    fn insert_at(
+        &mut self,
+        task: TaskId,
+        name: u32,
+        port: PortId,
+        right: PortRight,
+    ) -> Result<(), OrMemory<Code>>
+        requires { IsSome (get self.old.tasks task) }
+        ensures ok { OnOk result ((y : TSpace)
+            × (insert_at (space self.old.store task) name port right ≡ Ok y)
+            × (self.new ≡ with_space self.old task y)) }
+        ensures refused { IfErr result
+            (λ e. IsRefusal e (insert_at (space self.old.store task) name port right)) }
+        ensures err { OnErr result (self.new ≡ self.old) }
+    {
+        let mut space = self.take_space(task);
+        let put = space.insert_at(name, port, right);
+        self.put_space(task, space);
+        put
+    }
+
+    /// Puts a right that is taken from a name of a task under a name of the same task.
+    fn insert_within(
+        &mut self,
+        task: TaskId,
+        from: u32,
+        disp: Disp,
+        name: u32,
+    ) -> Result<(), OrMemory<Code>>
+        requires { IsSome (get self.old.tasks task) }
+        ensures ok { OnOk result (with_moved self.old task from disp task name ≡ Ok self.new) }
+        ensures refused { IfErr result
+            (λ e. IsRefusal e (with_moved self.old task from disp task name)) }
+        ensures err { OnErr result (self.new ≡ self.old) }
+    {
+        let mut space = self.take_space(task);
+        let moved = space.move_right(from, disp, name);
+        self.put_space(task, space);
+        let port = moved?;
+        self.restart_moved(give(disp), port);
+        Ok(())
+    }
+
+    /// Puts a right that is taken from a name of a task under a name of another task. What can fail
+    /// comes first.
+    fn insert_across(
+        &mut self,
         first: TaskId,
         from: u32,
         disp: Disp,
         second: TaskId,
         name: u32,
-    ) -> Result<(), Code>
-        requires first { IsSome (get self.now.tasks first) }
-        requires second { IsSome (get self.now.tasks second) }
-        ensures { Foretells result (second_space self.now.store first second from disp name) }
+    ) -> Result<(), OrMemory<Code>>
+        requires first { IsSome (get self.old.tasks first) }
+        requires second { IsSome (get self.old.tasks second) }
+        requires apart { second ≡ first → ⊥ }
+        ensures ok { OnOk result (with_moved self.old first from disp second name ≡ Ok self.new) }
+        ensures refused { IfErr result
+            (λ e. IsRefusal e (with_moved self.old first from disp second name)) }
+        ensures err { OnErr result (self.new ≡ self.old) }
     {
-        if second.0 == first.0 {
-            return self.space(first).foretell_move(from, disp, name);
-        }
-        let port = self.space(first).peek(from, disp)?;
-        self.space(second).foretell_insert(name, port, give(disp))
-    }
-
-    /// A copy of the second task's space, where the first one's is this from here on.
-    pub(crate) fn copy_second(
-        &self,
-        first: TaskId,
-        changed: &Space,
-        second: TaskId,
-    ) -> Result<Space, AllocError>
-        requires { IsSome (get self.now.tasks second) }
-        ensures { IfOk result (λ copy.
-            copy ≡ space_beside self.now.store first second changed.now) }
-    {
-        if second.0 == first.0 {
-            self.copy_of(changed)
-        } else {
-            self.copy_space(second)
-        }
+        let (port, rest) = match self.space(first).parting(from, disp) {
+            Ok(taken) => taken,
+            Err(code) => return Err(OrMemory::Fault(code)),
+        };
+        let right = give(disp);
+        self.insert_at(second, name, port, right)?;
+        self.leave(first, from, rest);
+        self.restart_moved(right, port);
+        Ok(())
     }
 
     /// Puts a right of the caller under a name of the task.
@@ -112,17 +145,9 @@ impl State {
         if self.gives_none(caller, right, disp) {
             return Err(OrMemory::Fault(Code::KernInvalidCapability));
         }
-        if let Err(code) = self.foretell_second(caller, right, disp, target, name) {
-            return Err(OrMemory::Fault(code));
+        if target.0 == caller.0 {
+            return self.insert_within(caller, right, disp, name);
         }
-        let mut giver = self.copy_space(caller)?;
-        let port = match giver.take(right, disp) {
-            Ok(port) => port,
-            Err(code) => return Err(OrMemory::Fault(code)),
-        };
-        let mut taker = self.copy_second(caller, &giver, target)?;
-        taker.insert_at(name, port, give(disp))?;
-        self.move_right(caller, giver, port, give(disp), target, taker);
-        Ok(())
+        self.insert_across(caller, right, disp, target, name)
     }
 }

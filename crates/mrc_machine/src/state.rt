@@ -9,7 +9,8 @@ ghost use Rattle.mrc_model.specs.CallCreateTask.{limit_of_task_numbers};
 ghost use Rattle.mrc_model.specs.Rights.{is_receive};
 ghost use Rattle.mrc_model.specs.Map.{empty, get, insert, len, next_key};
 ghost use Rattle.mrc_model.specs.World.{space, task_class, Task as TTask};
-ghost use Rattle.mrc_model.specs.Space.{is_full, unused, restart_if};
+ghost use Rattle.mrc_model.specs.Space.{is_full, unused, put_entry, restart_if};
+ghost use Rattle.mrc_index.specs.Undo.{CanPut};
 ghost use Rattle.mrc_model.specs.Reply.{Refused};
 ghost use Rattle.mrc_model.specs.First.{no_world};
 ghost use Rattle.mrc_model.specs.CallAllocate.{birth};
@@ -21,7 +22,7 @@ ghost use Rattle.mrc_model.specs.Breach.{holdings};
 ghost use Rattle.mrc_machine.specs.Holdings.{holdings_of};
 ghost use Rattle.mrc_machine.specs.Housing.{AreByKernel, kernel_place, target_of};
 ghost use Rattle.mrc_names.specs.Refusals.{IsRefusal};
-ghost use Rattle.mrc_machine.specs.Moves.{moved, limited};
+ghost use Rattle.mrc_machine.specs.Moves.{limited};
 ghost use Rattle.mrc_machine.specs.Requests.{with_backup};
 ghost use Rattle.mrc_machine.specs.Endings.{with_end};
 ghost use Rattle.mrc_model.specs.Destroyed.{destroyed};
@@ -194,13 +195,6 @@ impl State {
         self.space(task).copy()
     }
 
-    /// A copy of a space.
-    pub(crate) fn copy_of(&self, space: &Space) -> Result<Space, AllocError>
-        ensures { IfOk result (λ copy. copy ≡ space.now) }
-    {
-        space.copy()
-    }
-
     /// All names of a task with their rights.
     pub(crate) fn listing(&self, task: TaskId) -> Result<Listing, AllocError>
         requires { IsSome (get self.now.tasks task) }
@@ -252,7 +246,7 @@ impl State {
     }
 
     /// The port's receipts are 0 again, if it is the receive right that has moved.
-    fn restart_moved(&mut self, right: PortRight, port: PortId)
+    pub(crate) fn restart_moved(&mut self, right: PortRight, port: PortId)
         ensures { self.new ≡ with_store self.old
             (restart_if (is_receive right) self.old.store port) }
     {
@@ -261,25 +255,16 @@ impl State {
         }
     }
 
-    /// Puts the spaces of two tasks, which may be one, after a right on the port has gone from the
-    /// first to the second.
-    pub(crate) fn move_right(
-        &mut self,
-        giving: TaskId,
-        giver: Space,
-        port: PortId,
-        right: PortRight,
-        taking: TaskId,
-        taker: Space,
-    )
-        requires giving { IsSome (get self.old.tasks giving) }
-        requires taking { IsSome (get self.old.tasks taking) }
-        ensures { self.new ≡ with_store self.old
-            (moved self.old.store giving giver port right taking taker) }
+    /// A name of a task has this from here on: nothing, or an entry of the same port and kind.
+    pub(crate) fn leave(&mut self, task: TaskId, name: u32, rest: Option<Entry>)
+        requires there { IsSome (get self.old.tasks task) }
+        requires left { CanPut (space self.old.store task) name rest }
+        ensures { self.new ≡ with_space self.old task
+            (put_entry (space self.old.store task) name rest) }
     {
-        self.put_space(giving, giver);
-        self.restart_moved(right, port);
-        self.put_space(taking, taker);
+        let mut space = self.take_space(task);
+        space.leave(name, rest);
+        self.put_space(task, space);
     }
 
     /// Sets how many messages the queue of a port takes. Refused where no live port has this

@@ -1,10 +1,10 @@
-//! Receiving by a plan.
+//! Receiving from a store.
 
 use mrc_base::{ClassId, OrMemory, PortId, PortRight, TaskId};
 use mrc_model::{Code, Entry, Item};
 use mrc_names::Space;
 use mrc_ports::{Parcel, Shortage, Store};
-use mrc_transit::{ReceiveFault, Written, copy_out};
+use mrc_transit::{ReceiveFault, receive};
 use std::alloc::{AllocError, Global};
 use std::test::Fail;
 
@@ -62,22 +62,19 @@ const WRITTEN: [u8; 24] = [
 ];
 
 /// Why task A receives nothing by a name.
-fn why(alloc: Global, store: &Store, name: u32, limit: u32) -> Option<ReceiveFault> {
-    match copy_out(alloc, store, A, name, limit) {
+fn why(alloc: Global, store: &mut Store, name: u32, limit: u32) -> Option<ReceiveFault> {
+    match receive(alloc, store, A, name, limit) {
         Err(OrMemory::Fault(fault)) => Some(fault),
         _ => None,
     }
 }
 
-/// Receives by name 1.
-fn receive(alloc: Global, store: &mut Store) -> Option<Written> {
-    let plan = copy_out(alloc, store, A, 1, 24).ok()?;
-    Some(plan.apply(store))
-}
-
 /// Whether task A receives the message by name 1.
 fn receives(alloc: Global, store: &mut Store) -> bool {
-    receive(alloc, store).is_some_and(|bytes| bytes.as_slice() == WRITTEN.as_slice())
+    match receive(alloc, store, A, 1, 24) {
+        Ok(bytes) => bytes.as_slice() == WRITTEN.as_slice(),
+        Err(_) => false,
+    }
 }
 
 fn entry_of(store: &Store, name: u32) -> Option<Entry> {
@@ -87,7 +84,7 @@ fn entry_of(store: &Store, name: u32) -> Option<Entry> {
 #[test]
 fn a_message_is_received(rt: HostRuntime) -> Result<(), Fail> {
     let mut store = waiting(rt.alloc())?;
-    assert!(rt; why(rt.alloc(), &store, 1, 23) == Some(ReceiveFault::TooLarge(24)));
+    assert!(rt; why(rt.alloc(), &mut store, 1, 23) == Some(ReceiveFault::TooLarge(24)));
     assert!(rt; receives(rt.alloc(), &mut store));
     let reply = Entry::SendOnce { port: PortId(1) };
     assert!(rt; entry_of(&store, 2) == Some(reply));
@@ -103,9 +100,9 @@ fn take_off(store: &mut Store) {
 fn nothing_is_received(rt: HostRuntime) -> Result<(), Fail> {
     let mut store = waiting(rt.alloc())?;
     let invalid = ReceiveFault::Refused(Code::MachRcvInvalidName);
-    assert!(rt; why(rt.alloc(), &store, 2, 24) == Some(invalid));
+    assert!(rt; why(rt.alloc(), &mut store, 2, 24) == Some(invalid));
     take_off(&mut store);
     let empty = ReceiveFault::Refused(Code::MachRcvTimedOut);
-    assert!(rt; why(rt.alloc(), &store, 1, 24) == Some(empty));
+    assert!(rt; why(rt.alloc(), &mut store, 1, 24) == Some(empty));
     Ok(())
 }

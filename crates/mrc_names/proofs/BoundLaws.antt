@@ -3,9 +3,7 @@ use Rattle.std.proofs.Common.{◌≡◌, ℕ, ◌+◌, ◌<◌, ◌≤◌, ◌^�
 use Rattle.std.proofs.Common.{refl, sym, ◌∙◌, ap, subst, arith}
 use Rattle.std.specs.Prelude.{IsSome}
 use Rattle.std.proofs.lemmas.Bool.{leb-false}
-use Rattle.mrc_base.specs.declared.Disp.{Disp}
 use Rattle.mrc_model.specs.declared.Entry.{Entry}
-use Rattle.mrc_model.specs.CallSend.{dead_taken}
 use Rattle.mrc_model.specs.Map.{empty, get, insert, remove, alter_all, all_but, len}
 use Rattle.mrc_model.specs.World.{Space}
 use Rattle.mrc_model.specs.Space.{is_full, entry_of}
@@ -79,14 +77,7 @@ bounded_altered x g b = record {
 pub bounded_less : (x : Space) (n : ℕ) → IsBounded x → IsBounded (remove x n)
 bounded_less x n b = bounded_altered x (all_but n) b
 
--- the name of a port's entry is short
-pub found_short : (x : Space) (p : ℕ) (f : ℕ × Entry)
-    → IsBounded x
-    → entry_of x p ≡ Some f
-    → f.0 < 2 ^ 32
-found_short x p f b is = b.short f.0 f.1 (entry_of-some x p f is).0
-
--- it has an entry
+-- the name of a port's entry has one
 pub found_used : (x : Space) (p : ℕ) (f : ℕ × Entry)
     → entry_of x p ≡ Some f
     → IsSome (get x f.0)
@@ -100,10 +91,3 @@ pub used_at : (inside x : Space) (m n : ℕ) (e : Entry)
     → IsSome (get inside m)
 used_at inside x m n e view name at =
     subst IsSome (sym (ap (λ y. get y m) view ∙ ap (get x) name ∙ at)) refl
-
--- what gives a dead right is there
-pub dead_used : (o : Option Entry) (d : Disp) (rest : Option Entry)
-    → dead_taken o d ≡ Some rest
-    → IsSome o
-dead_used None d rest is = absurd (not_None rest (sym is))
-dead_used (Some e) d rest is = refl

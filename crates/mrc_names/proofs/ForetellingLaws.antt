@@ -1,5 +1,5 @@
 -- A space once a name has no more than the rest: what it has of a port and of a name.
-use Rattle.std.proofs.Common.{◌≡◌, ℕ, Bool, true, false, inl, inr, [], ◌∷◌}
+use Rattle.std.proofs.Common.{◌≡◌, ℕ, Bool, true, false, inl, inr}
 use Rattle.std.proofs.Common.{Option, Some, None, Ok, Err, refl, sym, ◌∙◌, ap, subst, arith, Result}
 use Rattle.std.proofs.Common.{◌==◌, nat_le, if◌then◌else◌}
 use Rattle.std.specs.Prelude.{IsSome, ◌&&◌}
@@ -8,7 +8,7 @@ use Rattle.std.specs.Option.{is_some}
 use Rattle.std.proofs.lemmas.Bool.{cases_eq, eq-eqb, ne_eqb, lt-leb}
 use Rattle.mrc_model.specs.declared.Entry.{Entry}
 use Rattle.mrc_model.specs.declared.Code.{Code}
-use Rattle.mrc_model.specs.Map.{get, insert, remove, len}
+use Rattle.mrc_model.specs.Map.{get, remove, len}
 use Rattle.mrc_model.specs.World.{Space}
 use Rattle.mrc_model.specs.Space.{put_entry, is_full}
 use Rattle.mrc_model.proofs.Maps.{if_true, if_false, get-insert}
@@ -83,10 +83,3 @@ pub move_refused : (x : Space) (n m : ℕ) (d : Disp) (code : Code)
     → move_right x n d m ≡ Err (Refused code)
 unfolding move_right ◌>>=◌
 move_refused x n m d code refused = rw refused refl
-
--- what is refused gives no space
-pub never_taken : (x y : Space) (n p : ℕ) (d : Disp) (code : Code)
-    → take_right x n d ≡ Err (Refused code)
-    → take_right x n d ≡ Ok (y, p)
-    → ⊥
-never_taken x y n p d code one two = let both = sym one ∙ two in cc

@@ -1,6 +1,7 @@
 -- What giving a right to a space comes to, exit by exit.
 use Rattle.std.proofs.Common.{◌≡◌, ℕ, ◌+◌, Bool, true, false, Option, Some, None, Ok, Err}
 use Rattle.std.proofs.Common.{inl, inr, refl, sym, ◌∙◌, ap, arith}
+use Rattle.std.specs.Prelude.{IfSome, IfNone}
 use Rattle.std.proofs.lemmas.Bool.{leb-true, leb-false, lt-ltb, le-ltb, cases_Bool}
 use Rattle.mrc_base.specs.declared.PortRight.{PortRight}
 use Rattle.mrc_base.specs.declared.PortRight.TheVariants.{Send, Receive, SendOnce}
@@ -107,6 +108,15 @@ unfolding give_right placed
 given_joined x p Send f b other is = at_join x p Send f (entry_of x p) b is is
 given_joined x p Receive f b other is = at_join x p Receive f (entry_of x p) b is is
 given_joined x p SendOnce f b other is = absurd (other refl)
+
+-- the entry that a right joins, as code finds it
+pub join_cases : (o : Option (ℕ × Entry)) (x : Space) (p : ℕ) (r : PortRight)
+    → o ≡ entry_of x p
+    → (r ≡ SendOnce → ⊥)
+    → IfSome o (λ held. (r ≡ SendOnce → ⊥) × (entry_of x p ≡ Some held))
+    × IfNone o (give_right x p r ≡ give_new x p r)
+join_cases None x p r is other = (tt, given_unknown x p r other (sym is))
+join_cases (Some f) x p r is other = ((other, sym is), tt)
 
 -- a new name, from what each step of code tells
 pub given_as_new : (x y : Space) (p : ℕ) (r : PortRight) (name : ℕ) (e : Entry)

@@ -8,3 +8,5 @@ pub mod ListingLaws
 pub mod ForetellingLaws
 pub mod DroppingLaws
 pub mod ChangingLaws
+pub mod LeavingLaws
+pub mod MovingLaws

@@ -1,6 +1,6 @@
 -- Taking a right from a name, and giving one, for a space alone.
 -- From Mach 3 Kernel Interfaces, "Port rights" and mach_port_rename.
-use Rattle.std.specs.Prelude.{ℕ, Bool, true, false, Ok, Option, Some, None, ◌==◌, if◌then◌else◌}
+use Rattle.std.specs.Prelude.{ℕ, Ok}
 use Rattle.mrc_base.specs.declared.Disp.{Disp}
 use Rattle.mrc_base.specs.declared.PortRight.{PortRight}
 use Rattle.mrc_base.specs.Disposition.{given}
@@ -27,12 +27,6 @@ unfoldable pub taken_port : Space → ℕ → Disp → Try ℕ
 taken_port x n d = do
   (y, p) ← take_right x n d
   Ok p
-
--- whether a dead name gives a dead right, and the space after that: where it does, this is left of
--- the name's entry
-abbrev pub dead_left : Space → ℕ → Option (Option Entry) → Bool × Space
-dead_left x n None = (false, x)
-dead_left x n (Some rest) = (true, put_entry x n rest)
 
 -- the space after a right was taken from a name and put under another one
 unfoldable pub move_right : Space → ℕ → Disp → ℕ → Try Space

@@ -6,7 +6,7 @@ ghost use Rattle.mrc_model.specs.Map.{get};
 ghost use Rattle.mrc_model.specs.Reply.{Refused};
 ghost use Rattle.mrc_model.specs.Space.{put_entry};
 ghost use Rattle.mrc_model.specs.declared.Entry.{Entry as TEntry};
-ghost use Rattle.mrc_index.specs.Names.{IsRestOf};
+ghost use Rattle.mrc_index.specs.Undo.{CanPut};
 ghost use Rattle.mrc_names.specs.Changes.{change_of, changed, drop_refs, drop_reference, without};
 ghost use Rattle.mrc_names.specs.Changes.{new_set, move_member, IsChangeOf};
 
@@ -18,9 +18,10 @@ use mrc_index::entry::is_set;
 use mrc_model::{Code, Entry};
 
 impl Space {
-    /// The name holds this from here on.
-    fn leave(&mut self, name: u32, rest: Option<Entry>)
-        requires { (e : TEntry) × (get self.old name ≡ Some e) × IsRestOf e rest }
+    /// The name has this from here on: nothing, or an entry of the same port and kind. It takes no
+    /// memory.
+    pub fn leave(&mut self, name: u32, rest: Option<Entry>)
+        requires { CanPut self.old name rest }
         ensures { self.new ≡ put_entry self.old name rest }
     {
         match rest {

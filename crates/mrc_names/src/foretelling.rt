@@ -87,22 +87,8 @@ fn foretell(
 }
 
 impl Space {
-    /// What `insert_at` would answer, as far as memory lasts.
-    pub fn foretell_insert(&self, name: u32, port: PortId, right: PortRight) -> Result<(), Code>
-        ensures { Foretells result (insert_at self.now name port right) }
-    {
-        foretell(
-            self.find(port),
-            self.get(name),
-            self.is_full(),
-            name,
-            port,
-            right,
-        )
-    }
-
     /// The entry of a name, once another one has no more than the rest.
-    fn held_left(&self, from: u32, rest: Option<Entry>, to: u32) -> Option<Entry>
+    pub(crate) fn held_left(&self, from: u32, rest: Option<Entry>, to: u32) -> Option<Entry>
         ensures { result ≡ (if to == from then rest else get self.now to) }
     {
         if to == from { rest } else { self.get(to) }

@@ -5,12 +5,17 @@ mod changing;
 mod dropping;
 mod entry;
 mod foretelling;
+mod giving;
+mod leaving;
 mod listing;
+mod moving;
 mod perishing;
 mod space;
 mod types;
 
 pub use dropping::Dropped;
+pub use giving::Giving;
+pub use leaving::{Changes, Leaving};
 pub use listing::{Listing, NamedType, NamesRoom};
 pub use space::Space;
 pub use types::PortType;

@@ -2,8 +2,9 @@
 
 ghost use Rattle.std.specs.Prelude.{◌≡◌, ◌==◌, ℕ, Option, Ok, Err, Some, None, IfOk, OnOk};
 ghost use Rattle.std.specs.Prelude.{OnErr, IfErr, IsSome, false, option_map, map};
-ghost use Rattle.std.specs.Prelude.{is_some, ◌&&◌};
-ghost use Rattle.mrc_model.specs.Map.{empty, get, insert, len};
+ghost use Rattle.std.specs.Prelude.{is_some, ◌&&◌, IfSome, IfNone};
+ghost use Rattle.mrc_base.specs.declared.PortRight.TheVariants.{SendOnce};
+ghost use Rattle.mrc_model.specs.Map.{empty, get, insert, remove, len};
 ghost use Rattle.mrc_model.specs.Space.{entry_of, is_full, insert_at, insert_new};
 ghost use Rattle.mrc_model.specs.Space.{insert_joined, is_other, unused};
 ghost use Rattle.mrc_model.specs.Space.{put_entry};
@@ -16,8 +17,7 @@ ghost use Rattle.mrc_names.specs.Bounds.{IsBounded};
 ghost use Rattle.mrc_names.specs.Listings.{entry_name};
 ghost use Rattle.mrc_names.specs.Refusals.{IsRefusal};
 ghost use Rattle.mrc_names.specs.Takes.{take_right, taken_port, give_right, give_new, add_entry};
-ghost use Rattle.mrc_names.specs.Takes.{rename_entry, dead_left};
-ghost use Rattle.mrc_model.specs.CallSend.{dead_taken};
+ghost use Rattle.mrc_names.specs.Takes.{rename_entry};
 
 use crate::entry;
 use crate::listing::{Listing, NamedType};
@@ -144,8 +144,9 @@ impl Space {
         })
     }
 
-    /// The port of the right that `take` takes, and what is left of the entry; or its refusal.
-    pub(crate) fn parting(&self, name: u32, disp: Disp) -> Result<(PortId, Option<Entry>), Code>
+    /// The port of the right that `take` takes, and what is left of the entry, which `leave` puts
+    /// there; or its refusal.
+    pub fn parting(&self, name: u32, disp: Disp) -> Result<(PortId, Option<Entry>), Code>
         ensures found { IfOk result (λ t.
             take_right self.now name disp ≡ Ok (put_entry self.now name t.1, t.0)) }
         ensures there { OnOk result (IsSome (get self.now name)) }
@@ -198,27 +199,6 @@ impl Space {
             None => {
                 let _ = self.entries.remove(name);
                 Ok(port)
-            }
-        }
-    }
-
-    /// Takes a dead right from a dead name, by a disposition that moves or copies what it stands
-    /// for: a move takes one reference, a copy none. False where the name gives no dead right.
-    pub fn take_dead(&mut self, name: u32, disp: Disp) -> bool
-        ensures { dead_left self.old name (dead_taken (get self.old name) disp)
-            ≡ (result, self.new) }
-    {
-        let Some(rest) = entry::dead_taken(self.get(name), disp) else {
-            return false;
-        };
-        match rest {
-            Some(left) => {
-                self.entries.set(name, left);
-                true
-            }
-            None => {
-                let _ = self.entries.remove(name);
-                true
             }
         }
     }
@@ -345,6 +325,7 @@ impl Space {
     /// Gives a right the least unused name.
     fn give_new(&mut self, port: PortId, right: PortRight) -> Result<u32, OrMemory<Code>>
         ensures ok { IfOk result (λ name. give_new self.old port right ≡ Ok (self.new, name)) }
+        ensures back { IfOk result (λ name. remove self.new name ≡ self.old) }
         ensures refused { IfErr result (λ e. IsRefusal e (give_new self.old port right)) }
         ensures err { OnErr result (self.new ≡ self.old) }
     {
@@ -356,6 +337,44 @@ impl Space {
         Ok(name)
     }
 
+    /// The entry that a right joins: the port's, if it has one. A send-once right joins none.
+    fn to_join(&self, port: PortId, right: PortRight) -> Option<(u32, Entry)>
+        ensures some { IfSome result (λ held. (right ≡ SendOnce → ⊥)
+            × (entry_of self.now port ≡ Some held)) }
+        ensures none { IfNone result (give_right self.now port right
+            ≡ give_new self.now port right) }
+    {
+        if let PortRight::SendOnce = right {
+            return None;
+        }
+        self.find_entry(port)
+    }
+
+    /// Gives a right, as `copyout` does: its name, and what stood there, with which `leave` takes
+    /// it back without memory.
+    pub fn give(
+        &mut self,
+        port: PortId,
+        right: PortRight,
+    ) -> Result<(u32, Option<Entry>), OrMemory<Code>>
+        ensures ok { IfOk result (λ s. give_right self.old port right ≡ Ok (self.new, s.0)) }
+        ensures back { IfOk result (λ s. put_entry self.new s.0 s.1 ≡ self.old) }
+        ensures ready { IfOk result (λ s. CanPut self.new s.0 s.1) }
+        ensures refused { IfErr result (λ e. IsRefusal e (give_right self.old port right)) }
+        ensures err { OnErr result (self.new ≡ self.old) }
+    {
+        match self.to_join(port, right) {
+            None => {
+                let name = self.give_new(port, right)?;
+                Ok((name, None))
+            }
+            Some(held) => {
+                self.entries.set(held.0, joined(held.1, right));
+                Ok((held.0, Some(held.1)))
+            }
+        }
+    }
+
     /// Gives a right, as a receiver gets it: a send or receive right joins the port's entry, where
     /// there is one; else it takes the least unused name, which is answered. A send reference above
     /// 65,535 is dropped. Refused where the space would have more than 4,096 entries
@@ -365,14 +384,8 @@ impl Space {
         ensures refused { IfErr result (λ e. IsRefusal e (give_right self.old port right)) }
         ensures err { OnErr result (self.new ≡ self.old) }
     {
-        if let PortRight::SendOnce = right {
-            return self.give_new(port, right);
-        }
-        let Some(held) = self.find_entry(port) else {
-            return self.give_new(port, right);
-        };
-        self.entries.set(held.0, joined(held.1, right));
-        Ok(held.0)
+        let given = self.give(port, right)?;
+        Ok(given.0)
     }
 
     /// How many references of a right a name has: 1 for a right that is there once, 0 for one that

@@ -1,5 +1,5 @@
 -- What carrying out a plan comes to.
-use Rattle.std.proofs.Common.{◌≡◌, ℕ, ◌+◌, ◌<◌, ◌≤◌, true, false, List, [], ◌∷◌, length, drop}
+use Rattle.std.proofs.Common.{◌≡◌, ℕ, ◌≤◌, true, false, List, [], ◌∷◌, length, drop}
 use Rattle.std.proofs.Common.{Option, Some, None, Result, Ok, Err, refl, inl, inr}
 use Rattle.std.proofs.Common.{sym, ◌∙◌, ap, subst}
 use Rattle.std.specs.Prelude.{IsOk, is_err}
@@ -12,7 +12,7 @@ use Rattle.mrc_model.proofs.Maps.{same_Some, get-insert_same, get-insert_other}
 use Rattle.mrc_ports.specs.Queues.{is_full_for, with_message}
 use Rattle.mrc_filter.proofs.Shapes.{past}
 use Rattle.mrc_transit.specs.Staging.{restart_each, staged}
-use Rattle.mrc_transit.specs.SendPlans.{SendPlan, sent, IsReady}
+use Rattle.mrc_transit.specs.SendPlans.{SendPlan, sent, taking_of, IsReady}
 
 -- the receipts of ports, one after the other
 
@@ -21,6 +21,17 @@ pub restart_done : (s z : Store) (k : ℕ) (ps : List ℕ)
     → length ps ≤ k
     → restart_each s ps ≡ z
 restart_done s z k ps far most = far ∙ ap (restart_each z) (past ps k most)
+
+-- what is put and restarted is what the plan leaves of the takings
+pub put_staged : (s m z : Store) (plan : SendPlan)
+    → m ≡ set_space s plan.sender (taking_of s plan).space
+    → (ps : List ℕ)
+    → z ≡ restart_each m ps
+    → ps ≡ plan.moved
+    → z ≡ staged s plan.sender (taking_of s plan)
+unfolding staged
+put_staged s m z plan put ps left same =
+    left ∙ ap (restart_each m) same ∙ ap (λ k. restart_each k plan.moved) put
 
 -- no space but the sender's changes
 
@@ -42,11 +53,11 @@ append_spaces s p m None = refl
 append_spaces s p m (Some x) = refl
 
 pub sent_spaces : (s : Store) (plan : SendPlan)
-    → (sent s plan).spaces ≡ insert s.spaces plan.sender plan.taking.space
+    → (sent s plan).spaces ≡ insert s.spaces plan.sender (taking_of s plan).space
 unfolding sent staged append
 sent_spaces s plan =
     append_spaces _ plan.destination plan.parcel _
-    ∙ each_spaces plan.taking.moved (set_space s plan.sender plan.taking.space)
+    ∙ each_spaces plan.moved (set_space s plan.sender (taking_of s plan).space)
 
 -- and no port is born
 
@@ -70,7 +81,7 @@ pub sent_next : (s : Store) (plan : SendPlan) → (sent s plan).next ≡ s.next
 unfolding sent staged append
 sent_next s plan =
     append_next _ plan.destination plan.parcel _
-    ∙ each_next plan.taking.moved (set_space s plan.sender plan.taking.space)
+    ∙ each_next plan.moved (set_space s plan.sender (taking_of s plan).space)
 
 -- a live port keeps its queue and its limit
 
@@ -121,7 +132,7 @@ ok_fails (Ok a) ok err = cc
 ok_fails (Err b) ok err = cc
 
 module _ {A B : Type 0} (s z v : Store) (plan : SendPlan) (ready : IsReady s plan) (r : Result A B)
-    (put : z ≡ staged s plan.sender plan.taking)
+    (put : z ≡ staged s plan.sender (taking_of s plan))
     (queued : (x : Port) → get z.ports plan.destination ≡ Some x
     → is_full_for x plan.parcel.by_once ≡ false
     → IsOk r × (v ≡ set_port z plan.destination (with_message x plan.parcel))) where
@@ -129,7 +140,7 @@ module _ {A B : Type 0} (s z v : Store) (plan : SendPlan) (ready : IsReady s pla
   unfolding staged
   still =
       subst (λ y. IsLike ready.port y plan.destination) (sym put)
-      (like_each plan.taking.moved _ plan.destination ready.port
+      (like_each plan.moved _ plan.destination ready.port
       (ready.port, ready.live, refl, refl))
 
   has_room : is_full_for still.0 plan.parcel.by_once ≡ false

@@ -34,7 +34,8 @@ use Rattle.mrc_filter.specs.Places.{IsJudged}
 use Rattle.mrc_transit.specs.declared.taking.NotHeld.{NotHeld}
 use Rattle.mrc_transit.specs.declared.sending.SendFault.{SendFault}
 use Rattle.mrc_transit.specs.declared.sending.SendFault.TheVariants as faults
-use Rattle.mrc_transit.specs.Staging.{Taking, staged, IsRefusedBy}
+use Rattle.mrc_names.specs.Leaving.{patched, AreRests}
+use Rattle.mrc_transit.specs.Staging.{Taking, staged, restart_each, IsRefusedBy}
 use Rattle.mrc_transit.specs.Sending.{IsSendRefusal, refused_by, fault_reply}
 use Rattle.mrc_transit.specs.SendPlans.{SendPlan, sent, IsReady, IsPlanOf, IsNotSent, IsNoRoom}
 use Rattle.mrc_transit.specs.SendPlans.{destination_disp}
@@ -56,7 +57,7 @@ put_same s t x at =
 -- nothing was taken yet
 begun : (s : Store) (t : ℕ) (x : Space) (g : Taking)
     → get s.spaces t ≡ Some x
-    → g ≡ record { space = x; moved = [] }
+    → g ≡ record { base = x; space = x; moved = [] }
     → staged s t g ≡ s
 unfolding staged
 begun s t x g at is = ap (staged s t) is ∙ put_same s t x at
@@ -143,7 +144,7 @@ module _ (W : Wiring) (s : Store) (t : ℕ) (m : Message) (h : Header) (has : Ha
         (take_none s t m.remote x bad_destination none)
 
     module _ (y : Space) (there : get s.spaces t ≡ Some y) (g : Taking)
-        (g_is : g ≡ record { space = y; moved = [] }) where
+        (g_is : g ≡ record { base = y; space = y; moved = [] }) where
       from_start : (e : Reply) (r : Try (Store × ℕ))
           → take (staged s t g) t h.remote_port x e e ≡ r
           → take s t m.remote x e e ≡ r
@@ -256,10 +257,14 @@ module _ (W : Wiring) (s : Store) (t : ℕ) (m : Message) (h : Header) (has : Ha
                       ∙ ap (λ f. Err (fault_reply f)) (sym full.0)
                   plan_no_room Memory full = λ w. tt
 
-                  module _ (room : is_full_for dest b ≡ false) (plan : SendPlan)
+                  module _ (room : is_full_for dest b ≡ false) (base : g3.base ≡ y)
+                      (changes : Map (Option Entry)) (left : patched g3.base changes ≡ g3.space)
+                      (rests : AreRests g3.base changes) (moved : List ℕ)
+                      (moved_is : moved ≡ g3.moved) (plan : SendPlan)
                       (plan_is : plan ≡ record {
                         sender = t;
-                        taking = g3;
+                        changes = changes;
+                        moved = moved;
                         destination = d;
                         parcel = record {
                           by_once = b;
@@ -268,6 +273,24 @@ module _ (W : Wiring) (s : Store) (t : ℕ) (m : Message) (h : Header) (has : Ha
                           args = queued;
                         };
                       }) where
+                    -- the sender's space
+                    from_base : g3.base ≡ space s t
+                    from_base = base ∙ ap (λ o. unwrap_or o empty) (sym there)
+
+                    -- what was taken is what the plan leaves
+                    staged_so : staged s t g3 ≡ staged s t record {
+                      base = space s t;
+                      space = patched (space s t) changes;
+                      moved = moved;
+                    }
+                    unfolding staged
+                    staged_so =
+                        ap (λ z. restart_each (set_space s t z) g3.moved) (sym left)
+                        ∙ ap (λ z. restart_each (set_space s t (patched z changes)) g3.moved)
+                        from_base
+                        ∙ ap (restart_each (set_space s t (patched (space s t) changes)))
+                        (sym moved_is)
+
                     pub plan_done : IsPlanOf W s t m plan
                     unfolding sent
                     plan_done w =
@@ -278,7 +301,7 @@ module _ (W : Wiring) (s : Store) (t : ℕ) (m : Message) (h : Header) (has : Ha
                         (ap (λ k. not k && nat_le dest.limit (length dest.queue)) (sym once)
                         ∙ either_fails _ _ room)
                         ∙ (λ i. Ok (
-                          with_store w (append (staged s t g3) d record {
+                          with_store w (append (staged_so i) d record {
                             by_once = sym once i;
                             id = sym has.id i;
                             reply = reply;
@@ -292,6 +315,7 @@ module _ (W : Wiring) (s : Store) (t : ℕ) (m : Message) (h : Header) (has : Ha
                     plan_ready =
                         subst (IsReady s) (sym plan_is) record {
                           has_space = ap is_some there;
+                          rests = subst (λ z. AreRests z changes) from_base rests;
                           port = dest;
                           live = live;
                           room = room;

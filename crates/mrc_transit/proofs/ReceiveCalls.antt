@@ -2,7 +2,7 @@
 use Rattle.std.proofs.Common.{◌≡◌, ℕ, ◌<◌, ◌^◌, ◌+◌, Bool, true, false, List, [], ◌∷◌, Option, Some}
 use Rattle.std.proofs.Common.{None, Result, Ok, Err, T, refl, sym, ◌∙◌, ap, subst, inl, inr, nat_lt}
 use Rattle.std.proofs.Common.{◌≤◌}
-use Rattle.std.specs.Prelude.{unwrap_or, IfOk, IfErr, IsErrAnd}
+use Rattle.std.specs.Prelude.{unwrap_or, is_some, IfOk, IfErr, OnErr, IsSome}
 use Rattle.std.specs.Option.{option_map}
 use Rattle.std.proofs.lemmas.Bool.{cases_eq, lt-ltb, le-ltb}
 use Rattle.mrc_base.specs.declared.memory.OrMemory.{OrMemory}
@@ -28,11 +28,12 @@ use Rattle.mrc_model.proofs.Maps.{Each-rest, same_Some}
 use Rattle.mrc_map.proofs.SameMaps.{same_map}
 use Rattle.mrc_names.specs.Bounds.{IsBounded}
 use Rattle.mrc_ports.specs.Parcels.{carried_size}
-use Rattle.mrc_ports.specs.Queues.{after_receipt}
-use Rattle.mrc_ports.specs.Tables.{Table, table_of}
-use Rattle.mrc_transit.specs.declared.receiving.ReceiveFault.{ReceiveFault}
-use Rattle.mrc_transit.specs.Receiving.{carried_out, found_source, IsGrantedOrFull}
-use Rattle.mrc_transit.specs.Receiving.{IsReceiveRefusal, IsOverFilled}
+use Rattle.mrc_ports.specs.Queues.{after_receipt, received_at, received_from, received_by}
+use Rattle.mrc_ports.specs.Tables.{Table, table_of, store_of}
+use Rattle.mrc_ports.proofs.TableLaws.{insert_twice}
+use Rattle.mrc_transit.specs.Receiving.{found_source, IsGrantedOrFull, IsOverFilled, IsFirst}
+use Rattle.mrc_transit.specs.Receiving.{IsReceiveRefusal, no_space as no_space_for}
+use Rattle.mrc_transit.specs.Receiving.{AreHousedAlike}
 use Rattle.mrc_transit.proofs.GiveLaws.{space_put}
 use Rattle.mrc_transit.proofs.ReceiveSizes.{received_size}
 
@@ -222,7 +223,7 @@ module _ (tasks : Map Task) (s : Store) (t n limit : ℕ) where
             ∙ ap (λ k. Err (TooLarge k)) size
 
         module _ (fits : nat_lt limit (carried_size m.args) ≡ false) where
-          pub may_end : IsGrantedOrFull
+          may_end : IsGrantedOrFull
               (call_receive (record { tasks = tasks; store = s }) t n limit)
           may_end =
               subst IsGrantedOrFull (sym ends)
@@ -237,7 +238,7 @@ module _ (tasks : Map Task) (s : Store) (t n limit : ℕ) where
                 ap (λ (z : Store). received z t found.0 x.receipts m)
                 (sym (put_same (set_port s found.1 (after_receipt x ms)) t old there))
 
-            pub full : is_over_full (space
+            full : is_over_full (space
                 (received (set_space (set_port s found.1 (after_receipt x ms)) t old) t found.0
                 x.receipts m).0 t) ≡ true
                 → call_receive (record { tasks = tasks; store = s }) t n limit
@@ -246,45 +247,118 @@ module _ (tasks : Map Task) (s : Store) (t n limit : ℕ) where
                 ends ∙ ends_full _ t limit _ (ap (nat_lt limit) size ∙ fits)
                 (ap (λ (z : Store × Message). is_over_full (space z.0 t)) given_to ∙ over)
 
-            -- the store that is left
-            carried : (y : Space) (bytes : List ℕ)
-                → carried_out s (record { task = t; space = y; port = found.1; bytes = bytes })
-                ≡ set_space (set_port s found.1 (after_receipt x ms)) t y
-            carried y bytes = rw (port, first, there) refl
+            -- what is told where not all was given
+            pub refused_so : (e : OrMemory Code)
+                → IsOverFilled e (space
+                (received (set_space (set_port s found.1 (after_receipt x ms)) t old) t found.0
+                x.receipts m).0 t)
+                → IsReceiveRefusal (no_space_for e)
+                (call_receive (record { tasks = tasks; store = s }) t n limit)
+            refused_so (Fault code) over = full over
+            refused_so Memory over = may_end
 
-            pub done : (y : Space) (message : Message)
-                → received (set_space (set_port s found.1 (after_receipt x ms)) t old) t found.0
-                x.receipts m
-                ≡ (set_space (set_port s found.1 (after_receipt x ms)) t y, message)
+            pub done : (y : Space) (bytes : List ℕ)
+                → (received (set_space (set_port s found.1 (after_receipt x ms)) t old) t found.0
+                x.receipts m).0 ≡ set_space (set_port s found.1 (after_receipt x ms)) t y
+                → written (received (set_space (set_port s found.1 (after_receipt x ms)) t old) t
+                found.0 x.receipts m).1 ≡ bytes
                 → is_over_full y ≡ false
                 → call_receive (record { tasks = tasks; store = s }) t n limit
                 ≡ Ok (
                   record {
                     tasks = tasks;
-                    store = carried_out s
-                        (record { task = t; space = y; port = found.1; bytes = written message });
+                    store = set_space (set_port s found.1 (after_receipt x ms)) t y;
                   },
-                  Bytes (written message),
+                  Bytes bytes,
                 )
-            done y message given room =
-                ends ∙ ap (finished _ t limit) (given_to ∙ given)
+            done y bytes given write room =
+                let message : Message =
+                (received (set_space (set_port s found.1 (after_receipt x ms)) t old) t found.0
+                x.receipts m).1 in
+                let whole : received (set_port s found.1 (after_receipt x ms)) t found.0 x.receipts
+                m ≡ (set_space (set_port s found.1 (after_receipt x ms)) t y, message) =
+                given_to ∙ ap (λ (z : Store). (z, message)) given in
+                ends ∙ ap (finished _ t limit) whole
                 ∙ ends_done _ t limit _
-                (ap (λ (z : Store × Message). nat_lt limit (written_size z.1))
-                (sym (given_to ∙ given)) ∙ ap (nat_lt limit) size ∙ fits)
+                (ap (λ (z : Store × Message). nat_lt limit (written_size z.1)) (sym whole)
+                ∙ ap (nat_lt limit) size ∙ fits)
                 (ap is_over_full
                 (space_put (set_port s found.1 (after_receipt x ms)) t y) ∙ room)
-                ∙ ap (λ z. Ok (record { tasks = tasks; store = z }, Bytes (written message)))
-                (sym (carried y (written message)))
+                ∙ ap (λ (b : List ℕ). Ok (
+                  record {
+                    tasks = tasks;
+                    store = set_space (set_port s found.1 (after_receipt x ms)) t y;
+                  },
+                  Bytes b,
+                )) write
+
+-- the store that is left, once the message is off the queue
+pub received_left : (s z v : Store) (t p : ℕ) (y : Space) (x : Port) (m : Parcel)
+    (ms : List Parcel) (o : Option Parcel)
+    → IsFirst s p x m ms
+    → z ≡ set_space s t y
+    → received_by z p ≡ (o, v)
+    → v ≡ set_space (set_port s p (after_receipt x ms)) t y
+received_left s z v t p y x m ms o waits put took =
+    ap (λ (r : Option Parcel × Store). r.1) (sym took)
+    ∙ ap (λ (k : Store). (received_by k p).1) put
+    ∙ ap (λ (q : Option Port). store_of (set_space s t y).spaces
+    (received_from (table_of (set_space s t y)) p q).1) waits.live
+    ∙ ap (λ (q : Option (Parcel × List Parcel)). store_of (set_space s t y).spaces
+    (received_at (table_of (set_space s t y)) p x q).1) waits.first
+
+-- a space that is put where there is one
+pub alike_put : (s z : Store) (t : ℕ) (y : Space)
+    → IsSome (get s.spaces t)
+    → z.spaces ≡ insert s.spaces t y
+    → z.next ≡ s.next
+    → AreHousedAlike s z
+alike_put s z t y there is next = record {
+  spaces = λ u. ap (λ (k : Map Space). is_some (get k u)) is ∙ elim (cases_eq u t) [
+    | inl same ↦
+        ap (λ q. is_some (get (insert s.spaces t y) q)) same
+        ∙ ap is_some (get-insert_same s.spaces t y) ∙ sym there
+        ∙ ap (λ q. is_some (get s.spaces q)) (sym same)
+    | inr other ↦ ap is_some (get-insert_other s.spaces t y u other)
+  ];
+  next = next;
+}
+
+pub alike_same : (s z : Store) → z ≡ s → AreHousedAlike s z
+alike_same s z is = record {
+  spaces = λ u. ap (λ (k : Store). is_some (get k.spaces u)) is;
+  next = ap (λ (k : Store). k.next) is;
+}
+
+-- a space that is taken out, and another one put in its place
+pub put_twice : (s m z : Store) (t : ℕ) (x y blank : Space)
+    → IsSome (get s.spaces t)
+    → (IsSome (get s.spaces t) → (Some x ≡ get s.spaces t) × (m ≡ set_space s t blank))
+    → (IsSome (get m.spaces t) → z ≡ set_space m t y)
+    → (get s.spaces t ≡ Some x) × (z ≡ set_space s t y)
+put_twice s m z t x y blank there out back =
+    let (is, left) = out there in
+    let in_m : IsSome (get m.spaces t) = subst (λ (k : Store). IsSome (get k.spaces t)) (sym left)
+    (ap is_some (get-insert_same s.spaces t blank)) in (
+      sym is,
+      back in_m ∙ ap (λ k. set_space k t y) left
+          ∙ ap (λ (k : Map Space). record s { spaces = k }) (insert_twice s.spaces t blank y),
+    )
 
 -- what code tells of each step
 
--- memory may run out where nothing was refused yet
-pub may_want : {A B T : Type 0} (r : Result T (OrMemory ReceiveFault)) (call : A → Try B)
-    → IsErrAnd r (λ e. e ≡ Memory)
-    → ((a : A) → IsGrantedOrFull (call a))
-    → IfErr r (λ e. (a : A) → IsReceiveRefusal e (call a))
-may_want (Ok t) call is all = tt
-may_want (Err e) call is all = λ a. subst (λ k. IsReceiveRefusal k (call a)) (sym is) (all a)
+-- what is told of an answer that is known
+pub told_ok : {A E : Type 0} (P : A → Type 0) (r : Result A E) (a : A) → r ≡ Ok a → IfOk r P → P a
+told_ok P r a is holds = subst (λ k. IfOk k P) is holds
+
+pub told_err : {A E : Type 0} (P : E → Type 0) (r : Result A E) (e : E)
+    → r ≡ Err e
+    → IfErr r P
+    → P e
+told_err P r e is holds = subst (λ k. IfErr k P) is holds
+
+pub told_on_err : {A E : Type 0} (P : Type 0) (r : Result A E) (e : E) → r ≡ Err e → OnErr r P → P
+told_on_err P r e is holds = subst (λ k. OnErr k P) is holds
 
 -- the port of a store, as its table has it
 pub port_at : (s : Store) (z : Table) (p : ℕ) (o : Option Port)
@@ -320,17 +394,3 @@ is_small limit k n is small = ap (nat_lt limit) (sym is) ∙ le-ltb limit k smal
 -- a space in its bounds is not over-full
 pub has_room : (y : Space) → IsBounded y → is_over_full y ≡ false
 has_room y b = le-ltb 4096 (len y) b.few
-
--- too much was given
-pub told_over : (e : OrMemory Code) (code : Code) (copy : Space) (name receipts : ℕ) (x : Port)
-    (m : Parcel)
-    → e ≡ Fault code
-    → receipts ≡ x.receipts
-    → ((s : Store) (t : ℕ)
-    → IsOverFilled e (space (received (set_space s t copy) t name receipts m).0 t))
-    → (s : Store) (t : ℕ)
-    → is_over_full (space (received (set_space s t copy) t name x.receipts m).0 t) ≡ true
-told_over e code copy name receipts x m is count over s t =
-    ap (λ k. is_over_full (space (received (set_space s t copy) t name k m).0 t)) (sym count)
-    ∙ subst (λ k. IsOverFilled k (space (received (set_space s t copy) t name receipts m).0 t)) is
-    (over s t)

@@ -121,13 +121,13 @@ module _ (s : Store) (t n : ℕ) (d : Disp) (g : Taking) where
   pub staged_taken : (e : Reply) (y : Space) (p : ℕ) (r : PortRight) (h : Taking)
       → take_right g.space n d ≡ Ok (y, p)
       → r ≡ given d
-      → h ≡ record { space = y; moved = moved_by r g.moved p }
+      → h ≡ record g { space = y; moved = moved_by r g.moved p }
       → take (staged s t g) t n d e e ≡ Ok (staged s t h, p)
   staged_taken e y p r h is right left =
       take_at e (Ok (y, p)) is
       ∙ ap (λ z. Ok (restart_if (is_receive (given d)) z p, p)) (set_staged s t g y)
       ∙ ap (λ z. Ok (z, p)) (note_staged s t p (record g { space = y }) (given d)
-      ∙ ap (λ q. staged s t (record { space = y; moved = moved_by q g.moved p })) (sym right)
+      ∙ ap (λ q. staged s t (record g { space = y; moved = moved_by q g.moved p })) (sym right)
       ∙ ap (staged s t) (sym left))
 
   pub staged_refused : (e d' : Reply)

@@ -1,17 +1,17 @@
 -- What a received message leaves, and why none is received. From Mach 3 Kernel Interfaces, mach_msg
--- (MACH_RCV_MSG, MACH_RCV_LARGE). That a plan is made first is this profile's own choice.
-use Rattle.std.specs.Prelude.{◌≡◌, ℕ, true, List, Option, Some, None, Ok, Err}
+-- (MACH_RCV_MSG, MACH_RCV_LARGE).
+use Rattle.std.specs.Prelude.{◌≡◌, ℕ, true, false, List, Some, Ok, Err, is_some, nat_lt}
 use Rattle.mrc_base.specs.declared.memory.OrMemory.{OrMemory}
 use Rattle.mrc_base.specs.declared.memory.OrMemory.TheVariants.{Fault, Memory}
 use Rattle.mrc_model.specs.declared.Code.{Code}
 use Rattle.mrc_model.specs.declared.Code.TheVariants.{ProfileNoSpace}
 use Rattle.mrc_model.specs.Map.{get}
-use Rattle.mrc_model.specs.World.{Space, Store, set_space}
+use Rattle.mrc_model.specs.World.{Space, Parcel, Port, Store, space as space_of}
 use Rattle.mrc_model.specs.Reply as model
 use Rattle.mrc_model.specs.Reply.{Try}
 use Rattle.mrc_model.specs.Space.{is_over_full}
-use Rattle.mrc_model.specs.CallReceive.{Source}
-use Rattle.mrc_ports.specs.Queues.{received_by}
+use Rattle.mrc_model.specs.CallReceive.{Source, source_at, first_parcel}
+use Rattle.mrc_ports.specs.Parcels.{carried_size}
 use Rattle.mrc_transit.specs.declared.receiving.ReceiveFault.{ReceiveFault}
 use Rattle.mrc_transit.specs.declared.receiving.ReceiveFault.TheVariants as faults
 
@@ -19,23 +19,31 @@ use Rattle.mrc_transit.specs.declared.receiving.ReceiveFault.TheVariants as faul
 abbrev pub found_source : ℕ × ℕ → Source
 found_source found = record { name = found.0; port = found.1 }
 
--- what is to be done: the first message leaves the queue of the port, the task has this space then,
--- and it is answered these bytes
-pub record ReceivePlan : Type 0 where
-  pub task : ℕ
+-- the first message of a live port, and those behind it
+pub record IsFirst (s : Store) (p : ℕ) (x : Port) (m : Parcel) (ms : List Parcel) : Type 0 where
+  pub live : get s.ports p ≡ Some x
+  pub first : first_parcel x.queue ≡ Some (m, ms)
+
+-- a message waits at the port
+abbrev pub HasFirst : Store → ℕ → Type 0
+HasFirst s p = (x : Port) × (m : Parcel) × (ms : List Parcel) × IsFirst s p x m ms
+
+-- a task with a space receives from this name and port, by a name of its own: a message waits there
+-- that is within the limit
+pub record IsReceivable (s : Store) (t n limit : ℕ) (found : ℕ × ℕ) : Type 0 where
   pub space : Space
-  pub port : ℕ
-  pub bytes : List ℕ
+  pub there : get s.spaces t ≡ Some space
+  pub from : source_at s t n (get (space_of s t) n) ≡ Ok (found_source found)
+  pub port : Port
+  pub parcel : Parcel
+  pub others : List Parcel
+  pub waits : IsFirst s found.1 port parcel others
+  pub fits : nat_lt limit (carried_size parcel.args) ≡ false
 
--- the store with this space of a task that has one
-abbrev pub replaced : Store → ℕ → Space → Option Space → Store
-replaced s t x None = s
-replaced s t x (Some y) = set_space s t x
-
--- the store after the plan was carried out
-abbrev pub carried_out : Store → ReceivePlan → Store
-carried_out s a =
-    let left = (received_by s a.port).1 in replaced left a.task a.space (get left.spaces a.task)
+-- no task gains or loses a space, and no port is born
+pub record AreHousedAlike (s z : Store) : Type 0 where
+  pub spaces : (t : ℕ) → is_some (get z.spaces t) ≡ is_some (get s.spaces t)
+  pub next : z.next ≡ s.next
 
 -- the reply that tells it
 abbrev pub receive_reply : ReceiveFault → model.Reply
@@ -58,3 +66,8 @@ IsReceiveRefusal Memory m = IsGrantedOrFull m
 abbrev pub IsOverFilled : OrMemory Code → Space → Type 0
 IsOverFilled (Fault code) x = is_over_full x ≡ true
 IsOverFilled Memory x = Unit {0}
+
+-- why a message is not received whose rights the space has no room for
+abbrev pub no_space : OrMemory Code → OrMemory ReceiveFault
+no_space (Fault code) = Fault (faults.Refused ProfileNoSpace)
+no_space Memory = Memory

@@ -1,7 +1,7 @@
 -- Plans of messages that are sent, and what carrying one out does. From Mach 3 Kernel Interfaces,
 -- mach_msg (MACH_SEND_MSG). That a plan is made first is this profile's own choice.
-use Rattle.std.specs.Prelude.{◌≡◌, ℕ, Bool, true, false, not, ◌&&◌, nat_le, length, Option, Some}
-use Rattle.std.specs.Prelude.{None, Ok, IsSome, option_and_then}
+use Rattle.std.specs.Prelude.{◌≡◌, ℕ, Bool, true, false, not, ◌&&◌, nat_le, List, length, Option}
+use Rattle.std.specs.Prelude.{Some, None, Ok, IsSome, option_and_then}
 use Rattle.mrc_base.specs.declared.Disp.{Disp}
 use Rattle.mrc_base.specs.declared.Disp.TheVariants.{MoveReceive, MoveSend, MoveSendOnce, CopySend}
 use Rattle.mrc_base.specs.declared.Disp.TheVariants.{MakeSend, MakeSendOnce}
@@ -9,35 +9,48 @@ use Rattle.mrc_base.specs.Disposition.{disp_of_number}
 use Rattle.mrc_base.specs.declared.memory.OrMemory.{OrMemory}
 use Rattle.mrc_base.specs.declared.memory.OrMemory.TheVariants.{Fault, Memory}
 use Rattle.mrc_model.specs.declared.Code.TheVariants.{MachSendTimedOut}
-use Rattle.mrc_model.specs.Map.{get}
+use Rattle.mrc_model.specs.declared.Entry.{Entry}
+use Rattle.mrc_model.specs.Map.{Map, get}
 use Rattle.mrc_model.specs.Message.{Message}
 use Rattle.mrc_model.specs.Wiring.{Wiring}
-use Rattle.mrc_model.specs.World.{Parcel, Port, Store, World}
+use Rattle.mrc_model.specs.World.{Parcel, Port, Store, World, space}
 use Rattle.mrc_model.specs.Reply.{Done}
 use Rattle.mrc_model.specs.Death.{append}
 use Rattle.mrc_model.specs.Target.{with_store}
 use Rattle.mrc_model.specs.CallSend.{call_send}
+use Rattle.mrc_names.specs.Leaving.{patched, AreRests}
 use Rattle.mrc_ports.specs.Queues.{is_full_for}
 use Rattle.mrc_transit.specs.declared.sending.SendFault.{SendFault}
 use Rattle.mrc_transit.specs.declared.sending.SendFault.TheVariants as faults
 use Rattle.mrc_transit.specs.Staging.{Taking, staged}
 use Rattle.mrc_transit.specs.Sending.{IsSendRefusal}
 
--- who sends, what was taken, where the message goes, and the message
+-- who sends, what is left of names, the ports whose receive rights were taken, where the message
+-- goes, and the message
 pub record SendPlan : Type 0 where
   pub sender : ℕ
-  pub taking : Taking
+  pub changes : Map (Option Entry)
+  pub moved : List ℕ
   pub destination : ℕ
   pub parcel : Parcel
 
+-- what was taken, from the sender's space in the store
+abbrev pub taking_of : Store → SendPlan → Taking
+taking_of s plan = record {
+  base = space s plan.sender;
+  space = patched (space s plan.sender) plan.changes;
+  moved = plan.moved;
+}
+
 -- the store after the plan was carried out: the message stands at the end of its queue
 unfoldable pub sent : Store → SendPlan → Store
-sent s plan = append (staged s plan.sender plan.taking) plan.destination plan.parcel
+sent s plan = append (staged s plan.sender (taking_of s plan)) plan.destination plan.parcel
 
--- the plan can be carried out on the store: the sender has a space, and the destination is a live
--- port that takes the message
+-- the plan can be carried out on the store: the sender has a space, with the entries of which there
+-- is something left, and the destination is a live port that takes the message
 pub record IsReady (s : Store) (plan : SendPlan) : Type 0 where
   pub has_space : IsSome (get s.spaces plan.sender)
+  pub rests : AreRests (space s plan.sender) plan.changes
   pub port : Port
   pub live : get s.ports plan.destination ≡ Some port
   pub room : is_full_for port plan.parcel.by_once ≡ false

@@ -8,8 +8,10 @@ use Rattle.mrc_model.specs.World.{Space, Store, set_space}
 use Rattle.mrc_model.specs.Reply.{Reply, Try}
 use Rattle.mrc_model.specs.Space.{restart}
 
--- the sender's space, and the ports whose receive rights were taken, in order
+-- the sender's space before anything was taken, what it is after that, and the ports whose receive
+-- rights were taken, in order
 pub record Taking : Type 0 where
+  pub base : Space
   pub space : Space
   pub moved : List ℕ
 

@@ -18,7 +18,7 @@ use mrc_model::{Code, Item};
 use mrc_ports::{Items, QueuedArgument, Store};
 use mrc_wiring::Wired;
 
-impl Taking {
+impl<'a> Taking<'a> {
     /// What a message carries for one name of an argument, where the slot's type admits it.
     pub(crate) fn take_admitted(
         &mut self,
@@ -34,6 +34,7 @@ impl Taking {
         ensures refused { IfErr result (λ fault. (t : ℕ)
             → IsSendRefusal fault (take_admitted (wiring_of wired.now) t disp slot.sort
             slot.argument (staged store.now t self.old) name)) }
+        ensures base { self.new.base ≡ self.old.base }
     {
         let item = match self.take_item(name, disp) {
             Ok(item) => item,
@@ -61,6 +62,7 @@ impl Taking {
         ensures refused { IfErr result (λ fault. (t : ℕ)
             → IsSendRefusal fault (take_items (wiring_of wired.now) t disp slot.sort slot.argument
             (staged store.now t self.old) names.now)) }
+        ensures base { self.new.base ≡ self.old.base }
     {
         let mut items = Vec::with_capacity(self.alloc, names.len())?;
         for name in names {
@@ -85,6 +87,7 @@ impl Taking {
         ensures refused { IfErr result (λ fault. (t : ℕ)
             → IsSendRefusal fault (take_arg (wiring_of wired.now) t slot.sort slot.argument
             (staged store.now t self.old) (argument_of argument.now))) }
+        ensures base { self.new.base ≡ self.old.base }
     {
         match argument {
             Argument::Data { desc, bytes } => Ok(QueuedArgument::Data {
@@ -119,6 +122,7 @@ impl Taking {
             → IsSendRefusal fault (take_args (wiring_of wired.now) t 0
             (form_shapes form.now.found.now) (staged store.now t self.old)
             (arguments_of arguments.now))) }
+        ensures base { self.new.base ≡ self.old.base }
     {
         let mut queued = Vec::with_capacity(self.alloc, arguments.len())?;
         for (i, argument) in arguments.iter().enumerate() {

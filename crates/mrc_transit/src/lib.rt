@@ -13,7 +13,7 @@ mod written;
 
 pub use giving::give_item;
 pub use laws::taken_is_carried;
-pub use receiving::{ReceiveFault, ReceivePlan, copy_out};
+pub use receiving::{ReceiveFault, receive};
 pub use send_plan::{SendPlan, copy_in};
 pub use sending::{SendFault, Slot, admit};
 pub use taking::{NotHeld, Taking};

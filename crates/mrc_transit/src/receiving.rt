@@ -1,7 +1,7 @@
 //! Receiving a message: where it comes from, what the receiver is given, and the plan of it.
 
 ghost use Rattle.std.specs.Prelude.{◌≡◌, ◌≤◌, ◌<◌, ◌^◌, ℕ, map, length, Some, Ok, Err, IfOk, IfErr};
-ghost use Rattle.std.specs.Prelude.{option_map, None, if◌then◌else◌};
+ghost use Rattle.std.specs.Prelude.{option_map, None, if◌then◌else◌, List, OnErr};
 ghost use Rattle.std.specs.List.{AllByRecursion};
 ghost use Rattle.mrc_base.specs.declared.PortRight.TheVariants.{Send, SendOnce};
 ghost use Rattle.mrc_base.specs.Limits.{limit_of_message};
@@ -10,6 +10,7 @@ ghost use Rattle.mrc_model.specs.Map.{Map, get};
 ghost use Rattle.mrc_model.specs.Rights.{given_number};
 ghost use Rattle.mrc_model.specs.Message.{written};
 ghost use Rattle.mrc_model.specs.World.{Store as TStore, Task as TTask, set_space};
+ghost use Rattle.mrc_model.specs.World.{Port as TPort, Parcel as TParcel};
 ghost use Rattle.mrc_model.specs.World.{space as space_of};
 ghost use Rattle.mrc_model.specs.Reply.{Refused, Bytes};
 ghost use Rattle.mrc_model.specs.CallReceive.{give_items, give_arg, give_args, received};
@@ -18,19 +19,19 @@ ghost use Rattle.mrc_model.specs.CallReceive.{ready_member, is_empty_queue, call
 ghost use Rattle.mrc_desc.specs.View.{argument_of, arguments_of};
 ghost use Rattle.mrc_desc.specs.Laws.{OtherArg, OtherArgs};
 ghost use Rattle.mrc_ports.specs.Parcels.{queued_of, unnamed};
-ghost use Rattle.mrc_transit.specs.Receiving.{carried_out, found_source, IsOverFilled};
-ghost use Rattle.mrc_transit.specs.Receiving.{IsReceiveRefusal};
+ghost use Rattle.mrc_transit.specs.Receiving.{found_source, receive_reply, IsOverFilled};
+ghost use Rattle.mrc_transit.specs.Receiving.{IsReceiveRefusal, IsReceivable, IsFirst, HasFirst};
+ghost use Rattle.mrc_transit.specs.Receiving.{AreHousedAlike, no_space};
 
 use crate::giving::give_item;
 use crate::written::Written;
 use mrc_base::{OrMemory, PortId, PortRight, TaskId};
 use mrc_desc::{Argument, Arguments, Header, Message, Names};
 use mrc_model::{Code, Entry, Item};
-use mrc_names::Space;
+use mrc_names::{Giving, Space};
 use mrc_ports::{Parcel, QueuedArgument, Store, moving};
 use std::alloc::{AllocError, Global};
 use std::collections::btree_map::Iter;
-use std::marker::Model;
 
 /// Why no message is received. Nothing has changed.
 #[derive(Clone, Copy, Debug, Drop, PartialEq, Eq)]
@@ -133,16 +134,18 @@ fn source_at(store: &Store, task: TaskId, space: &Space, name: u32) -> Result<(u
 
 /// Gives a space what an argument carries, in order: their names. Refused where the space would
 /// have more than 4,096 entries.
-fn give_items(alloc: Global, space: &mut Space, items: &[Item]) -> Result<Names, OrMemory<Code>>
+fn give_items(alloc: Global, giving: &mut Giving, items: &[Item]) -> Result<Names, OrMemory<Code>>
     ensures given { IfOk result (λ names. (s : TStore) (t : ℕ)
-        → give_items t (set_space s t space.old) items.now ≡ (set_space s t space.new, names)) }
+        → give_items t (set_space s t giving.old.space) items.now ≡ (set_space s t
+        giving.new.space, names)) }
     ensures fit { IfOk result (λ names. AllByRecursion (λ name. name < 2 ^ 32) names) }
     ensures refused { IfErr result (λ e. (s : TStore) (t : ℕ)
-        → IsOverFilled e (space_of (give_items t (set_space s t space.old) items.now).0 t)) }
+        → IsOverFilled e (space_of (give_items t (set_space s t giving.old.space) items.now).0 t)) }
+    ensures base { giving.new.base ≡ giving.old.base }
 {
     let mut names = Vec::with_capacity(alloc, items.len())?;
     for item in items {
-        names.push(give_item(space, *item)?)?;
+        names.push(give_item(giving, *item)?)?;
     }
     Ok(Names::from(names))
 }
@@ -151,16 +154,17 @@ fn give_items(alloc: Global, space: &mut Space, items: &[Item]) -> Result<Names,
 /// would have more than 4,096 entries.
 fn give_arg(
     alloc: Global,
-    space: &mut Space,
+    giving: &mut Giving,
     argument: &QueuedArgument,
 ) -> Result<Argument, OrMemory<Code>>
     ensures given { IfOk result (λ got. (s : TStore) (t : ℕ)
-        → give_arg t (set_space s t space.old) (queued_of argument.now)
-        ≡ (set_space s t space.new, argument_of got)) }
+        → give_arg t (set_space s t giving.old.space) (queued_of argument.now)
+        ≡ (set_space s t giving.new.space, argument_of got)) }
     ensures other { IfOk result (λ got.
         OtherArg (unnamed (queued_of argument.now)) (argument_of got)) }
     ensures refused { IfErr result (λ e. (s : TStore) (t : ℕ) → IsOverFilled e
-        (space_of (give_arg t (set_space s t space.old) (queued_of argument.now)).0 t)) }
+        (space_of (give_arg t (set_space s t giving.old.space) (queued_of argument.now)).0 t)) }
+    ensures base { giving.new.base ≡ giving.old.base }
 {
     match argument {
         QueuedArgument::Data { desc, bytes } => Ok(Argument::Data {
@@ -169,7 +173,7 @@ fn give_arg(
         }),
         QueuedArgument::Items { right, items } => Ok(Argument::Ports {
             disp: moving(*right),
-            names: give_items(alloc, space, items.as_slice())?,
+            names: give_items(alloc, giving, items.as_slice())?,
         }),
     }
 }
@@ -178,20 +182,22 @@ fn give_arg(
 /// where the space would have more than 4,096 entries.
 fn give_args(
     alloc: Global,
-    space: &mut Space,
+    giving: &mut Giving,
     arguments: &[QueuedArgument],
 ) -> Result<Arguments, OrMemory<Code>>
     ensures given { IfOk result (λ got. (s : TStore) (t : ℕ)
-        → give_args t (set_space s t space.old) (map queued_of arguments.now)
-        ≡ (set_space s t space.new, arguments_of got)) }
+        → give_args t (set_space s t giving.old.space) (map queued_of arguments.now)
+        ≡ (set_space s t giving.new.space, arguments_of got)) }
     ensures other { IfOk result (λ got.
         OtherArgs (map unnamed (map queued_of arguments.now)) (arguments_of got)) }
     ensures refused { IfErr result (λ e. (s : TStore) (t : ℕ) → IsOverFilled e
-        (space_of (give_args t (set_space s t space.old) (map queued_of arguments.now)).0 t)) }
+        (space_of (give_args t (set_space s t giving.old.space) (map queued_of arguments.now)).0
+        t)) }
+    ensures base { giving.new.base ≡ giving.old.base }
 {
     let mut args = Vec::with_capacity(alloc, arguments.len())?;
     for argument in arguments {
-        args.push(give_arg(alloc, space, argument)?)?;
+        args.push(give_arg(alloc, giving, argument)?)?;
     }
     Ok(Arguments::from(args))
 }
@@ -228,19 +234,20 @@ fn local_disp(by_once: bool) -> u8
 /// receipts. Refused where the space would have more than 4,096 entries.
 fn received(
     alloc: Global,
-    space: &mut Space,
+    giving: &mut Giving,
     name: u32,
     receipts: u32,
     parcel: &Parcel,
 ) -> Result<Message, OrMemory<Code>>
     ensures given { IfOk result (λ message. (s : TStore) (t : ℕ)
-        → received (set_space s t space.old) t name receipts parcel.now
-        ≡ (set_space s t space.new, message)) }
+        → received (set_space s t giving.old.space) t name receipts parcel.now
+        ≡ (set_space s t giving.new.space, message)) }
     ensures refused { IfErr result (λ e. (s : TStore) (t : ℕ) → IsOverFilled e
-        (space_of (received (set_space s t space.old) t name receipts parcel.now).0 t)) }
+        (space_of (received (set_space s t giving.old.space) t name receipts parcel.now).0 t)) }
+    ensures base { giving.new.base ≡ giving.old.base }
 {
-    let remote = give_item(space, parcel.reply())?;
-    let args = give_args(alloc, space, parcel.arguments())?;
+    let remote = give_item(giving, parcel.reply())?;
+    let args = give_args(alloc, giving, parcel.arguments())?;
     let header = Header {
         remote_disp: reply_disp(parcel.reply()),
         local_disp: local_disp(parcel.by_once()),
@@ -255,94 +262,132 @@ fn received(
     }
 }
 
-/// What receiving comes to. It holds what it needs, so that carrying it out takes no memory.
-#[derive(Debug, Drop)]
-pub struct ReceivePlan {
-    task: TaskId,
+/// Gives a space what a message carries, and makes the bytes of the message as it is received. The
+/// space comes back: as it was, where it would have more than 4,096 entries, or memory runs out.
+fn give_message(
+    alloc: Global,
     space: Space,
-    port: PortId,
-    bytes: Written,
+    name: u32,
+    receipts: u32,
+    parcel: &Parcel,
+) -> (Space, Result<Written, OrMemory<Code>>)
+    ensures given { IfOk result.1 (λ bytes. (s : TStore) (t : ℕ)
+        → (received (set_space s t space) t name receipts parcel.now).0
+        ≡ set_space s t result.0) }
+    ensures written { IfOk result.1 (λ bytes. (s : TStore) (t : ℕ)
+        → written (received (set_space s t space) t name receipts parcel.now).1 ≡ bytes) }
+    ensures refused { IfErr result.1 (λ e. (s : TStore) (t : ℕ) → IsOverFilled e
+        (space_of (received (set_space s t space) t name receipts parcel.now).0 t)) }
+    ensures err { OnErr result.1 (result.0 ≡ space) }
+{
+    let mut giving = Giving::new(alloc, space);
+    match received(alloc, &mut giving, name, receipts, parcel) {
+        Ok(message) => match Written::of(alloc, &message) {
+            Ok(bytes) => (giving.keep(), Ok(bytes)),
+            Err(_) => (giving.undo(), Err(OrMemory::Memory)),
+        },
+        Err(e) => (giving.undo(), Err(e)),
+    }
 }
 
-impl Model for ReceivePlan {
-    ghost use Rattle.mrc_transit.specs.Receiving as receiving;
-
-    ghost Value = { receiving.ReceivePlan };
-
-    ghost view = { λ a. record {
-      task = a.task;
-      space = a.space;
-      port = a.port;
-      bytes = a.bytes;
-    } };
-}
-
-/// The plan of receiving a message of at most `limit` bytes by a name of the task: a receive right,
-/// or a port set, of whose members the first one by ascending name is received from that has a
-/// message. Nothing changes yet.
-pub fn copy_out(
+/// The same for the first message of a port, where one waits.
+fn give_first(
     alloc: Global,
     store: &Store,
-    task: TaskId,
+    space: Space,
     name: u32,
-    limit: u32,
-) -> Result<ReceivePlan, OrMemory<ReceiveFault>>
-    ensures planned { IfOk result (λ plan. (tasks : Map TTask)
-        → call_receive (record { tasks = tasks; store = store.now }) task name limit
-        ≡ Ok (record { tasks = tasks; store = carried_out store.now plan }, Bytes plan.bytes)) }
-    ensures refused { IfErr result (λ e. (tasks : Map TTask) → IsReceiveRefusal e
-        (call_receive (record { tasks = tasks; store = store.now }) task name limit)) }
+    port: PortId,
+) -> (Space, Result<Written, OrMemory<Code>>)
+    requires { HasFirst store.now port }
+    ensures given { (x : TPort) (m : TParcel) (ms : List TParcel) → IsFirst store.now port x m ms
+        → IfOk result.1 (λ bytes. (s : TStore) (t : ℕ)
+        → (received (set_space s t space) t name x.receipts m).0 ≡ set_space s t result.0) }
+    ensures written { (x : TPort) (m : TParcel) (ms : List TParcel) → IsFirst store.now port x m ms
+        → IfOk result.1 (λ bytes. (s : TStore) (t : ℕ)
+        → written (received (set_space s t space) t name x.receipts m).1 ≡ bytes) }
+    ensures refused { (x : TPort) (m : TParcel) (ms : List TParcel) → IsFirst store.now port x m ms
+        → IfErr result.1 (λ e. (s : TStore) (t : ℕ) → IsOverFilled e
+        (space_of (received (set_space s t space) t name x.receipts m).0 t)) }
+    ensures err { OnErr result.1 (result.0 ≡ space) }
 {
-    let Some(space) = store.space(task) else {
-        return Err(OrMemory::Fault(ReceiveFault::Refused(Code::MachRcvInvalidName)));
-    };
-    let (from, port) = match source_at(store, task, space, name) {
-        Ok(found) => found,
-        Err(code) => return Err(OrMemory::Fault(ReceiveFault::Refused(code))),
-    };
     let Some(found) = store.ports().get(port) else {
-        return Err(OrMemory::Fault(ReceiveFault::Refused(Code::MachRcvInvalidName)));
+        unreachable!();
     };
     let Some(parcel) = found.queue().first() else {
-        return Err(OrMemory::Fault(ReceiveFault::Refused(Code::MachRcvTimedOut)));
+        unreachable!();
+    };
+    give_message(alloc, space, name, found.receipts(), parcel)
+}
+
+/// Why a message is not received whose rights the space has no room for.
+fn no_space(fault: OrMemory<Code>) -> OrMemory<ReceiveFault>
+    ensures { result ≡ no_space fault }
+{
+    match fault {
+        OrMemory::Fault(_code) => OrMemory::Fault(ReceiveFault::Refused(Code::ProfileNoSpace)),
+        OrMemory::Memory => OrMemory::Memory,
+    }
+}
+
+/// The name and the port that a message of at most `limit` bytes is received from, by a name of the
+/// task: a receive right, or a port set, of whose members it is the first one by ascending name
+/// that has a message. All refusals but that for want of room in the space.
+fn judge(store: &Store, task: TaskId, name: u32, limit: u32) -> Result<(u32, PortId), ReceiveFault>
+    ensures found { IfOk result (λ found. IsReceivable store.now task name limit found) }
+    ensures refused { IfErr result (λ fault. (tasks : Map TTask)
+        → call_receive (record { tasks = tasks; store = store.now }) task name limit
+        ≡ Err (receive_reply fault)) }
+{
+    let Some(space) = store.space(task) else {
+        return Err(ReceiveFault::Refused(Code::MachRcvInvalidName));
+    };
+    let found = match source_at(store, task, space, name) {
+        Ok(found) => found,
+        Err(code) => return Err(ReceiveFault::Refused(code)),
+    };
+    let Some(port) = store.ports().get(found.1) else {
+        return Err(ReceiveFault::Refused(Code::MachRcvInvalidName));
+    };
+    let Some(parcel) = port.queue().first() else {
+        return Err(ReceiveFault::Refused(Code::MachRcvTimedOut));
     };
     let size = parcel.written_size();
     if limit < size {
-        return Err(OrMemory::Fault(ReceiveFault::TooLarge(size)));
+        return Err(ReceiveFault::TooLarge(size));
     }
-    let mut space = space.copy()?;
-    let message = match received(alloc, &mut space, from, found.receipts(), parcel) {
-        Ok(message) => message,
-        Err(OrMemory::Fault(_)) => {
-            return Err(OrMemory::Fault(ReceiveFault::Refused(Code::ProfileNoSpace)));
-        }
-        Err(OrMemory::Memory) => return Err(OrMemory::Memory),
-    };
-    space.bounds();
-    Ok(ReceivePlan {
-        task,
-        space,
-        port,
-        bytes: Written::of(alloc, &message)?,
-    })
+    Ok(found)
 }
 
-impl ReceivePlan {
-    /// Carries the plan out: the first message of the port leaves its queue, and the task has its
-    /// space of the plan. The bytes of the message come out. It takes no memory. Where the store is
-    /// as it was when the plan was made, this is the receiving that was planned.
-    pub fn apply(self, store: &mut Store) -> Written
-        ensures store { store.new ≡ carried_out store.old self }
-        ensures bytes { result ≡ self.bytes }
-    {
-        let ReceivePlan {
-            task,
-            space,
-            port,
-            bytes,
-        } = self;
-        let _ = store.dequeue(port);
-        let _ = store.put_space(task, space);
-        bytes
+/// Receives a message of at most `limit` bytes by a name of the task: its bytes. Refused are what
+/// `ReceiveFault` lists, in its order; then, or where memory runs out, nothing has changed.
+pub fn receive(
+    alloc: Global,
+    store: &mut Store,
+    task: TaskId,
+    name: u32,
+    limit: u32,
+) -> Result<Written, OrMemory<ReceiveFault>>
+    ensures ok { IfOk result (λ bytes. (tasks : Map TTask)
+        → call_receive (record { tasks = tasks; store = store.old }) task name limit
+        ≡ Ok (record { tasks = tasks; store = store.new }, Bytes bytes)) }
+    ensures refused { IfErr result (λ e. (tasks : Map TTask) → IsReceiveRefusal e
+        (call_receive (record { tasks = tasks; store = store.old }) task name limit)) }
+    ensures housed { AreHousedAlike store.old store.new }
+    ensures err { OnErr result (store.new ≡ store.old) }
+{
+    let (from, port) = match judge(store, task, name, limit) {
+        Ok(found) => found,
+        Err(fault) => return Err(OrMemory::Fault(fault)),
+    };
+    let space = store.put_space(task, Space::new(alloc));
+    let (space, told) = give_first(alloc, store, space, from, port);
+    space.bounds();
+    let _ = store.put_space(task, space);
+    match told {
+        Ok(bytes) => {
+            let _ = store.dequeue(port);
+            Ok(bytes)
+        }
+        Err(e) => Err(no_space(e)),
     }
 }

@@ -1,7 +1,11 @@
 //! The plan of a message that is sent.
 
-ghost use Rattle.std.specs.Prelude.{◌≡◌, false, IfOk, IfErr, OnOk};
+ghost use Rattle.std.specs.Prelude.{◌≡◌, false, IfOk, IfErr, OnOk, IsSome};
+ghost use Rattle.mrc_model.specs.Map.{get};
 ghost use Rattle.mrc_model.specs.Rights.{is_once};
+ghost use Rattle.mrc_model.specs.World.{space, set_space};
+ghost use Rattle.mrc_names.specs.Leaving.{patched, AreRests};
+ghost use Rattle.mrc_transit.specs.Staging.{restart_each};
 ghost use Rattle.mrc_ports.specs.Queues.{is_full_for};
 ghost use Rattle.mrc_wiring.specs.Table.{wiring_of};
 ghost use Rattle.mrc_transit.specs.SendPlans.{destination_disp, sent, IsReady, IsPlanOf};
@@ -13,18 +17,21 @@ use mrc_base::{Disp, OrMemory, PortId, PortRight, TaskId, give};
 use mrc_desc::Message;
 use mrc_filter::judge;
 use mrc_model::Code;
+use mrc_names::{Changes, Space};
 use mrc_ports::{Parcel, Port, Ready, Store};
 use mrc_wiring::Wired;
 use std::alloc::Global;
 use std::marker::Model;
 
-/// What sending a message does, with all the room that it takes: the sender's space after the
-/// taking, the ports whose receive rights were taken, and the message, ready for the queue of its
-/// destination.
+/// What sending a message does, with all the room that it takes: what is left of the sender's
+/// names, the ports whose receive rights were taken, and the message, ready for the queue of its
+/// destination. It keeps the allocator that it is made with.
 #[derive(Debug, Drop)]
 pub struct SendPlan {
+    alloc: Global,
     sender: TaskId,
-    taking: Taking,
+    changes: Changes,
+    moved: Vec<PortId>,
     destination: PortId,
     ready: Ready,
 }
@@ -36,7 +43,8 @@ impl Model for SendPlan {
 
     ghost view = { λ a. record {
       sender = a.sender;
-      taking = a.taking;
+      changes = a.changes;
+      moved = a.moved.items;
       destination = a.destination;
       parcel = a.ready;
     } };
@@ -74,14 +82,13 @@ fn ask_room(port: &Port, by_once: bool) -> Result<(), OrMemory<SendFault>>
     Ok(())
 }
 
-/// The plan of a message that the task sends, made on a copy of its space: nothing changes before
-/// the plan is applied. Refused, in order: a destination's name that gives no such right on a live
-/// port (MACH_SEND_INVALID_DEST); a message that the destination's class does not accept (`Denied`,
-/// by the filter); a reply port's name that gives no such right (MACH_SEND_INVALID_REPLY); name by
-/// name of the arguments, one that gives no such right (MACH_SEND_INVALID_RIGHT) or a port that its
-/// slot does not admit (`NotAdmitted`, with the argument's number); a queue that is at or above its
-/// limit, but for a message through a send-once right (MACH_SEND_TIMED_OUT). Each takes what the
-/// ones before it left.
+/// The plan of a message that the task sends: nothing changes before the plan is applied. Refused,
+/// in order: a destination's name that gives no such right on a live port (MACH_SEND_INVALID_DEST);
+/// a message that the destination's class does not accept (`Denied`, by the filter); a reply port's
+/// name that gives no such right (MACH_SEND_INVALID_REPLY); name by name of the arguments, one that
+/// gives no such right (MACH_SEND_INVALID_RIGHT) or a port that its slot does not admit
+/// (`NotAdmitted`, with the argument's number); a queue that is at or above its limit, but for a
+/// message through a send-once right (MACH_SEND_TIMED_OUT). Each takes what the ones before it left.
 pub fn copy_in(
     alloc: Global,
     store: &Store,
@@ -102,7 +109,7 @@ pub fn copy_in(
     let Some(space) = store.space(sender) else {
         return Err(OrMemory::Fault(SendFault::Refused(Code::MachSendInvalidDest)));
     };
-    let mut taking = Taking::new(alloc, space.copy()?);
+    let mut taking = Taking::new(alloc, space);
     let destination = match taking.take(header.remote_port, disp) {
         Ok(port) => port,
         Err(fault) => return Err(refused_by(Code::MachSendInvalidDest, fault)),
@@ -123,12 +130,36 @@ pub fn copy_in(
     let by_once = is_once(give(disp));
     ask_room(port, by_once)?;
     let ready = store.ready(Parcel::new(by_once, header.id, reply, arguments))?;
+    let (changes, moved) = taking.finish();
     Ok(SendPlan {
+        alloc,
         sender,
-        taking,
+        changes,
+        moved,
         destination,
         ready,
     })
+}
+
+/// Puts what is left of a task's names into its space. It takes no memory.
+fn put_changes(alloc: Global, store: &mut Store, task: TaskId, changes: &Changes)
+    requires there { IsSome (get store.old.spaces task) }
+    requires rests { AreRests (space store.old task) changes.now }
+    ensures { store.new
+        ≡ set_space store.old task (patched (space store.old task) changes.now) }
+{
+    let mut space = store.put_space(task, Space::new(alloc));
+    space.apply(changes);
+    let _ = store.put_space(task, space);
+}
+
+/// The receipts of these ports are 0 again.
+fn restart_each(store: &mut Store, moved: &[PortId])
+    ensures { store.new ≡ restart_each store.old moved.now }
+{
+    for port in moved {
+        store.restart(*port);
+    }
 }
 
 impl SendPlan {
@@ -138,12 +169,15 @@ impl SendPlan {
         ensures { store.new ≡ sent store.old self }
     {
         let SendPlan {
+            alloc,
             sender,
-            taking,
+            changes,
+            moved,
             destination,
             ready,
         } = self;
-        taking.put(store, sender);
+        put_changes(alloc, store, sender, &changes);
+        restart_each(store, &moved);
         if store.enqueue(destination, ready).is_err() {
             unreachable!();
         }

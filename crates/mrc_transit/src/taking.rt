@@ -1,18 +1,16 @@
 //! What a task that sends gives: rights from names of its space.
 
-ghost use Rattle.std.specs.Prelude.{◌≡◌, ℕ, [], Ok, IfOk, IfErr, OnOk, OnErr, IsSome};
-ghost use Rattle.std.specs.Option.{option_map};
-ghost use Rattle.mrc_model.specs.Map.{get};
+ghost use Rattle.std.specs.Prelude.{◌≡◌, ℕ, List, [], Ok, IfOk, IfErr, OnOk, OnErr};
 ghost use Rattle.mrc_model.specs.World.{Store as TStore};
 ghost use Rattle.mrc_model.specs.Reply.{Reply};
 ghost use Rattle.mrc_model.specs.Space.{take};
 ghost use Rattle.mrc_model.specs.CallSend.{take_item, take_reply_by};
+ghost use Rattle.mrc_names.specs.Leaving.{patched, AreRests};
 ghost use Rattle.mrc_transit.specs.Staging.{staged, moved_by, IsRefusedBy};
 
-use mrc_base::{Disp, OrMemory, PortId, PortRight, TaskId, give};
+use mrc_base::{Disp, OrMemory, PortId, PortRight, give};
 use mrc_model::Item;
-use mrc_names::Space;
-use mrc_ports::Store;
+use mrc_names::{Changes, Leaving, Space};
 use std::alloc::{AllocError, Global};
 use std::marker::Model;
 use thiserror::Error;
@@ -22,21 +20,25 @@ use thiserror::Error;
 #[error("NotHeld")]
 pub struct NotHeld;
 
-/// The sender's space after what it has given, and the ports whose receive rights were among it. It
-/// keeps the allocator that it is made with.
+/// What the sender's space has given: what is left of names stands beside the space, with the ports
+/// whose receive rights are among it. It keeps the allocator that it is made with.
 #[derive(Debug, Drop)]
-pub struct Taking {
+pub struct Taking<'a> {
     pub(crate) alloc: Global,
-    space: Space,
+    leaving: Leaving<'a>,
     moved: Vec<PortId>,
 }
 
-impl Model for Taking {
+impl<'a> Model for Taking<'a> {
     ghost use Rattle.mrc_transit.specs.Staging as stage;
 
     ghost Value = { stage.Taking };
 
-    ghost view = { λ a. record { space = a.space; moved = a.moved.items } };
+    ghost view = { λ a. record {
+      base = a.leaving.base;
+      space = a.leaving.space;
+      moved = a.moved.items;
+    } };
 }
 
 /// Notes the port of a right that is given, where it is the receive right.
@@ -50,14 +52,27 @@ fn note(moved: &mut Vec<PortId>, right: PortRight, port: PortId) -> Result<(), A
     Ok(())
 }
 
-impl Taking {
+/// Forgets the port that was noted last, where a receive right was taken.
+fn forget(moved: &mut Vec<PortId>, right: PortRight)
+    ensures { (ports : List ℕ) (port : ℕ)
+        → moved.old.items ≡ moved_by right ports port → moved.new.items ≡ ports }
+{
+    match right {
+        PortRight::Send | PortRight::SendOnce => (),
+        PortRight::Receive => {
+            let _ = moved.pop();
+        }
+    }
+}
+
+impl<'a> Taking<'a> {
     /// Nothing is given yet of the space.
-    pub fn new(alloc: Global, space: Space) -> Taking
-        ensures { result ≡ record { space = space; moved = [] } }
+    pub fn new(alloc: Global, space: &'a Space) -> Taking<'a>
+        ensures { result ≡ record { base = space.now; space = space.now; moved = [] } }
     {
         Taking {
             alloc,
-            space,
+            leaving: Leaving::new(alloc, space),
             moved: Vec::new(alloc),
         }
     }
@@ -69,16 +84,20 @@ impl Taking {
             → take (staged s t self.old) t name disp e e ≡ Ok (staged s t self.new, port)) }
         ensures refused { IfErr result (λ fault. (s : TStore) (t : ℕ)
             → IsRefusedBy fault (λ e. take (staged s t self.old) t name disp e e)) }
+        ensures base { self.new.base ≡ self.old.base }
         ensures err { OnErr result (self.new ≡ self.old) }
     {
-        let port = match self.space.peek(name, disp) {
-            Ok(port) => port,
+        let (port, rest) = match self.leaving.parting(name, disp) {
+            Ok(taken) => taken,
             Err(_code) => return Err(OrMemory::Fault(NotHeld)),
         };
         note(&mut self.moved, give(disp), port)?;
-        match self.space.take(name, disp) {
-            Ok(_port) => Ok(port),
-            Err(_code) => unreachable!(),
+        match self.leaving.leave(name, rest) {
+            Ok(()) => Ok(port),
+            Err(_) => {
+                forget(&mut self.moved, give(disp));
+                Err(OrMemory::Memory)
+            }
         }
     }
 
@@ -90,6 +109,7 @@ impl Taking {
             → take_item (staged s t self.old) t name disp e ≡ Ok (staged s t self.new, item)) }
         ensures refused { IfErr result (λ fault. (s : TStore) (t : ℕ)
             → IsRefusedBy fault (λ e. take_item (staged s t self.old) t name disp e)) }
+        ensures base { self.new.base ≡ self.old.base }
         ensures err { OnErr result (self.new ≡ self.old) }
     {
         if name == 0 {
@@ -98,7 +118,8 @@ impl Taking {
         if name == 0xffff_ffff {
             return Ok(Item::Dead);
         }
-        if self.space.take_dead(name, disp) {
+        if let Some(rest) = self.leaving.dead_parting(name, disp) {
+            self.leaving.leave(name, rest)?;
             return Ok(Item::Dead);
         }
         let port = self.take(name, disp)?;
@@ -115,6 +136,7 @@ impl Taking {
             → take_reply_by (staged s t self.old) t name disp e ≡ Ok (staged s t self.new, item)) }
         ensures refused { IfErr result (λ fault. (s : TStore) (t : ℕ)
             → IsRefusedBy fault (λ e. take_reply_by (staged s t self.old) t name disp e)) }
+        ensures base { self.new.base ≡ self.old.base }
         ensures err { OnErr result (self.new ≡ self.old) }
     {
         match disp {
@@ -131,20 +153,12 @@ impl Taking {
         }
     }
 
-    /// Puts the space in the place of the sender's, and the receipts of the ports whose receive
-    /// rights were taken are 0 again. It takes no memory.
-    pub(crate) fn put(self, store: &mut Store, sender: TaskId)
-        requires { IsSome (get store.old.spaces sender) }
-        ensures { store.new ≡ staged store.old sender self }
+    /// What is left of names, and the ports whose receive rights were taken.
+    pub(crate) fn finish(self) -> (Changes, Vec<PortId>)
+        ensures changes { patched self.entry.base result.0 ≡ self.entry.space }
+        ensures rests { AreRests self.entry.base result.0 }
+        ensures moved { result.1.items ≡ self.entry.moved }
     {
-        let Taking {
-            alloc: _,
-            space,
-            moved,
-        } = self;
-        let _ = store.put_space(sender, space);
-        for port in &moved {
-            store.restart(*port);
-        }
+        (self.leaving.changes(), self.moved)
     }
 }

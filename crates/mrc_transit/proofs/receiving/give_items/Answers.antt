@@ -6,6 +6,6 @@ pub returns-in_err-give_item-clause-refused : goal.returns-in_err-give_item-clau
 returns-in_err-give_item-clause-refused c =
     let p = err_from_is_err_and c.from_residual-in_err-give_item.result
     c.from_residual-in_err-give_item.ensures.1 in
-    rw (p.1, p.2) (items_over c.args.space.now c.loop-item.space c.args.items.now
+    rw (p.1, p.2) (items_over c.args.giving.now.space c.loop-item.giving.space c.args.items.now
     c.loop-item.item-index c.item-item.result c.loop-item.names.items c.in_err-give_item.field-0.0
     c.loop-item.invariant.0 c.loop-item-test.true c.item-item.is c.in_err-give_item.ensures.refused)

@@ -11,23 +11,25 @@ use Rattle.mrc_transit.proofs.receiving.received.Goals as goal
 pub returns-in_err-remote-clause-refused : goal.returns-in_err-remote-clause-refused
 returns-in_err-remote-clause-refused c =
     let p = err_from_is_err_and c.from_residual.result c.from_residual.ensures.1 in
-    rw (p.1, p.2) (reply_over c.in_err-remote.field-0.0 c.args.space.now c.reply.result c.args.name
+    rw (p.1, p.2) (reply_over c.in_err-remote.field-0.0 c.args.giving.now.space c.reply.result
+    c.args.name
     c.args.receipts c.args.parcel.now c.reply.ensures c.in_err-remote.ensures.refused)
 
 pub returns-in_err-args-clause-refused : goal.returns-in_err-args-clause-refused
 returns-in_err-args-clause-refused c =
     let p = err_from_is_err_and c.from_residual-in_err-args.result
     c.from_residual-in_err-args.ensures.1 in
-    rw (p.1, p.2) (rest_over c.args.space.now c.give_item.new.space c.reply.result
+    rw (p.1, p.2) (rest_over c.args.giving.now.space c.give_item.new.giving.space c.reply.result
     c.in_ok-remote.remote (map queued_of c.arguments.result.now) c.args.parcel.now c.reply.ensures
     c.arguments.ensures.exact c.in_ok-remote.ensures.given c.in_err-args.field-0.0 c.args.name
     c.args.receipts c.in_err-args.ensures.refused)
 
 pub returns-clause-given : goal.returns-clause-given
 returns-clause-given c =
-    received_whole c.args.space.now c.give_item.new.space c.reply.result c.in_ok-remote.remote
+    received_whole c.args.giving.now.space c.give_item.new.giving.space c.reply.result
+    c.in_ok-remote.remote
     (map queued_of c.arguments.result.now) c.args.parcel.now c.reply.ensures
-    c.arguments.ensures.exact c.in_ok-remote.ensures.given c.give_args.new.space
+    c.arguments.ensures.exact c.in_ok-remote.ensures.given c.give_args.new.giving.space
     (arguments_of c.in_ok-args.args) c.args.name c.args.receipts c.reply_disp.result
     c.local_disp.result c.id.result c.by_once.result c.in-Ok.message c.in_ok-args.ensures.given
     (c.reply_disp.ensures ∙ ap reply_disp (c.reply-2.ensures ∙ sym c.reply.ensures))

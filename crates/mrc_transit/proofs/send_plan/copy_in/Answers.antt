@@ -1,4 +1,4 @@
-use Rattle.std.proofs.Common.{sym, ap, subst, ◌∙◌, Some, map}
+use Rattle.std.proofs.Common.{sym, ap, subst, ◌∙◌, map}
 use Rattle.std.proofs.lemmas.Result.{err_from_is_err_and}
 use Rattle.mrc_base.specs.Disposition.{disp_of_number}
 use Rattle.mrc_model.specs.Rights.{is_once}
@@ -9,6 +9,7 @@ use Rattle.mrc_desc.specs.View.{arguments_of}
 use Rattle.mrc_ports.specs.Parcels.{queued_of}
 use Rattle.mrc_ports.specs.Tables.{Table}
 use Rattle.mrc_filter.proofs.Few.{few}
+use Rattle.mrc_transit.specs.Staging.{Taking}
 use Rattle.mrc_transit.specs.SendPlans.{SendPlan, IsNotSent}
 use Rattle.mrc_transit.proofs.PlanLaws.{plan_no_disp, plan_no_space, plan_no_right, plan_no_port}
 use Rattle.mrc_transit.proofs.PlanLaws.{plan_denied, plan_no_reply, plan_no_args, plan_no_room}
@@ -39,16 +40,17 @@ returns-in-Err-clause-refused c =
     subst (λ fault. IsNotSent fault (wiring_of c.args.wired.now) c.args.store.now c.args.sender
     c.args.message.now) (sym c.refused_by.ensures) (plan_no_right (wiring_of c.args.wired.now)
     c.args.store.now c.args.sender c.args.message.now c.header-header.result c.header-header.ensures
-    c.in-Some.disp (sym c.destination_disp.ensures ∙ c.in-Some.is) c.in_ok-copy.field-0 (sym
-    c.in-Some-space.ensures ∙ ap Some (sym c.in_ok-copy.ensures)) c.new-taking.result
+    c.in-Some.disp (sym c.destination_disp.ensures ∙ c.in-Some.is) c.in-Some-space.space.now
+    (sym c.in-Some-space.ensures) c.new-taking.result
     c.new-taking.ensures c.in-Err.fault (c.in-Err.ensures.refused c.args.store.now c.args.sender))
 
 pub returns-in_default-get-clause-refused : goal.returns-in_default-get-clause-refused
 returns-in_default-get-clause-refused c =
     plan_no_port (wiring_of c.args.wired.now) c.args.store.now c.args.sender c.args.message.now
     c.header-header.result c.header-header.ensures c.in-Some.disp (sym c.destination_disp.ensures ∙
-    c.in-Some.is) c.in_ok-copy.field-0 (sym c.in-Some-space.ensures ∙ ap Some (sym
-    c.in_ok-copy.ensures)) c.new-taking.result c.new-taking.ensures c.take.new.self c.in-Ok.port (λ
+    c.in-Some.is) c.in-Some-space.space.now
+    (sym c.in-Some-space.ensures) c.new-taking.result c.new-taking.ensures c.take.new.self
+    c.in-Ok.port (λ
     e. c.in-Ok.ensures.taken c.args.store.now c.args.sender e) (sym (c.in_default-get.ensures ∙ ap
     (λ (t : Table). get t.ports c.in-Ok.port) c.ports.ensures))
 
@@ -56,8 +58,9 @@ pub returns-in-Err-judge-clause-refused : goal.returns-in-Err-judge-clause-refus
 returns-in-Err-judge-clause-refused c =
     plan_denied (wiring_of c.args.wired.now) c.args.store.now c.args.sender c.args.message.now
     c.header-header.result c.header-header.ensures c.in-Some.disp (sym c.destination_disp.ensures ∙
-    c.in-Some.is) c.in_ok-copy.field-0 (sym c.in-Some-space.ensures ∙ ap Some (sym
-    c.in_ok-copy.ensures)) c.new-taking.result c.new-taking.ensures c.take.new.self c.in-Ok.port (λ
+    c.in-Some.is) c.in-Some-space.space.now
+    (sym c.in-Some-space.ensures) c.new-taking.result c.new-taking.ensures c.take.new.self
+    c.in-Ok.port (λ
     e. c.in-Ok.ensures.taken c.args.store.now c.args.sender e) c.in-Some-get.port.now (sym
     (c.in-Some-get.ensures ∙ ap (λ (t : Table). get t.ports c.in-Ok.port) c.ports.ensures))
     c.class.result c.class.ensures c.in-Err-judge.denied c.in-Err-judge.ensures.exact
@@ -68,7 +71,8 @@ returns-in-Err-take_reply-clause-refused c =
     c.args.message.now) (sym c.refused_by-in-Err-take_reply.ensures) (plan_no_reply (wiring_of
     c.args.wired.now) c.args.store.now c.args.sender c.args.message.now c.header-header.result
     c.header-header.ensures c.in-Some.disp (sym c.destination_disp.ensures ∙ c.in-Some.is)
-    c.in_ok-copy.field-0 (sym c.in-Some-space.ensures ∙ ap Some (sym c.in_ok-copy.ensures))
+    c.in-Some-space.space.now
+    (sym c.in-Some-space.ensures)
     c.new-taking.result c.new-taking.ensures c.take.new.self c.in-Ok.port (λ e.
     c.in-Ok.ensures.taken c.args.store.now c.args.sender e) c.in-Some-get.port.now (sym
     (c.in-Some-get.ensures ∙ ap (λ (t : Table). get t.ports c.in-Ok.port) c.ports.ensures))
@@ -83,12 +87,12 @@ take_args-requires c =
 
 pub returns-in_err-arguments-clause-refused : goal.returns-in_err-arguments-clause-refused
 returns-in_err-arguments-clause-refused c =
-    let p = err_from_is_err_and c.from_residual-in_err-arguments.result
-    c.from_residual-in_err-arguments.ensures.1 in
+    let p = err_from_is_err_and c.from_residual.result
+    c.from_residual.ensures.1 in
     rw (p.1, p.2) (plan_no_args (wiring_of c.args.wired.now) c.args.store.now c.args.sender
     c.args.message.now c.header-header.result c.header-header.ensures c.in-Some.disp (sym
-    c.destination_disp.ensures ∙ c.in-Some.is) c.in_ok-copy.field-0 (sym c.in-Some-space.ensures ∙
-    ap Some (sym c.in_ok-copy.ensures)) c.new-taking.result c.new-taking.ensures c.take.new.self
+    c.destination_disp.ensures ∙ c.in-Some.is) c.in-Some-space.space.now
+    (sym c.in-Some-space.ensures) c.new-taking.result c.new-taking.ensures c.take.new.self
     c.in-Ok.port (λ e. c.in-Ok.ensures.taken c.args.store.now c.args.sender e)
     c.in-Some-get.port.now (sym (c.in-Some-get.ensures ∙ ap (λ (t : Table). get t.ports
     c.in-Ok.port) c.ports.ensures)) c.class.result c.class.ensures c.in-Ok-judge.form
@@ -104,8 +108,8 @@ returns-in_err-ask_room-clause-refused c =
     c.from_residual-in_err-ask_room.ensures.1 in
     rw (p.1, p.2) (plan_no_room (wiring_of c.args.wired.now) c.args.store.now c.args.sender
     c.args.message.now c.header-header.result c.header-header.ensures c.in-Some.disp (sym
-    c.destination_disp.ensures ∙ c.in-Some.is) c.in_ok-copy.field-0 (sym c.in-Some-space.ensures ∙
-    ap Some (sym c.in_ok-copy.ensures)) c.new-taking.result c.new-taking.ensures c.take.new.self
+    c.destination_disp.ensures ∙ c.in-Some.is) c.in-Some-space.space.now
+    (sym c.in-Some-space.ensures) c.new-taking.result c.new-taking.ensures c.take.new.self
     c.in-Ok.port (λ e. c.in-Ok.ensures.taken c.args.store.now c.args.sender e)
     c.in-Some-get.port.now (sym (c.in-Some-get.ensures ∙ ap (λ (t : Table). get t.ports
     c.in-Ok.port) c.ports.ensures)) c.class.result c.class.ensures c.in-Ok-judge.form
@@ -121,46 +125,62 @@ pub returns-clause-ok : goal.returns-clause-ok
 returns-clause-ok c =
     let plan : Parcel → SendPlan = λ p. record {
       sender = c.args.sender;
-      taking = c.take_args.new.self;
+      changes = c.finish-changes.result.0;
+      moved = c.finish-changes.result.1.items;
       destination = c.in-Ok.port;
       parcel = p;
     } in
     plan_done (wiring_of c.args.wired.now) c.args.store.now c.args.sender c.args.message.now
-    c.header-header.result c.header-header.ensures c.in-Some.disp (sym c.destination_disp.ensures ∙
-    c.in-Some.is) c.in_ok-copy.field-0 (sym c.in-Some-space.ensures ∙ ap Some (sym
-    c.in_ok-copy.ensures)) c.new-taking.result c.new-taking.ensures c.take.new.self c.in-Ok.port (λ
-    e. c.in-Ok.ensures.taken c.args.store.now c.args.sender e) c.in-Some-get.port.now (sym
-    (c.in-Some-get.ensures ∙ ap (λ (t : Table). get t.ports c.in-Ok.port) c.ports.ensures))
+    c.header-header.result c.header-header.ensures c.in-Some.disp
+    (sym c.destination_disp.ensures ∙ c.in-Some.is) c.in-Some-space.space.now
+    (sym c.in-Some-space.ensures) c.new-taking.result c.new-taking.ensures c.take.new.self
+    c.in-Ok.port (λ e. c.in-Ok.ensures.taken c.args.store.now c.args.sender e)
+    c.in-Some-get.port.now
+    (sym (c.in-Some-get.ensures ∙ ap (λ (t : Table). get t.ports c.in-Ok.port) c.ports.ensures))
     c.class.result c.class.ensures c.in-Ok-judge.form c.in-Ok-judge.ensures.exact
-    c.of_number-local_disp.result (c.of_number-local_disp.ensures ∙ ap disp_of_number
-    c.from.ensures) c.take_reply.new.self c.in-Ok-take_reply.reply (λ e.
-    c.in-Ok-take_reply.ensures.taken c.args.store.now c.args.sender e) (arguments_of
-    c.args-2.result.now) c.args-2.ensures.exact c.take_args.new.self (map queued_of
-    c.in_ok-arguments.arguments.items) (c.in_ok-arguments.ensures.taken c.args.sender)
-    c.is_once-by_once.result (c.is_once-by_once.ensures ∙ ap is_once c.give.ensures)
-    c.in_ok-ask_room.ensures.ok (plan c.in_ok-ready.ready) (ap plan (c.in_ok-ready.ensures ∙
-    c.new.ensures))
+    c.of_number-local_disp.result
+    (c.of_number-local_disp.ensures ∙ ap disp_of_number c.from.ensures) c.take_reply.new.self
+    c.in-Ok-take_reply.reply
+    (λ e. c.in-Ok-take_reply.ensures.taken c.args.store.now c.args.sender e)
+    (arguments_of c.args-2.result.now) c.args-2.ensures.exact c.take_args.new.self
+    (map queued_of c.in_ok-arguments.arguments.items)
+    (c.in_ok-arguments.ensures.taken c.args.sender) c.is_once-by_once.result
+    (c.is_once-by_once.ensures ∙ ap is_once c.give.ensures) c.in_ok-ask_room.ensures.ok
+    (c.take_args.ensures.base ∙ c.take_reply.ensures.base ∙ c.take.ensures.base
+    ∙ ap (λ (g : Taking). g.base) c.new-taking.ensures)
+    c.finish-changes.result.0 c.finish-changes.ensures.changes c.finish-changes.ensures.rests
+    c.finish-changes.result.1.items
+    c.finish-changes.ensures.moved (plan c.in_ok-ready.ready)
+    (ap plan (c.in_ok-ready.ensures ∙ c.new.ensures))
 
 pub returns-clause-ready : goal.returns-clause-ready
 returns-clause-ready c =
     let plan : Parcel → SendPlan = λ p. record {
       sender = c.args.sender;
-      taking = c.take_args.new.self;
+      changes = c.finish-changes.result.0;
+      moved = c.finish-changes.result.1.items;
       destination = c.in-Ok.port;
       parcel = p;
     } in
     plan_ready (wiring_of c.args.wired.now) c.args.store.now c.args.sender c.args.message.now
-    c.header-header.result c.header-header.ensures c.in-Some.disp (sym c.destination_disp.ensures ∙
-    c.in-Some.is) c.in_ok-copy.field-0 (sym c.in-Some-space.ensures ∙ ap Some (sym
-    c.in_ok-copy.ensures)) c.new-taking.result c.new-taking.ensures c.take.new.self c.in-Ok.port (λ
-    e. c.in-Ok.ensures.taken c.args.store.now c.args.sender e) c.in-Some-get.port.now (sym
-    (c.in-Some-get.ensures ∙ ap (λ (t : Table). get t.ports c.in-Ok.port) c.ports.ensures))
+    c.header-header.result c.header-header.ensures c.in-Some.disp
+    (sym c.destination_disp.ensures ∙ c.in-Some.is) c.in-Some-space.space.now
+    (sym c.in-Some-space.ensures) c.new-taking.result c.new-taking.ensures c.take.new.self
+    c.in-Ok.port (λ e. c.in-Ok.ensures.taken c.args.store.now c.args.sender e)
+    c.in-Some-get.port.now
+    (sym (c.in-Some-get.ensures ∙ ap (λ (t : Table). get t.ports c.in-Ok.port) c.ports.ensures))
     c.class.result c.class.ensures c.in-Ok-judge.form c.in-Ok-judge.ensures.exact
-    c.of_number-local_disp.result (c.of_number-local_disp.ensures ∙ ap disp_of_number
-    c.from.ensures) c.take_reply.new.self c.in-Ok-take_reply.reply (λ e.
-    c.in-Ok-take_reply.ensures.taken c.args.store.now c.args.sender e) (arguments_of
-    c.args-2.result.now) c.args-2.ensures.exact c.take_args.new.self (map queued_of
-    c.in_ok-arguments.arguments.items) (c.in_ok-arguments.ensures.taken c.args.sender)
-    c.is_once-by_once.result (c.is_once-by_once.ensures ∙ ap is_once c.give.ensures)
-    c.in_ok-ask_room.ensures.ok (plan c.in_ok-ready.ready) (ap plan (c.in_ok-ready.ensures ∙
-    c.new.ensures))
+    c.of_number-local_disp.result
+    (c.of_number-local_disp.ensures ∙ ap disp_of_number c.from.ensures) c.take_reply.new.self
+    c.in-Ok-take_reply.reply
+    (λ e. c.in-Ok-take_reply.ensures.taken c.args.store.now c.args.sender e)
+    (arguments_of c.args-2.result.now) c.args-2.ensures.exact c.take_args.new.self
+    (map queued_of c.in_ok-arguments.arguments.items)
+    (c.in_ok-arguments.ensures.taken c.args.sender) c.is_once-by_once.result
+    (c.is_once-by_once.ensures ∙ ap is_once c.give.ensures) c.in_ok-ask_room.ensures.ok
+    (c.take_args.ensures.base ∙ c.take_reply.ensures.base ∙ c.take.ensures.base
+    ∙ ap (λ (g : Taking). g.base) c.new-taking.ensures)
+    c.finish-changes.result.0 c.finish-changes.ensures.changes c.finish-changes.ensures.rests
+    c.finish-changes.result.1.items
+    c.finish-changes.ensures.moved (plan c.in_ok-ready.ready)
+    (ap plan (c.in_ok-ready.ensures ∙ c.new.ensures))

@@ -1,8 +1,9 @@
 use Rattle.std.proofs.Common.{sym, ◌∙◌, ap}
 use Rattle.mrc_names.proofs.GivingLaws.{new_refused, new_given, given_as_new}
 use Rattle.mrc_names.proofs.Granting.{granted, wanting}
-use Rattle.mrc_model.specs.Map.{get}
+use Rattle.mrc_model.specs.Map.{get, remove}
 use Rattle.mrc_model.proofs.Spaces.{get-unused}
+use Rattle.mrc_index.proofs.UndoLaws.{took_back}
 use Rattle.mrc_names.proofs.space.Space.give_new.Goals as goal
 
 pub returns-then-is_full-clause-refused : goal.returns-then-is_full-clause-refused
@@ -24,3 +25,9 @@ returns-in_err-put-clause-refused c =
 pub put-requires-clause-unused : goal.put-requires-clause-unused
 put-requires-clause-unused c =
     ap (get c.args.self.now) c.unused-name.ensures ∙ get-unused c.args.self.now
+
+pub returns-clause-back : goal.returns-clause-back
+returns-clause-back c =
+    ap (λ z. remove z c.unused-name.result) c.in_ok-put.ensures.ok
+    ∙ took_back c.args.self.now c.unused-name.result c.new_entry.result
+    (ap (get c.args.self.now) c.unused-name.ensures ∙ get-unused c.args.self.now)

@@ -1,4 +1,4 @@
-use Rattle.std.proofs.Common.{sym, subst, get_or, ◌+◌}
+use Rattle.std.proofs.Common.{sym, subst, ◌∙◌, get_or, ◌+◌}
 use Rattle.std.proofs.lemmas.List.{get_or_default}
 use Rattle.std.proofs.lemmas.Result.{err_from_is_err_and}
 use Rattle.mrc_wiring.specs.Table.{wiring_of}
@@ -15,23 +15,27 @@ returns-in_err-item-clause-refused c =
     rw (p.1, p.2) (λ t. items_refused (wiring_of c.args.wired.now) t c.args.disp c.args.slot.sort
     c.args.slot.argument (staged c.args.store.now t c.args.self.now)
     (staged c.args.store.now t c.loop-name.self) c.loop-name.items.items k (get_or names k 0) names
-    (c.loop-name.invariant t) c.loop-name-test.true
+    (c.loop-name.invariant.0 t) c.loop-name-test.true
     (get_or_default names k 0 (get_or names k 0) c.loop-name-test.true)
     c.in_err-item.field-0.0 (c.in_err-item.ensures.refused t))
 
 pub loop-name-preserved : goal.loop-name-preserved
-loop-name-preserved c = λ t.
-    let W = wiring_of c.args.wired.now in
-    let names = c.args.names.now in
-    let k = c.loop-name.name-index in
-    subst (λ items. ItemsSoFar W t c.args.disp c.args.slot.sort c.args.slot.argument
-    (staged c.args.store.now t c.args.self.now)
-    (staged c.args.store.now t c.take_admitted.new.self) items (k + 1) names)
-    (sym c.in_ok-push.ensures.items)
-    (items_turn W t c.args.disp c.args.slot.sort
-    c.args.slot.argument (staged c.args.store.now t c.args.self.now)
-    (staged c.args.store.now t c.loop-name.self) c.loop-name.items.items k (get_or names k 0) names
-    (c.loop-name.invariant t) c.loop-name-test.true
-    (get_or_default names k 0 (get_or names k 0) c.loop-name-test.true)
-    (staged c.args.store.now t c.take_admitted.new.self) c.in_ok-item.item
-    (c.in_ok-item.ensures.taken t))
+loop-name-preserved c = (
+  λ t.
+      let W = wiring_of c.args.wired.now in
+      let names = c.args.names.now in
+      let k = c.loop-name.name-index in
+      subst (λ items. ItemsSoFar W t c.args.disp c.args.slot.sort c.args.slot.argument
+      (staged c.args.store.now t c.args.self.now)
+      (staged c.args.store.now t c.take_admitted.new.self) items (k + 1) names)
+      (sym c.in_ok-push.ensures.items)
+      (items_turn W t c.args.disp c.args.slot.sort
+      c.args.slot.argument (staged c.args.store.now t c.args.self.now)
+      (staged c.args.store.now t c.loop-name.self) c.loop-name.items.items k (get_or names k 0)
+      names
+      (c.loop-name.invariant.0 t) c.loop-name-test.true
+      (get_or_default names k 0 (get_or names k 0) c.loop-name-test.true)
+      (staged c.args.store.now t c.take_admitted.new.self) c.in_ok-item.item
+      (c.in_ok-item.ensures.taken t)),
+  c.take_admitted.ensures.base ∙ c.loop-name.invariant.1,
+)

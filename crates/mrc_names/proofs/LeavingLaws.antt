@@ -1,0 +1,174 @@
+-- What changes beside a space come to, and what takings leave.
+use Rattle.std.proofs.Common.{◌≡◌, ℕ, ◌+◌, List, [], ◌∷◌, Option, Some, None, T, inl, inr}
+use Rattle.std.proofs.Common.{refl, sym, ◌∙◌, ap, subst, arith, ◌==◌}
+use Rattle.std.proofs.lemmas.Bool.{cases_eq, ne_eqb}
+use Rattle.std.specs.Prelude.{IsSome}
+use Rattle.mrc_model.specs.declared.Entry.{Entry}
+use Rattle.mrc_model.specs.Rising.{is_rising, find_key, right_holds}
+use Rattle.mrc_model.specs.Map.{Map, empty, get, insert}
+use Rattle.mrc_model.specs.World.{Space}
+use Rattle.mrc_model.specs.Space.{put_entry}
+use Rattle.mrc_model.proofs.Maps.{get-insert_same, get-insert_other, get-remove_same, get-empty}
+use Rattle.mrc_model.proofs.Maps.{get-remove_other, find_here, find_later, find_is_low, if_false}
+use Rattle.mrc_model.proofs.Maps.{not_None, Each-insert}
+use Rattle.mrc_map.proofs.SameMaps.{same_map}
+use Rattle.mrc_index.specs.Names.{HoldsAlike, IsRestOf}
+use Rattle.mrc_index.specs.Undo.{CanPut}
+use Rattle.mrc_names.specs.Leaving.{patched_by, patched, HasRest, AreRests, CanPatch}
+
+-- what stands under a name after one change
+
+pub get_put_same : (x : Space) (n : ℕ) (rest : Option Entry) → get (put_entry x n rest) n ≡ rest
+get_put_same x n None = get-remove_same x n
+get_put_same x n (Some e) = get-insert_same x n e
+
+pub get_put_other : (x : Space) (n : ℕ) (rest : Option Entry) (q : ℕ)
+    → (q ≡ n → ⊥)
+    → get (put_entry x n rest) q ≡ get x q
+get_put_other x n None q other = get-remove_other x n q other
+get_put_other x n (Some e) q other = get-insert_other x n e q other
+
+-- and after many: what the change of the name says, if there is one
+abbrev pub over : Option (Option Entry) → Option Entry → Option Entry
+over None held = held
+over (Some rest) held = rest
+
+get_by : (low : ℕ) (cs : List (ℕ × Option Entry)) (x : Space) (q : ℕ)
+    → T (is_rising low cs)
+    → get (patched_by cs x) q ≡ over (find_key q cs) (get x q)
+get_by low [] x q r = refl
+get_by low (c ∷ cs) x q r =
+    get_by (c.0 + 1) cs (put_entry x c.0 c.1) q (right_holds _ _ r)
+    ∙ elim (cases_eq q c.0) [
+      | inl same ↦
+          let late : find_key q cs ≡ None =
+          find_is_low (c.0 + 1) q cs (right_holds _ _ r) (omega arith) in
+          ap (λ o. over o (get (put_entry x c.0 c.1) q)) late
+          ∙ ap (get (put_entry x c.0 c.1)) same ∙ get_put_same x c.0 c.1
+          ∙ sym (ap (λ o. over o (get x q)) (ap (λ k. find_key k (c ∷ cs)) same ∙ find_here c cs))
+      | inr other ↦
+          ap (over (find_key q cs)) (get_put_other x c.0 c.1 q other)
+          ∙ ap (λ o. over o (get x q))
+          (sym (if_false (q == c.0) (Some c.1) (find_key q cs) (ne_eqb q c.0 other)))
+    ]
+
+pub get_patched : (x : Space) (c : Map (Option Entry)) (q : ℕ)
+    → get (patched x c) q ≡ over (get c q) (get x q)
+unfolding get patched
+get_patched x c q = get_by 0 c.list x q c.rising
+
+-- as code finds it
+pub get_changed : (x : Space) (c : Map (Option Entry)) (q : ℕ) (rest : Option Entry)
+    → get c q ≡ Some rest
+    → get (patched x c) q ≡ rest
+get_changed x c q rest at = get_patched x c q ∙ ap (λ o. over o (get x q)) at
+
+pub get_unchanged : (x : Space) (c : Map (Option Entry)) (q : ℕ)
+    → get c q ≡ None
+    → get (patched x c) q ≡ get x q
+get_unchanged x c q at = get_patched x c q ∙ ap (λ o. over o (get x q)) at
+
+-- no change
+pub patched_none : (x : Space) (c : Map (Option Entry)) → c ≡ empty → patched x c ≡ x
+patched_none x c none =
+    same_map _ _ (λ q. get_unchanged x c q (ap (λ (m : Map (Option Entry)). get m q) none ∙
+    get-empty q))
+
+pub no_rests : (x : Space) (c : Map (Option Entry)) → c ≡ empty → AreRests x c
+no_rests x c none = λ n rest at.
+    absurd (not_None rest (sym at ∙ ap (λ (m : Map (Option Entry)). get m n) none ∙ get-empty n))
+
+-- one more
+pub patched_more : (x : Space) (c : Map (Option Entry)) (n : ℕ) (rest : Option Entry)
+    → patched x (insert c n rest) ≡ put_entry (patched x c) n rest
+patched_more x c n rest = same_map _ _ (λ q. elim (cases_eq q n) [
+  | inl same ↦
+      ap (get (patched x (insert c n rest))) same
+      ∙ get_changed x (insert c n rest) n rest (get-insert_same c n rest)
+      ∙ sym (get_put_same (patched x c) n rest)
+      ∙ ap (get (put_entry (patched x c) n rest)) (sym same)
+  | inr other ↦
+      get_patched x (insert c n rest) q
+      ∙ ap (λ o. over o (get x q)) (get-insert_other c n rest q other)
+      ∙ sym (get_patched x c q) ∙ sym (get_put_other (patched x c) n rest q other)
+])
+
+-- what is left of what was left is left
+rest_through : (d e : Entry) (rest : Option Entry)
+    → HoldsAlike d e
+    → IsRestOf e rest
+    → IsRestOf d rest
+rest_through d e None h k = tt
+rest_through d e (Some f) h k = record {
+  held = λ p. k.held p ∙ h.held p;
+  once = λ p. k.once p ∙ h.once p;
+}
+
+origin : (x : Space) (c : Map (Option Entry)) (n : ℕ) (e : Entry) (rest : Option Entry)
+    (o : Option (Option Entry))
+    → get c n ≡ o
+    → AreRests x c
+    → over o (get x n) ≡ Some e
+    → IsRestOf e rest
+    → HasRest x n rest
+origin x c n e rest None at rests is left = (e, is, left)
+origin x c n e rest (Some former) at rests is left =
+    let was : HasRest x n (Some e) = subst (HasRest x n) is (rests n former at) in
+    (was.0, was.1, rest_through was.0 e rest was.2 left)
+
+pub rests_more : (x : Space) (c : Map (Option Entry)) (n : ℕ) (rest : Option Entry)
+    → AreRests x c
+    → HasRest (patched x c) n rest
+    → AreRests x (insert c n rest)
+rests_more x c n rest rests has =
+    Each-insert (HasRest x) c n rest rests
+    (origin x c n has.0 rest (get c n) refl rests (sym (get_patched x c n) ∙ has.1) has.2)
+
+-- changes can be made one after the other
+can_each : (low : ℕ) (cs : List (ℕ × Option Entry)) (x : Space)
+    → T (is_rising low cs)
+    → ((n : ℕ) (rest : Option Entry) → find_key n cs ≡ Some rest → HasRest x n rest)
+    → CanPatch cs x
+can_each low [] x r each = tt
+can_each low (c ∷ cs) x r each = (
+  each c.0 c.1 (find_here c cs),
+  can_each (c.0 + 1) cs (put_entry x c.0 c.1) (right_holds _ _ r) (λ n rest at.
+      let apart : n ≡ c.0 → ⊥ = λ s. not_None rest
+      (sym at ∙ ap (λ k. find_key k cs) s
+      ∙ find_is_low (c.0 + 1) c.0 cs (right_holds _ _ r) (omega arith)) in
+      let old = each n rest (find_later low c cs n rest r at) in
+      (old.0, get_put_other x c.0 c.1 n apart ∙ old.1, old.2)),
+)
+
+pub can_patch : (x : Space) (c : Map (Option Entry)) (cs : List (ℕ × Option Entry))
+    → AreRests x c
+    → cs ≡ c.list
+    → CanPatch cs x
+unfolding get
+can_patch x c cs rests is = subst (λ l. CanPatch l x) (sym is) (can_each 0 c.list x c.rising rests)
+
+pub patch_end : (cs : List (ℕ × Option Entry)) (x z : Space)
+    → cs ≡ []
+    → patched_by cs x ≡ z
+    → x ≡ z
+patch_end cs x z none was = sym (ap (λ l. patched_by l x) none) ∙ was
+
+pub patched_is : (x : Space) (c : Map (Option Entry)) (cs : List (ℕ × Option Entry))
+    → cs ≡ c.list
+    → patched_by cs x ≡ patched x c
+unfolding patched
+patched_is x c cs is = ap (λ l. patched_by l x) is
+
+-- what is left can be put there
+pub can_leave : (x : Space) (n : ℕ) (rest : Option Entry) → HasRest x n rest → CanPut x n rest
+can_leave x n None has = tt
+can_leave x n (Some f) has = has
+
+pub fits : (x : Space) (n : ℕ) (rest : Option Entry) (e : Entry)
+    → rest ≡ Some e
+    → CanPut x n rest
+    → HasRest x n (Some e)
+fits x n rest e is can = subst (CanPut x n) is can
+
+pub has_name : (x : Space) (n : ℕ) (rest : Option Entry) → HasRest x n rest → IsSome (get x n)
+has_name x n rest has = subst IsSome (sym has.1) refl

@@ -1,0 +1,35 @@
+-- What takings leave of a space that stands still: the changes of its names stand beside it. This
+-- profile's own choice.
+use Rattle.std.specs.Prelude.{◌≡◌, ℕ, List, [], ◌∷◌, Option, Some, ⊤}
+use Rattle.mrc_model.specs.declared.Entry.{Entry}
+use Rattle.mrc_model.specs.Map.{Map, get, Each}
+use Rattle.mrc_model.specs.World.{Space}
+use Rattle.mrc_model.specs.Space.{put_entry}
+use Rattle.mrc_index.specs.Names.{IsRestOf}
+
+-- the space that stands still, and what it is after the takings
+pub record Leaving : Type 0 where
+  pub base : Space
+  pub space : Space
+
+-- the space after these changes, one after the other
+abbrev pub patched_by : List (ℕ × Option Entry) → Space → Space
+patched_by [] x = x
+patched_by (c ∷ cs) x = patched_by cs (put_entry x c.0 c.1)
+
+-- the same for changes by name
+unfoldable pub patched : Space → Map (Option Entry) → Space
+patched x changes = patched_by changes.list x
+
+-- the name has an entry, of which this may be left: nothing, or one of the same port and kind
+abbrev pub HasRest : Space → ℕ → Option Entry → Type 0
+HasRest x n rest = (e : Entry) × (get x n ≡ Some e) × IsRestOf e rest
+
+-- so it is for each change
+abbrev pub AreRests : Space → Map (Option Entry) → Type 0
+AreRests x changes = Each (HasRest x) changes
+
+-- the same for a list of them, one after the other
+abbrev pub CanPatch : List (ℕ × Option Entry) → Space → Type 0
+CanPatch [] x = ⊤
+CanPatch (c ∷ cs) x = HasRest x c.0 c.1 × CanPatch cs (put_entry x c.0 c.1)
