@@ -3,16 +3,18 @@
 ghost use Rattle.std.specs.Prelude.{◌≡◌, Some, Ok, OnErr, IfOk, IfErr, IsSome};
 ghost use Rattle.mrc_model.specs.Map.{get};
 ghost use Rattle.mrc_model.specs.World.{Space as TSpace, space};
+ghost use Rattle.mrc_model.specs.Space.{put_entry};
 ghost use Rattle.mrc_model.specs.Reply.{Name};
 ghost use Rattle.mrc_model.specs.Target.{with_space};
 ghost use Rattle.mrc_model.specs.CallInsertRight.{call_extract_right};
+ghost use Rattle.mrc_index.specs.Undo.{CanPut};
 ghost use Rattle.mrc_names.specs.Refusals.{IsRefusal};
 ghost use Rattle.mrc_names.specs.Takes.{give_right};
 ghost use Rattle.mrc_machine.specs.Housing.{target_of};
 
 use crate::state::State;
 use mrc_base::{Disp, OrMemory, PortId, PortRight, TaskId, give};
-use mrc_model::Code;
+use mrc_model::{Code, Entry};
 
 impl State {
     /// Gives a task a right, as a receiver gets it: its name.
@@ -32,6 +34,33 @@ impl State {
     {
         let mut space = self.take_space(task);
         let given = space.copyout(port, right);
+        self.put_space(task, space);
+        given
+    }
+
+    /// Gives a task a right, as a receiver gets it, once a name of it has no more than the rest: the
+    /// right's name.
+    fn exchange(
+        &mut self,
+        task: TaskId,
+        name: u32,
+        rest: Option<Entry>,
+        port: PortId,
+        right: PortRight,
+    ) -> Result<u32, OrMemory<Code>>
+        requires there { IsSome (get self.old.tasks task) }
+        requires used { IsSome (get (space self.old.store task) name) }
+        requires left { CanPut (space self.old.store task) name rest }
+        ensures ok { IfOk result (λ given. (y : TSpace)
+            × (give_right (put_entry (space self.old.store task) name rest) port right
+            ≡ Ok (y, given))
+            × (self.new ≡ with_space self.old task y)) }
+        ensures refused { IfErr result (λ e. IsRefusal e
+            (give_right (put_entry (space self.old.store task) name rest) port right)) }
+        ensures err { OnErr result (self.new ≡ self.old) }
+    {
+        let mut space = self.take_space(task);
+        let given = space.exchange(name, rest, port, right);
         self.put_space(task, space);
         given
     }
@@ -86,20 +115,15 @@ impl State {
             (λ e. IsRefusal e (call_extract_right self.old caller task name disp)) }
         ensures err { OnErr result (self.new ≡ self.old) }
     {
-        if let Err(code) = self.space(caller).peek(name, disp) {
-            return Err(OrMemory::Fault(code));
-        }
+        let (port, rest) = match self.space(caller).parting(name, disp) {
+            Ok(taken) => taken,
+            Err(code) => return Err(OrMemory::Fault(code)),
+        };
         if self.space(caller).is_full_after(name, disp) {
             return Err(OrMemory::Fault(Code::KernNoSpace));
         }
-        let mut space = self.copy_space(caller)?;
-        let port = match space.take(name, disp) {
-            Ok(port) => port,
-            Err(code) => return Err(OrMemory::Fault(code)),
-        };
         let right = give(disp);
-        let given = space.copyout(port, right)?;
-        self.put_space(caller, space);
+        let given = self.exchange(caller, name, rest, port, right)?;
         self.restart_moved(right, port);
         Ok(given)
     }

@@ -4,7 +4,9 @@ ghost use Rattle.std.specs.Prelude.{◌≡◌, ◌==◌, ◌&&◌, ◌||◌, fal
 ghost use Rattle.std.specs.Prelude.{Some, IsSome, IsOk, option_map};
 ghost use Rattle.mrc_model.specs.Map.{get};
 ghost use Rattle.mrc_model.specs.World.{Port as TPort, Space as TSpace, space, class_of};
-ghost use Rattle.mrc_model.specs.Space.{is_full};
+ghost use Rattle.mrc_model.specs.Space.{is_full, put_entry};
+ghost use Rattle.mrc_model.specs.Target.{with_space};
+ghost use Rattle.mrc_index.specs.Undo.{CanPut};
 ghost use Rattle.mrc_model.specs.Death.{port_destroyed_id};
 ghost use Rattle.mrc_model.specs.Reply.{Name, Refused};
 ghost use Rattle.mrc_model.specs.CallRequestNotification.{is_notify_disp, is_live_backup};
@@ -20,7 +22,7 @@ use crate::refusal::Refusal;
 use crate::set_qlimit::received_port;
 use crate::state::State;
 use mrc_base::{ClassId, Disp, OrMemory, PortId, PortRight, TaskId};
-use mrc_model::{Backup, Code, Denied};
+use mrc_model::{Backup, Code, Denied, Entry};
 use mrc_names::Space;
 use mrc_wiring::Wired;
 use std::alloc::AllocError;
@@ -59,6 +61,7 @@ fn is_live_backup(backup: &Backup) -> bool
 fn give_backup(space: &mut Space, previous: &Backup) -> Result<u32, AllocError>
     requires { (is_live_backup previous.now && is_full space.old) ≡ false }
     ensures ok { IfOk result (λ name. given_backup space.old previous.now ≡ (space.new, name)) }
+    ensures err { OnErr result (space.new ≡ space.old) }
 {
     match *previous {
         Backup::Absent => Ok(0),
@@ -68,6 +71,61 @@ fn give_backup(space: &mut Space, previous: &Backup) -> Result<u32, AllocError>
             Err(OrMemory::Memory) => Err(AllocError),
             Err(OrMemory::Fault(_)) => unreachable!(),
         },
+    }
+}
+
+/// The same once a name of the space has no more than the rest.
+fn exchange_backup(
+    space: &mut Space,
+    name: u32,
+    rest: Option<Entry>,
+    previous: &Backup,
+) -> Result<u32, AllocError>
+    requires used { IsSome (get space.old name) }
+    requires left { CanPut space.old name rest }
+    requires room { (is_live_backup previous.now && is_full (put_entry space.old name rest))
+        ≡ false }
+    ensures ok { IfOk result (λ given.
+        given_backup (put_entry space.old name rest) previous.now ≡ (space.new, given)) }
+    ensures err { OnErr result (space.new ≡ space.old) }
+{
+    match *previous {
+        Backup::Absent => {
+            space.leave(name, rest);
+            Ok(0)
+        }
+        Backup::Dead => {
+            space.leave(name, rest);
+            Ok(0xffff_ffff)
+        }
+        Backup::Port(port) => match space.exchange(name, rest, port, PortRight::SendOnce) {
+            Ok(given) => Ok(given),
+            Err(OrMemory::Memory) => Err(AllocError),
+            Err(OrMemory::Fault(_)) => unreachable!(),
+        },
+    }
+}
+
+/// The same once the right of the new request is taken from a name, which is 0 for none.
+fn replace_backup(
+    space: &mut Space,
+    name: u32,
+    disp: Disp,
+    previous: &Backup,
+) -> Result<u32, AllocError>
+    requires right { IsOk (request_left space.old name disp) }
+    requires room { (y : TSpace) → request_left space.old name disp ≡ Ok y
+        → (is_live_backup previous.now && is_full y) ≡ false }
+    ensures ok { IfOk result (λ given. (y : TSpace) × (request_left space.old name disp ≡ Ok y)
+        × (given_backup y previous.now ≡ (space.new, given))) }
+    ensures err { OnErr result (space.new ≡ space.old) }
+{
+    if name == 0 {
+        return give_backup(space, previous);
+    }
+    match space.parting(name, disp) {
+        Ok(taken) => exchange_backup(space, name, taken.1, previous),
+        Err(_) => unreachable!(),
     }
 }
 
@@ -165,21 +223,29 @@ impl State {
         is_live_backup(previous) && self.is_full_after(task, name, disp)
     }
 
-    /// A copy of the space of the task, from which a request took its right.
-    fn requested_space(&self, task: TaskId, name: u32, disp: Disp) -> Result<Space, AllocError>
-        requires there { IsSome (get self.now.tasks task) }
-        requires right { IsOk (request_left (space self.now.store task) name disp) }
-        ensures { IfOk result (λ left.
-            request_left (space self.now.store task) name disp ≡ Ok left) }
+    /// A request takes its right from a name of the task, which is 0 for none, and gives the right
+    /// of the one that it replaces: its name.
+    fn replace_request(
+        &mut self,
+        task: TaskId,
+        name: u32,
+        disp: Disp,
+        previous: &Backup,
+    ) -> Result<u32, AllocError>
+        requires there { IsSome (get self.old.tasks task) }
+        requires right { IsOk (request_left (space self.old.store task) name disp) }
+        requires room { (y : TSpace) → request_left (space self.old.store task) name disp ≡ Ok y
+            → (is_live_backup previous.now && is_full y) ≡ false }
+        ensures ok { IfOk result (λ given. (y z : TSpace)
+            × (request_left (space self.old.store task) name disp ≡ Ok y)
+            × (given_backup y previous.now ≡ (z, given))
+            × (self.new ≡ with_space self.old task z)) }
+        ensures err { OnErr result (self.new ≡ self.old) }
     {
-        let mut space = self.copy_space(task)?;
-        if name == 0 {
-            return Ok(space);
-        }
-        match space.take(name, disp) {
-            Ok(_) => Ok(space),
-            Err(_) => unreachable!(),
-        }
+        let mut space = self.take_space(task);
+        let given = replace_backup(&mut space, name, disp, previous);
+        self.put_space(task, space);
+        given
     }
 
     /// Requests that the receive right of a port go to another one in place of its destruction, or
@@ -224,9 +290,7 @@ impl State {
         if self.lacks_room(caller, notify, disp, &previous) {
             return Err(OrMemory::Fault(Refusal::Refused(Code::KernNoSpace)));
         }
-        let mut space = self.requested_space(caller, notify, disp)?;
-        let given = give_backup(&mut space, &previous)?;
-        self.put_space(caller, space);
+        let given = self.replace_request(caller, notify, disp, &previous)?;
         self.set_backup(port, &backup);
         Ok(given)
     }

@@ -187,14 +187,6 @@ impl State {
         }
     }
 
-    /// A copy of a task's space.
-    pub(crate) fn copy_space(&self, task: TaskId) -> Result<Space, AllocError>
-        requires { IsSome (get self.now.tasks task) }
-        ensures { IfOk result (λ copy. copy ≡ space self.now.store task) }
-    {
-        self.space(task).copy()
-    }
-
     /// All names of a task with their rights.
     pub(crate) fn listing(&self, task: TaskId) -> Result<Listing, AllocError>
         requires { IsSome (get self.now.tasks task) }

@@ -10,3 +10,4 @@ pub mod DroppingLaws
 pub mod ChangingLaws
 pub mod LeavingLaws
 pub mod MovingLaws
+pub mod ExchangingLaws

@@ -95,7 +95,7 @@ impl Space {
     }
 
     /// Whether the space has 4,096 entries, once a name that it has has no more than the rest.
-    fn is_full_left(&self, rest: Option<Entry>) -> bool
+    pub(crate) fn is_full_left(&self, rest: Option<Entry>) -> bool
         ensures { result ≡ (is_some rest && is_full self.now) }
     {
         rest.is_some() && self.is_full()

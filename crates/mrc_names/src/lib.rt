@@ -4,6 +4,7 @@
 mod changing;
 mod dropping;
 mod entry;
+mod exchanging;
 mod foretelling;
 mod giving;
 mod leaving;

@@ -24,4 +24,5 @@ pub returns-in-Ok : goal.returns-in-Ok
 returns-in-Ok c = record {
   ok = ap (given_backup c.args.space.now) c.in-Port.is
       ∙ given_new c.args.space.now c.copyout.new.self c.in-Port.port c.in-Ok.name c.in-Ok.ensures.ok;
+  err = tt;
 }

@@ -1,12 +1,14 @@
-use Rattle.std.proofs.Common.{refl, sym, ap, ◌∙◌}
+use Rattle.std.proofs.Common.{◌≡◌, Ok, refl, sym, ap, ◌∙◌, subst}
+use Rattle.std.specs.Prelude.{IsSome}
 use Rattle.std.proofs.lemmas.Result.{err_from_is_err_and}
+use Rattle.mrc_model.specs.Map.{get}
+use Rattle.mrc_model.specs.World.{space}
+use Rattle.mrc_model.specs.Space.{put_entry}
 use Rattle.mrc_model.specs.Reply.{Refused}
+use Rattle.mrc_index.specs.Undo.{CanPut}
 use Rattle.mrc_names.specs.Takes.{take_right}
-use Rattle.mrc_names.proofs.Granting.{wanting}
-use Rattle.mrc_names.proofs.SpaceExits.{port_of_taken}
-use Rattle.mrc_machine.proofs.MoveLaws.{extract_not_taken, extract_full, extract_room}
-use Rattle.mrc_machine.proofs.MoveLaws.{extract_not_given, extract_given, moved_within}
-use Rattle.mrc_machine.proofs.MoveLaws.{beside_same}
+use Rattle.mrc_machine.proofs.MoveLaws.{extract_not_taken, extract_full, extract_not_given}
+use Rattle.mrc_machine.proofs.MoveLaws.{extract_given, moved_within, beside_same}
 use Rattle.mrc_machine.proofs.state.State.extract_within.Goals as goal
 
 pub returns-in-Err-clause-refused : goal.returns-in-Err-clause-refused
@@ -18,59 +20,53 @@ returns-in-Err-clause-refused c =
 pub returns-then-is_full_after-clause-refused : goal.returns-then-is_full_after-clause-refused
 returns-then-is_full_after-clause-refused c =
     let w = c.args.self.now in
-    let (h, taken) = port_of_taken c.space.result.now c.args.name _ c.args.disp
-    c.in_default.ensures.found in
-    let here = ap (λ y. take_right y c.args.name c.args.disp) (c.space-2.ensures
-    ∙ sym c.space.ensures) ∙ taken in
+    let h = put_entry (space w.store c.args.caller) c.args.name c.in-Ok.taken.1 in
+    let took = subst (λ x. take_right x c.args.name c.args.disp
+    ≡ Ok (put_entry x c.args.name c.in-Ok.taken.1, c.in-Ok.taken.0)) c.space.ensures
+    c.in-Ok.ensures.found in
+    let here = ap (λ x. take_right x c.args.name c.args.disp) c.space-2.ensures ∙ took in
     extract_full w c.args.caller c.args.task c.args.name c.args.disp
-    c.args.caller c.requires.target _ c.space.ensures h _ _ taken
+    c.args.caller c.requires.target _ refl h _ c.in-Ok.taken.0 took
     (beside_same w.store c.args.caller c.args.caller h refl)
     (sym (c.is_full_after.ensures h _ here) ∙ c.if-is_full_after.true)
 
-pub returns-in_err-space-clause-refused : goal.returns-in_err-space-clause-refused
-returns-in_err-space-clause-refused c =
-    let w = c.args.self.now in
-    let (h, taken) = port_of_taken c.space.result.now c.args.name _ c.args.disp
-    c.in_default.ensures.found in
-    let here = ap (λ y. take_right y c.args.name c.args.disp) (c.space-2.ensures
-    ∙ sym c.space.ensures) ∙ taken in
-    wanting c.from_residual.result _ c.from_residual.ensures.1
-    (extract_room w c.args.caller c.args.task c.args.name c.args.disp
-    c.args.caller c.requires.target _ c.space.ensures h _ _ taken
-    (beside_same w.store c.args.caller c.args.caller h refl)
-    (sym (c.is_full_after.ensures h _ here) ∙ c.if-is_full_after.false))
+pub exchange-requires-clause-used : goal.exchange-requires-clause-used
+exchange-requires-clause-used c =
+    subst (λ x. IsSome (get x c.args.name)) c.space.ensures c.in-Ok.ensures.there
 
-pub returns-in-Err-take-clause-refused : goal.returns-in-Err-take-clause-refused
-returns-in-Err-take-clause-refused c =
-    extract_not_taken c.args.self.now c.args.caller c.args.task c.args.name c.args.disp
-    c.args.caller c.requires.target c.in_ok-space.space
-    c.in_ok-space.ensures (Refused c.in-Err-take.code) c.in-Err-take.ensures.refused
+pub exchange-requires-clause-left : goal.exchange-requires-clause-left
+exchange-requires-clause-left c =
+    subst (λ x. CanPut x c.args.name c.in-Ok.taken.1) c.space.ensures c.in-Ok.ensures.alike
 
 pub returns-in_err-given-clause-refused : goal.returns-in_err-given-clause-refused
 returns-in_err-given-clause-refused c =
-    let p = err_from_is_err_and c.from_residual-in_err-given.result
-    c.from_residual-in_err-given.ensures.1 in
+    let p = err_from_is_err_and c.from_residual.result c.from_residual.ensures.1 in
     let w = c.args.self.now in
-    let here = ap (λ y. take_right y c.args.name c.args.disp) (c.space-2.ensures
-    ∙ sym c.in_ok-space.ensures) ∙ c.in-Ok.ensures.taken in
+    let h = put_entry (space w.store c.args.caller) c.args.name c.in-Ok.taken.1 in
+    let took = subst (λ x. take_right x c.args.name c.args.disp
+    ≡ Ok (put_entry x c.args.name c.in-Ok.taken.1, c.in-Ok.taken.0)) c.space.ensures
+    c.in-Ok.ensures.found in
+    let here = ap (λ x. take_right x c.args.name c.args.disp) c.space-2.ensures ∙ took in
     rw (p.1, p.2) (extract_not_given w c.args.caller c.args.task c.args.name c.args.disp
-    c.args.caller c.requires.target c.in_ok-space.space c.in_ok-space.ensures c.take.new.self _
-    c.in-Ok.port c.in-Ok.ensures.taken
-    (beside_same w.store c.args.caller c.args.caller c.take.new.self refl)
-    (sym (c.is_full_after.ensures _ _ here) ∙ c.if-is_full_after.false)
+    c.args.caller c.requires.target _ refl h h c.in-Ok.taken.0 took
+    (beside_same w.store c.args.caller c.args.caller h refl)
+    (sym (c.is_full_after.ensures h _ here) ∙ c.if-is_full_after.false)
     c.give-right.result c.give-right.ensures _ c.in_err-given.ensures.refused)
 
 pub returns-clause-ok : goal.returns-clause-ok
 returns-clause-ok c =
     let w = c.args.self.now in
-    let here = ap (λ y. take_right y c.args.name c.args.disp) (c.space-2.ensures
-    ∙ sym c.in_ok-space.ensures) ∙ c.in-Ok.ensures.taken in
+    let h = put_entry (space w.store c.args.caller) c.args.name c.in-Ok.taken.1 in
+    let took = subst (λ x. take_right x c.args.name c.args.disp
+    ≡ Ok (put_entry x c.args.name c.in-Ok.taken.1, c.in-Ok.taken.0)) c.space.ensures
+    c.in-Ok.ensures.found in
+    let here = ap (λ x. take_right x c.args.name c.args.disp) c.space-2.ensures ∙ took in
+    let put = c.in_ok-given.ensures.ok in
     extract_given w c.args.caller c.args.task c.args.name c.args.disp
-    c.args.caller c.requires.target c.in_ok-space.space c.in_ok-space.ensures c.take.new.self _
-    c.in-Ok.port c.in-Ok.ensures.taken
-    (beside_same w.store c.args.caller c.args.caller c.take.new.self refl)
-    (sym (c.is_full_after.ensures _ _ here) ∙ c.if-is_full_after.false)
-    c.give-right.result c.give-right.ensures c.copyout.new.self c.in_ok-given.given
-    c.give-right.result _ c.in_ok-given.ensures.ok c.give-right.ensures
-    (moved_within w c.put_space.new.self _ c.args.caller c.in-Ok.port c.take.new.self
-    c.copyout.new.self c.give-right.result c.put_space.ensures c.restart_moved.ensures)
+    c.args.caller c.requires.target _ refl h h c.in-Ok.taken.0 took
+    (beside_same w.store c.args.caller c.args.caller h refl)
+    (sym (c.is_full_after.ensures h _ here) ∙ c.if-is_full_after.false)
+    c.give-right.result c.give-right.ensures put.0 c.in_ok-given.given
+    c.give-right.result _ put.1 c.give-right.ensures
+    (moved_within w c.exchange.new.self _ c.args.caller c.in-Ok.taken.0 h put.0
+    c.give-right.result put.2 c.restart_moved.ensures)

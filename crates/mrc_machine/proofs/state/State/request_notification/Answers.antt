@@ -75,24 +75,6 @@ returns-then-lacks_room-clause-refused c =
     (ap (λ b. is_live_backup b && is_full a) same ∙ sym (c.lacks_room.ensures a left)
     ∙ c.if-lacks_room.true)
 
-pub returns-in_err-space-clause-refused : goal.returns-in_err-space-clause-refused
-returns-in_err-space-clause-refused c =
-    let W = wiring_of c.args.wired.now in
-    let w = c.args.self.now in
-    let (a, left) = left_there W w.store c.args.caller c.args.notify c.args.disp
-    c.in-Ok-named_backup.backup c.in-Ok-named_backup.ensures.ok in
-    let (y, there, same) = port_there w.store c.in-Ok.port c.in-Some.previous
-    (sym c.backup_of.ensures ∙ c.in-Some.is) in
-    wanting_by c.from_residual.result _ c.from_residual.ensures.1
-    (request_goes W w c.args.caller c.args.task c.args.name c.args.id c.args.sync c.args.notify c.args.disp
-    c.args.target
-    c.requires.target
-    (sym c.is_request.ensures ∙ c.if-not-is_request.false)
-    c.in-Ok.port c.in-Ok.ensures.ok c.housing.ensures.kept
-    c.in-Ok-named_backup.backup c.in-Ok-named_backup.ensures.ok a left y there
-    (ap (λ b. is_live_backup b && is_full a) same ∙ sym (c.lacks_room.ensures a left)
-    ∙ c.if-lacks_room.false))
-
 pub returns-in_err-given-clause-refused : goal.returns-in_err-given-clause-refused
 returns-in_err-given-clause-refused c =
     let W = wiring_of c.args.wired.now in
@@ -101,8 +83,8 @@ returns-in_err-given-clause-refused c =
     c.in-Ok-named_backup.backup c.in-Ok-named_backup.ensures.ok in
     let (y, there, same) = port_there w.store c.in-Ok.port c.in-Some.previous
     (sym c.backup_of.ensures ∙ c.in-Some.is) in
-    wanting_by c.from_residual-in_err-given.result _
-    c.from_residual-in_err-given.ensures.1
+    wanting_by c.from_residual.result _
+    c.from_residual.ensures.1
     (request_goes W w c.args.caller c.args.task c.args.name c.args.id c.args.sync c.args.notify c.args.disp
     c.args.target
     c.requires.target
@@ -116,8 +98,7 @@ pub returns-clause-ok : goal.returns-clause-ok
 returns-clause-ok c =
     let W = wiring_of c.args.wired.now in
     let w = c.args.self.now in
-    let a = c.in_ok-space.space in
-    let left = c.in_ok-space.ensures in
+    let (a, z, left, given, put) = c.in_ok-given.ensures.ok in
     let (y, there, same) = port_there w.store c.in-Ok.port c.in-Some.previous
     (sym c.backup_of.ensures ∙ c.in-Some.is) in
     request_done W w c.args.caller c.args.task c.args.name c.args.id c.args.sync c.args.notify c.args.disp
@@ -127,16 +108,19 @@ returns-clause-ok c =
     c.in-Ok.port c.in-Ok.ensures.ok c.housing.ensures.kept
     c.in-Ok-named_backup.backup c.in-Ok-named_backup.ensures.ok a left y there
     (ap (λ b. is_live_backup b && is_full a) same ∙ sym (c.lacks_room.ensures a left)
-    ∙ c.if-lacks_room.false) c.give_backup.new.space _ c.set_backup.new.self
-    (ap (given_backup a) same ∙ c.in_ok-given.ensures.ok)
-    (request_stored w c.set_backup.new.self c.put_space.new.self c.args.caller c.in-Ok.port
-    c.give_backup.new.space c.in-Ok-named_backup.backup y c.put_space.ensures
-    c.set_backup.ensures there)
+    ∙ c.if-lacks_room.false) z _ c.set_backup.new.self
+    (ap (given_backup a) same ∙ given)
+    (request_stored w c.set_backup.new.self c.replace_request.new.self c.args.caller c.in-Ok.port
+    z c.in-Ok-named_backup.backup y put c.set_backup.ensures there)
 
-pub requested_space-requires-clause-right : goal.requested_space-requires-clause-right
-requested_space-requires-clause-right c =
+pub replace_request-requires-clause-right : goal.replace_request-requires-clause-right
+replace_request-requires-clause-right c =
     let W = wiring_of c.args.wired.now in
     let w = c.args.self.now in
     let (a, left) = left_there W w.store c.args.caller c.args.notify c.args.disp
     c.in-Ok-named_backup.backup c.in-Ok-named_backup.ensures.ok in
     granted _ a left
+
+pub replace_request-requires-clause-room : goal.replace_request-requires-clause-room
+replace_request-requires-clause-room c = λ y left.
+    sym (c.lacks_room.ensures y left) ∙ c.if-lacks_room.false
