@@ -80,8 +80,3 @@ deaths_out s (Some o) d found leaves is dead lost =
           lost p ∙ ap (λ e. is_losing s e p) same ∙ sym (losing_same s m o.doomed p)
           ∙ ap (λ z. is_losing z o.doomed p) (sym leaves.1),
     )
-
--- none where nothing is taken out
-pub no_deaths : (out : Option TakenOut) → None ≡ doomed_of out → out ≡ None
-no_deaths None is = refl
-no_deaths (Some o) is = absurd (not_None o.doomed (sym is))

@@ -1,9 +1,9 @@
 -- Work that was planned does what follows from a destruction.
 use Rattle.std.proofs.Common.{◌≡◌, ℕ, ◌+◌, true, ◌&&◌, List, ◌++◌, length, map, Option, Some, None}
 use Rattle.std.proofs.Common.{refl, sym, ◌∙◌, ap, subst, arith}
-use Rattle.mrc_model.specs.Map.{get, keys, alter_all}
+use Rattle.mrc_model.specs.Map.{keys, alter_all}
 use Rattle.mrc_model.specs.Rising.{alter_list}
-use Rattle.mrc_model.specs.World.{Space, Store, Held, set_space}
+use Rattle.mrc_model.specs.World.{Store, Held}
 use Rattle.mrc_model.specs.Death.{Doomed, has, has_receive, queued_on, queued_rights, dying, bury}
 use Rattle.mrc_model.specs.Death.{notify_once, notify_destroyed, perished_port, destroy}
 use Rattle.mrc_model.specs.Destroyed as model
@@ -13,7 +13,8 @@ use Rattle.mrc_death.specs.Plans.{HasRoom, Work, work_done, once_ports, kept_por
 use Rattle.mrc_death.specs.Plans.{tell_destroyed, carried_out, IsReadyFor, IsWorkOf, IsPlanOf}
 use Rattle.mrc_death.specs.Taking.{AreTaken}
 use Rattle.mrc_death.specs.declared.taking.Taken.{Taken}
-use Rattle.std.specs.Prelude.{IsSome}
+use Rattle.mrc_death.specs.Removing.{CanRemove, removed_from}
+use Rattle.mrc_death.specs.declared.removal.Removal.{Removal}
 use Rattle.mrc_death.proofs.Rooms.{room_less, room_space, room_bury, room_told}
 use Rattle.mrc_death.proofs.Burying.{bury_same, queued_same}
 use Rattle.mrc_death.proofs.TakenLaws.{dying_same}
@@ -60,18 +61,18 @@ lost_live s d dead lost same is p live =
     ∙ ap (λ hs. has_receive p (d.rights ++ hs)) (sym (queued_same _ _ same s.ports.list))
 
 -- the work is what follows
-pub work_follows : (s : Store) (t : ℕ) (x : Space) (d : Doomed) (dead lost : List ℕ)
+pub work_follows : (s : Store) (t : ℕ) (r : Removal) (d : Doomed) (dead lost : List ℕ)
     → ((p : ℕ) → has dead p ≡ has (dying s d) p)
     → ((p : ℕ) → has lost p ≡ is_losing s d p)
     → work_done s (record {
       task = t;
-      space = x;
+      removal = r;
       dead = dead;
       once = once_ports (d.rights ++ queued_rights s dead);
       lost = kept_ports dead lost s.ports.list;
-    }) ≡ destroy (set_space s t x) d
-work_follows s t x d dead lost die lose =
-    let s1 = set_space s t x in
+    }) ≡ destroy (removed_from s t r) d
+work_follows s t r d dead lost die lose =
+    let s1 = removed_from s t r in
     let same : has dead ≡ has (dying s d) = λ i p. die p i in
     let same1 : has dead ≡ has (dying s1 d) = same ∙ ap has (sym (dying_same s s1.spaces d)) in
     let gone = d.rights ++ queued_on dead s.ports.list in
@@ -86,11 +87,11 @@ work_follows s t x d dead lost die lose =
 
 -- where the work is done in turn
 module _ (s s1 s2 : Store) (w : Work) (ready : IsReadyFor s w)
-    (put : s1 ≡ set_space s w.task w.space) (buried : s2 ≡ bury s1 w.dead) where
+    (put : s1 ≡ removed_from s w.task w.removal) (buried : s2 ≡ bury s1 w.dead) where
   buried_room : HasRoom (length w.once + length w.lost) s2
   buried_room =
       subst (HasRoom (length w.once + length w.lost)) (sym (buried ∙ ap (λ z. bury z w.dead) put))
-      (room_bury _ (set_space s w.task w.space) w.dead (room_space _ s w.task w.space ready.room))
+      (room_bury _ (removed_from s w.task w.removal) w.dead (room_space _ s w.task _ ready.room))
 
   -- there is room for the send-once notices
   pub once_room : HasRoom (length w.once) s2
@@ -128,15 +129,15 @@ unfolding carried_out destroyed
 nothing_destroyed s what none = ap (destroy_out s) (sym none)
 
 -- what follows from what is taken out is what is destroyed
-pub plan_destroys : (s : Store) (what : model.Destroyed) (t : ℕ) (x : Space) (d : Doomed) (w : Work)
-    → taken_out s what ≡ Some (record { store = set_space s t x; doomed = d })
-    → work_done s w ≡ destroy (set_space s t x) d
+pub plan_destroys : (s : Store) (what : model.Destroyed) (t : ℕ) (r : Removal) (d : Doomed) (w : Work)
+    → taken_out s what ≡ Some (record { store = removed_from s t r; doomed = d })
+    → work_done s w ≡ destroy (removed_from s t r) d
     → carried_out s (Some w) ≡ destroyed s what
 unfolding carried_out destroyed
-plan_destroys s what t x d w out follows = follows ∙ ap (destroy_out s) (sym out)
+plan_destroys s what t r d w out follows = follows ∙ ap (destroy_out s) (sym out)
 
 -- the work that was planned
-pub work_planned : (s : Store) (t : ℕ) (x : Space) (d : Doomed) (dead lost once kept : List ℕ)
+pub work_planned : (s : Store) (t : ℕ) (r : Removal) (d : Doomed) (dead lost once kept : List ℕ)
     (rights seen : List Held)
     → ((p : ℕ) → has dead p ≡ has (dying s d) p)
     → ((p : ℕ) → has lost p ≡ is_losing s d p)
@@ -144,14 +145,14 @@ pub work_planned : (s : Store) (t : ℕ) (x : Space) (d : Doomed) (dead lost onc
     → seen ≡ rights
     → once ≡ once_ports seen
     → kept ≡ kept_ports dead lost s.ports.list
-    → work_done s (record { task = t; space = x; dead = dead; once = once; lost = kept })
-    ≡ destroy (set_space s t x) d
-work_planned s t x d dead lost once kept rights seen die lose all deref told stay =
+    → work_done s (record { task = t; removal = r; dead = dead; once = once; lost = kept })
+    ≡ destroy (removed_from s t r) d
+work_planned s t r d dead lost once kept rights seen die lose all deref told stay =
     let work : List ℕ → List ℕ → Work =
-    λ o k. record { task = t; space = x; dead = dead; once = o; lost = k } in
+    λ o k. record { task = t; removal = r; dead = dead; once = o; lost = k } in
     ap (λ o. work_done s (work o kept)) (told ∙ ap once_ports (deref ∙ all))
     ∙ ap (λ k. work_done s (work (once_ports (d.rights ++ queued_rights s dead)) k)) stay
-    ∙ work_follows s t x d dead lost die lose
+    ∙ work_follows s t r d dead lost die lose
 
 -- room for as many
 pub room_as : (s : Store) (a b m n v w : ℕ)
@@ -174,12 +175,12 @@ plan_none s what o are is = record {
   exact = nothing_destroyed s what (subst (λ z. AreTaken s z (taken_out s what)) is are);
 }
 
--- the task has a space
-pub task_there : (s : Store) (what : model.Destroyed) (o : Option Taken) (t : Taken)
+-- it can be removed from the task's space
+pub can_remove : (s : Store) (what : model.Destroyed) (o : Option Taken) (t : Taken)
     → AreTaken s o (taken_out s what)
     → o ≡ Some t
-    → IsSome (get s.spaces t.task)
-task_there s what o t are is = (subst (λ z. AreTaken s z (taken_out s what)) is are).0
+    → CanRemove s t.task t.removal
+can_remove s what o t are is = (subst (λ z. AreTaken s z (taken_out s what)) is are).0
 
 -- the plan of what is taken out
 pub plan_some : (s : Store) (what : model.Destroyed) (o : Option Taken) (t : Taken) (w : Work)
@@ -189,6 +190,6 @@ pub plan_some : (s : Store) (what : model.Destroyed) (o : Option Taken) (t : Tak
     → IsPlanOf s what (Some w)
 plan_some s what o t w are is work = record {
   ready = work.ready;
-  exact = plan_destroys s what t.task t.space t.doomed w
+  exact = plan_destroys s what t.task t.removal t.doomed w
       (subst (λ z. AreTaken s z (taken_out s what)) is are).1 work.exact;
 }

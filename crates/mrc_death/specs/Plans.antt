@@ -1,25 +1,27 @@
 -- Plans of destructions, and what carrying one out does. From Mach 3 Kernel Interfaces,
 -- mach_port_destroy and mach_port_request_notification. That a plan is made first is this
 -- profile's own choice.
-use Rattle.std.specs.Prelude.{◌≡◌, ℕ, ◌+◌, ◌<◌, ◌≤◌, not, ◌&&◌, List, [], ◌∷◌, ◌++◌, length}
-use Rattle.std.specs.Prelude.{Option, Some, None, IsSome, if◌then◌else◌}
+use Rattle.std.specs.Prelude.{◌≡◌, ℕ, ◌+◌, ◌<◌, not, ◌&&◌, List, [], ◌∷◌, ◌++◌, length}
+use Rattle.std.specs.Prelude.{Option, Some, None, if◌then◌else◌}
 use Rattle.mrc_model.specs.declared.Backup.{Backup}
 use Rattle.mrc_model.specs.declared.Backup.TheVariants.{Absent as NoBackup, Dead as DeadBackup}
 use Rattle.mrc_model.specs.declared.Backup.TheVariants.{Port as BackupPort}
 use Rattle.mrc_model.specs.Rights.{is_once}
 use Rattle.mrc_model.specs.Map.{get}
-use Rattle.mrc_model.specs.World.{Space, Port, Store, Held, set_space}
+use Rattle.mrc_model.specs.World.{Port, Store, Held}
 use Rattle.mrc_model.specs.Death.{has, bury, append, once_notice, notify_port, destroy}
 use Rattle.mrc_model.specs.Destroyed.{Destroyed, destroyed}
 use Rattle.mrc_ports.specs.Queues.{limit_of_waiting}
+use Rattle.mrc_death.specs.Removing.{CanRemove, removed_from}
+use Rattle.mrc_death.specs.declared.removal.Removal.{Removal}
 use Rattle.mrc_death.specs.declared.taking.Taken.{Taken}
 
--- What a destruction does: the new space of the task that loses rights, the ports that die, the
--- ports that send-once rights go from, in order, and the ports that lose their receive rights but
--- stay, ascending.
+-- What a destruction does: what is removed from a task's space, the ports that die, the ports that
+-- send-once rights go from, in order, and the ports that lose their receive rights but stay,
+-- ascending.
 pub record Work : Type 0 where
   pub task : ℕ
-  pub space : Space
+  pub removal : Removal
   pub dead : List ℕ
   pub once : List ℕ
   pub lost : List ℕ
@@ -37,7 +39,7 @@ tell_destroyed s (p ∷ ps) = tell_destroyed (notify_port s p (get s.ports p)) p
 -- the store after the work was done
 abbrev pub work_done : Store → Work → Store
 work_done s w =
-    tell_destroyed (tell_once (bury (set_space s w.task w.space) w.dead) w.once) w.lost
+    tell_destroyed (tell_once (bury (removed_from s w.task w.removal) w.dead) w.once) w.lost
 
 -- the store after the plan was carried out; one without work changes nothing
 unfoldable pub carried_out : Store → Option Work → Store
@@ -49,9 +51,10 @@ pub record HasRoom (more : ℕ) (s : Store) : Type 0 where
   pub at : (p k : ℕ) (x : Port) → get s.ports p ≡ Some x → k < more
       → length x.queue + k < limit_of_waiting
 
--- the work can be done on the store: the task has a space, and each queue has room for all notices
+-- the work can be done on the store: what the task loses can be removed, and each queue has room
+-- for all notices
 pub record IsReadyFor (s : Store) (w : Work) : Type 0 where
-  pub has_space : IsSome (get s.spaces w.task)
+  pub can_remove : CanRemove s w.task w.removal
   pub room : HasRoom (length w.once + length w.lost) s
 
 -- the plan can be carried out on the store
@@ -69,7 +72,7 @@ pub record IsPlanOf (s : Store) (what : Destroyed) (plan : Option Work) : Type 0
 -- the work can be done, and does what follows from what is taken out
 pub record IsWorkOf (s : Store) (t : Taken) (w : Work) : Type 0 where
   pub ready : IsReadyFor s w
-  pub exact : work_done s w ≡ destroy (set_space s t.task t.space) t.doomed
+  pub exact : work_done s w ≡ destroy (removed_from s t.task t.removal) t.doomed
 
 -- the port of a send-once right
 abbrev pub once_port : Held → List ℕ

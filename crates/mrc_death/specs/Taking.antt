@@ -1,5 +1,5 @@
 -- What a call destroys, as code has it, in the definitions' words.
-use Rattle.std.specs.Prelude.{[], ◌∷◌, Option, Some, None, IsSome, option_map}
+use Rattle.std.specs.Prelude.{[], ◌∷◌, Option, Some, None, option_map}
 use Rattle.mrc_base.specs.declared.PortRight.TheVariants.{Receive as ReceiveRight}
 use Rattle.mrc_model.specs.declared.Entry.{Entry}
 use Rattle.mrc_model.specs.declared.Entry.TheVariants.{Receive as ReceiveEntry}
@@ -7,10 +7,10 @@ use Rattle.mrc_model.specs.Death.{Doomed}
 use Rattle.mrc_model.specs.Destroyed.{Destroyed as TDestroyed, ReceiveOf, EntryOf, TaskOf, TakenOut}
 use Rattle.std.specs.Prelude.{◌≡◌, ℕ}
 use Rattle.mrc_model.specs.Death.{has, dying}
-use Rattle.mrc_model.specs.Map.{get}
-use Rattle.mrc_model.specs.World.{Store, set_space}
+use Rattle.mrc_model.specs.World.{Store}
 use Rattle.mrc_model.specs.Space.{send_entry}
 use Rattle.mrc_death.specs.Losing.{is_losing}
+use Rattle.mrc_death.specs.Removing.{CanRemove, removed_from}
 use Rattle.mrc_death.specs.declared.search.Deaths.{Deaths}
 use Rattle.mrc_death.specs.declared.taking.Destroyed.{Destroyed}
 use Rattle.mrc_death.specs.declared.taking.Taken.{Taken}
@@ -42,13 +42,13 @@ AreDeaths (Some deaths) out =
     × ((p : ℕ) → has deaths.dead p ≡ has (dying o.store o.doomed) p)
     × ((p : ℕ) → has deaths.lost p ≡ is_losing o.store o.doomed p)
 
--- what is taken out of a task's space: nothing where nothing is. The task has a space, which is
--- changed.
+-- what is taken out of a task's space: nothing where nothing is. The task has a space, from which
+-- it is removed without memory.
 abbrev pub AreTaken : Store → Option Taken → Option TakenOut → Type 0
 AreTaken s None out = out ≡ None
 AreTaken s (Some t) out =
-    IsSome (get s.spaces t.task)
-    × (out ≡ Some (record { store = set_space s t.task t.space; doomed = t.doomed }))
+    CanRemove s t.task t.removal
+    × (out ≡ Some (record { store = removed_from s t.task t.removal; doomed = t.doomed }))
 
 -- the entry has a receive right
 abbrev pub IsReceive : Option Entry → Type 0

@@ -7,6 +7,7 @@ mod heads;
 mod notices;
 mod plan;
 mod planning;
+mod removal;
 mod search;
 mod taking;
 

@@ -4,17 +4,19 @@ ghost use Rattle.std.specs.Prelude.{◌≡◌};
 ghost use Rattle.mrc_death.specs.Plans.{IsReady, IsReadyFor, carried_out, work_done};
 
 use crate::notices::{DestroyedNotice, OnceNotice, tell_destroyed, tell_once};
+use crate::removal::Removal;
 use mrc_base::TaskId;
 use mrc_map::Ports;
-use mrc_names::Space;
 use mrc_ports::Store;
+use std::alloc::Global;
 use std::marker::Model;
 
 /// What a destruction does, with all the room that it takes.
 #[derive(Debug, Drop)]
 pub(crate) struct Work {
+    pub(crate) alloc: Global,
     pub(crate) task: TaskId,
-    pub(crate) space: Space,
+    pub(crate) removal: Removal,
     pub(crate) dead: Ports,
     pub(crate) once: Vec<OnceNotice>,
     pub(crate) lost: Vec<DestroyedNotice>,
@@ -27,7 +29,7 @@ impl Model for Work {
 
     ghost view = { λ a. record {
       task = a.task;
-      space = a.space;
+      removal = a.removal;
       dead = a.dead;
       once = a.once.items;
       lost = a.lost.items;
@@ -41,13 +43,14 @@ impl Work {
         ensures { store.new ≡ work_done store.old self }
     {
         let Work {
+            alloc,
             task,
-            space,
+            removal,
             dead,
             once,
             lost,
         } = self;
-        let _ = store.put_space(task, space);
+        removal.apply(alloc, store, task);
         store.bury_all(&dead);
         tell_once(store, once);
         tell_destroyed(store, lost);

@@ -1,11 +1,12 @@
 //! The making of a plan.
 
-ghost use Rattle.std.specs.Prelude.{◌≡◌, ◌++◌, IfOk, OnOk, IsSome};
+ghost use Rattle.std.specs.Prelude.{◌≡◌, ◌++◌, IfOk, OnOk};
 ghost use Rattle.mrc_model.specs.Map.{get};
 ghost use Rattle.mrc_death.specs.Taking.{destroyed_of};
 ghost use Rattle.mrc_map.specs.Members.{of_some};
 ghost use Rattle.mrc_death.specs.Plans.{IsPlanOf, IsWorkOf, once_port, once_ports};
 ghost use Rattle.mrc_death.specs.Plans.{left_port, kept_ports};
+ghost use Rattle.mrc_death.specs.Removing.{CanRemove};
 
 use crate::doomed::Held;
 use crate::going::all_going;
@@ -86,12 +87,12 @@ fn destroyed_notices(
 
 /// The work where this is taken out.
 fn work_of(alloc: Global, store: &Store, taken: Taken) -> Result<Work, AllocError>
-    requires { IsSome (get store.now.spaces taken.task) }
+    requires { CanRemove store.now taken.task taken.removal }
     ensures { IfOk result (λ work. IsWorkOf store.now taken work) }
 {
     let Taken {
         task,
-        space,
+        removal,
         doomed,
     } = taken;
     let deaths = find_deaths(alloc, store, &doomed)?;
@@ -102,8 +103,9 @@ fn work_of(alloc: Global, store: &Store, taken: Taken) -> Result<Work, AllocErro
         return Err(AllocError);
     }
     Ok(Work {
+        alloc,
         task,
-        space,
+        removal,
         dead: deaths.dead,
         once,
         lost,

@@ -6,10 +6,12 @@ ghost use Rattle.mrc_model.specs.World.{space, entry_rights, if_sends};
 ghost use Rattle.mrc_model.specs.Destroyed.{all_rights, taken_out, receive_out, entry_out};
 ghost use Rattle.mrc_model.specs.Destroyed.{task_out};
 ghost use Rattle.mrc_model.specs.Space.{put_entry};
+ghost use Rattle.mrc_index.specs.Undo.{CanPut};
 ghost use Rattle.mrc_death.specs.Taking.{destroyed_of, receive_rights, doomed_of, AreDeaths};
 ghost use Rattle.mrc_death.specs.Taking.{AreTaken, IsReceive, left_of_receive};
 
 use crate::doomed::{Doomed, Held};
+use crate::removal::Removal;
 use crate::search::{Deaths, find_deaths};
 use mrc_base::{Disp, PortId, PortRight, TaskId};
 use mrc_model::Entry;
@@ -159,26 +161,26 @@ pub fn deaths_by(
     }
 }
 
-/// A task's space without what is destroyed, and what goes with it.
+/// What is destroyed, as it leaves a task's space, and what goes with it.
 #[derive(Debug, Drop)]
 pub(crate) struct Taken {
     /// The task.
     pub(crate) task: TaskId,
-    /// Its space from then on.
-    pub(crate) space: Space,
+    /// What leaves its space.
+    pub(crate) removal: Removal,
     /// What goes.
     pub(crate) doomed: Doomed,
 }
 
-/// The space after the receive right left its entry; its send references stay.
-fn without_receive(space: &Space, name: u32) -> Result<Space, AllocError>
+/// What is left of a name after its receive right left it: its send references.
+fn without_receive(space: &Space, name: u32) -> Option<Entry>
     requires { IsReceive (get space.now name) }
-    ensures { IfOk result (λ left.
-        left ≡ put_entry space.now name (left_of_receive (get space.now name))) }
+    ensures left { put_entry space.now name result
+        ≡ put_entry space.now name (left_of_receive (get space.now name)) }
+    ensures alike { CanPut space.now name result }
 {
-    let mut left = space.copy()?;
-    match left.take(name, Disp::MoveReceive) {
-        Ok(_) => Ok(left),
+    match space.parting(name, Disp::MoveReceive) {
+        Ok(parted) => parted.1,
         Err(_) => unreachable!(),
     }
 }
@@ -203,10 +205,10 @@ fn take_receive(
     let Some(doomed) = doomed_receive(alloc, &entry)? else {
         return Ok(None);
     };
-    let space = without_receive(found, name)?;
+    let rest = without_receive(found, name);
     Ok(Some(Taken {
         task,
-        space,
+        removal: Removal::Receive { name, rest },
         doomed,
     }))
 }
@@ -229,11 +231,9 @@ fn take_entry(
         return Ok(None);
     };
     let doomed = Doomed::new(rights_of(alloc, &entry)?, None);
-    let mut space = found.copy()?;
-    let _ = space.remove(name);
     Ok(Some(Taken {
         task,
-        space,
+        removal: Removal::Name { name },
         doomed,
     }))
 }
@@ -255,7 +255,7 @@ fn take_task(
     let rights = all_rights(alloc, found.iter())?;
     Ok(Taken {
         task,
-        space: Space::new(alloc),
+        removal: Removal::All,
         doomed: Doomed::new(rights, Some(kernel)),
     })
 }

@@ -15,7 +15,7 @@ use Rattle.std.proofs.lemmas.Nat.{mod_below}
 use Rattle.std.specs.Int.{bit_at}
 use Rattle.mrc_model.specs.declared.Entry.{Entry}
 use Rattle.mrc_model.specs.Rising.{is_rising, find_key}
-use Rattle.mrc_model.specs.Map.{empty, get, insert, remove, len, all_but, alter_all}
+use Rattle.mrc_model.specs.Map.{empty, get, insert, remove, len, all_but}
 use Rattle.mrc_model.specs.World.{Space}
 use Rattle.mrc_model.specs.Space.{entry_of, first_entry, is_entry_of, unused, least_from}
 use Rattle.mrc_model.proofs.Maps.{same_Some, not_None, get-insert_same, get-insert_other, get-empty}
@@ -140,7 +140,7 @@ found_none x ports onces bits p i none =
     none_at 0 p x.list x.rising (λ m. sym (i.held p m) ∙ none m (omega arith))
 
 -- the least unused number from k on
-least_at : {X : Type 0} (low k n : ℕ) (es : List (ℕ × X))
+pub least_at : {X : Type 0} (low k n : ℕ) (es : List (ℕ × X))
     → T (is_rising low es)
     → k ≤ n
     → find_key n es ≡ None
@@ -243,7 +243,7 @@ least_up {X} k (e ∷ es) =
       ]
     ]
 
-from_one : (y : Space) → 1 ≤ unused y
+pub from_one : (y : Space) → 1 ≤ unused y
 unfolding unused
 from_one y = least_up 1 y.list
 

@@ -5,3 +5,4 @@ pub mod PerishLaws
 pub mod SetLaws
 pub mod LeftLaws
 pub mod UndoLaws
+pub mod ReplacingLaws

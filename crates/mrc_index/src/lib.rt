@@ -6,6 +6,7 @@ mod giving;
 mod names;
 mod pairs;
 mod perishing;
+mod replacing;
 mod sets;
 
 pub use names::Names;

@@ -1,7 +1,7 @@
 //! Entries by their names.
 
 ghost use Rattle.std.specs.Prelude.{◌≡◌, ◌==◌, ◌||◌, ◌&&◌, ◌<◌, ◌≤◌, ℕ, None, Some, true, false};
-ghost use Rattle.std.specs.Prelude.{not, length, IfOk, OnOk, OnErr, IfSome, IfNone, option_map};
+ghost use Rattle.std.specs.Prelude.{not, length, OnOk, OnErr, IfSome, IfNone, option_map};
 ghost use Rattle.mrc_bits.specs.Bits.{is_set};
 ghost use Rattle.mrc_base.specs.Limits.{limit_of_names};
 ghost use Rattle.mrc_model.specs.Map.{empty, get, insert, remove, len};
@@ -50,7 +50,12 @@ impl Model for Names {
 }
 
 /// The entry's port has it under this name from here on.
-fn index(held: &mut Pairs, once: &mut Pairs, name: u32, entry: &Entry) -> Result<(), AllocError>
+pub(crate) fn index(
+    held: &mut Pairs,
+    once: &mut Pairs,
+    name: u32,
+    entry: &Entry,
+) -> Result<(), AllocError>
     ensures held { OnOk result ((p n : ℕ) → has_pair held.new p n
         ≡ ((is_entry_of p entry.now && name == n) || has_pair held.old p n)) }
     ensures once { OnOk result ((p n : ℕ) → has_pair once.new p n
@@ -68,7 +73,7 @@ fn index(held: &mut Pairs, once: &mut Pairs, name: u32, entry: &Entry) -> Result
 }
 
 /// The entry's port no longer has it under this name. It takes no memory.
-fn forget(held: &mut Pairs, once: &mut Pairs, name: u32, entry: &Entry)
+pub(crate) fn forget(held: &mut Pairs, once: &mut Pairs, name: u32, entry: &Entry)
     ensures held { (p n : ℕ) → has_pair held.new p n
         ≡ (not (is_entry_of p entry.now && name == n) && has_pair held.old p n) }
     ensures once { (p n : ℕ) → has_pair once.new p n
@@ -139,18 +144,6 @@ impl Names {
         ensures { result ≡ self.now.list }
     {
         self.entries.iter()
-    }
-
-    /// The same entries once more.
-    pub fn copy(&self) -> Result<Names, AllocError>
-        ensures { IfOk result (λ copy. copy ≡ self.now) }
-    {
-        Ok(Names {
-            entries: self.entries.copy()?,
-            held: self.held.copy()?,
-            once: self.once.copy()?,
-            free: self.free,
-        })
     }
 
     /// The entry of a name.

@@ -1,6 +1,6 @@
 //! Names by ports.
 
-ghost use Rattle.std.specs.Prelude.{◌≡◌, ◌==◌, ◌||◌, ◌&&◌, ◌≤◌, ℕ, [], false, not, IfOk, OnOk};
+ghost use Rattle.std.specs.Prelude.{◌≡◌, ◌==◌, ◌||◌, ◌&&◌, ◌≤◌, ℕ, [], false, not, OnOk};
 ghost use Rattle.std.specs.Prelude.{OnErr, IfSome, IfNone};
 ghost use Rattle.mrc_index.specs.Pairs.{has_pair, IsLeast};
 
@@ -58,14 +58,5 @@ impl Pairs {
     {
         let found = self.pairs.range((port, from)..).next()?;
         if found.0 == port { Some(found.1) } else { None }
-    }
-
-    /// The same once more.
-    pub fn copy(&self) -> Result<Pairs, AllocError>
-        ensures { IfOk result (λ copy. copy ≡ self.now) }
-    {
-        Ok(Pairs {
-            pairs: self.pairs.clone()?,
-        })
     }
 }

@@ -7,11 +7,12 @@ use Rattle.mrc_model.specs.declared.Backup.{Backup}
 use Rattle.mrc_model.specs.declared.Backup.TheVariants.{Absent as NoBackup, Dead as DeadBackup}
 use Rattle.mrc_model.specs.declared.Backup.TheVariants.{Port as BackupPort}
 use Rattle.mrc_model.specs.Map.{Map, get, alter_all}
-use Rattle.mrc_model.specs.World.{Space, Port, Parcel, Store, Task, set_space}
+use Rattle.mrc_model.specs.World.{Space, Port, Parcel, Store, Task, space}
 use Rattle.mrc_model.specs.Death.{perished_entry, bury, append, append_to, once_notice}
 use Rattle.mrc_model.specs.Death.{notify_backup, notify_port}
 use Rattle.mrc_model.proofs.Maps.{get-alter_all, Each-alter_all}
 use Rattle.mrc_death.specs.Plans.{Work, tell_once, tell_destroyed, carried_out, IsReady}
+use Rattle.mrc_death.specs.Removing.{removed, removed_from}
 use Rattle.mrc_machine.specs.Housing.{IsHoused}
 use Rattle.mrc_machine.proofs.HousingLaws.{AreSame, housed_same, housed_space}
 
@@ -93,11 +94,13 @@ unfolding carried_out
 housed_carried ts s z None h ready is =
     housed_same ts s z h (ap (λ (y : Store). y.spaces) is, ap (λ (y : Store). y.next) is)
 housed_carried ts s z (Some w) h ready is =
-    let there = h.homes w.task ready.has_space in
-    let put = housed_space ts s (set_space s w.task w.space) w.task w.space h there refl in
-    let after = bury (set_space s w.task w.space) w.dead in
+    let there = h.homes w.task ready.can_remove.0 in
+    let left = removed w.removal (space s w.task) in
+    let without = removed_from s w.task w.removal in
+    let put = housed_space ts s without w.task left h there refl in
+    let after = bury without w.dead in
     let told = then_same after (tell_once after w.once)
     (tell_destroyed (tell_once after w.once) w.lost)
     (told_destroyed_same (tell_once after w.once) w.lost) (told_once_same after w.once) in
-    housed_same ts after z (housed_buried ts (set_space s w.task w.space) put w.dead)
+    housed_same ts after z (housed_buried ts without put w.dead)
     (ap (λ (y : Store). y.spaces) is ∙ told.0, ap (λ (y : Store). y.next) is ∙ told.1)

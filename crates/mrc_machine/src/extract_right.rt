@@ -38,8 +38,8 @@ impl State {
         given
     }
 
-    /// Gives a task a right, as a receiver gets it, once a name of it has no more than the rest: the
-    /// right's name.
+    /// Gives a task a right, as a receiver gets it, once a name of it has no more than the rest:
+    /// the right's name.
     fn exchange(
         &mut self,
         task: TaskId,

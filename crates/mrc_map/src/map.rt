@@ -174,14 +174,3 @@ impl<X> Map<X> {
         }
     }
 }
-
-impl<X: Copy> Map<X> {
-    /// The same map once more.
-    pub fn copy(&self, alloc: Global) -> Result<Map<X>, AllocError>
-        ensures { IfOk result (λ copy. copy ≡ self.now) }
-    {
-        Ok(Map {
-            entries: Vec::from_slice(alloc, &self.entries)?,
-        })
-    }
-}

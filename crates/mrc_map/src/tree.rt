@@ -1,6 +1,6 @@
 //! A map from numbers, as an ordered tree.
 
-ghost use Rattle.std.specs.Prelude.{◌≡◌, ◌≤◌, ℕ, OnOk, OnErr, IfOk, IfSome, IfNone, IsSome};
+ghost use Rattle.std.specs.Prelude.{◌≡◌, ◌≤◌, ℕ, OnOk, OnErr, IfSome, IfNone, IsSome};
 ghost use Rattle.std.specs.Prelude.{Some, None};
 ghost use Rattle.std.specs.Option.{option_copied};
 ghost use Rattle.std.specs.Map.Calls.{CalledAtPair, RetainsPairs};
@@ -128,17 +128,5 @@ impl<X> Tree<X> {
         ensures { RetainsPairs (CalledAtPair F.FnMut) change self.old.list self.new.list }
     {
         self.entries.retain(change);
-    }
-}
-
-impl<X: Clone + Drop> Tree<X> {
-    /// The same map once more, of values whose clones are equal to them.
-    pub fn copy(&self) -> Result<Tree<X>, AllocError>
-        requires { (value clone : X) → X.is_clone value clone → clone ≡ value }
-        ensures { IfOk result (λ copy. copy ≡ self.now) }
-    {
-        Ok(Tree {
-            entries: self.entries.clone()?,
-        })
     }
 }

@@ -2,7 +2,6 @@ pub mod Granting
 pub mod SpaceExits
 pub mod BoundLaws
 pub mod GivingLaws
-pub mod Altering
 pub mod RenamingLaws
 pub mod ListingLaws
 pub mod ForetellingLaws

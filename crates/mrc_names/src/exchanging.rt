@@ -16,13 +16,7 @@ use std::alloc::AllocError;
 
 impl Space {
     /// Whether a right joins an entry, once a name has no more than the rest.
-    fn joins_left(
-        &self,
-        name: u32,
-        rest: &Option<Entry>,
-        port: PortId,
-        right: PortRight,
-    ) -> bool
+    fn joins_left(&self, name: u32, rest: &Option<Entry>, port: PortId, right: PortRight) -> bool
         requires { CanPut self.now name rest.now }
         ensures other { result ≡ true → right ≡ SendOnce → ⊥ }
         ensures found { result ≡ true → IsSome (entry_of (put_entry self.now name rest.now) port) }
@@ -36,13 +30,7 @@ impl Space {
     }
 
     /// A right joins its port's entry, once a name has no more than the rest: the entry's name.
-    fn join_left(
-        &mut self,
-        name: u32,
-        rest: &Option<Entry>,
-        port: PortId,
-        right: PortRight,
-    ) -> u32
+    fn join_left(&mut self, name: u32, rest: &Option<Entry>, port: PortId, right: PortRight) -> u32
         requires left { CanPut self.old name rest.now }
         requires other { right ≡ SendOnce → ⊥ }
         requires found { IsSome (entry_of (put_entry self.old name rest.now) port) }
@@ -105,9 +93,9 @@ impl Space {
         Ok(given)
     }
 
-    /// Gives a right, as `copyout` does, once a name has no more than the rest that `parting` tells:
-    /// its name, which may be the one that the taking frees. Refused where the space would have more
-    /// than 4,096 entries (KERN_NO_SPACE).
+    /// Gives a right, as `copyout` does, once a name has no more than the rest that `parting`
+    /// tells: its name, which may be the one that the taking frees. Refused where the space would
+    /// have more than 4,096 entries (KERN_NO_SPACE).
     pub fn exchange(
         &mut self,
         name: u32,

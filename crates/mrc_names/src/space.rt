@@ -135,15 +135,6 @@ impl Space {
         limits::NAMES <= self.entries.len()
     }
 
-    /// The same space once more.
-    pub fn copy(&self) -> Result<Space, AllocError>
-        ensures { IfOk result (λ copy. copy ≡ self.now) }
-    {
-        Ok(Space {
-            entries: self.entries.copy()?,
-        })
-    }
-
     /// The port of the right that `take` takes, and what is left of the entry, which `leave` puts
     /// there; or its refusal.
     pub fn parting(&self, name: u32, disp: Disp) -> Result<(PortId, Option<Entry>), Code>

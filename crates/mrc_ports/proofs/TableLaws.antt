@@ -2,13 +2,13 @@
 use Rattle.std.proofs.Common.{◌≡◌, ℕ, List, inl, inr, Option, Some, None, refl, sym, ◌∙◌, ap, subst}
 use Rattle.std.proofs.Common.{Bool, true, false, nat_lt, ◌<◌, ◌≤◌, ◌+◌, length, arith}
 use Rattle.std.proofs.Common.{if◌then◌else◌}
-use Rattle.std.specs.Prelude.{IsSome}
+use Rattle.std.specs.Prelude.{IsSome, is_some}
 use Rattle.std.proofs.lemmas.List.{length-map}
 use Rattle.std.proofs.lemmas.Bool.{cases_eq, ltb-true}
 use Rattle.mrc_model.specs.CallCreateTask.{limit_of_task_numbers}
 use Rattle.mrc_model.specs.Map.{Map, empty, get, insert, alter_all, remove, next_key}
 use Rattle.mrc_model.specs.Death.{has, perished_entry, perished_port, bury}
-use Rattle.mrc_model.specs.World.{Space, Port, Store, set_port}
+use Rattle.mrc_model.specs.World.{Space, Port, Store, set_port, set_space}
 use Rattle.mrc_model.specs.Space.{restart, restart_port}
 use Rattle.mrc_model.proofs.Maps.{get-insert_same, get-insert_other, get-next_key, get-remove_same}
 use Rattle.mrc_model.proofs.Maps.{get-remove_other, same_Some, not_None, get-empty, Each-insert}
@@ -29,6 +29,21 @@ insert_twice m k v w = same_map _ _ (λ q. elim (cases_eq q k) [
       get-insert_other (insert m k v) k w q other ∙ get-insert_other m k v q other
       ∙ sym (get-insert_other m k w q other)
 ])
+
+-- a space that is taken out, and another one put in its place
+pub put_twice : (s m z : Store) (t : ℕ) (x y blank : Space)
+    → IsSome (get s.spaces t)
+    → (IsSome (get s.spaces t) → (Some x ≡ get s.spaces t) × (m ≡ set_space s t blank))
+    → (IsSome (get m.spaces t) → z ≡ set_space m t y)
+    → (get s.spaces t ≡ Some x) × (z ≡ set_space s t y)
+put_twice s m z t x y blank there out back =
+    let (is, left) = out there in
+    let in_m : IsSome (get m.spaces t) = subst (λ (k : Store). IsSome (get k.spaces t)) (sym left)
+    (ap is_some (get-insert_same s.spaces t blank)) in (
+      sym is,
+      back in_m ∙ ap (λ k. set_space k t y) left
+          ∙ ap (λ (k : Map Space). record s { spaces = k }) (insert_twice s.spaces t blank y),
+    )
 
 -- the blank one stands there
 pub stands_there : (ports m : Map Port) (p : ℕ) (blank : Port)

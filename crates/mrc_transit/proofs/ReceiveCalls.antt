@@ -30,7 +30,6 @@ use Rattle.mrc_names.specs.Bounds.{IsBounded}
 use Rattle.mrc_ports.specs.Parcels.{carried_size}
 use Rattle.mrc_ports.specs.Queues.{after_receipt, received_at, received_from, received_by}
 use Rattle.mrc_ports.specs.Tables.{Table, table_of, store_of}
-use Rattle.mrc_ports.proofs.TableLaws.{insert_twice}
 use Rattle.mrc_transit.specs.Receiving.{found_source, IsGrantedOrFull, IsOverFilled, IsFirst}
 use Rattle.mrc_transit.specs.Receiving.{IsReceiveRefusal, no_space as no_space_for}
 use Rattle.mrc_transit.specs.Receiving.{AreHousedAlike}
@@ -329,21 +328,6 @@ alike_same s z is = record {
   spaces = λ u. ap (λ (k : Store). is_some (get k.spaces u)) is;
   next = ap (λ (k : Store). k.next) is;
 }
-
--- a space that is taken out, and another one put in its place
-pub put_twice : (s m z : Store) (t : ℕ) (x y blank : Space)
-    → IsSome (get s.spaces t)
-    → (IsSome (get s.spaces t) → (Some x ≡ get s.spaces t) × (m ≡ set_space s t blank))
-    → (IsSome (get m.spaces t) → z ≡ set_space m t y)
-    → (get s.spaces t ≡ Some x) × (z ≡ set_space s t y)
-put_twice s m z t x y blank there out back =
-    let (is, left) = out there in
-    let in_m : IsSome (get m.spaces t) = subst (λ (k : Store). IsSome (get k.spaces t)) (sym left)
-    (ap is_some (get-insert_same s.spaces t blank)) in (
-      sym is,
-      back in_m ∙ ap (λ k. set_space k t y) left
-          ∙ ap (λ (k : Map Space). record s { spaces = k }) (insert_twice s.spaces t blank y),
-    )
 
 -- what code tells of each step
 

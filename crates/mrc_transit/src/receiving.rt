@@ -30,7 +30,7 @@ use mrc_desc::{Argument, Arguments, Header, Message, Names};
 use mrc_model::{Code, Entry, Item};
 use mrc_names::{Giving, Space};
 use mrc_ports::{Parcel, QueuedArgument, Store, moving};
-use std::alloc::{AllocError, Global};
+use std::alloc::Global;
 use std::collections::btree_map::Iter;
 
 /// Why no message is received. Nothing has changed.
@@ -136,8 +136,11 @@ fn source_at(store: &Store, task: TaskId, space: &Space, name: u32) -> Result<(u
 /// have more than 4,096 entries.
 fn give_items(alloc: Global, giving: &mut Giving, items: &[Item]) -> Result<Names, OrMemory<Code>>
     ensures given { IfOk result (λ names. (s : TStore) (t : ℕ)
-        → give_items t (set_space s t giving.old.space) items.now ≡ (set_space s t
-        giving.new.space, names)) }
+        → give_items t (set_space s t giving.old.space) items.now ≡ (
+          set_space s t
+              giving.new.space,
+          names,
+        )) }
     ensures fit { IfOk result (λ names. AllByRecursion (λ name. name < 2 ^ 32) names) }
     ensures refused { IfErr result (λ e. (s : TStore) (t : ℕ)
         → IsOverFilled e (space_of (give_items t (set_space s t giving.old.space) items.now).0 t)) }

@@ -88,7 +88,8 @@ fn ask_room(port: &Port, by_once: bool) -> Result<(), OrMemory<SendFault>>
 /// name that gives no such right (MACH_SEND_INVALID_REPLY); name by name of the arguments, one that
 /// gives no such right (MACH_SEND_INVALID_RIGHT) or a port that its slot does not admit
 /// (`NotAdmitted`, with the argument's number); a queue that is at or above its limit, but for a
-/// message through a send-once right (MACH_SEND_TIMED_OUT). Each takes what the ones before it left.
+/// message through a send-once right (MACH_SEND_TIMED_OUT). Each takes what the ones before it
+/// left.
 pub fn copy_in(
     alloc: Global,
     store: &Store,

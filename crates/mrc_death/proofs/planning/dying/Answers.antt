@@ -1,10 +1,10 @@
 use Rattle.mrc_death.specs.Taking.{destroyed_of}
-use Rattle.mrc_death.proofs.WorkLaws.{plan_none, plan_some, task_there}
+use Rattle.mrc_death.proofs.WorkLaws.{plan_none, plan_some, can_remove}
 use Rattle.mrc_death.proofs.planning.dying.Goals as goal
 
 pub work_of-requires : goal.work_of-requires
 work_of-requires c =
-    task_there c.args.store.now (destroyed_of c.args.what) c.in_ok-taken.field-0 c.in-Some.taken
+    can_remove c.args.store.now (destroyed_of c.args.what) c.in_ok-taken.field-0 c.in-Some.taken
     c.in_ok-taken.ensures c.in-Some.is
 
 pub returns-in-None : goal.returns-in-None

@@ -28,7 +28,7 @@ loop-argument-preserved c =
     let first = item_first args i c.argument-item.result c.loop-argument-test.true
     c.argument-item.is in (
       args_next c.args.giving.now.space c.loop-argument.giving.space c.give_arg.new.giving.space
-      (map queued_of args)
+          (map queued_of args)
           (map queued_of (drop i args)) (map queued_of (drop (i + 1) args))
           (queued_of c.argument-item.result) (arguments_of c.loop-argument.args.items)
           (arguments_of c.push.new.self.items) (argument_of c.in_ok-give_arg.field-0)

@@ -3,7 +3,7 @@ use Rattle.std.specs.Prelude.{unwrap_or}
 use Rattle.mrc_model.specs.Map.{empty}
 use Rattle.mrc_model.specs.World.{set_space}
 use Rattle.mrc_names.specs.Leaving.{patched, AreRests}
-use Rattle.mrc_transit.proofs.ReceiveCalls.{put_twice}
+use Rattle.mrc_ports.proofs.TableLaws.{put_twice}
 use Rattle.mrc_transit.proofs.send_plan.put_changes.Goals as goal
 
 pub apply-requires : goal.apply-requires

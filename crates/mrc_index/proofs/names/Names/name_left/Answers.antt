@@ -1,4 +1,3 @@
-use Rattle.std.proofs.Common.{◌∙◌}
 use Rattle.mrc_index.proofs.LeftLaws.{left_none, left_some}
 use Rattle.mrc_index.proofs.names.Names.name_left.Goals as goal
 

@@ -61,7 +61,7 @@ pub returns-in-Some-clause-ready : goal.returns-in-Some-clause-ready
 returns-in-Some-clause-ready c = (
   c.joined.result,
   ap (λ z. get z c.in-Some.held.0) c.set.ensures ∙ get-insert_same _ c.in-Some.held.0
-  c.joined.result,
+      c.joined.result,
   alike_back c.in-Some.held.1 c.joined.result
       (subst (HoldsAlike c.in-Some.held.1) (sym c.joined.ensures)
       (joined_alike c.in-Some.held.1 c.args.right)),
