@@ -1,20 +1,17 @@
 -- Lists of rights, the walk along links, and the step from one followed port to the next.
 use Rattle.std.proofs.Common.{◌≡◌, ℕ, zero, suc, ◌+◌, ◌-◌, ◌<◌, ◌≤◌, ◌⊎◌, inl, inr, Bool, true}
 use Rattle.std.proofs.Common.{false, not, List, [], ◌∷◌, ◌++◌, length, take, get_or, refl, sym, ◌∙◌}
-use Rattle.std.proofs.Common.{ap, map, subst, arith, ◌==◌, ◌||◌, ◌&&◌, if◌then◌else◌, Some, eq-eqb}
+use Rattle.std.proofs.Common.{ap, subst, arith, ◌==◌, ◌||◌, ◌&&◌, if◌then◌else◌, Some, eq-eqb}
 use Rattle.std.proofs.Common.{T}
 use Rattle.std.proofs.lemmas.Bool.{and_parts, both_ways, or_cases, eqb-true}
 use Rattle.std.proofs.lemmas.Option.{slice_get-get_or}
 use Rattle.std.specs.List.{slice_get}
-use Rattle.mrc_base.specs.declared.PortRight.{PortRight}
-use Rattle.mrc_model.specs.declared.Item.{Item}
 use Rattle.mrc_model.specs.declared.Backup.{Backup}
 use Rattle.mrc_model.specs.declared.Backup.TheVariants.{Absent as NoBackup, Dead as DeadBackup}
 use Rattle.mrc_model.specs.declared.Backup.TheVariants.{Port as BackupPort}
 use Rattle.mrc_model.specs.Rising.{find_key, is_rising, right_holds}
 use Rattle.mrc_model.specs.Map.{Map, get, keys}
-use Rattle.mrc_model.specs.World.{Port, Parcel, Store, Held, item_rights, items_rights}
-use Rattle.mrc_model.specs.World.{args_rights, parcel_rights, queue_rights}
+use Rattle.mrc_model.specs.World.{Port, Store, Held, queue_rights}
 use Rattle.mrc_model.specs.Death.{has, has_receive, queued_on, queued_rights, is_lost, backup_of}
 use Rattle.mrc_model.specs.Death.{Doomed, is_kernel_of, dies, dying}
 use Rattle.mrc_model.proofs.Maps.{find_cases, find_later, find_here}
@@ -25,53 +22,23 @@ use Rattle.mrc_death.specs.Losing.{is_losing}
 use Rattle.mrc_death.specs.Heads.{head_at}
 use Rattle.mrc_death.specs.declared.search.Link.{Link}
 use Rattle.mrc_death.specs.declared.search.Search.{Search}
-use Rattle.mrc_ports.specs.declared.parcel.QueuedArgument.{QueuedArgument}
-use Rattle.mrc_ports.specs.Parcels.{queued_of}
-use Rattle.mrc_death.specs.Rights.{flat, argument_rights}
 use Rattle.mrc_death.specs.Search.{Linked, here, there, unseen, Goes, Kept, Step, Walk, Going}
-use Rattle.mrc_death.specs.Search.{one_held, one_right}
+use Rattle.mrc_death.specs.Search.{one_held}
 use Rattle.mrc_death.proofs.Keeping.{then_step, no_step, has_push}
 
-flat_more : {X : Type 0} (f : X → List Held) (xs : List X) (i : ℕ) (x : X) → i < length xs → x
-    ≡ get_or xs i x → flat f (take (suc i) xs) ≡ flat f (take i xs) ++ f x
-flat_more f [] i x h e = absurd (omega arith)
-flat_more f (y ∷ ys) zero x h e = ap (λ z. f z ++ []) (sym e) ∙ nil (f x)
-  where
-    nil : (hs : List Held) → hs ++ [] ≡ hs
-    nil [] = refl
-    nil (g ∷ gs) = ap (λ r. g ∷ r) (nil gs)
-flat_more f (y ∷ ys) (suc i) x h e = ap (λ r. f y ++ r) (flat_more f ys i x (omega arith) e)
-    ∙ join (f y) (flat f (take i ys)) (f x)
-  where
-    join : (ks bs cs : List Held) → ks ++ (bs ++ cs) ≡ (ks ++ bs) ++ cs
-    join [] bs cs = refl
-    join (a ∷ ks) bs cs = ap (λ r. a ∷ r) (join ks bs cs)
-
-part : {X : Type 0} (f : X → List Held) (xs : List X) (i : ℕ) (x : X) (p : ℕ) → i < length xs → x
-    ≡ get_or xs i x → has_receive p (f x) ≡ true → has_receive p (flat f xs) ≡ true
-part f [] i x p h e r = absurd (omega arith)
-part f (y ∷ ys) zero x p h e r = any_append p (f y) (flat f ys)
-    ∙ or_left (has_receive p (f y)) (has_receive p (flat f ys)) (ap (λ z. has_receive p (f z)) (sym
-    e) ∙ r)
-part f (y ∷ ys) (suc i) x p h e r = any_append p (f y) (flat f ys)
-    ∙ or_right (has_receive p (f y)) (has_receive p (flat f ys)) (part f ys i x p (omega arith) e r)
-
-pub items_flat : (xs : List Item) → flat item_rights xs ≡ items_rights xs
-items_flat [] = refl
-items_flat (x ∷ xs) = ap (λ r. item_rights x ++ r) (items_flat xs)
-
-pub args_flat : (xs : List QueuedArgument)
-    → flat argument_rights xs ≡ args_rights (map queued_of xs)
-args_flat [] = refl
-args_flat (x ∷ xs) = ap (λ r. argument_rights x ++ r) (args_flat xs)
-
-pub queue_flat : (xs : List Parcel) → flat parcel_rights xs ≡ queue_rights xs
-queue_flat [] = refl
-queue_flat (x ∷ xs) = ap (λ r. parcel_rights x ++ r) (queue_flat xs)
-
-pub held_flat : (xs : List Held) → flat one_held xs ≡ xs
-held_flat [] = refl
-held_flat (x ∷ xs) = ap (λ r. x ∷ r) (held_flat xs)
+part : (hs : List Held) (i : ℕ) (h : Held) (p : ℕ)
+    → i < length hs
+    → h ≡ get_or hs i h
+    → has_receive p (one_held h) ≡ true
+    → has_receive p hs ≡ true
+part [] i h p within is r = absurd (omega arith)
+part (g ∷ gs) zero h p within is r =
+    any_append p (one_held g) gs
+    ∙ or_left (has_receive p (one_held g)) (has_receive p gs)
+    (ap (λ x. has_receive p (one_held x)) (sym is) ∙ r)
+part (g ∷ gs) (suc i) h p within is r =
+    any_append p (one_held g) gs
+    ∙ or_right (has_receive p (one_held g)) (has_receive p gs) (part gs i h p (omega arith) is r)
 
 -- what is queued on one more port
 queued_push : (p : ℕ) (dead : List ℕ) (x low : ℕ) (es : List (ℕ × Port)) → T (is_rising low es)
@@ -148,8 +115,8 @@ queued_none : (p : ℕ) (es : List (ℕ × Port)) → has_receive p (queued_on [
 queued_none p [] h = h
 queued_none p (e ∷ es) h = queued_none p es h
 
-take_next : (l : List ℕ) (j x : ℕ) → j < length l → x ≡ get_or l j x → take (suc j) l
-    ≡ take j l ++ x ∷ []
+take_next : {X : Type 0} (l : List X) (j : ℕ) (x : X) → j < length l → x ≡ get_or l j x
+    → take (suc j) l ≡ take j l ++ x ∷ []
 take_next [] j x h e = absurd (omega arith)
 take_next (y ∷ ys) zero x h e = ap (λ z. z ∷ []) (sym e)
 take_next (y ∷ ys) (suc j) x h e = ap (λ r. y ∷ r) (take_next ys j x (omega arith) e)
@@ -178,21 +145,28 @@ found_value : (m : Map Port) (x : ℕ) (v w : Port) → get m x ≡ Some v → f
 unfolding get
 found_value m x v w e f = same_value v w (sym e ∙ f)
 
-pub one_is : (h : Held) (p : ℕ) (r : PortRight) → p ≡ h.port → r ≡ h.right → one_right p r
-    ≡ one_held h
-one_is h p r e f = rw (e, f) refl
-
 module _ (s : Store) (d : Doomed) where
-  pub goes_part : {X : Type 0} (f : X → List Held) (xs : List X) (i : ℕ) (x : X)
-      → Goes s d (flat f xs) → i < length xs → x ≡ get_or xs i x → Goes s d (f x)
-  goes_part f xs i x g h e = record { at = λ p r. g.at p (part f xs i x p h e r) }
+  pub goes_part : (hs : List Held) (i : ℕ) (h : Held)
+      → Goes s d hs
+      → i < length hs
+      → h ≡ get_or hs i h
+      → Goes s d (one_held h)
+  goes_part hs i h goes within is = record {
+    at = λ p r. goes.at p (part hs i h p within is r);
+  }
 
-  pub flat_step : {X : Type 0} (f : X → List Held) (xs : List X) (i : ℕ) (x : X) (a b c : Search)
-      → i < length xs → x ≡ get_or xs i x → Step s d (flat f (take i xs)) a b → Step s d (f x) b c
-      → Step s d (flat f (take (i + 1) xs)) a c
-  flat_step f xs i x a b c h e u v = let n : suc i ≡ i + 1 = omega arith in subst (λ rs. Step s d
-      rs a c) (sym (flat_more f xs i x h e) ∙ ap (λ m. flat f (take m xs)) n) (then_step s d (flat
-      f (take i xs)) (f x) a b c u v)
+  -- one right more
+  pub step_on : (hs : List Held) (i : ℕ) (h : Held) (a b c : Search)
+      → i < length hs
+      → h ≡ get_or hs i h
+      → Step s d (take i hs) a b
+      → Step s d (one_held h) b c
+      → Step s d (take (i + 1) hs) a c
+  step_on hs i h a b c within is one two =
+      let next : suc i ≡ i + 1 = omega arith in
+      subst (λ rs. Step s d rs a c)
+      (sym (take_next hs i h within is) ∙ ap (λ n. take n hs) next)
+      (then_step s d (take i hs) (one_held h) a b c one two)
 
   pub walk_begun : (backup : ℕ) (a : Search) (at : ℕ) → at ≡ head_at a.heads backup → Kept s d a
       → Walk s d backup a a at
@@ -254,26 +228,23 @@ module _ (s : Store) (d : Doomed) where
 
   -- the rights of a queue go, where its port is found
   pub queue_goes : (z : Search) (x : ℕ) (v : Port) → Kept s d z → has z.dead.items x ≡ true
-      → get s.ports x ≡ Some v → Goes s d (flat parcel_rights v.queue)
+      → get s.ports x ≡ Some v → Goes s d (queue_rights v.queue)
   unfolding get
   queue_goes z x v k f e = record {
     at = λ p r. any_append p d.rights (queued_rights s (dying s d))
         ∙ or_right (has_receive p d.rights) (has_receive p (queued_rights s (dying s d))) (queued_in
-        p (dying s d) x v s.ports.list (k.sound x f) e (ap (has_receive p) (sym (queue_flat
-        v.queue))
-        ∙ r));
+        p (dying s d) x v s.ports.list (k.sound x f) e r);
   }
 
-  pub rights_go : Goes s d (flat one_held d.rights)
+  pub rights_go : Goes s d d.rights
   rights_go = record {
     at = λ p r. any_append p d.rights (queued_rights s (dying s d))
-        ∙ or_left (has_receive p d.rights) (has_receive p (queued_rights s (dying s d))) (ap
-        (has_receive p) (sym (held_flat d.rights)) ∙ r);
+        ∙ or_left (has_receive p d.rights) (has_receive p (queued_rights s (dying s d))) r;
   }
 
   pub followed : (a y z : Search) (x : ℕ) (v : Port) → Going s d a → a.done < length a.dead.items
       → x ≡ get_or a.dead.items a.done x → get s.ports x ≡ Some v
-      → Step s d (flat parcel_rights v.queue) a y → Step s d [] y z → ((p : ℕ)
+      → Step s d (queue_rights v.queue) a y → Step s d [] y z → ((p : ℕ)
       → Linked z.links.items x (head_at z.heads x) p → has z.dead.items p ≡ true)
       → Going s d (record z { done = z.done + 1 })
   followed a y z x v g more x_is v_is queue walk woken = record {
@@ -303,17 +274,17 @@ module _ (s : Store) (d : Doomed) where
                       s (take
                       a.done a.dead.items)) ∙ or_right (has_receive p d.rights) (has_receive p
                       (queued_rights s (take a.done a.dead.items))) l))
-                  | inr q ↦ walk.gone p (queue.all p live (ap (has_receive p) (queue_flat v.queue)
-                      ∙ (ap (λ (w : Port). has_receive p (queue_rights w.queue)) (value q.0 q.1)
-                      ∙ q.2)))
+                  | inr q ↦ walk.gone p (queue.all p live
+                      (ap (λ (w : Port). has_receive p (queue_rights w.queue)) (value q.0 q.1)
+                      ∙ q.2))
                 ]
           ];
     };
     kernel = λ p live k. step.dead p (g.kernel p live k);
   }
     where
-      step : Step s d (flat parcel_rights v.queue ++ []) a z
-      step = then_step s d (flat parcel_rights v.queue) [] a y z queue walk
+      step : Step s d (queue_rights v.queue ++ []) a z
+      step = then_step s d (queue_rights v.queue) [] a y z queue walk
 
       value : (w : Port) → find_key x s.ports.list ≡ Some w → v ≡ w
       value w e = found_value s.ports x v w v_is e
@@ -369,14 +340,14 @@ module _ (s : Store) (d : Doomed) where
 
   pub begun : (a y z : Search) → a.done ≡ 0 → Step s d [] a y → ((p : ℕ) → has (keys s.ports) p
       ≡ true → is_kernel_of d.kernel p ≡ true → has y.dead.items p ≡ true)
-      → Step s d (flat one_held d.rights) y z → Going s d z
+      → Step s d d.rights y z → Going s d z
   begun a y z done one kernel two = record {
     kept = two.kept;
     received = record {
       at = λ p live h. elim (or_cases (has_receive p d.rights) (has_receive p (queued_rights s
           (take z.done z.dead.items))) (sym (any_append p d.rights (queued_rights s (take z.done
           z.dead.items))) ∙ h)) [
-            | inl l ↦ two.all p live (ap (has_receive p) (held_flat d.rights) ∙ l)
+            | inl l ↦ two.all p live l
             | inr r ↦ absurd (both_ways false refl (queued_none p s.ports.list (ap (λ xs.
                 has_receive p
                 (queued_rights s xs)) (sym nothing) ∙ r)))
@@ -449,28 +420,3 @@ module _ (s : Store) (d : Doomed) where
           g.received.at p both.0
           (ap (λ xs. has_receive p (d.rights ++ queued_rights s xs))
           (take_whole z.dead.items z.done all) ∙ more both.1)
-
-  -- the two parts of a message
-  pub message_goes : (m : Parcel) (xs : List QueuedArgument)
-      → map queued_of xs ≡ m.args
-      → Goes s d (parcel_rights m)
-      → Goes s d (flat argument_rights xs)
-  message_goes m xs e g = record {
-    at = λ p r. g.at p
-        (any_append p (item_rights m.reply) (args_rights m.args)
-        ∙ or_right (has_receive p (item_rights m.reply)) (has_receive p (args_rights m.args))
-        (ap (λ l. has_receive p (args_rights l)) (sym e) ∙ ap (has_receive p) (sym (args_flat xs))
-        ∙ r));
-  }
-
-  pub message_step : (m : Parcel) (reply : Item) (xs : List QueuedArgument) (a b c : Search)
-      → reply ≡ m.reply
-      → map queued_of xs ≡ m.args
-      → Step s d (item_rights reply) a b
-      → Step s d (flat argument_rights xs) b c
-      → Step s d (parcel_rights m) a c
-  message_step m reply xs a b c e f u v =
-      subst (λ rs. Step s d rs a c)
-      (ap (λ x. item_rights x ++ flat argument_rights xs) e
-      ∙ ap (λ x. item_rights m.reply ++ x) (args_flat xs ∙ ap args_rights f))
-      (then_step s d (item_rights reply) (flat argument_rights xs) a b c u v)

@@ -2,8 +2,6 @@ pub mod Words
 pub mod Keeping
 pub mod Following
 pub mod Absent
-pub mod TakenLaws
-pub mod TakingLaws
 pub mod RightsLaws
 pub mod Burying
 pub mod Rooms

@@ -9,8 +9,7 @@ use Rattle.mrc_model.specs.Death.{queued_on}
 use Rattle.mrc_map.proofs.Walks.{since, from_first}
 use Rattle.mrc_ports.specs.declared.parcel.QueuedArgument.{QueuedArgument}
 use Rattle.mrc_ports.specs.Parcels.{queued_of}
-use Rattle.mrc_death.specs.Rights.{flat, argument_rights, rights_in}
-use Rattle.mrc_death.proofs.Following.{args_flat}
+use Rattle.mrc_death.specs.Rights.{rights_in}
 
 -- what a message carries: its reply right, then those of its arguments
 pub message_pushed : (m : Parcel) (reply : Item) (xs : List QueuedArgument)
@@ -18,13 +17,13 @@ pub message_pushed : (m : Parcel) (reply : Item) (xs : List QueuedArgument)
     → reply ≡ m.reply
     → map queued_of xs ≡ m.args
     → mid ≡ old ++ item_rights reply
-    → new ≡ mid ++ flat argument_rights xs
+    → new ≡ mid ++ args_rights (map queued_of xs)
     → new ≡ old ++ parcel_rights m
 message_pushed m reply xs old mid new r a one two =
-    let args : flat argument_rights xs ≡ args_rights m.args = args_flat xs ∙ ap args_rights a in
-    two ∙ ap (λ hs. hs ++ flat argument_rights xs) one
-    ∙ append_assoc old (item_rights reply) (flat argument_rights xs)
-    ∙ ap (λ hs. old ++ (item_rights reply ++ hs)) args
+    let args = args_rights (map queued_of xs) in
+    two ∙ ap (λ hs. hs ++ args) one
+    ∙ append_assoc old (item_rights reply) args
+    ∙ ap (λ hs. old ++ (item_rights reply ++ hs)) (ap args_rights a)
     ∙ ap (λ x. old ++ (item_rights x ++ args_rights m.args)) r
 
 -- one message more of a queue

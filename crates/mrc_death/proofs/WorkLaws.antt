@@ -1,10 +1,11 @@
 -- Work that was planned does what follows from a destruction.
-use Rattle.std.proofs.Common.{◌≡◌, ℕ, ◌+◌, true, ◌&&◌, List, ◌++◌, length, map, Option, Some, None}
-use Rattle.std.proofs.Common.{refl, sym, ◌∙◌, ap, subst, arith}
-use Rattle.mrc_model.specs.Map.{keys, alter_all}
+use Rattle.std.proofs.Common.{◌≡◌, ℕ, zero, suc, ◌+◌, true, ◌&&◌, List, ◌++◌, length, map, Option, Some, None}
+use Rattle.std.proofs.Common.{refl, sym, ◌∙◌, ap, subst, arith, filter}
+use Rattle.mrc_model.specs.Map.{Map, keys, len, alter_all}
 use Rattle.mrc_model.specs.Rising.{alter_list}
-use Rattle.mrc_model.specs.World.{Store, Held}
-use Rattle.mrc_model.specs.Death.{Doomed, has, has_receive, queued_on, queued_rights, dying, bury}
+use Rattle.mrc_model.specs.World.{Space, Store, Held}
+use Rattle.mrc_model.specs.Death.{Doomed, has, has_receive, queued_on, queued_rights, dies, rounds}
+use Rattle.mrc_model.specs.Death.{dying, bury}
 use Rattle.mrc_model.specs.Death.{notify_once, notify_destroyed, perished_port, destroy}
 use Rattle.mrc_model.specs.Destroyed as model
 use Rattle.mrc_model.specs.Destroyed.{destroyed, destroy_out, taken_out}
@@ -17,8 +18,19 @@ use Rattle.mrc_death.specs.Removing.{CanRemove, removed_from}
 use Rattle.mrc_death.specs.declared.removal.Removal.{Removal}
 use Rattle.mrc_death.proofs.Rooms.{room_less, room_space, room_bury, room_told}
 use Rattle.mrc_death.proofs.Burying.{bury_same, queued_same}
-use Rattle.mrc_death.proofs.TakenLaws.{dying_same}
 use Rattle.mrc_death.proofs.Telling.{once_told, destroyed_told}
+
+-- who dies hangs on the ports alone
+rounds_same : (s : Store) (m : Map Space) (d : Doomed) (n : ℕ)
+    → rounds n (record s { spaces = m }) d ≡ rounds n s d
+rounds_same s m d zero = refl
+rounds_same s m d (suc n) =
+    ap (λ dead. filter (dies s d dead) (keys s.ports)) (rounds_same s m d n)
+
+dying_same : (s : Store) (m : Map Space) (d : Doomed)
+    → dying (record s { spaces = m }) d ≡ dying s d
+unfolding dying
+dying_same s m d = rounds_same s m d (len s.ports)
 
 -- what follows where these ports die
 abbrev follows : Store → Doomed → List ℕ → Store

@@ -2,7 +2,6 @@
 use Rattle.std.specs.Prelude.{◌≡◌, ◌⊎◌, ℕ, ◌+◌, ◌≤◌, true, false, not, List, [], ◌∷◌, ◌++◌, length}
 use Rattle.std.specs.Prelude.{take, Some}
 use Rattle.std.specs.List.{slice_get, filter}
-use Rattle.mrc_base.specs.declared.PortRight.{PortRight}
 use Rattle.mrc_base.specs.declared.PortRight.TheVariants.{Receive}
 use Rattle.mrc_model.specs.declared.Backup.TheVariants.{Port as BackupPort}
 use Rattle.mrc_model.specs.Map.{get, keys}
@@ -87,11 +86,7 @@ pub record Received (s : Store) (d : Doomed) (z : Search) : Type 0 where
 abbrev pub receive_of : ℕ → List Held
 receive_of p = record { port = p; right = Receive } ∷ []
 
--- one right
-abbrev pub one_right : ℕ → PortRight → List Held
-one_right p r = record { port = p; right = r } ∷ []
-
--- the same for a right that is held
+-- one right alone
 abbrev pub one_held : Held → List Held
 one_held h = h ∷ []
 

@@ -1,12 +1,14 @@
 //! All rights that go in a destruction: those that the call destroys, and those that are queued on
 //! the ports that die.
 
-ghost use Rattle.std.specs.Prelude.{◌≡◌, ◌++◌, IfOk, OnOk};
-ghost use Rattle.mrc_model.specs.World.{item_rights, items_rights, parcel_rights, queue_rights};
+ghost use Rattle.std.specs.Prelude.{◌≡◌, ◌++◌, map, IfOk, OnOk};
+ghost use Rattle.mrc_model.specs.World.{item_rights, items_rights, arg_rights, args_rights};
+ghost use Rattle.mrc_model.specs.World.{parcel_rights, queue_rights};
+ghost use Rattle.mrc_ports.specs.Parcels.{queued_of};
 ghost use Rattle.mrc_model.specs.Death.{queued_rights};
 ghost use Rattle.mrc_model.specs.Map.{get};
 ghost use Rattle.mrc_map.specs.Members.{of_some};
-ghost use Rattle.mrc_death.specs.Rights.{flat, argument_rights, rights_in};
+ghost use Rattle.mrc_death.specs.Rights.{rights_in};
 
 use crate::doomed::{Doomed, Held};
 use mrc_base::PortId;
@@ -41,7 +43,7 @@ fn add_items(rights: &mut Vec<Held>, items: &[Item]) -> Result<(), AllocError>
 
 /// The rights of an argument.
 fn add_argument(rights: &mut Vec<Held>, argument: &QueuedArgument) -> Result<(), AllocError>
-    ensures { OnOk result (rights.new.items ≡ rights.old.items ++ argument_rights argument.now) }
+    ensures { OnOk result (rights.new.items ≡ rights.old.items ++ arg_rights (queued_of argument.now)) }
 {
     match argument {
         QueuedArgument::Data { .. } => Ok(()),
@@ -55,7 +57,7 @@ fn add_argument(rights: &mut Vec<Held>, argument: &QueuedArgument) -> Result<(),
 /// The rights of arguments.
 fn add_arguments(rights: &mut Vec<Held>, arguments: &[QueuedArgument]) -> Result<(), AllocError>
     ensures { OnOk result
-        (rights.new.items ≡ rights.old.items ++ flat argument_rights arguments.now) }
+        (rights.new.items ≡ rights.old.items ++ args_rights (map queued_of arguments.now)) }
 {
     for argument in arguments {
         add_argument(rights, argument)?;
@@ -73,7 +75,7 @@ fn add_message(rights: &mut Vec<Held>, message: &Parcel) -> Result<(), AllocErro
 }
 
 /// The rights that the messages of a queue carry.
-fn add_queue(rights: &mut Vec<Held>, queue: &Queue) -> Result<(), AllocError>
+pub(crate) fn add_queue(rights: &mut Vec<Held>, queue: &Queue) -> Result<(), AllocError>
     ensures { OnOk result (rights.new.items ≡ rights.old.items ++ queue_rights queue.now) }
 {
     for message in queue.iter() {

@@ -15,4 +15,4 @@ pub use doomed::{Doomed, Held};
 pub use plan::Dying;
 pub use planning::dying;
 pub use search::{Deaths, find_deaths};
-pub use taking::{Destroyed, deaths_by, doomed_by};
+pub use taking::Destroyed;

@@ -10,20 +10,20 @@ ghost use Rattle.mrc_model.specs.declared.Backup.{Backup};
 ghost use Rattle.mrc_model.specs.declared.Backup.TheVariants.{Port as BackupPort};
 ghost use Rattle.mrc_model.specs.Map.{get, keys};
 ghost use Rattle.std.specs.Option.{option_copied};
-ghost use Rattle.mrc_model.specs.World.{item_rights, parcel_rights};
+ghost use Rattle.mrc_model.specs.World.{queue_rights};
 ghost use Rattle.mrc_model.specs.Death.{has, backup_of, is_kernel_of, dying};
 ghost use Rattle.mrc_death.specs.Heads.{head_at};
 ghost use Rattle.mrc_death.specs.Losing.{is_losing};
 ghost use Rattle.mrc_death.specs.Search.{Kept, Step, Settled, Linked, Loses, Goes, Going};
-ghost use Rattle.mrc_death.specs.Search.{receive_of, one_right, one_held};
-ghost use Rattle.mrc_death.specs.Rights.{flat, argument_rights};
+ghost use Rattle.mrc_death.specs.Search.{receive_of, one_held};
 
 use crate::doomed::{Doomed, Held};
+use crate::going::add_queue;
 use crate::heads::Heads;
 use mrc_base::{PortId, PortRight};
 use mrc_map::Ports;
-use mrc_model::{Backup, Item};
-use mrc_ports::{Parcel, Port, Queue, QueuedArgument, Store};
+use mrc_model::Backup;
+use mrc_ports::{Port, Queue, Store};
 use std::alloc::{AllocError, Global};
 
 /// What comes of a destruction.
@@ -229,110 +229,33 @@ impl Search {
     }
 
     /// A right goes.
-    fn lose_right(
-        &mut self,
-        store: &Store,
-        doomed: &Doomed,
-        port: PortId,
-        right: PortRight,
-    ) -> Result<(), AllocError>
+    fn lose_held(&mut self, store: &Store, doomed: &Doomed, held: &Held) -> Result<(), AllocError>
         requires kept { Kept store.now doomed.now self.old }
-        requires goes { Goes store.now doomed.now (one_right port right) }
-        ensures { OnOk result (Step store.now doomed.now (one_right port right) self.old self.new) }
+        requires goes { Goes store.now doomed.now (one_held held.now) }
+        ensures { OnOk result (Step store.now doomed.now (one_held held.now) self.old self.new) }
     {
-        match right {
-            PortRight::Receive => self.lose(store, doomed, port)?,
+        match held.right() {
+            PortRight::Receive => self.lose(store, doomed, held.port())?,
             PortRight::Send => (),
             PortRight::SendOnce => (),
         }
         Ok(())
     }
 
-    /// What stands in the place of a name goes.
-    fn lose_item(&mut self, store: &Store, doomed: &Doomed, item: Item) -> Result<(), AllocError>
-        requires kept { Kept store.now doomed.now self.old }
-        requires goes { Goes store.now doomed.now (item_rights item) }
-        ensures { OnOk result (Step store.now doomed.now (item_rights item) self.old self.new) }
-    {
-        match item {
-            Item::Null => (),
-            Item::Dead => (),
-            Item::Right { port, right } => self.lose_right(store, doomed, port, right)?,
-        }
-        Ok(())
-    }
-
-    /// Items go.
-    fn lose_items(
+    /// Rights go.
+    fn lose_rights(
         &mut self,
         store: &Store,
         doomed: &Doomed,
-        items: &[Item],
+        rights: &[Held],
     ) -> Result<(), AllocError>
         requires kept { Kept store.now doomed.now self.old }
-        requires goes { Goes store.now doomed.now (flat item_rights items.now) }
-        ensures { OnOk result
-            (Step store.now doomed.now (flat item_rights items.now) self.old self.new) }
+        requires goes { Goes store.now doomed.now rights.now }
+        ensures { OnOk result (Step store.now doomed.now rights.now self.old self.new) }
     {
-        for item in items {
-            self.lose_item(store, doomed, *item)?;
+        for held in rights {
+            self.lose_held(store, doomed, held)?;
         }
-        Ok(())
-    }
-
-    /// What an argument carries goes.
-    fn lose_argument(
-        &mut self,
-        store: &Store,
-        doomed: &Doomed,
-        argument: &QueuedArgument,
-    ) -> Result<(), AllocError>
-        requires kept { Kept store.now doomed.now self.old }
-        requires goes { Goes store.now doomed.now (argument_rights argument.now) }
-        ensures { OnOk result
-            (Step store.now doomed.now (argument_rights argument.now) self.old self.new) }
-    {
-        match argument {
-            QueuedArgument::Data { .. } => Ok(()),
-            QueuedArgument::Items { items, .. } => {
-                self.lose_items(store, doomed, items.as_slice())?;
-                Ok(())
-            }
-        }
-    }
-
-    /// What arguments carry goes.
-    fn lose_arguments(
-        &mut self,
-        store: &Store,
-        doomed: &Doomed,
-        arguments: &[QueuedArgument],
-    ) -> Result<(), AllocError>
-        requires kept { Kept store.now doomed.now self.old }
-        requires goes { Goes store.now doomed.now (flat argument_rights arguments.now) }
-        ensures { OnOk result
-            (Step store.now doomed.now (flat argument_rights arguments.now) self.old self.new) }
-    {
-        for argument in arguments {
-            self.lose_argument(store, doomed, argument)?;
-        }
-        Ok(())
-    }
-
-    /// What a message carries goes.
-    fn lose_message(
-        &mut self,
-        store: &Store,
-        doomed: &Doomed,
-        message: &Parcel,
-    ) -> Result<(), AllocError>
-        requires kept { Kept store.now doomed.now self.old }
-        requires goes { Goes store.now doomed.now (parcel_rights message.now) }
-        ensures { OnOk result
-            (Step store.now doomed.now (parcel_rights message.now) self.old self.new) }
-    {
-        self.lose_item(store, doomed, message.reply())?;
-        self.lose_arguments(store, doomed, message.arguments())?;
         Ok(())
     }
 
@@ -344,41 +267,13 @@ impl Search {
         queue: &Queue,
     ) -> Result<(), AllocError>
         requires kept { Kept store.now doomed.now self.old }
-        requires goes { Goes store.now doomed.now (flat parcel_rights queue.now) }
+        requires goes { Goes store.now doomed.now (queue_rights queue.now) }
         ensures { OnOk result
-            (Step store.now doomed.now (flat parcel_rights queue.now) self.old self.new) }
+            (Step store.now doomed.now (queue_rights queue.now) self.old self.new) }
     {
-        for message in queue.iter() {
-            self.lose_message(store, doomed, message)?;
-        }
-        Ok(())
-    }
-
-    /// A right goes that the call destroys.
-    fn lose_held(&mut self, store: &Store, doomed: &Doomed, held: &Held) -> Result<(), AllocError>
-        requires kept { Kept store.now doomed.now self.old }
-        requires goes { Goes store.now doomed.now (one_held held.now) }
-        ensures { OnOk result (Step store.now doomed.now (one_held held.now) self.old self.new) }
-    {
-        self.lose_right(store, doomed, held.port(), held.right())?;
-        Ok(())
-    }
-
-    /// The rights go that the call destroys.
-    fn lose_rights(
-        &mut self,
-        store: &Store,
-        doomed: &Doomed,
-        rights: &[Held],
-    ) -> Result<(), AllocError>
-        requires kept { Kept store.now doomed.now self.old }
-        requires goes { Goes store.now doomed.now (flat one_held rights.now) }
-        ensures { OnOk result
-            (Step store.now doomed.now (flat one_held rights.now) self.old self.new) }
-    {
-        for held in rights {
-            self.lose_held(store, doomed, held)?;
-        }
+        let mut rights = Vec::new(*self.dead.allocator());
+        add_queue(&mut rights, queue)?;
+        self.lose_rights(store, doomed, &rights)?;
         Ok(())
     }
 

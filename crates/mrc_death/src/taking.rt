@@ -5,17 +5,13 @@ ghost use Rattle.mrc_model.specs.Map.{get};
 ghost use Rattle.mrc_model.specs.World.{space, entry_rights, if_sends};
 ghost use Rattle.mrc_model.specs.Destroyed.{all_rights, taken_out, receive_out, entry_out};
 ghost use Rattle.mrc_model.specs.Destroyed.{task_out};
-ghost use Rattle.mrc_model.specs.Space.{put_entry};
-ghost use Rattle.mrc_index.specs.Undo.{CanPut};
-ghost use Rattle.mrc_death.specs.Taking.{destroyed_of, receive_rights, doomed_of, AreDeaths};
-ghost use Rattle.mrc_death.specs.Taking.{AreTaken, IsReceive, left_of_receive};
+ghost use Rattle.mrc_death.specs.Taking.{destroyed_of, AreTaken};
 
 use crate::doomed::{Doomed, Held};
 use crate::removal::Removal;
-use crate::search::{Deaths, find_deaths};
-use mrc_base::{Disp, PortId, PortRight, TaskId};
+use mrc_base::{PortId, PortRight, TaskId};
+use mrc_index::entry::send_entry;
 use mrc_model::Entry;
-use mrc_names::Space;
 use mrc_ports::Store;
 use std::alloc::{AllocError, Global};
 use std::collections::btree_map::Iter;
@@ -29,16 +25,6 @@ pub enum Destroyed {
     Entry { task: TaskId, name: u32 },
     /// All that a task has, with its kernel port.
     Task { task: TaskId, kernel: PortId },
-}
-
-/// The entry of a name of a task.
-fn entry_at(store: &Store, task: TaskId, name: u32) -> Option<Entry>
-    ensures { result ≡ get (space store.now task) name }
-{
-    match store.space(task) {
-        Some(found) => found.get(name),
-        None => None,
-    }
 }
 
 /// A send right, where there are references.
@@ -85,16 +71,6 @@ fn all_rights(alloc: Global, entries: Iter<'_, u64, Entry>) -> Result<Vec<Held>,
     Ok(rights)
 }
 
-/// The rights of a task's whole space.
-fn space_rights(alloc: Global, store: &Store, task: TaskId) -> Result<Vec<Held>, AllocError>
-    ensures { IfOk result (λ rights. rights.items ≡ all_rights (space store.now task).list) }
-{
-    match store.space(task) {
-        Some(found) => all_rights(alloc, found.iter()),
-        None => Ok(Vec::new(alloc)),
-    }
-}
-
 /// The rights that an entry shows.
 fn rights_of(alloc: Global, entry: &Entry) -> Result<Vec<Held>, AllocError>
     ensures { IfOk result (λ rights. rights.items ≡ entry_rights entry.now) }
@@ -102,63 +78,6 @@ fn rights_of(alloc: Global, entry: &Entry) -> Result<Vec<Held>, AllocError>
     let mut rights = Vec::new(alloc);
     add_rights(&mut rights, entry)?;
     Ok(rights)
-}
-
-/// What goes with the receive right of an entry, if it has one.
-fn doomed_receive(alloc: Global, entry: &Entry) -> Result<Option<Doomed>, AllocError>
-    ensures { IfOk result (λ found. found ≡ receive_rights (Some entry.now)) }
-{
-    match *entry {
-        Entry::Receive { port, .. } => {
-            let mut rights = Vec::new(alloc);
-            rights.push(Held::new(port, PortRight::Receive))?;
-            Ok(Some(Doomed::new(rights, None)))
-        }
-        _ => Ok(None),
-    }
-}
-
-/// What goes with what a call destroys: rights, and the kernel port of a task that it ends. None
-/// where it is not there.
-pub fn doomed_by(
-    alloc: Global,
-    store: &Store,
-    what: Destroyed,
-) -> Result<Option<Doomed>, AllocError>
-    ensures { IfOk result (λ found. found ≡ doomed_of (taken_out store.now (destroyed_of what))) }
-{
-    match what {
-        Destroyed::Receive { task, name } => match entry_at(store, task, name) {
-            Some(entry) => doomed_receive(alloc, &entry),
-            None => Ok(None),
-        },
-        Destroyed::Entry { task, name } => match entry_at(store, task, name) {
-            Some(entry) => Ok(Some(Doomed::new(rights_of(alloc, &entry)?, None))),
-            None => Ok(None),
-        },
-        Destroyed::Task { task, kernel } => {
-            let rights = space_rights(alloc, store, task)?;
-            Ok(Some(Doomed::new(rights, Some(kernel))))
-        }
-    }
-}
-
-/// The ports that die with what a call destroys, and those that lose their receive rights. None
-/// where it is not there.
-pub fn deaths_by(
-    alloc: Global,
-    store: &Store,
-    what: Destroyed,
-) -> Result<Option<Deaths>, AllocError>
-    ensures { IfOk result (λ found. AreDeaths found (taken_out store.now (destroyed_of what))) }
-{
-    match doomed_by(alloc, store, what)? {
-        Some(doomed) => {
-            let deaths = find_deaths(alloc, store, &doomed)?;
-            Ok(Some(deaths))
-        }
-        None => Ok(None),
-    }
 }
 
 /// What is destroyed, as it leaves a task's space, and what goes with it.
@@ -170,19 +89,6 @@ pub(crate) struct Taken {
     pub(crate) removal: Removal,
     /// What goes.
     pub(crate) doomed: Doomed,
-}
-
-/// What is left of a name after its receive right left it: its send references.
-fn without_receive(space: &Space, name: u32) -> Option<Entry>
-    requires { IsReceive (get space.now name) }
-    ensures left { put_entry space.now name result
-        ≡ put_entry space.now name (left_of_receive (get space.now name)) }
-    ensures alike { CanPut space.now name result }
-{
-    match space.parting(name, Disp::MoveReceive) {
-        Ok(parted) => parted.1,
-        Err(_) => unreachable!(),
-    }
 }
 
 /// The receive right under a name of a task, taken out. None where there is none.
@@ -202,15 +108,21 @@ fn take_receive(
     let Some(entry) = found.get(name) else {
         return Ok(None);
     };
-    let Some(doomed) = doomed_receive(alloc, &entry)? else {
-        return Ok(None);
-    };
-    let rest = without_receive(found, name);
-    Ok(Some(Taken {
-        task,
-        removal: Removal::Receive { name, rest },
-        doomed,
-    }))
+    match entry {
+        Entry::Receive { port, sends, .. } => {
+            let mut rights = Vec::new(alloc);
+            rights.push(Held::new(port, PortRight::Receive))?;
+            Ok(Some(Taken {
+                task,
+                removal: Removal::Receive {
+                    name,
+                    rest: send_entry(port, sends),
+                },
+                doomed: Doomed::new(rights, None),
+            }))
+        }
+        _ => Ok(None),
+    }
 }
 
 /// All that stands under a name of a task, taken out. None where nothing does.

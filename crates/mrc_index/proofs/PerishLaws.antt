@@ -253,15 +253,6 @@ end_later x z ps none was =
     sym (all_left x [] (λ n e at. none_dies e))
     ∙ sym (ap (λ l. alter_all (λ n e. perished_entry l e) x) none) ∙ was
 
--- the one apart comes first
-pub own_later : (x y z : Space) (p : ℕ) (all ps : List ℕ)
-    → y ≡ alter_all (λ n e. perished_entry (p ∷ []) e) x
-    → z ≡ alter_all (λ n e. perished_entry ps e) y
-    → p ∷ ps ≡ all
-    → z ≡ alter_all (λ n e. perished_entry all e) x
-own_later x y z p all ps one more is =
-    more ∙ more_later x y p ps one ∙ ap (λ l. alter_all (λ n e. perished_entry l e) x) is
-
 -- The names below a number have turned, and what has turned is as good as what will turn.
 pub record HasTurned (ps : List ℕ) (from : ℕ) (old now : Space) : Type 0 where
   pub same : alter_all (λ n e. perished_entry ps e) now ≡ alter_all (λ n e. perished_entry ps e) old

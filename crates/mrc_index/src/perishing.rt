@@ -12,7 +12,6 @@ use crate::names::Names;
 use mrc_base::PortId;
 use mrc_map::Ports;
 use mrc_model::Entry;
-use std::collections::btree_set::Iter;
 
 impl Names {
     /// A name of the port, if it has one.
@@ -46,7 +45,7 @@ impl Names {
 
     /// The names of a port that dies turn dead: as many references as there were send references,
     /// one for a send-once right. The port's names alone are looked at.
-    pub fn perish(&mut self, port: PortId)
+    fn perish(&mut self, port: PortId)
         ensures { self.new ≡ alter_all (λ n e. perished_entry (port ∷ []) e) self.old }
     {
         while let Some(name) = self.name_of(port) {
@@ -64,26 +63,12 @@ impl Names {
         }
     }
 
-    /// The same for the ports of these numbers, one after the other.
-    fn perish_each(&mut self, numbers: Iter<'_, u64>)
-        ensures { self.new ≡ alter_all (λ n e. perished_entry numbers.entry e) self.old }
-    {
-        for number in numbers {
-            self.perish(PortId(*number));
-        }
-    }
-
     /// The same for the ports of a set. The names of each are looked up.
     fn perish_ports(&mut self, dead: &Ports)
         ensures { self.new ≡ alter_all (λ n e. perished_entry dead.now e) self.old }
     {
-        let (one, others) = dead.parts();
-        match one {
-            Some(port) => {
-                self.perish(port);
-                self.perish_each(others);
-            }
-            None => self.perish_each(others),
+        for number in dead.iter() {
+            self.perish(PortId(*number));
         }
     }
 

@@ -1,9 +1,10 @@
 //! The table of live ports.
 
 use mrc_base::{ClassId, OrMemory, PortId};
+use mrc_map::Ports;
 use mrc_model::Backup;
 use mrc_ports::{NoSuchPort, PortTable, Shortage};
-use std::alloc::Global;
+use std::alloc::{AllocError, Global};
 use std::test::Fail;
 
 fn class_of(table: &PortTable, port: u64) -> Option<ClassId> {
@@ -147,14 +148,17 @@ fn ports_run_short(rt: HostRuntime) -> Result<(), Fail> {
     Ok(())
 }
 
-fn bury(table: &mut PortTable, port: u64) {
-    table.bury(PortId(port));
+fn bury(alloc: Global, table: &mut PortTable, port: u64) -> Result<(), AllocError> {
+    let mut dead = Ports::new(alloc);
+    let _ = dead.insert(PortId(port))?;
+    table.bury_all(&dead);
+    Ok(())
 }
 
 /// A table where the second port stands in the slot that the first one had.
 fn with_a_slot_used_again(alloc: Global) -> Result<PortTable, OrMemory<Shortage>> {
     let mut table = after_births(alloc, 2)?;
-    bury(&mut table, 0);
+    bury(alloc, &mut table, 0)?;
     let _ = bear(&mut table, 2)?;
     Ok(table)
 }
@@ -174,7 +178,7 @@ fn numbers_of_dead_ports_reach_no_port(rt: HostRuntime) -> Result<(), Fail> {
 #[test]
 fn dead_ports_are_buried_once(rt: HostRuntime) -> Result<(), Fail> {
     let mut table = with_a_slot_used_again(rt.alloc())?;
-    bury(&mut table, 0);
+    bury(rt.alloc(), &mut table, 0)?;
     restart(&mut table, 0);
     assert_eq!(rt; count(&table), 2);
     assert_eq!(rt; next(&table), 3);

@@ -1,15 +1,10 @@
 -- Sets of ports as lists of their numbers, and how one goes through them in ascending order. This
 -- profile's own choice.
-use Rattle.std.specs.Prelude.{◌≡◌, ℕ, suc, ◌<◌, ◌≤◌, ◌^◌, true, false, List, [], ◌∷◌, Option}
-use Rattle.std.specs.Prelude.{Some, None, nat_lt, if◌then◌else◌}
+use Rattle.std.specs.Prelude.{◌≡◌, ℕ, suc, ◌<◌, ◌≤◌, ◌^◌, true, false, List, [], Option, Some}
+use Rattle.std.specs.Prelude.{None}
 use Rattle.std.specs.declared.ops.Bound.{Bound}
 use Rattle.std.specs.declared.ops.Bound.TheVariants.{Excluded, Unbounded}
 use Rattle.mrc_model.specs.Death.{has}
-
--- one port, if there is one, and more
-abbrev pub members : Option ℕ → List ℕ → List ℕ
-members None more = more
-members (Some p) more = p ∷ more
 
 -- the number above the last one, or 0 where none was
 abbrev pub above : Option ℕ → ℕ
@@ -20,12 +15,6 @@ above (Some p) = suc p
 abbrev pub start : Option ℕ → Bound ℕ
 start None = Unbounded
 start (Some p) = Excluded p
-
--- the lesser of two numbers, or the one that there is
-abbrev pub lesser : Option ℕ → Option ℕ → Option ℕ
-lesser None o = o
-lesser (Some p) None = Some p
-lesser (Some p) (Some q) = if nat_lt q p then Some q else Some p
 
 -- it is the first member that is not below from
 pub record IsMember (xs : List ℕ) (from p : ℕ) : Type 0 where

@@ -67,11 +67,6 @@ impl<X> Map<X> {
         }
     }
 
-    /// The allocator that it was made with.
-    pub fn alloc(&self) -> Global {
-        *self.entries.allocator()
-    }
-
     /// How many entries there are.
     pub fn len(&self) -> usize
         ensures { result ≡ len self.now }

@@ -3,7 +3,7 @@
 
 mod changing;
 mod dropping;
-mod entry;
+pub mod entry;
 mod exchanging;
 mod foretelling;
 mod giving;

@@ -1,23 +1,15 @@
 //! Names of ports that die. Nothing of it takes memory.
 
-ghost use Rattle.std.specs.Prelude.{◌≡◌, ◌∷◌, []};
+ghost use Rattle.std.specs.Prelude.{◌≡◌};
 ghost use Rattle.mrc_model.specs.Map.{alter_all};
 ghost use Rattle.mrc_model.specs.Death.{perished_entry};
 
 use crate::space::Space;
-use mrc_base::PortId;
 use mrc_map::Ports;
 
 impl Space {
-    /// The names of a port that dies turn dead: as many references as there were send references,
+    /// The names of all ports of a set turn dead: as many references as there were send references,
     /// one for a send-once right.
-    pub fn perish(&mut self, port: PortId)
-        ensures { self.new ≡ alter_all (λ n e. perished_entry (port ∷ []) e) self.old }
-    {
-        self.entries.perish(port);
-    }
-
-    /// The same for all ports of a set.
     pub fn perish_all(&mut self, dead: &Ports)
         ensures { self.new ≡ alter_all (λ n e. perished_entry dead.now e) self.old }
     {

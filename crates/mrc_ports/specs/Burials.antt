@@ -1,10 +1,10 @@
--- What the death of ports leaves of others, of a table and of a store.
+-- What the death of ports leaves of others, and of a table.
 -- From Mach 3 Kernel Interfaces, mach_port_destroy.
-use Rattle.std.specs.Prelude.{ℕ, List, [], ◌∷◌, Option, Some, None, map, if◌then◌else◌}
+use Rattle.std.specs.Prelude.{ℕ, List, Option, Some, None, map, if◌then◌else◌}
 use Rattle.mrc_model.specs.Map.{alter_all}
-use Rattle.mrc_model.specs.World.{Space, Port, Store}
+use Rattle.mrc_model.specs.World.{Space, Port}
 use Rattle.mrc_model.specs.Death.{has, perished_entry, perished_parcel, perished_backup}
-use Rattle.mrc_model.specs.Death.{perished_port, bury}
+use Rattle.mrc_model.specs.Death.{perished_port}
 use Rattle.mrc_ports.specs.Tables.{Table}
 
 -- a port that stays, where these are dead
@@ -23,13 +23,3 @@ without dead p x = if has dead p then None else Some x
 -- the table without these ports
 abbrev pub buried : List ℕ → Table → Table
 buried dead t = record t { ports = alter_all (perished_port dead) t.ports }
-
--- the table without this port, if it is live
-abbrev pub buried_port : Table → ℕ → Option Port → Table
-buried_port t p None = t
-buried_port t p (Some x) = buried (p ∷ []) t
-
--- the store without this port, if it is live
-abbrev pub bury_port : Store → ℕ → Option Port → Store
-bury_port s p None = s
-bury_port s p (Some x) = bury s (p ∷ [])

@@ -7,7 +7,6 @@ ghost use Rattle.mrc_model.specs.Map.{get, insert};
 ghost use Rattle.mrc_model.specs.World.{set_space, set_port, Port as TPort};
 ghost use Rattle.mrc_model.specs.Space.{restart};
 ghost use Rattle.mrc_model.specs.Death.{bury};
-ghost use Rattle.mrc_ports.specs.Burials.{bury_port};
 ghost use Rattle.mrc_ports.specs.declared.table.NotQueued.TheVariants.{Absent, Full};
 ghost use Rattle.mrc_ports.specs.Faults.{IsFault};
 ghost use Rattle.mrc_ports.specs.Queues.{is_full_for, with_message, received_by};
@@ -178,18 +177,6 @@ impl Store {
         }
         bury_spaces(&mut self.spaces, dead);
         self.table.bury_all(dead);
-    }
-
-    /// A port leaves with its queue; names, requests and rights in transit on it turn dead. Nothing
-    /// where no live port has this number. It takes no memory.
-    pub fn bury(&mut self, port: PortId)
-        ensures { self.new ≡ bury_port self.old port (get self.old.ports port) }
-    {
-        if self.table.get(port).is_none() {
-            return;
-        }
-        let dead = Ports::one(self.spaces.alloc(), port);
-        self.bury_all(&dead);
     }
 
     /// The receipts of a port are 0 again, as its receive right has moved. Nothing where no live

@@ -4,7 +4,7 @@ ghost use Rattle.std.specs.Prelude.{◌≡◌, ◌≤◌, ◌↔◌, Some, IfOk,
 ghost use Rattle.std.specs.Prelude.{IsErr, IsErrAnd, IsTrue, Err, true, false};
 ghost use Rattle.std.specs.Option.{option_copied};
 ghost use Rattle.mrc_model.specs.Map.{empty, get, insert, len};
-ghost use Rattle.mrc_ports.specs.Burials.{buried, buried_port};
+ghost use Rattle.mrc_ports.specs.Burials.{buried};
 ghost use Rattle.mrc_ports.specs.Tables.{with_birth, is_short, with_port, restarted};
 ghost use Rattle.mrc_model.specs.World.{Port as TPort};
 ghost use Rattle.mrc_ports.specs.declared.table.NotQueued.TheVariants.{Absent, Full};
@@ -176,18 +176,6 @@ impl PortTable {
         ensures { self.new ≡ buried dead.now self.old }
     {
         bury_ports(&mut self.ports, dead);
-    }
-
-    /// A port leaves with its queue; requests and rights in transit on it read as dead. Nothing
-    /// where no live port has this number. It takes no memory.
-    pub fn bury(&mut self, port: PortId)
-        ensures { self.new ≡ buried_port self.old port (get self.old.ports port) }
-    {
-        if self.ports.get(port.0).is_none() {
-            return;
-        }
-        let dead = Ports::one(self.alloc, port);
-        self.bury_all(&dead);
     }
 
     /// The receipts of a port are 0 again, as its receive right has moved. Nothing where no live

@@ -1,8 +1,7 @@
 use Rattle.std.proofs.Common.{◌∙◌, ◌≤◌, List, sym, refl, subst, arith, length}
 use Rattle.mrc_model.specs.World.{Held}
 use Rattle.mrc_death.specs.declared.search.Search.{Search}
-use Rattle.mrc_death.specs.Rights.{flat}
-use Rattle.mrc_death.specs.Search.{Goes, Step, one_held}
+use Rattle.mrc_death.specs.Search.{Goes, Step}
 use Rattle.mrc_death.proofs.Following.{empty_kept, rights_go, begun, finished, finished_lost}
 use Rattle.mrc_death.proofs.search.find_deaths.Goals as goal
 
@@ -24,7 +23,7 @@ kill_kernel-requires c =
 
 pub lose_rights-requires-clause-goes : goal.lose_rights-requires-clause-goes
 lose_rights-requires-clause-goes c = subst (λ (hs : List Held). Goes c.args.store.now
-    c.args.doomed.now (flat one_held hs)) (sym c.rights.ensures) (rights_go c.args.store.now
+    c.args.doomed.now hs) (sym c.rights.ensures) (rights_go c.args.store.now
     c.args.doomed.now)
 
 pub loop-search-init : goal.loop-search-init
@@ -42,7 +41,7 @@ loop-search-init c =
     } in
     let y = c.kill_kernel.new.self in
     begun s d z y c.lose_rights.new.self refl c.in_ok-kill_kernel.ensures.step
-    c.in_ok-kill_kernel.ensures.kernel (subst (λ (hs : List Held). Step s d (flat one_held hs)
+    c.in_ok-kill_kernel.ensures.kernel (subst (λ (hs : List Held). Step s d hs
     y c.lose_rights.new.self) c.rights.ensures c.in_ok-lose_rights.ensures)
 
 pub returns-clause-dead : goal.returns-clause-dead

@@ -1,5 +1,5 @@
 use Rattle.std.proofs.Common.{sym}
-use Rattle.mrc_death.proofs.TakingLaws.{no_receive_out}
+use Rattle.mrc_death.proofs.Absent.{no_receive_out}
 use Rattle.mrc_death.proofs.taking.take_receive.Goals as goal
 
 pub returns-in_default : goal.returns-in_default

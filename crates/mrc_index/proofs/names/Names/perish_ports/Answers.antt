@@ -1,18 +1,18 @@
-use Rattle.std.proofs.Common.{◌∙◌, sym, ap}
+use Rattle.std.proofs.Common.{◌∙◌, ap}
 use Rattle.mrc_model.specs.Map.{alter_all}
 use Rattle.mrc_model.specs.Death.{perished_entry}
-use Rattle.mrc_map.specs.Members.{members}
-use Rattle.mrc_index.proofs.PerishLaws.{own_later}
+use Rattle.mrc_index.proofs.PerishLaws.{step_later, end_later}
 use Rattle.mrc_index.proofs.names.Names.perish_ports.Goals as goal
 
-pub returns-in-Some : goal.returns-in-Some
-returns-in-Some c =
-    own_later c.args.self.now c.perish.new.self c.perish_each.new.self c.in-Some.port
-    c.args.dead.now c.parts-one.result.1 c.perish.ensures c.perish_each.ensures
-    (ap (λ o. members o c.parts-one.result.1) (sym c.in-Some.is) ∙ c.parts-one.ensures)
+pub loop-number-preserved : goal.loop-number-preserved
+loop-number-preserved c =
+    step_later c.loop-number.self c.perish.new.self _ c.in-Some.number.now
+    c.loop-number.number-iterator c.next.new.self c.loop-number.invariant
+    c.in-Some.ensures.steps c.perish.ensures
 
-pub returns-in-None : goal.returns-in-None
-returns-in-None c =
-    c.perish_each-in-None.ensures
+pub returns : goal.returns
+returns c =
+    end_later c.loop-number.self _ c.loop-number.number-iterator c.in-None.ensures.steps.0
+    c.loop-number.invariant
     ∙ ap (λ l. alter_all (λ n e. perished_entry l e) c.args.self.now)
-    (ap (λ o. members o c.parts-one.result.1) (sym c.in-None.is) ∙ c.parts-one.ensures)
+    (c.into_iter-number-iterator.ensures.into_iter_gives ∙ c.iter-number-items.ensures)
