@@ -4,7 +4,6 @@ ghost use Rattle.std.specs.Prelude.{◌≡◌, ◌<◌, IfOk, IfErr, IsTrue, OnE
 ghost use Rattle.mrc_model.specs.Map.{get};
 ghost use Rattle.mrc_model.specs.Step.{step};
 ghost use Rattle.mrc_machine.specs.Calls.{call_of, reply_of, IsRefused, IsGranted};
-ghost use Rattle.mrc_machine.specs.Calls.{IsJudgedFirst, IsReceiving, IsGrantedOrFull};
 ghost use Rattle.mrc_confine.specs.Safety.{IsSafe};
 ghost use Rattle.mrc_confine.specs.Guards.{IsGuarded, started, wiring_in};
 
@@ -52,8 +51,7 @@ impl Guarded {
 
     /// One call of a task, made whole: the reply, with the world as the call leaves it. A reply
     /// that is a refusal leaves it as it was, and so does want of memory, which is told only where
-    /// the call is not refused; but for sending, which takes memory to be judged, and for
-    /// receiving, where the space might have no room for what is received.
+    /// the call is not refused.
     pub fn step(&mut self, caller: TaskId, call: &Call) -> Result<Reply, AllocError>
         ensures step { IfOk result (λ reply.
             step (wiring_in self.old.confined) self.old.world caller (call_of call.now)
@@ -61,9 +59,7 @@ impl Guarded {
         ensures confined { self.new.confined ≡ self.old.confined }
         ensures refused { IfOk result (λ reply. IsRefused reply → self.new ≡ self.old) }
         ensures err { OnErr result (self.new ≡ self.old) }
-        ensures last { OnErr result (IsJudgedFirst call.now → IsGranted
-            (wiring_in self.old.confined) self.old.world caller (call_of call.now)) }
-        ensures full { OnErr result (IsReceiving call.now → IsGrantedOrFull
+        ensures last { OnErr result (IsGranted
             (wiring_in self.old.confined) self.old.world caller (call_of call.now)) }
     {
         self.world.step(self.confined.wired(), caller, call)

@@ -24,7 +24,6 @@ use Rattle.mrc_machine.specs.declared.refusal.Refusal.TheVariants as why
 use Rattle.mrc_machine.specs.declared.reply.Reply.{Reply}
 use Rattle.mrc_machine.specs.declared.reply.Reply.TheVariants as told
 use Rattle.mrc_model.specs.Reply as model
-use Rattle.mrc_transit.specs.Receiving as receiving
 
 -- a call
 abbrev pub call_of : Call → model.Call
@@ -78,24 +77,6 @@ IsRefused told.DeadTask = Unit {0}
 -- the call is not refused: its task is alive, and no refusal comes
 abbrev pub IsGranted : Wiring → World → ℕ → model.Call → Type 0
 IsGranted W w t call = IsTrue (is_alive (get w.tasks t)) × IsOk (try_call W w t call)
-
--- the same, but receiving may be refused for want of room in the space
-abbrev pub IsGrantedOrFull : Wiring → World → ℕ → model.Call → Type 0
-IsGrantedOrFull W w t call =
-    IsTrue (is_alive (get w.tasks t)) × receiving.IsGrantedOrFull (try_call W w t call)
-
--- Which calls are judged before any memory is taken, so that want of it is told only where they are
--- not refused. What a message takes from its sender's space, and whether a space has room for all
--- that is received, is found out on a copy of the space.
-abbrev pub IsJudgedFirst : Call → Type 0
-IsJudgedFirst (Send message) = ⊥
-IsJudgedFirst (Receive name limit) = ⊥
-IsJudgedFirst call = Unit {0}
-
--- the call receives a message
-abbrev pub IsReceiving : Call → Type 0
-IsReceiving (Receive name limit) = Unit {0}
-IsReceiving call = ⊥
 
 -- the call is refused by codes alone: the filter has no part in it, and there is no message
 abbrev pub IsCoded : Call → Type 0
@@ -160,25 +141,7 @@ abbrev pub refusal_of : OrMemory Code → OrMemory Refusal
 refusal_of (Fault code) = Fault (why.Refused code)
 refusal_of Memory = Memory
 
--- the step is refused so; of want of memory nothing is said
-abbrev pub IsNotDone : {A : Type 0} → OrMemory Refusal → model.Try A → Type 0
-IsNotDone (Fault refusal) m = m ≡ Err (refusal_reply refusal)
-IsNotDone Memory m = Unit {0}
-
 -- the step is refused so; memory runs out only where it is not refused
 abbrev pub IsRefusedBy : {A : Type 0} → OrMemory Refusal → model.Try A → Type 0
 IsRefusedBy (Fault refusal) m = m ≡ Err (refusal_reply refusal)
 IsRefusedBy Memory m = IsOk m
-
--- the step is refused so; memory runs out only where it is not refused, but it may be for want of
--- room in the space
-abbrev pub IsNotReceived : {A : Type 0} → OrMemory Refusal → model.Try A → Type 0
-IsNotReceived (Fault refusal) m = m ≡ Err (refusal_reply refusal)
-IsNotReceived Memory m = receiving.IsGrantedOrFull m
-
--- the call is refused so; memory runs out only where it is not refused, if it is judged first, and
--- where it may be refused for want of room in the space, if it receives
-abbrev pub IsRefusalOf : {A : Type 0} → Call → OrMemory Refusal → model.Try A → Type 0
-IsRefusalOf call (Fault refusal) m = m ≡ Err (refusal_reply refusal)
-IsRefusalOf call Memory m =
-    (IsJudgedFirst call → IsOk m) × (IsReceiving call → receiving.IsGrantedOrFull m)

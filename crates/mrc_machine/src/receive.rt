@@ -3,7 +3,7 @@
 ghost use Rattle.std.specs.Prelude.{◌≡◌, Ok, OnErr, IfOk, IfErr};
 ghost use Rattle.mrc_model.specs.Reply.{Bytes};
 ghost use Rattle.mrc_model.specs.CallReceive.{call_receive};
-ghost use Rattle.mrc_machine.specs.Calls.{IsNotReceived};
+ghost use Rattle.mrc_machine.specs.Calls.{IsRefusedBy};
 
 use crate::refusal::Refusal;
 use crate::state::State;
@@ -21,7 +21,7 @@ impl State {
         ensures ok { IfOk result (λ bytes.
             call_receive self.old caller name limit ≡ Ok (self.new, Bytes bytes)) }
         ensures refused { IfErr result
-            (λ fault. IsNotReceived fault (call_receive self.old caller name limit)) }
+            (λ fault. IsRefusedBy fault (call_receive self.old caller name limit)) }
         ensures err { OnErr result (self.new ≡ self.old) }
     {
         match receive(self.alloc, &mut self.store, caller, name, limit) {

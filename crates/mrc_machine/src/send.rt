@@ -7,7 +7,7 @@ ghost use Rattle.mrc_model.specs.CallSend.{call_send};
 ghost use Rattle.mrc_model.specs.Target.{with_store};
 ghost use Rattle.mrc_wiring.specs.Table.{wiring_of};
 ghost use Rattle.mrc_transit.specs.SendPlans.{sent, IsReady};
-ghost use Rattle.mrc_machine.specs.Calls.{IsNotDone};
+ghost use Rattle.mrc_machine.specs.Calls.{IsRefusedBy};
 
 use crate::refusal::Refusal;
 use crate::state::State;
@@ -26,7 +26,7 @@ impl State {
     ) -> Result<(), OrMemory<Refusal>>
         ensures ok { OnOk result
             (call_send (wiring_of wired.now) self.old caller message.now ≡ Ok (self.new, Done)) }
-        ensures refused { IfErr result (λ fault. IsNotDone fault
+        ensures refused { IfErr result (λ fault. IsRefusedBy fault
             (call_send (wiring_of wired.now) self.old caller message.now)) }
         ensures err { OnErr result (self.new ≡ self.old) }
     {

@@ -6,7 +6,7 @@ ghost use Rattle.mrc_model.specs.Step.{try_call};
 ghost use Rattle.mrc_wiring.specs.Table.{wiring_of};
 ghost use Rattle.mrc_names.specs.Refusals.{IsRefusal};
 ghost use Rattle.mrc_machine.specs.Calls.{call_of, reply_of, IsRefused, IsCoded};
-ghost use Rattle.mrc_machine.specs.Calls.{IsRefusalOf, task_name, target_of_call};
+ghost use Rattle.mrc_machine.specs.Calls.{IsRefusedBy, task_name, target_of_call};
 ghost use Rattle.mrc_machine.specs.Calls.{is_asking, is_dropping};
 
 use crate::call::Call;
@@ -54,7 +54,7 @@ impl State {
             try_call (wiring_of wired.now) self.old caller (call_of call.now)
             ≡ Ok (self.new, reply_of reply)) }
         ensures told { IfOk result (λ reply. IsRefused reply → ⊥) }
-        ensures refused { IfErr result (λ fault. IsRefusalOf call.now fault
+        ensures refused { IfErr result (λ fault. IsRefusedBy fault
             (try_call (wiring_of wired.now) self.old caller (call_of call.now))) }
         ensures err { OnErr result (self.new ≡ self.old) }
     {
@@ -97,7 +97,7 @@ impl State {
             try_call (wiring_of wired.now) self.old caller (call_of call.now)
             ≡ Ok (self.new, reply_of reply)) }
         ensures told { IfOk result (λ reply. IsRefused reply → ⊥) }
-        ensures refused { IfErr result (λ fault. IsRefusalOf call.now fault
+        ensures refused { IfErr result (λ fault. IsRefusedBy fault
             (try_call (wiring_of wired.now) self.old caller (call_of call.now))) }
         ensures err { OnErr result (self.new ≡ self.old) }
     {

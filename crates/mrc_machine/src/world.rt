@@ -8,7 +8,6 @@ ghost use Rattle.mrc_wiring.specs.Table.{wiring_of};
 ghost use Rattle.mrc_model.specs.Breach.{holdings};
 ghost use Rattle.mrc_machine.specs.Holdings.{holdings_of};
 ghost use Rattle.mrc_machine.specs.Calls.{call_of, reply_of, IsRefused, IsGranted};
-ghost use Rattle.mrc_machine.specs.Calls.{IsJudgedFirst, IsReceiving, IsGrantedOrFull};
 
 use crate::call::Call;
 use crate::first::built;
@@ -54,18 +53,15 @@ impl World {
 
     /// One call of a task, made whole: the reply, with the machine as the call leaves it. A reply
     /// that is a refusal leaves it as it was, and so does want of memory, which is told only where
-    /// the call is not refused; but for sending, which takes memory to be judged, and for
-    /// receiving, where the space might have no room for what is received.
+    /// the call is not refused.
     pub fn step(&mut self, wired: &Wired, caller: TaskId, call: &Call) -> Result<Reply, AllocError>
         ensures step { IfOk result (λ reply.
             step (wiring_of wired.now) self.old caller (call_of call.now)
             ≡ (self.new, reply_of reply)) }
         ensures refused { IfOk result (λ reply. IsRefused reply → self.new ≡ self.old) }
         ensures err { OnErr result (self.new ≡ self.old) }
-        ensures last { OnErr result (IsJudgedFirst call.now
-            → IsGranted (wiring_of wired.now) self.old caller (call_of call.now)) }
-        ensures full { OnErr result (IsReceiving call.now
-            → IsGrantedOrFull (wiring_of wired.now) self.old caller (call_of call.now)) }
+        ensures last { OnErr result
+            (IsGranted (wiring_of wired.now) self.old caller (call_of call.now)) }
     {
         if !self.state.is_alive(caller) {
             return Ok(Reply::DeadTask);

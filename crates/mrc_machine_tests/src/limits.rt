@@ -9,7 +9,7 @@ use std::fmt::Write;
 use std::test::Fail;
 
 /// Something is made in the caller's own space.
-fn making(right: Right) -> Call {
+pub fn making(right: Right) -> Call {
     Call::Allocate {
         task: 1,
         right,

@@ -1,8 +1,9 @@
 //! Want of memory: to be run with each allocation refused in turn.
 
 use crate::calls::holding;
+use crate::limits::making;
 use crate::machine::{Machine, TWO, holds, is_told, only_call, parts, started, started_over};
-use mrc_base::{PortRight, TaskId};
+use mrc_base::{PortRight, Right, TaskId};
 use mrc_machine::{Call, Holding, Reply};
 use std::alloc::Global;
 use std::process::Abort;
@@ -230,5 +231,146 @@ fn what_tasks_hold_after_a_request(rt: HostRuntime) -> Result<(), Fail> {
     run_short(&rt, &mut machine, REPLACING);
     assert!(rt; holds_replaced(&machine));
     assert_eq!(rt; machine.live_ports(), 5);
+    Ok(())
+}
+
+/// Whether a call is answered so when it is made for the first time, also where memory runs out.
+fn tells_at_once(
+    alloc: Global,
+    machine: &mut Machine,
+    task: TaskId,
+    call: &Call,
+    want: &str,
+) -> bool {
+    match machine.try_step(task, call) {
+        Some(reply) => is_told(alloc, &reply, want),
+        None => false,
+    }
+}
+
+/// Messages that carry two send rights, and one more.
+const PAIRS: &str = "subsystem pairs 2000;
+#include <mach/std_types.defs>
+type moved_t = MACH_MSG_TYPE_MOVE_SEND;
+type pair_t = array[2] of moved_t;
+type copied_t = MACH_MSG_TYPE_COPY_SEND;
+simpleroutine both(server : mach_port_t; in pair : pair_t);
+simpleroutine more(server : mach_port_t; in pair : pair_t; in last : copied_t);
+";
+
+/// Two tasks. The first sends to the inbox of the second, its name 2, and holds its kernel port,
+/// name 3; it may send it as the last right of a message, but not its own kernel port.
+const PAIRED: &str = "wiring 1\ntask l\ntask f\nport inbox receiver f accepts request pairs\n\
+    admit pairs.copied_t task f\nhold l send port inbox\nhold l send task f";
+
+/// Whether the call of a line is answered so at once.
+fn does_at_once(alloc: Global, machine: &mut Machine, line: &str, want: &str) -> bool {
+    let Some(script) = machine.read(alloc, line) else {
+        return false;
+    };
+    match only_call(&script) {
+        Some(said) => tells_at_once(alloc, machine, said.task, &said.call, want),
+        None => false,
+    }
+}
+
+/// Each line of a script has its reply at once.
+fn run_at_once(rt: &(impl Abort + AllocGlobal), machine: &mut Machine, script: &str) {
+    for line in script.lines() {
+        let (call, want) = parts(line);
+        assert!(rt; does_at_once(rt.alloc(), machine, call, want), "{line}");
+    }
+}
+
+const REFUSED: &str = "\
+l send 13000080 24000000 02000000 00000000 00000000 d0070000 11200210 03000000 03000000 \
+-> refused MACH_SEND_INVALID_RIGHT
+l send 11000080 24000000 02000000 00000000 00000000 d0070000 11200210 03000000 02000000 \
+-> refused MACH_SEND_INVALID_RIGHT
+l send 13000080 2c000000 02000000 00000000 00000000 d1070000 11200210 02000000 03000000 \
+13200110 03000000 -> refused MACH_SEND_INVALID_RIGHT
+l send 13000080 2c000000 02000000 00000000 00000000 d1070000 11200210 02000000 03000000 \
+13200110 01000000 -> denied NotAdmitted 1";
+
+const GRANTED: &str = "\
+l send 13000080 24000000 02000000 00000000 00000000 d0070000 11200210 02000000 03000000 -> done
+l names 1 -> names 1:65536";
+
+// A message that is refused for a right that an earlier name took, or for its last slot, is refused
+// whether there is memory or not; one that is granted leaves the machine as it was where memory
+// runs out, and is sent when it is made once more.
+#[test]
+fn memory_runs_out_where_messages_are_refused(rt: HostRuntime) -> Result<(), Fail> {
+    let mut machine = started_over(rt.alloc(), PAIRS, PAIRED)?;
+    run_at_once(&rt, &mut machine, REFUSED);
+    run_short(&rt, &mut machine, GRANTED);
+    Ok(())
+}
+
+/// Messages that carry two send-once rights, and two send rights.
+const SHARES: &str = "subsystem xfer 2000;
+#include <mach/std_types.defs>
+type once_t = MACH_MSG_TYPE_MOVE_SEND_ONCE;
+type right_t = MACH_MSG_TYPE_COPY_SEND;
+simpleroutine lend(server : mach_port_t; in one : once_t; in other : once_t);
+simpleroutine share(server : mach_port_t; in one : right_t; in other : right_t);
+";
+
+/// The machine of the inbox with such messages. The second task has 4,095 names: its kernel port,
+/// the inbox, and dead names.
+fn crowded(alloc: Global) -> Result<Machine, Fail> {
+    let mut machine = started_over(alloc, SHARES, INBOX)?;
+    machine.repeat(TaskId(1), &making(Right::DeadName), 4093);
+    Ok(machine)
+}
+
+/// The second task receives from its inbox.
+fn receiving() -> Call {
+    Call::Receive { name: 2, limit: 40 }
+}
+
+const LENT: &str = "l insert_right 1 5 2 21 -> done
+l insert_right 1 6 2 21 -> done
+l send 13000080 28000000 03000000 00000000 00000000 d0070000 12200110 05000000 \
+    12200110 06000000 -> done";
+
+const NOT_LENT: &str = "f type 1 4095 -> type 1048576
+f type 1 4096 -> refused KERN_INVALID_NAME
+f deallocate 1 4095 -> done
+f receive 2 40 -> message of 40
+f type 1 4095 -> type 262144
+f type 1 4096 -> type 262144";
+
+// The rights of a message for which there is no room are refused at once, also where memory runs
+// out before the last one. The message stays, and is received once there is room.
+#[test]
+fn no_room_is_told_where_memory_runs_out(rt: HostRuntime) -> Result<(), Fail> {
+    let mut machine = crowded(rt.alloc())?;
+    run_short(&rt, &mut machine, LENT);
+    let call = receiving();
+    assert!(rt;
+        tells_at_once(
+            rt.alloc(),
+            &mut machine,
+            TaskId(1),
+            &call,
+            "refused PROFILE_NO_SPACE"
+        )
+    );
+    run_short(&rt, &mut machine, NOT_LENT);
+    Ok(())
+}
+
+const SHARED: &str = "l insert_right 1 2 2 20 -> done
+l send 13000080 28000000 03000000 00000000 00000000 d1070000 13200110 02000000 \
+    13200110 02000000 -> done
+f receive 2 40 -> message of 40
+f get_refs 1 4096 send -> refs 2";
+
+// Two rights of one port take one name, the last one.
+#[test]
+fn the_last_name_is_given_where_memory_runs_out(rt: HostRuntime) -> Result<(), Fail> {
+    let mut machine = crowded(rt.alloc())?;
+    run_short(&rt, &mut machine, SHARED);
     Ok(())
 }

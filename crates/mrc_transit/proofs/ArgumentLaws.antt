@@ -36,7 +36,7 @@ onto xs (Ok got) = Ok (got.0, xs ++ got.1)
 onto xs (Err e) = Err e
 
 -- one more of them
-onto_more : {A : Type 0} (xs : List A) (x : A) (m : Try (Store × List A))
+pub onto_more : {A : Type 0} (xs : List A) (x : A) (m : Try (Store × List A))
     → onto xs (onto (x ∷ []) m) ≡ onto (xs ++ x ∷ []) m
 onto_more xs x (Ok got) = ap (λ ys. Ok (got.0, ys)) (sym (append_assoc xs (x ∷ []) got.1))
 onto_more xs x (Err e) = refl
@@ -182,11 +182,11 @@ rest_after zero (s ∷ ss) = refl
 rest_after (suc k) [] = refl
 rest_after (suc k) (s ∷ ss) = rest_after k ss
 
-rest_drop : (k : ℕ) (shapes : List Shape) → rest_of (drop k shapes) ≡ drop (k + 1) shapes
+pub rest_drop : (k : ℕ) (shapes : List Shape) → rest_of (drop k shapes) ≡ drop (k + 1) shapes
 rest_drop k shapes = rest_after k shapes ∙ ap (λ n. drop n shapes) (sym (add-one k))
 
 module _ (W : Wiring) (t : ℕ) where
-  args_more : (i : ℕ) (shapes : List Shape) (s z : Store) (a : Arg) (more : List Arg)
+  pub args_more : (i : ℕ) (shapes : List Shape) (s z : Store) (a : Arg) (more : List Arg)
       (q : QueuedArg)
       → take_arg W t (first_sort shapes) i s a ≡ Ok (z, q)
       → take_args W t i shapes s (a ∷ more)
@@ -195,7 +195,7 @@ module _ (W : Wiring) (t : ℕ) where
   args_more i shapes s z a more q is =
       rw is (onto_one q (take_args W t (i + 1) (rest_of shapes) z more))
 
-  args_stop : (i : ℕ) (shapes : List Shape) (s : Store) (a : Arg) (more : List Arg)
+  pub args_stop : (i : ℕ) (shapes : List Shape) (s : Store) (a : Arg) (more : List Arg)
       (fault : OrMemory SendFault)
       → IsSendRefusal fault (take_arg W t (first_sort shapes) i s a)
       → IsSendRefusal fault (take_args W t i shapes s (a ∷ more))

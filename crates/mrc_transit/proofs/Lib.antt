@@ -5,9 +5,11 @@ pub mod GiveLaws
 pub mod ArgumentLaws
 pub mod SendLaws
 pub mod PlanLaws
+pub mod JudgingLaws
 pub mod ApplyLaws
 pub mod ReceiveGrowth
 pub mod ReceiveSizes
 pub mod ReceiveWalks
 pub mod ReceiveCalls
+pub mod RoomLaws
 pub mod CarriedLaws

@@ -1,7 +1,7 @@
 -- What the plan of a message is to sending it, from what each step of code tells.
 use Rattle.std.proofs.Common.{◌≡◌, ℕ, Bool, true, false, List, [], Option, Some, None, Ok, Err}
 use Rattle.std.proofs.Common.{refl, inl, inr, sym, ◌∙◌, ap, subst}
-use Rattle.std.specs.Prelude.{not, ◌&&◌, ◌||◌, nat_le, length, unwrap_or, is_some}
+use Rattle.std.specs.Prelude.{not, ◌&&◌, ◌||◌, nat_le, length, unwrap_or, is_some, IsOk}
 use Rattle.std.proofs.lemmas.Bool.{cases_eq}
 use Rattle.mrc_base.specs.declared.Disp.{Disp}
 use Rattle.mrc_base.specs.declared.Disp.TheVariants.{MoveReceive, MoveSend, MoveSendOnce, CopySend}
@@ -13,6 +13,7 @@ use Rattle.mrc_model.specs.declared.Item.{Item}
 use Rattle.mrc_model.specs.declared.Entry.{Entry}
 use Rattle.mrc_model.specs.declared.Denied.{Denied}
 use Rattle.mrc_model.specs.declared.Code.TheVariants.{MachSendInvalidDest, MachSendInvalidReply}
+use Rattle.mrc_model.specs.declared.Code.TheVariants.{MachSendTimedOut}
 use Rattle.mrc_model.specs.Rights.{is_once, is_receive}
 use Rattle.mrc_model.specs.Map.{Map, get, insert, empty}
 use Rattle.mrc_model.specs.Message.{Message, Arg}
@@ -23,7 +24,7 @@ use Rattle.mrc_model.specs.Reply.{Reply, Refused, Done, Try, ◌>>=◌, or_refus
 use Rattle.mrc_model.specs.Death.{append}
 use Rattle.mrc_model.specs.Space.{take, take_from, Taken, put_entry, restart_if}
 use Rattle.mrc_model.specs.Target.{with_store}
-use Rattle.mrc_model.specs.CallSend.{not_receive, take_reply_by, take_args}
+use Rattle.mrc_model.specs.CallSend.{not_receive, take_reply_by, take_args, call_send}
 use Rattle.mrc_model.proofs.Maps.{get-insert_same, get-insert_other, get-empty}
 use Rattle.mrc_map.proofs.SameMaps.{same_map}
 use Rattle.mrc_desc.specs.declared.message.Header.{Header}
@@ -37,7 +38,7 @@ use Rattle.mrc_transit.specs.declared.sending.SendFault.TheVariants as faults
 use Rattle.mrc_names.specs.Leaving.{patched, AreRests}
 use Rattle.mrc_transit.specs.Staging.{Taking, staged, restart_each, IsRefusedBy}
 use Rattle.mrc_transit.specs.Sending.{IsSendRefusal, refused_by, fault_reply}
-use Rattle.mrc_transit.specs.SendPlans.{SendPlan, sent, IsReady, IsPlanOf, IsNotSent, IsNoRoom}
+use Rattle.mrc_transit.specs.SendPlans.{SendPlan, sent, IsReady, IsPlanOf, IsNotPlanned, IsNoRoom}
 use Rattle.mrc_transit.specs.SendPlans.{destination_disp}
 use Rattle.mrc_transit.proofs.SendLaws.{bad_destination, plain, send_no_disp, send_no_right}
 use Rattle.mrc_transit.proofs.SendLaws.{send_no_port, send_denied, send_no_reply, send_no_args}
@@ -129,7 +130,7 @@ either_fails false b is = refl
 
 module _ (W : Wiring) (s : Store) (t : ℕ) (m : Message) (h : Header) (has : HasHeader m h) where
   pub plan_no_disp : destination_disp h.remote_disp ≡ None
-      → IsNotSent (Fault (faults.Refused MachSendInvalidDest)) W s t m
+      → IsNotPlanned (Fault (faults.Refused MachSendInvalidDest)) W s t m
   plan_no_disp none = λ w.
       send_no_disp W (with_store w s) t m (ap destination_disp (sym has.remote_disp) ∙ none)
 
@@ -138,7 +139,7 @@ module _ (W : Wiring) (s : Store) (t : ℕ) (m : Message) (h : Header) (has : Ha
     disp_of = ap destination_disp (sym has.remote_disp) ∙ disp
 
     pub plan_no_space : get s.spaces t ≡ None
-        → IsNotSent (Fault (faults.Refused MachSendInvalidDest)) W s t m
+        → IsNotPlanned (Fault (faults.Refused MachSendInvalidDest)) W s t m
     plan_no_space none = λ w.
         send_no_right W (with_store w s) t m x disp_of
         (take_none s t m.remote x bad_destination none)
@@ -154,7 +155,7 @@ module _ (W : Wiring) (s : Store) (t : ℕ) (m : Message) (h : Header) (has : Ha
 
       pub plan_no_right : (fault : OrMemory NotHeld)
           → IsRefusedBy fault (λ e. take (staged s t g) t h.remote_port x e e)
-          → IsNotSent (refused_by MachSendInvalidDest fault) W s t m
+          → IsNotPlanned (refused_by MachSendInvalidDest fault) W s t m
       plan_no_right (Fault held) refused = λ w.
           send_no_right W (with_store w s) t m x disp_of
           (from_start bad_destination _ (refused bad_destination))
@@ -174,7 +175,7 @@ module _ (W : Wiring) (s : Store) (t : ℕ) (m : Message) (h : Header) (has : Ha
             (plain W (with_store w s) t m x disp_of) bad_destination (staged s t g1) d took) ∙ is
 
         pub plan_no_port : get s.ports d ≡ None
-            → IsNotSent (Fault (faults.Refused MachSendInvalidDest)) W s t m
+            → IsNotPlanned (Fault (faults.Refused MachSendInvalidDest)) W s t m
         plan_no_port none = λ w.
             send_no_port W (with_store w s) t m x disp_of (staged s t g1) d took
             (at_port w None none)
@@ -183,7 +184,7 @@ module _ (W : Wiring) (s : Store) (t : ℕ) (m : Message) (h : Header) (has : Ha
             (class_is : class ≡ dest.class) where
           pub plan_denied : (denied : Denied)
               → IsJudged W (Err denied) (judge W class m)
-              → IsNotSent (Fault (faults.Denied denied)) W s t m
+              → IsNotPlanned (Fault (faults.Denied denied)) W s t m
           plan_denied denied judged = λ w.
               send_denied W (with_store w s) t m x disp_of (staged s t g1) d took dest
               (at_port w (Some dest) live) denied
@@ -205,7 +206,7 @@ module _ (W : Wiring) (s : Store) (t : ℕ) (m : Message) (h : Header) (has : Ha
 
               pub plan_no_reply : (fault : OrMemory NotHeld)
                   → IsRefusedBy fault (λ e. take_reply_by (staged s t g1) t h.local_port o e)
-                  → IsNotSent (refused_by MachSendInvalidReply fault) W s t m
+                  → IsNotPlanned (refused_by MachSendInvalidReply fault) W s t m
               plan_no_reply (Fault held) refused = λ w.
                   send_no_reply W (with_store w s) t m x disp_of (staged s t g1) d took dest
                   (at_port w (Some dest) live) form.found.now form_is
@@ -233,7 +234,7 @@ module _ (W : Wiring) (s : Store) (t : ℕ) (m : Message) (h : Header) (has : Ha
                 pub plan_no_args : (fault : OrMemory SendFault)
                     → IsSendRefusal fault
                     (take_args W t 0 (form_shapes form.found.now) (staged s t g2) args)
-                    → IsNotSent fault W s t m
+                    → IsNotPlanned fault W s t m
                 plan_no_args (Fault fault) refused = λ w.
                     send_no_args W (with_store w s) t m x disp_of (staged s t g1) d took dest
                     (at_port w (Some dest) live) form.found.now form_is (staged s t g2)
@@ -246,7 +247,7 @@ module _ (W : Wiring) (s : Store) (t : ℕ) (m : Message) (h : Header) (has : Ha
                     ≡ Ok (staged s t g3, queued)) (b : Bool) (once : b ≡ is_once (given x)) where
                   pub plan_no_room : (fault : OrMemory SendFault)
                       → IsNoRoom fault dest b
-                      → IsNotSent fault W s t m
+                      → IsNotPlanned fault W s t m
                   plan_no_room (Fault fault) full = λ w.
                       send_full W (with_store w s) t m x disp_of (staged s t g1) d took dest
                       (at_port w (Some dest) live) form.found.now form_is (staged s t g2)
@@ -256,6 +257,21 @@ module _ (W : Wiring) (s : Store) (t : ℕ) (m : Message) (h : Header) (has : Ha
                       ∙ full.1)
                       ∙ ap (λ f. Err (fault_reply f)) (sym full.0)
                   plan_no_room Memory full = λ w. tt
+
+                  pub plan_at_limit : (not b && nat_le dest.limit (length dest.queue)) ≡ true
+                      → IsNotPlanned (Fault (faults.Refused MachSendTimedOut)) W s t m
+                  plan_at_limit full = plan_no_room (Fault (faults.Refused MachSendTimedOut))
+                      (refl, full)
+
+                  pub plan_granted : (not b && nat_le dest.limit (length dest.queue)) ≡ false
+                      → (w : World)
+                      → IsOk (call_send W (with_store w s) t m)
+                  plan_granted below w =
+                      subst IsOk (sym (send_done W (with_store w s) t m x disp_of (staged s t g1) d
+                      took dest (at_port w (Some dest) live) form.found.now form_is (staged s t g2)
+                      reply replied (staged s t g3) queued (of_args _ taken)
+                      (ap (λ k. not k && nat_le dest.limit (length dest.queue)) (sym once)
+                      ∙ below))) refl
 
                   module _ (room : is_full_for dest b ≡ false) (base : g3.base ≡ y)
                       (changes : Map (Option Entry)) (left : patched g3.base changes ≡ g3.space)

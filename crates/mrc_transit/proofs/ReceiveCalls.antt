@@ -1,8 +1,8 @@
 -- What receiving comes to, from what each step of code tells.
-use Rattle.std.proofs.Common.{◌≡◌, ℕ, ◌<◌, ◌^◌, ◌+◌, Bool, true, false, List, [], ◌∷◌, Option, Some}
+use Rattle.std.proofs.Common.{◌≡◌, ℕ, ◌<◌, ◌^◌, ◌+◌, true, false, List, [], ◌∷◌, Option, Some}
 use Rattle.std.proofs.Common.{None, Result, Ok, Err, T, refl, sym, ◌∙◌, ap, subst, inl, inr, nat_lt}
 use Rattle.std.proofs.Common.{◌≤◌}
-use Rattle.std.specs.Prelude.{unwrap_or, is_some, IfOk, IfErr, OnErr, IsSome}
+use Rattle.std.specs.Prelude.{unwrap_or, is_some, IsOk, IfOk, IfErr, OnErr, IsSome}
 use Rattle.std.specs.Option.{option_map}
 use Rattle.std.proofs.lemmas.Bool.{cases_eq, lt-ltb, le-ltb}
 use Rattle.mrc_base.specs.declared.memory.OrMemory.{OrMemory}
@@ -30,7 +30,8 @@ use Rattle.mrc_names.specs.Bounds.{IsBounded}
 use Rattle.mrc_ports.specs.Parcels.{carried_size}
 use Rattle.mrc_ports.specs.Queues.{after_receipt, received_at, received_from, received_by}
 use Rattle.mrc_ports.specs.Tables.{Table, table_of, store_of}
-use Rattle.mrc_transit.specs.Receiving.{found_source, IsGrantedOrFull, IsOverFilled, IsFirst}
+use Rattle.mrc_transit.specs.Giving.{IsNotGiven}
+use Rattle.mrc_transit.specs.Receiving.{found_source, IsFirst}
 use Rattle.mrc_transit.specs.Receiving.{IsReceiveRefusal, no_space as no_space_for}
 use Rattle.mrc_transit.specs.Receiving.{AreHousedAlike}
 use Rattle.mrc_transit.proofs.GiveLaws.{space_put}
@@ -150,15 +151,6 @@ module _ (w : World) (t limit : ℕ) (got : Store × Message) where
     unfolding finished ◌>>◌ refuse_if
     ends_done room = rw (fits, room) refl
 
-    ends_somehow : IsGrantedOrFull (finished w t limit got)
-    unfolding finished ◌>>◌ refuse_if
-    ends_somehow = rw fits (go (is_over_full (space got.0 t)))
-      where
-        go : (b : Bool) → IsGrantedOrFull {A = World × Reply}
-            (refuse_if b (Refused ProfileNoSpace) >> Ok (with_store w got.0, Bytes (written got.1)))
-        go true = refl
-        go false = tt
-
 module _ (tasks : Map Task) (s : Store) (t n limit : ℕ) where
   world : World
   world = record { tasks = tasks; store = s }
@@ -222,12 +214,6 @@ module _ (tasks : Map Task) (s : Store) (t n limit : ℕ) where
             ∙ ap (λ k. Err (TooLarge k)) size
 
         module _ (fits : nat_lt limit (carried_size m.args) ≡ false) where
-          may_end : IsGrantedOrFull
-              (call_receive (record { tasks = tasks; store = s }) t n limit)
-          may_end =
-              subst IsGrantedOrFull (sym ends)
-              (ends_somehow _ t limit _ (ap (nat_lt limit) size ∙ fits))
-
           module _ (old : Space) (there : get s.spaces t ≡ Some old) where
             -- what is given to the space is given to the task
             given_to : received (set_port s found.1 (after_receipt x ms)) t found.0 x.receipts m
@@ -246,15 +232,24 @@ module _ (tasks : Map Task) (s : Store) (t n limit : ℕ) where
                 ends ∙ ends_full _ t limit _ (ap (nat_lt limit) size ∙ fits)
                 (ap (λ (z : Store × Message). is_over_full (space z.0 t)) given_to ∙ over)
 
+            granted : is_over_full (space
+                (received (set_space (set_port s found.1 (after_receipt x ms)) t old) t found.0
+                x.receipts m).0 t) ≡ false
+                → IsOk (call_receive (record { tasks = tasks; store = s }) t n limit)
+            granted room =
+                subst (λ (k : Try (World × Reply)). IsOk k)
+                (sym (ends ∙ ends_done _ t limit _ (ap (nat_lt limit) size ∙ fits)
+                (ap (λ (z : Store × Message). is_over_full (space z.0 t)) given_to ∙ room))) refl
+
             -- what is told where not all was given
             pub refused_so : (e : OrMemory Code)
-                → IsOverFilled e (space
+                → IsNotGiven e t
                 (received (set_space (set_port s found.1 (after_receipt x ms)) t old) t found.0
-                x.receipts m).0 t)
+                x.receipts m).0
                 → IsReceiveRefusal (no_space_for e)
                 (call_receive (record { tasks = tasks; store = s }) t n limit)
             refused_so (Fault code) over = full over
-            refused_so Memory over = may_end
+            refused_so Memory room = granted room
 
             pub done : (y : Space) (bytes : List ℕ)
                 → (received (set_space (set_port s found.1 (after_receipt x ms)) t old) t found.0

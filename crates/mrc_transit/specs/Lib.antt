@@ -1,6 +1,8 @@
 pub mod Carrying
 pub mod Giving
+pub mod Judging
 pub mod SendPlans
 pub mod Receiving
+pub mod Room
 pub mod Sending
 pub mod Staging

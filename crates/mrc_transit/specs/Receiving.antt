@@ -1,6 +1,6 @@
 -- What a received message leaves, and why none is received. From Mach 3 Kernel Interfaces, mach_msg
 -- (MACH_RCV_MSG, MACH_RCV_LARGE).
-use Rattle.std.specs.Prelude.{◌≡◌, ℕ, true, false, List, Some, Ok, Err, is_some, nat_lt}
+use Rattle.std.specs.Prelude.{◌≡◌, ℕ, true, false, List, Some, Ok, Err, IsOk, is_some, nat_lt}
 use Rattle.mrc_base.specs.declared.memory.OrMemory.{OrMemory}
 use Rattle.mrc_base.specs.declared.memory.OrMemory.TheVariants.{Fault, Memory}
 use Rattle.mrc_model.specs.declared.Code.{Code}
@@ -50,19 +50,13 @@ abbrev pub receive_reply : ReceiveFault → model.Reply
 receive_reply (faults.Refused code) = model.Refused code
 receive_reply (faults.TooLarge size) = model.TooLarge size
 
--- a step is not refused, but it may be for want of room in the space
-abbrev pub IsGrantedOrFull : {A : Type 0} → Try A → Type 0
-IsGrantedOrFull (Ok a) = Unit {0}
-IsGrantedOrFull (Err e) = e ≡ model.Refused ProfileNoSpace
-
--- the step is refused so; memory runs out only where it is not refused, but it may be for want of
--- room in the space
+-- the step is refused so; memory runs out only where it is not refused
 abbrev pub IsReceiveRefusal : {A : Type 0} → OrMemory ReceiveFault → Try A → Type 0
 IsReceiveRefusal (Fault fault) m = m ≡ Err (receive_reply fault)
-IsReceiveRefusal Memory m = IsGrantedOrFull m
+IsReceiveRefusal Memory m = IsOk m
 
 -- after all is given the space has more entries than it may have; of want of memory nothing is
--- said, since what is given later may be too much
+-- said, since what is not yet given may be too much
 abbrev pub IsOverFilled : OrMemory Code → Space → Type 0
 IsOverFilled (Fault code) x = is_over_full x ≡ true
 IsOverFilled Memory x = Unit {0}

@@ -1,7 +1,7 @@
 -- Plans of messages that are sent, and what carrying one out does. From Mach 3 Kernel Interfaces,
 -- mach_msg (MACH_SEND_MSG). That a plan is made first is this profile's own choice.
 use Rattle.std.specs.Prelude.{◌≡◌, ℕ, Bool, true, false, not, ◌&&◌, nat_le, List, length, Option}
-use Rattle.std.specs.Prelude.{Some, None, Ok, IsSome, option_and_then}
+use Rattle.std.specs.Prelude.{Some, None, Ok, Err, IsOk, IsSome, option_and_then}
 use Rattle.mrc_base.specs.declared.Disp.{Disp}
 use Rattle.mrc_base.specs.declared.Disp.TheVariants.{MoveReceive, MoveSend, MoveSendOnce, CopySend}
 use Rattle.mrc_base.specs.declared.Disp.TheVariants.{MakeSend, MakeSendOnce}
@@ -14,7 +14,7 @@ use Rattle.mrc_model.specs.Map.{Map, get}
 use Rattle.mrc_model.specs.Message.{Message}
 use Rattle.mrc_model.specs.Wiring.{Wiring}
 use Rattle.mrc_model.specs.World.{Parcel, Port, Store, World, space}
-use Rattle.mrc_model.specs.Reply.{Done}
+use Rattle.mrc_model.specs.Reply.{Done, Try}
 use Rattle.mrc_model.specs.Death.{append}
 use Rattle.mrc_model.specs.Target.{with_store}
 use Rattle.mrc_model.specs.CallSend.{call_send}
@@ -23,7 +23,7 @@ use Rattle.mrc_ports.specs.Queues.{is_full_for}
 use Rattle.mrc_transit.specs.declared.sending.SendFault.{SendFault}
 use Rattle.mrc_transit.specs.declared.sending.SendFault.TheVariants as faults
 use Rattle.mrc_transit.specs.Staging.{Taking, staged}
-use Rattle.mrc_transit.specs.Sending.{IsSendRefusal}
+use Rattle.mrc_transit.specs.Sending.{IsSendRefusal, fault_reply}
 
 -- who sends, what is left of names, the ports whose receive rights were taken, where the message
 -- goes, and the message
@@ -60,9 +60,18 @@ abbrev pub IsPlanOf : Wiring → Store → ℕ → Message → SendPlan → Type
 IsPlanOf W s t m plan = (w : World) →
     call_send W (with_store w s) t m ≡ Ok (with_store w (sent s plan), Done)
 
--- in each world with this store, sending the message is refused so
+-- the sending is refused so; memory runs out only where it is not refused
+abbrev pub IsSendAnswer : {A : Type 0} → OrMemory SendFault → Try A → Type 0
+IsSendAnswer (Fault fault) m = m ≡ Err (fault_reply fault)
+IsSendAnswer Memory m = IsOk m
+
+-- so it is in each world with this store
 abbrev pub IsNotSent : OrMemory SendFault → Wiring → Store → ℕ → Message → Type 0
-IsNotSent fault W s t m = (w : World) → IsSendRefusal fault (call_send W (with_store w s) t m)
+IsNotSent fault W s t m = (w : World) → IsSendAnswer fault (call_send W (with_store w s) t m)
+
+-- the same before it is judged once more: of want of memory nothing is said
+abbrev pub IsNotPlanned : OrMemory SendFault → Wiring → Store → ℕ → Message → Type 0
+IsNotPlanned fault W s t m = (w : World) → IsSendRefusal fault (call_send W (with_store w s) t m)
 
 -- a disposition but that which moves a receive right
 abbrev pub but_receive : Disp → Option Disp

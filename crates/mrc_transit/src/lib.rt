@@ -4,8 +4,10 @@
 
 mod arguments;
 mod giving;
+mod judging;
 mod laws;
 mod receiving;
+mod room;
 mod send_plan;
 mod sending;
 mod taking;

@@ -19,11 +19,13 @@ ghost use Rattle.mrc_model.specs.CallReceive.{ready_member, is_empty_queue, call
 ghost use Rattle.mrc_desc.specs.View.{argument_of, arguments_of};
 ghost use Rattle.mrc_desc.specs.Laws.{OtherArg, OtherArgs};
 ghost use Rattle.mrc_ports.specs.Parcels.{queued_of, unnamed};
+ghost use Rattle.mrc_transit.specs.Giving.{IsNotGiven};
 ghost use Rattle.mrc_transit.specs.Receiving.{found_source, receive_reply, IsOverFilled};
 ghost use Rattle.mrc_transit.specs.Receiving.{IsReceiveRefusal, IsReceivable, IsFirst, HasFirst};
 ghost use Rattle.mrc_transit.specs.Receiving.{AreHousedAlike, no_space};
 
 use crate::giving::give_item;
+use crate::room::has_room;
 use crate::written::Written;
 use mrc_base::{OrMemory, PortId, PortRight, TaskId};
 use mrc_desc::{Argument, Arguments, Header, Message, Names};
@@ -293,7 +295,28 @@ fn give_message(
     }
 }
 
-/// The same for the first message of a port, where one waits.
+/// Why a message was not given to a space, which is as it was before. Where memory ran out, want of
+/// room in the space is told first: it is found out without memory.
+fn no_room_or(space: &Space, parcel: &Parcel, fault: OrMemory<Code>) -> OrMemory<Code>
+    ensures { (s : TStore) (t name receipts : ℕ)
+        → IsOverFilled fault
+        (space_of (received (set_space s t space.now) t name receipts parcel.now).0 t)
+        → IsNotGiven result t (received (set_space s t space.now) t name receipts parcel.now).0 }
+{
+    match fault {
+        OrMemory::Fault(code) => OrMemory::Fault(code),
+        OrMemory::Memory => {
+            if has_room(space, parcel) {
+                OrMemory::Memory
+            } else {
+                OrMemory::Fault(Code::KernNoSpace)
+            }
+        }
+    }
+}
+
+/// Gives a space what the first message of a port carries, as `give_message` does, where one waits.
+/// Memory runs out only where the space has room for all.
 fn give_first(
     alloc: Global,
     store: &Store,
@@ -309,8 +332,8 @@ fn give_first(
         → IfOk result.1 (λ bytes. (s : TStore) (t : ℕ)
         → written (received (set_space s t space) t name x.receipts m).1 ≡ bytes) }
     ensures refused { (x : TPort) (m : TParcel) (ms : List TParcel) → IsFirst store.now port x m ms
-        → IfErr result.1 (λ e. (s : TStore) (t : ℕ) → IsOverFilled e
-        (space_of (received (set_space s t space) t name x.receipts m).0 t)) }
+        → IfErr result.1 (λ e. (s : TStore) (t : ℕ)
+        → IsNotGiven e t (received (set_space s t space) t name x.receipts m).0) }
     ensures err { OnErr result.1 (result.0 ≡ space) }
 {
     let Some(found) = store.ports().get(port) else {
@@ -319,7 +342,14 @@ fn give_first(
     let Some(parcel) = found.queue().first() else {
         unreachable!();
     };
-    give_message(alloc, space, name, found.receipts(), parcel)
+    let (space, told) = give_message(alloc, space, name, found.receipts(), parcel);
+    match told {
+        Ok(bytes) => (space, Ok(bytes)),
+        Err(e) => {
+            let e = no_room_or(&space, parcel, e);
+            (space, Err(e))
+        }
+    }
 }
 
 /// Why a message is not received whose rights the space has no room for.
@@ -362,7 +392,8 @@ fn judge(store: &Store, task: TaskId, name: u32, limit: u32) -> Result<(u32, Por
 }
 
 /// Receives a message of at most `limit` bytes by a name of the task: its bytes. Refused are what
-/// `ReceiveFault` lists, in its order; then, or where memory runs out, nothing has changed.
+/// `ReceiveFault` lists, in its order; then, or where memory runs out, nothing has changed. Memory
+/// runs out only where nothing is refused.
 pub fn receive(
     alloc: Global,
     store: &mut Store,

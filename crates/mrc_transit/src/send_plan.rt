@@ -1,6 +1,7 @@
 //! The plan of a message that is sent.
 
-ghost use Rattle.std.specs.Prelude.{◌≡◌, false, IfOk, IfErr, OnOk, IsSome};
+ghost use Rattle.std.specs.Prelude.{◌≡◌, false, not, ◌&&◌, nat_le, length};
+ghost use Rattle.std.specs.Prelude.{IfOk, IfErr, OnOk, IsSome};
 ghost use Rattle.mrc_model.specs.Map.{get};
 ghost use Rattle.mrc_model.specs.Rights.{is_once};
 ghost use Rattle.mrc_model.specs.World.{space, set_space};
@@ -9,8 +10,9 @@ ghost use Rattle.mrc_transit.specs.Staging.{restart_each};
 ghost use Rattle.mrc_ports.specs.Queues.{is_full_for};
 ghost use Rattle.mrc_wiring.specs.Table.{wiring_of};
 ghost use Rattle.mrc_transit.specs.SendPlans.{destination_disp, sent, IsReady, IsPlanOf};
-ghost use Rattle.mrc_transit.specs.SendPlans.{IsNotSent, IsNoRoom};
+ghost use Rattle.mrc_transit.specs.SendPlans.{IsNotSent, IsNotPlanned, IsNoRoom};
 
+use crate::judging::judge_again;
 use crate::sending::{SendFault, refused_by};
 use crate::taking::Taking;
 use mrc_base::{Disp, OrMemory, PortId, PortRight, TaskId, give};
@@ -51,7 +53,7 @@ impl Model for SendPlan {
 }
 
 /// How a destination's right is taken: by any disposition but that which moves a receive right.
-fn destination_disp(number: u8) -> Option<Disp>
+pub(crate) fn destination_disp(number: u8) -> Option<Disp>
     ensures { result ≡ destination_disp number }
 {
     match Disp::of_number(u16::from(number))? {
@@ -61,10 +63,17 @@ fn destination_disp(number: u8) -> Option<Disp>
 }
 
 /// Whether the right is a send-once right.
-fn is_once(right: PortRight) -> bool
+pub(crate) fn is_once(right: PortRight) -> bool
     ensures { result ≡ is_once right }
 {
     matches!(right, PortRight::SendOnce)
+}
+
+/// Whether the port's queue is at or above its limit, for a message through such a right.
+pub(crate) fn is_at_limit(port: &Port, by_once: bool) -> bool
+    ensures { result ≡ (not by_once && nat_le port.now.limit (length port.now.queue)) }
+{
+    !by_once && port.limit() as usize <= port.queue().len()
 }
 
 /// Whether the port takes a message now that is sent through such a right. A queue at or above its
@@ -73,7 +82,7 @@ fn ask_room(port: &Port, by_once: bool) -> Result<(), OrMemory<SendFault>>
     ensures ok { OnOk result (is_full_for port.now by_once ≡ false) }
     ensures refused { IfErr result (λ fault. IsNoRoom fault port.now by_once) }
 {
-    if !by_once && port.limit() as usize <= port.queue().len() {
+    if is_at_limit(port, by_once) {
         return Err(OrMemory::Fault(SendFault::Refused(Code::MachSendTimedOut)));
     }
     if port.is_full_for(by_once) {
@@ -82,15 +91,9 @@ fn ask_room(port: &Port, by_once: bool) -> Result<(), OrMemory<SendFault>>
     Ok(())
 }
 
-/// The plan of a message that the task sends: nothing changes before the plan is applied. Refused,
-/// in order: a destination's name that gives no such right on a live port (MACH_SEND_INVALID_DEST);
-/// a message that the destination's class does not accept (`Denied`, by the filter); a reply port's
-/// name that gives no such right (MACH_SEND_INVALID_REPLY); name by name of the arguments, one that
-/// gives no such right (MACH_SEND_INVALID_RIGHT) or a port that its slot does not admit
-/// (`NotAdmitted`, with the argument's number); a queue that is at or above its limit, but for a
-/// message through a send-once right (MACH_SEND_TIMED_OUT). Each takes what the ones before it
-/// left.
-pub fn copy_in(
+/// The plan of a message, as `copy_in` makes it. Where memory runs out, it isn't known yet whether
+/// the message is refused for what comes later.
+fn planned(
     alloc: Global,
     store: &Store,
     wired: &Wired,
@@ -101,7 +104,7 @@ pub fn copy_in(
         IsPlanOf (wiring_of wired.now) store.now sender message.now plan) }
     ensures ready { IfOk result (λ plan. IsReady store.now plan) }
     ensures refused { IfErr result (λ fault.
-        IsNotSent fault (wiring_of wired.now) store.now sender message.now) }
+        IsNotPlanned fault (wiring_of wired.now) store.now sender message.now) }
 {
     let header = message.header();
     let Some(disp) = destination_disp(header.remote_disp) else {
@@ -140,6 +143,38 @@ pub fn copy_in(
         destination,
         ready,
     })
+}
+
+/// The plan of a message that the task sends: nothing changes before the plan is applied. Refused,
+/// in order: a destination's name that gives no such right on a live port (MACH_SEND_INVALID_DEST);
+/// a message that the destination's class does not accept (`Denied`, by the filter); a reply port's
+/// name that gives no such right (MACH_SEND_INVALID_REPLY); name by name of the arguments, one that
+/// gives no such right (MACH_SEND_INVALID_RIGHT) or a port that its slot does not admit
+/// (`NotAdmitted`, with the argument's number); a queue that is at or above its limit, but for a
+/// message through a send-once right (MACH_SEND_TIMED_OUT). Each takes what the ones before it
+/// left. Where memory runs out, the message is judged once more, without memory: want of memory is
+/// told only for a message that is not refused.
+pub fn copy_in(
+    alloc: Global,
+    store: &Store,
+    wired: &Wired,
+    sender: TaskId,
+    message: &Message,
+) -> Result<SendPlan, OrMemory<SendFault>>
+    ensures ok { IfOk result (λ plan.
+        IsPlanOf (wiring_of wired.now) store.now sender message.now plan) }
+    ensures ready { IfOk result (λ plan. IsReady store.now plan) }
+    ensures refused { IfErr result (λ fault.
+        IsNotSent fault (wiring_of wired.now) store.now sender message.now) }
+{
+    match planned(alloc, store, wired, sender, message) {
+        Ok(plan) => Ok(plan),
+        Err(OrMemory::Fault(fault)) => Err(OrMemory::Fault(fault)),
+        Err(OrMemory::Memory) => match judge_again(store, wired, sender, message) {
+            Ok(()) => Err(OrMemory::Memory),
+            Err(fault) => Err(OrMemory::Fault(fault)),
+        },
+    }
 }
 
 /// Puts what is left of a task's names into its space. It takes no memory.

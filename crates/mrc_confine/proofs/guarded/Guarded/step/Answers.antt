@@ -1,6 +1,5 @@
 use Rattle.std.proofs.Common.{◌≡◌, IfOk, OnErr, subst}
-use Rattle.mrc_machine.specs.Calls.{call_of, reply_of, IsGranted, IsGrantedOrFull}
-use Rattle.mrc_machine.specs.Calls.{IsJudgedFirst, IsReceiving}
+use Rattle.mrc_machine.specs.Calls.{call_of, reply_of, IsGranted}
 use Rattle.mrc_model.specs.Step.{step}
 use Rattle.mrc_wiring.specs.Table.{Table, wiring_of}
 use Rattle.mrc_confine.proofs.Guarding.{answer_is_guarded}
@@ -31,13 +30,6 @@ returns-clause-step c =
 pub returns-clause-last : goal.returns-clause-last
 returns-clause-last c =
     rw (← c.self.view_is)
-    (subst (λ (table : Table). OnErr c.step.result (IsJudgedFirst c.args.call.now → IsGranted
+    (subst (λ (table : Table). OnErr c.step.result (IsGranted
     (wiring_of table) c.self.inside.world c.args.caller (call_of c.args.call.now)))
     c.wired.ensures.exact c.step.ensures.last)
-
-pub returns-clause-full : goal.returns-clause-full
-returns-clause-full c =
-    rw (← c.self.view_is)
-    (subst (λ (table : Table). OnErr c.step.result (IsReceiving c.args.call.now → IsGrantedOrFull
-    (wiring_of table) c.self.inside.world c.args.caller (call_of c.args.call.now)))
-    c.wired.ensures.exact c.step.ensures.full)

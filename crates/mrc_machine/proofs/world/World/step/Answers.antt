@@ -5,7 +5,7 @@ use Rattle.mrc_model.specs.Target.{is_alive}
 use Rattle.mrc_model.specs.Step.{step, try_call}
 use Rattle.mrc_model.specs.Covers.{HasSpaces}
 use Rattle.mrc_wiring.specs.Table.{wiring_of}
-use Rattle.mrc_machine.specs.Calls.{call_of, refusal_reply, IsRefusalOf}
+use Rattle.mrc_machine.specs.Calls.{call_of, refusal_reply, IsRefusedBy}
 use Rattle.mrc_machine.proofs.StepLaws.{step_dead, step_done, step_refused, spaces_after}
 use Rattle.mrc_machine.proofs.world.World.step.Goals.{in-Ok, in-Err-Fault, in-Err-Memory}
 use Rattle.mrc_machine.proofs.world.World.step.Goals as goal
@@ -40,7 +40,7 @@ returns-clause-step c =
           ∙ step_done W was c.args.caller call alive _ _ w.in-Ok.ensures.ok)
       | in-Err-Fault w ↦
           let refused = subst
-          (λ e. IsRefusalOf c.args.call.now e (try_call W was c.args.caller call))
+          (λ e. IsRefusedBy e (try_call W was c.args.caller call))
           w.in-Err-Fault.field-0-is w.in-Err-Fault.ensures.refused in
           rw w.result-is (ap (λ (v : World). step W v c.args.caller call) (sym c.self.view_is)
           ∙ step_refused W was c.args.caller call alive (refusal_reply w.in-Err-Fault.refusal)

@@ -10,13 +10,13 @@ use Rattle.mrc_ports.specs.Parcels.{queued_of}
 use Rattle.mrc_ports.specs.Tables.{Table}
 use Rattle.mrc_filter.proofs.Few.{few}
 use Rattle.mrc_transit.specs.Staging.{Taking}
-use Rattle.mrc_transit.specs.SendPlans.{SendPlan, IsNotSent}
+use Rattle.mrc_transit.specs.SendPlans.{SendPlan, IsNotPlanned}
 use Rattle.mrc_transit.proofs.PlanLaws.{plan_no_disp, plan_no_space, plan_no_right, plan_no_port}
 use Rattle.mrc_transit.proofs.PlanLaws.{plan_denied, plan_no_reply, plan_no_args, plan_no_room}
 use Rattle.mrc_transit.proofs.PlanLaws.{plan_done, plan_ready}
 use Rattle.mrc_desc.specs.Lawful.{AreLawful}
 use Rattle.mrc_transit.proofs.CarriedLaws.{taken_carried}
-use Rattle.mrc_transit.proofs.send_plan.copy_in.Goals as goal
+use Rattle.mrc_transit.proofs.send_plan.planned.Goals as goal
 
 pub new-requires : goal.new-requires
 new-requires c =
@@ -37,7 +37,7 @@ returns-in_default-space-clause-refused c =
 
 pub returns-in-Err-clause-refused : goal.returns-in-Err-clause-refused
 returns-in-Err-clause-refused c =
-    subst (λ fault. IsNotSent fault (wiring_of c.args.wired.now) c.args.store.now c.args.sender
+    subst (λ fault. IsNotPlanned fault (wiring_of c.args.wired.now) c.args.store.now c.args.sender
     c.args.message.now) (sym c.refused_by.ensures) (plan_no_right (wiring_of c.args.wired.now)
     c.args.store.now c.args.sender c.args.message.now c.header-header.result c.header-header.ensures
     c.in-Some.disp (sym c.destination_disp.ensures ∙ c.in-Some.is) c.in-Some-space.space.now
@@ -67,7 +67,7 @@ returns-in-Err-judge-clause-refused c =
 
 pub returns-in-Err-take_reply-clause-refused : goal.returns-in-Err-take_reply-clause-refused
 returns-in-Err-take_reply-clause-refused c =
-    subst (λ fault. IsNotSent fault (wiring_of c.args.wired.now) c.args.store.now c.args.sender
+    subst (λ fault. IsNotPlanned fault (wiring_of c.args.wired.now) c.args.store.now c.args.sender
     c.args.message.now) (sym c.refused_by-in-Err-take_reply.ensures) (plan_no_reply (wiring_of
     c.args.wired.now) c.args.store.now c.args.sender c.args.message.now c.header-header.result
     c.header-header.ensures c.in-Some.disp (sym c.destination_disp.ensures ∙ c.in-Some.is)
