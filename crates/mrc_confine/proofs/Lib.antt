@@ -1,2 +1,3 @@
 pub mod Guarding
+pub mod Meaning
 pub mod Safe

@@ -1,28 +1,43 @@
--- What the checker's yes means for every run of the machine. This profile's own choice.
-use Rattle.std.specs.Prelude.{ℕ, List, IsTrue}
+-- What a yes means for every run of the machine: that of the checker to a certificate, and that of
+-- the least set of facts; and what a no means for certificates. This profile's own choice.
+use Rattle.std.specs.Prelude.{◌≡◌, ℕ, Bool, List, Ok, IsTrue}
+use Rattle.mrc_base.specs.declared.Fact.{Fact}
+use Rattle.mrc_base.specs.declared.Fact.TheVariants.{Hold}
 use Rattle.mrc_certificate.specs.Drafts.{Content}
 use Rattle.mrc_check.specs.Texts.{SayYes}
 use Rattle.mrc_check.specs.Verdict.{Case, IsAccepted}
 use Rattle.mrc_facts.specs.Sets.{has}
-use Rattle.mrc_model.specs.Breach.{Breach}
+use Rattle.mrc_forms.specs.Tables.{Table as Interface}
+use Rattle.mrc_interface.specs.Reading.{AreInterfaces}
+use Rattle.mrc_model.specs.Breach.{Breach, Forbid}
 use Rattle.mrc_model.specs.Covers.{Covers}
 use Rattle.mrc_model.specs.First.{first, is_sound}
-use Rattle.mrc_model.specs.Rules.{Has}
+use Rattle.mrc_model.specs.IsIn.{IsIn}
+use Rattle.mrc_model.specs.Rules.{Has, IsLeast, Least, SaysYes}
 use Rattle.mrc_model.specs.Runs.{Event, Run}
 use Rattle.mrc_model.specs.World.{World}
-use Rattle.mrc_wiring.specs.Claims.{Claimed, policy_of}
+use Rattle.mrc_wiring.specs.Claims.{Claimed, forbidden_lines, policy_of}
+use Rattle.mrc_wiring.specs.Resolving.{resolved}
 use Rattle.mrc_wiring.specs.Table.{wiring_of}
+use Rattle.mrc_wiring_text.specs.declared.policy.Forbid.{Forbid as ForbidText}
+use Rattle.mrc_wiring_text.specs.declared.reading.Line.{Line}
+use Rattle.mrc_wiring_text.specs.declared.wiring.WiringSays.{WiringSays}
+use Rattle.mrc_wiring_text.specs.Texts.{IsPolicy, IsWiring}
 
 -- The events lead from the first state of the claim's wiring to the world.
 abbrev pub LeadsTo : Claimed → List Event → World → Type 0
 LeadsTo claim events w = let W = wiring_of claim.table in Run W (first W) events w
 
--- Each world that events lead to from the first state of the claim's wiring is covered by the
--- draft's facts, and has no breach of the claim's policy.
+-- Each world that events lead to from the first state of the claim's wiring is covered by the set,
+-- and has no breach of the claim's policy.
+abbrev pub IsSafeBy : Claimed → (Fact → Bool) → Type 0
+IsSafeBy claim set =
+    (events : List Event) (w : World) → LeadsTo claim events w
+    → Covers (Has set) w × (Breach w (policy_of claim) → ⊥)
+
+-- this is so of a claim and the facts of a draft
 abbrev pub IsSafe : Case → Type 0
-IsSafe case =
-    (events : List Event) (w : World) → LeadsTo case.claim events w
-    → Covers (Has (has case.draft.facts)) w × (Breach w (policy_of case.claim) → ⊥)
+IsSafe case = IsSafeBy case.claim (has case.draft.facts)
 
 -- This is so where no line of a claim's wiring is refused and a draft is accepted for the claim.
 abbrev pub AcceptedIsSafe : Type 0
@@ -35,3 +50,53 @@ abbrev pub YesIsSafe : Type 0
 YesIsSafe =
     (defs : List (List ℕ)) (wiring policy certificate : List ℕ) (case : Case)
     → SayYes defs wiring policy certificate case → IsSafe case
+
+-- Without a certificate.
+
+-- The bytes mean a claim: the definitions are MIG files, the wiring over their interfaces has a
+-- table, and the policy forbids these lines in it.
+pub record MeanClaim (defs : List (List ℕ)) (wiring policy : List ℕ) (claim : Claimed)
+    : Type 0 where
+  pub interfaces : List Interface
+  pub are_interfaces : AreInterfaces defs interfaces
+  pub wiring_lines : List (Line WiringSays)
+  pub is_wiring : IsWiring wiring wiring_lines
+  pub is_table : resolved interfaces wiring_lines ≡ Ok claim.table
+  pub policy_lines : List (Line ForbidText)
+  pub is_policy : IsPolicy policy policy_lines
+  pub is_claim : forbidden_lines claim.table policy_lines ≡ Ok claim.lines
+
+-- the set is the least of the claim's wiring, and the checker says yes to it
+pub record IsLeastYes (claim : Claimed) (set : Fact → Bool) : Type 0 where
+  pub least : IsLeast (wiring_of claim.table) set
+  pub says : SaysYes (wiring_of claim.table) (policy_of claim) set
+
+-- Where the bytes of MIG files, a wiring and a policy mean a claim whose least set of facts is a
+-- yes, no list of calls from the first state of that wiring leads out of the set, or to a breach of
+-- that policy.
+abbrev pub VerifiedIsSafe : Type 0
+VerifiedIsSafe =
+    (defs : List (List ℕ)) (wiring policy : List ℕ) (claim : Claimed) (set : Fact → Bool)
+    → MeanClaim defs wiring policy claim → IsLeastYes claim set → IsSafeBy claim set
+
+-- no certificate is accepted for the bytes
+abbrev pub NoneIsAccepted : List (List ℕ) → (wiring policy : List ℕ) → Type 0
+NoneIsAccepted defs wiring policy =
+    (certificate : List ℕ) (case : Case) → SayYes defs wiring policy certificate case → ⊥
+
+-- the checker says yes to no set of facts
+abbrev pub IsNo : Claimed → Type 0
+IsNo claim =
+    (set : Fact → Bool) → SaysYes (wiring_of claim.table) (policy_of claim) set → ⊥
+
+-- a line of the claim's policy forbids a fact that is in the least set: in each closed one
+pub record IsBroken (claim : Claimed) : Type 0 where
+  pub line : Forbid
+  pub among : IsIn line (policy_of claim)
+  pub least : Least (wiring_of claim.table) (Hold line.task line.class line.right)
+
+-- no certificate is accepted for bytes that mean a claim of this kind
+abbrev pub HaveNoYes : (Claimed → Type 0) → Type 0
+HaveNoYes Refused =
+    (defs : List (List ℕ)) (wiring policy : List ℕ) (claim : Claimed)
+    → MeanClaim defs wiring policy claim → Refused claim → NoneIsAccepted defs wiring policy

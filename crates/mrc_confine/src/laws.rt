@@ -1,6 +1,7 @@
 //! The laws above the checker and the machine, proved of the definitions alone. Each is the
 //! contract of a function that does nothing.
-ghost use Rattle.mrc_confine.specs.Safety.{AcceptedIsSafe, IsSafe, YesIsSafe};
+ghost use Rattle.mrc_confine.specs.Safety.{AcceptedIsSafe, HaveNoYes, IsBroken, IsNo, IsSafe};
+ghost use Rattle.mrc_confine.specs.Safety.{VerifiedIsSafe, YesIsSafe};
 ghost use Rattle.mrc_model.specs.Headline.{CoveredIsSafe, FirstIsCovered, StepIsCovered};
 
 use mrc_check::Confined;
@@ -49,4 +50,18 @@ pub fn confined_is_safe(confined: &Confined)
 /// from the first state of that wiring ends in a breach of that policy.
 pub fn yes_is_safe()
     ensures safe { YesIsSafe }
+{}
+
+/// Where the bytes of MIG files, a wiring and a policy mean a claim whose least set of facts is a
+/// yes, no list of calls from the first state of that wiring ends in a breach of that policy. No
+/// certificate is needed.
+pub fn verified_is_safe()
+    ensures safe { VerifiedIsSafe }
+{}
+
+/// Where the bytes of MIG files, a wiring and a policy mean a claim to which no set of facts is a
+/// yes, or of which a line forbids a fact of the least set, no certificate is accepted for them.
+pub fn broken_has_no_yes()
+    ensures no { HaveNoYes IsNo }
+    ensures broken { HaveNoYes IsBroken }
 {}

@@ -1,0 +1,69 @@
+-- Bytes mean one claim at most, so what is refused of it is refused of each certificate.
+use Rattle.std.proofs.Common.{◌≡◌, ◌∙◌, ℕ, Bool, List, Ok, ap, subst, sym}
+use Rattle.std.specs.Prelude.{codes}
+use Rattle.mrc_base.proofs.Steps.{ok_is}
+use Rattle.mrc_check.specs.Texts.{SayYes}
+use Rattle.mrc_check.specs.Verdict.{Case}
+use Rattle.mrc_confine.specs.Safety.{HaveNoYes, IsBroken, IsNo, MeanClaim, NoneIsAccepted}
+use Rattle.mrc_facts.specs.Sets.{has}
+use Rattle.mrc_interface.proofs.ReadingLaws.{interfaces_read}
+use Rattle.mrc_wiring.specs.Claims.{Claimed, forbidden_lines}
+use Rattle.mrc_wiring.specs.declared.claim.ForbiddenLine.{ForbiddenLine}
+use Rattle.mrc_wiring.specs.Resolving.{resolved}
+use Rattle.mrc_wiring.specs.Table.{Table}
+use Rattle.mrc_wiring_text.proofs.TextLaws.{text_read}
+use Rattle.mrc_wiring_text.specs.Policy.{policy_says}
+use Rattle.mrc_wiring_text.specs.Wiring.{wiring_says}
+
+-- a yes of the checker has a claim that its bytes mean
+meant : (defs : List (List ℕ)) (wiring policy certificate : List ℕ) (case : Case)
+    → SayYes defs wiring policy certificate case → MeanClaim defs wiring policy case.claim
+meant defs wiring policy certificate case says = record {
+  interfaces = says.interfaces;
+  are_interfaces = says.are_interfaces;
+  wiring_lines = says.wiring_lines;
+  is_wiring = says.is_wiring;
+  is_table = says.is_table;
+  policy_lines = says.policy_lines;
+  is_policy = says.is_policy;
+  is_claim = says.is_claim;
+}
+
+-- two claims that the same bytes mean are one
+same_claim : (defs : List (List ℕ)) (wiring policy : List ℕ) (a b : Claimed)
+    → MeanClaim defs wiring policy a → MeanClaim defs wiring policy b → a ≡ b
+same_claim defs wiring policy a b m n =
+    let interfaces : m.interfaces ≡ n.interfaces = ok_is m.interfaces n.interfaces
+    (sym (interfaces_read defs m.interfaces m.are_interfaces)
+    ∙ interfaces_read defs n.interfaces n.are_interfaces) in
+    let lines : m.wiring_lines ≡ n.wiring_lines = ok_is m.wiring_lines n.wiring_lines
+    (sym (text_read (codes "wiring") wiring_says wiring m.wiring_lines m.is_wiring)
+    ∙ text_read (codes "wiring") wiring_says wiring n.wiring_lines n.is_wiring) in
+    let table : a.table ≡ b.table = ok_is a.table b.table
+    (sym m.is_table ∙ ap (λ i. resolved i m.wiring_lines) interfaces
+    ∙ ap (λ l. resolved n.interfaces l) lines ∙ n.is_table) in
+    let says : m.policy_lines ≡ n.policy_lines = ok_is m.policy_lines n.policy_lines
+    (sym (text_read (codes "policy") policy_says policy m.policy_lines m.is_policy)
+    ∙ text_read (codes "policy") policy_says policy n.policy_lines n.is_policy) in
+    let forbidden : a.lines ≡ b.lines = ok_is a.lines b.lines
+    (sym m.is_claim ∙ ap (λ t. forbidden_lines t m.policy_lines) table
+    ∙ ap (λ l. forbidden_lines b.table l) says ∙ n.is_claim) in
+    let with_table : Table → Claimed = λ t. record { table = t; lines = a.lines } in
+    let with_lines : List ForbiddenLine → Claimed = λ l. record { table = b.table; lines = l } in
+    ap with_table table ∙ ap with_lines forbidden
+
+-- no set of facts is a yes, so no draft is accepted
+pub no_has_no_yes : HaveNoYes IsNo
+no_has_no_yes defs wiring policy claim mean refused certificate case says =
+    let same = same_claim defs wiring policy claim case.claim mean
+    (meant defs wiring policy certificate case says) in
+    subst (λ (c : Claimed). IsNo c) same refused (has case.draft.facts) says.accepted.yes
+
+-- a closed set has each fact of the least one, so a line that forbids one of these is broken
+broken_is_no : (claim : Claimed) → IsBroken claim → IsNo claim
+broken_is_no claim broken set says =
+    says.allowed broken.line broken.among (broken.least set says.closed)
+
+pub broken_has_none : HaveNoYes IsBroken
+broken_has_none defs wiring policy claim mean broken =
+    no_has_no_yes defs wiring policy claim mean (broken_is_no claim broken)
