@@ -2,23 +2,38 @@
 
 use crate::forms::forms;
 use anyhow::Result;
-use mrc_mig_cut::{CutFile, cut};
+use mrc_mig_cut::{CutFile, LeftOut, carried_text, cut};
 use std::alloc::Global;
 use std::str;
 
-/// How many routines are read, and the line, the name, the id and the word of each that is left
-/// out.
+/// What a routine carries.
+fn carries(alloc: Global, routine: &LeftOut) -> Result<String> {
+    if routine.carried.is_empty() {
+        return Ok(String::new(alloc));
+    }
+    let carried = carried_text(alloc, routine.carried.as_slice())?;
+    Ok(format!(in alloc; ", carries {}", carried.as_str())?)
+}
+
+/// How many routines are read, the line, the name, the id and the word of each that is left out,
+/// with what it carries, and those that were left out before.
 fn told(alloc: Global, file: &CutFile) -> Result<String> {
     let mut text = format!(in alloc; "{} read", file.read)?;
     for routine in file.left_out.as_slice() {
+        let carries = carries(alloc, routine)?;
         let line = format!(in alloc;
-            "; {} {} {} {}",
+            "; {} {} {} {}{}",
             routine.line,
             routine.name.as_str(),
             routine.id,
-            routine.word.as_str()
+            routine.word.as_str(),
+            carries.as_str()
         )?;
         text.push_str(line.as_str())?;
+    }
+    for name in file.before.as_slice() {
+        text.push_str("; before ")?;
+        text.push_str(name.as_str())?;
     }
     Ok(text)
 }

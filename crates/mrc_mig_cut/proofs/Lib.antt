@@ -1,4 +1,5 @@
 mod AscendingLemmas
+pub mod CarryLemmas
 mod LawLemmas
 mod LayoutLemmas
 mod MultipleLemmas

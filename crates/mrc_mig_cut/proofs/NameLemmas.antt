@@ -1,5 +1,5 @@
 -- Types that are declared in turn.
-use Rattle.std.proofs.Common.{◌≡◌, ℕ, ◌+◌, ◌<◌, ◌≤◌, List, [], ◌∷◌, map, drop, length, get_or, refl}
+use Rattle.std.proofs.Common.{◌≡◌, ℕ, ◌+◌, ◌<◌, ◌≤◌, List, map, drop, length, get_or, refl}
 use Rattle.std.proofs.Common.{add-one, drop-cons, Bool, true, false, cond, Option, Some, option_map}
 use Rattle.std.proofs.lemmas.List.{drop_all}
 use Rattle.mrc_mig_cut.specs.Kinds.{Meant}

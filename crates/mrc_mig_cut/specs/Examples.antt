@@ -2,6 +2,7 @@
 -- written.
 use Rattle.std.specs.Prelude.{◌≡◌, [], ◌∷◌, codes, false, true, refl}
 use Rattle.mrc_mig_cut.specs.declared.kinds.Data.{Data}
+use Rattle.mrc_mig_cut.specs.declared.kinds.Ports.TheVariants.{Absent, One, Several}
 use Rattle.mrc_mig_cut.specs.Kinds.{Items, NoForm, item}
 use Rattle.mrc_mig_cut.specs.Layout.{place_of, end_of, size_of, struct_of}
 use Rattle.mrc_mig_cut.specs.Spelling.{shape_text}
@@ -60,8 +61,8 @@ bytes = refl
 
 -- a field of no form is the reason why the struct has none
 pub no_form : struct_of
-    ((Items int, codes "int") ∷ (NoForm (codes "^") true, codes "pointer_t") ∷ []) (codes "struct")
-    ≡ NoForm (codes "^") false
+    ((Items int, codes "int") ∷ (NoForm (codes "^") Absent, codes "pointer_t") ∷ []) (codes "struct")
+    ≡ NoForm (codes "^") Absent
 no_form = refl
 
 -- `array[*:3] of struct[2] of int` is six words at most
@@ -74,13 +75,29 @@ array_of_structs = refl
 
 -- `array[2] of c_string[*:9]`: a string of variable length has no form inside an array
 pub array_of_strings : within (times no_arrays 2 false) (Items (string 9 true))
-    ≡ NoForm (codes "array[*:n]") false
+    ≡ NoForm (codes "array[*:n]") Absent
 array_of_strings = refl
 
 -- `^array[] of int`: the first word is the reason
 pub out_of_line : within (without (without no_arrays (codes "^")) (codes "array[]")) (Items int)
-    ≡ NoForm (codes "^") false
+    ≡ NoForm (codes "^") Absent
 out_of_line = refl
+
+-- `^array[] of mach_port_t`: ports that are out of line
+pub out_of_line_ports :
+    within (without (without no_arrays (codes "^")) (codes "array[]")) (Items (item 19 32))
+    ≡ NoForm (codes "^") Several
+out_of_line_ports = refl
+
+-- `array[2] of mach_port_send_t`: ports whose right the sender picks
+pub any_ports : within (times no_arrays 2 false) (NoForm (codes "MACH_MSG_TYPE_PORT_SEND") One)
+    ≡ NoForm (codes "MACH_MSG_TYPE_PORT_SEND") Several
+any_ports = refl
+
+-- a struct whose one field is a port is sent as a number, which carries no right
+pub port_in_struct : struct_of ((Items (item 19 32), codes "mach_port_t") ∷ []) (codes "struct")
+    ≡ Items (item 2 32)
+port_in_struct = refl
 
 -- one word, as it is written
 pub word_written : shape_text (record { name = 2; size = 32; number = 1; is_bound = false })

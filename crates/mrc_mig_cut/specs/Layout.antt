@@ -1,6 +1,6 @@
 -- How the fields of a struct lie, by C's rules on i386, and the items as which GNU MIG's stubs send
 -- it where addresses have 32 bits. That a struct of 4 GB has no form is this profile's own choice.
-use Rattle.std.specs.Prelude.{◌≡◌, ℕ, ◌+◌, ◌*◌, ◌/◌, ◌%◌, ◌≤◌, ◌==◌, List, [], ◌∷◌, ◌++◌, false}
+use Rattle.std.specs.Prelude.{◌≡◌, ℕ, ◌+◌, ◌*◌, ◌/◌, ◌==◌, List, [], ◌∷◌, false}
 use Rattle.std.specs.Prelude.{Result, Ok, Err, None, Some, option_map, min, max, nat_lt}
 use Rattle.std.specs.Prelude.{if◌then◌else◌}
 use Rattle.std.specs.Int.{next_multiple_of}
@@ -11,6 +11,7 @@ use Rattle.mrc_mig_cut.specs.declared.kinds.Data.{Data}
 use Rattle.mrc_mig_cut.specs.declared.kinds.Other.{Other}
 use Rattle.mrc_mig_cut.specs.declared.laying.Fields.{Fields}
 use Rattle.mrc_mig_cut.specs.Kinds.{Meant, Items, NoForm}
+use Rattle.mrc_mig_cut.specs.declared.kinds.Ports.TheVariants.{Absent}
 
 -- how many bytes the items have
 abbrev pub bytes_of : Shape → ℕ
@@ -60,7 +61,7 @@ too_large = 4294967296
 -- variable length the name of its type
 abbrev pub data_of : Meant × List ℕ → Result Data (List ℕ)
 data_of (Items sent, name) = if sent.shape.is_bound then Err name else Ok sent
-data_of (NoForm word is_port, name) = Err word
+data_of (NoForm word ports, name) = Err word
 
 -- the data of the fields, or the word of the first that has none
 abbrev pub all_data_of : List (Meant × List ℕ) → Result (List Data) (List ℕ)
@@ -70,11 +71,11 @@ all_data_of (field ∷ fields) = do
   others ← all_data_of fields
   Ok (sent ∷ others)
 
--- what a struct of these data is
+-- what a struct of these data is: numbers or bytes, which are no ports to GNU MIG
 abbrev pub laid_of : Result (List Data) (List ℕ) → List ℕ → Meant
 laid_of (Ok fields) word =
-    if nat_lt (size_of fields) too_large then Items (whole_of fields) else NoForm word false
-laid_of (Err other) word = NoForm other false
+    if nat_lt (size_of fields) too_large then Items (whole_of fields) else NoForm word Absent
+laid_of (Err other) word = NoForm other Absent
 
 -- what a struct is whose fields are of these types, each with its name
 abbrev pub struct_of : List (Meant × List ℕ) → List ℕ → Meant

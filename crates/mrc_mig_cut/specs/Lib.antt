@@ -1,3 +1,4 @@
+pub mod Carrying
 pub mod Cuts
 pub mod Examples
 pub mod Kinds

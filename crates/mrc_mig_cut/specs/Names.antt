@@ -12,7 +12,9 @@ use denote.Ref.{Bor}
 use Rattle.mrc_mig_cut.specs.declared.kinds.Data.{Data}
 use Rattle.mrc_mig_cut.specs.declared.table.Declared.{Declared}
 use Rattle.mrc_mig_cut.specs.declared.table.Table.{Table}
-use Rattle.mrc_mig_cut.specs.Kinds.{Meant, Items, NoForm, meant, item}
+use Rattle.mrc_mig_cut.specs.declared.kinds.Ports.{Ports}
+use Rattle.mrc_mig_cut.specs.declared.kinds.Ports.TheVariants.{Absent, One, Several}
+use Rattle.mrc_mig_cut.specs.Kinds.{Meant, Items, NoForm, meant, item, ports_in, ports_or}
 
 -- the types that are known: what each name means, if it is one of them
 abbrev pub Known : Type 0
@@ -38,10 +40,18 @@ is_same_data one another =
     && cond one.shape.is_bound another.shape.is_bound (not another.shape.is_bound)
     && (one.alignment == another.alignment)
 
--- the same items, or no form for the same word
+-- the same ports
+abbrev pub is_same_ports : Ports → Ports → Bool
+is_same_ports Absent Absent = true
+is_same_ports One One = true
+is_same_ports Several Several = true
+is_same_ports _ _ = false
+
+-- the same items, or no form for the same word, with the same ports
 abbrev pub is_same : Meant → Meant → Bool
 is_same (Items one) (Items another) = is_same_data one another
-is_same (NoForm one _) (NoForm another _) = bytes_eq one another
+is_same (NoForm one ports) (NoForm another others) =
+    bytes_eq one another && is_same_ports ports others
 is_same _ _ = false
 
 -- with this type under a name
@@ -52,7 +62,8 @@ with_type types name found = λ other. if bytes_eq name other then Some found el
 abbrev pub declared_by : Option Meant → Known → List ℕ → Meant → Known
 declared_by None types name found = with_type types name found
 declared_by (Some other) types name found =
-    if is_same other found then types else with_type types name (NoForm (codes "type") false)
+    if is_same other found then types
+    else with_type types name (NoForm (codes "type") (ports_or (ports_in other) (ports_in found)))
 
 -- with a type under a name: one that two types have is none
 abbrev pub declared : Known → List ℕ → Meant → Known
@@ -70,8 +81,8 @@ one name size = Items (item name size)
 abbrev pub item_row : Bor (List ℕ) × ℕ × ℕ → List ℕ × Meant
 item_row row = (row.0.now, one row.1 row.2)
 
-abbrev pub word_row : Bool → Bor (List ℕ) × Bor (List ℕ) → List ℕ × Meant
-word_row is_port row = (row.0.now, NoForm row.1.now is_port)
+abbrev pub word_row : Ports → Bor (List ℕ) × Bor (List ℕ) → List ℕ × Meant
+word_row ports row = (row.0.now, NoForm row.1.now ports)
 
 -- the types of MIG itself
 abbrev pub built_in : List (List ℕ × Meant)
@@ -119,22 +130,26 @@ standard =
 -- those of that file that have none, and the word that makes it so
 abbrev pub without_form : List (List ℕ × Meant)
 without_form =
-    (codes "int64_t", NoForm (codes "MACH_MSG_TYPE_INTEGER_64") false) ∷
-    (codes "uint64_t", NoForm (codes "MACH_MSG_TYPE_INTEGER_64") false) ∷
-    (codes "rpc_phys_addr_t", NoForm (codes "MACH_MSG_TYPE_INTEGER_64") false) ∷
-    (codes "pointer_t", NoForm (codes "^") false) ∷
-    (codes "mach_port_array_t", NoForm (codes "array[]") false) ∷
-    (codes "mach_port_name_array_t", NoForm (codes "array[]") false) ∷
-    (codes "mach_port_type_array_t", NoForm (codes "array[]") false) ∷ []
+    (codes "int64_t", NoForm (codes "MACH_MSG_TYPE_INTEGER_64") Absent) ∷
+    (codes "uint64_t", NoForm (codes "MACH_MSG_TYPE_INTEGER_64") Absent) ∷
+    (codes "rpc_phys_addr_t", NoForm (codes "MACH_MSG_TYPE_INTEGER_64") Absent) ∷
+    (codes "pointer_t", NoForm (codes "^") Absent) ∷
+    (codes "mach_port_name_array_t", NoForm (codes "array[]") Absent) ∷
+    (codes "mach_port_type_array_t", NoForm (codes "array[]") Absent) ∷ []
+
+-- those of them that are arrays of ports
+abbrev pub port_arrays : List (List ℕ × Meant)
+port_arrays = (codes "mach_port_array_t", NoForm (codes "array[]") Several) ∷ []
 
 -- those whose right the sender picks
 abbrev pub any_ports : List (List ℕ × Meant)
 any_ports =
-    (codes "mach_port_receive_t", NoForm (codes "MACH_MSG_TYPE_PORT_RECEIVE") true) ∷
-    (codes "mach_port_send_t", NoForm (codes "MACH_MSG_TYPE_PORT_SEND") true) ∷
-    (codes "mach_port_send_once_t", NoForm (codes "MACH_MSG_TYPE_PORT_SEND_ONCE") true) ∷
-    (codes "mach_port_poly_t", NoForm (codes "polymorphic") true) ∷ []
+    (codes "mach_port_receive_t", NoForm (codes "MACH_MSG_TYPE_PORT_RECEIVE") One) ∷
+    (codes "mach_port_send_t", NoForm (codes "MACH_MSG_TYPE_PORT_SEND") One) ∷
+    (codes "mach_port_send_once_t", NoForm (codes "MACH_MSG_TYPE_PORT_SEND_ONCE") One) ∷
+    (codes "mach_port_poly_t", NoForm (codes "polymorphic") One) ∷ []
 
 -- with the types of the file of standard types
 abbrev pub included : Known → Known
-included types = declared_all (declared_all (declared_all types standard) without_form) any_ports
+included types = declared_all
+    (declared_all (declared_all (declared_all types standard) without_form) port_arrays) any_ports

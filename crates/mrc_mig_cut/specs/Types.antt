@@ -19,6 +19,8 @@ use Rattle.mrc_mig_symbols.specs.Words.{basic_of}
 use Rattle.mrc_mig_cut.specs.declared.kinds.Data.{Data}
 use Rattle.mrc_mig_cut.specs.declared.types.Around.{Around}
 use Rattle.mrc_mig_cut.specs.Kinds.{told, Meant, Items, NoForm, basic_meant, sized_meant}
+use Rattle.mrc_mig_cut.specs.Kinds.{ports_in}
+use Rattle.mrc_mig_cut.specs.declared.kinds.Ports.TheVariants.{Absent}
 use Rattle.mrc_mig_cut.specs.declared.laying.Fields.{Fields}
 use Rattle.mrc_mig_cut.specs.Names.{Known}
 use Rattle.mrc_mig_cut.specs.Layout.{struct_of, all_data_of, IsLaid}
@@ -80,13 +82,13 @@ multiplied around found = record found {
 -- a type inside arrays and structs: one of variable length has no form there
 abbrev pub inside : Arrays → Meant → Meant
 inside around (Items found) =
-    if found.shape.is_bound then NoForm (codes "array[*:n]") false
+    if found.shape.is_bound then NoForm (codes "array[*:n]") (ports_in (Items found))
     else Items (multiplied around found)
-inside around (NoForm word is_port) = NoForm word false
+inside around (NoForm word ports) = NoForm word (ports_in (NoForm word ports))
 
 -- a type with what is around it
 abbrev pub within_by : Option (List ℕ) → Arrays → Meant → Meant
-within_by (Some word) around found = NoForm word false
+within_by (Some word) around found = NoForm word (ports_in found)
 within_by None around found = if around.is_inside then inside around found else found
 
 -- a type with what is around it
@@ -213,7 +215,7 @@ flags_at tokens = many begins_flag flag_at (length tokens) (None, tokens)
 
 -- a basic type of so many bits; with a flag it has no form
 abbrev pub flagged : Option (List ℕ) → Option Basic → List ℕ → ℕ → Meant
-flagged (Some flag) found word size = NoForm flag false
+flagged (Some flag) found word size = NoForm flag (ports_in (sized_meant found word size))
 flagged None found word size = sized_meant found word size
 
 -- `name, size)`
@@ -251,7 +253,7 @@ string_at tokens = do
 -- what a name is that was looked up among the types; where it is none of them it has no form
 abbrev pub named_by : Option Meant → List ℕ → Meant
 named_by (Some found) name = found
-named_by None name = NoForm name false
+named_by None name = NoForm name Absent
 
 -- what the name of a type is
 abbrev pub named : Known → List ℕ → Meant

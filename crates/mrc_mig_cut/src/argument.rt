@@ -1,7 +1,7 @@
 //! Arguments of routines: as the source has them, and what becomes of each.
 
 use crate::flags::{Flags, flags_of, options};
-use crate::kinds::Kind;
+use crate::kinds::{Kind, Ports};
 use crate::table::Table;
 use crate::types::{kind, named};
 use mrc_base::{OrMemory, is_port_number};
@@ -71,8 +71,8 @@ fn any_name(rest: Rest<'_>) -> Result<(&str, Rest<'_>), Stop> {
     }
 }
 
-/// Reads an argument.
-pub(crate) fn argument<'t>(
+/// Reads an argument up to its type, and what follows that.
+pub(crate) fn typed<'t>(
     alloc: Global,
     table: &Table<'t>,
     rest: Rest<'t>,
@@ -84,12 +84,10 @@ pub(crate) fn argument<'t>(
     let (type_name, rest) = any_name(rest)?;
     let is_own = rest.first() == Symbol::Sign(Sign::Equals);
     let (kind, rest) = if is_own {
-        let (kind, rest) = kind(alloc, table, rest.next())?;
-        (kind, options(rest)?)
+        kind(alloc, table, rest.next())?
     } else {
         (named(table, type_name), rest)
     };
-    let (flags, rest) = flags_of(rest)?;
     let written = Written {
         way,
         word,
@@ -97,9 +95,21 @@ pub(crate) fn argument<'t>(
         type_name,
         is_own,
         kind,
-        flags,
+        flags: Flags::none(),
     };
     Ok((written, rest))
+}
+
+/// Reads an argument.
+pub(crate) fn argument<'t>(
+    alloc: Global,
+    table: &Table<'t>,
+    rest: Rest<'t>,
+) -> Result<(Written<'t>, Rest<'t>), OrMemory<Stop>> {
+    let (written, rest) = typed(alloc, table, rest)?;
+    let rest = if written.is_own { options(rest)? } else { rest };
+    let (flags, rest) = flags_of(rest)?;
+    Ok((Written { flags, ..written }, rest))
 }
 
 /// What becomes of an argument.
@@ -120,7 +130,7 @@ pub(crate) enum Fate<'t> {
 fn is_port(kind: Kind<'_>) -> bool {
     match kind {
         Kind::Data(data) => is_port_number(data.shape.name),
-        Kind::Other(other) => other.is_port,
+        Kind::Other(other) => matches!(other.ports, Ports::One),
     }
 }
 
@@ -160,6 +170,27 @@ fn port_fate<'t>(written: &Written<'t>) -> Fate<'t> {
 }
 
 impl<'t> Written<'t> {
+    /// Whether it is the request port of a routine, which was there before it or not.
+    pub(crate) fn is_request_port(&self, has_port: bool) -> bool {
+        match self.way {
+            Way::Marked(Direction::RequestPort) => true,
+            Way::Unmarked => !has_port,
+            _ => false,
+        }
+    }
+
+    /// Whether a message of a simpleroutine or a routine carries a right in it. The request port
+    /// was there before it or not.
+    pub(crate) fn is_carried(&self, is_simple: bool, has_port: bool) -> bool {
+        let is_in_body = match self.way {
+            Way::Unmarked => has_port,
+            Way::Marked(Direction::In | Direction::InOut) => true,
+            Way::Marked(Direction::Out) => !is_simple,
+            _ => false,
+        };
+        is_in_body && self.kind.has_ports()
+    }
+
     /// What becomes of the argument of a simpleroutine or a routine, where the request port was
     /// there before it or not. The request port is the first argument with no word, unless one is
     /// marked before.

@@ -1,16 +1,19 @@
 //! Cuts out of a text what can't be read of it.
 
-ghost use Rattle.std.specs.Prelude.{◌≡◌, [], true, map, IfOk, IfErr, IsTrue};
+ghost use Rattle.std.specs.Prelude.{◌≡◌, ◌++◌, [], true, map, IfOk, IfErr, OnOk, IsTrue};
+ghost use Rattle.std.specs.Prelude.{string_bytes};
 ghost use Rattle.std.specs.List.{count_by, list_all};
 ghost use Rattle.mrc_base.specs.Reading.{UnlessMemory};
 ghost use Rattle.mrc_forms.specs.Tables.{Table};
 ghost use Rattle.mrc_interface.specs.Reading.{IsInterface};
+ghost use Rattle.mrc_mig_cut.specs.Carrying.{carries, carrying, carriers};
 ghost use Rattle.mrc_mig_cut.specs.Cuts.{has_request, requests, is_apart, IsCut, follows};
 ghost use Rattle.mrc_mig_cut.specs.Cuts.{ascend_from, AreAscending};
 
 use crate::fault::CutFault;
 use crate::lines::{Lines, Marker};
 use crate::maker::{Made, Maker, Source};
+use crate::notes::carriers;
 use crate::plain::plain_of;
 use crate::routine::LeftOut;
 use mrc_base::OrMemory;
@@ -27,6 +30,9 @@ pub struct CutFile {
     pub bytes: Vec<u8>,
     /// How many routines are read of it.
     pub read: usize,
+    /// The routines that carry rights and were left out before, as the text itself says: by their
+    /// names.
+    pub before: Vec<String>,
     /// The routines that are left out, in the order of their ids.
     pub left_out: Vec<LeftOut>,
 }
@@ -43,7 +49,7 @@ fn cut_tokens<'t>(
     let mut lines = Lines::new(source.text.as_bytes(), markers);
     let mut maker = Maker::new(alloc, markers)?;
     match maker.each(alloc, source, &mut lines) {
-        Ok(()) => Ok(maker.finish()?),
+        Ok(()) => Ok(maker.finish(alloc, source)?),
         Err(OrMemory::Fault(stop)) => {
             let fault = fault_of(source.tokens, stop);
             Err(OrMemory::Fault(CutFault::Parse(fault)))
@@ -142,35 +148,128 @@ fn is_ascending(left_out: &[LeftOut]) -> bool
     ascend(left_out)
 }
 
+/// Adds these names.
+fn push_names(alloc: Global, names: &mut Vec<String>, others: &[String]) -> Result<(), AllocError>
+    ensures { OnOk result (map string_bytes names.new.items
+        ≡ map string_bytes names.old.items ++ map string_bytes others.now) }
+{
+    for other in others {
+        names.push(String::from_str(alloc, other.as_str())?)?;
+    }
+    Ok(())
+}
+
+/// Whether a routine that is left out carries rights.
+fn carries(left: &LeftOut) -> bool
+    ensures { result ≡ carries left.now }
+{
+    !left.carried.is_empty()
+}
+
+/// Adds the names of those that carry rights.
+#[tactic(auto, using(crate::proofs::CarryLemmas::carries_on, crate::proofs::CarryLemmas::carries_none, crate::proofs::CarryLemmas::carries_end))]
+fn push_carrying(
+    alloc: Global,
+    names: &mut Vec<String>,
+    left_out: &[LeftOut],
+) -> Result<(), AllocError>
+    ensures { OnOk result (map string_bytes names.new.items
+        ≡ map string_bytes names.old.items ++ carrying left_out.now) }
+{
+    for left in left_out {
+        if carries(left) {
+            names.push(String::from_str(alloc, left.name.as_str())?)?;
+        }
+    }
+    Ok(())
+}
+
+/// Whether these are the same names.
+#[tactic(auto, using(crate::proofs::CarryLemmas::same_on, crate::proofs::CarryLemmas::same_end))]
+fn are_same(names: &[String], others: &[String]) -> bool
+    ensures { result ≡ true → map string_bytes names.now ≡ map string_bytes others.now }
+{
+    if names.len() != others.len() {
+        return false;
+    }
+    for (place, name) in names.iter().enumerate() {
+        if name.as_str() != others[place].as_str() {
+            return false;
+        }
+    }
+    true
+}
+
+/// The names of routines that were left out before, and then of those that are left out and carry
+/// rights.
+fn remembered(
+    alloc: Global,
+    before: &[String],
+    left_out: &[LeftOut],
+) -> Result<Vec<String>, AllocError>
+    ensures { IfOk result (λ names. map string_bytes names.items
+        ≡ map string_bytes before.now ++ carrying left_out.now) }
+{
+    let mut names = Vec::new(alloc);
+    push_names(alloc, &mut names, before)?;
+    push_carrying(alloc, &mut names, left_out)?;
+    Ok(names)
+}
+
+/// Whether the bytes of a file say of exactly these routines that they carry rights and were left
+/// out: of those that were left out before, and then of those that are left out and carry rights.
+fn are_carried(
+    alloc: Global,
+    bytes: &[u8],
+    before: &[String],
+    left_out: &[LeftOut],
+) -> Result<bool, AllocError>
+    ensures { IfOk result (λ same. same ≡ true
+        → carriers bytes.now ≡ map string_bytes before.now ++ carrying left_out.now) }
+{
+    let found = carriers(alloc, bytes)?;
+    let names = remembered(alloc, before, left_out)?;
+    Ok(are_same(found.as_slice(), names.as_slice()))
+}
+
 /// The bytes as they are, which have this table.
 fn whole(alloc: Global, bytes: &[u8], interface: &Interface) -> Result<CutFile, AllocError>
     ensures read { IfOk result (λ cut. cut.read ≡ requests interface.now) }
     ensures same { IfOk result (λ cut. cut.bytes.items ≡ bytes.now) }
     ensures none { IfOk result (λ cut. cut.left_out.items ≡ []) }
     ensures ascending { IfOk result (λ cut. AreAscending (map (λ r. r.id) cut.left_out.items)) }
+    ensures carried { IfOk result (λ cut. carriers cut.bytes.items
+        ≡ map string_bytes cut.before.items ++ carrying cut.left_out.items) }
 {
     let mut copy = Vec::new(alloc);
     copy.extend_from_slice(bytes)?;
     Ok(CutFile {
         bytes: copy,
         read: requests(interface),
+        before: carriers(alloc, bytes)?,
         left_out: Vec::new(alloc),
     })
 }
 
-/// What was made, where it is read and no routine that is left out has a form.
+/// What was made, if it is read, no routine that is left out has a form, and each that carries
+/// rights is named.
 fn seen(alloc: Global, made: Made) -> Result<CutFile, OrMemory<CutFault>>
     ensures found { IfOk result (λ cut.
         IsCut cut.bytes.items cut.read (map (λ r. r.id) cut.left_out.items)) }
     ensures ascending { IfOk result (λ cut. AreAscending (map (λ r. r.id) cut.left_out.items)) }
+    ensures carried { IfOk result (λ cut. carriers cut.bytes.items
+        ≡ map string_bytes cut.before.items ++ carrying cut.left_out.items) }
 {
-    if !is_ascending(made.left_out.as_slice()) {
+    let left_out = made.left_out.as_slice();
+    let bytes = made.bytes.as_slice();
+    if !is_ascending(left_out) || !are_carried(alloc, bytes, made.before.as_slice(), left_out)? {
         return Err(OrMemory::Fault(CutFault::Rest));
     }
-    match read_interface(alloc, made.bytes.as_slice()) {
-        Ok(interface) if are_apart(&interface, made.left_out.as_slice()) => Ok(CutFile {
+    match read_interface(alloc, bytes) {
+        Ok(interface) if are_apart(&interface, left_out) => Ok(CutFile {
             read: requests(&interface),
             bytes: made.bytes,
+            before: made.before,
             left_out: made.left_out,
         }),
         Ok(_) | Err(OrMemory::Fault(_)) => Err(OrMemory::Fault(CutFault::Rest)),
@@ -183,6 +282,8 @@ fn cut_bytes(alloc: Global, bytes: &[u8]) -> Result<CutFile, OrMemory<CutFault>>
     ensures found { IfOk result (λ cut.
         IsCut cut.bytes.items cut.read (map (λ r. r.id) cut.left_out.items)) }
     ensures ascending { IfOk result (λ cut. AreAscending (map (λ r. r.id) cut.left_out.items)) }
+    ensures carried { IfOk result (λ cut. carriers cut.bytes.items
+        ≡ map string_bytes cut.before.items ++ carrying cut.left_out.items) }
 {
     let Ok(text) = str::from_utf8(bytes) else {
         return Err(OrMemory::Fault(CutFault::NotUtf8));
@@ -200,6 +301,10 @@ pub fn cut(alloc: Global, bytes: &[u8]) -> Result<CutFile, OrMemory<CutFault>>
         IsCut cut.bytes.items cut.read (map (λ r. r.id) cut.left_out.items)) }
     // The routines that are left out are told by ascending ids, none twice but the largest number.
     ensures ascending { IfOk result (λ cut. AreAscending (map (λ r. r.id) cut.left_out.items)) }
+    // The bytes say of exactly these routines that they carry rights and were left out: of those
+    // that the text says so of, and then of those that are left out and carry rights.
+    ensures carried { IfOk result (λ cut. carriers cut.bytes.items
+        ≡ map string_bytes cut.before.items ++ carrying cut.left_out.items) }
     // A MIG file stays as it is, and nothing is left out.
     ensures same { (table : Table) → IsInterface bytes.now table
         → IfOk result (λ cut. cut.bytes.items ≡ bytes.now) }

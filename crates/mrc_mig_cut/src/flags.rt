@@ -60,6 +60,14 @@ pub(crate) struct Flags<'t> {
 }
 
 impl<'t> Flags<'t> {
+    /// No flag.
+    pub(crate) fn none() -> Flags<'t> {
+        Flags {
+            word: None,
+            has_count: false,
+        }
+    }
+
     /// With one more flag, or none where it is none.
     fn with(self, symbol: Symbol, word: &'t str) -> Option<Flags<'t>> {
         let is_known = match symbol {
@@ -101,10 +109,7 @@ fn after_brackets(rest: Rest<'_>) -> Rest<'_> {
 
 /// Reads the flags of an argument, each behind a comma.
 pub(crate) fn flags_of(rest: Rest<'_>) -> Result<(Flags<'_>, Rest<'_>), Stop> {
-    let mut flags = Flags {
-        word: None,
-        has_count: false,
-    };
+    let mut flags = Flags::none();
     let mut rest = rest;
     let count = rest.len();
     for _ in 0..count {

@@ -1,8 +1,10 @@
 //! What a type is to a message.
 
-ghost use Rattle.std.specs.Prelude.{◌≡◌, true, false};
+ghost use Rattle.std.specs.Prelude.{◌≡◌};
 ghost use Rattle.mrc_mig_cut.specs.Kinds.{Items, NoForm, meant, item, basic_meant, sized_meant};
+ghost use Rattle.mrc_mig_cut.specs.Kinds.{ports_by, ports_inside, ports_in, ports_or, has_ports};
 
+use mrc_base::is_port_number;
 use mrc_forms::Shape;
 use mrc_mig_symbols::Basic;
 
@@ -24,33 +26,109 @@ pub(crate) enum Kind<'t> {
     Other(Other<'t>),
 }
 
+/// Which ports GNU MIG sees in a type that has no form.
+#[derive(Clone, Copy)]
+pub(crate) enum Ports {
+    /// None.
+    Absent,
+    /// One, and the one thing that has no form is which right it is sent with.
+    One,
+    /// Ports in another form, such as an array.
+    Several,
+}
+
 /// A type that has no form.
 #[derive(Clone, Copy)]
 pub(crate) struct Other<'t> {
     /// The word, as the source has it.
     pub(crate) word: &'t str,
-    /// Whether the one thing that has no form is which right a port is sent with.
-    pub(crate) is_port: bool,
+    /// Which ports it has.
+    pub(crate) ports: Ports,
 }
 
-/// A type that has no form, for this word.
-pub(crate) fn no_form(word: &str) -> Kind<'_>
-    ensures { meant result ≡ NoForm word.now false }
+/// A type that has no form, for this word, and has these ports.
+pub(crate) fn no_form(word: &str, ports: Ports) -> Kind<'_>
+    ensures { meant result ≡ NoForm word.now ports }
 {
-    Kind::Other(Other {
-        word,
-        is_port: false,
-    })
+    Kind::Other(Other { word, ports })
 }
 
 /// A port whose right the sender picks.
 pub(crate) fn any_port(word: &str) -> Kind<'_>
-    ensures { meant result ≡ NoForm word.now true }
+    ensures { meant result ≡ NoForm word.now Ports.One }
 {
-    Kind::Other(Other {
-        word,
-        is_port: true,
-    })
+    no_form(word, Ports::One)
+}
+
+/// The ports of data of this type number.
+fn ports_by(name: u16) -> Ports
+    ensures { result ≡ ports_by name }
+{
+    if is_port_number(name) {
+        Ports::Several
+    } else {
+        Ports::Absent
+    }
+}
+
+impl Ports {
+    /// These ports inside another type.
+    fn inside(self) -> Ports
+        ensures { result ≡ ports_inside self }
+    {
+        match self {
+            Ports::Absent => Ports::Absent,
+            Ports::One | Ports::Several => Ports::Several,
+        }
+    }
+
+    /// These ports, or else others.
+    fn or(self, other: Ports) -> Ports
+        ensures { result ≡ ports_or self other }
+    {
+        match self {
+            Ports::Absent => other,
+            Ports::One | Ports::Several => self,
+        }
+    }
+
+    /// Whether there is one.
+    fn has_ports(self) -> bool
+        ensures { result ≡ has_ports self }
+    {
+        match self {
+            Ports::Absent => false,
+            Ports::One | Ports::Several => true,
+        }
+    }
+}
+
+impl<'t> Kind<'t> {
+    /// The ports of a type that stands inside another one.
+    pub(crate) fn ports(self) -> Ports
+        ensures { result ≡ ports_in (meant self.entry) }
+    {
+        match self {
+            Kind::Data(data) => ports_by(data.shape.name),
+            Kind::Other(other) => other.ports.inside(),
+        }
+    }
+
+    /// Whether GNU MIG sees a port in it.
+    pub(crate) fn has_ports(self) -> bool
+        ensures { result ≡ has_ports (ports_in (meant self.entry)) }
+    {
+        self.ports().has_ports()
+    }
+
+    /// What a name is that means this type and another one: no type, for this word.
+    pub(crate) fn or(self, other: Kind<'t>, word: &'t str) -> Kind<'t>
+        ensures { meant result
+            ≡ NoForm word.now
+            (ports_or (ports_in (meant self.entry)) (ports_in (meant other.entry))) }
+    {
+        no_form(word, self.ports().or(other.ports()))
+    }
 }
 
 /// One item of this type number and so many bits.
@@ -75,7 +153,7 @@ pub(crate) fn basic_kind(basic: Option<Basic>, word: &str) -> Kind<'_>
     match basic {
         Some(Basic::Plain(name, size)) => one(name, size),
         Some(Basic::Polymorphic) => any_port(word),
-        Some(Basic::Unsized(_) | Basic::Real) | None => no_form(word),
+        Some(Basic::Unsized(_) | Basic::Real) | None => no_form(word, Ports::Absent),
     }
 }
 
@@ -86,9 +164,9 @@ pub(crate) fn sized_kind(basic: Option<Basic>, word: &str, size: u32) -> Kind<'_
     match basic {
         Some(Basic::Plain(name, _) | Basic::Unsized(name)) => match u16::try_from(size) {
             Ok(size) => one(name, size),
-            Err(_) => no_form(word),
+            Err(_) => no_form(word, ports_by(name)),
         },
         Some(Basic::Polymorphic) => any_port(word),
-        Some(Basic::Real) | None => no_form(word),
+        Some(Basic::Real) | None => no_form(word, Ports::Absent),
     }
 }

@@ -6,7 +6,7 @@ ghost use Rattle.mrc_mig_cut.specs.declared.kinds.Data.{Data};
 ghost use Rattle.mrc_mig_cut.specs.Kinds.{Meant, meant};
 ghost use Rattle.mrc_mig_cut.specs.Layout.{bytes_of, all_data_of, struct_of, IsLaid, too_large};
 
-use crate::kinds::{Data, Kind, Other, no_form};
+use crate::kinds::{Data, Kind, Other, Ports, no_form};
 use mrc_forms::Shape;
 
 /// More bytes than any message has.
@@ -47,7 +47,7 @@ fn no_field(word: &str) -> Fields<'_>
         alignment: 1,
         other: Some(Other {
             word,
-            is_port: false,
+            ports: Ports::Absent,
         }),
     }
 }
@@ -104,11 +104,11 @@ impl<'t> Fields<'t> {
             → meant result ≡ struct_of fields word.now }
     {
         if let Some(found) = self.other {
-            return no_form(found.word);
+            return no_form(found.word, Ports::Absent);
         }
         let size = aligned(self.size, self.alignment);
         if size >= TOO_LARGE {
-            return no_form(word);
+            return no_form(word, Ports::Absent);
         }
         let (name, bytes) = match self.alignment {
             2 => (1, 2),

@@ -2,6 +2,7 @@
 #![tactic(auto)]
 
 mod argument;
+mod carried;
 mod cutting;
 mod fault;
 mod flags;
@@ -10,6 +11,7 @@ mod laws;
 mod laying;
 mod lines;
 mod maker;
+mod notes;
 mod plain;
 mod routine;
 mod spelling;
@@ -18,7 +20,9 @@ mod structure;
 mod table;
 mod types;
 
+pub use carried::{Carried, carried_text};
 pub use cutting::{CutFile, cut};
 pub use fault::CutFault;
 pub use laws::structs_are_laid;
+pub use notes::carriers;
 pub use routine::LeftOut;

@@ -1,8 +1,10 @@
 //! What is made of a text, statement by statement.
 
+use crate::carried::{Carried, carried_of};
 use crate::flags::options;
-use crate::kinds::{Kind, no_form};
+use crate::kinds::{Kind, Ports, no_form};
 use crate::lines::{Line, Lines, Marker, push_marker};
+use crate::notes::{carriers_among, notes_of, push_notes};
 use crate::routine::{LeftOut, Outcome, Text, routine};
 use crate::spelling::shape_text;
 use crate::statement::{behind_statement, heading, skipped, text_at};
@@ -22,6 +24,8 @@ use std::collections::BTreeSet;
 pub(crate) struct Made {
     /// The bytes.
     pub(crate) bytes: Vec<u8>,
+    /// The routines that carry rights and were left out before, as the source says.
+    pub(crate) before: Vec<String>,
     /// The routines.
     pub(crate) left_out: Vec<LeftOut>,
 }
@@ -212,6 +216,7 @@ impl<'t> Maker<'t> {
         alloc: Global,
         name: &str,
         word: &str,
+        carried: Vec<Carried>,
         line: Line,
     ) -> Result<(), AllocError> {
         let id = self.id();
@@ -220,6 +225,7 @@ impl<'t> Maker<'t> {
             name: String::from_str(alloc, name)?,
             id,
             word: String::from_str(alloc, word)?,
+            carried,
         })?;
         self.skips = self.skips.saturating_add(1);
         Ok(())
@@ -251,7 +257,8 @@ impl<'t> Maker<'t> {
         let name = rest.text();
         let outcome = outcome_of(alloc, &self.table, source, is_simple, rest)?;
         if let Some(word) = self.kept(alloc, name, outcome, line)? {
-            self.leave_out(alloc, name, word, line)?;
+            let carried = carried_of(alloc, &self.table, is_simple, rest)?;
+            self.leave_out(alloc, name, word, carried, line)?;
         }
         self.ids = self.ids.saturating_add(1);
         Ok(())
@@ -308,7 +315,10 @@ impl<'t> Maker<'t> {
                 Ok(())
             }
             _ => {
-                self.leave_out(alloc, rest.next().text(), rest.text(), line)?;
+                let word = rest.text();
+                let is_simple = word.eq_ignore_ascii_case("simpleprocedure");
+                let carried = carried_of(alloc, &self.table, is_simple, rest.next())?;
+                self.leave_out(alloc, rest.next().text(), word, carried, line)?;
                 self.ids = self.ids.saturating_add(1);
                 Ok(())
             }
@@ -393,8 +403,9 @@ impl<'t> Maker<'t> {
         Ok(())
     }
 
-    /// Writes the skips behind the last routine, as far as ids can go.
-    pub(crate) fn finish(mut self) -> Result<Made, AllocError> {
+    /// Writes the skips behind the last routine, as far as ids can go, and behind them what the
+    /// source and the routines that are left out say of rights.
+    pub(crate) fn finish(mut self, alloc: Global, source: Source<'t>) -> Result<Made, AllocError> {
         let first = self.id().saturating_sub(self.ids);
         let before = self.ids.saturating_sub(self.skips);
         let most = (limits::NUMBER + 1)
@@ -402,8 +413,12 @@ impl<'t> Maker<'t> {
             .min(limits::IDS as u32);
         let count = self.skips.min(most.saturating_sub(before));
         push_skips(&mut self.text, count)?;
+        push_notes(&mut self.text, source.tokens)?;
+        let notes = notes_of(alloc, self.left_out.as_slice())?;
+        self.text.push_str(notes.as_str())?;
         Ok(Made {
             bytes: self.text.into_bytes(),
+            before: carriers_among(alloc, source.tokens)?,
             left_out: self.left_out,
         })
     }
@@ -436,7 +451,7 @@ fn kind_of<'t>(
 ) -> Result<Kind<'t>, AllocError> {
     match declared_kind(alloc, table, rest) {
         Ok(kind) => Ok(kind),
-        Err(OrMemory::Fault(stop)) => Ok(no_form(source.word_of(stop))),
+        Err(OrMemory::Fault(stop)) => Ok(no_form(source.word_of(stop), Ports::Absent)),
         Err(OrMemory::Memory) => Err(AllocError),
     }
 }

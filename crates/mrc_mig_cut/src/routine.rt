@@ -1,6 +1,7 @@
 //! Routines: as the source has them, and as they are written.
 
 use crate::argument::{Fate, Written, argument};
+use crate::carried::Carried;
 use crate::kinds::Kind;
 use crate::spelling::shape_text;
 use crate::table::Table;
@@ -21,6 +22,8 @@ pub struct LeftOut {
     pub id: u32,
     /// The word of the source for which it is left out.
     pub word: String,
+    /// The arguments that carry rights in its messages, in their order.
+    pub carried: Vec<Carried>,
 }
 
 /// A routine as it is written.

@@ -1,13 +1,13 @@
 //! The types that a text knows.
 
-ghost use Rattle.std.specs.Prelude.{◌≡◌, true, false, map, option_map, OnOk, IfOk};
+ghost use Rattle.std.specs.Prelude.{◌≡◌, map, option_map, OnOk, IfOk};
 ghost use Rattle.mrc_mig_cut.specs.Kinds.{meant};
 ghost use Rattle.mrc_mig_cut.specs.Names.{known, nothing_known, kind_of, is_same, is_same_data};
-ghost use Rattle.mrc_mig_cut.specs.Names.{with_type};
+ghost use Rattle.mrc_mig_cut.specs.Names.{with_type, is_same_ports};
 ghost use Rattle.mrc_mig_cut.specs.Names.{declared, declared_all, item_row, word_row};
 ghost use Rattle.mrc_mig_cut.specs.Names.{built_in, included};
 
-use crate::kinds::{Data, Kind, any_port, no_form, one};
+use crate::kinds::{Data, Kind, Ports, no_form, one};
 use crate::lines::Line;
 use std::alloc::{AllocError, Global};
 use std::collections::BTreeMap;
@@ -71,15 +71,17 @@ const STANDARD: [(&str, u16, u16); 30] = [
 ];
 
 /// Those of that file that have no form, and why.
-const WITHOUT_FORM: [(&str, &str); 7] = [
+const WITHOUT_FORM: [(&str, &str); 6] = [
     ("int64_t", "MACH_MSG_TYPE_INTEGER_64"),
     ("uint64_t", "MACH_MSG_TYPE_INTEGER_64"),
     ("rpc_phys_addr_t", "MACH_MSG_TYPE_INTEGER_64"),
     ("pointer_t", "^"),
-    ("mach_port_array_t", "array[]"),
     ("mach_port_name_array_t", "array[]"),
     ("mach_port_type_array_t", "array[]"),
 ];
+
+/// Those of them that are arrays of ports.
+const PORT_ARRAYS: [(&str, &str); 1] = [("mach_port_array_t", "array[]")];
 
 /// Those whose right the sender picks, and the word that says so.
 const ANY_PORTS: [(&str, &str); 4] = [
@@ -100,13 +102,25 @@ fn is_same_data(one: Data, another: Data) -> bool
         && one.alignment == another.alignment
 }
 
-/// Whether these are the same items, or nothing for the same word.
+/// Whether these are the same ports.
+fn is_same_ports(one: Ports, another: Ports) -> bool
+    ensures { result ≡ is_same_ports one another }
+{
+    matches!(
+        (one, another),
+        (Ports::Absent, Ports::Absent) | (Ports::One, Ports::One) | (Ports::Several, Ports::Several)
+    )
+}
+
+/// Whether these are the same items, or nothing for the same word, with the same ports.
 fn is_same(one: Kind<'_>, another: Kind<'_>) -> bool
     ensures { result ≡ is_same (meant one.entry) (meant another.entry) }
 {
     match (one, another) {
         (Kind::Data(one), Kind::Data(another)) => is_same_data(one, another),
-        (Kind::Other(one), Kind::Other(another)) => one.word == another.word,
+        (Kind::Other(one), Kind::Other(another)) => {
+            one.word == another.word && is_same_ports(one.ports, another.ports)
+        }
         _ => false,
     }
 }
@@ -169,7 +183,7 @@ impl<'t> Table<'t> {
                 if is_same(other.kind, kind) {
                     Ok(())
                 } else {
-                    self.put(name, no_form("type"), other.line)
+                    self.put(name, other.kind.or(kind, "type"), other.line)
                 }
             }
         }
@@ -186,28 +200,18 @@ impl<'t> Table<'t> {
         Ok(())
     }
 
-    /// Declares types that have no form, each with the word that makes it so.
-    fn declare_others(&mut self, table: &[(&'t str, &'t str)], line: Line) -> Result<(), AllocError>
-        ensures { OnOk result (known self.new
-            ≡ declared_all (known self.old) (map (word_row false) table.now)) }
-    {
-        for (name, word) in table {
-            self.declare(name, no_form(word), line)?;
-        }
-        Ok(())
-    }
-
-    /// Declares ports whose right the sender picks, each with the word that says so.
-    fn declare_any_ports(
+    /// Declares types that have no form and these ports, each with the word that makes it so.
+    fn declare_others(
         &mut self,
         table: &[(&'t str, &'t str)],
+        ports: Ports,
         line: Line,
     ) -> Result<(), AllocError>
         ensures { OnOk result (known self.new
-            ≡ declared_all (known self.old) (map (word_row true) table.now)) }
+            ≡ declared_all (known self.old) (map (word_row ports) table.now)) }
     {
         for (name, word) in table {
-            self.declare(name, any_port(word), line)?;
+            self.declare(name, no_form(word, ports), line)?;
         }
         Ok(())
     }
@@ -217,8 +221,9 @@ impl<'t> Table<'t> {
         ensures { OnOk result (known self.new ≡ included (known self.old)) }
     {
         self.declare_each(&STANDARD, line)?;
-        self.declare_others(&WITHOUT_FORM, line)?;
-        self.declare_any_ports(&ANY_PORTS, line)?;
+        self.declare_others(&WITHOUT_FORM, Ports::Absent, line)?;
+        self.declare_others(&PORT_ARRAYS, Ports::Several, line)?;
+        self.declare_others(&ANY_PORTS, Ports::One, line)?;
         Ok(())
     }
 }

@@ -12,7 +12,7 @@ ghost use Rattle.mrc_mig_cut.specs.Types.{basic_at, after_basic, plain_at, flags
 ghost use Rattle.mrc_mig_cut.specs.Types.{flagged, sized_at, star_by, string_at, named, is_basic};
 ghost use Rattle.mrc_mig_cut.specs.Types.{name_by, item_at, type_at};
 
-use crate::kinds::{Data, Kind, basic_kind, no_form, sized_kind};
+use crate::kinds::{Data, Kind, Ports, basic_kind, no_form, sized_kind};
 use crate::structure::fields;
 use crate::table::Table;
 use mrc_base::{OrMemory, limits};
@@ -79,7 +79,7 @@ impl<'t> Around<'t> {
         match kind {
             Kind::Data(data) => {
                 if data.shape.is_bound {
-                    return no_form("array[*:n]");
+                    return no_form("array[*:n]", kind.ports());
                 }
                 let product = u64::from(self.number) * u64::from(data.shape.number);
                 Kind::Data(Data {
@@ -91,7 +91,7 @@ impl<'t> Around<'t> {
                     ..data
                 })
             }
-            Kind::Other(found) => no_form(found.word),
+            Kind::Other(found) => no_form(found.word, kind.ports()),
         }
     }
 
@@ -100,7 +100,7 @@ impl<'t> Around<'t> {
         ensures { meant result ≡ within (arrays_of self.entry) (meant kind.entry) }
     {
         if let Some(word) = self.word {
-            return no_form(word);
+            return no_form(word, kind.ports());
         }
         if self.is_inside {
             self.inside(kind)
@@ -328,9 +328,10 @@ fn flagged<'t>(flag: Option<&'t str>, found: Option<Basic>, word: &'t str, size:
     ensures { meant result
         ≡ flagged (told flag.entry) found word.now size }
 {
+    let kind = sized_kind(found, word, size);
     match flag {
-        Some(flag) => no_form(flag),
-        None => sized_kind(found, word, size),
+        Some(flag) => no_form(flag, kind.ports()),
+        None => kind,
     }
 }
 
@@ -390,7 +391,7 @@ pub(crate) fn named<'t>(table: &Table<'t>, name: &'t str) -> Kind<'t>
 {
     match table.get(name) {
         Some(declared) => declared.kind,
-        None => no_form(name),
+        None => no_form(name, Ports::Absent),
     }
 }
 
