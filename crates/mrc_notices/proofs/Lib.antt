@@ -1,0 +1,2 @@
+pub mod LeakLaws
+mod Worked
