@@ -1,1 +1,4 @@
 pub mod CommandLaws
+mod Escapes
+mod ShownExamples
+mod ShownLaws

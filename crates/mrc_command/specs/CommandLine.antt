@@ -1,6 +1,6 @@
 -- The command line that `clap` reads, and the words that it comes in. This profile's own choice.
 use Rattle.std.specs.Prelude.{◌≡◌, ◌⊎◌, ℕ, List, [], ◌∷◌, Some, true, codes, string_bytes, false}
-use Rattle.std.specs.Prelude.{unwrap_or, Option, None, Bool}
+use Rattle.std.specs.Prelude.{unwrap_or, Option, None, Bool, bytes_eq, if◌then◌else◌}
 use Rattle.mrc_words.specs.Numbers.{number_of_word}
 use Rattle.std.specs.Option.{option_map}
 use Rattle.std.specs.declared.io.ErrorKind.{ErrorKind}
@@ -17,6 +17,8 @@ use Rattle.clap.specs.declared.error.kind.ErrorKind.{ErrorKind as ClapKind}
 use Rattle.clap.specs.declared.error.kind.ErrorKind.TheVariants.{DisplayHelp, DisplayVersion}
 use Rattle.mrc_command.specs.declared.words.WordsFault.{WordsFault}
 use Rattle.mrc_command.specs.declared.words.WordsFault.TheVariants.{NotUtf8, Memory}
+use Rattle.mrc_command.specs.declared.command.Strictness.{Strictness}
+use Rattle.mrc_command.specs.declared.command.Strictness.TheVariants.{None as Each, Rights, All}
 use Rattle.mrc_command.specs.declared.command.NoCommand.{NoCommand}
 use Rattle.mrc_command.specs.declared.command.NoCommand.TheVariants.{Told as TextTold}
 use Rattle.mrc_command.specs.declared.command.NoCommand.TheVariants.{Memory as NoMemory}
@@ -31,6 +33,11 @@ words_fault kind = Memory
 abbrev pub words_line : WordsFault → List ℕ
 words_line NotUtf8 = codes "machcheck: arguments: NotUtf8\n"
 words_line Memory = memory_line
+
+-- A word of the system's as `clap` reads it: `--strict=rights` is an option of its own, since an
+-- option that may have a value or none is none of those of which `clap` says what words ask for.
+abbrev pub spelled : List ℕ → List ℕ
+spelled word = if bytes_eq word (codes "--strict=rights") then codes "--strict-rights" else word
 
 -- an option that names a file or a fact, and has to be given
 abbrev pub file_rule : Text → Rule
@@ -101,6 +108,21 @@ pub record IsFlag (found : Found) (name : Text) (given : Bool) : Type 0 where
   pub off : one_text found name ≡ Some (codes "false") → given ≡ false
   pub none : one_text found name ≡ None → given ≡ false
 
+-- what may not be left out: nothing, if all are asked for, and else what carries rights, if that is
+-- asked for
+abbrev pub strictness_of : Bool → Bool → Strictness
+strictness_of true rights = All
+strictness_of false true = Rights
+strictness_of false false = Each
+
+-- what the options of `mig` say of what may not be left out
+pub record IsStrict (found : Found) (given : Strictness) : Type 0 where
+  pub all : Bool
+  pub is_all : IsFlag found (codes "strict") all
+  pub rights : Bool
+  pub is_rights : IsFlag found (codes "strict-rights") rights
+  pub same : given ≡ strictness_of all rights
+
 -- `make` with its two files
 abbrev pub make_options : App
 make_options =
@@ -159,13 +181,14 @@ live_options =
 abbrev pub live_app : App
 live_app = with_files live_options (codes "cert" ∷ codes "script" ∷ [])
 
--- `mig` with its first option
+-- `mig` with its first options
 abbrev pub mig_options : App
-mig_options = with_rule (new_app (codes "mig")) (file_rule (codes "out"))
+mig_options = with_rule (with_rule (new_app (codes "mig")) (file_rule (codes "out")))
+    (flag_rule (codes "strict"))
 
--- `mig --out FOLDER [--strict] FILE...`
+-- `mig --out FOLDER [--strict] [--strict-rights] FILE...`
 abbrev pub mig_app : App
-mig_app = with_rule (with_rule mig_options (flag_rule (codes "strict"))) given_defs_rule
+mig_app = with_rule (with_rule mig_options (flag_rule (codes "strict-rights"))) given_defs_rule
 
 -- all values that are given to an argument, none where it is not given
 abbrev pub all_values : Found → Text → List Text

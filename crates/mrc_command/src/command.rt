@@ -6,7 +6,7 @@ ghost use Rattle.clap.specs.Words.{kind_of};
 ghost use Rattle.clap.specs.Matches.{found_of, first_value};
 ghost use Rattle.clap.specs.declared.error.kind.ErrorKind.TheVariants.{OutOfMemory};
 ghost use Rattle.mrc_command.specs.CommandLine.{IsNoCommand, TellsError, IsFlag, all_values};
-ghost use Rattle.mrc_command.specs.CommandLine.{number_of};
+ghost use Rattle.mrc_command.specs.CommandLine.{number_of, strictness_of, IsStrict};
 
 use crate::options::whole_command;
 use crate::told::Told;
@@ -127,12 +127,23 @@ pub struct LiveFiles<'a> {
     pub script: &'a str,
 }
 
-/// The files of a `mig`, the folder for what they are cut to, and whether nothing may be left out.
+/// Which routines may not be left out of MIG files, so that files are written.
+#[derive(Clone, Copy, Debug, PartialEq, Eq)]
+pub enum Strictness {
+    /// Each may.
+    None,
+    /// Those that carry rights may not.
+    Rights,
+    /// None may.
+    All,
+}
+
+/// The files of a `mig`, the folder for what they are cut to, and what may not be left out.
 #[derive(Drop)]
 pub struct MigFiles<'a> {
     pub defs: Vec<&'a str>,
     pub out: &'a str,
-    pub strict: bool,
+    pub strict: Strictness,
 }
 
 /// Why there is no command to run.
@@ -435,18 +446,32 @@ fn live_files<'a>(alloc: Global, matches: &ArgMatches<'a>) -> Result<LiveFiles<'
     Ok(LiveFiles { check, script })
 }
 
+/// What may not be left out: nothing, if all are asked for, and else what carries rights, if that
+/// is asked for.
+fn strictness_of(all: bool, rights: bool) -> Strictness
+    ensures { result ≡ strictness_of all rights }
+{
+    if all {
+        Strictness::All
+    } else if rights {
+        Strictness::Rights
+    } else {
+        Strictness::None
+    }
+}
+
 fn mig_files<'a>(alloc: Global, matches: &ArgMatches<'a>) -> Result<MigFiles<'a>, NoCommand>
     ensures defs { IfOk result (λ files. map (λ file. file.now) files.defs.items
         ≡ all_values (found_of matches.now) (codes "defs")) }
     ensures out { IfOk result
         (λ files. first_value (found_of matches.now) (codes "out") ≡ Some files.out.now) }
-    ensures strict { IfOk result
-        (λ files. IsFlag (found_of matches.now) (codes "strict") files.strict) }
+    ensures strict { IfOk result (λ files. IsStrict (found_of matches.now) files.strict) }
     ensures none { IfErr result (λ none. none ≡ NoCommand.Memory) }
 {
     let defs = defs_given(alloc, matches)?;
     let out = file_given(matches, "out")?;
-    let strict = matches.get_flag("strict");
+    let all = matches.get_flag("strict");
+    let strict = strictness_of(all, matches.get_flag("strict-rights"));
     Ok(MigFiles { defs, out, strict })
 }
 

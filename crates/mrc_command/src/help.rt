@@ -197,17 +197,27 @@ pub(crate) const MIG_HELP: &str = "Files, as docs/MIG.md describes them:
   MIG files of a system, in which the C preprocessor has worked out conditions, macros and
   includes. `bin/machcheck mig` does so before.
 
+`bin/machcheck mig` also has the options of the preprocessor, which this program itself does not
+read: -I FOLDER for a folder of included files, -D NAME[=TEXT] and -U NAME for macros.
+
 Each file is cut to one of the same name in the folder that --out names. That one is read: each
 routine that can be read stands in it, and `skip;` at the id of each other. A file that is read as
 it is stays as it is. On standard error a line tells each routine that is left out, as
-`FILE:LINE: routine NAME (id N) left out: WORD`, with the word of the file that is the reason, and
-a line how many routines are read of each file, as `FILE: 5 of 8 routines read`. Files are written
-when all are cut, and replaced as `make` replaces a certificate.
+`FILE:LINE: routine NAME (id N) left out: WORD, carries ARGUMENT (TYPE), ..`, with the word of the
+file that is the reason, and with the arguments that carry port rights, if there are any. A line
+tells how many routines are read of each file, as
+`FILE: 5 of 8 routines read, 2 of those left out carry rights`. The file that is written names
+these, so that `verify` and `check` report them. Files are written when all are cut, and replaced
+as `make` replaces a certificate.
+
+--strict writes nothing if a routine is left out, --strict=rights only if one that carries rights
+is left out.
 
 Exit status:
   0  the files were written: of one of them at least a routine is read
-  2  no routine is read, or with --strict one is left out: nothing was written; or a fault on
-     standard error, as `machcheck: FILE: FAULT`: a file can't be read, can't be cut or was not
-     taken, two files have one name (SameName), the command line is wrong, or memory ran out
+  2  no routine is read, or --strict or --strict=rights refuses one that is left out: nothing was
+     written; or a fault on standard error, as `machcheck: FILE: FAULT`: a file can't be read,
+     can't be cut or was not taken, two files have one name (SameName), the command line is wrong,
+     or memory ran out
 
 Read on in README.md, and in docs/MIG.md.";

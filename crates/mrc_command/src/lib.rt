@@ -4,12 +4,14 @@
 mod command;
 mod help;
 mod options;
+mod surface;
 mod told;
 mod words;
 
 pub use command::{
     CheckFiles, CheckWords, Command, ExplainFiles, FactsFiles, GraphFiles, LiveFiles, MakeFiles,
-    MendFiles, MigFiles, NoCommand, ReplayFiles, SystemFiles, VerifyFiles, read,
+    MendFiles, MigFiles, NoCommand, ReplayFiles, Strictness, SystemFiles, VerifyFiles, read,
 };
-pub use told::{Told, fault_of, memory, said};
+pub use surface::clap_command;
+pub use told::{Told, fault_of, memory, names_are_shown_safely, push_shown, said, shown};
 pub use words::{WordsFault, words_line, words_of};

@@ -315,7 +315,7 @@ fn given_defs<'a>(alloc: Global) -> Arg<'a>
         .action(ArgAction::Append)
 }
 
-/// The command with its first option.
+/// The command with its first options.
 fn mig_options<'a>(alloc: Global) -> Result<clap::Command<'a>, AllocError>
     ensures app { IfOk result (λ command. app_of command ≡ mig_options) }
     ensures local { IfOk result HasNoGlobals }
@@ -328,6 +328,11 @@ fn mig_options<'a>(alloc: Global) -> Result<clap::Command<'a>, AllocError>
             "out",
             "FOLDER",
             "The folder of the files that are written",
+        ))?
+        .arg(flag(
+            alloc,
+            "strict",
+            "Writes nothing where a routine is left out",
         ))
 }
 
@@ -338,8 +343,8 @@ fn mig_command<'a>(alloc: Global) -> Result<clap::Command<'a>, AllocError>
     mig_options(alloc)?
         .arg(flag(
             alloc,
-            "strict",
-            "Writes nothing where a routine is left out",
+            "strict-rights",
+            "The same as --strict=rights: writes nothing if one that carries rights is left out",
         ))?
         .arg(given_defs(alloc))
 }

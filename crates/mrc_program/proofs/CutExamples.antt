@@ -1,5 +1,6 @@
 -- Worked examples of what is told of MIG files that are cut.
 use Rattle.std.proofs.Common.{◌≡◌, [], ◌∷◌, refl, false}
+use Rattle.mrc_command.specs.declared.command.Strictness.TheVariants.{None as Each}
 use Rattle.std.specs.Prelude.{Some, None, codes}
 use Rattle.mrc_base.specs.declared.memory.OrMemory.TheVariants.{Memory}
 use Rattle.mrc_program.specs.Cutting.{same_name, refusal_line, are_written}
@@ -13,7 +14,7 @@ other_names : same_name (codes "a/x" ∷ codes "x/y" ∷ []) ≡ None
 other_names = refl
 
 -- of nothing nothing is written
-nothing_read : are_written false [] ≡ false
+nothing_read : are_written Each [] ≡ false
 nothing_read = refl
 
 -- want of memory is no file's fault

@@ -17,7 +17,7 @@ use Rattle.mrc_base.specs.Reading.{UnlessMemory}
 use Rattle.mrc_files.specs.declared.streams.WriteFault.{WriteFault}
 use Rattle.mrc_files.specs.Files.{Held, HasBytes, AreHeld}
 use Rattle.mrc_mig_cut.specs.declared.routine.LeftOut.{LeftOut}
-use Rattle.mrc_command.specs.Lines.{fault_line}
+use Rattle.mrc_command.specs.Lines.{fault_line, shown}
 use Rattle.mrc_command.specs.declared.told.Told.{Told}
 use Rattle.mrc_command.specs.declared.command.MigFiles.{MigFiles}
 use Rattle.mrc_program.specs.Told.{ToldMemory}
@@ -151,10 +151,10 @@ pub room_of : (len capacity : ℕ) (writings : List Writing) (before after : Hel
     (refusal : OrMemory WriteFault)
     → All (HasRoom len capacity) writings
     → IsStopped before writings after path refusal
-    → len + (length path + 66) ≤ capacity
+    → len + (length (shown path) + 66) ≤ capacity
 room_of len capacity [] before after path refusal room stopped = absurd stopped
 room_of len capacity (w ∷ ws) before after path refusal room (inl here) =
-    subst (λ p. len + (length p + 66) ≤ capacity) (sym here.0)
+    subst (λ p. len + (length (shown p) + 66) ≤ capacity) (sym here.0)
     (All-head (HasRoom len capacity) w ws room)
 room_of len capacity (w ∷ ws) before after path refusal room (inr later) =
     room_of len capacity ws later.0 after path refusal

@@ -6,5 +6,8 @@ mod CutLaws
 mod CutExamples
 pub mod HaltLaws
 mod GraphLaws
+mod VerifiedSafe
 mod VerifyLaws
 mod NoticeExamples
+mod PolicyExamples
+mod LeftLaws

@@ -1,5 +1,5 @@
 -- What is told where a certificate could not be made, and what the file is left with.
-use Rattle.std.proofs.Common.{◌≡◌, ◌⊎◌, ◌∙◌, ◌++◌, ℕ, List, [], ap, append_assoc, inl, inr}
+use Rattle.std.proofs.Common.{◌≡◌, ◌⊎◌, ◌∙◌, ◌++◌, ℕ, List, ap, append_assoc, inl, inr}
 use Rattle.std.specs.Prelude.{Result, Ok, Err, IfOk, IsOkAnd, codes, decimal}
 use Rattle.mrc_base.specs.declared.memory.OrMemory.{OrMemory}
 use Rattle.mrc_base.specs.declared.memory.OrMemory.TheVariants.{Fault, Memory}
@@ -15,7 +15,7 @@ use Rattle.mrc_program.specs.Files.{system_names}
 use Rattle.mrc_program.specs.Texts.{SystemTexts, system_list}
 use Rattle.mrc_program.specs.Told.{ToldMemory, ToldNoSystem, ToldUnwritten, ToldWorkers}
 use Rattle.mrc_program.specs.Told.{ToldUnmade, FaultOfMake, UnwrittenTold, ToldCut}
-use Rattle.mrc_command.specs.Lines.{fault_line}
+use Rattle.mrc_command.specs.Lines.{fault_line, shown}
 
 -- one more reason that may be told
 pub told_either : (r : Result Told AllocError) (files : MakeFiles) (A B : Told → Type 0)
@@ -81,14 +81,14 @@ in_a_row o a b c d e = simp append_assoc
 -- the line of a file that took so many bytes, piece by piece behind a text
 pub line_of_pieces : (text start named taken counted line file digits : List ℕ)
     → start ≡ text ++ codes "machcheck: "
-    → named ≡ start ++ file
+    → named ≡ start ++ shown file
     → taken ≡ named ++ codes ": WriteFailed "
     → counted ≡ taken ++ digits
     → line ≡ counted ++ codes "\n"
     → line ≡ text ++ fault_line file (codes "WriteFailed " ++ digits)
 line_of_pieces text start named taken counted line file digits h1 h2 h3 h4 h5 =
-    let is_named = h2 ∙ ap (λ l. l ++ file) h1 in
+    let is_named = h2 ∙ ap (λ l. l ++ shown file) h1 in
     let is_taken = h3 ∙ ap (λ l. l ++ codes ": WriteFailed ") is_named in
     let is_counted = h4 ∙ ap (λ l. l ++ digits) is_taken in
     h5 ∙ ap (λ l. l ++ codes "\n") is_counted
-    ∙ in_a_row text (codes "machcheck: ") file (codes ": WriteFailed ") digits (codes "\n")
+    ∙ in_a_row text (codes "machcheck: ") (shown file) (codes ": WriteFailed ") digits (codes "\n")

@@ -1,6 +1,8 @@
 -- Worked examples of what is told of routines of notifications.
 use Rattle.std.proofs.Common.{◌≡◌, ℕ, List, [], ◌∷◌, ◌++◌, refl}
 use Rattle.std.specs.Prelude.{Some, None, codes}
+use Rattle.std.specs.Str.{chars}
+use Rattle.std.proofs.Math.Utf8.{encode}
 use Rattle.mrc_model.specs.declared.RequestKind.TheVariants.{Simple}
 use Rattle.mrc_forms.specs.declared.form.FormKind.TheVariants.{Request}
 use Rattle.mrc_forms.specs.Forms.{empty_form}
@@ -50,4 +52,5 @@ first files = refl
 line : notice_line (codes "notify.defs") (codes "mach_notify_dead_name")
     ≡ codes "machcheck: notify.defs: mach_notify_dead_name: notifications of no senders and "
     ++ codes "of dead names are not in the model\n"
+unfolding chars encode
 line = refl

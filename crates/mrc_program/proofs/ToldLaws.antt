@@ -1,5 +1,5 @@
 -- From the checker's answer, and what is told of it, to what the texts say.
-use Rattle.std.proofs.Common.{◌≡◌, ◌⊎◌, ℕ, List, [], Result, Ok, Err, inl, inr}
+use Rattle.std.proofs.Common.{◌≡◌, ◌⊎◌, ◌≤◌, ℕ, List, [], Result, Ok, Err, inl, inr, sym}
 use Rattle.std.proofs.Common.{string_bytes, arith, codes, map, subst, Vec, Global}
 use Rattle.std.specs.Prelude.{IfOk, IfErr, Option, Bool}
 use Rattle.std.specs.Io.KnownBytes.{Appends}
@@ -28,70 +28,70 @@ use Rattle.mrc_command.specs.declared.command.SystemFiles.{SystemFiles}
 use Rattle.mrc_program.specs.Texts.{CheckTexts, LiveTexts, SystemTexts, AreAccepted, said_by}
 use Rattle.mrc_program.specs.Texts.{wired_by}
 use Rattle.mrc_program.specs.Told.{status_of, out_of, IsError}
-use Rattle.mrc_program.specs.Told.{ToldMemory, ToldFault, ToldNo, ToldOfScript, UnreadTold}
+use Rattle.mrc_program.specs.Told.{ToldMemory, ToldFault, ToldYes, ToldNo, ToldOfScript, UnreadTold}
 use Rattle.mrc_program.specs.Told.{ToldHalted, ToldUnread, ToldNoSystem, IsFaultOf, system_file}
 use Rattle.mrc_command.specs.declared.command.Command.{Command}
 use Rattle.mrc_program.specs.Commands.{SomeCommand, WentOut}
 
 -- what is told of an answer, where there is memory for it
-pub record Verdict {E : Type 0} (verbose : Bool) (files : CheckFiles)
+pub record Verdict {E : Type 0} (notices : List ℕ) (verbose : Bool) (files : CheckFiles)
     (answer : Result Case (OrMemory TextsFault)) (result : Result Told E) : Type 0 where
   pub status : IfOk result (λ told. told.status ≡ status_of answer)
   pub out : IfOk result (λ told. string_bytes told.out ≡ out_of answer)
-  pub err : IfOk result (λ told. IsError verbose files answer (string_bytes told.err))
+  pub err : IfOk result (λ told. IsError notices verbose files answer (string_bytes told.err))
 
-fault_of : {E : Type 0} (verbose : Bool) (files : CheckFiles) (texts : CheckTexts)
-    (answer : Result Case (OrMemory TextsFault)) (told : Told)
-    → Verdict {E = E} verbose files answer (Ok told) → Tells answer (said_by texts)
+fault_of : {E : Type 0} (notices : List ℕ) (verbose : Bool) (files : CheckFiles)
+    (texts : CheckTexts) (answer : Result Case (OrMemory TextsFault)) (told : Told)
+    → Verdict {E = E} notices verbose files answer (Ok told) → Tells answer (said_by texts)
     → told.status ≡ 2
     → ToldMemory told ⊎ ToldFault files texts told
-fault_of verbose files texts (Ok case) told v says two =
+fault_of notices verbose files texts (Ok case) told v says two =
     let zero_is : told.status ≡ 0 = v.status in absurd (omega arith)
-fault_of verbose files texts (Err Memory) told v says two =
+fault_of notices verbose files texts (Err Memory) told v says two =
     inl record { status = two; out = v.out; err = v.err }
-fault_of verbose files texts (Err (Fault (Defs f))) told v says two =
+fault_of notices verbose files texts (Err (Fault (Defs f))) told v says two =
     inr record {
       fault = InSystem (InDefs (refused_of f));
       says = says;
       out = v.out;
       err = v.err;
     }
-fault_of verbose files texts (Err (Fault (Wiring f))) told v says two =
+fault_of notices verbose files texts (Err (Fault (Wiring f))) told v says two =
     inr record { fault = InSystem (InWiring f); says = says; out = v.out; err = v.err }
-fault_of verbose files texts (Err (Fault (Policy f))) told v says two =
+fault_of notices verbose files texts (Err (Fault (Policy f))) told v says two =
     inr record { fault = InPolicy f; says = says; out = v.out; err = v.err }
-fault_of verbose files texts (Err (Fault (Certificate f))) told v says two =
+fault_of notices verbose files texts (Err (Fault (Certificate f))) told v says two =
     inr record { fault = InCertificate f; says = says; out = v.out; err = v.err }
-fault_of verbose files texts (Err (Fault (Check r))) told v says two =
+fault_of notices verbose files texts (Err (Fault (Check r))) told v says two =
     let one_is : told.status ≡ 1 = v.status in absurd (omega arith)
 
 -- status 2 tells want of memory or a fault of the texts
-pub fault_told : {E : Type 0} (verbose : Bool) (files : CheckFiles) (texts : CheckTexts)
-    (answer : Result Case (OrMemory TextsFault)) (result : Result Told E)
-    → Verdict verbose files answer result → Tells answer (said_by texts)
+pub fault_told : {E : Type 0} (notices : List ℕ) (verbose : Bool) (files : CheckFiles)
+    (texts : CheckTexts) (answer : Result Case (OrMemory TextsFault)) (result : Result Told E)
+    → Verdict notices verbose files answer result → Tells answer (said_by texts)
     → IfOk result (λ told. told.status ≡ 2 → ToldMemory told ⊎ ToldFault files texts told)
-fault_told verbose files texts answer (Ok told) v says =
-    fault_of verbose files texts answer told v says
-fault_told verbose files texts answer (Err e) v says = tt
+fault_told notices verbose files texts answer (Ok told) v says =
+    fault_of notices verbose files texts answer told v says
+fault_told notices verbose files texts answer (Err e) v says = tt
 
-no_of : {E : Type 0} (verbose : Bool) (files : CheckFiles) (texts : CheckTexts)
+no_of : {E : Type 0} (notices : List ℕ) (verbose : Bool) (files : CheckFiles) (texts : CheckTexts)
     (answer : Result Case (OrMemory TextsFault)) (told : Told)
-    → Verdict {E = E} verbose files answer (Ok told) → Tells answer (said_by texts)
+    → Verdict {E = E} notices verbose files answer (Ok told) → Tells answer (said_by texts)
     → told.status ≡ 1
-    → ToldNo verbose texts told
-no_of verbose files texts (Ok case) told v says one =
+    → ToldNo notices verbose texts told
+no_of notices verbose files texts (Ok case) told v says one =
     let zero_is : told.status ≡ 0 = v.status in absurd (omega arith)
-no_of verbose files texts (Err Memory) told v says one =
+no_of notices verbose files texts (Err Memory) told v says one =
     let two_is : told.status ≡ 2 = v.status in absurd (omega arith)
-no_of verbose files texts (Err (Fault (Defs f))) told v says one =
+no_of notices verbose files texts (Err (Fault (Defs f))) told v says one =
     let two_is : told.status ≡ 2 = v.status in absurd (omega arith)
-no_of verbose files texts (Err (Fault (Wiring f))) told v says one =
+no_of notices verbose files texts (Err (Fault (Wiring f))) told v says one =
     let two_is : told.status ≡ 2 = v.status in absurd (omega arith)
-no_of verbose files texts (Err (Fault (Policy f))) told v says one =
+no_of notices verbose files texts (Err (Fault (Policy f))) told v says one =
     let two_is : told.status ≡ 2 = v.status in absurd (omega arith)
-no_of verbose files texts (Err (Fault (Certificate f))) told v says one =
+no_of notices verbose files texts (Err (Fault (Certificate f))) told v says one =
     let two_is : told.status ≡ 2 = v.status in absurd (omega arith)
-no_of verbose files texts (Err (Fault (Check r))) told v says one = record {
+no_of notices verbose files texts (Err (Fault (Check r))) told v says one = record {
   case = record { claim = r.claim; draft = content r.draft };
   says = says.0;
   why = r.why;
@@ -101,12 +101,50 @@ no_of verbose files texts (Err (Fault (Check r))) told v says one = record {
 }
 
 -- status 1 tells the checker's reason
-pub no_told : {E : Type 0} (verbose : Bool) (files : CheckFiles) (texts : CheckTexts)
-    (answer : Result Case (OrMemory TextsFault)) (result : Result Told E)
-    → Verdict verbose files answer result → Tells answer (said_by texts)
-    → IfOk result (λ told. told.status ≡ 1 → ToldNo verbose texts told)
-no_told verbose files texts answer (Ok told) v says = no_of verbose files texts answer told v says
-no_told verbose files texts answer (Err e) v says = tt
+pub no_told : {E : Type 0} (notices : List ℕ) (verbose : Bool) (files : CheckFiles)
+    (texts : CheckTexts) (answer : Result Case (OrMemory TextsFault)) (result : Result Told E)
+    → Verdict notices verbose files answer result → Tells answer (said_by texts)
+    → IfOk result (λ told. told.status ≡ 1 → ToldNo notices verbose texts told)
+no_told notices verbose files texts answer (Ok told) v says =
+    no_of notices verbose files texts answer told v says
+no_told notices verbose files texts answer (Err e) v says = tt
+
+-- status 0 tells the checker's yes
+pub yes_told : {E : Type 0} (notices : List ℕ) (verbose : Bool) (files : CheckFiles)
+    (texts : CheckTexts) (answer : Result Case (OrMemory TextsFault)) (result : Result Told E)
+    → Verdict notices verbose files answer result → IfOk answer (AreAccepted texts)
+    → IfOk result (λ told. told.status ≡ 0 → ToldYes notices texts told)
+yes_told notices verbose files texts (Ok case) (Ok told) v says =
+    λ zero. record { case = case; says = says; out = v.out; err = v.err }
+yes_told notices verbose files texts (Err Memory) (Ok told) v says =
+    λ zero. let two_is : told.status ≡ 2 = v.status in absurd (omega arith)
+yes_told notices verbose files texts (Err (Fault (Defs f))) (Ok told) v says =
+    λ zero. let two_is : told.status ≡ 2 = v.status in absurd (omega arith)
+yes_told notices verbose files texts (Err (Fault (Wiring f))) (Ok told) v says =
+    λ zero. let two_is : told.status ≡ 2 = v.status in absurd (omega arith)
+yes_told notices verbose files texts (Err (Fault (Policy f))) (Ok told) v says =
+    λ zero. let two_is : told.status ≡ 2 = v.status in absurd (omega arith)
+yes_told notices verbose files texts (Err (Fault (Certificate f))) (Ok told) v says =
+    λ zero. let two_is : told.status ≡ 2 = v.status in absurd (omega arith)
+yes_told notices verbose files texts (Err (Fault (Check r))) (Ok told) v says =
+    λ zero. let one_is : told.status ≡ 1 = v.status in absurd (omega arith)
+yes_told notices verbose files texts answer (Err e) v says = tt
+
+-- a status is 2 at most
+status_small : (answer : Result Case (OrMemory TextsFault)) → status_of answer ≤ 2
+status_small (Ok case) = omega arith
+status_small (Err Memory) = omega arith
+status_small (Err (Fault (Defs f))) = omega arith
+status_small (Err (Fault (Wiring f))) = omega arith
+status_small (Err (Fault (Policy f))) = omega arith
+status_small (Err (Fault (Certificate f))) = omega arith
+status_small (Err (Fault (Check r))) = omega arith
+
+-- so is one that is told of an answer
+pub status_told : {E : Type 0} (answer : Result Case (OrMemory TextsFault)) (result : Result Told E)
+    → IfOk result (λ told. told.status ≡ status_of answer) → IfOk result (λ told. told.status ≤ 2)
+status_told answer (Ok told) is = subst (λ (n : ℕ). n ≤ 2) (sym is) (status_small answer)
+status_told answer (Err e) is = tt
 
 -- a fault of a script, beside texts that are accepted
 pub of_script : {E : Type 0} (files : LiveFiles) (texts : LiveTexts) (case : Case)
@@ -126,15 +164,15 @@ of_script files texts case fault (Ok told) accepted out err =
 of_script files texts case fault (Err e) accepted out err = tt
 
 -- an answer that is a yes or want of memory is told as such
-pub only_told : {E : Type 0} (verbose : Bool) (files : CheckFiles)
+pub only_told : {E : Type 0} (notices : List ℕ) (verbose : Bool) (files : CheckFiles)
     (answer : Result Case (OrMemory TextsFault)) (result : Result Told E)
-    → Verdict verbose files answer result → IfErr answer (λ refusal. refusal ≡ Memory)
+    → Verdict notices verbose files answer result → IfErr answer (λ refusal. refusal ≡ Memory)
     → IfOk result (λ told. (told.status ≡ 0) ⊎ ToldMemory told)
-only_told verbose files (Ok case) (Ok told) v memory = inl v.status
-only_told verbose files (Err Memory) (Ok told) v memory =
+only_told notices verbose files (Ok case) (Ok told) v memory = inl v.status
+only_told notices verbose files (Err Memory) (Ok told) v memory =
     inr record { status = v.status; out = v.out; err = v.err }
-only_told verbose files (Err (Fault f)) (Ok told) v memory = cc
-only_told verbose files answer (Err e) v memory = tt
+only_told notices verbose files (Err (Fault f)) (Ok told) v memory = cc
+only_told notices verbose files answer (Err e) v memory = tt
 
 -- what is told of the first file that can't be read: it is named, unless memory ran out
 pub unread_told : (held : Held) (files : List (List ℕ)) (file : List ℕ) (fault : ReadFault)

@@ -1,7 +1,8 @@
 -- What is told of a claim and of texts that make none.
-use Rattle.std.proofs.Common.{◌≡◌, ◌⊎◌, ◌∙◌, ℕ, List, [], Result, Ok, Err, ap, inl, inr, subst, sym}
-use Rattle.std.proofs.Common.{string_bytes}
+use Rattle.std.proofs.Common.{◌≡◌, ◌⊎◌, ◌∙◌, ◌++◌, ℕ, Bool, List, [], Result, Ok, Err, ap, inl, inr}
+use Rattle.std.proofs.Common.{subst, sym, string_bytes}
 use Rattle.std.specs.Prelude.{All, IfOk}
+use Rattle.mrc_base.specs.declared.Fact.{Fact}
 use Rattle.mrc_base.specs.declared.memory.OrMemory.{OrMemory}
 use Rattle.mrc_base.specs.declared.memory.OrMemory.TheVariants.{Fault}
 use Rattle.mrc_base.specs.Reading.{UnlessMemory}
@@ -10,7 +11,9 @@ use Rattle.mrc_facts.specs.Sets.{has}
 use Rattle.mrc_wiring_text.specs.declared.reading.Line.{Line}
 use Rattle.mrc_wiring_text.specs.declared.wiring.WiringSays.{WiringSays}
 use Rattle.mrc_wiring_text.specs.Texts.{IsWiring}
-use Rattle.mrc_wiring.specs.Table.{Table}
+use Rattle.mrc_model.specs.Rules.{IsLeast}
+use Rattle.mrc_forms.specs.Tables.{Table as Interface}
+use Rattle.mrc_wiring.specs.Table.{Table, wiring_of}
 use Rattle.mrc_wiring.specs.Claims.{Claimed}
 use Rattle.mrc_check.specs.Texts.{Meaningless}
 use Rattle.mrc_why.specs.declared.printing.Layout.{Layout}
@@ -26,29 +29,60 @@ use Rattle.mrc_program.specs.Explained.{numbered_by}
 use Rattle.mrc_program.specs.Texts.{PolicyTexts, claimed}
 use Rattle.mrc_program.specs.Told.{ToldMemory, IsFaultOf}
 use Rattle.mrc_program.specs.Notices.{notice}
-use Rattle.mrc_program.specs.Verified.{layout_of, IsAllowed, ToldLines, ToldUnclaimed, claim_file}
+use Rattle.mrc_program.specs.LeftNotices.{left_notices}
+use Rattle.mrc_program.specs.PolicyNotices.{policy_notices}
+use Rattle.mrc_program.specs.Verified.{layout_of, AreNotices, IsAllowed, ToldLines, ToldUnclaimed}
+use Rattle.mrc_program.specs.Verified.{claim_file}
+
+-- the notices are those of their three parts
+pub all_notices : (files : VerifyFiles) (texts : PolicyTexts) (claim : Claimed) (table : Table)
+    (left asked policy text l a p : List ℕ) (defs : List (List ℕ)) (shown : List Interface)
+    → left ≡ left_notices files.system defs
+    → defs ≡ texts.system.defs
+    → asked ≡ notice files.system shown
+    → shown ≡ table.interfaces
+    → table ≡ claim.table
+    → ((set : Fact → Bool) → IsLeast (wiring_of claim.table) set
+    → policy ≡ policy_notices files.policy.now texts.policy claim set)
+    → l ≡ left
+    → a ≡ asked
+    → p ≡ policy
+    → text ≡ l ++ (a ++ p)
+    → AreNotices files texts claim text
+all_notices files texts claim table left asked policy text l a p defs shown of_left are_defs
+    of_asked are is_table of_policy is_left is_asked is_policy made set least =
+    let first : l ≡ left_notices files.system texts.system.defs = is_left ∙ of_left
+    ∙ ap (left_notices files.system) are_defs in
+    let second : a ≡ notice files.system claim.table.interfaces = is_asked ∙ of_asked
+    ∙ ap (notice files.system) (are ∙ ap (λ (t : Table). t.interfaces) is_table) in
+    let third : p ≡ policy_notices files.policy.now texts.policy claim set = is_policy
+    ∙ of_policy set least in
+    made ∙ ap (λ x. x ++ (a ++ p)) first
+    ∙ ap (λ y. left_notices files.system texts.system.defs ++ (y ++ p)) second
+    ∙ ap (λ z. left_notices files.system texts.system.defs
+    ++ (notice files.system claim.table.interfaces ++ z)) third
 
 -- where no line is broken the text is a yes
 pub allowed : (layout : Layout) (numbered : Numbered) (broken : List BrokenLine)
-    (files : SystemFiles) (claim : Claimed) (told : Told) (text : List ℕ)
+    (files : VerifyFiles) (texts : PolicyTexts) (claim : Claimed) (told : Told) (text : List ℕ)
     → broken ≡ []
     → IsVerdictText layout numbered broken text
     → string_bytes told.out ≡ text
-    → string_bytes told.err ≡ notice files claim.table.interfaces
+    → AreNotices files texts claim (string_bytes told.err)
     → HasYes claim
-    → IsAllowed files claim told
-allowed layout numbered broken files claim told text none tells out err has_yes = record {
+    → IsAllowed files texts claim told
+allowed layout numbered broken files texts claim told text none tells out err has_yes = record {
   yes = has_yes;
   out = out ∙ subst (λ bs. IsVerdictText layout numbered bs text) none tells;
   err = err;
 }
 
 -- the lines that are broken, by what was made
-pub lines_told : (files : VerifyFiles) (by : Layout) (wiring : List ℕ) (claim : Claimed)
+pub lines_told : (files : VerifyFiles) (by : Layout) (texts : PolicyTexts) (claim : Claimed)
     (told : Told)
     (lines given : List (Line WiringSays)) (table : Table) (numbered : Numbered)
     (broken shown : List BrokenLine) (text : List ℕ)
-    → IsWiring wiring lines
+    → IsWiring texts.system.wiring lines
     → numbered ≡ record { table = table; numbers = first_numbers given }
     → table ≡ claim.table
     → given ≡ lines
@@ -56,12 +90,12 @@ pub lines_told : (files : VerifyFiles) (by : Layout) (wiring : List ℕ) (claim 
     → IsVerdictText by numbered shown text
     → by ≡ layout_of files.tree
     → string_bytes told.out ≡ text
-    → string_bytes told.err ≡ notice files.system claim.table.interfaces
+    → AreNotices files texts claim (string_bytes told.err)
     → AreBroken claim broken
     → All (IsDerived claim) broken
     → HasNoYes claim
-    → ToldLines files wiring claim told
-lines_told files by wiring claim told lines given table numbered broken shown text is_wiring made
+    → ToldLines files texts claim told
+lines_told files by texts claim told lines given table numbered broken shown text is_wiring made
     is_table are_lines are_shown tells is_layout out err are chains none =
     let layout = layout_of files.tree in
     let is : numbered ≡ numbered_by claim.table lines =
@@ -82,21 +116,21 @@ lines_told files by wiring claim told lines given table numbered broken shown te
     }
 
 -- of a claim that has a yes no line is told to be broken
-pub only_yes : {E : Type 0} (files : VerifyFiles) (wiring : List ℕ) (claim other : Claimed)
+pub only_yes : {E : Type 0} (files : VerifyFiles) (texts : PolicyTexts) (claim other : Claimed)
     (said : Result Claimed Meaningless) (result : Result Told E)
     → said ≡ Ok claim
     → said ≡ Ok other
     → HasYes other
     → IfOk result (λ told. (told.status ≡ 0) ⊎ (told.status ≡ 1))
-    → IfOk result (λ told. told.status ≡ 1 → ToldLines files wiring claim told)
+    → IfOk result (λ told. told.status ≡ 1 → ToldLines files texts claim told)
     → IfOk result (λ told. (told.status ≡ 0) ⊎ ToldMemory told)
-only_yes files wiring claim other said (Ok told) is also has_yes status broken = elim status [
+only_yes files texts claim other said (Ok told) is also has_yes status broken = elim status [
   | inl zero ↦ inl zero
   | inr one ↦
       let same : HasYes claim = subst HasYes (ok_is other claim (sym also ∙ is)) has_yes in
       absurd ((broken one).no (has same.0) same.1.says)
 ]
-only_yes files wiring claim other said (Err e) is also has_yes status broken = tt
+only_yes files texts claim other said (Err e) is also has_yes status broken = tt
 
 -- that texts make no claim
 pub unclaimed_told : {E : Type 0} (files : SystemFiles) (policy : List ℕ) (texts : PolicyTexts)

@@ -1,24 +1,29 @@
 -- What the program tells of MIG files that are cut, and which files it writes. This profile's own
 -- choice.
-use Rattle.std.specs.Prelude.{◌≡◌, ◌≤◌, ◌⊎◌, ℕ, ◌+◌, Bool, true, false, not, ◌&&◌, List, [], ◌∷◌}
-use Rattle.std.specs.Prelude.{◌++◌}
+use Rattle.std.specs.Prelude.{◌≡◌, ◌≤◌, ◌⊎◌, ℕ, ◌+◌, Bool, true, false, not, ◌&&◌, ◌||◌, List, []}
+use Rattle.std.specs.Prelude.{◌∷◌, ◌++◌, ◌==◌}
 use Rattle.std.specs.Prelude.{Option, Some, None, map, length, codes, decimal, string_bytes}
 use Rattle.std.specs.Prelude.{nat_lt, bytes_eq, if◌then◌else◌}
-use Rattle.std.specs.List.{AllZip, list_any}
+use Rattle.std.specs.List.{AllZip, list_any, count_by}
 use Rattle.mrc_base.specs.declared.memory.OrMemory.{OrMemory}
 use Rattle.mrc_base.specs.declared.memory.OrMemory.TheVariants.{Fault, Memory}
 use Rattle.mrc_forms.specs.Tables.{Table}
 use Rattle.mrc_interface.specs.Reading.{IsInterface}
 use Rattle.mrc_mig_cut.specs.declared.cutting.CutFile.{CutFile}
 use Rattle.mrc_mig_cut.specs.declared.routine.LeftOut.{LeftOut}
+use Rattle.mrc_mig_cut.specs.declared.carried.Carried.{Carried}
+use Rattle.mrc_mig_cut.specs.Carrying.{carried_text, carries, carrying, carriers}
 use Rattle.mrc_mig_cut.specs.Cuts.{IsCut}
 use Rattle.mrc_files.specs.declared.streams.WriteFault.{WriteFault}
 use Rattle.mrc_files.specs.Files.{Held, HasBytes, IsLeftBy}
 use Rattle.mrc_files.specs.Paths.{name}
 use Rattle.mrc_command.specs.declared.told.Told.{Told}
 use Rattle.mrc_command.specs.declared.command.MigFiles.{MigFiles}
-use Rattle.mrc_command.specs.Lines.{fault_line, memory_line}
+use Rattle.mrc_command.specs.declared.command.Strictness.{Strictness}
+use Rattle.mrc_command.specs.declared.command.Strictness.TheVariants.{None as Each, Rights, All}
+use Rattle.mrc_command.specs.Lines.{fault_line, memory_line, shown}
 use Rattle.mrc_program.specs.declared.cuts.NamedCut.{NamedCut}
+use Rattle.mrc_program.specs.LeftNotices.{carriers_text}
 use Rattle.mrc_program.specs.Told.{OfFiles, ToldMemory, ToldUnread, IsFaultOf}
 
 -- the files of a `mig`, in the order in which they are read
@@ -44,9 +49,12 @@ same_name files = same_name_behind [] files
 -- What is told of what texts are cut to.
 
 -- What a text is cut to: a MIG file with so many routines, none of them at the id of one that is
--- left out; and a MIG file stays as it is.
+-- left out, that names exactly the routines that carry rights and are left out, or were before; and
+-- a MIG file stays as it is.
 pub record IsCutTo (text : List ℕ) (cut : CutFile) : Type 0 where
   pub found : IsCut cut.bytes.items cut.read (map (λ left. left.id) cut.left_out.items)
+  pub carried : carriers cut.bytes.items
+      ≡ map string_bytes cut.before.items ++ carrying cut.left_out.items
   pub same : (table : Table) → IsInterface text table → cut.bytes.items ≡ text
   pub none : (table : Table) → IsInterface text table → cut.left_out.items ≡ []
 
@@ -55,12 +63,25 @@ pub record AreCuts (names texts : List (List ℕ)) (cuts : List NamedCut) : Type
   pub named : map (λ cut. cut.file.now) cuts ≡ names
   pub cut : AllZip (λ text cut. IsCutTo text cut.cut) texts cuts
 
--- a routine that is left out: `routine NAME (id N) left out: WORD`
-abbrev pub left_text : LeftOut → List ℕ
-left_text left = codes "routine " ++ (string_bytes left.name ++ (codes " (id "
-    ++ (decimal left.id ++ (codes ") left out: " ++ string_bytes left.word))))
+-- what a routine carries: `, carries ARGUMENT (TYPE), ARGUMENT (TYPE)`, or nothing
+abbrev pub carries_text : List Carried → List ℕ
+carries_text [] = []
+carries_text (carried ∷ others) = codes ", carries " ++ carried_text (carried ∷ others)
 
--- its line: `FILE:LINE: routine NAME (id N) left out: WORD`
+-- the word for which a routine is left out, and what it carries
+unfoldable pub reason_text : LeftOut → List ℕ
+reason_text left = string_bytes left.word ++ carries_text left.carried.items
+
+-- a routine with its id: `routine NAME (id N)`
+unfoldable pub routine_text : LeftOut → List ℕ
+routine_text left = codes "routine " ++ (string_bytes left.name ++ (codes " (id "
+    ++ (decimal left.id ++ codes ")")))
+
+-- a routine that is left out: `routine NAME (id N) left out: WORD`, and what it carries
+abbrev pub left_text : LeftOut → List ℕ
+left_text left = routine_text left ++ (codes " left out: " ++ reason_text left)
+
+-- its line: `FILE:LINE: routine NAME (id N) left out: WORD`, and what it carries
 abbrev pub left_line : List ℕ → LeftOut → List ℕ
 left_line file left =
     file ++ (codes ":" ++ (decimal left.line ++ (codes ": " ++ (left_text left ++ codes "\n"))))
@@ -70,14 +91,47 @@ abbrev pub left_lines : List ℕ → List LeftOut → List ℕ
 left_lines file [] = []
 left_lines file (left ∷ rest) = left_line file left ++ left_lines file rest
 
--- the line of a file: `FILE: R of T routines read`
-abbrev pub count_line : NamedCut → List ℕ
-count_line cut = cut.file.now ++ (codes ": " ++ (decimal cut.cut.read ++ (codes " of "
-    ++ (decimal (cut.cut.read + length cut.cut.left_out.items) ++ codes " routines read\n"))))
+-- the line of the routines that carry rights and were left out before, as the file itself says:
+-- `FILE: N routines that carry rights are not in the model: NAME, NAME`; none, if there are none
+abbrev pub before_text : List ℕ → List (List ℕ) → List ℕ
+before_text file [] = []
+before_text file (name ∷ names) =
+    file ++ (codes ": " ++ (carriers_text (name ∷ names) ++ codes "\n"))
+
+-- how many of the routines that are left out of a file carry rights
+abbrev pub carrying_count : CutFile → ℕ
+carrying_count cut = count_by carries cut.left_out.items
+
+-- the words behind that number
+abbrev pub carrying_words : ℕ → List ℕ
+carrying_words count =
+    if count == 1 then codes " of those left out carries rights"
+    else codes " of those left out carry rights"
+
+-- that number with its words: nothing of 0
+abbrev pub carrying_text : ℕ → List ℕ
+carrying_text count =
+    if count == 0 then [] else codes ", " ++ (decimal count ++ carrying_words count)
+
+-- how many routines are read of a file: `R of T routines read`, and behind it `, N of those left
+-- out carry rights`, if there are such
+unfoldable pub count_text : CutFile → List ℕ
+count_text cut = decimal cut.read ++ (codes " of "
+    ++ (decimal (cut.read + length cut.left_out.items) ++ (codes " routines read"
+    ++ carrying_text (carrying_count cut))))
+
+-- its line
+unfoldable pub count_line : List ℕ → CutFile → List ℕ
+count_line file cut = file ++ (codes ": " ++ (count_text cut ++ codes "\n"))
+
+-- what is told of a file, by its name as it is shown
+unfoldable pub shown_text : List ℕ → CutFile → List ℕ
+shown_text file cut = left_lines file cut.left_out.items
+    ++ (before_text file (map string_bytes cut.before.items) ++ count_line file cut)
 
 -- what is told of a file
 abbrev pub cut_text : NamedCut → List ℕ
-cut_text cut = left_lines cut.file.now cut.cut.left_out.items ++ count_line cut
+cut_text cut = shown_text (shown cut.file.now) cut.cut
 
 -- what is told of the files
 abbrev pub cuts_text : List NamedCut → List ℕ
@@ -88,15 +142,29 @@ cuts_text (cut ∷ cuts) = cut_text cut ++ cuts_text cuts
 abbrev pub has_routine : NamedCut → Bool
 has_routine cut = nat_lt 0 cut.cut.read
 
--- whether a routine is left out of it
-abbrev pub has_left_out : NamedCut → Bool
-has_left_out cut = nat_lt 0 (length cut.cut.left_out.items)
+-- whether a routine was left out of it before, as the file itself says
+abbrev pub has_before : CutFile → Bool
+has_before cut = nat_lt 0 (length cut.before.items)
 
--- whether files are written: a routine is read of one of them, and where nothing may be left out
--- (`--strict`) nothing is
-abbrev pub are_written : Bool → List NamedCut → Bool
+-- whether a routine is left out of it, or was before
+abbrev pub has_left_out : CutFile → Bool
+has_left_out cut = nat_lt 0 (length cut.left_out.items) || has_before cut
+
+-- whether a routine that carries rights is left out of it, or was before
+abbrev pub has_carrying : CutFile → Bool
+has_carrying cut = nat_lt 0 (carrying_count cut) || has_before cut
+
+-- whether nothing is written because of it: for `--strict` if a routine is left out, for
+-- `--strict=rights` if one that carries rights is
+abbrev pub is_forbidden : Strictness → CutFile → Bool
+is_forbidden Each cut = false
+is_forbidden Rights cut = has_carrying cut
+is_forbidden All cut = has_left_out cut
+
+-- whether files are written: a routine is read of one of them, and because of none is it forbidden
+abbrev pub are_written : Strictness → List NamedCut → Bool
 are_written strict cuts =
-    list_any has_routine cuts && not (strict && list_any has_left_out cuts)
+    list_any has_routine cuts && not (list_any (λ cut. is_forbidden strict cut.cut) cuts)
 
 -- Which files are written.
 
@@ -134,7 +202,7 @@ refusal_line path Memory = memory_line
 
 -- a text of this length has room for the line that tells a refused writing of the file
 abbrev pub HasRoom : ℕ → ℕ → Writing → Type 0
-HasRoom len capacity writing = len + (length writing.path + 66) ≤ capacity
+HasRoom len capacity writing = len + (length (shown writing.path) + 66) ≤ capacity
 
 -- the files were written, and this text is told
 pub record ToldWritings (before after : Held) (writings : List Writing) (text : List ℕ)

@@ -2,8 +2,11 @@ pub mod Files
 pub mod Texts
 pub mod Told
 pub mod Notices
+pub mod LeftNotices
+pub mod PolicyNotices
 pub mod Explained
 pub mod Listed
 pub mod Verified
+pub mod VerifiedLaws
 pub mod Cutting
 pub mod Commands

@@ -1,6 +1,6 @@
 -- What the program tells of the facts of a certificate, or of those of the least one: the facts
 -- that are asked for, and a drawing. This profile's own choice.
-use Rattle.std.specs.Prelude.{◌≡◌, ◌⊎◌, ℕ, List, [], ◌∷◌, Option, Some, None, Ok, Err, codes}
+use Rattle.std.specs.Prelude.{◌≡◌, ◌⊎◌, ℕ, List, [], Option, Some, None, Ok, Err, codes}
 use Rattle.std.specs.Prelude.{string_bytes, map}
 use Rattle.std.specs.Option.{option_map, unwrap_or}
 use Rattle.std.specs.Borrow.{Bor}

@@ -51,6 +51,7 @@ use Rattle.mrc_program.specs.Texts.{ReplayTexts, replay_list, scripted, Unscript
 use Rattle.mrc_program.specs.Texts.{LiveTexts, live_list, script_said}
 use Rattle.mrc_program.specs.Texts as texts
 use Rattle.mrc_files.specs.Files.{Held, HasBytes, AreHeld, IsFirstUnread}
+use Rattle.mrc_program.specs.LeftNotices.{left_notices}
 use Rattle.mrc_program.specs.Files.{defs_names, system_names, check_names, replay_names}
 use Rattle.mrc_program.specs.Files.{live_names}
 
@@ -77,13 +78,13 @@ abbrev pub stale_line : List ℕ
 stale_line =
     codes "machcheck: this certificate is not of this wiring: make it anew, or use verify\n"
 
--- what is told besides where more is asked for: that the certificate is of another wiring, where it
--- has not its numbers or lacks what is held at first
+-- what is told also, if more is asked for: that the certificate is not one of this wiring, if it
+-- has not its numbers, lacks what is held at first or is not closed
 abbrev pub stale_note : Bool → Why → List ℕ
 stale_note false why = []
 stale_note true Counts = stale_line
 stale_note true (MissingFirst fact) = stale_line
-stale_note true (NotClosed rule fact) = []
+stale_note true (NotClosed rule fact) = stale_line
 stale_note true (Forbidden number) = []
 
 -- what an answer gives to standard output
@@ -104,16 +105,20 @@ IsFaultOf file text = (fault : List ℕ) × (text ≡ fault_line file fault)
 abbrev pub defs_name : SystemFiles → ℕ → List ℕ
 defs_name files n = get_or (defs_names files) n []
 
--- the text is what an answer gives to standard error
-abbrev pub IsError : Bool → CheckFiles → Result Case (OrMemory TextsFault) → List ℕ → Type 0
-IsError verbose files (Ok case) text = text ≡ []
-IsError verbose files (Err (Fault (Check refused))) text = text ≡ stale_note verbose refused.why
-IsError verbose files (Err (Fault (Defs fault))) text =
+-- the text is what an answer gives to standard error, with these notices of a yes and of a refusal
+abbrev pub IsError : List ℕ → Bool → CheckFiles → Result Case (OrMemory TextsFault) → List ℕ
+    → Type 0
+IsError notices verbose files (Ok case) text = text ≡ notices
+IsError notices verbose files (Err (Fault (Check refused))) text =
+    text ≡ notices ++ stale_note verbose refused.why
+IsError notices verbose files (Err (Fault (Defs fault))) text =
     IsFaultOf (defs_name files.system fault.file) text
-IsError verbose files (Err (Fault (Wiring fault))) text = IsFaultOf files.system.wiring.now text
-IsError verbose files (Err (Fault (Policy fault))) text = IsFaultOf files.policy.now text
-IsError verbose files (Err (Fault (Certificate fault))) text = IsFaultOf files.certificate.now text
-IsError verbose files (Err Memory) text = text ≡ memory_line
+IsError notices verbose files (Err (Fault (Wiring fault))) text =
+    IsFaultOf files.system.wiring.now text
+IsError notices verbose files (Err (Fault (Policy fault))) text = IsFaultOf files.policy.now text
+IsError notices verbose files (Err (Fault (Certificate fault))) text =
+    IsFaultOf files.certificate.now text
+IsError notices verbose files (Err Memory) text = text ≡ memory_line
 
 -- it is told that memory ran out
 pub record ToldMemory (told : Told) : Type 0 where
@@ -143,22 +148,28 @@ pub record ToldUnread (held : Held) (files : List (List ℕ)) (told : Told) : Ty
   pub out : string_bytes told.out ≡ []
   pub err : IsFaultOf file (string_bytes told.err)
 
--- `YES` is told of texts, and it is right: the checker accepts them
-pub record ToldYes (texts : CheckTexts) (told : Told) : Type 0 where
+-- what is told of the MIG files of texts: the routines that carry rights and were left out of them
+abbrev pub notices_of : SystemFiles → CheckTexts → List ℕ
+notices_of files texts = left_notices files texts.system.defs
+
+-- `YES` is told of texts, and it is right: the checker accepts them; and these notices
+pub record ToldYes (notices : List ℕ) (texts : CheckTexts) (told : Told) : Type 0 where
   pub case : Case
   pub says : AreAccepted texts case
   pub out : string_bytes told.out ≡ codes "YES\n"
-  pub err : string_bytes told.err ≡ []
+  pub err : string_bytes told.err ≡ notices
 
 -- `NO` is told of texts, and it is right: each of them has a meaning, together they are a case for
--- the checker, and the reason that is told is the one by which the checker refuses the case
-pub record ToldNo (verbose : Bool) (texts : CheckTexts) (told : Told) : Type 0 where
+-- the checker, and the reason that is told is the one by which the checker refuses the case; and
+-- these notices
+pub record ToldNo (notices : List ℕ) (verbose : Bool) (texts : CheckTexts) (told : Told)
+    : Type 0 where
   pub case : Case
   pub says : said_by texts ≡ Ok case
   pub why : Why
   pub is_why : IsWhy case.claim case.draft why
   pub out : string_bytes told.out ≡ why_line case.claim.table why
-  pub err : string_bytes told.err ≡ stale_note verbose why
+  pub err : string_bytes told.err ≡ notices ++ stale_note verbose why
 
 -- the file of a MIG text or a wiring that has no meaning
 abbrev pub system_file : SystemFiles → NoSystem → List ℕ
@@ -181,12 +192,16 @@ pub record ToldFault (files : CheckFiles) (texts : CheckTexts) (told : Told) : T
 
 -- `YES` is told of what the files hold
 abbrev pub YesOfFiles : Held → CheckFiles → Told → Type 0
-YesOfFiles held files told = OfFiles check_list ToldYes held (check_names files) told
+YesOfFiles held files told =
+    OfFiles check_list (λ texts. ToldYes (notices_of files.system texts) texts) held
+    (check_names files) told
 
 -- `NO` is told of what the files hold
 abbrev pub NoOfFiles : Held → CheckWords → Told → Type 0
 NoOfFiles held words told =
-    OfFiles check_list (ToldNo words.verbose) held (check_names words.files) told
+    OfFiles check_list
+    (λ texts. ToldNo (notices_of words.files.system texts) words.verbose texts) held
+    (check_names words.files) told
 
 -- why status 2 is told of files: memory ran out, a file can't be read, or a text has no meaning
 abbrev pub FaultOfFiles : Held → CheckFiles → Told → Type 0
@@ -381,7 +396,7 @@ LiveOfFiles held files told = OfFiles live_list ToldLive held (live_names files)
 -- `NO` is told of what the files of a `live` hold
 abbrev pub NoOfLive : Held → LiveFiles → Told → Type 0
 NoOfLive held files told =
-    OfFiles live_list (λ texts. ToldNo false texts.check) held (live_names files) told
+    OfFiles live_list (λ texts. ToldNo [] false texts.check) held (live_names files) told
 
 -- that no task can go on is told of what the files hold
 abbrev pub HaltedOfFiles : Held → LiveFiles → Told → Type 0

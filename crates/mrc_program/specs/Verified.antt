@@ -1,11 +1,14 @@
 -- What the program tells of a wiring and a policy: that no line of the policy can be broken, or
 -- each line that is, with a chain; and changes after which none is. This profile's own choice.
-use Rattle.std.specs.Prelude.{◌≡◌, ◌⊎◌, ◌<◌, Bool, true, false, ℕ, List, [], ◌∷◌, Ok, Err, All}
-use Rattle.std.specs.Prelude.{codes, string_bytes}
+use Rattle.std.specs.Prelude.{◌≡◌, ◌⊎◌, ◌<◌, Bool, true, false, ℕ, List, [], ◌∷◌, ◌++◌, Ok, Err}
+use Rattle.std.specs.Prelude.{All, codes, string_bytes}
+use Rattle.mrc_base.specs.declared.Fact.{Fact}
+use Rattle.mrc_model.specs.Rules.{IsLeast}
 use Rattle.mrc_wiring_text.specs.declared.reading.Line.{Line}
 use Rattle.mrc_wiring_text.specs.declared.wiring.WiringSays.{WiringSays}
 use Rattle.mrc_wiring_text.specs.Texts.{IsWiring}
 use Rattle.mrc_wiring.specs.Claims.{Claimed}
+use Rattle.mrc_wiring.specs.Table.{wiring_of}
 use Rattle.mrc_check.specs.Texts.{Meaningless, InSystem, InPolicy, InCertificate}
 use Rattle.mrc_why.specs.declared.printing.Layout.{Layout}
 use Rattle.mrc_why.specs.declared.printing.Layout.TheVariants.{Flat, Tree}
@@ -24,6 +27,8 @@ use Rattle.mrc_files.specs.Files.{Held}
 use Rattle.mrc_program.specs.Explained.{numbered_by}
 use Rattle.mrc_program.specs.Files.{policy_names}
 use Rattle.mrc_program.specs.Notices.{notice}
+use Rattle.mrc_program.specs.LeftNotices.{left_notices}
+use Rattle.mrc_program.specs.PolicyNotices.{policy_notices}
 use Rattle.mrc_program.specs.Texts.{PolicyTexts, policy_list, claimed}
 use Rattle.mrc_program.specs.Told.{OfFiles, ToldMemory, ToldUnread, IsFaultOf, system_file}
 
@@ -32,38 +37,52 @@ abbrev pub layout_of : Bool → Layout
 layout_of true = Tree
 layout_of false = Flat
 
--- `YES` is told of a claim: its least set is a yes; and the notice of its MIG files
-pub record IsAllowed (files : SystemFiles) (claim : Claimed) (told : Told) : Type 0 where
+-- what goes to standard error of texts and their claim, by a set of facts: of routines that carry
+-- rights and are left out of the MIG files, of routines of notifications, and of the policy
+abbrev pub notices : VerifyFiles → PolicyTexts → Claimed → (Fact → Bool) → List ℕ
+notices files texts claim set =
+    left_notices files.system texts.system.defs
+    ++ (notice files.system claim.table.interfaces
+    ++ policy_notices files.policy.now texts.policy claim set)
+
+-- the text is that by the least set
+abbrev pub AreNotices : VerifyFiles → PolicyTexts → Claimed → List ℕ → Type 0
+AreNotices files texts claim text = (set : Fact → Bool) → IsLeast (wiring_of claim.table) set
+    → text ≡ notices files texts claim set
+
+-- `YES` is told of texts that make this claim: its least set is a yes; and their notices
+pub record IsAllowed (files : VerifyFiles) (texts : PolicyTexts) (claim : Claimed) (told : Told)
+    : Type 0 where
   pub yes : HasYes claim
   pub out : string_bytes told.out ≡ codes "YES\n"
-  pub err : string_bytes told.err ≡ notice files claim.table.interfaces
+  pub err : AreNotices files texts claim (string_bytes told.err)
 
 -- `YES` is told of texts, and it is right: the least set of their wiring is a yes to their policy
-pub record ToldAllowed (files : SystemFiles) (texts : PolicyTexts) (told : Told) : Type 0 where
+pub record ToldAllowed (files : VerifyFiles) (texts : PolicyTexts) (told : Told) : Type 0 where
   pub claim : Claimed
   pub says : claimed texts ≡ Ok claim
-  pub tells : IsAllowed files claim told
+  pub tells : IsAllowed files texts claim told
 
--- the lines that are broken are told of a claim, with chains that derive what they forbid, and the
--- lines and slots of these texts from which the steps come, and the notice of the MIG files; no set
--- of facts is a yes
-pub record ToldLines (files : VerifyFiles) (wiring : List ℕ) (claim : Claimed) (told : Told)
+-- the lines that are broken are told of texts that make this claim, with chains that derive what
+-- they forbid, and the lines and slots of the texts from which the steps come, and the notices; no
+-- set of facts is a yes
+pub record ToldLines (files : VerifyFiles) (texts : PolicyTexts) (claim : Claimed) (told : Told)
     : Type 0 where
   pub lines : List (Line WiringSays)
-  pub is_wiring : IsWiring wiring lines
+  pub is_wiring : IsWiring texts.system.wiring lines
   pub broken : List BrokenLine
   pub are : AreBroken claim broken
   pub chains : All (IsDerived claim) broken
   pub no : HasNoYes claim
   pub out : IsVerdictText (layout_of files.tree) (numbered_by claim.table lines) broken
       (string_bytes told.out)
-  pub err : string_bytes told.err ≡ notice files.system claim.table.interfaces
+  pub err : AreNotices files texts claim (string_bytes told.err)
 
 -- the lines that are broken are told of texts
 pub record ToldBroken (files : VerifyFiles) (texts : PolicyTexts) (told : Told) : Type 0 where
   pub claim : Claimed
   pub says : claimed texts ≡ Ok claim
-  pub tells : ToldLines files texts.system.wiring claim told
+  pub tells : ToldLines files texts claim told
 
 -- the file of a text that has no meaning; a certificate is none of them
 abbrev pub claim_file : SystemFiles → List ℕ → Meaningless → List ℕ
@@ -88,7 +107,7 @@ OfPolicy Tells held files policy told =
 -- `YES` is told of what the files hold
 abbrev pub AllowedOfFiles : Held → VerifyFiles → Told → Type 0
 AllowedOfFiles held files told =
-    OfPolicy (ToldAllowed files.system) held files.system files.policy.now told
+    OfPolicy (ToldAllowed files) held files.system files.policy.now told
 
 -- the lines that are broken are told of what the files hold
 abbrev pub BrokenOfFiles : Held → VerifyFiles → Told → Type 0

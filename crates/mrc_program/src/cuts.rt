@@ -2,18 +2,23 @@
 
 ghost use Rattle.std.specs.Prelude.{◌≡◌, ◌++◌, ◌+◌, Some, None, IfOk, IfErr, OnOk, length, map};
 ghost use Rattle.std.specs.Prelude.{string_bytes};
-ghost use Rattle.std.specs.List.{list_any};
+ghost use Rattle.std.specs.List.{list_any, count_by};
+ghost use Rattle.mrc_mig_cut.specs.Carrying.{carries};
 ghost use Rattle.std.specs.Option.{option_map};
 ghost use Rattle.mrc_base.specs.Reading.{UnlessMemory};
 ghost use Rattle.mrc_files.specs.Paths.{name};
 ghost use Rattle.mrc_program.specs.Cutting.{is_named_so, same_name, IsCutTo, IsNoFile, AreCuts};
 ghost use Rattle.mrc_program.specs.Cutting.{IsFirstUncut, left_text, left_line, left_lines};
-ghost use Rattle.mrc_program.specs.Cutting.{count_line, cut_text, cuts_text, has_routine};
-ghost use Rattle.mrc_program.specs.Cutting.{has_left_out};
-ghost use Rattle.mrc_program.specs.Cutting.{are_written};
+ghost use Rattle.mrc_program.specs.Cutting.{carries_text, before_text, carrying_count};
+ghost use Rattle.mrc_program.specs.Cutting.{carrying_words, carrying_text, count_line, cut_text};
+ghost use Rattle.mrc_program.specs.Cutting.{cuts_text, has_routine, has_before, has_left_out};
+ghost use Rattle.mrc_program.specs.Cutting.{has_carrying, is_forbidden, are_written};
+ghost use Rattle.mrc_program.specs.Cutting.{count_text, reason_text, routine_text, shown_text};
 
+use crate::left_notices::carriers_text;
 use mrc_base::OrMemory;
-use mrc_mig_cut::{CutFault, CutFile, LeftOut, cut};
+use mrc_command::{Strictness, shown};
+use mrc_mig_cut::{Carried, CutFault, CutFile, LeftOut, carried_text, cut};
 use std::alloc::{AllocError, Global};
 
 /// A MIG file, and what its text is cut to.
@@ -99,14 +104,41 @@ pub fn cuts_of<'a>(
     Ok(cuts)
 }
 
-/// A routine that is left out, with its id and the word.
+/// What a routine carries.
+fn carries_text(alloc: Global, carried: &[Carried]) -> Result<String, AllocError>
+    ensures { IfOk result (λ text. string_bytes text ≡ carries_text carried.now) }
+{
+    if carried.is_empty() {
+        return Ok(String::new(alloc));
+    }
+    let text = carried_text(alloc, carried)?;
+    format!(in alloc; ", carries {text}")
+}
+
+/// The word for which a routine is left out, and what it carries.
+#[tactic(auto, unfolding(crate::specs::Cutting::reason_text))]
+fn reason_text(alloc: Global, left: &LeftOut) -> Result<String, AllocError>
+    ensures { IfOk result (λ text. string_bytes text ≡ reason_text left.now) }
+{
+    let carries = carries_text(alloc, left.carried.as_slice())?;
+    format!(in alloc; "{}{carries}", left.word)
+}
+
+/// A routine with its id.
+#[tactic(auto, unfolding(crate::specs::Cutting::routine_text))]
+fn routine_text(alloc: Global, left: &LeftOut) -> Result<String, AllocError>
+    ensures { IfOk result (λ text. string_bytes text ≡ routine_text left.now) }
+{
+    format!(in alloc; "routine {} (id {})", left.name, left.id)
+}
+
+/// A routine that is left out, with its id and the word, and what it carries.
 fn left_text(alloc: Global, left: &LeftOut) -> Result<String, AllocError>
     ensures { IfOk result (λ text. string_bytes text ≡ left_text left.now) }
 {
-    format!(in alloc;
-        "routine {} (id {}) left out: {}",
-        left.name, left.id, left.word
-    )
+    let routine = routine_text(alloc, left)?;
+    let reason = reason_text(alloc, left)?;
+    format!(in alloc; "{routine} left out: {reason}")
 }
 
 /// The line of a routine that is left out of a file.
@@ -130,24 +162,104 @@ fn left_lines(alloc: Global, file: &str, left_out: &[LeftOut]) -> Result<String,
     Ok(text)
 }
 
-/// The line that tells how many routines are read of a file.
-fn count_line(alloc: Global, cut: &NamedCut<'_>) -> Result<String, AllocError>
-    ensures { IfOk result (λ line. string_bytes line ≡ count_line cut.now) }
+/// The line of the routines that carry rights and were left out of a file before.
+fn before_text(alloc: Global, file: &str, before: &[String]) -> Result<String, AllocError>
+    ensures { IfOk result (λ text. string_bytes text
+        ≡ before_text file.now (map string_bytes before.now)) }
 {
-    let file = cut.file;
-    let read = cut.cut.read;
-    let routines = read as u128 + cut.cut.left_out.len() as u128;
-    format!(in alloc; "{file}: {read} of {routines} routines read\n")
+    if before.is_empty() {
+        return Ok(String::new(alloc));
+    }
+    let text = carriers_text(alloc, before)?;
+    format!(in alloc; "{file}: {text}\n")
+}
+
+/// Whether a routine that is left out carries rights.
+fn carries(left: &LeftOut) -> bool
+    ensures { result ≡ carries left.now }
+{
+    !left.carried.is_empty()
+}
+
+/// How many of these routines carry rights.
+fn count_of(left_out: &[LeftOut]) -> usize
+    ensures { result ≡ count_by carries left_out.now }
+{
+    let mut count = 0;
+    for left in left_out {
+        if carries(left) {
+            count += 1;
+        }
+    }
+    count
+}
+
+/// How many of the routines that are left out of a file carry rights.
+fn carrying_count(cut: &CutFile) -> usize
+    ensures { result ≡ carrying_count cut.now }
+{
+    count_of(cut.left_out.as_slice())
+}
+
+/// The words behind that number.
+fn carrying_words(count: usize) -> &'static str
+    ensures { result.now ≡ carrying_words count }
+{
+    if count == 1 {
+        " of those left out carries rights"
+    } else {
+        " of those left out carry rights"
+    }
+}
+
+/// That number with its words.
+fn carrying_text(alloc: Global, count: usize) -> Result<String, AllocError>
+    ensures { IfOk result (λ text. string_bytes text ≡ carrying_text count) }
+{
+    if count == 0 {
+        return Ok(String::new(alloc));
+    }
+    let words = carrying_words(count);
+    format!(in alloc; ", {count}{words}")
+}
+
+/// How many routines are read of a file, and how many of the others carry rights.
+#[tactic(auto, unfolding(crate::specs::Cutting::count_text))]
+fn count_text(alloc: Global, cut: &CutFile) -> Result<String, AllocError>
+    ensures { IfOk result (λ text. string_bytes text ≡ count_text cut.now) }
+{
+    let read = cut.read;
+    let routines = read as u128 + cut.left_out.len() as u128;
+    let carrying = carrying_text(alloc, carrying_count(cut))?;
+    format!(in alloc; "{read} of {routines} routines read{carrying}")
+}
+
+/// The line that tells how many routines are read of a file.
+#[tactic(auto, unfolding(crate::specs::Cutting::count_line))]
+fn count_line(alloc: Global, file: &str, cut: &CutFile) -> Result<String, AllocError>
+    ensures { IfOk result (λ line. string_bytes line ≡ count_line file.now cut.now) }
+{
+    let text = count_text(alloc, cut)?;
+    format!(in alloc; "{file}: {text}\n")
+}
+
+/// What is told of a file, by its name as it is shown.
+#[tactic(auto, unfolding(crate::specs::Cutting::shown_text))]
+fn shown_text(alloc: Global, file: &str, cut: &CutFile) -> Result<String, AllocError>
+    ensures { IfOk result (λ text. string_bytes text ≡ shown_text file.now cut.now) }
+{
+    let lines = left_lines(alloc, file, cut.left_out.as_slice())?;
+    let before = before_text(alloc, file, cut.before.as_slice())?;
+    let line = count_line(alloc, file, cut)?;
+    format!(in alloc; "{lines}{before}{line}")
 }
 
 /// What is told of a file.
 fn cut_text(alloc: Global, cut: &NamedCut<'_>) -> Result<String, AllocError>
     ensures { IfOk result (λ text. string_bytes text ≡ cut_text cut.now) }
 {
-    let mut text = left_lines(alloc, cut.file, cut.cut.left_out.as_slice())?;
-    let line = count_line(alloc, cut)?;
-    text.push_str(line.as_str())?;
-    Ok(text)
+    let file = shown(alloc, cut.file)?;
+    shown_text(alloc, file.as_str(), &cut.cut)
 }
 
 /// What is told of files, in their order.
@@ -169,11 +281,36 @@ fn has_routine(cut: &NamedCut<'_>) -> bool
     cut.cut.read > 0
 }
 
-/// Whether a routine is left out of a file.
-fn has_left_out(cut: &NamedCut<'_>) -> bool
+/// Whether a routine was left out of a file before.
+fn has_before(cut: &CutFile) -> bool
+    ensures { result ≡ has_before cut.now }
+{
+    !cut.before.is_empty()
+}
+
+/// Whether a routine is left out of a file, or was before.
+fn has_left_out(cut: &CutFile) -> bool
     ensures { result ≡ has_left_out cut.now }
 {
-    !cut.cut.left_out.is_empty()
+    !cut.left_out.is_empty() || has_before(cut)
+}
+
+/// Whether a routine that carries rights is left out of a file, or was before.
+fn has_carrying(cut: &CutFile) -> bool
+    ensures { result ≡ has_carrying cut.now }
+{
+    carrying_count(cut) > 0 || has_before(cut)
+}
+
+/// Whether nothing is written because of a file.
+fn is_forbidden(strict: Strictness, cut: &CutFile) -> bool
+    ensures { result ≡ is_forbidden strict cut.now }
+{
+    match strict {
+        Strictness::None => false,
+        Strictness::Rights => has_carrying(cut),
+        Strictness::All => has_left_out(cut),
+    }
 }
 
 /// Whether a routine is read of one of the files.
@@ -183,17 +320,22 @@ fn have_routine(cuts: &[NamedCut<'_>]) -> bool
     cuts.iter().any(|cut| has_routine(cut))
 }
 
-/// Whether a routine is left out of one of the files.
-fn have_left_out(cuts: &[NamedCut<'_>]) -> bool
-    ensures { result ≡ list_any has_left_out cuts.now }
+/// Whether nothing is written because of one of the files.
+fn are_forbidden(strict: Strictness, cuts: &[NamedCut<'_>]) -> bool
+    ensures { result ≡ list_any (λ cut. is_forbidden strict cut.cut) cuts.now }
 {
-    cuts.iter().any(|cut| has_left_out(cut))
+    for cut in cuts {
+        if is_forbidden(strict, &cut.cut) {
+            return true;
+        }
+    }
+    false
 }
 
-/// Whether files are written: a routine is read of one of them, and where nothing may be left out
-/// nothing is.
-pub fn are_written(strict: bool, cuts: &[NamedCut<'_>]) -> bool
+/// Whether files are written: a routine is read of one of them, and because of none is it
+/// forbidden.
+pub fn are_written(strict: Strictness, cuts: &[NamedCut<'_>]) -> bool
     ensures { result ≡ are_written strict cuts.now }
 {
-    have_routine(cuts) && !(strict && have_left_out(cuts))
+    have_routine(cuts) && !are_forbidden(strict, cuts)
 }

@@ -28,8 +28,8 @@ use std::sync::Wait;
 use std::sync::ledger::Blank;
 use std::thread::Threads;
 
-/// The most events of a journal.
-const EVENTS: usize = 1_000_000;
+/// The most events of a journal of the program's own runs.
+pub const EVENTS: usize = 1_000_000;
 
 /// The bytes of the files of a `live`.
 #[derive(Drop)]
@@ -71,16 +71,18 @@ fn live_bytes<'a, F: Folder>(
     Ok(LiveBytes { check, script })
 }
 
-/// What comes of a script whose tasks run as threads.
+/// What comes of a script whose tasks run as threads, with a journal of so many events at most.
 fn served<R: Threads + Wait + Sync>(
     rt: &R,
     alloc: Global,
     confined: Confined,
     script: Script,
+    limit: usize,
 ) -> Result<Served, OrMemory<ServeFault>>
+    requires limit { (1 ≤ limit) × (limit ≤ 1000000) }
     ensures { IfOk result (IsServed confined.claim.table script) }
 {
-    serve::<Brand, _, _>(rt, alloc, confined, script, EVENTS, Blank::new(257), &Open)
+    serve::<Brand, _, _>(rt, alloc, confined, script, limit, Blank::new(257), &Open)
 }
 
 /// What is told where all tasks that have lines left wait: the journal as it stands, and the lines.
@@ -111,7 +113,9 @@ fn run_told<R: Threads + Wait + Sync>(
     files: &LiveFiles<'_>,
     confined: Confined,
     script: Script,
+    limit: usize,
 ) -> Result<Told, AllocError>
+    requires limit { (1 ≤ limit) × (limit ≤ 1000000) }
     ensures status { IfOk result (λ told. (told.status ≡ 0) ⊎ (told.status ≡ 2)) }
     ensures live { IfOk result (λ told. told.status ≡ 0
         → IsLive confined.claim.table script (string_bytes told.out)
@@ -121,7 +125,7 @@ fn run_told<R: Threads + Wait + Sync>(
         × IsFaultOf files.now.script.now (string_bytes told.err))
         ⊎ IsToldHalted files.now.script.now confined.claim.table script told)) }
 {
-    match served(rt, alloc, confined, script) {
+    match served(rt, alloc, confined, script, limit) {
         Ok(Served::Whole(text)) => Ok(said(alloc, text, 0)),
         Ok(Served::AllWait(text, lines)) => halted_told(alloc, files, text, lines.as_slice()),
         Err(OrMemory::Fault(fault)) => {
@@ -139,21 +143,30 @@ fn confined_told<R: Threads + Wait + Sync>(
     files: &LiveFiles<'_>,
     confined: Confined,
     bytes: &LiveBytes,
+    limit: usize,
 ) -> Result<Told, AllocError>
-    requires { AreAccepted bytes.now.check confined }
+    requires accepted { AreAccepted bytes.now.check confined }
+    requires limit { (1 ≤ limit) × (limit ≤ 1000000) }
     ensures status { IfOk result (λ told. (told.status ≡ 0) ⊎ (told.status ≡ 2)) }
     ensures live { IfOk result (λ told. told.status ≡ 0 → ToldLive bytes.now told) }
     ensures fault { IfOk result (λ told. told.status ≡ 2 → ToldMemory told
         ⊎ (ToldOfScript files.now bytes.now told ⊎ ToldHalted files.now bytes.now told)) }
 {
     match script_said(alloc, confined.wired(), true, bytes.script.as_slice()) {
-        Ok(script) => run_told(rt, alloc, files, confined, script),
+        Ok(script) => run_told(rt, alloc, files, confined, script, limit),
         Err(OrMemory::Fault(fault)) => {
             let text = fault.to_string(alloc)?;
             fault_of(alloc, files.script, text.as_str())
         }
         Err(OrMemory::Memory) => memory(alloc),
     }
+}
+
+/// No notices.
+fn nothing(alloc: Global) -> String
+    ensures { string_bytes result ≡ [] }
+{
+    String::new(alloc)
 }
 
 /// What is told of bytes that are not accepted.
@@ -166,11 +179,19 @@ fn refused_told(
     requires refused { IfOk answer.now (λ _. ⊥) }
     requires told { Tells answer.now (said_by bytes.now) }
     ensures status { IfOk result (λ told. (told.status ≡ 1) ⊎ (told.status ≡ 2)) }
-    ensures no { IfOk result (λ told. told.status ≡ 1 → ToldNo false bytes.now told) }
+    ensures no { IfOk result (λ told. told.status ≡ 1 → ToldNo [] false bytes.now told) }
     ensures fault { IfOk result (λ told. told.status ≡ 2
         → ToldMemory told ⊎ ToldFault files.now bytes.now told) }
 {
-    verdict(alloc, files, false, bytes.system.wiring.as_slice(), answer)
+    let notices = nothing(alloc);
+    verdict(
+        alloc,
+        files,
+        notices,
+        false,
+        bytes.system.wiring.as_slice(),
+        answer,
+    )
 }
 
 /// What is told of the bytes of the files.
@@ -179,29 +200,34 @@ fn live_told<R: Threads + Wait + Sync>(
     alloc: Global,
     files: &LiveFiles<'_>,
     bytes: &LiveBytes,
+    limit: usize,
 ) -> Result<Told, AllocError>
+    requires limit { (1 ≤ limit) × (limit ≤ 1000000) }
     ensures status { IfOk result (λ told. told.status ≤ 2) }
     // A journal is right.
     ensures live { IfOk result (λ told. told.status ≡ 0 → ToldLive bytes.now told) }
     // A no is right, and its reason is told.
-    ensures no { IfOk result (λ told. told.status ≡ 1 → ToldNo false bytes.now.check told) }
+    ensures no { IfOk result (λ told. told.status ≡ 1 → ToldNo [] false bytes.now.check told) }
     // A fault is one of the first file that has one, unless memory ran out.
     ensures fault { IfOk result (λ told. told.status ≡ 2
         → ToldMemory told ⊎ ToldUnserved files.now bytes.now told) }
 {
     match answer_of(rt, alloc, &bytes.check) {
-        Ok(confined) => confined_told(rt, alloc, files, confined, bytes),
+        Ok(confined) => confined_told(rt, alloc, files, confined, bytes, limit),
         Err(refusal) => refused_told(alloc, &files.check, &bytes.check, &Err(refusal)),
     }
 }
 
-/// What is told of the files of a `live`.
+/// What is told of the files of a `live`, whose journal has so many events at most. A script has
+/// fewer lines than [`EVENTS`], so with that limit its journal is never full.
 pub fn live_files<F: Folder, R: Threads + Wait + Sync>(
     rt: &R,
     folder: &F,
     alloc: Global,
     files: &LiveFiles<'_>,
+    limit: usize,
 ) -> Result<Told, AllocError>
+    requires limit { (1 ≤ limit) × (limit ≤ 1000000) }
     ensures status { IfOk result (λ told. told.status ≤ 2) }
     // A journal or a no is right of what the files hold, so far as that is known.
     ensures live { IfOk result (λ told. told.status ≡ 0
@@ -212,7 +238,7 @@ pub fn live_files<F: Folder, R: Threads + Wait + Sync>(
         → FaultOfLive (F.held folder.now) files.now told) }
 {
     match live_bytes(folder, alloc, files) {
-        Ok(bytes) => live_told(rt, alloc, files, &bytes),
+        Ok(bytes) => live_told(rt, alloc, files, &bytes, limit),
         Err(unread) => unread_told(alloc, &unread),
     }
 }

@@ -3,6 +3,7 @@
 ghost use Rattle.std.specs.Prelude.{◌≡◌, ◌≤◌, ◌+◌, ◌⊎◌, [], IfOk, IsOkAnd, length};
 ghost use Rattle.std.specs.Prelude.{string_bytes, string_capacity, string_len};
 ghost use Rattle.mrc_certificate.specs.Spelling.{content};
+ghost use Rattle.mrc_command.specs.Lines.{shown};
 ghost use Rattle.mrc_program.specs.Told.{ToldMade, ToldLeast, ToldWritten, ToldMemory};
 ghost use Rattle.mrc_program.specs.Told.{ToldNoSystem, ToldUnwritten, ToldWorkers, ToldUnmade};
 ghost use Rattle.mrc_program.specs.Told.{UnwrittenTold, ToldCut, CutLeast, CutMade, CutOfFiles};
@@ -35,7 +36,7 @@ fn unwritten_told(
 ) -> Result<Told, AllocError>
     requires empty { string_bytes line ≡ [] }
     requires len { string_len line ≡ 0 }
-    requires room { length files.now.out.now + 66 ≤ string_capacity line }
+    requires room { length (shown files.now.out.now) + 66 ≤ string_capacity line }
     ensures { UnwrittenTold files.now refusal result }
 {
     match refusal {

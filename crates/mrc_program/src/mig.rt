@@ -43,7 +43,7 @@ fn cuts_told<F: Folder>(
         });
     }
     let writings = writings_of(alloc, files.out, cuts)?;
-    make_room(&mut text, writings.as_slice())?;
+    make_room(alloc, &mut text, writings.as_slice())?;
     Ok(writings_told(folder, alloc, writings.as_slice(), text))
 }
 

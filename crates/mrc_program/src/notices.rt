@@ -6,7 +6,7 @@ ghost use Rattle.mrc_program.specs.Notices.{is_notification, notification_in, no
 ghost use Rattle.mrc_program.specs.Notices.{notice_text, notice_line};
 
 use crate::system::defs_name;
-use mrc_command::SystemFiles;
+use mrc_command::{SystemFiles, shown};
 use mrc_forms::{Form, Interface, MessageKind};
 use std::alloc::{AllocError, Global};
 
@@ -45,6 +45,7 @@ fn notice_text(alloc: Global, name: &str) -> Result<String, AllocError>
 fn notice_line(alloc: Global, file: &str, name: &str) -> Result<String, AllocError>
     ensures { IfOk result (λ line. string_bytes line ≡ notice_line file.now name.now) }
 {
+    let file = shown(alloc, file)?;
     let text = notice_text(alloc, name)?;
     format!(in alloc; "machcheck: {file}: {text}\n")
 }

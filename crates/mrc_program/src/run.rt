@@ -10,7 +10,7 @@ ghost use Rattle.std.specs.List.{All};
 ghost use Rattle.mrc_files.specs.Files.{AreHeld, Exceeds, Fits, IsFirstUnread};
 ghost use Rattle.mrc_program.specs.Files.{check_names};
 ghost use Rattle.mrc_program.specs.Told.{ToldYes, ToldNo, ToldMemory, ToldFault, YesOfFiles};
-ghost use Rattle.mrc_program.specs.Told.{NoOfFiles, FaultOfFiles};
+ghost use Rattle.mrc_program.specs.Told.{NoOfFiles, FaultOfFiles, notices_of};
 ghost use Rattle.mrc_program.specs.Commands.{DoneOf, NoOf, FaultOf, CutOf, HaltedOf, HasOut};
 ghost use Rattle.mrc_program.specs.Commands.{SomeCommand};
 ghost use Rattle.mrc_program.specs.Commands.{WentOut};
@@ -19,7 +19,8 @@ ghost use Rattle.mrc_command.specs.CommandLine.{AsksHelp};
 use crate::explain::explain_files;
 use crate::facts::facts_files;
 use crate::graph::graph_files;
-use crate::live::live_files;
+use crate::left_notices::left_notices;
+use crate::live::{EVENTS, live_files};
 use crate::make::make_files;
 use crate::mend::mend_files;
 use crate::mig::mig_files;
@@ -108,6 +109,18 @@ pub(crate) fn answer_of<R: Threads + Sync>(
     )
 }
 
+/// What is told of the MIG files: the routines that carry rights and were left out of them.
+fn notices_of(
+    alloc: Global,
+    files: &CheckFiles<'_>,
+    bytes: &CheckBytes,
+) -> Result<String, AllocError>
+    ensures { IfOk result (λ text. string_bytes text
+        ≡ notices_of files.now.system bytes.now) }
+{
+    left_notices(alloc, &files.system, bytes.system.defs.as_slice())
+}
+
 /// What is told of the bytes of the files.
 fn told_of<R: Threads + Sync>(
     rt: &R,
@@ -118,20 +131,24 @@ fn told_of<R: Threads + Sync>(
 ) -> Result<Told, AllocError>
     ensures status { IfOk result (λ told. told.status ≤ 2) }
     // A yes is right.
-    ensures yes { IfOk result (λ told. told.status ≡ 0 → ToldYes bytes.now told) }
+    ensures yes { IfOk result (λ told. told.status ≡ 0
+        → ToldYes (notices_of files.now.system bytes.now) bytes.now told) }
     // Where the answer is yes it is told, unless memory runs out.
     ensures only { (case : Case) → AreAccepted bytes.now case
         → IfOk result (λ told. (told.status ≡ 0) ⊎ ToldMemory told) }
     // A no is right, and its reason is told.
-    ensures no { IfOk result (λ told. told.status ≡ 1 → ToldNo verbose bytes.now told) }
+    ensures no { IfOk result (λ told. told.status ≡ 1
+        → ToldNo (notices_of files.now.system bytes.now) verbose bytes.now told) }
     // A fault is one of the first file that has one, unless memory ran out.
     ensures fault { IfOk result (λ told. told.status ≡ 2
         → ToldMemory told ⊎ ToldFault files.now bytes.now told) }
 {
     let answer = answer_of(rt, alloc, bytes);
+    let notices = notices_of(alloc, files, bytes)?;
     verdict(
         alloc,
         files,
+        notices,
         verbose,
         bytes.system.wiring.as_slice(),
         &answer,
@@ -196,7 +213,7 @@ fn answer<F: Folder, R: Threads + Wait + Sync, P: Progress>(
         Command::Facts(files) => facts_files(folder, alloc, files),
         Command::Graph(files) => graph_files(folder, alloc, files),
         Command::Replay(files) => replay_files(folder, alloc, files),
-        Command::Live(files) => live_files(rt, folder, alloc, files),
+        Command::Live(files) => live_files(rt, folder, alloc, files, EVENTS),
         Command::Mig(files) => mig_files(folder, alloc, files),
     }
 }

@@ -1,13 +1,13 @@
 //! What the program tells of the checker's answer.
 
-ghost use Rattle.std.specs.Prelude.{◌≡◌, [], IfOk, string_bytes};
+ghost use Rattle.std.specs.Prelude.{◌≡◌, ◌++◌, IfOk, codes, string_bytes};
 ghost use Rattle.mrc_base.specs.declared.memory.OrMemory.TheVariants.{Fault};
 ghost use Rattle.mrc_program.specs.Told.{why_line, stale_note, status_of, out_of, IsError};
 
 use crate::system::{defs_fault_told, wiring_fault_told};
 use mrc_base::OrMemory;
 use mrc_check::{Confined, Refused, TextsFault, Why};
-use mrc_command::{CheckFiles, Told, fault_of, memory, said};
+use mrc_command::{CheckFiles, Told, fault_of, memory};
 use mrc_words::fact_text;
 use std::alloc::{AllocError, Global};
 
@@ -19,21 +19,38 @@ fn stale_note(alloc: Global, verbose: bool, why: Why) -> Result<String, AllocErr
         return Ok(String::new(alloc));
     }
     match why {
-        Why::Counts | Why::MissingFirst(_) => String::from_str(
+        Why::Counts | Why::MissingFirst(_) | Why::NotClosed(_, _) => String::from_str(
             alloc,
             "machcheck: this certificate is not of this wiring: make it anew, or use verify\n",
         ),
-        Why::NotClosed(_, _) | Why::Forbidden(_) => Ok(String::new(alloc)),
+        Why::Forbidden(_) => Ok(String::new(alloc)),
     }
 }
 
-/// What is told of a refusal: the reason.
-fn refusal(alloc: Global, verbose: bool, refused: &Refused<Why>) -> Result<Told, AllocError>
+/// Notices, and behind them what is told besides a reason.
+fn noted(alloc: Global, notices: String, verbose: bool, why: Why) -> Result<String, AllocError>
+    ensures { IfOk result (λ text. string_bytes text
+        ≡ string_bytes notices ++ stale_note verbose why) }
+{
+    let note = stale_note(alloc, verbose, why)?;
+    let mut text = notices;
+    text.push_str(note.as_str())?;
+    Ok(text)
+}
+
+/// What is told of a refusal: the reason, with these notices.
+fn refusal(
+    alloc: Global,
+    notices: String,
+    verbose: bool,
+    refused: &Refused<Why>,
+) -> Result<Told, AllocError>
     ensures status { IfOk result (λ told. told.status ≡ 1) }
     ensures out { IfOk result
         (λ told. string_bytes told.out ≡ why_line refused.now.claim.table refused.now.why) }
     ensures err { IfOk result
-        (λ told. string_bytes told.err ≡ stale_note verbose refused.now.why) }
+        (λ told. string_bytes told.err
+        ≡ string_bytes notices ++ stale_note verbose refused.now.why) }
 {
     let wired = refused.claim.wired();
     let line = match refused.why {
@@ -49,7 +66,7 @@ fn refusal(alloc: Global, verbose: bool, refused: &Refused<Why>) -> Result<Told,
         }
         Why::Forbidden(number) => format!(in alloc; "NO forbidden line {number}\n")?,
     };
-    let err = stale_note(alloc, verbose, refused.why)?;
+    let err = noted(alloc, notices, verbose, refused.why)?;
     Ok(Told {
         out: line,
         err,
@@ -62,6 +79,7 @@ fn refusal(alloc: Global, verbose: bool, refused: &Refused<Why>) -> Result<Told,
 fn fault_told(
     alloc: Global,
     files: &CheckFiles<'_>,
+    notices: String,
     verbose: bool,
     wiring: &[u8],
     fault: &TextsFault,
@@ -69,10 +87,11 @@ fn fault_told(
     ensures status { IfOk result (λ told. told.status ≡ status_of (Err (Fault fault.now))) }
     ensures out { IfOk result (λ told. string_bytes told.out ≡ out_of (Err (Fault fault.now))) }
     ensures err { IfOk result
-        (λ told. IsError verbose files.now (Err (Fault fault.now)) (string_bytes told.err)) }
+        (λ told. IsError (string_bytes notices) verbose files.now (Err (Fault fault.now))
+        (string_bytes told.err)) }
 {
     match fault {
-        TextsFault::Check(refused) => refusal(alloc, verbose, refused),
+        TextsFault::Check(refused) => refusal(alloc, notices, verbose, refused),
         TextsFault::Defs(fault) => defs_fault_told(alloc, &files.system, *fault),
         TextsFault::Wiring(fault) => wiring_fault_told(alloc, &files.system, wiring, *fault),
         TextsFault::Policy(fault) => {
@@ -86,11 +105,26 @@ fn fault_told(
     }
 }
 
-/// What is told of the checker's answer, over the bytes of a wiring. Where more is asked for, it is
-/// told what to do with a certificate of another wiring. Want of memory is no file's fault.
+/// What is told of a yes, with these notices.
+fn yes(alloc: Global, notices: String) -> Result<Told, AllocError>
+    ensures status { IfOk result (λ told. told.status ≡ 0) }
+    ensures out { IfOk result (λ told. string_bytes told.out ≡ codes "YES\n") }
+    ensures err { IfOk result (λ told. string_bytes told.err ≡ string_bytes notices) }
+{
+    Ok(Told {
+        out: String::from_str(alloc, "YES\n")?,
+        err: notices,
+        status: 0,
+    })
+}
+
+/// What is told of the checker's answer, over the bytes of a wiring, with these notices of a yes
+/// and of a refusal. If more is asked for, it is told what to do with a certificate of another
+/// wiring. Want of memory is no file's fault.
 pub fn verdict(
     alloc: Global,
     files: &CheckFiles<'_>,
+    notices: String,
     verbose: bool,
     wiring: &[u8],
     answer: &Result<Confined, OrMemory<TextsFault>>,
@@ -98,11 +132,12 @@ pub fn verdict(
     ensures status { IfOk result (λ told. told.status ≡ status_of answer.now) }
     ensures out { IfOk result (λ told. string_bytes told.out ≡ out_of answer.now) }
     ensures err { IfOk result
-        (λ told. IsError verbose files.now answer.now (string_bytes told.err)) }
+        (λ told. IsError (string_bytes notices) verbose files.now answer.now
+        (string_bytes told.err)) }
 {
     match answer {
-        Ok(_) => Ok(said(alloc, String::from_str(alloc, "YES\n")?, 0)),
-        Err(OrMemory::Fault(fault)) => fault_told(alloc, files, verbose, wiring, fault),
+        Ok(_) => yes(alloc, notices),
+        Err(OrMemory::Fault(fault)) => fault_told(alloc, files, notices, verbose, wiring, fault),
         Err(OrMemory::Memory) => memory(alloc),
     }
 }

@@ -2,12 +2,12 @@
 
 ghost use Rattle.std.specs.Prelude.{◌≡◌, ◌≤◌, ◌+◌, [], ◌++◌, IfOk, codes, decimal, length};
 ghost use Rattle.std.specs.Prelude.{string_bytes, string_capacity, string_len};
-ghost use Rattle.mrc_command.specs.Lines.{fault_line};
+ghost use Rattle.mrc_command.specs.Lines.{fault_line, shown};
 ghost use Rattle.mrc_program.specs.Told.{UnreadTold};
 ghost use Rattle.mrc_program.specs.Cutting.{refusal_line};
 
 use mrc_base::OrMemory;
-use mrc_command::{Told, fault_of, memory};
+use mrc_command::{Told, fault_of, memory, push_shown, shown};
 use mrc_files::{ReadFault, Unread, WriteFault};
 use std::alloc::{AllocError, Global};
 
@@ -15,9 +15,10 @@ use std::alloc::{AllocError, Global};
 pub fn room_for_line(alloc: Global, file: &str) -> Result<String, AllocError>
     ensures bytes { IfOk result (λ line. string_bytes line ≡ []) }
     ensures len { IfOk result (λ line. string_len line ≡ 0) }
-    ensures room { IfOk result (λ line. length file.now + 66 ≤ string_capacity line) }
+    ensures room { IfOk result (λ line. length (shown file.now) + 66 ≤ string_capacity line) }
 {
-    String::with_capacity(alloc, file.len() + 66)
+    let name = shown(alloc, file)?;
+    String::with_capacity(alloc, name.as_str().len() + 66)
 }
 
 /// Adds a text to one that has room for it.
@@ -30,15 +31,25 @@ fn push(line: &mut String, text: &str)
     let _ = line.push_str(text);
 }
 
+/// Adds a file's name, as it is shown, to a text that has room for it.
+fn push_name(line: &mut String, file: &str)
+    requires { string_len line.old + length (shown file.now) ≤ string_capacity line.old }
+    ensures bytes { string_bytes line.new ≡ string_bytes line.old ++ shown file.now }
+    ensures len { string_len line.new ≡ string_len line.old + length (shown file.now) }
+    ensures room { string_capacity line.old ≤ string_capacity line.new }
+{
+    let _ = push_shown(line, file);
+}
+
 /// Adds the line of a file that took so many bytes and then no more to a text that has room for it.
 fn add_failed(text: &mut String, file: &str, written: usize)
-    requires { string_len text.old + (length file.now + 66) ≤ string_capacity text.old }
+    requires { string_len text.old + (length (shown file.now) + 66) ≤ string_capacity text.old }
     ensures { string_bytes text.new ≡ string_bytes text.old
         ++ fault_line file.now (codes "WriteFailed " ++ decimal written) }
 {
     let mut digits = itoa::Buffer::new();
     push(text, "machcheck: ");
-    push(text, file);
+    push_name(text, file);
     push(text, ": WriteFailed ");
     push(text, digits.format(written));
     push(text, "\n");
@@ -47,7 +58,7 @@ fn add_failed(text: &mut String, file: &str, written: usize)
 /// Adds the line of a file whose writing was refused to a text that has room for it. Want of memory
 /// is no file's fault.
 pub fn add_refusal(text: &mut String, file: &str, refusal: &OrMemory<WriteFault>)
-    requires { string_len text.old + (length file.now + 66) ≤ string_capacity text.old }
+    requires { string_len text.old + (length (shown file.now) + 66) ≤ string_capacity text.old }
     ensures { string_bytes text.new
         ≡ string_bytes text.old ++ refusal_line file.now refusal.now }
 {
@@ -62,7 +73,7 @@ pub fn add_refusal(text: &mut String, file: &str, refusal: &OrMemory<WriteFault>
 pub fn write_failed(alloc: Global, line: String, file: &str, written: usize) -> Told
     requires empty { string_bytes line ≡ [] }
     requires len { string_len line ≡ 0 }
-    requires room { length file.now + 66 ≤ string_capacity line }
+    requires room { length (shown file.now) + 66 ≤ string_capacity line }
     ensures status { result.status ≡ 2 }
     ensures out { string_bytes result.out ≡ [] }
     ensures err { string_bytes result.err

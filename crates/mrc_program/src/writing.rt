@@ -4,13 +4,14 @@ ghost use Rattle.std.specs.Prelude.{◌≡◌, ◌≤◌, ◌⊎◌, ◌+◌, []
 ghost use Rattle.std.specs.Prelude.{codes};
 ghost use Rattle.std.specs.Prelude.{string_bytes, string_capacity, string_len};
 ghost use Rattle.std.specs.List.{All};
+ghost use Rattle.mrc_command.specs.Lines.{shown};
 ghost use Rattle.mrc_program.specs.Cutting.{writing_of, AreWritten, IsStopped, refusal_line};
 ghost use Rattle.mrc_program.specs.Cutting.{HasRoom, ToldWritings, ToldRefusal};
 
 use crate::cuts::{NamedCut, name_of};
 use crate::told::add_refusal;
 use mrc_base::OrMemory;
-use mrc_command::Told;
+use mrc_command::{Told, shown};
 use mrc_files::{Folder, WriteFault};
 use std::alloc::{AllocError, Global};
 use std::marker::Model;
@@ -72,13 +73,18 @@ pub fn writings_of<'c>(
 }
 
 /// Gives a text room for the line of whichever of these files.
-pub fn make_room(text: &mut String, writings: &[Writing<'_>]) -> Result<(), AllocError>
+pub fn make_room(
+    alloc: Global,
+    text: &mut String,
+    writings: &[Writing<'_>],
+) -> Result<(), AllocError>
     ensures bytes { string_bytes text.new ≡ string_bytes text.old }
     ensures room { OnOk result (All (HasRoom (string_len text.new) (string_capacity text.new))
         writings.now) }
 {
     for writing in writings {
-        text.reserve(writing.path.as_str().len() + 66)?;
+        let name = shown(alloc, writing.path.as_str())?;
+        text.reserve(name.as_str().len() + 66)?;
     }
     Ok(())
 }
@@ -108,7 +114,8 @@ fn write_each<'w, F: Folder>(
 /// A text, and behind it the line of the file whose writing was refused. No memory is needed, so
 /// what files are left with is told.
 fn stopped_told(alloc: Global, text: String, stopped: &Stopped<'_>) -> Told
-    requires room { string_len text + (length stopped.now.path.now + 66) ≤ string_capacity text }
+    requires room { string_len text + (length (shown stopped.now.path.now) + 66)
+        ≤ string_capacity text }
     ensures status { result.status ≡ 2 }
     ensures out { string_bytes result.out ≡ [] }
     ensures err { string_bytes result.err
