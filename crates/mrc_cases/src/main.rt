@@ -26,6 +26,8 @@
 //! - `name`: the name that a word spells, and its copy
 //! - `resolved`: a question, MIG texts with `&` between them, a wiring, and of what it is asked,
 //!   with `|` between them: the answer
+//! - `prefixes`, a blank and one of these words: the fault of each prefix of the part that has `~`
+//!   before it and behind it, or `ok`, each with the numbers of bytes for which it comes
 //!
 //! Any other line is printed as it is.
 #![tactic(auto)]
@@ -40,6 +42,7 @@ mod judging;
 mod messages;
 mod numbers;
 mod policies;
+mod prefixes;
 mod repeats;
 mod replays;
 mod resolved;
@@ -52,6 +55,34 @@ use messages::bytes_of;
 use std::alloc::Global;
 use std::io;
 
+/// What is said of a text by the word of its case; `other` where there is no such word.
+fn answer(alloc: Global, kind: &str, text: &str, other: &str) -> Result<String> {
+    match kind {
+        "marks" => tokens::marks(alloc, text),
+        "tokens" => tokens::tokens(alloc, text),
+        "symbols" => tokens::symbols(alloc, text),
+        "basic" => tokens::basic(alloc, text),
+        "value" => tokens::value(alloc, text),
+        "forms" => forms::forms(alloc, text.as_bytes()),
+        "names" => forms::names(alloc, text.as_bytes()),
+        "cut" => cuts::cut_forms(alloc, text),
+        "rest" => cuts::cut_lines(alloc, text),
+        "defs" => forms::defs(alloc, text),
+        "disposition" => numbers::disposition(alloc, text),
+        "judge" => judging::judged(alloc, text),
+        "replay" => replays::events(alloc, text),
+        "message" => messages::written(alloc, text),
+        "certificate" => certificates::written(alloc, text),
+        "wiring" => wirings::wiring(alloc, text.as_bytes()),
+        "wiring_bytes" => wirings::wiring(alloc, bytes_of(alloc, text)?.as_slice()),
+        "policy" => policies::policy(alloc, text.as_bytes()),
+        "policy_bytes" => policies::policy(alloc, bytes_of(alloc, text)?.as_slice()),
+        "name" => policies::name(alloc, text),
+        "resolved" => resolved::resolved(alloc, text),
+        _ => Ok(String::from_str(alloc, other)?),
+    }
+}
+
 /// What is said of a line.
 fn said(alloc: Global, line: &str) -> Result<String> {
     let Some((kind, text)) = line.split_once(':') else {
@@ -59,29 +90,9 @@ fn said(alloc: Global, line: &str) -> Result<String> {
     };
     let text = repeats::expanded(alloc, text)?;
     let text = escapes::unescaped(alloc, text.as_str())?;
-    match kind {
-        "marks" => tokens::marks(alloc, text.as_str()),
-        "tokens" => tokens::tokens(alloc, text.as_str()),
-        "symbols" => tokens::symbols(alloc, text.as_str()),
-        "basic" => tokens::basic(alloc, text.as_str()),
-        "value" => tokens::value(alloc, text.as_str()),
-        "forms" => forms::forms(alloc, text.as_str().as_bytes()),
-        "names" => forms::names(alloc, text.as_str().as_bytes()),
-        "cut" => cuts::cut_forms(alloc, text.as_str()),
-        "rest" => cuts::cut_lines(alloc, text.as_str()),
-        "defs" => forms::defs(alloc, text.as_str()),
-        "disposition" => numbers::disposition(alloc, text.as_str()),
-        "judge" => judging::judged(alloc, text.as_str()),
-        "replay" => replays::events(alloc, text.as_str()),
-        "message" => messages::written(alloc, text.as_str()),
-        "certificate" => certificates::written(alloc, text.as_str()),
-        "wiring" => wirings::wiring(alloc, text.as_str().as_bytes()),
-        "wiring_bytes" => wirings::wiring(alloc, bytes_of(alloc, text.as_str())?.as_slice()),
-        "policy" => policies::policy(alloc, text.as_str().as_bytes()),
-        "policy_bytes" => policies::policy(alloc, bytes_of(alloc, text.as_str())?.as_slice()),
-        "name" => policies::name(alloc, text.as_str()),
-        "resolved" => resolved::resolved(alloc, text.as_str()),
-        _ => Ok(String::from_str(alloc, line)?),
+    match kind.strip_prefix("prefixes ") {
+        Some(kind) => prefixes::prefixes(alloc, kind, text.as_str()),
+        None => answer(alloc, kind, text.as_str(), line),
     }
 }
 

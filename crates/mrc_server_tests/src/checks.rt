@@ -63,6 +63,11 @@ fn folder(rt: &HostRuntime, name: &str) -> Result<String, Fail> {
     Ok(path)
 }
 
+/// Takes the folder of a test away, with its files.
+fn gone(rt: &HostRuntime, folder: &str) -> Result<(), Fail> {
+    Ok(fs::remove_dir_all(rt, folder)?)
+}
+
 /// The name of a file of the folder.
 fn file(alloc: Global, folder: &str, name: &str) -> Result<String, Fail> {
     Ok(format!(in alloc; "{folder}/{name}")?)
@@ -152,7 +157,8 @@ fn yes(rt: HostRuntime) -> Result<(), Fail> {
         certificate: &NO_TASKS,
     };
     tells(&rt, &rt, folder.as_str(), &alone(&ALONE), "YES\n", 0)?;
-    tells(&rt, &rt, folder.as_str(), &nobody, "YES\n", 0)
+    tells(&rt, &rt, folder.as_str(), &nobody, "YES\n", 0)?;
+    gone(&rt, folder.as_str())
 }
 
 #[test]
@@ -161,7 +167,8 @@ fn no(rt: HostRuntime) -> Result<(), Fail> {
     let missing = certificate(rt.alloc(), 1, 2, &[(0, 1, 0), (0, 1, 1), (0, 1, 2)])?;
     let missing = alone(missing.as_slice());
     let want = "NO missing hold a task:a send\n";
-    tells(&rt, &rt, folder.as_str(), &missing, want, 1)
+    tells(&rt, &rt, folder.as_str(), &missing, want, 1)?;
+    gone(&rt, folder.as_str())
 }
 
 #[test]
@@ -170,7 +177,8 @@ fn no_by_its_numbers(rt: HostRuntime) -> Result<(), Fail> {
     let holds = [(0, 0, 0), (0, 1, 0), (0, 1, 1), (0, 1, 2)];
     let counts = certificate(rt.alloc(), 1, 3, &holds)?;
     let counts = alone(counts.as_slice());
-    tells(&rt, &rt, folder.as_str(), &counts, "NO counts\n", 1)
+    tells(&rt, &rt, folder.as_str(), &counts, "NO counts\n", 1)?;
+    gone(&rt, folder.as_str())
 }
 
 const LEAST: [(u8, u8, u8); 16] = [
@@ -216,7 +224,8 @@ fn a_kernel_port_opens_the_way_back(rt: HostRuntime) -> Result<(), Fail> {
         &least,
         "NO forbidden line 2\n",
         1,
-    )
+    )?;
+    gone(&rt, folder.as_str())
 }
 
 #[test]
@@ -225,7 +234,8 @@ fn a_kernel_port_opens_the_way_to_births(rt: HostRuntime) -> Result<(), Fail> {
     let nine = certificate(rt.alloc(), 2, 4, &NINE)?;
     let nine = loader(nine.as_slice());
     let want = "NO not closed K7 hold l births:f send\n";
-    tells(&rt, &rt, folder.as_str(), &nine, want, 1)
+    tells(&rt, &rt, folder.as_str(), &nine, want, 1)?;
+    gone(&rt, folder.as_str())
 }
 
 /// A check of these texts, in this folder, tells a fault of this file.
@@ -257,7 +267,7 @@ fn tell_faults(
     for (texts, file, fault) in table {
         tells_fault(rt, host, folder.as_str(), texts, file, fault)?;
     }
-    Ok(())
+    gone(rt, folder.as_str())
 }
 
 /// A wiring with nothing forbidden, and the certificate of a task alone.
@@ -345,7 +355,8 @@ fn files_that_cannot_be_read(rt: HostRuntime) -> Result<(), Fail> {
     tells_unread(&rt, &rt, folder.as_str())?;
     let certificate = file(rt.alloc(), folder.as_str(), "c")?;
     fs::create_dir_all(&rt, certificate.as_str())?;
-    tells_unread(&rt, &rt, folder.as_str())
+    tells_unread(&rt, &rt, folder.as_str())?;
+    gone(&rt, folder.as_str())
 }
 
 /// A writer that takes some bytes, one a call, and then fails.
@@ -399,7 +410,7 @@ fn standard_output_that_fails(rt: HostRuntime) -> Result<(), Fail> {
     let (err, status) = ran_failing(&rt, &rt, words.as_slice());
     assert_eq!(rt; err.as_slice(), b"machcheck: -: WriteFailed 2\n".as_slice());
     assert_eq!(rt; status, 2);
-    Ok(())
+    gone(&rt, folder.as_str())
 }
 
 const CHECK: [&str; 8] = [

@@ -39,6 +39,8 @@ mod told;
 #[cfg(test)]
 mod two_tasks;
 #[cfg(test)]
+mod vectors;
+#[cfg(test)]
 mod waits;
 #[cfg(test)]
 mod words;

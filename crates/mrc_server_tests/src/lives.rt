@@ -3,6 +3,9 @@
 use crate::file_server::{CAREFUL, FILE_SERVER, NO_KERNEL_PORT, OF_CAREFUL};
 use crate::shelf::{of_shelf, shelf_of};
 use crate::told::{Outcome, wants};
+use mrc_command::{CheckFiles, LiveFiles, SystemFiles, Told};
+use mrc_program::live_files;
+use std::alloc::Global;
 use std::process::Abort;
 use std::sync::Wait;
 use std::test::Fail;
@@ -98,6 +101,47 @@ fn lives_that_halt(rt: HostRuntime) -> Result<(), Fail> {
     let out = "0 app name 3\nend events 1 ports 4\n";
     let err = "machcheck: s: AllWait 1 4\n";
     lives_as(&rt, NO_KERNEL_PORT, script.as_slice(), out, err, 2)
+}
+
+/// The files of a `live` on the shelf, by their names.
+fn names(alloc: Global) -> Result<LiveFiles<'static>, Fail> {
+    let defs = vec![in alloc; "d"]?;
+    let system = SystemFiles { defs, wiring: "w" };
+    let check = CheckFiles {
+        system,
+        policy: "p",
+        certificate: "c",
+    };
+    Ok(LiveFiles { check, script: "s" })
+}
+
+/// What is told of a script of the file server, whose journal has one event at most.
+fn once(rt: &(impl AllocGlobal + Threads + Wait + Sync), script: &[u8]) -> Result<Told, Fail> {
+    let files = [
+        Ok(FILE_SERVER.as_bytes()),
+        Ok(CAREFUL.as_bytes()),
+        Ok(NO_KERNEL_PORT.as_bytes()),
+        Ok(OF_CAREFUL.as_slice()),
+        Ok(script),
+    ];
+    let shelf = shelf_of(rt.alloc(), files);
+    Ok(live_files(rt, &shelf, rt.alloc(), &names(rt.alloc())?, 1)?)
+}
+
+// What the client sends is the only event; the server wakes by it.
+const SENDS_ONCE: &str = "fs wait 2 92
+app send 13000000 5c000000 02000000 00000000 00000000 b80b0000 0c084010 \
+00000000000000000000000000000000 00000000000000000000000000000000 \
+00000000000000000000000000000000 00000000000000000000000000000000
+";
+
+#[test]
+fn a_live_with_a_full_journal(rt: HostRuntime) -> Result<(), Fail> {
+    let told = once(&rt, SENDS_ONCE.as_bytes())?;
+    assert_eq!(rt; told.err.as_str(), "machcheck: s: JournalFull\n");
+    assert_eq!(rt; told.out.as_str(), "");
+    assert_eq!(rt; told.status, 2);
+    Ok(())
 }
 
 // The certificate is judged before the script.

@@ -1,6 +1,6 @@
 //! That a waiter wakes, and that a wait is stopped.
 
-ghost use Rattle.std.specs.Prelude.{◌≡◌};
+ghost use Rattle.std.specs.Prelude.{◌≡◌, ◌≤◌};
 
 use crate::server::{TO_2, allocate, events, many, opened, send, told, told_waiting, two_seats};
 use mrc_live::{Live, NotReceived, Seat};
@@ -14,11 +14,26 @@ use std::test::Fail;
 use std::thread;
 use std::thread::Threads;
 
-/// Waits for the message that another thread sends.
-fn waiter<L: Ledger, R: Wait>(rt: &R, live: &Live<L>, seat: Seat<L>) -> (Seat<L>, bool) {
+/// What a wait ended with.
+#[derive(Clone, Copy, Debug, PartialEq, Eq)]
+enum End {
+    /// A message came.
+    Message,
+    /// The journal was full.
+    JournalFull,
+    /// Something else.
+    Other,
+}
+
+/// What the wait for the message of another thread ends with.
+fn waiter<L: Ledger, R: Wait>(rt: &R, live: &Live<L>, seat: Seat<L>) -> (Seat<L>, End) {
     let mut seat = seat;
-    let came = matches!(told_waiting(rt, live, &mut seat, 2), Ok(Reply::Message(_)));
-    (seat, came)
+    let end = match told_waiting(rt, live, &mut seat, 2) {
+        Ok(Reply::Message(_)) => End::Message,
+        Err(NotReceived::JournalFull) => End::JournalFull,
+        _ => End::Other,
+    };
+    (seat, end)
 }
 
 /// Makes 1,000 calls, and sends then, so that the other thread has had time to wait.
@@ -28,14 +43,14 @@ fn sender<L: Ledger, R: Wait>(rt: &R, live: &Live<L>, seat: Seat<L>, sent: Call)
     seat
 }
 
-/// One thread waits for the message of another. Whether it came.
+/// One thread waits for the message of another. What its wait ended with.
 fn woken<L: Ledger + Send + Sync, R: Threads + Wait + Sync>(
     rt: &R,
     live: &Live<L>,
     one: Seat<L>,
     other: Seat<L>,
     sent: Call,
-) -> ((Seat<L>, bool), Seat<L>) {
+) -> ((Seat<L>, End), Seat<L>) {
     thread::join(
         rt,
         move || waiter(rt, live, one),
@@ -43,36 +58,46 @@ fn woken<L: Ledger + Send + Sync, R: Threads + Wait + Sync>(
     )
 }
 
-/// The same, after the second seat has made a port. Whether it came, and the number of events.
+/// The same, after the second seat has made a port; and the number of events.
 fn wake<L: Ledger + Send + Sync, R: Threads + Wait + Sync>(
     rt: &R,
     alloc: Global,
     live: Live<L>,
-) -> Result<(bool, usize), AllocError> {
+) -> Result<(End, usize), AllocError> {
     let (one, mut other) = two_seats(rt, &live)?;
     let _ = told(rt, &live, &mut other, allocate());
     let sent = send(alloc, &other, &TO_2)?;
-    let ((one, came), other) = woken(rt, &live, one, other, sent);
+    let ((one, end), other) = woken(rt, &live, one, other, sent);
     let seats = vec![in alloc; one, other]?;
-    Ok((came, events(live, seats)))
+    Ok((end, events(live, seats)))
 }
 
-/// The same from its start.
+/// The same from its start, with a journal of so many events.
 fn wakes<L: Ledger + Send + Sync, R: Threads + Wait + Sync>(
     rt: &R,
     alloc: Global,
+    limit: usize,
     blank: Blank,
-) -> Result<(bool, usize), AllocError>
+) -> Result<(End, usize), AllocError>
+    requires limit { (1 ≤ limit) × (limit ≤ 1000000) }
     requires name { blank.name ≡ L.name }
     requires parts { (blank.parts ≡ L.parts) × (L.parts ≡ 257) }
 {
-    wake(rt, alloc, opened::<L, _>(rt, alloc, 2000, blank)?)
+    wake(rt, alloc, opened::<L, _>(rt, alloc, limit, blank)?)
 }
 
 #[test]
 fn a_waiting_receive_wakes(rt: HostRuntime) -> Result<(), Fail> {
-    let woken = wakes::<Brand, _>(&rt, rt.alloc(), Blank::new(257))?;
-    assert_eq!(rt; woken, (true, 1003));
+    let woken = wakes::<Brand, _>(&rt, rt.alloc(), 2000, Blank::new(257))?;
+    assert_eq!(rt; woken, (End::Message, 1003));
+    Ok(())
+}
+
+// The message that the thread waits for is the last event of the journal.
+#[test]
+fn a_waiting_receive_wakes_to_a_full_journal(rt: HostRuntime) -> Result<(), Fail> {
+    let woken = wakes::<Brand, _>(&rt, rt.alloc(), 1002, Blank::new(257))?;
+    assert_eq!(rt; woken, (End::JournalFull, 1002));
     Ok(())
 }
 

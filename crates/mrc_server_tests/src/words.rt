@@ -141,11 +141,12 @@ fn help_of_lives(rt: HostRuntime) -> Result<(), Fail> {
     tells_help(&rt, &rt, &["machcheck", "live", "--help"], &OF_LIVES)
 }
 
-const OF_MIGS: [&str; 8] = [
+const OF_MIGS: [&str; 9] = [
     "Cuts MIG files of a system to files that can be read",
     "Usage: machcheck mig [OPTIONS] --out <FOLDER> <FILE>...",
     "--strict",
-    "`FILE:LINE: routine NAME (id N) left out: WORD`",
+    "-I FOLDER for a folder of included files, -D NAME[=TEXT] and -U NAME for macros",
+    "`FILE:LINE: routine NAME (id N) left out: WORD, carries ARGUMENT (TYPE), ..`",
     "  0  the files were written",
     "  2  no routine is read",
     "SameName",
