@@ -1,0 +1,117 @@
+# Completion of machcheck for bash.
+_machcheck() {
+    local word=${COMP_WORDS[COMP_CWORD]} before=${COMP_WORDS[COMP_CWORD - 1]}
+    local command= options= kind=files i
+    if [[ $word == = ]]; then
+        word=
+    elif [[ $before == = ]]; then
+        before=${COMP_WORDS[COMP_CWORD - 2]}
+    fi
+    for ((i = 1; i < COMP_CWORD; i++)); do
+        if [[ ${COMP_WORDS[i]} != -* ]]; then
+            command=${COMP_WORDS[i]}
+            break
+        fi
+    done
+    COMPREPLY=()
+    case $command in
+    '') kind=words options='verify mend check make explain facts graph replay live mig help --help --version' ;;
+    help) kind=words options='verify mend check make explain facts graph replay live mig ' ;;
+    verify)
+        options='--wiring --policy --tree --help'
+        case $before in
+        --wiring) kind=file ;;
+        --policy) kind=file ;;
+        esac
+        ;;
+    mend)
+        options='--wiring --policy --most --help'
+        case $before in
+        --wiring) kind=file ;;
+        --policy) kind=file ;;
+        --most) kind=nothing ;;
+        esac
+        ;;
+    check)
+        options='--wiring --policy --cert --verbose --help'
+        case $before in
+        --wiring) kind=file ;;
+        --policy) kind=file ;;
+        --cert) kind=file ;;
+        esac
+        ;;
+    make)
+        options='--wiring --out --workers --help'
+        case $before in
+        --wiring) kind=file ;;
+        --out) kind=file ;;
+        --workers) kind=nothing ;;
+        esac
+        ;;
+    explain)
+        options='--wiring --fact --by --help'
+        case $before in
+        --wiring) kind=file ;;
+        --fact) kind=nothing ;;
+        esac
+        ;;
+    facts)
+        options='--wiring --cert --task --class --right --help'
+        case $before in
+        --wiring) kind=file ;;
+        --cert) kind=file ;;
+        --task) kind=nothing ;;
+        --class) kind=nothing ;;
+        --right) kind=nothing ;;
+        esac
+        ;;
+    graph)
+        options='--wiring --cert --policy --fact --help'
+        case $before in
+        --wiring) kind=file ;;
+        --cert) kind=file ;;
+        --policy) kind=file ;;
+        --fact) kind=nothing ;;
+        esac
+        ;;
+    replay)
+        options='--wiring --script --help'
+        case $before in
+        --wiring) kind=file ;;
+        --script) kind=file ;;
+        esac
+        ;;
+    live)
+        options='--wiring --policy --cert --script --help'
+        case $before in
+        --wiring) kind=file ;;
+        --policy) kind=file ;;
+        --cert) kind=file ;;
+        --script) kind=file ;;
+        esac
+        ;;
+    mig)
+        options='--out --strict --strict-rights -I -D -U --help'
+        case $before in
+        --out) kind=folder ;;
+        -I) kind=folder ;;
+        -D) kind=nothing ;;
+        -U) kind=nothing ;;
+        esac
+        ;;
+    *) return ;;
+    esac
+    case $kind in
+    file) compopt -o default ;;
+    folder) compopt -o dirnames ;;
+    files)
+        if [[ $word == -* ]]; then
+            mapfile -t COMPREPLY < <(compgen -W "$options" -- "$word")
+        else
+            compopt -o filenames -o plusdirs
+            mapfile -t COMPREPLY < <(compgen -f -X '!*.defs' -- "$word")
+        fi
+        ;;
+    words) mapfile -t COMPREPLY < <(compgen -W "$options" -- "$word") ;;
+    esac
+} && complete -F _machcheck machcheck

@@ -1,0 +1,118 @@
+#compdef machcheck
+# Completion of machcheck for zsh.
+_machcheck() {
+    local context state state_descr line
+    local -A opt_args
+    local -a commands
+    commands=(
+        'verify:Says whether a forbidden right can be obtained, and how'
+        'mend:Looks for changes of a wiring after which no forbidden right can be obtained'
+        'check:Says whether a certificate shows that no forbidden right can be obtained'
+        'make:Makes the least certificate of a wiring'
+        'explain:Shows how a fact comes to be in the least certificate of a wiring'
+        'facts:Prints the facts of a certificate, or of the least one of a wiring'
+        'graph:Draws the facts of a certificate, or of the least one of a wiring'
+        'replay:Runs a script of calls, and prints the reply to each'
+        'live:Checks, and runs a script of calls by tasks as threads'
+        'mig:Cuts MIG files of a system to files that can be read'
+        'help:Print help of a command'
+    )
+    _arguments -C '(- *)'{-h,--help}'[Print help]' '(- *)'{-V,--version}'[Print version]' \
+        '1:command:->command' '*::word:->words'
+    case $state in
+    command) _describe -t commands command commands ;;
+    words)
+        case $words[1] in
+        help) _describe -t commands command commands ;;
+        verify)
+            _arguments -s \
+                '--wiring=[Tasks, ports and their first rights]:FILE:_files' \
+                '--policy=[The forbidden holdings]:FILE:_files' \
+                '--tree[Prints the steps from the fact down]' \
+                '(- *)'{-h,--help}'[Print help]' \
+                '*:MIG file:_files -g "*.defs"'
+            ;;
+        mend)
+            _arguments -s \
+                '--wiring=[Tasks, ports and their first rights]:FILE:_files' \
+                '--policy=[The forbidden holdings]:FILE:_files' \
+                '--most=[How many mends are told, 1 to 1000000\: 10 where it is not given]:N:' \
+                '(- *)'{-h,--help}'[Print help]' \
+                '*:MIG file:_files -g "*.defs"'
+            ;;
+        check)
+            _arguments -s \
+                '--wiring=[Tasks, ports and their first rights]:FILE:_files' \
+                '--policy=[The forbidden holdings]:FILE:_files' \
+                '--cert=[The certificate\: who may come to hold what]:FILE:_files' \
+                '--verbose[Says what to do with a certificate of another wiring]' \
+                '(- *)'{-h,--help}'[Print help]' \
+                '*:MIG file:_files -g "*.defs"'
+            ;;
+        make)
+            _arguments -s \
+                '--wiring=[Tasks, ports and their first rights]:FILE:_files' \
+                '--out=[The certificate that is written]:FILE:_files' \
+                '--workers=[How many threads make it, 1 to 64\: 4 where it is not given]:N:' \
+                '(- *)'{-h,--help}'[Print help]' \
+                '*:MIG file:_files -g "*.defs"'
+            ;;
+        explain)
+            _arguments -s \
+                '--wiring=[Tasks, ports and their first rights]:FILE:_files' \
+                '--fact=[The fact, as it is printed in a NO]:FACT:' \
+                '--by[Tells where the steps come from in the files]' \
+                '(- *)'{-h,--help}'[Print help]' \
+                '*:MIG file:_files -g "*.defs"'
+            ;;
+        facts)
+            _arguments -s \
+                '--wiring=[Tasks, ports and their first rights]:FILE:_files' \
+                '--cert=[The certificate\: the least one where it is not given]:FILE:_files' \
+                '--task=[Holdings of this task alone]:TASK:' \
+                '--class=[Facts that name this class alone]:CLASS:' \
+                '--right=[Facts of this right alone]:RIGHT:' \
+                '(- *)'{-h,--help}'[Print help]' \
+                '*:MIG file:_files -g "*.defs"'
+            ;;
+        graph)
+            _arguments -s \
+                '--wiring=[Tasks, ports and their first rights]:FILE:_files' \
+                '--cert=[The certificate\: the least one where it is not given]:FILE:_files' \
+                '--policy=[The forbidden holdings, which are drawn red]:FILE:_files' \
+                '--fact=[Draws the steps to this fact alone]:FACT:' \
+                '(- *)'{-h,--help}'[Print help]' \
+                '*:MIG file:_files -g "*.defs"'
+            ;;
+        replay)
+            _arguments -s \
+                '--wiring=[Tasks, ports and their first rights]:FILE:_files' \
+                '--script=[The calls, one a line]:FILE:_files' \
+                '(- *)'{-h,--help}'[Print help]' \
+                '*:MIG file:_files -g "*.defs"'
+            ;;
+        live)
+            _arguments -s \
+                '--wiring=[Tasks, ports and their first rights]:FILE:_files' \
+                '--policy=[The forbidden holdings]:FILE:_files' \
+                '--cert=[The certificate\: who may come to hold what]:FILE:_files' \
+                '--script=[The calls, one a line]:FILE:_files' \
+                '(- *)'{-h,--help}'[Print help]' \
+                '*:MIG file:_files -g "*.defs"'
+            ;;
+        mig)
+            _arguments -s \
+                '--out=[The folder of the files that are written]:FOLDER:_files -/' \
+                '--strict[Writes nothing where a routine is left out]' \
+                '--strict-rights[The same as --strict=rights\: writes nothing if one that carries rights is left out]' \
+                '-I+[A folder in which files that are included are sought]:FOLDER:_files -/' \
+                '-D+[A macro that is defined, as NAME or NAME=TEXT]:MACRO:' \
+                '-U+[A macro that is not defined]:NAME:' \
+                '(- *)'{-h,--help}'[Print help]' \
+                '*:MIG file:_files -g "*.defs"'
+            ;;
+        esac
+        ;;
+    esac
+}
+_machcheck "$@"
