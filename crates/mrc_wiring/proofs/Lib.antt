@@ -1,4 +1,5 @@
 pub mod Lines
+pub mod MarkLaws
 pub mod GivenLemmas
 pub mod NameLemmas
 pub mod BirthLaws

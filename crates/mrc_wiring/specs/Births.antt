@@ -1,5 +1,5 @@
--- The births of tasks by their kinds, as rows by ascending task and kind. This profile's own
--- choice.
+-- Believe. The births of tasks by their kinds, as rows by ascending task and kind. This profile's
+-- own choice.
 use Rattle.std.specs.Prelude.{ℕ, ◌<◌, ◌&&◌, ◌||◌, ◌==◌, Bool, nat_lt}
 use Rattle.std.specs.Prelude.{IsTrue}
 use Rattle.std.specs.Prelude.{List, [], ◌∷◌, ⊤, Some, None, is_some, unwrap_or}
@@ -33,7 +33,7 @@ has_said rows t kind = list_any (is_said t kind) rows
 abbrev pub new_row : ℕ → ℕ → BirthRow
 new_row t kind = record { task = t; kind = kind; accepts = None }
 
--- the same where a line says it
+-- the same if a line says it
 abbrev pub said_row : ℕ → ℕ → List LabelItem → BirthRow
 said_row t kind label = record { task = t; kind = kind; accepts = Some label }
 
@@ -46,7 +46,7 @@ put_row (row ∷ rows) t kind label =
     else if is_row t kind row then said_row t kind label ∷ rows
     else said_row t kind label ∷ row ∷ rows
 
--- what births accept: nothing where no line says it
+-- what births accept: nothing if no line says it
 abbrev pub of_row : BirthRow → List LabelItem
 of_row row = unwrap_or row.accepts []
 

@@ -1,5 +1,5 @@
--- What the lines of a policy mean over a wiring: the forbidden holdings, or the first fault. This
--- profile's own choice.
+-- Believe. What the lines of a policy mean over a wiring: the forbidden holdings, or the first
+-- fault. This profile's own choice.
 use Rattle.std.specs.Prelude.{◌≡◌, ℕ, List, [], ◌∷◌, map, Option, Result, Ok, Err, option_and_then}
 use Rattle.std.specs.Option.{ok_or}
 use Rattle.mrc_base.specs.declared.memory.OrMemory.{OrMemory}

@@ -1,4 +1,5 @@
--- When two items of a label clash, in words apart from how it is found. This profile's own choice.
+-- Law. When two items of a label clash, in words apart from how it is found. This profile's own
+-- choice.
 use Rattle.std.specs.Prelude.{◌↔◌, List, [], IsTrue}
 use Rattle.mrc_model.specs.declared.LabelItem.{LabelItem}
 use Rattle.mrc_wiring.specs.Table.{Table, wiring_of}

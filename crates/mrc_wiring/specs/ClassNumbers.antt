@@ -1,5 +1,5 @@
--- How classes of births are numbered, in words apart from how they are kept. This profile's own
--- choice.
+-- Law. How classes of births are numbered, in words apart from how they are kept. This profile's
+-- own choice.
 use Rattle.std.specs.Prelude.{◌≡◌, ℕ, ◌+◌, ◌<◌, ◌≤◌, ◌⊎◌, Some}
 use Rattle.mrc_model.specs.Wiring.{Wiring, classes, births_class, HasKindZero}
 use Rattle.mrc_wiring.specs.Table.{Table, IsTable, wiring_of}

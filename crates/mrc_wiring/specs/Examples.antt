@@ -1,4 +1,4 @@
--- A worked wiring: a file server and its client, over one interface.
+-- Worked. A wiring of a file server and its client, over one interface.
 use Rattle.std.specs.Prelude.{◌≡◌, ℕ, false, List, [], ◌∷◌, Option, Some, None, Result, Ok, Err}
 use Rattle.std.specs.Prelude.{refl, codes, length}
 use Rattle.mrc_base.specs.declared.Disp.TheVariants.{CopySend}
@@ -72,7 +72,7 @@ filing =
     ∷ line 6 (says.HoldPort (codes "app") held.Send (codes "root"))
     ∷ line 7 (says.Admit (codes "fsys") (codes "file_t") (Some (class.Births (codes "fs") 0))) ∷ []
 
--- the wiring that lines mean, where they mean one
+-- the wiring that lines mean, if they mean one
 abbrev wiring_said : Result Table ResolveFault → Option Wiring
 wiring_said (Ok table) = Some (wiring_of table)
 wiring_said (Err fault) = None
@@ -108,7 +108,7 @@ pub no_interface : resolved [] filing ≡ Err (UnknownName 4)
 unfolding add_task add_port place_port
 no_interface = refl
 
--- two interfaces of one name are told before any line
+-- two interfaces of one name are a fault before that of any line
 pub interface_twice : resolved (fsys ∷ fsys ∷ []) filing ≡ Err (TwiceNamed 0)
 interface_twice = refl
 
@@ -151,7 +151,7 @@ pub kind_twice :
 unfolding add_task add_births place_births put_row
 kind_twice = refl
 
--- files are what a makes of kind 2; a line behind says of kind 1 as well
+-- files are what a makes of kind 2; a later line says it of kind 1 also
 abbrev admitting : List (Line WiringSays)
 admitting =
     line 2 (says.Task (codes "a"))
@@ -159,7 +159,7 @@ admitting =
     ∷ line 4 (says.Admit (codes "fsys") (codes "file_t") (Some (class.Births (codes "a") 2)))
     ∷ line 5 (says.Births (codes "a") 1 []) ∷ []
 
--- which types admit which classes, where lines have a meaning
+-- which types admit which classes, if the lines have a meaning
 abbrev admits_said : Result Table ResolveFault → Option (List (ℕ × Option ℕ))
 admits_said (Ok table) =
     Some (admitted_of (length table.ports) (length table.names) table.births table.admits)

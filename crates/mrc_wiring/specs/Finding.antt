@@ -1,5 +1,5 @@
--- The forms of a label's items by their ids, and the types of their arguments. This profile's own
--- choice.
+-- Believe. The forms of a label's items by their ids, and the types of their arguments. This
+-- profile's own choice.
 use Rattle.std.specs.Prelude.{ℕ, ◌==◌, Bool, false, List, [], drop, find, map, slice_get, Option}
 use Rattle.std.specs.Prelude.{Some, None, option_and_then, unwrap_or}
 use Rattle.mrc_model.specs.CallSend.{first_sort}
@@ -32,7 +32,7 @@ abbrev pub typed_at : MessageKind → List Interface → ℕ → List (Option Fo
 typed_at kind interfaces s =
     unwrap_or (slice_get (typed_from kind (sorts_of interfaces) 0 interfaces) s) []
 
--- what stands at a place of these, if a form does
+-- the form at a place of these, if there is one
 abbrev pub placed : List (Option Form) → ℕ → Option Form
 placed forms place = option_and_then (λ o. o) (slice_get forms place)
 
@@ -46,8 +46,8 @@ abbrev pub is_there_of_routine : Option Form → Bool
 is_there_of_routine None = false
 is_there_of_routine (Some form) = is_of_routine form
 
--- the first of these forms that has the id, where the item of this place of the class's label
--- stands for them
+-- the first form that has the id, of those that the item at this place of the class's label
+-- stands for
 abbrev pub form_at : Wiring → ℕ → ℕ → ℕ → Option Form
 form_at W class place id =
     option_and_then (λ item. find (has_id id) (item_forms W item)) (slice_get (label W class) place)

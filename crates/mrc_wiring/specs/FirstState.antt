@@ -1,4 +1,4 @@
--- What is held in the first state of a wiring, by classes. This profile's own choice.
+-- Believe. What is held in the first state of a wiring, by classes. This profile's own choice.
 use Rattle.std.specs.Prelude.{◌≡◌, ◌↔◌, ℕ, List, Some}
 use Rattle.mrc_base.specs.declared.Fact.{Fact}
 use Rattle.mrc_base.specs.declared.Fact.TheVariants.{Hold}

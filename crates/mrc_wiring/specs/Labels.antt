@@ -1,4 +1,4 @@
--- What a class accepts, by the numbers of interfaces, and when two items of it clash. This
+-- Believe. What a class accepts, by the numbers of interfaces, and when two items of it clash. This
 -- profile's own choice.
 use Rattle.std.specs.Prelude.{◌≡◌, ℕ, ◌<◌, ◌==◌, ◌||◌, ◌++◌, Bool, false, List, [], ◌∷◌, map}
 use Rattle.std.specs.Prelude.{bytes_eq, position, slice_get, Option, Some, None, Result, Ok}
@@ -23,7 +23,7 @@ abbrev pub interface_number : List Interface → List ℕ → Option ℕ
 interface_number interfaces name =
     position (λ (interface : Interface). bytes_eq name interface.name) interfaces
 
--- an item, where it names an interface that is there
+-- an item, if it names an interface that is there
 abbrev pub item_said : List Interface → Item → Option LabelItem
 item_said interfaces (Request name) = option_map label.Request (interface_number interfaces name)
 item_said interfaces (Reply name) = option_map label.Reply (interface_number interfaces name)
@@ -37,7 +37,7 @@ label_said interfaces n (item ∷ items) = do
   others ← label_said interfaces n items
   Ok (first ∷ others)
 
--- the ids of this message of an interface, where it is there
+-- the ids of this message of an interface, if there is one
 abbrev pub ids_by : MessageKind → Option Interface → List ℕ
 ids_by kind None = []
 ids_by kind (Some interface) = map (λ (form : Form). form.id) (forms_by kind interface)

@@ -1,9 +1,11 @@
 pub mod Sorts
 pub mod SortPlaces
+pub mod Marks
 pub mod ModelForms
 pub mod Births
 pub mod RowPlaces
 pub mod Table
+pub mod Admitting
 pub mod FirstState
 pub mod Names
 pub mod Labels

@@ -1,5 +1,5 @@
--- The forms of interfaces, in the words of the definitions. What a form looks like is MIG's (Server
--- Writer's Guide).
+-- Believe. The forms of interfaces, in the words of the definitions. What a form looks like is
+-- MIG's (Server Writer's Guide).
 use Rattle.std.specs.Prelude.{ℕ, ◌+◌, ◌==◌, Bool, List, [], ◌∷◌, length, map, find, Option, Some}
 use Rattle.std.specs.Prelude.{None}
 use Rattle.std.specs.Option.{option_map}
@@ -15,7 +15,7 @@ use Rattle.mrc_model.specs.Wiring.{Shape, RequestForm, ReplyForm, Interface}
 use Rattle.mrc_model.specs.Wiring.{Form as ModelForm, OfRequest, OfReply}
 use Rattle.mrc_wiring.specs.Sorts.{Sort, sort_number}
 
--- the number of the type of a slot of the interface of this number; no type's where there is none
+-- the number of the type of a slot of the interface of this number; no type's if there is none
 abbrev pub slot_number : List Sort → ℕ → Option Slot → ℕ
 slot_number sorts s None = length sorts
 slot_number sorts s (Some slot) = sort_number sorts s slot.type_name

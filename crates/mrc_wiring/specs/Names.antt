@@ -1,5 +1,5 @@
--- The names of tasks, wired ports and classes. The printed form of a class is this profile's own
--- choice.
+-- Believe. The names of tasks, wired ports and classes. The printed form of a class is this
+-- profile's own choice.
 use Rattle.std.specs.Prelude.{◌≡◌, ℕ, ◌+◌, ◌-◌, ◌==◌, Bool, bytes_eq, nat_lt, codes, List, [], ◌∷◌}
 use Rattle.std.specs.Prelude.{length, Option, Some, None, IsTrue, if◌then◌else◌, position}
 use Rattle.std.specs.Prelude.{slice_get}
@@ -107,7 +107,7 @@ class_named table text =
 abbrev pub numbered : ClassKind → ℕ → NumberedClass
 numbered kind n = record { kind = kind; number = n }
 
--- the births of task t of this kind, where they are there
+-- the births of task t of this kind, if there are any
 abbrev pub births_said : List BirthRow → ℕ → ℕ → Option NumberedClass
 births_said births kind t =
     if has_row births t kind then Some (numbered (Births kind) t) else None

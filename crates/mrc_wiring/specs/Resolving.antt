@@ -1,5 +1,6 @@
--- What the lines of a wiring mean over interfaces: the table, or the first fault. Lines are taken
--- in their order; the list of interfaces comes before them, as line 0. This profile's own choice.
+-- Believe. The table that the lines of a wiring mean over interfaces, or the first fault. Lines are
+-- taken in their order; the list of interfaces comes before them, as line 0. This profile's own
+-- choice.
 use Rattle.std.specs.Prelude.{◌≡◌, ℕ, ◌++◌, ◌||◌, Bool, false, List, [], ◌∷◌, length, bytes_eq}
 use Rattle.std.specs.Prelude.{Option, Some, None, Result, Ok, Err, nat_le, nat_lt, is_some}
 use Rattle.std.specs.Prelude.{position}

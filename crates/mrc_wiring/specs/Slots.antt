@@ -1,4 +1,4 @@
--- What the slots of the forms that a class accepts can carry. This profile's own choice.
+-- Believe. What the slots of the forms that a class accepts can carry. This profile's own choice.
 use Rattle.std.specs.Prelude.{ℕ, ◌==◌, ◌&&◌, Bool, false, Option, Some, None}
 use Rattle.std.specs.List.{list_any}
 use Rattle.mrc_base.specs.declared.Disp.{Disp}

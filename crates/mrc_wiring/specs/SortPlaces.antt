@@ -1,5 +1,5 @@
--- The first places of the types of port arguments, by interfaces, in maps by names. This profile's
--- own choice.
+-- Step. The first places of the types of port arguments, by interfaces, in maps by names. This
+-- profile's own choice.
 use Rattle.std.specs.Prelude.{◌≡◌, ◌<◌, ℕ, List, Option, Some, None, String, position, slice_get}
 use Rattle.std.specs.BTreeMap.{BTreeMap, get_by_text}
 use Rattle.std.specs.List.{AllByRecursion}
@@ -10,7 +10,7 @@ abbrev pub IsFirsts : {Y : Type 0} → ℕ → List Sort → BTreeMap (String Y)
 IsFirsts s sorts firsts =
     (name : List ℕ) → get_by_text firsts name ≡ position (is_sort s name) sorts
 
--- the place that a map has for the name, where there is a map
+-- the place that a map has for the name, if there is a map
 abbrev pub place_in : {Y : Type 0} → Option (BTreeMap (String Y) ℕ) → List ℕ → Option ℕ
 place_in None name = None
 place_in (Some firsts) name = get_by_text firsts name

@@ -1,6 +1,6 @@
--- The types of port arguments, by numbers: one number for each pair of an interface and the name of
--- a type that one of its port arguments has. The numbers are this profile's own choice; what types
--- and port arguments are is MIG's (Server Writer's Guide).
+-- Believe. The types of port arguments, by numbers: one number for each pair of an interface and
+-- the name of a type that one of its port arguments has; with laws. The numbers are this profile's
+-- own choice; what types and port arguments are is MIG's (Server Writer's Guide).
 use Rattle.std.specs.Prelude.{◌≡◌, ◌↔◌, ℕ, ◌+◌, ◌++◌, ◌<◌, ◌==◌, ◌&&◌, Bool, List, [], ◌∷◌, length}
 use Rattle.std.specs.Prelude.{map, flat_map, bytes_eq, Option, Some, None, position, unwrap_or}
 use Rattle.mrc_forms.specs.Forms.{Slot, Form}
@@ -39,7 +39,7 @@ sorts_from s [] = []
 sorts_from s (interface ∷ interfaces) =
     interface_sorts s interface ++ sorts_from (s + 1) interfaces
 
--- the types of all port arguments, in order; a type stands there once for each argument
+-- the types of all port arguments, in order; a type is there once for each argument
 abbrev pub sorts_of : List Interface → List Sort
 sorts_of interfaces = sorts_from 0 interfaces
 
@@ -49,8 +49,8 @@ abbrev pub sort_number : List Sort → ℕ → List ℕ → ℕ
 sort_number sorts s type_name =
     unwrap_or (position (is_sort s type_name) sorts) (length sorts)
 
--- Two types of port arguments have one number exactly where they are of one interface and have one
--- name.
+-- Two types of port arguments have one number if and only if they are of one interface and have
+-- one name.
 abbrev pub SortsAreTypes : Type 0
 SortsAreTypes =
     (sorts : List Sort) (s t : ℕ) (name other : List ℕ)

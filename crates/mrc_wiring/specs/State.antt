@@ -1,4 +1,5 @@
--- What is kept beside the table while lines are read: what can be read from the lines, at hand.
+-- Step. What is kept next to the table while lines are read: what is computed from the lines so
+-- far. This profile's own choice.
 use Rattle.std.specs.Prelude.{◌≡◌, ℕ, ◌+◌, ◌*◌, ◌<◌, ◌++◌, Bool, false, List, [], ◌∷◌, length}
 use Rattle.std.specs.Prelude.{slice_index, slice_index_or, slice_set, true}
 use Rattle.std.specs.List.{list_any}

@@ -1,5 +1,5 @@
--- The table that the lines of a wiring mean, and the model's wiring of it. This profile's own
--- choice.
+-- Believe. The table that the lines of a wiring mean, and the model's wiring of it. This profile's
+-- own choice.
 use Rattle.std.specs.Prelude.{◌≡◌, ℕ, ◌+◌, ◌<◌, ◌≤◌, ◌++◌, false, List, [], ◌∷◌, length, map}
 use Rattle.std.specs.Prelude.{Option, Some, option_and_then}
 use Rattle.mrc_base.specs.Limits.{limit_of_tasks, limit_of_wired_ports, limit_of_names}
@@ -32,15 +32,15 @@ pub record Table : Type 0 where
   pub admits : List AdmitLine
   pub interfaces : List Interface
 
--- the class of this kind that has the number among those of its kind, where so many ports and tasks
--- are there, and these births: wired ports come first, then kernel ports, then births
+-- the class of a wired port, of a kernel port or of births, by its number: wired ports come first,
+-- then kernel ports, then births
 abbrev pub kind_class : ℕ → ℕ → List BirthRow → ClassKind → ℕ → Option ℕ
 kind_class ports tasks births kinds.Port n = Some n
 kind_class ports tasks births kinds.Task n = Some (ports + n)
 kind_class ports tasks births (kinds.Births kind) n =
     births_from (ports + tasks) n kind (map pair_of births)
 
--- the same where ports, tasks and births are those of the table
+-- the same if ports, tasks and births are those of the table
 abbrev pub class_of : Table → NumberedClass → Option ℕ
 class_of table class =
     kind_class (length table.ports) (length table.names) table.births class.kind class.number

@@ -1,4 +1,4 @@
--- What resolving a wiring answers, as its caller sees it. This profile's own choice.
+-- Believe. What a caller of `Wired::resolve` sees. This profile's own choice.
 use Rattle.std.specs.Prelude.{◌≡◌, List, Option, Some, None, Result, Ok, Err}
 use Rattle.mrc_base.specs.Reading.{Refuses}
 use Rattle.mrc_forms.specs.Tables.{Table as Interface}
@@ -8,22 +8,22 @@ use Rattle.mrc_wiring.specs.Table.{Table}
 use Rattle.mrc_wiring.specs.Resolving.{started, empty_table}
 use Rattle.mrc_wiring.specs.State.{State}
 
--- the table is the one that is said, or the interfaces come back with the fault that is said,
--- unless memory ran out
+-- the table is this one, or the interfaces come back unchanged with this fault or with out of
+-- memory
 abbrev pub ResolveTold : List Interface → Result Table NotResolved → Result Table ResolveFault
     → Type 0
 ResolveTold interfaces (Ok table) said = said ≡ Ok table
 ResolveTold interfaces (Err refused) said =
     Refuses refused.why said × (refused.interfaces.items ≡ interfaces)
 
--- the same where the table still has what is kept beside it
+-- the same for a table with what is kept next to it
 abbrev pub StateTold : List Interface → Result State NotResolved → Result Table ResolveFault
     → Type 0
 StateTold interfaces (Ok state) said = said ≡ Ok state.table
 StateTold interfaces (Err refused) said =
     Refuses refused.why said × (refused.interfaces.items ≡ interfaces)
 
--- the fault of a list of interfaces, or none where a wiring can have them
+-- the fault of a list of interfaces, or none if a wiring can have them
 abbrev pub FaultOrStarts : Option ResolveFault → List Interface → Type 0
 FaultOrStarts None interfaces = started interfaces ≡ Ok (empty_table interfaces)
 FaultOrStarts (Some fault) interfaces = started interfaces ≡ Err fault

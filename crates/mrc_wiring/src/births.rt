@@ -35,7 +35,7 @@ impl BirthRow {
         own < task || (own == task && u32::from(self.kind) < kind)
     }
 
-    /// What the births accept: nothing where no line says it.
+    /// What the births accept: nothing if no line says it.
     pub(crate) fn label(&self) -> &[LabelItem]
         ensures { result.now ≡ of_row self.now }
     {
@@ -76,7 +76,7 @@ fn place_of(rows: &[BirthRow], task: u32, kind: u32) -> usize
     rows.partition_point(|row| row.comes_before(task, kind))
 }
 
-/// Whether the row of the task and the kind stands at the place.
+/// Whether the row of the task and the kind is at the place.
 fn stands_at(rows: &[BirthRow], at: usize, task: u32, kind: u32) -> bool
     ensures { result ≡ stands_at rows.now at task kind }
 {
@@ -86,7 +86,7 @@ fn stands_at(rows: &[BirthRow], at: usize, task: u32, kind: u32) -> bool
     }
 }
 
-/// Whether the row of the task and the kind stands at the place, and a line says what they accept.
+/// Whether the row of the task and the kind is at the place, and a line says what they accept.
 fn said_at(rows: &[BirthRow], at: usize, task: u32, kind: u32) -> bool
     ensures { result ≡ said_at rows.now at task kind }
 {
@@ -126,7 +126,7 @@ pub(crate) fn has_said(rows: &[BirthRow], task: u32, kind: u32) -> bool
     said_at(rows, place_of(rows, task, kind), task, kind)
 }
 
-/// Puts what the births of a task and a kind accept into their row, which is made where there is
+/// Writes what the births of a task and a kind accept into their row, which is made if there is
 /// none.
 pub(crate) fn put_row(
     rows: &mut Vec<BirthRow>,

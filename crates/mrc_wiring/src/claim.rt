@@ -85,7 +85,7 @@ fn forbidden_lines(
 
 impl Claim {
     /// The claim that no task ever holds what the lines forbid. With a refusal the wiring comes
-    /// back, as it was: the fault is that of the first line that names a task, a port or a kind of
+    /// back unchanged: the fault is that of the first line that names a task, a port or a kind of
     /// births that the wiring lacks.
     pub fn new(
         alloc: Global,

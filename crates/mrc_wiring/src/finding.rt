@@ -12,7 +12,7 @@ use mrc_base::ClassId;
 use mrc_forms::MessageKind;
 use mrc_model::LabelItem;
 
-/// The form at a place, where there is one.
+/// The form at a place, if there is one.
 fn placed(forms: &[Option<TypedForm>], place: usize) -> Option<&TypedForm>
     ensures { option_map (λ form. form.now) result ≡ placed forms.now place }
 {
@@ -20,8 +20,8 @@ fn placed(forms: &[Option<TypedForm>], place: usize) -> Option<&TypedForm>
 }
 
 impl Wired {
-    /// The forms that the item of a label stands for, where there are any, in the order of their
-    /// ids.
+    /// The forms that the item of a label stands for, in the order of their ids; none at an id
+    /// without this message.
     pub(crate) fn item_forms(&self, item: LabelItem) -> &[Option<TypedForm>]
         ensures { flat_map option_to_list result.now ≡ item_forms (wiring_of self.now) item }
     {

@@ -18,7 +18,7 @@ use std::marker::Model;
 const FIRST_PORTS: usize = TASKS + WIRED_PORTS;
 
 /// How many names each task has from the lines so far, and which ports it has a send or receive
-/// right on: those two stand under one name.
+/// right on: those two share one name.
 #[derive(Drop)]
 pub(crate) struct NamesGiven {
     counts: Vec<usize>,
@@ -49,7 +49,7 @@ impl NamesGiven {
         })
     }
 
-    /// Whether the task has no name yet that one more right could stand under.
+    /// Whether one more right needs one more name of the task.
     fn is_new(&self, task: usize, port: usize, right: PortRight) -> bool
         requires task { task < limit_of_tasks }
         requires port { port < limit_of_first_ports }
@@ -74,7 +74,7 @@ impl NamesGiven {
         self.counts[task] + usize::from(is_new)
     }
 
-    /// The right stands under a name.
+    /// Notes that the right has a name.
     fn mark(&mut self, task: usize, port: usize, right: PortRight)
         requires task { task < limit_of_tasks }
         requires port { port < limit_of_first_ports }

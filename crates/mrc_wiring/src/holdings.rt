@@ -19,7 +19,7 @@ fn class_at(classes: &[ClassId], port: usize) -> Option<ClassId>
     classes.get(port).copied()
 }
 
-/// Adds what a task holds on a port: nothing where there is no class of the port's number.
+/// Adds what a task holds on a port: nothing if there is no class of the port's number.
 fn add_hold(
     holds: &mut Vec<Fact>,
     classes: &[ClassId],
@@ -66,7 +66,7 @@ pub(crate) fn first_classes(alloc: Global, table: &Resolving) -> Result<Vec<Clas
 }
 
 impl Wired {
-    /// What each line gives, where ports have these classes by their birth numbers.
+    /// What each line gives if ports have these classes by their birth numbers.
     fn line_holds(&self, alloc: Global, classes: &[ClassId]) -> Result<Vec<Fact>, AllocError>
         ensures { IfOk result (λ holds. holds.items
             ≡ facts_by classes.now (given_holdings (wiring_of self.now))) }

@@ -60,7 +60,7 @@ pub(crate) fn interface_number(interfaces: &[Interface], name: &str) -> Option<u
         .position(|interface| name == interface.name())
 }
 
-/// An item, where it names an interface that is there.
+/// An item, if it names an interface that is there.
 fn item_said(interfaces: &[Interface], item: &Item) -> Option<LabelItem>
     ensures { result ≡ item_said interfaces.now item.now }
 {

@@ -2,6 +2,7 @@
 //! rights, by numbers and by names; and what a policy forbids in it.
 #![tactic(auto)]
 
+mod admitting;
 mod births;
 mod claim;
 mod faults;
@@ -10,6 +11,7 @@ mod first_names;
 mod holdings;
 mod labels;
 mod laws;
+mod marks;
 mod names;
 mod resolving;
 mod slots;

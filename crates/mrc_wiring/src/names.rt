@@ -94,7 +94,7 @@ pub(crate) fn kind_named(text: &str) -> Option<u8>
     }
 }
 
-/// The births of a task of a kind, where they are there.
+/// The births of a task of a kind, if there are any.
 fn births_said(births: &[BirthRow], task: u16, kind: u8) -> Option<NumberedClass>
     requires { AreAscending births.now }
     ensures { result ≡ births_said births.now kind task }

@@ -37,7 +37,7 @@ use mrc_wiring_text::{ClassName, HeldRight, Items, Kind, Name, WiringLine, Wirin
 use std::alloc::{AllocError, Global};
 use std::marker::Model;
 
-/// The table of the lines so far, and what is kept beside it.
+/// The table of the lines so far, and what is kept next to it.
 #[derive(Drop)]
 pub(crate) struct Resolving {
     pub(crate) names: Vec<Name>,
@@ -527,16 +527,16 @@ fn fault_of_interfaces(interfaces: &[Interface]) -> Option<ResolveFault>
     None
 }
 
-/// Lines that have no meaning: the interfaces, as they were handed in, and why.
+/// Lines that have no meaning: the interfaces, unchanged, and why.
 #[derive(Debug, Drop)]
 pub struct NotResolved {
     /// The interfaces.
     pub interfaces: Vec<Interface>,
-    /// The first fault, or want of memory.
+    /// The first fault, or out of memory.
     pub why: OrMemory<ResolveFault>,
 }
 
-/// What is kept beside a table of no line.
+/// What is kept next to a table of no line.
 fn kept_beside(alloc: Global, interfaces: &[Interface]) -> Result<(Sorts, NamesGiven), AllocError>
     ensures sorts { IfOk result (λ kept. kept.0 ≡ sorts_of interfaces.now) }
     ensures given { IfOk result (λ kept. IsGiven [] kept.1) }

@@ -1,9 +1,11 @@
 //! What the forms of a class can carry.
 
-ghost use Rattle.std.specs.Prelude.{◌≡◌};
+ghost use Rattle.std.specs.Prelude.{◌≡◌, ◌||◌, ℕ, length};
 ghost use Rattle.std.specs.List.{list_any};
 ghost use Rattle.mrc_model.specs.Wiring.{accepts_destroyed, accepts_routine, has_routine};
-ghost use Rattle.mrc_model.specs.Wiring.{item_forms, is_destroyed_item};
+ghost use Rattle.mrc_model.specs.Wiring.{item_forms, is_destroyed_item, admits};
+ghost use Rattle.mrc_bits.specs.Bits.{is_set};
+ghost use Rattle.mrc_wiring.specs.Admitting.{class_words};
 ghost use Rattle.mrc_wiring.specs.Table.{wiring_of};
 ghost use Rattle.mrc_wiring.specs.Slots.{takes, shape_takes, form_takes, is_taker};
 ghost use Rattle.mrc_wiring.specs.Finding.{is_of_routine, is_there_of_routine};
@@ -11,6 +13,7 @@ ghost use Rattle.mrc_wiring.specs.Finding.{is_of_routine, is_there_of_routine};
 use crate::typed::{TypedArgument, TypedForm};
 use crate::wired::Wired;
 use mrc_base::{ClassId, Disp};
+use mrc_bits::join_bits;
 use mrc_model::LabelItem;
 
 impl Wired {
@@ -67,6 +70,66 @@ impl Wired {
             }
         }
         false
+    }
+
+    /// Adds to a row of classes those that the type of this number admits.
+    fn join_admitted(&self, row: &mut [u64], sort: usize)
+        requires { length row.old ≡ class_words }
+        ensures { (c : ℕ) →
+            is_set row.new c ≡ (is_set row.old c || admits (wiring_of self.now) sort c) }
+    {
+        let admitted = self.admitting(sort);
+        join_bits(row, admitted, admitted);
+    }
+
+    /// Adds those that a slot of the form takes, if it is of the disposition.
+    fn join_form(&self, row: &mut [u64], form: &TypedForm, disp: Disp)
+        requires { length row.old ≡ class_words }
+        ensures { (c : ℕ) → is_set row.new c
+            ≡ (is_set row.old c || form_takes (wiring_of self.now) disp c form.now) }
+    {
+        for argument in form.arguments() {
+            if argument.shape.name == disp.number() {
+                self.join_admitted(row, argument.sort);
+            }
+        }
+    }
+
+    /// Adds those that such a slot of one of the forms takes.
+    fn join_forms(&self, row: &mut [u64], forms: &[Option<TypedForm>], disp: Disp)
+        requires { length row.old ≡ class_words }
+        ensures { (c : ℕ) → is_set row.new c ≡ (is_set row.old c
+            || list_any (is_taker (wiring_of self.now) disp c) forms.now) }
+    {
+        for form in forms {
+            if let Some(form) = form {
+                self.join_form(row, form, disp);
+            }
+        }
+    }
+
+    /// Adds those that such a slot of a form that the item stands for takes.
+    fn join_item(&self, row: &mut [u64], item: LabelItem, disp: Disp)
+        requires { length row.old ≡ class_words }
+        ensures { (c : ℕ) → is_set row.new c ≡ (is_set row.old c
+            || list_any (form_takes (wiring_of self.now) disp c)
+            (item_forms (wiring_of self.now) item)) }
+    {
+        self.join_forms(row, self.item_forms(item), disp);
+    }
+
+    /// Adds to a row of classes each that a form of the class's label has a slot for: a slot of the
+    /// disposition, whose type admits the class. It takes a few words a slot, however many admit
+    /// lines there are.
+    #[tactic(auto, unfolding(crate::specs::Slots::takes, mrc_model::specs::Wiring::forms))]
+    pub fn join_taken(&self, row: &mut [u64], to: ClassId, disp: Disp)
+        requires { length row.old ≡ class_words }
+        ensures { (c : ℕ) →
+            is_set row.new c ≡ (is_set row.old c || takes (wiring_of self.now) to disp c) }
+    {
+        for item in self.label(to) {
+            self.join_item(row, *item, disp);
+        }
     }
 
     /// Whether the item stands for requests of an interface that has a routine.

@@ -89,7 +89,7 @@ fn add_sort(
     Ok(())
 }
 
-/// Adds the types of a form's port arguments, where there is a form.
+/// Adds the types of a form's port arguments, if there is a form.
 fn add_form(
     alloc: Global,
     sorts: &mut Vec<Sort>,
@@ -111,7 +111,7 @@ fn add_form(
     Ok(())
 }
 
-/// Adds the types of an interface's port arguments, where no type is of the interface yet. Answers
+/// Adds the types of an interface's port arguments, when no type is of the interface yet. Returns
 /// the first place of each.
 fn add_interface(
     alloc: Global,

@@ -27,7 +27,7 @@ impl Copies for AdmitLine {
     }
 }
 
-/// The class, where so many ports and tasks are there, and these births.
+/// The number of the class if there are so many ports and tasks, and these births.
 pub(crate) fn class_of(
     ports: usize,
     tasks: usize,

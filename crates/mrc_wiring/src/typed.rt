@@ -17,7 +17,7 @@ use std::marker::Model;
 pub struct TypedArgument {
     /// What its data look like.
     pub shape: Shape,
-    /// The number of its type, which `Wired::admits` asks for; where it carries no port rights, a
+    /// The number of its type, which `Wired::admits` asks for; if it carries no port rights, a
     /// number that no type has.
     pub sort: usize,
 }
@@ -151,8 +151,8 @@ impl TypedForm {
         self.arguments.as_slice()
     }
 
-    /// The number of the type of an argument, which `Wired::admits` asks for; where there is no
-    /// such argument it is 0.
+    /// The number of the type of an argument, which `Wired::admits` asks for; 0 if there is no
+    /// such argument.
     pub fn sort(&self, argument: usize) -> usize
         ensures { result ≡ sort_at (form_shapes self.now) argument }
     {
@@ -243,7 +243,7 @@ impl Copies for TypedForms {
     }
 }
 
-/// The form at each id of the interface of this number; none where there is no such interface.
+/// The form at each id of the interface of this number; none if there is no such interface.
 pub(crate) fn forms_at(typed: &[TypedForms], number: usize) -> &[Option<TypedForm>]
     ensures { result.now ≡ unwrap_or (slice_get typed.now number) [] }
 {

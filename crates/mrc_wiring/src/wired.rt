@@ -2,15 +2,15 @@
 
 ghost use Rattle.std.specs.Prelude.{◌≡◌, ◌≤◌, ◌<◌, ◌+◌, ◌*◌, ℕ, [], flat_map, length, map, get_or};
 ghost use Rattle.std.specs.Prelude.{◌↔◌, slice_get, Some, IfOk, IfSome, IsTrue};
-ghost use Rattle.std.specs.List.{list_any};
 ghost use Rattle.std.specs.Option.{option_map, option_to_list, IfNone};
 ghost use Rattle.mrc_base.specs.Limits.{limit_of_tasks, limit_of_wired_ports, limit_of_kinds};
 ghost use Rattle.mrc_model.specs.First.{is_sound};
 ghost use Rattle.mrc_model.specs.FirstHoldings.{given_classes};
-ghost use Rattle.mrc_model.specs.Wiring.{classes, births_class, label, admits, is_line_of};
-ghost use Rattle.mrc_model.specs.Wiring.{admits_by};
+ghost use Rattle.mrc_model.specs.Wiring.{classes, births_class, label, admits};
+ghost use Rattle.mrc_bits.specs.Bits.{is_set};
+ghost use Rattle.mrc_wiring.specs.Admitting.{IsAdmitting, class_words};
 ghost use Rattle.mrc_wiring.specs.Births.{AreAscending, AreKinds, of_row};
-ghost use Rattle.mrc_wiring.specs.Table.{IsTable, admitted_of, wiring_of};
+ghost use Rattle.mrc_wiring.specs.Table.{IsTable, wiring_of};
 ghost use Rattle.mrc_wiring.specs.Sorts.{sorts_of};
 ghost use Rattle.mrc_wiring.specs.ModelForms.{typed_from};
 ghost use Rattle.mrc_wiring.specs.Finding.{message_forms, typed_at};
@@ -22,14 +22,16 @@ ghost use Rattle.mrc_wiring.specs.Names.{AreNames, number_of, class_label, shown
 ghost use Rattle.mrc_wiring.specs.Names.{class_named, births_named};
 ghost use Rattle.mrc_wiring.specs.Claims.{class_number};
 
+use crate::admitting::Admitting;
 use crate::births::{BirthRow, row_of};
 use crate::holdings::first_classes;
 use crate::labels::Label;
 use crate::names::{ClassKind, ClassLabel, class_said, kind_named, number_of};
 use crate::resolving::{NotResolved, Resolving, resolved};
-use crate::table::{AdmitLine, admitted_of, class_of};
+use crate::table::{AdmitLine, class_of};
 use crate::typed::{TypedForm, TypedForms, forms_at, typed_of};
 use mrc_base::{ClassId, OrMemory, TaskId, copy_all, same_all};
+use mrc_bits::has_bit;
 use mrc_forms::{Interface, MessageKind};
 use mrc_model::{FirstLine, LabelItem};
 use mrc_wiring_text::{ClassName, Name, WiringLine};
@@ -41,7 +43,7 @@ use std::marker::Model;
 struct ByNumbers {
     requests: Vec<TypedForms>,
     replies: Vec<TypedForms>,
-    admitted: Vec<(usize, Option<usize>)>,
+    admitting: Admitting,
     first_classes: Vec<ClassId>,
 }
 
@@ -55,9 +57,9 @@ fn numbered(alloc: Global, table: &Resolving) -> Result<ByNumbers, AllocError>
     ensures replies { IfOk result (λ numbered. numbered.replies.items
         ≡ typed_from messages.Reply (sorts_of table.now.table.interfaces) 0
         table.now.table.interfaces) }
-    ensures admitted { IfOk result (λ numbered. numbered.admitted.items
-        ≡ admitted_of (length table.now.table.ports) (length table.now.table.names)
-        table.now.table.births table.now.table.admits) }
+    ensures admitting { IfOk result (λ numbered. IsAdmitting (length table.now.table.ports)
+        (length table.now.table.names) table.now.table.births table.now.table.admits
+        numbered.admitting.rows.items numbered.admitting.every.items) }
     ensures classes { IfOk result (λ numbered. numbered.first_classes.items
         ≡ given_classes (wiring_of table.now.table)) }
 {
@@ -66,7 +68,7 @@ fn numbered(alloc: Global, table: &Resolving) -> Result<ByNumbers, AllocError>
     Ok(ByNumbers {
         requests: typed_of(alloc, MessageKind::Request, sorts, interfaces)?,
         replies: typed_of(alloc, MessageKind::Reply, sorts, interfaces)?,
-        admitted: admitted_of(
+        admitting: Admitting::of(
             alloc,
             table.ports.len(),
             table.names.len(),
@@ -90,7 +92,7 @@ pub struct Wired {
     interfaces: Vec<Interface>,
     requests: Vec<TypedForms>,
     replies: Vec<TypedForms>,
-    admitted: Vec<(usize, Option<usize>)>,
+    admitting: Admitting,
     first_classes: Vec<ClassId>,
 }
 
@@ -118,12 +120,13 @@ impl Model for Wired {
       lines = w.lines.items;
       admits = w.admits.items;
       interfaces = w.interfaces.items;
-    } w.requests.items w.replies.items w.admitted.items w.first_classes.items };
+    } w.requests.items w.replies.items w.admitting.rows.items w.admitting.every.items
+        w.first_classes.items };
 }
 
 impl Wired {
     /// The wiring that lines mean over interfaces, or the first fault, by lines; line 0 stands for
-    /// the list of interfaces. With a refusal the interfaces come back, as they were.
+    /// the list of interfaces. With a refusal the interfaces come back unchanged.
     pub fn resolve(
         alloc: Global,
         lines: &[WiringLine],
@@ -143,7 +146,7 @@ impl Wired {
                 interfaces: table.interfaces,
                 requests: by_numbers.requests,
                 replies: by_numbers.replies,
-                admitted: by_numbers.admitted,
+                admitting: by_numbers.admitting,
                 first_classes: by_numbers.first_classes,
             }),
             Err(error) => Err(NotResolved {
@@ -254,7 +257,7 @@ impl Wired {
         }
     }
 
-    /// What a class accepts; nothing where there is no class of the number.
+    /// What a class accepts; nothing if there is no class of the number.
     pub fn label(&self, class: ClassId) -> &[LabelItem]
         ensures { result.now ≡ label (wiring_of self.now) class }
     {
@@ -269,37 +272,22 @@ impl Wired {
         }
     }
 
-    /// Whether an admit line is for the type.
-    fn has_admit_line(&self, sort: usize) -> bool
-        ensures { result ≡ list_any (is_line_of sort) (wiring_of self.now).admitted }
-    {
-        let _tasks = self.tasks();
-        self.admitted.iter().any(|line| line.0 == sort)
-    }
-
-    /// Whether an admit line is for the type and the class.
-    fn has_admitted(&self, sort: usize, class: usize) -> bool
-        ensures { result ≡ list_any (admits_by sort class) (wiring_of self.now).admitted }
-    {
-        let _tasks = self.tasks();
-        self.admitted
-            .iter()
-            .any(|line| line.0 == sort && line.1 == Some(class))
-    }
-
-    /// Whether the type of this number admits the class: a type with no admit line admits every
-    /// class, and what is no class is admitted by no type.
+    /// The classes that the type of this number admits, as a row of bits: those of its admit lines,
+    /// or every class if no line is for it.
     #[tactic(auto, unfolding(mrc_model::specs::Wiring::admits))]
+    pub fn admitting(&self, sort: usize) -> &[u64]
+        ensures exact { (c : ℕ) → is_set result.now c ≡ admits (wiring_of self.now) sort c }
+        ensures few { length result.now ≤ class_words }
+    {
+        self.admitting.row(sort)
+    }
+
+    /// Whether the type of this number admits the class, in constant time. A type without admit
+    /// lines admits every class; no type admits what is no class.
     pub fn admits(&self, sort: usize, class: ClassId) -> bool
         ensures { result ≡ admits (wiring_of self.now) sort class }
     {
-        if class.0 >= self.classes() {
-            false
-        } else if self.has_admit_line(sort) {
-            self.has_admitted(sort, class.0 as usize)
-        } else {
-            true
-        }
+        has_bit(self.admitting(sort), class.0 as usize)
     }
 
     /// The interfaces, in the order of their numbers.
@@ -440,7 +428,7 @@ impl Wired {
             interfaces: copy_all(alloc, &self.interfaces)?,
             requests: copy_all(alloc, &self.requests)?,
             replies: copy_all(alloc, &self.replies)?,
-            admitted: admitted_of(
+            admitting: Admitting::of(
                 alloc,
                 self.ports.len(),
                 self.names.len(),
