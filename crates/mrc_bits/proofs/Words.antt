@@ -1,12 +1,12 @@
 -- Bits of words, and of rows of words.
 use Rattle.std.proofs.Common.{◌≡◌, ℕ, ◌+◌, ◌-◌, ◌*◌, ◌/◌, ◌%◌, ◌^◌, ◌<◌, ◌≤◌, false, List, length, slice_index, slice_set, min, refl, ap, sym, ◌∙◌, inl, inr, ◌⊎◌, arith, lit<, ◌==◌}
-use Rattle.std.specs.Prelude.{◌||◌, ◌&&◌, not, nat_lt, bit_and, bit_or}
+use Rattle.std.specs.Prelude.{◌||◌, ◌&&◌, not, bit_and, bit_or}
 use Rattle.std.specs.Int.{bit_at, w64, bit_not, trailing_zeros}
-use Rattle.std.proofs.lemmas.Bool.{cases_eq, cases_lt, eq-eqb, ne_eqb, lt-ltb, le-ltb}
+use Rattle.std.proofs.lemmas.Bool.{cases_eq, cases_lt, eq-eqb, ne_eqb}
 use Rattle.std.proofs.lemmas.Nat.{div-add-mod', mod_below, pow_pos}
 use Rattle.std.proofs.Math.Nat.{div-le_self}
 use Rattle.std.proofs.lemmas.Nat.Bits.{bit_at_and, bit_at-lt, bit_at_set_same, bit_at_set_other, bit_at_clear_same, bit_at_clear_other, bit_at_cat_high, bit_at_not, bit_at_above, bit_at-zero, bit_at-trailing_zeros}
-use Rattle.std.proofs.lemmas.List.{get_or-set_same, get_or-set_other, get_or_past}
+use Rattle.std.proofs.lemmas.List.{get_or-set_same, get_or-set_other}
 use Rattle.mrc_bits.specs.Bits.{is_set, is_fresh, IsNextIn, NoneIn, IsNextFresh}
 
 -- a bit is 0 or 1
@@ -132,27 +132,3 @@ found_fresh words more mask from place start i word shown next none above below 
         ∙ ap (λ b. b == 1) (next.first (j - 64 * place) far near))
   ];
 }
-
--- words whose bits are turned
-pub complement_there : (words lacked : List ℕ) (count k : ℕ) → count ≤ k → length lacked ≡ k → k ≤ count
-    → ((j : ℕ) → slice_index words j < 2 ^ 64)
-    → ((j : ℕ) → j < k → slice_index lacked j ≡ bit_not w64 (slice_index words j))
-    → (i : ℕ) → is_set lacked i ≡ (nat_lt i (64 * count) && not (is_set words i))
-complement_there words lacked count k all len few fits turned i =
-    elim (cases_lt (i / 64) k) [
-      | inl low ↦
-          ap (λ w. bit_at w (i % 64) == 1) (turned (i / 64) low)
-          ∙ (ap (λ n. n == 1)
-          (bit_at_not w64 (slice_index words (i / 64)) (i % 64) (fits (i / 64)) (mod_below i 64 (lit< tt)))
-          ∙ (by_cases (bit_at (slice_index words (i / 64)) (i % 64))
-          (bit_cases (slice_index words (i / 64)) (i % 64))
-          ∙ sym (ap (λ b. b && not (is_set words i)) (lt-ltb i (64 * count) (omega arith)))))
-      | inr high ↦
-          ap (λ w. bit_at w (i % 64) == 1) (get_or_past lacked (i / 64) 0 (omega arith))
-          ∙ (ap (λ b. b == 1) (bit_at-zero (i % 64))
-          ∙ sym (ap (λ b. b && not (is_set words i)) (le-ltb i (64 * count) (omega arith))))
-    ]
-  where
-    by_cases : (b : ℕ) → (b ≡ 0) ⊎ (b ≡ 1) → (1 - b == 1) ≡ not (b == 1)
-    by_cases b (inl x) = rw x refl
-    by_cases b (inr x) = rw x refl

@@ -6,8 +6,6 @@ ghost use Rattle.mrc_bits.specs.Bits.{is_set, is_fresh, fresh_count};
 ghost use Rattle.mrc_bits.specs.Bits.{IsNextBit, IsNextFresh, IsNextIn, NoneIn};
 ghost use Rattle.mrc_bits.specs.Bits.{AnyFresh, NoneFresh};
 
-use std::alloc::{AllocError, Global};
-
 /// Whether the bit is set.
 pub fn has_bit(words: &[u64], i: usize) -> bool
     ensures { result ≡ is_set words.now i }
@@ -138,20 +136,6 @@ pub fn has_fresh(words: &[u64], more: &[u64], mask: &[u64]) -> bool
     end == words.len() && fresh_behind(words, more, mask, end) != 0
 }
 
-/// So many words, with the bits that `words` lacks.
-pub fn complement(alloc: Global, words: &[u64], count: usize) -> Result<Vec<u64>, AllocError>
-    requires { 64 * count < 2 ^ 64 }
-    ensures len { IfOk result (λ lacked. length lacked.items ≡ count) }
-    ensures bits { IfOk result (λ lacked. (i : ℕ) →
-        is_set lacked.items i ≡ (nat_lt i (64 * count) && not (is_set words.now i))) }
-{
-    let mut lacked = Vec::with_capacity(alloc, count)?;
-    for k in 0..count {
-        lacked.push_reserved(!word_at(words, k));
-    }
-    Ok(lacked)
-}
-
 /// The first bit from this one on that both `more` and `mask` have, and that is not set in `words`.
 pub fn next_fresh(words: &[u64], more: &[u64], mask: &[u64], from: usize) -> Option<usize>
     requires { 64 * length more.now < 2 ^ 64 }
@@ -212,4 +196,34 @@ pub fn join_bits(words: &mut [u64], more: &[u64], mask: &[u64]) -> usize
         count += join_word(words, more, mask, k);
     }
     count
+}
+
+/// Sets the bits of the row that both `more` and `mask` have. The row gets no longer.
+pub fn or_both(words: &mut [u64], more: &[u64], mask: &[u64])
+    ensures { (i : ℕ) → is_set words.new i ≡ (is_set words.old i
+        || (nat_lt i (64 * length words.old) && (is_set more.now i && is_set mask.now i))) }
+{
+    let end = least(words.len(), more.len(), mask.len());
+    for k in 0..end {
+        words[k] |= more[k] & mask[k];
+    }
+}
+
+/// Clears the bits of a word of the row that `less` has.
+fn clear_word(words: &mut [u64], less: &[u64], k: usize)
+    requires { k < length words.old }
+    ensures bits { (i : ℕ) → is_set words.new i
+        ≡ (is_set words.old i && not (i / 64 == k && is_set less.now i)) }
+    ensures len { length words.new ≡ length words.old }
+{
+    words[k] &= !word_at(less, k);
+}
+
+/// Clears the bits of the row that `less` has.
+pub fn clear_bits(words: &mut [u64], less: &[u64])
+    ensures { (i : ℕ) → is_set words.new i ≡ (is_set words.old i && not (is_set less.now i)) }
+{
+    for k in 0..words.len() {
+        clear_word(words, less, k);
+    }
 }

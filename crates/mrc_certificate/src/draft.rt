@@ -5,7 +5,7 @@ ghost use Rattle.std.specs.List.{list_all};
 ghost use Rattle.mrc_facts.specs.Sets.{IsAscending};
 ghost use Rattle.mrc_certificate.specs.Drafts.{is_within, AreWithin};
 
-use mrc_classes::{Fact, Facts};
+use mrc_rows::{Fact, Facts};
 use std::alloc::AllocError;
 
 /// What a certificate claims of a wired system: how many tasks, classes and classes of births it
@@ -27,7 +27,7 @@ pub struct Draft {
     pub ghost few: { length facts < 2 ^ 32 },
 }
 
-/// Whether the fact's task, where it has one, and its classes are of so many.
+/// Whether the fact's task, if it has one, and its classes are of so many.
 pub(crate) fn is_within(tasks: u16, classes: u16, fact: &Fact) -> bool
     ensures { result ≡ is_within tasks classes fact.now }
 {
@@ -42,16 +42,14 @@ pub(crate) fn is_within(tasks: u16, classes: u16, fact: &Fact) -> bool
     }
 }
 
+/// Whether all facts are of so many tasks and classes.
 fn are_within(tasks: u16, classes: u16, facts: &Facts) -> bool
     ensures { result ≡ list_all (is_within tasks classes) facts.now }
 {
-    let _count = facts.len();
-    let mut next = facts.first();
-    while let Some(fact) = next {
+    for fact in facts.iter() {
         if !is_within(tasks, classes, &fact) {
             return false;
         }
-        next = facts.after(fact);
     }
     true
 }
@@ -59,11 +57,11 @@ fn are_within(tasks: u16, classes: u16, facts: &Facts) -> bool
 impl Draft {
     ghost use Rattle.mrc_certificate.specs.Spelling.{content};
 
-    /// The draft of these counts and facts. There is none where there are fewer classes of births
-    /// than tasks, where a fact is not of those tasks and classes, or where there are 2^32 facts or
+    /// The draft of these counts and facts. There is none if there are fewer classes of births
+    /// than tasks, if a fact is not of those tasks and classes, or if there are 2^32 facts or
     /// more.
     pub fn new(tasks: u16, classes: u16, births: u16, facts: Facts) -> Option<Draft>
-        // The draft is made exactly where there are births enough, and the facts are within the
+        // The draft is made if and only if there are enough births, and the facts are within the
         // counts, and few enough.
         ensures some { IsSome result
             ↔ ((tasks ≤ births) × AreWithin tasks classes facts × (length facts < 2 ^ 32)) }

@@ -9,8 +9,7 @@ pub enum DraftFault {
     /// The first four bytes are not `MRCC`, or there are fewer.
     #[error("Magic")]
     Magic,
-    /// The version is neither 1 nor 2, or is 2 where there are no more classes of births than
-    /// tasks.
+    /// The version is neither 1 nor 2, or is 2 and there are no more classes of births than tasks.
     #[error("Version")]
     Version,
     /// The bytes end within the header or within a fact that it counts.
@@ -23,7 +22,7 @@ pub enum DraftFault {
     /// The fact at this place does not come after the one before it.
     #[error("NotAscending {0}")]
     NotAscending(usize),
-    /// Bytes stand behind the last fact.
+    /// There are bytes behind the last fact.
     #[error("Trailing")]
     Trailing,
 }

@@ -6,12 +6,12 @@ pub fn read_again()
     ensures { IsReadAgain }
 {}
 
-/// No bytes spell two drafts.
+/// No bytes encode two drafts.
 pub fn one_draft()
     ensures { OneDraft }
 {}
 
-/// A draft has one spelling, whichever way its set of facts came about.
+/// A draft has one encoding, however its set of facts came about.
 pub fn one_spelling()
     ensures { OneSpelling }
 {}

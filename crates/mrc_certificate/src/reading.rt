@@ -12,7 +12,7 @@ ghost use Rattle.mrc_certificate.specs.Reading.{facts_at, draft_from};
 use crate::draft::{Draft, is_within};
 use crate::fault::DraftFault;
 use mrc_base::{ClassId, OrMemory, PortRight};
-use mrc_classes::{Fact, Facts};
+use mrc_rows::{Fact, Facts};
 use std::alloc::Global;
 
 #[tactic(auto, unfolding(crate::specs::Reading::behind_magic))]
@@ -59,7 +59,7 @@ fn version_at(bytes: &[u8]) -> Result<(u16, &[u8]), OrMemory<DraftFault>>
 }
 
 /// The number of classes of births, and the bytes behind it: in version 1 it is that of tasks, in
-/// version 2 it stands there, and is greater.
+/// version 2 it is there, and is greater.
 #[tactic(auto, unfolding(crate::specs::Reading::births_at))]
 fn births_at(version: u16, tasks: u16, bytes: &[u8]) -> Result<(u16, &[u8]), OrMemory<DraftFault>>
     ensures fault { Gives (λ x. (x.0, x.1.now)) result (births_at version tasks bytes.now) }
@@ -75,7 +75,7 @@ fn births_at(version: u16, tasks: u16, bytes: &[u8]) -> Result<(u16, &[u8]), OrM
     Ok((births, rest))
 }
 
-/// Where the first fact stands.
+/// The place of the first fact.
 fn first_place(version: u16) -> usize
     ensures exact { result ≡ first_place version }
     ensures within { result ≤ 16 }
@@ -199,15 +199,14 @@ fn draft_from(alloc: Global, bytes: &[u8]) -> Result<Draft, OrMemory<DraftFault>
     })
 }
 
-/// The draft that the bytes spell, all of the bytes. Of several faults it answers the first from
-/// left to right: at each fact first that it is cut off, then that it is none within the counts,
+/// The draft that all of the bytes encode. Of several faults it returns the first from left to
+/// right. At each fact that is first that it is cut off, then that it is none within the counts,
 /// then that it does not come after the one before. Bytes that end within the header are truncated
-/// where the first four are there and right, and so is the version as far as it can be told: by its
-/// two bytes, and in version 2 by the number of classes of births where that is there.
+/// if the first four are there and right, and no byte that is there makes the version wrong.
 pub fn read_draft(alloc: Global, bytes: &[u8]) -> Result<Draft, OrMemory<DraftFault>>
-    // What is read is spelled so.
+    // What is read is encoded so.
     ensures found { IfOk result (λ draft. Spells bytes.now (content draft)) }
-    // What is spelled so is read, unless memory runs out.
+    // What is encoded so is read, unless it is out of memory.
     ensures only { (d : Content) → Spells bytes.now d → Gives content result (Ok d) }
     // Which fault it is: the first.
     ensures fault { Gives content result (draft_from bytes.now) }

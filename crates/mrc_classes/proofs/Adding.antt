@@ -1,10 +1,9 @@
 -- How sets grow by parts.
-use Rattle.std.proofs.Common.{◌≡◌, ℕ, ◌+◌, Bool, true, subst, ◌∙◌}
+use Rattle.std.proofs.Common.{ℕ, ◌+◌, Bool, subst}
 use Rattle.std.proofs.Common.{◌⊎◌, inl, inr, arith}
-use Rattle.std.specs.Prelude.{◌||◌}
 use Rattle.std.proofs.lemmas.Bool.{cases_eq}
 use Rattle.mrc_base.specs.declared.Fact.{Fact}
-use Rattle.mrc_classes.specs.Growing.{Added, If, Below}
+use Rattle.mrc_classes.specs.Growing.{Added, Below}
 
 -- one part after the other
 pub added_both : (F G H : Fact → Bool) (P Q : Fact → Type 0)
@@ -39,12 +38,6 @@ pub added_then : {F G H : Fact → Bool} {P Q : Fact → Type 0}
     → Added G H Q
     → Added F H (λ g. P g ⊎ Q g)
 added_then p q = added_both _ _ _ _ _ p q
-
-pub added_if : (b : Bool) {F G : Fact → Bool} {P : Fact → Type 0}
-    → b ≡ true
-    → Added F G P
-    → Added F G (If b P)
-added_if b e p = added_as _ _ _ _ p (λ g x. record { there = e; at = x }) (λ g x. x.at)
 
 pub below_more : {F G H : Fact → Bool} (i : ℕ) (Q : ℕ → Fact → Type 0)
     → Added F G (Below i Q)

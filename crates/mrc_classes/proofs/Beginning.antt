@@ -1,9 +1,10 @@
--- What the first state and births give is what the rules without premises conclude.
+-- What tasks hold in the first state, and what the rules without premises conclude.
 use Rattle.std.proofs.Common.{◌≡◌, ℕ, ◌+◌, ◌<◌, Bool, List, [], ◌∷◌, ◌++◌, length, take}
-use Rattle.std.proofs.Common.{Result, Ok, Err, refl, ap, sym, slice_index_or, subst, ◌∙◌, IsTrue, ◌↔◌, ◌⊎◌, inl, inr}
-use Rattle.std.specs.Prelude.{IfOk}
+use Rattle.std.proofs.Common.{refl, ap, sym, slice_index_or, subst, ◌∙◌, arith, IsTrue, ◌↔◌, ◌⊎◌, inl, inr}
 use Rattle.std.proofs.lemmas.Bool.{false≢true}
 use Rattle.std.proofs.lemmas.List.{take_more}
+use Rattle.mrc_base.specs.declared.PortRight.{PortRight}
+use Rattle.mrc_base.specs.declared.PortRight.TheVariants.{Receive}
 use Rattle.mrc_base.specs.declared.Fact.{Fact}
 use Rattle.mrc_base.specs.declared.Fact.TheVariants.{Hold, Carry, Backup}
 use Rattle.mrc_model.specs.IsIn.{IsIn, here}
@@ -11,13 +12,16 @@ use Rattle.mrc_model.specs.Wiring.{Wiring, classes}
 use Rattle.mrc_model.specs.World.{task_class}
 use Rattle.mrc_model.specs.First.{first}
 use Rattle.mrc_model.specs.Rules.{InRange, Rule, k1, k2}
-use Rattle.mrc_model.proofs.Concluding.{in_left, in_right, in_append}
+use Rattle.mrc_model.proofs.Members.{in_left, in_right, in_append}
 use Rattle.mrc_model.proofs.FirstHeld.{in_one}
 use Rattle.mrc_wiring.specs.FirstState.{HasFirstHolds}
+use Rattle.mrc_slots.specs.Passing.{same_right}
+use Rattle.mrc_slots.proofs.Passing.{same_right_is}
 use Rattle.mrc_facts.specs.Sets.{has}
 use Rattle.mrc_classes.specs.Growing.{Added, Only, Below, nothing}
 use Rattle.mrc_classes.specs.Following.{IsHeldAtFirst, IsFirstFact, IsListOf}
-use Rattle.mrc_classes.specs.Parts.{IsListedHold, IsHoldInRange, IsBirth}
+use Rattle.mrc_classes.specs.Parts.{IsListedHold, IsHoldInRange}
+use Rattle.mrc_classes.specs.Places.{FirstAt}
 use Rattle.mrc_classes.proofs.Adding.{added_both, added_as}
 
 in_push : (g x : Fact) (xs : List Fact) → IsIn g (xs ++ x ∷ []) → IsIn g xs ⊎ (g ≡ x)
@@ -104,56 +108,71 @@ first_hold_is W g x =
     (λ t. Rule W 1 [] (Hold t x.class x.right)) x.held.task_class_is rule in
     subst (λ y. Rule W 1 [] y) (sym x.is) at
 
-abbrev pub FirstOrBirth : Wiring → Fact → Type 0
-FirstOrBirth W g = IsHeldAtFirst W g ⊎ Below (classes W) (IsBirth W) g
+module _ (W : Wiring) (S : Fact → Bool) where
+  of_first : (t : ℕ) (g : Fact) → t < W.tasks → FirstAt W S t g → IsFirstFact W g
+  of_first t g low (inl x) =
+      let held = x.at.last in
+      subst (λ y. IsFirstFact W y) (sym x.is)
+      (record { rule = 1; instance = first_hold_is W (Hold t x.class x.right) held; in_range = held.in_range })
+  of_first t g low (inr x) =
+      let last = x.at.last in
+      subst (λ y. IsFirstFact W y)
+      (sym (x.is ∙ (ap (Hold t x.class) (receive x.right last.0) ∙ ap (λ c. Hold t c Receive) last.1)))
+      (record {
+        rule = 2;
+        instance = k2 last.2.0 last.2.1;
+        in_range = (low, subst (λ c. c < classes W) last.1 x.there);
+      })
+    where
+      receive : (r : PortRight) → IsTrue (same_right r Receive) → r ≡ Receive
+      receive r e = same_right_is r Receive e
 
-pub begins : (W : Wiring) (k : ℕ) (g : Fact) → Rule W k [] g → InRange W g → FirstOrBirth W g
-begins W k g (k1 t p {c} {r} held is) within = inl (record {
-  task = task_class (first W) t;
-  class = c;
-  right = r;
-  is = refl;
-  held = record { task = t; port = p; held = held; port_class = is; task_class_is = refl };
-  in_range = within;
-})
-begins W k g (k2 {t} {c} kind is) within = inr (record {
-  place = c;
-  below = within.1;
-  at = record { task = t; there = within.0; kind = kind; birth = is; is = refl };
-})
+  begins : (k : ℕ) (g : Fact) → Rule W k [] g → InRange W g → Below W.tasks (FirstAt W S) g
+  begins k g (k1 t p {c} {r} held is) within = record {
+    place = task_class (first W) t;
+    below = within.0;
+    at = inl (record {
+      class = c;
+      right = r;
+      there = within.1;
+      is = refl;
+      at = record {
+        source = 0;
+        there = omega arith;
+        first = refl;
+        last = record {
+          task = task_class (first W) t;
+          class = c;
+          right = r;
+          is = refl;
+          held = record { task = t; port = p; held = held; port_class = is; task_class_is = refl };
+          in_range = within;
+        };
+      };
+    });
+  }
+  begins k g (k2 {t} {c} kind is) within = record {
+    place = t;
+    below = within.0;
+    at = inr (record {
+      class = c;
+      right = Receive;
+      there = within.1;
+      is = refl;
+      at = record { source = c; there = within.1; first = refl; last = (refl, refl, (kind, is)) };
+    });
+  }
 
-pub first_facts_are : (W : Wiring) (held facts : List Fact)
-    → IsListOf (IsHeldAtFirst W) held
-    → Added (has held) (has facts) (Below (classes W) (IsBirth W))
-    → IsListOf (IsFirstFact W) facts
-first_facts_are W held facts first births g = (
-  (λ h. elim (births.new g h) [
-    | inl before ↦ let x = (first g).0 before in
-        record { rule = 1; instance = first_hold_is W g x; in_range = x.in_range }
-    | inr x ↦ of_birth x
-  ]),
-  (λ x. elim (begins W x.rule g x.instance x.in_range) [
-    | inl at ↦ births.kept g ((first g).1 at)
-    | inr at ↦ births.all g at
-  ]),
-)
-  where
-    of_birth : Below (classes W) (IsBirth W) g → IsFirstFact W g
-    of_birth x =
-        subst (λ y. IsFirstFact W y) (sym x.at.is)
-        (record { rule = 2; instance = k2 x.at.kind x.at.birth; in_range = (x.at.there, x.below) })
-
--- what is put into the empty set
-pub listed_all : {E : Type 0} (P : Fact → Type 0) (start : List Fact)
-    → start ≡ []
-    → (r : Result (List Fact) E)
-    → IfOk r (λ all. Added (has start) (has all) P)
-    → IfOk r (IsListOf P)
-listed_all P start none (Ok all) added = λ g. (
-  λ h. elim (added.new g h) [
-    | inl before ↦ absurd (false≢true (ap (λ fs. has fs g) (sym none) ∙ before))
-    | inr p ↦ p
-  ],
-  added.all g,
-)
-listed_all P start none (Err e) added = tt
+  -- what the first two rules conclude, in the rows of all tasks
+  pub first_listed : (n : ℕ) (found : List Fact)
+      → n ≡ W.tasks
+      → Added nothing (has found) (Below n (FirstAt W S))
+      → IsListOf (IsFirstFact W) found
+  first_listed n found all added g =
+      let whole = subst (λ m. Added nothing (has found) (Below m (FirstAt W S))) all added in (
+        (λ h. elim (whole.new g h) [
+          | inl none ↦ absurd (false≢true none)
+          | inr x ↦ of_first x.place g x.below x.at
+        ]),
+        (λ x. whole.all g (begins x.rule g x.instance x.in_range)),
+      )

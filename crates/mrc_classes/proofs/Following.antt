@@ -13,8 +13,8 @@ use Rattle.mrc_facts.specs.Sets.{has}
 use Rattle.mrc_facts.proofs.Total.{equal_from_same, same_itself}
 use Rattle.mrc_classes.specs.Growing.{Added, Below}
 use Rattle.mrc_classes.specs.Following.{IsConsequence, IsListOf}
-use Rattle.mrc_classes.specs.Parts.{AtPlace}
-use Rattle.mrc_classes.proofs.Concluding.{to_place, from_place}
+use Rattle.mrc_classes.specs.Places.{AtPlace}
+use Rattle.mrc_classes.proofs.Placing.{to_place, from_place}
 
 -- for each element
 pub all_as : (P Q : Fact → Type 0) (fs : List Fact)
@@ -55,26 +55,26 @@ module _ (W : Wiring) (S All New : Fact → Bool) (p : Fact)
   among f new =
       subst IsTrue (sym (put f)) (or_left (is_same f p) (S f) (subst IsTrue (only f) new))
 
-  to : (g : Fact) → IsConsequence W (Has S) p g → Below (classes W) (AtPlace W All New) g
+  to : (g : Fact) → IsConsequence W (Has S) p g → Below (classes W) (AtPlace W All New (has [])) g
   to g x =
-      let at = to_place W All New among p g (subst IsTrue (sym (only p)) (same_itself p))
+      let at = to_place W All New (has []) among p g (subst IsTrue (sym (only p)) (same_itself p)) refl
       (consequence_as W S All p g
       (λ q there. inr (subst IsTrue (sym (put q)) (or_right (is_same q p) (S q) there))) x) in
-      record { place = at.0; below = at.1; at = at.2 }
+      record { place = at.place; below = at.below; at = at.at }
 
-  back : (g : Fact) → Below (classes W) (AtPlace W All New) g → IsConsequence W (Has S) p g
+  back : (g : Fact) → Below (classes W) (AtPlace W All New (has [])) g → IsConsequence W (Has S) p g
   back g x =
-      let f = from_place W All New x.place g x.below x.at in
-      let e = equal_from_same f.0 p (subst IsTrue (only f.0) f.1) in
+      let f = from_place W All New (has []) among x.place g x.at in
+      let e = equal_from_same f.premise p (subst IsTrue (only f.premise) f.new) in
       consequence_as W All S p g
       (λ q there. elim (or_cases (is_same q p) (S q) (subst IsTrue (put q) there)) [
         | inl same ↦ inl (equal_from_same q p same)
         | inr old ↦ inr old
       ])
-      (subst (λ y. IsConsequence W (Has All) y g) e f.2)
+      (subst (λ y. IsConsequence W (Has All) y g) e f.consequence)
 
   pub places_listed : (found : List Fact)
-      → Added (has []) (has found) (Below (classes W) (AtPlace W All New))
+      → Added (has []) (has found) (Below (classes W) (AtPlace W All New (has [])))
       → IsListOf (IsConsequence W (Has S) p) found
   places_listed found added g = (
     (λ h. elim (added.new g h) [ inl none ↦ absurd cc | inr at ↦ back g at ]),

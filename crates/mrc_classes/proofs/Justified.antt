@@ -1,412 +1,268 @@
--- The instances that are found are instances of the ten rules, and where none is found there is
--- none.
-use Rattle.std.proofs.Common.{◌≡◌, ℕ, ◌<◌, Bool, true, false, refl, sym, subst}
-use Rattle.std.proofs.Common.{IsTrue, ◌⊎◌, inl, inr, if◌then◌else◌}
-use Rattle.std.specs.Prelude.{◌||◌, Option, Some, None, IfNone}
+-- The premises that a set has of the candidates are those of an instance; if it has those of no
+-- source, the rule does not conclude the fact.
+use Rattle.std.proofs.Common.{◌≡◌, ℕ, ◌<◌, Bool, true, false, List, [], ◌∷◌, IsTrue, refl, sym}
+use Rattle.std.proofs.Common.{ap, subst, ◌∙◌, length, arith, Some, None}
+use Rattle.std.specs.Prelude.{◌||◌, ◌&&◌, if◌then◌else◌}
+use Rattle.std.proofs.lemmas.Bool.{or_left, or_right, and_parts}
 use Rattle.mrc_base.specs.declared.PortRight.{PortRight}
-use Rattle.mrc_base.specs.declared.PortRight.TheVariants.{Send, Receive, SendOnce}
-use Rattle.mrc_base.specs.declared.Disp.{Disp}
-use Rattle.mrc_base.specs.Disposition.{needed, given}
+use Rattle.mrc_base.specs.declared.PortRight.TheVariants.{Send}
 use Rattle.mrc_base.specs.declared.Fact.{Fact}
-use Rattle.mrc_base.specs.declared.Fact.TheVariants.{Hold, Carry, Backup}
-use Rattle.mrc_model.specs.Wiring.{Wiring, classes, kernel_class, accepts_routine}
-use Rattle.mrc_model.specs.Wiring.{accepts_destroyed}
-use Rattle.mrc_model.specs.Rules.{Has, InRange, Follows, CanSendBy, by_send, by_once}
-use Rattle.mrc_model.specs.Rules.{k2, k3_send, k3_once, k4, k5, k6, k7_up, k7_down, k8, k9, k10}
-use Rattle.mrc_model.specs.Conclusions.{same_right}
-use Rattle.mrc_wiring.specs.Slots.{takes}
-use Rattle.mrc_wiring.proofs.Takers.{taker}
-use Rattle.mrc_classes.specs.Parts.{are_linked, can_send_to}
-use Rattle.mrc_classes.specs.Following.{IsFirstFact}
+use Rattle.mrc_facts.specs.Order.{is_same}
+use Rattle.mrc_facts.proofs.Total.{same_itself, equal_from_same}
+use Rattle.mrc_model.specs.Wiring.{Wiring}
+use Rattle.mrc_model.specs.Rules.{FactSet, Has, InRange, Follows, Rule}
+use Rattle.mrc_model.specs.Rules.{k1, k2, k3_send, k3_once, k4, k5, k6, k7_up, k7_down, k8, k9, k10}
+use Rattle.mrc_slots.proofs.Passing.{same_right_is}
 use Rattle.mrc_classes.specs.declared.rule_names.RuleName.{RuleName}
 use Rattle.mrc_classes.specs.declared.rule_names.RuleName.TheVariants.{First, Births, Weaker, Slot}
 use Rattle.mrc_classes.specs.declared.rule_names.RuleName.TheVariants.{Reply, Received, KernelPort}
 use Rattle.mrc_classes.specs.declared.rule_names.RuleName.TheVariants.{Request, Notice, Returned}
-use Rattle.mrc_classes.specs.Lacks.{conclusion, Concludes, IsBirthClass, IsReceiver}
 use Rattle.mrc_classes.specs.declared.instances.FewFacts.{FewFacts}
 use Rattle.mrc_classes.specs.declared.instances.FewFacts.TheVariants.{Empty, One, Two}
-use Rattle.mrc_classes.specs.Instances.{IsInstance, IsSending}
-use Rattle.mrc_classes.proofs.Beginning.{first_hold_is, begins}
-use Rattle.mrc_classes.proofs.Concluding.{kernel_there}
-use Rattle.mrc_classes.proofs.Missed.{tested}
+use Rattle.mrc_classes.specs.declared.instances.Premise.{Premise}
+use Rattle.mrc_classes.specs.declared.instances.Premise.TheVariants.{Only, Either}
+use Rattle.mrc_classes.specs.declared.instances.Candidates.{Candidates}
+use Rattle.mrc_classes.specs.declared.instances.Candidates.TheVariants.{Never, ByNone, ByOne, ByTwo}
+use Rattle.mrc_classes.specs.Concluding.{conclusion, Concludes, AreKnown, FollowsBy}
+use Rattle.mrc_classes.specs.Missing.{rule_number}
+use Rattle.mrc_classes.specs.Instances.{IsInstance, AreParts, Concluded, fact_of, IsWithin, IsGoal}
+use Rattle.mrc_classes.specs.Instances.{IsSource}
+use Rattle.mrc_classes.specs.Instances.{has_premise, HavePremises, premises_count, HasCount}
+use Rattle.mrc_classes.specs.Instances.{fact_in, premises_in}
+use Rattle.mrc_classes.proofs.Meaning.{concluded, tested, all_known}
+use Rattle.mrc_classes.proofs.Missed.{number_rule}
+
+-- an instance of a rule has so many premises
+
+counted : (W : Wiring) (rule : RuleName) (k : ℕ) (premises : List Fact) (f : Fact)
+    → k ≡ rule_number rule
+    → Rule W k premises f
+    → length premises ≡ premises_count rule
+counted W rule k premises f e (k1 t p held is) = ap premises_count (number_rule First rule e)
+counted W rule k premises f e (k2 kind is) = ap premises_count (number_rule Births rule e)
+counted W rule k premises f e k3_send = ap premises_count (number_rule Weaker rule e)
+counted W rule k premises f e k3_once = ap premises_count (number_rule Weaker rule e)
+counted W rule k premises f e (k4 can label slot is fits) =
+    ap premises_count (number_rule Slot rule e)
+counted W rule k premises f e (k5 can side) = ap premises_count (number_rule Reply rule e)
+counted W rule k premises f e k6 = ap premises_count (number_rule Received rule e)
+counted W rule k premises f e k7_up = ap premises_count (number_rule KernelPort rule e)
+counted W rule k premises f e k7_down = ap premises_count (number_rule KernelPort rule e)
+counted W rule k premises f e (k8 side) = ap premises_count (number_rule Request rule e)
+counted W rule k premises f e k9 = ap premises_count (number_rule Notice rule e)
+counted W rule k premises f e k10 = ap premises_count (number_rule Returned rule e)
 
 module _ (W : Wiring) (S : Fact → Bool) where
-  -- at the places that the fact tells
-  held : (rule : RuleName) (t c row class : ℕ) (r right : PortRight)
-      → Hold t c r ≡ Hold row class right
-      → Concludes W S rule row class right
-      → Concludes W S rule t c r
-  held rule t c row class r right is y =
-      let one : row ≡ t = cc in
-      let other : class ≡ c = cc in
-      let same : right ≡ r = cc in
-      subst (λ n. Concludes W S rule n c r) one
-      (subst (λ n. Concludes W S rule row n r) other
-      (subst (λ q. Concludes W S rule row class q) same y))
+  -- an instance whose premises are in sets of one fact has these facts as its premises
 
-  carried : (rule : RuleName) (d c row class : ℕ) (r right : PortRight)
-      → Carry d c r ≡ Carry row class right
-      → Concludes W S rule row class right
-      → Concludes W S rule d c r
-  carried rule d c row class r right is y =
-      let one : row ≡ d = cc in
-      let other : class ≡ c = cc in
-      let same : right ≡ r = cc in
-      subst (λ n. Concludes W S rule n c r) one
-      (subst (λ n. Concludes W S rule row n r) other
-      (subst (λ q. Concludes W S rule row class q) same y))
+  from_none : (rule : RuleName) (f : Fact) (premises : List Fact)
+      → Rule W (rule_number rule) premises f
+      → InRange W f
+      → length premises ≡ 0
+      → IsInstance W S f (record { rule = rule; premises = Empty })
+  from_none rule f [] x within e = record { rule = x; known = tt; in_range = within }
+  from_none rule f (p ∷ more) x within e = cc
 
-  asked : (c d row class : ℕ) (right : PortRight)
-      → Backup c d ≡ Backup row class
-      → Concludes W S Request row class right
-      → Concludes W S Request c d right
-  asked c d row class right is y =
-      let one : row ≡ c = cc in
-      let other : class ≡ d = cc in
-      subst (λ n. Concludes W S Request n d right) one
-      (subst (λ n. Concludes W S Request row n right) other y)
-
-  -- a hold, a carry, a backup follows by one of the rules that conclude such a fact
-
-  pub no_hold : (t c : ℕ) (r : PortRight)
-      → (Concludes W S First t c r → ⊥)
-      → (Concludes W S Births t c r → ⊥)
-      → (Concludes W S Weaker t c r → ⊥)
-      → (Concludes W S Received t c r → ⊥)
-      → (Concludes W S KernelPort t c r → ⊥)
-      → (Concludes W S Returned t c r → ⊥)
-      → (k : ℕ)
-      → Follows W (Has S) k (Hold t c r)
-      → ⊥
-  no_hold t c r first births weaker received shared returned k h =
-      let x = tested W S k h.premises (Hold t c r) h.rule h.known h.in_range in
-      elim x.rule as (λ v. Hold t c r ≡ conclusion v x.row x.class x.right
-      → Concludes W S v x.row x.class x.right → ⊥) [
-        | First ↦ λ is y. first (held First t c x.row x.class r x.right is y)
-        | Births ↦ λ is y. births (held Births t c x.row x.class r x.right is y)
-        | Weaker ↦ λ is y. weaker (held Weaker t c x.row x.class r x.right is y)
-        | Slot ↦ λ is y. absurd cc
-        | Reply ↦ λ is y. absurd cc
-        | Received ↦ λ is y. received (held Received t c x.row x.class r x.right is y)
-        | KernelPort ↦ λ is y. shared (held KernelPort t c x.row x.class r x.right is y)
-        | Request ↦ λ is y. absurd cc
-        | Notice ↦ λ is y. absurd cc
-        | Returned ↦ λ is y. returned (held Returned t c x.row x.class r x.right is y)
-      ] x.is x.concluded
-
-  pub no_carry : (d c : ℕ) (r : PortRight)
-      → (Concludes W S Slot d c r → ⊥)
-      → (Concludes W S Reply d c r → ⊥)
-      → (Concludes W S Notice d c r → ⊥)
-      → (k : ℕ)
-      → Follows W (Has S) k (Carry d c r)
-      → ⊥
-  no_carry d c r slot reply notice k h =
-      let x = tested W S k h.premises (Carry d c r) h.rule h.known h.in_range in
-      elim x.rule as (λ v. Carry d c r ≡ conclusion v x.row x.class x.right
-      → Concludes W S v x.row x.class x.right → ⊥) [
-        | First ↦ λ is y. absurd cc
-        | Births ↦ λ is y. absurd cc
-        | Weaker ↦ λ is y. absurd cc
-        | Slot ↦ λ is y. slot (carried Slot d c x.row x.class r x.right is y)
-        | Reply ↦ λ is y. reply (carried Reply d c x.row x.class r x.right is y)
-        | Received ↦ λ is y. absurd cc
-        | KernelPort ↦ λ is y. absurd cc
-        | Request ↦ λ is y. absurd cc
-        | Notice ↦ λ is y. notice (carried Notice d c x.row x.class r x.right is y)
-        | Returned ↦ λ is y. absurd cc
-      ] x.is x.concluded
-
-  pub no_backup : (c d : ℕ)
-      → ((r : PortRight) → Concludes W S Request c d r → ⊥)
-      → (k : ℕ)
-      → Follows W (Has S) k (Backup c d)
-      → ⊥
-  no_backup c d request k h =
-      let x = tested W S k h.premises (Backup c d) h.rule h.known h.in_range in
-      elim x.rule as (λ v. Backup c d ≡ conclusion v x.row x.class x.right
-      → Concludes W S v x.row x.class x.right → ⊥) [
-        | First ↦ λ is y. absurd cc
-        | Births ↦ λ is y. absurd cc
-        | Weaker ↦ λ is y. absurd cc
-        | Slot ↦ λ is y. absurd cc
-        | Reply ↦ λ is y. absurd cc
-        | Received ↦ λ is y. absurd cc
-        | KernelPort ↦ λ is y. absurd cc
-        | Request ↦ λ is y. request x.right (asked c d x.row x.class x.right is y)
-        | Notice ↦ λ is y. absurd cc
-        | Returned ↦ λ is y. absurd cc
-      ] x.is x.concluded
-
-  -- the instances, rule by rule
-
-  pub by_birth : (t c : ℕ) (r : PortRight)
-      → InRange W (Hold t c r)
-      → same_right r Receive ≡ true
-      → IsBirthClass W t c
-      → IsInstance W S (Hold t c r) (record { rule = Births; premises = Empty })
-  by_birth t c Send within e x = absurd cc
-  by_birth t c Receive within e x =
-      record { rule = k2 x.0 x.1; known = tt; in_range = within }
-  by_birth t c SendOnce within e x = absurd cc
-
-  pub by_first : (t c : ℕ) (r : PortRight)
-      → InRange W (Hold t c r)
-      → (same_right r Receive ≡ true → IsBirthClass W t c → ⊥)
-      → IsFirstFact W (Hold t c r)
-      → IsInstance W S (Hold t c r) (record { rule = First; premises = Empty })
-  by_first t c r within none x =
-      elim (begins W x.rule (Hold t c r) x.instance x.in_range) [
-        | inl at ↦ record {
-          rule = first_hold_is W (Hold t c r) at;
-          known = tt;
-          in_range = within;
-        }
-        | inr at ↦
-            let task : at.at.task ≡ t = let h = at.at.is in cc in
-            let class : at.place ≡ c = let h = at.at.is in cc in
-            let right : r ≡ Receive = let h = at.at.is in cc in
-            let born : IsBirthClass W at.at.task at.place = (at.at.kind, at.at.birth) in
-            absurd (none (subst (λ q. same_right q Receive ≡ true) (sym right) refl)
-            (subst (λ n. IsBirthClass W n c) task
-            (subst (λ n. IsBirthClass W at.at.task n) class born)))
-      ]
-
-  pub by_weaker : (t c : ℕ) (r : PortRight)
-      → InRange W (Hold t c r)
-      → same_right r Receive ≡ false
-      → IsTrue (S (Hold t c Receive))
-      → IsInstance W S (Hold t c r)
-      (record { rule = Weaker; premises = One (Hold t c Receive) })
-  by_weaker t c Send within e h =
-      record { rule = k3_send; known = ((within, h), tt); in_range = within }
-  by_weaker t c Receive within e h = absurd cc
-  by_weaker t c SendOnce within e h =
-      record { rule = k3_once; known = ((within, h), tt); in_range = within }
-
-  pub by_received : (t c : ℕ) (r : PortRight) (d : ℕ)
-      → InRange W (Hold t c r)
-      → (d < classes W) × IsTrue (S (Hold t d Receive)) × IsTrue (S (Carry d c r))
-      → IsInstance W S (Hold t c r)
-      (record { rule = Received; premises = Two (Hold t d Receive) (Carry d c r) })
-  by_received t c r d within h = record {
-    rule = k6;
-    known = (((within.0, h.0), h.1), (((h.0, within.1), h.2), tt));
-    in_range = within;
-  }
-
-  -- the send right that links two tasks
-  abbrev pub link : ℕ → ℕ → Fact
-  link t u =
-      if S (Hold t (kernel_class W u) Send) then Hold t (kernel_class W u) Send
-      else Hold u (kernel_class W t) Send
-
-  pub by_kernel_port : (t c : ℕ) (r : PortRight) (u : ℕ)
-      → InRange W (Hold t c r)
-      → (u < W.tasks) × IsTrue (are_linked W S t u) × IsTrue (S (Hold u c r))
-      → IsInstance W S (Hold t c r)
-      (record { rule = KernelPort; premises = Two (link t u) (Hold u c r) })
-  by_kernel_port t c r u within h =
-      elim (S (Hold t (kernel_class W u) Send)) as (λ b. S (Hold t (kernel_class W u) Send) ≡ b
-      → IsTrue (b || S (Hold u (kernel_class W t) Send))
-      → IsInstance W S (Hold t c r) (record {
-        rule = KernelPort;
-        premises = Two (if b then Hold t (kernel_class W u) Send
-            else Hold u (kernel_class W t) Send) (Hold u c r);
-      })) [
-        | true ↦ λ up linked. record {
-          rule = k7_up;
-          known = (((within.0, kernel_there W u h.0), up), (((h.0, within.1), h.2), tt));
-          in_range = within;
-        }
-        | false ↦ λ up linked. record {
-          rule = k7_down;
-          known = (((h.0, kernel_there W t within.0), linked), (((h.0, within.1), h.2), tt));
-          in_range = within;
-        }
-      ] refl h.1
-
-  pub by_returned : (t c : ℕ) (r : PortRight) (d : ℕ)
-      → InRange W (Hold t c r)
-      → same_right r SendOnce ≡ true
-      → (d < classes W) × IsTrue (S (Hold t d Receive)) × IsTrue (S (Backup d c))
-      → IsInstance W S (Hold t c r)
-      (record { rule = Returned; premises = Two (Hold t d Receive) (Backup d c) })
-  by_returned t c Send d within e h = absurd cc
-  by_returned t c Receive d within e h = absurd cc
-  by_returned t c SendOnce d within e h = record {
-    rule = k10;
-    known = (((within.0, h.0), h.1), (((h.0, within.1), h.2), tt));
-    in_range = within;
-  }
-
-  can_by : (r : PortRight) → (r ≡ Send) ⊎ (r ≡ SendOnce) → CanSendBy r
-  can_by r (inl e) = subst CanSendBy (sym e) by_send
-  can_by r (inr e) = subst CanSendBy (sym e) by_once
-
-  -- some task can send and holds the right
-  pub sending_is : (d c t : ℕ) (q : PortRight) (by : Fact)
-      → (t < W.tasks) × IsTrue (can_send_to S t d) × IsTrue (S (Hold t c q))
-      → by ≡ (if S (Hold t d Send) then Hold t d Send else Hold t d SendOnce)
-      → IsSending W S d c q (Two by (Hold t c q))
-  sending_is d c t q by h e =
-      subst (λ f. IsSending W S d c q (Two f (Hold t c q))) (sym e)
-      (elim (S (Hold t d Send)) as (λ b. S (Hold t d Send) ≡ b
-      → IsTrue (b || S (Hold t d SendOnce))
-      → IsSending W S d c q (Two (if b then Hold t d Send else Hold t d SendOnce) (Hold t c q))) [
-        | true ↦ λ at can. record {
-          task = t;
-          there = h.0;
-          by = Send;
-          can = inl refl;
-          sends = at;
-          holds = h.2;
-          is = refl;
-        }
-        | false ↦ λ at can. record {
-          task = t;
-          there = h.0;
-          by = SendOnce;
-          can = inr refl;
-          sends = can;
-          holds = h.2;
-          is = refl;
-        }
-      ] refl h.1)
-
-  pub by_slot : (d c : ℕ) (x : Disp) (p : FewFacts)
-      → InRange W (Carry d c (given x))
-      → takes W d x c ≡ true
-      → IsSending W S d c (needed x) p
-      → IsInstance W S (Carry d c (given x)) (record { rule = Slot; premises = p })
-  by_slot d c x p within takes_it s =
-      let w = taker W d x c takes_it in
-      subst (λ v. IsInstance W S (Carry d c (given x)) (record { rule = Slot; premises = v }))
-      (sym s.is) (record {
-        rule = k4 (can_by s.by s.can) w.labelled w.among w.disposition w.admitted;
-        known = (((s.there, within.0), s.sends), (((s.there, within.1), s.holds), tt));
+  from_one : (rule : RuleName) (f : Fact) (F : FactSet) (q : Fact) (premises : List Fact)
+      → Rule W (rule_number rule) premises f
+      → InRange W f
+      → AreKnown W F (Has (is_same q)) premises
+      → length premises ≡ 1
+      → IsTrue (S q)
+      → IsInstance W S f (record { rule = rule; premises = One q })
+  from_one rule f F q [] x within known e there = cc
+  from_one rule f F q (b ∷ []) x within known e there =
+      let same = equal_from_same q b known.0.1 in
+      subst (λ y. IsInstance W S f (record { rule = rule; premises = One y })) (sym same) (record {
+        rule = x;
+        known = ((known.0.0, subst (λ y. IsTrue (S y)) same there), tt);
         in_range = within;
       })
+  from_one rule f F q (a ∷ b ∷ more) x within known e there = absurd (omega arith)
 
-  pub by_reply : (d c : ℕ) (r : PortRight) (p : FewFacts)
-      → InRange W (Carry d c r)
-      → same_right r SendOnce ≡ true
-      → accepts_routine W d ≡ true
-      → IsSending W S d c SendOnce p
-      → IsInstance W S (Carry d c r) (record { rule = Reply; premises = p })
-  by_reply d c Send p within e side s = absurd cc
-  by_reply d c Receive p within e side s = absurd cc
-  by_reply d c SendOnce p within e side s =
-      subst (λ v. IsInstance W S (Carry d c SendOnce) (record { rule = Reply; premises = v }))
-      (sym s.is) (record {
-        rule = k5 (can_by s.by s.can) side;
-        known = (((s.there, within.0), s.sends), (((s.there, within.1), s.holds), tt));
+  from_two : (rule : RuleName) (f p q : Fact) (premises : List Fact)
+      → Rule W (rule_number rule) premises f
+      → InRange W f
+      → AreKnown W (Has (is_same p)) (Has (is_same q)) premises
+      → length premises ≡ 2
+      → IsTrue (S p)
+      → IsTrue (S q)
+      → IsInstance W S f (record { rule = rule; premises = Two p q })
+  from_two rule f p q [] x within known e one other = cc
+  from_two rule f p q (a ∷ []) x within known e one other = absurd (omega arith)
+  from_two rule f p q (a ∷ b ∷ []) x within known e one other =
+      let first = equal_from_same p a known.0.1 in
+      let last = equal_from_same q b known.1.0.1 in
+      subst (λ y. IsInstance W S f (record { rule = rule; premises = Two y q })) (sym first)
+      (subst (λ y. IsInstance W S f (record { rule = rule; premises = Two a y })) (sym last)
+      (record {
+        rule = x;
+        known = (
+          (known.0.0, subst (λ y. IsTrue (S y)) first one),
+          ((known.1.0.0, subst (λ y. IsTrue (S y)) last other), tt),
+        );
         in_range = within;
-      })
+      }))
+  from_two rule f p q (a ∷ b ∷ d ∷ more) x within known e one other = absurd (omega arith)
 
-  pub by_notice : (d c : ℕ) (r : PortRight)
-      → InRange W (Carry d c r)
-      → same_right r Receive ≡ true
-      → IsTrue (S (Backup c d))
-      → IsInstance W S (Carry d c r) (record { rule = Notice; premises = One (Backup c d) })
-  by_notice d c Send within e h = absurd cc
-  by_notice d c Receive within e h =
-      record { rule = k9; known = (((within.1, within.0), h), tt); in_range = within }
-  by_notice d c SendOnce within e h = absurd cc
+-- the fact that is picked for a premise is in the set, and one that the premise can be
+picked : (S : Fact → Bool) (p : Premise)
+    → IsTrue (has_premise S p)
+    → IsTrue (S (fact_in S p)) × IsTrue (has_premise (is_same (fact_in S p)) p)
+picked S (Only f) there = (there, same_itself f)
+picked S (Either f g) there =
+    elim (S f) as (λ b. S f ≡ b → IsTrue (b || S g) → IsTrue (S (if b then f else g))
+    × IsTrue (is_same (if b then f else g) f || is_same (if b then f else g) g)) [
+      | true ↦ λ at h. (at, or_left (is_same f f) (is_same f g) (same_itself f))
+      | false ↦ λ at h. (h, or_right (is_same g f) (is_same g g) (same_itself g))
+    ] refl there
 
-  pub by_request : (c d t : ℕ)
-      → InRange W (Backup c d)
-      → accepts_destroyed W d ≡ true
-      → (t < W.tasks) × IsTrue (S (Hold t c Receive)) × IsTrue (S (Hold t d SendOnce))
-      → IsInstance W S (Backup c d)
-      (record { rule = Request; premises = Two (Hold t c Receive) (Hold t d SendOnce) })
-  by_request c d t within side h = record {
-    rule = k8 side;
-    known = (((h.0, within.0), h.1), (((h.0, within.1), h.2), tt));
-    in_range = within;
-  }
+module _ (S : Fact → Bool) (g : Concluded) (within : IsWithin g) (n : ℕ) where
+  -- what a source concludes follows
+  follows_by : (A B : Fact → Bool)
+      → IsSource A B g n
+      → FollowsBy g.wiring (Has A) (Has B) (rule_number g.rule) (fact_of g)
+  follows_by A B x =
+      concluded g.wiring A B g.rule g.row g.class g.right within.row_there within.class_there
+      (record { source = n; there = x.there; first = x.first; last = x.last })
 
-  -- the same, of premises that are told by equations
+  abbrev Picks : FewFacts → Type 0
+  Picks few = IsInstance g.wiring S (fact_of g) (record { rule = g.rule; premises = few })
 
-  pub weaker_at : (t c : ℕ) (r : PortRight) (p : Fact)
-      → InRange W (Hold t c r)
-      → same_right r Receive ≡ false
-      → p ≡ Hold t c Receive
-      → IsTrue (S p)
-      → IsInstance W S (Hold t c r) (record { rule = Weaker; premises = One p })
-  weaker_at t c r p within e is h =
-      subst (λ f. IsInstance W S (Hold t c r) (record { rule = Weaker; premises = One f }))
-      (sym is) (by_weaker t c r within e (subst (λ f. IsTrue (S f)) is h))
+  -- the premises that are picked of the candidates are those of an instance
+  pub justified : (c : Candidates)
+      → ((A B : Fact → Bool) → HavePremises A B c → IsSource A B g n)
+      → HasCount (premises_count g.rule) c
+      → (few : FewFacts)
+      → premises_in S c ≡ Some few
+      → Picks few
+  justified Never source count few e = cc
+  justified ByNone source count few e =
+      let none : Fact → Bool = λ f. false in
+      let x = follows_by none none (source none none tt) in
+      let so_many = counted g.wiring g.rule (rule_number g.rule) x.premises (fact_of g) refl
+      x.rule in
+      let same : Empty ≡ few = cc in
+      subst Picks same
+      (from_none g.wiring S g.rule (fact_of g) x.premises x.rule x.in_range (so_many ∙ count))
+  justified (ByOne f) source count few e =
+      elim (S f) as (λ b. S f ≡ b → (if b then Some (One f) else None) ≡ Some few → Picks few) [
+        | true ↦ λ there is.
+            let none : Fact → Bool = λ f. false in
+            let x = follows_by none (is_same f) (source none (is_same f) (same_itself f)) in
+            let so_many = counted g.wiring g.rule (rule_number g.rule) x.premises (fact_of g) refl
+            x.rule in
+            let same : One f ≡ few = cc in
+            subst Picks same
+            (from_one g.wiring S g.rule (fact_of g) (Has none) f x.premises x.rule x.in_range
+            x.known (so_many ∙ count) there)
+        | false ↦ λ there is. cc
+      ] refl e
+  justified (ByTwo p q) source count few e =
+      elim (has_premise S p && has_premise S q) as (λ b. (has_premise S p && has_premise S q) ≡ b
+      → (if b then Some (Two (fact_in S p) (fact_in S q)) else None) ≡ Some few → Picks few) [
+        | true ↦ λ there is.
+            let both = and_parts (has_premise S p) (has_premise S q) there in
+            let one = picked S p both.0 in
+            let other = picked S q both.1 in
+            let x = follows_by (is_same (fact_in S p)) (is_same (fact_in S q))
+            (source (is_same (fact_in S p)) (is_same (fact_in S q)) (one.1, other.1)) in
+            let so_many = counted g.wiring g.rule (rule_number g.rule) x.premises (fact_of g) refl
+            x.rule in
+            let same : Two (fact_in S p) (fact_in S q) ≡ few = cc in
+            subst Picks same
+            (from_two g.wiring S g.rule (fact_of g) (fact_in S p) (fact_in S q) x.premises x.rule
+            x.in_range x.known (so_many ∙ count) one.0 other.0)
+        | false ↦ λ there is. cc
+      ] refl e
 
-  pub received_at : (t c : ℕ) (r : PortRight) (d : ℕ) (p q : Fact)
-      → InRange W (Hold t c r)
-      → (d < classes W) × IsTrue (S (Hold t d Receive)) × IsTrue (S (Carry d c r))
-      → p ≡ Hold t d Receive
-      → q ≡ Carry d c r
-      → IsInstance W S (Hold t c r) (record { rule = Received; premises = Two p q })
-  received_at t c r d p q within h one other =
-      subst (λ f. IsInstance W S (Hold t c r) (record { rule = Received; premises = Two f q }))
-      (sym one) (subst (λ f. IsInstance W S (Hold t c r)
-      (record { rule = Received; premises = Two (Hold t d Receive) f })) (sym other)
-      (by_received t c r d within h))
+module _ (W : Wiring) (S : Fact → Bool) where
+  -- what the rule concludes as the fact, it concludes at the fact's parts
 
-  pub kernel_port_at : (t c : ℕ) (r : PortRight) (u : ℕ) (p q : Fact)
-      → InRange W (Hold t c r)
-      → (u < W.tasks) × IsTrue (are_linked W S t u) × IsTrue (S (Hold u c r))
-      → p ≡ link t u
-      → q ≡ Hold u c r
-      → IsInstance W S (Hold t c r) (record { rule = KernelPort; premises = Two p q })
-  kernel_port_at t c r u p q within h one other =
-      subst (λ f. IsInstance W S (Hold t c r) (record { rule = KernelPort; premises = Two f q }))
-      (sym one) (subst (λ f. IsInstance W S (Hold t c r)
-      (record { rule = KernelPort; premises = Two (link t u) f })) (sym other)
-      (by_kernel_port t c r u within h))
+  moved : (rule : RuleName) (t c : ℕ) (r : PortRight) (f : Fact) (u d : ℕ) (q : PortRight)
+      → f ≡ conclusion rule t c r → u ≡ t → d ≡ c → q ≡ r → Concludes W S S rule t c r
+      → (conclusion rule u d q ≡ f) × Concludes W S S rule u d q
+  moved rule t c r f u d q is a b e x = (
+    ap (λ n. conclusion rule n d q) a ∙ (ap (λ n. conclusion rule t n q) b
+        ∙ (ap (conclusion rule t c) e ∙ sym is)),
+    subst (λ y. Concludes W S S rule u d y) (sym e)
+        (subst (λ n. Concludes W S S rule u n r) (sym b)
+        (subst (λ n. Concludes W S S rule n c r) (sym a) x)),
+  )
 
-  pub returned_at : (t c : ℕ) (r : PortRight) (d : ℕ) (p q : Fact)
-      → InRange W (Hold t c r)
-      → same_right r SendOnce ≡ true
-      → (d < classes W) × IsTrue (S (Hold t d Receive)) × IsTrue (S (Backup d c))
-      → p ≡ Hold t d Receive
-      → q ≡ Backup d c
-      → IsInstance W S (Hold t c r) (record { rule = Returned; premises = Two p q })
-  returned_at t c r d p q within e h one other =
-      subst (λ f. IsInstance W S (Hold t c r) (record { rule = Returned; premises = Two f q }))
-      (sym one) (subst (λ f. IsInstance W S (Hold t c r)
-      (record { rule = Returned; premises = Two (Hold t d Receive) f })) (sym other)
-      (by_returned t c r d within e h))
+  at_parts : (rule : RuleName) (t c : ℕ) (r : PortRight) (f : Fact) (u d : ℕ) (q : PortRight)
+      → f ≡ conclusion rule t c r → AreParts f u d q → Concludes W S S rule t c r
+      → (conclusion rule u d q ≡ f) × Concludes W S S rule u d q
+  at_parts First t c r f u d q is parts x =
+      let p = subst (λ g. AreParts g u d q) is parts in
+      moved First t c r f u d q is p.0 p.1 p.2 x
+  at_parts Births t c r f u d q is parts x =
+      let p = subst (λ g. AreParts g u d q) is parts in
+      moved Births t c r f u d q is p.0 p.1 p.2 x
+  at_parts Weaker t c r f u d q is parts x =
+      let p = subst (λ g. AreParts g u d q) is parts in
+      moved Weaker t c r f u d q is p.0 p.1 p.2 x
+  at_parts Slot t c r f u d q is parts x =
+      let p = subst (λ g. AreParts g u d q) is parts in
+      moved Slot t c r f u d q is p.0 p.1 p.2 x
+  at_parts Reply t c r f u d q is parts x =
+      let p = subst (λ g. AreParts g u d q) is parts in
+      moved Reply t c r f u d q is p.0 p.1 p.2 x
+  at_parts Received t c r f u d q is parts x =
+      let p = subst (λ g. AreParts g u d q) is parts in
+      moved Received t c r f u d q is p.0 p.1 p.2 x
+  at_parts KernelPort t c r f u d q is parts x =
+      let p = subst (λ g. AreParts g u d q) is parts in
+      moved KernelPort t c r f u d q is p.0 p.1 p.2 x
+  at_parts Notice t c r f u d q is parts x =
+      let p = subst (λ g. AreParts g u d q) is parts in
+      moved Notice t c r f u d q is p.0 p.1 p.2 x
+  at_parts Returned t c r f u d q is parts x =
+      let p = subst (λ g. AreParts g u d q) is parts in
+      moved Returned t c r f u d q is p.0 p.1 p.2 x
+  at_parts Request t c r f u d q is parts x =
+      let p = subst (λ g. AreParts g u d q) is parts in
+      moved Request t c r f u d q is p.0 p.1 (p.2 ∙ sym (same_right_is r Send x.last.0)) x
 
-  pub notice_at : (d c : ℕ) (r : PortRight) (p : Fact)
-      → InRange W (Carry d c r)
-      → same_right r Receive ≡ true
-      → p ≡ Backup c d
-      → IsTrue (S p)
-      → IsInstance W S (Carry d c r) (record { rule = Notice; premises = One p })
-  notice_at d c r p within e is h =
-      subst (λ f. IsInstance W S (Carry d c r) (record { rule = Notice; premises = One f }))
-      (sym is) (by_notice d c r within e (subst (λ f. IsTrue (S f)) is h))
+  -- there are ten rules
+  few_names : (rule : RuleName) → rule_number rule < 11
+  few_names First = omega arith
+  few_names Births = omega arith
+  few_names Weaker = omega arith
+  few_names Slot = omega arith
+  few_names Reply = omega arith
+  few_names Received = omega arith
+  few_names KernelPort = omega arith
+  few_names Request = omega arith
+  few_names Notice = omega arith
+  few_names Returned = omega arith
 
-  pub request_at : (c d t : ℕ) (p q : Fact)
-      → InRange W (Backup c d)
-      → accepts_destroyed W d ≡ true
-      → (t < W.tasks) × IsTrue (S (Hold t c Receive)) × IsTrue (S (Hold t d SendOnce))
-      → p ≡ Hold t c Receive
-      → q ≡ Hold t d SendOnce
-      → IsInstance W S (Backup c d) (record { rule = Request; premises = Two p q })
-  request_at c d t p q within side h one other =
-      subst (λ f. IsInstance W S (Backup c d) (record { rule = Request; premises = Two f q }))
-      (sym one) (subst (λ f. IsInstance W S (Backup c d)
-      (record { rule = Request; premises = Two (Hold t c Receive) f })) (sym other)
-      (by_request c d t within side h))
+  pub few_rules : (k : ℕ) (f : Fact) → Follows W (Has S) k f → k < 11
+  few_rules k f x =
+      let t = tested W S S k x.premises f x.rule (all_known W (Has S) x.premises x.known)
+      x.in_range in
+      let low = few_names t.rule in
+      omega (arith, t.number)
 
-  -- no task receives and holds the right
-  pub no_receiver : (c d : ℕ)
-      → (IsReceiver W S c d SendOnce → ⊥)
-      → (k : ℕ)
-      → Follows W (Has S) k (Backup c d)
-      → ⊥
-  no_receiver c d none = no_backup c d (λ r x. none x.1)
+  pub not_concluded : (rule : RuleName) (f : Fact) (u d : ℕ) (q : PortRight)
+      → AreParts f u d q → (conclusion rule u d q ≡ f → Concludes W S S rule u d q → ⊥)
+      → Follows W (Has S) (rule_number rule) f → ⊥
+  not_concluded rule f u d q parts none x =
+      let t = tested W S S (rule_number rule) x.premises f x.rule
+      (all_known W (Has S) x.premises x.known) x.in_range in
+      let e = number_rule t.rule rule t.number in
+      let p = at_parts rule t.row t.class t.right f u d q
+      (subst (λ k. f ≡ conclusion k t.row t.class t.right) e t.is) parts
+      (subst (λ k. Concludes W S S k t.row t.class t.right) e t.concluded) in
+      none p.0 p.1
 
--- what holds where there is none
-pub widen_none : {X A B : Type 0} → (o : Option X) → (A → B) → IfNone o A → IfNone o B
-widen_none None wider h = wider h
-widen_none (Some x) wider h = tt
+-- the same of a goal
+pub not_by_source : (W : Wiring) (S : Fact → Bool) (rule : RuleName) (f : Fact) (g : Concluded)
+    → IsGoal W rule f g
+    → ((n : ℕ) → IsSource S S g n → ⊥)
+    → Follows W (Has S) (rule_number rule) f → ⊥
+not_by_source W S rule f g goal none x =
+    not_concluded g.wiring S g.rule f g.row g.class g.right goal.parts
+    (λ e y. none y.source (record { there = y.there; first = y.first; last = y.last }))
+    (subst (λ V. Follows V (Has S) (rule_number g.rule) f) (sym goal.wiring)
+    (subst (λ r. Follows W (Has S) (rule_number r) f) (sym goal.rule_is) x))

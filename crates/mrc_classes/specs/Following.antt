@@ -1,5 +1,5 @@
--- What follows by the ten rules: from nothing, and from a fact with those of a set. This profile's
--- own choice.
+-- Believe. What follows by the ten rules: from nothing, and from a fact with those of a set. This
+-- profile's own choice.
 use Rattle.std.specs.Prelude.{◌≡◌, ◌↔◌, ℕ, List, [], IsTrue}
 use Rattle.mrc_base.specs.declared.PortRight.{PortRight}
 use Rattle.mrc_base.specs.declared.Fact.{Fact}

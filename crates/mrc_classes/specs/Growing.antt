@@ -1,4 +1,5 @@
--- How a set of facts grows, and the parts by which it does. This profile's own choice.
+-- Believe. How a set of facts grows, and the parts by which it does; only `Added` has to be
+-- believed. This profile's own choice.
 use Rattle.std.specs.Prelude.{◌≡◌, ℕ, ◌<◌, ◌⊎◌, Bool, false, IsTrue}
 use Rattle.mrc_base.specs.declared.Fact.{Fact}
 
@@ -16,11 +17,6 @@ nothing g = false
 pub record Only (test : Bool) (fact g : Fact) : Type 0 where
   pub there : IsTrue test
   pub is : g ≡ fact
-
--- one of these, where the test passes
-pub record If (test : Bool) (P : Fact → Type 0) (g : Fact) : Type 0 where
-  pub there : IsTrue test
-  pub at : P g
 
 -- one of those of the numbers below n
 pub record Below (n : ℕ) (Q : ℕ → Fact → Type 0) (g : Fact) : Type 0 where

@@ -1,9 +1,9 @@
 pub mod Following
 pub mod Growing
 pub mod Parts
-pub mod Spreading
-pub mod Holding
-pub mod Widening
+pub mod Marking
+pub mod Concluding
+pub mod Places
 pub mod Missing
 pub mod Lacks
 pub mod Instances

@@ -1,5 +1,5 @@
--- What a set of facts lacks by the ten rules, and which lack is the first. This profile's own
--- choice.
+-- Believe. What a set of facts lacks by the ten rules, which lack is the first, and the numbers of
+-- the rules. This profile's own choice.
 use Rattle.std.specs.Prelude.{◌≡◌, ℕ, ◌<◌, ◌⊎◌, Bool, false, List, Option, Some, None}
 use Rattle.mrc_base.specs.declared.Fact.{Fact}
 use Rattle.mrc_model.specs.Wiring.{Wiring}

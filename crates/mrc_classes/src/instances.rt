@@ -1,27 +1,42 @@
-//! Instances of the rules by which a set concludes a fact.
+//! The instances of the rules that conclude a fact.
+//!
+//! `candidates_of` has the ten rules for a single fact, as `rules` has them for whole rows.
 
-ghost use Rattle.std.specs.Prelude.{◌≡◌, ◌<◌, ℕ, Bool, IsTrue, IfSome, IfNone, if◌then◌else◌};
+ghost use Rattle.std.specs.Prelude.{◌≡◌, ◌<◌, ◌≤◌, ◌↔◌, ◌&&◌, ◌||◌, ℕ, Bool, IsTrue, IfSome, IfNone};
 ghost use Rattle.mrc_base.specs.declared.PortRight.{PortRight};
-ghost use Rattle.mrc_base.specs.declared.Disp.{Disp};
 ghost use Rattle.mrc_base.specs.declared.Fact.{Fact};
-ghost use Rattle.mrc_base.specs.Disposition.{given};
-ghost use Rattle.mrc_model.specs.Wiring.{classes, kernel_class};
-ghost use Rattle.mrc_model.specs.Rules.{Has, Follows, InRange};
+ghost use Rattle.mrc_model.specs.Wiring.{classes};
+ghost use Rattle.mrc_model.specs.Rules.{Has, Follows};
 ghost use Rattle.mrc_wiring.specs.Table.{wiring_of};
 ghost use Rattle.mrc_facts.specs.Sets.{has};
-ghost use Rattle.mrc_classes.specs.Parts.{are_linked, can_send_to};
-ghost use Rattle.mrc_classes.specs.Following.{IsListOf, IsFirstFact};
-ghost use Rattle.mrc_classes.specs.Lacks.{IsSender, IsReceiver, IsReceived};
-ghost use Rattle.mrc_classes.specs.Lacks.{IsShared, IsReturned, IsCarriedBy, Concludes};
-ghost use Rattle.mrc_classes.specs.Instances.{IsInstance, IsSending};
+ghost use Rattle.mrc_classes.specs.Concluding.{conclusion, rows, sources, can_send_to, are_linked};
+ghost use Rattle.mrc_classes.specs.Concluding.{is_taken_of, leads, Comes};
+ghost use Rattle.mrc_classes.specs.Missing.{rule_number};
+ghost use Rattle.mrc_classes.specs.Instances.{IsInstance, AreParts, IsWithin, IsGoal, IsSource};
+ghost use Rattle.mrc_classes.specs.Instances.{has_premise, HavePremises, premises_count, HasCount};
+ghost use Rattle.mrc_classes.specs.Instances.{fact_of, fact_in, premises_in};
 ghost use Rattle.mrc_classes.specs.declared.rule_names.RuleName.{RuleName};
 
-use crate::lacking::{are_linked, can_send_to, is_birth};
 use crate::rights::{backup, carry, hold, is_in_range, kernel_port, same_right};
-use crate::rule_names::RuleName;
-use mrc_base::{ClassId, Disp, Fact, PortRight, need};
+use crate::rule_names::{RuleName, rule_of};
+use crate::rules::{Rules, conclusion, is_birth_class, leads, sources};
+use mrc_base::{Fact, PortRight};
 use mrc_rows::Facts;
-use mrc_wiring::Wired;
+use std::marker::Model;
+
+/// The ten rules in the order of their numbers.
+pub const RULES: [RuleName; 10] = [
+    RuleName::First,
+    RuleName::Births,
+    RuleName::Weaker,
+    RuleName::Slot,
+    RuleName::Reply,
+    RuleName::Received,
+    RuleName::KernelPort,
+    RuleName::Request,
+    RuleName::Notice,
+    RuleName::Returned,
+];
 
 /// The premises of an instance of a rule, in the rule's order.
 #[derive(Clone, Copy, Debug, PartialEq, Eq)]
@@ -43,433 +58,422 @@ pub struct Instance {
     pub premises: FewFacts,
 }
 
-/// The first task that can send to class `to` and holds the right on the other class.
-pub(crate) fn sender(
-    wired: &Wired,
-    facts: &Facts,
-    to: u16,
-    class: u16,
-    held: PortRight,
-) -> Option<u16>
-    ensures some { IfSome result (λ t. (t < (wiring_of wired.now).tasks)
-        × IsTrue (can_send_to (has facts.now) t to)
-        × IsTrue (has facts.now (Fact.Hold t class held))) }
-    ensures none { IfNone result
-        (IsSender (wiring_of wired.now) (has facts.now) to class held → ⊥) }
-{
-    for task in 0..wired.tasks() {
-        if can_send_to(facts, task, to) && facts.has(&hold(task, class, held)) {
-            return Some(task);
+/// The facts that a premise can be.
+#[derive(Clone, Copy, Debug, PartialEq, Eq)]
+pub enum Premise {
+    /// This fact.
+    Only(Fact),
+    /// One fact or the other.
+    Either(Fact, Fact),
+}
+
+impl Premise {
+    /// Whether the set has one of the facts.
+    fn is_in(&self, facts: &Facts) -> bool
+        ensures { result ≡ has_premise (has facts.now) self.now }
+    {
+        match self {
+            Premise::Only(fact) => facts.has(fact),
+            Premise::Either(one, other) => facts.has(one) || facts.has(other),
         }
     }
-    None
-}
 
-/// The first task that receives at the class and holds the right on the other class.
-pub(crate) fn receiver(wired: &Wired, facts: &Facts, class: u16, notify: u16) -> Option<u16>
-    ensures some { IfSome result (λ t. (t < (wiring_of wired.now).tasks)
-        × IsTrue (has facts.now (Fact.Hold t class PortRight.Receive))
-        × IsTrue (has facts.now (Fact.Hold t notify PortRight.SendOnce))) }
-    ensures none { IfNone result
-        (IsReceiver (wiring_of wired.now) (has facts.now) class notify PortRight.SendOnce → ⊥) }
-{
-    for task in 0..wired.tasks() {
-        if facts.has(&hold(task, class, PortRight::Receive))
-            && facts.has(&hold(task, notify, PortRight::SendOnce))
-        {
-            return Some(task);
+    /// The first of the facts that the set has, else the last.
+    fn fact_in(&self, facts: &Facts) -> Fact
+        ensures { result ≡ fact_in (has facts.now) self.now }
+    {
+        match self {
+            Premise::Only(fact) => *fact,
+            Premise::Either(one, other) => { if facts.has(one) { *one } else { *other } }
         }
     }
-    None
 }
 
-/// The first class at which the task receives, and to which the right is carried.
-pub(crate) fn received_at(
-    wired: &Wired,
-    facts: &Facts,
-    task: u16,
-    class: u16,
-    right: PortRight,
-) -> Option<u16>
-    ensures some { IfSome result (λ d. (d < classes (wiring_of wired.now))
-        × IsTrue (has facts.now (Fact.Hold task d PortRight.Receive))
-        × IsTrue (has facts.now (Fact.Carry d class right))) }
-    ensures none { IfNone result
-        (IsReceived (wiring_of wired.now) (has facts.now) task class right → ⊥) }
-{
-    for to in 0..wired.classes() {
-        if facts.has(&hold(task, to, PortRight::Receive)) && facts.has(&carry(to, class, right)) {
-            return Some(to);
+/// The premises of the instances by which a rule concludes a fact by one of its sources.
+#[derive(Clone, Copy, Debug, PartialEq, Eq)]
+pub enum Candidates {
+    /// There is no instance.
+    Never,
+    /// An instance without premises.
+    ByNone,
+    /// An instance of this premise.
+    ByOne(Fact),
+    /// Instances of two premises, each with each.
+    ByTwo(Premise, Premise),
+}
+
+impl Candidates {
+    /// The premises of the first instance whose premises the set has.
+    fn premises_in(&self, facts: &Facts) -> Option<FewFacts>
+        ensures exact { result ≡ premises_in (has facts.now) self.now }
+        ensures none { IfNone result
+            (HavePremises (has facts.now) (has facts.now) self.now → ⊥) }
+    {
+        match self {
+            Candidates::Never => None,
+            Candidates::ByNone => Some(FewFacts::Empty),
+            Candidates::ByOne(fact) => {
+                if facts.has(fact) {
+                    Some(FewFacts::One(*fact))
+                } else {
+                    None
+                }
+            }
+            Candidates::ByTwo(first, last) => {
+                if first.is_in(facts) && last.is_in(facts) {
+                    Some(FewFacts::Two(first.fact_in(facts), last.fact_in(facts)))
+                } else {
+                    None
+                }
+            }
         }
     }
-    None
 }
 
-/// The first task that holds the right and is linked to this one by a kernel port.
-pub(crate) fn shared_by(
-    wired: &Wired,
-    facts: &Facts,
-    task: u16,
-    class: u16,
-    right: PortRight,
-) -> Option<u16>
-    requires { task < (wiring_of wired.now).tasks }
-    ensures some { IfSome result (λ u. (u < (wiring_of wired.now).tasks)
-        × IsTrue (are_linked (wiring_of wired.now) (has facts.now) task u)
-        × IsTrue (has facts.now (Fact.Hold u class right))) }
-    ensures none { IfNone result
-        (IsShared (wiring_of wired.now) (has facts.now) task class right → ⊥) }
+/// The candidates, if the side condition holds.
+fn when(side_condition: bool, candidates: Candidates) -> Candidates
+    ensures premises { (S T : Fact → Bool) → HavePremises S T result
+        ↔ (IsTrue side_condition × HavePremises S T candidates) }
+    ensures count { (n : ℕ) → HasCount n candidates → HasCount n result }
 {
-    for other in 0..wired.tasks() {
-        if are_linked(wired, facts, task, other) && facts.has(&hold(other, class, right)) {
-            return Some(other);
-        }
+    if side_condition {
+        candidates
+    } else {
+        Candidates::Never
     }
-    None
 }
 
-/// The first class at which the task receives, with a request to notify the other class.
-pub(crate) fn returned_at(wired: &Wired, facts: &Facts, task: u16, notify: u16) -> Option<u16>
-    ensures some { IfSome result (λ c. (c < classes (wiring_of wired.now))
-        × IsTrue (has facts.now (Fact.Hold task c PortRight.Receive))
-        × IsTrue (has facts.now (Fact.Backup c notify))) }
-    ensures none { IfNone result
-        (IsReturned (wiring_of wired.now) (has facts.now) task notify → ⊥) }
+/// A right by which the task can send to class `to`.
+fn sender(task: u16, to: u16) -> Premise
+    ensures { (S : Fact → Bool) → has_premise S result ≡ can_send_to S task to }
 {
-    for class in 0..wired.classes() {
-        if facts.has(&hold(task, class, PortRight::Receive)) && facts.has(&backup(class, notify)) {
-            return Some(class);
-        }
-    }
-    None
-}
-
-/// An instance of a rule without premises.
-fn by_nothing(
-    wired: &Wired,
-    first: &Facts,
-    task: u16,
-    class: u16,
-    right: PortRight,
-) -> Option<Instance>
-    requires first { IsListOf (IsFirstFact (wiring_of wired.now)) first.now }
-    requires in_range { InRange (wiring_of wired.now) (Fact.Hold task class right) }
-    ensures some { IfSome result (λ i. (S : Fact → Bool) →
-        IsInstance (wiring_of wired.now) S (Fact.Hold task class right) i) }
-    ensures no_first { IfNone result ((S : Fact → Bool) →
-        Concludes (wiring_of wired.now) S RuleName.First task class right → ⊥) }
-    ensures no_birth { IfNone result ((S : Fact → Bool) →
-        Concludes (wiring_of wired.now) S RuleName.Births task class right → ⊥) }
-{
-    if is_birth(wired, task, class, right) {
-        return Some(Instance {
-            rule: RuleName::Births,
-            premises: FewFacts::Empty,
-        });
-    }
-    if first.has(&hold(task, class, right)) {
-        return Some(Instance {
-            rule: RuleName::First,
-            premises: FewFacts::Empty,
-        });
-    }
-    None
-}
-
-fn by_weaker(
-    wired: &Wired,
-    facts: &Facts,
-    task: u16,
-    class: u16,
-    right: PortRight,
-) -> Option<Instance>
-    requires { InRange (wiring_of wired.now) (Fact.Hold task class right) }
-    ensures some { IfSome result
-        (IsInstance (wiring_of wired.now) (has facts.now) (Fact.Hold task class right)) }
-    ensures none { IfNone result
-        (Concludes (wiring_of wired.now) (has facts.now) RuleName.Weaker task class right → ⊥) }
-{
-    let receive = hold(task, class, PortRight::Receive);
-    if same_right(right, PortRight::Receive) || !facts.has(&receive) {
-        return None;
-    }
-    Some(Instance {
-        rule: RuleName::Weaker,
-        premises: FewFacts::One(receive),
-    })
-}
-
-fn by_received(
-    wired: &Wired,
-    facts: &Facts,
-    task: u16,
-    class: u16,
-    right: PortRight,
-) -> Option<Instance>
-    requires { InRange (wiring_of wired.now) (Fact.Hold task class right) }
-    ensures some { IfSome result
-        (IsInstance (wiring_of wired.now) (has facts.now) (Fact.Hold task class right)) }
-    ensures none { IfNone result
-        (Concludes (wiring_of wired.now) (has facts.now) RuleName.Received task class right → ⊥) }
-{
-    let to = received_at(wired, facts, task, class, right)?;
-    Some(Instance {
-        rule: RuleName::Received,
-        premises: FewFacts::Two(hold(task, to, PortRight::Receive), carry(to, class, right)),
-    })
+    Premise::Either(
+        hold(task, to, PortRight::Send),
+        hold(task, to, PortRight::SendOnce),
+    )
 }
 
 /// The send right to a kernel port that links the two tasks.
-fn link(wired: &Wired, facts: &Facts, one: u16, other: u16) -> Fact
-    requires one { one < (wiring_of wired.now).tasks }
-    requires other { other < (wiring_of wired.now).tasks }
-    ensures { result ≡ (if has facts.now
-        (Fact.Hold one (kernel_class (wiring_of wired.now) other) PortRight.Send)
-        then Fact.Hold one (kernel_class (wiring_of wired.now) other) PortRight.Send
-        else Fact.Hold other (kernel_class (wiring_of wired.now) one) PortRight.Send) }
+fn link(rules: &Rules, one: u16, other: u16) -> Premise
+    requires one { one < (wiring_of rules.now).tasks }
+    requires other { other < (wiring_of rules.now).tasks }
+    ensures { (S : Fact → Bool) →
+        has_premise S result ≡ are_linked (wiring_of rules.now) S one other }
 {
-    let up = hold(one, kernel_port(wired, other), PortRight::Send);
-    if facts.has(&up) {
-        up
-    } else {
-        hold(other, kernel_port(wired, one), PortRight::Send)
+    Premise::Either(
+        hold(one, kernel_port(rules.wired(), other), PortRight::Send),
+        hold(other, kernel_port(rules.wired(), one), PortRight::Send),
+    )
+}
+
+/// `sender` as the first premise; as the last one, each of two facts that is taken.
+fn by_held(
+    sender: Premise,
+    one: Fact,
+    takes_one: bool,
+    other: Fact,
+    takes_other: bool,
+) -> Candidates
+    ensures premises { (S T : Fact → Bool) → HavePremises S T result
+        ↔ (IsTrue (has_premise S sender)
+        × IsTrue ((T one && takes_one) || (T other && takes_other))) }
+    ensures count { HasCount 2 result }
+{
+    match (takes_one, takes_other) {
+        (true, true) => Candidates::ByTwo(sender, Premise::Either(one, other)),
+        (true, false) => Candidates::ByTwo(sender, Premise::Only(one)),
+        (false, true) => Candidates::ByTwo(sender, Premise::Only(other)),
+        (false, false) => Candidates::Never,
     }
 }
 
-fn by_kernel_port(
-    wired: &Wired,
-    facts: &Facts,
-    task: u16,
+/// The premises of the rule of slots: class `to` takes a right of the task on the class, which comes
+/// as `give`. A send right comes of a send or a receive right, a receive right of a receive right, a
+/// send-once right of a receive or a send-once right.
+fn by_slot(rules: &Rules, to: u16, class: u16, give: PortRight, task: u16) -> Candidates
+    requires to { to < classes (wiring_of rules.now) }
+    requires class { class < classes (wiring_of rules.now) }
+    ensures premises { (S T : Fact → Bool) → HavePremises S T result
+        ↔ (IsTrue (can_send_to S task to)
+        × IsTrue (is_taken_of (wiring_of rules.now) T to task class give)) }
+    ensures count { HasCount 2 result }
+{
+    let sender = sender(task, to);
+    let received = hold(task, class, PortRight::Receive);
+    let takes_received = rules.passes(to, class, PortRight::Receive, give);
+    let same = hold(task, class, give);
+    let takes_same = rules.passes(to, class, give, give);
+    match give {
+        PortRight::Send => by_held(sender, same, takes_same, received, takes_received),
+        PortRight::Receive => by_held(sender, same, takes_same, received, false),
+        PortRight::SendOnce => by_held(sender, received, takes_received, same, takes_same),
+    }
+}
+
+/// The premises from which the rule concludes the right on the class in the row, by the source.
+fn candidates_of(
+    rules: &Rules,
+    rule: RuleName,
+    row: u16,
     class: u16,
     right: PortRight,
-) -> Option<Instance>
-    requires { InRange (wiring_of wired.now) (Fact.Hold task class right) }
-    ensures some { IfSome result
-        (IsInstance (wiring_of wired.now) (has facts.now) (Fact.Hold task class right)) }
-    ensures none { IfNone result
-        (Concludes (wiring_of wired.now) (has facts.now) RuleName.KernelPort task class right
-        → ⊥) }
+    source: u16,
+) -> Candidates
+    requires row { row < rows (wiring_of rules.now) rule }
+    requires class { class < classes (wiring_of rules.now) }
+    requires source { source < sources (wiring_of rules.now) rule }
+    ensures premises { (S T : Fact → Bool) → HavePremises S T result
+        ↔ (IsTrue (leads (wiring_of rules.now) S rule row source)
+        × Comes (wiring_of rules.now) T rule row source class right) }
+    ensures count { HasCount (premises_count rule) result }
 {
-    let other = shared_by(wired, facts, task, class, right)?;
-    Some(Instance {
-        rule: RuleName::KernelPort,
-        premises: FewFacts::Two(link(wired, facts, task, other), hold(other, class, right)),
-    })
-}
-
-fn by_returned(
-    wired: &Wired,
-    facts: &Facts,
-    task: u16,
-    class: u16,
-    right: PortRight,
-) -> Option<Instance>
-    requires { InRange (wiring_of wired.now) (Fact.Hold task class right) }
-    ensures some { IfSome result
-        (IsInstance (wiring_of wired.now) (has facts.now) (Fact.Hold task class right)) }
-    ensures none { IfNone result
-        (Concludes (wiring_of wired.now) (has facts.now) RuleName.Returned task class right → ⊥) }
-{
-    if !same_right(right, PortRight::SendOnce) {
-        return None;
-    }
-    let at = returned_at(wired, facts, task, class)?;
-    Some(Instance {
-        rule: RuleName::Returned,
-        premises: FewFacts::Two(hold(task, at, PortRight::Receive), backup(at, class)),
-    })
-}
-
-/// An instance that concludes a hold.
-fn of_hold(
-    wired: &Wired,
-    first: &Facts,
-    facts: &Facts,
-    task: u16,
-    class: u16,
-    right: PortRight,
-) -> Option<Instance>
-    requires first { IsListOf (IsFirstFact (wiring_of wired.now)) first.now }
-    requires in_range { InRange (wiring_of wired.now) (Fact.Hold task class right) }
-    ensures some { IfSome result
-        (IsInstance (wiring_of wired.now) (has facts.now) (Fact.Hold task class right)) }
-    ensures none { IfNone result ((k : ℕ) → Follows (wiring_of wired.now) (Has (has facts.now)) k
-        (Fact.Hold task class right) → ⊥) }
-{
-    if let Some(found) = by_nothing(wired, first, task, class, right) {
-        return Some(found);
-    }
-    if let Some(found) = by_weaker(wired, facts, task, class, right) {
-        return Some(found);
-    }
-    if let Some(found) = by_received(wired, facts, task, class, right) {
-        return Some(found);
-    }
-    if let Some(found) = by_kernel_port(wired, facts, task, class, right) {
-        return Some(found);
-    }
-    by_returned(wired, facts, task, class, right)
-}
-
-/// A right by which some task can send to class `to`, and its right on the other class.
-fn sending(wired: &Wired, facts: &Facts, to: u16, class: u16, held: PortRight) -> Option<FewFacts>
-    ensures some { IfSome result
-        (IsSending (wiring_of wired.now) (has facts.now) to class held) }
-    ensures none { IfNone result
-        (IsSender (wiring_of wired.now) (has facts.now) to class held → ⊥) }
-{
-    let task = sender(wired, facts, to, class, held)?;
-    let send = hold(task, to, PortRight::Send);
-    let by = if facts.has(&send) {
-        send
-    } else {
-        hold(task, to, PortRight::SendOnce)
-    };
-    Some(FewFacts::Two(by, hold(task, class, held)))
-}
-
-/// An instance by a slot of the disposition.
-#[tactic(auto, using(crate::proofs::Justified::by_slot))]
-fn by_slot(wired: &Wired, facts: &Facts, to: u16, class: u16, disp: Disp) -> Option<Instance>
-    requires { InRange (wiring_of wired.now) (Fact.Carry to class (given disp)) }
-    ensures some { IfSome result
-        (IsInstance (wiring_of wired.now) (has facts.now) (Fact.Carry to class (given disp))) }
-    ensures none { IfNone result
-        (IsCarriedBy (wiring_of wired.now) (has facts.now) to class disp → ⊥) }
-{
-    if !wired.takes(ClassId(to), disp, ClassId(class)) {
-        return None;
-    }
-    Some(Instance {
-        rule: RuleName::Slot,
-        premises: sending(wired, facts, to, class, need(disp))?,
-    })
-}
-
-/// An instance by a slot whose disposition gives the right.
-fn by_slots(wired: &Wired, facts: &Facts, to: u16, class: u16, right: PortRight) -> Option<Instance>
-    requires { InRange (wiring_of wired.now) (Fact.Carry to class right) }
-    ensures some { IfSome result
-        (IsInstance (wiring_of wired.now) (has facts.now) (Fact.Carry to class right)) }
-    ensures none { IfNone result
-        (Concludes (wiring_of wired.now) (has facts.now) RuleName.Slot to class right → ⊥) }
-{
-    match right {
-        PortRight::Receive => by_slot(wired, facts, to, class, Disp::MoveReceive),
-        PortRight::Send => {
-            if let Some(found) = by_slot(wired, facts, to, class, Disp::MoveSend) {
-                return Some(found);
-            }
-            if let Some(found) = by_slot(wired, facts, to, class, Disp::CopySend) {
-                return Some(found);
-            }
-            by_slot(wired, facts, to, class, Disp::MakeSend)
-        }
-        PortRight::SendOnce => {
-            if let Some(found) = by_slot(wired, facts, to, class, Disp::MoveSendOnce) {
-                return Some(found);
-            }
-            by_slot(wired, facts, to, class, Disp::MakeSendOnce)
-        }
-    }
-}
-
-#[tactic(auto, using(crate::proofs::Justified::by_reply))]
-fn by_reply(wired: &Wired, facts: &Facts, to: u16, class: u16, right: PortRight) -> Option<Instance>
-    requires { InRange (wiring_of wired.now) (Fact.Carry to class right) }
-    ensures some { IfSome result
-        (IsInstance (wiring_of wired.now) (has facts.now) (Fact.Carry to class right)) }
-    ensures none { IfNone result
-        (Concludes (wiring_of wired.now) (has facts.now) RuleName.Reply to class right → ⊥) }
-{
-    if !same_right(right, PortRight::SendOnce) || !wired.accepts_routine(ClassId(to)) {
-        return None;
-    }
-    Some(Instance {
-        rule: RuleName::Reply,
-        premises: sending(wired, facts, to, class, PortRight::SendOnce)?,
-    })
-}
-
-fn by_notice(
-    wired: &Wired,
-    facts: &Facts,
-    to: u16,
-    class: u16,
-    right: PortRight,
-) -> Option<Instance>
-    requires { InRange (wiring_of wired.now) (Fact.Carry to class right) }
-    ensures some { IfSome result
-        (IsInstance (wiring_of wired.now) (has facts.now) (Fact.Carry to class right)) }
-    ensures none { IfNone result
-        (Concludes (wiring_of wired.now) (has facts.now) RuleName.Notice to class right → ⊥) }
-{
-    let request = backup(class, to);
-    if !same_right(right, PortRight::Receive) || !facts.has(&request) {
-        return None;
-    }
-    Some(Instance {
-        rule: RuleName::Notice,
-        premises: FewFacts::One(request),
-    })
-}
-
-/// An instance that concludes a carry.
-fn of_carry(wired: &Wired, facts: &Facts, to: u16, class: u16, right: PortRight) -> Option<Instance>
-    requires { InRange (wiring_of wired.now) (Fact.Carry to class right) }
-    ensures some { IfSome result
-        (IsInstance (wiring_of wired.now) (has facts.now) (Fact.Carry to class right)) }
-    ensures none { IfNone result ((k : ℕ) → Follows (wiring_of wired.now) (Has (has facts.now)) k
-        (Fact.Carry to class right) → ⊥) }
-{
-    if let Some(found) = by_slots(wired, facts, to, class, right) {
-        return Some(found);
-    }
-    if let Some(found) = by_reply(wired, facts, to, class, right) {
-        return Some(found);
-    }
-    by_notice(wired, facts, to, class, right)
-}
-
-/// An instance that concludes a backup.
-fn of_backup(wired: &Wired, facts: &Facts, class: u16, notify: u16) -> Option<Instance>
-    requires { InRange (wiring_of wired.now) (Fact.Backup class notify) }
-    ensures some { IfSome result
-        (IsInstance (wiring_of wired.now) (has facts.now) (Fact.Backup class notify)) }
-    ensures none { IfNone result ((k : ℕ) → Follows (wiring_of wired.now) (Has (has facts.now)) k
-        (Fact.Backup class notify) → ⊥) }
-{
-    if !wired.accepts_destroyed(ClassId(notify)) {
-        return None;
-    }
-    let task = receiver(wired, facts, class, notify)?;
-    Some(Instance {
-        rule: RuleName::Request,
-        premises: FewFacts::Two(
-            hold(task, class, PortRight::Receive),
-            hold(task, notify, PortRight::SendOnce),
+    let is_receive = same_right(right, PortRight::Receive);
+    let is_once = same_right(right, PortRight::SendOnce);
+    match rule {
+        RuleName::First => when(
+            rules.is_held_at_first(&hold(row, class, right)),
+            Candidates::ByNone,
         ),
-    })
+        RuleName::Births => when(
+            is_receive,
+            when(
+                class == source,
+                when(
+                    is_birth_class(rules.wired(), row, source),
+                    Candidates::ByNone,
+                ),
+            ),
+        ),
+        RuleName::Weaker => when(
+            !is_receive,
+            Candidates::ByOne(hold(row, class, PortRight::Receive)),
+        ),
+        RuleName::Slot => by_slot(rules, row, class, right, source),
+        RuleName::Reply => when(
+            is_once,
+            when(
+                rules.takes_replies(row),
+                Candidates::ByTwo(
+                    sender(source, row),
+                    Premise::Only(hold(source, class, PortRight::SendOnce)),
+                ),
+            ),
+        ),
+        RuleName::Received => Candidates::ByTwo(
+            Premise::Only(hold(row, source, PortRight::Receive)),
+            Premise::Only(carry(source, class, right)),
+        ),
+        RuleName::KernelPort => Candidates::ByTwo(
+            link(rules, row, source),
+            Premise::Only(hold(source, class, right)),
+        ),
+        RuleName::Request => when(
+            same_right(right, PortRight::Send),
+            when(
+                rules.is_notified(class),
+                Candidates::ByTwo(
+                    Premise::Only(hold(source, row, PortRight::Receive)),
+                    Premise::Only(hold(source, class, PortRight::SendOnce)),
+                ),
+            ),
+        ),
+        RuleName::Notice => when(
+            is_receive,
+            when(class == source, Candidates::ByOne(backup(source, row))),
+        ),
+        RuleName::Returned => when(
+            is_once,
+            Candidates::ByTwo(
+                Premise::Only(hold(row, source, PortRight::Receive)),
+                Premise::Only(backup(source, class)),
+            ),
+        ),
+    }
 }
 
-/// An instance of a rule that concludes the fact from facts of the set. `first` has the
-/// conclusions of the rules without premises.
-pub fn instance_of(wired: &Wired, first: &Facts, facts: &Facts, fact: Fact) -> Option<Instance>
-    requires { IsListOf (IsFirstFact (wiring_of wired.now)) first.now }
-    ensures some { IfSome result (IsInstance (wiring_of wired.now) (has facts.now) fact) }
-    ensures none { IfNone result ((k : ℕ) →
-        Follows (wiring_of wired.now) (Has (has facts.now)) k fact → ⊥) }
+/// The sources by which the rule may conclude the right on the class: from the first number up to
+/// the second, which is none of them.
+fn sources_of(rules: &Rules, rule: RuleName, class: u16, right: PortRight) -> (u16, u16)
+    requires { class < classes (wiring_of rules.now) }
+    ensures { (T : Fact → Bool) (row n : ℕ) → n < sources (wiring_of rules.now) rule →
+        Comes (wiring_of rules.now) T rule row n class right → (result.0 ≤ n) × (n < result.1) }
 {
-    if !is_in_range(wired, &fact) {
-        return None;
+    let _within = rules.classes();
+    let every = (0, sources(rules.wired(), rule));
+    match rule {
+        RuleName::Births | RuleName::Notice => (class, class + 1),
+        RuleName::Reply | RuleName::Returned => {
+            if same_right(right, PortRight::SendOnce) {
+                every
+            } else {
+                (0, 0)
+            }
+        }
+        RuleName::First
+        | RuleName::Weaker
+        | RuleName::Slot
+        | RuleName::Received
+        | RuleName::KernelPort
+        | RuleName::Request => every,
     }
-    match fact {
-        Fact::Hold { task, class, right } => { of_hold(wired, first, facts, task, class.0, right) }
+}
+
+/// The row, the class and the right of a fact.
+fn parts(fact: &Fact) -> (u16, u16, PortRight)
+    ensures { AreParts fact.now result.0 result.1 result.2 }
+{
+    match *fact {
+        Fact::Hold { task, class, right } => (task, class.0, right),
         Fact::Carry {
             destination,
             class,
             right,
-        } => of_carry(wired, facts, destination.0, class.0, right),
-        Fact::Backup { class, notify } => of_backup(wired, facts, class.0, notify.0),
+        } => (destination.0, class.0, right),
+        Fact::Backup { class, notify } => (class.0, notify.0, PortRight::Send),
     }
+}
+
+/// Whether the fact is the rule's conclusion of a right on a class in a row.
+fn is_conclusion(rule: RuleName, row: u16, class: u16, right: PortRight, fact: &Fact) -> bool
+    ensures { IsTrue result ↔ (conclusion rule row class right ≡ fact.now) }
+{
+    conclusion(rule, row, class, right) == *fact
+}
+
+/// A fact as what a rule of a wiring is to conclude: in which row, and which right on which class.
+#[derive(Drop)]
+pub struct Goal<'a> {
+    rules: &'a Rules,
+    rule: RuleName,
+    row: u16,
+    class: u16,
+    right: PortRight,
+}
+
+impl<'a> Model for Goal<'a> {
+    ghost use Rattle.mrc_wiring.specs.Table.{wiring_of};
+    ghost use Rattle.mrc_classes.specs.Instances.{Concluded, IsWithin};
+
+    ghost Value = { Concluded };
+
+    ghost view = { λ g. record {
+      wiring = wiring_of g.rules.now;
+      rule = g.rule;
+      row = g.row;
+      class = g.class;
+      right = g.right;
+    } };
+
+    ghost invariant = { λ g. IsWithin record {
+      wiring = wiring_of g.rules.now;
+      rule = g.rule;
+      row = g.row;
+      class = g.class;
+      right = g.right;
+    } };
+}
+
+impl<'a> Goal<'a> {
+    /// The fact as what the rule is to conclude. There is none if the rule concludes it from no set
+    /// of facts, since it is of another kind, or over more tasks or classes than the wiring has.
+    pub fn new(rules: &'a Rules, rule: RuleName, fact: &Fact) -> Option<Goal<'a>>
+        ensures some { IfSome result (IsGoal (wiring_of rules.now) rule fact.now) }
+        ensures none { IfNone result ((S : Fact → Bool) →
+            Follows (wiring_of rules.now) (Has S) (rule_number rule) fact.now → ⊥) }
+    {
+        let (row, class, right) = parts(fact);
+        if !is_in_range(rules.wired(), fact) {
+            return None;
+        }
+        if !is_conclusion(rule, row, class, right, fact) {
+            return None;
+        }
+        Some(Goal {
+            rules,
+            rule,
+            row,
+            class,
+            right,
+        })
+    }
+
+    /// The sources by which the rule may conclude the fact: from the first number up to the second,
+    /// which is none of them. A source is a task or a class; a rule that needs none has source 0.
+    pub fn sources(&self) -> (u16, u16)
+        ensures all { (S T : Fact → Bool) (n : ℕ) → IsSource S T self.now n →
+            (result.0 ≤ n) × (n < result.1) }
+        ensures kept { IsWithin self.now }
+    {
+        sources_of(self.rules, self.rule, self.class, self.right)
+    }
+
+    /// Whether the set has the first of two premises for the source. A rule of one premise or none
+    /// does not ask for it. It is a faster test than `candidates`.
+    pub fn leads(&self, source: u16, facts: &Facts) -> bool
+        ensures only { IsTrue result → IsTrue (leads self.now.wiring (has facts.now) self.now.rule
+            self.now.row source) }
+        ensures all { (T : Fact → Bool) →
+            IsSource (has facts.now) T self.now source → IsTrue result }
+    {
+        if source >= sources(self.rules.wired(), self.rule) {
+            return false;
+        }
+        leads(self.rules, self.rule, self.row, source, facts)
+    }
+
+    /// The premises from which the rule concludes the fact by the source of this number.
+    pub fn candidates(&self, source: u16) -> Candidates
+        ensures premises { (S T : Fact → Bool) →
+            HavePremises S T result ↔ IsSource S T self.now source }
+        ensures count { HasCount (premises_count self.now.rule) result }
+    {
+        if source >= sources(self.rules.wired(), self.rule) {
+            return Candidates::Never;
+        }
+        candidates_of(
+            self.rules, self.rule, self.row, self.class, self.right, source,
+        )
+    }
+
+    /// Premises in the set from which the rule concludes the fact, by the first source.
+    fn premises_in(&self, facts: &Facts) -> Option<FewFacts>
+        ensures some { IfSome result (λ premises. IsInstance self.now.wiring (has facts.now)
+            (fact_of self.now) (record { rule = self.now.rule; premises = premises })) }
+        ensures none { IfNone result
+            ((n : ℕ) → IsSource (has facts.now) (has facts.now) self.now n → ⊥) }
+    {
+        let (first, end) = self.sources();
+        for source in first..end {
+            if let Some(premises) = self.candidates(source).premises_in(facts) {
+                return Some(premises);
+            }
+        }
+        None
+    }
+}
+
+/// An instance of the rule that concludes the fact from facts of the set.
+fn by_rule(rules: &Rules, facts: &Facts, rule: RuleName, fact: &Fact) -> Option<Instance>
+    ensures some { IfSome result (IsInstance (wiring_of rules.now) (has facts.now) fact.now) }
+    ensures none { IfNone result (Follows (wiring_of rules.now) (Has (has facts.now))
+        (rule_number rule) fact.now → ⊥) }
+{
+    let goal = Goal::new(rules, rule, fact)?;
+    let premises = goal.premises_in(facts)?;
+    Some(Instance { rule, premises })
+}
+
+/// An instance of a rule that concludes the fact from facts of the set. The rules are tried in the
+/// order of their numbers.
+pub fn instance_of(rules: &Rules, facts: &Facts, fact: Fact) -> Option<Instance>
+    ensures some { IfSome result (IsInstance (wiring_of rules.now) (has facts.now) fact) }
+    ensures none { IfNone result ((k : ℕ) →
+        Follows (wiring_of rules.now) (Has (has facts.now)) k fact → ⊥) }
+{
+    for number in 1..11u8 {
+        if let Some(found) = by_rule(rules, facts, rule_of(number), &fact) {
+            return Some(found);
+        }
+    }
+    None
 }

@@ -1,31 +1,21 @@
 //! The first conclusion of the rules that a set of facts lacks.
 
-ghost use Rattle.std.specs.Prelude.{◌≡◌, ◌<◌, ◌↔◌, ◌||◌, ℕ, IsTrue, IfSome, IfNone, IfOk, Some};
-ghost use Rattle.mrc_base.specs.declared.PortRight.{PortRight};
-ghost use Rattle.mrc_base.specs.Disposition.{needed, given};
-ghost use Rattle.mrc_base.specs.declared.Disp.{Disp};
-ghost use Rattle.mrc_base.specs.declared.Fact.{Fact};
-ghost use Rattle.mrc_model.specs.Wiring.{classes, births_class, accepts_routine, accepts_destroyed};
-ghost use Rattle.mrc_model.specs.Rules.{Has, Closed};
-ghost use Rattle.mrc_model.specs.Conclusions.{same_right};
+ghost use Rattle.std.specs.Prelude.{◌≡◌, ◌+◌, ◌<◌, ℕ, IfSome, IfNone, IfOk};
+ghost use Rattle.mrc_model.specs.Wiring.{classes};
 ghost use Rattle.mrc_wiring.specs.Table.{wiring_of};
-ghost use Rattle.mrc_wiring.specs.Slots.{takes};
 ghost use Rattle.mrc_facts.specs.Order.{right_number};
 ghost use Rattle.mrc_facts.specs.Sets.{has};
-ghost use Rattle.mrc_classes.specs.Following.{IsListOf, IsHeldAtFirst};
-ghost use Rattle.mrc_classes.specs.Parts.{are_linked, can_send_to};
-ghost use Rattle.mrc_classes.specs.Lacks.{conclusion, rows, IsSender, IsCarriedBy};
-ghost use Rattle.mrc_classes.specs.Lacks.{IsReceiver, IsReceived, IsShared, IsReturned};
-ghost use Rattle.mrc_classes.specs.Lacks.{IsBirthClass, Concludes, Lacks, LacksNothing};
-ghost use Rattle.mrc_classes.specs.Lacks.{LacksNoneIn, IsRowLack, IsFirstLack};
+ghost use Rattle.mrc_classes.specs.Concluding.{rows};
+ghost use Rattle.mrc_classes.specs.Lacks.{LacksNothing, LacksNoneIn, IsLackAt, IsFirstPlace, NoPlace, IsRowLack};
+ghost use Rattle.mrc_classes.specs.Lacks.{IsFirstLack};
 ghost use Rattle.mrc_classes.specs.Missing.{rule_number, IsAnswer};
 ghost use Rattle.mrc_classes.specs.declared.rule_names.RuleName.{RuleName};
 
-use crate::first_facts::held_at_first;
-use crate::instances::{received_at, receiver, returned_at, sender, shared_by};
-use crate::rights::{backup, carry, hold, kernel_port, same_right};
+use crate::marks::Marks;
 use crate::rule_names::{RuleName, rule_of};
-use mrc_base::{ClassId, Disp, Fact, PortRight, need};
+use crate::rules::{Rules, conclusion, had_words, row_of, rows};
+use mrc_base::{Fact, PortRight};
+use mrc_bits::next_fresh;
 use mrc_rows::Facts;
 use mrc_wiring::Wired;
 use std::alloc::{AllocError, Global};
@@ -40,272 +30,112 @@ pub struct Missing {
     pub fact: Fact,
 }
 
-pub(crate) fn can_send_to(facts: &Facts, task: u16, to: u16) -> bool
-    ensures { result ≡ can_send_to (has facts.now) task to }
-{
-    facts.has(&hold(task, to, PortRight::Send)) || facts.has(&hold(task, to, PortRight::SendOnce))
-}
-
-/// Whether some task can send to class `to` and holds the right on the other class.
-fn is_sent(wired: &Wired, facts: &Facts, to: u16, class: u16, held: PortRight) -> bool
-    ensures { IsTrue result ↔ IsSender (wiring_of wired.now) (has facts.now) to class held }
-{
-    sender(wired, facts, to, class, held).is_some()
-}
-
-fn is_carried_by(wired: &Wired, facts: &Facts, to: u16, class: u16, disp: Disp) -> bool
-    ensures { IsTrue result ↔ IsCarriedBy (wiring_of wired.now) (has facts.now) to class disp }
-{
-    wired.takes(ClassId(to), disp, ClassId(class)) && is_sent(wired, facts, to, class, need(disp))
-}
-
-/// Whether a slot carries the right on the class to class `to`.
-fn is_carried(wired: &Wired, facts: &Facts, to: u16, class: u16, right: PortRight) -> bool
-    ensures { IsTrue result ↔ ((x : Disp) × (given x ≡ right)
-        × IsCarriedBy (wiring_of wired.now) (has facts.now) to class x) }
-{
-    match right {
-        PortRight::Receive => is_carried_by(wired, facts, to, class, Disp::MoveReceive),
-        PortRight::Send => {
-            is_carried_by(wired, facts, to, class, Disp::MoveSend)
-                || is_carried_by(wired, facts, to, class, Disp::CopySend)
-                || is_carried_by(wired, facts, to, class, Disp::MakeSend)
-        }
-        PortRight::SendOnce => {
-            is_carried_by(wired, facts, to, class, Disp::MoveSendOnce)
-                || is_carried_by(wired, facts, to, class, Disp::MakeSendOnce)
-        }
-    }
-}
-
-/// Whether some task receives at the class and holds a send-once right on class `notify`.
-fn is_requested(wired: &Wired, facts: &Facts, class: u16, notify: u16) -> bool
-    ensures { IsTrue result ↔
-        IsReceiver (wiring_of wired.now) (has facts.now) class notify PortRight.SendOnce }
-{
-    receiver(wired, facts, class, notify).is_some()
-}
-
-/// Whether the task receives at some class to which the right on the class is carried.
-fn is_received(wired: &Wired, facts: &Facts, task: u16, class: u16, right: PortRight) -> bool
-    ensures { IsTrue result ↔ IsReceived (wiring_of wired.now) (has facts.now) task class right }
-{
-    received_at(wired, facts, task, class, right).is_some()
-}
-
-pub(crate) fn are_linked(wired: &Wired, facts: &Facts, one: u16, other: u16) -> bool
-    requires one { one < (wiring_of wired.now).tasks }
-    requires other { other < (wiring_of wired.now).tasks }
-    ensures { result ≡ are_linked (wiring_of wired.now) (has facts.now) one other }
-{
-    facts.has(&hold(one, kernel_port(wired, other), PortRight::Send))
-        || facts.has(&hold(other, kernel_port(wired, one), PortRight::Send))
-}
-
-/// Whether a task holds the right that is linked to this one by a kernel port.
-fn is_shared(wired: &Wired, facts: &Facts, task: u16, class: u16, right: PortRight) -> bool
-    requires { task < (wiring_of wired.now).tasks }
-    ensures { IsTrue result ↔ IsShared (wiring_of wired.now) (has facts.now) task class right }
-{
-    shared_by(wired, facts, task, class, right).is_some()
-}
-
-/// Whether the task receives at some class, for a port of which class `notify` is to be notified.
-fn is_returned(wired: &Wired, facts: &Facts, task: u16, notify: u16) -> bool
-    ensures { IsTrue result ↔ IsReturned (wiring_of wired.now) (has facts.now) task notify }
-{
-    returned_at(wired, facts, task, notify).is_some()
-}
-
-/// Whether the class is that of the task's births.
-fn is_birth_class(wired: &Wired, task: u16, class: u16) -> bool
-    ensures { IsTrue result ↔ IsBirthClass (wiring_of wired.now) task class }
-{
-    match wired.born_to(ClassId(class)) {
-        Some(born) => born.0 == task as u32,
-        None => false,
-    }
-}
-
-/// Whether the right is a receive right, and the class that of the task's births.
-pub(crate) fn is_birth(wired: &Wired, task: u16, class: u16, right: PortRight) -> bool
-    ensures { IsTrue result ↔
-        (IsTrue (same_right right PortRight.Receive)
-        × IsBirthClass (wiring_of wired.now) task class) }
-{
-    same_right(right, PortRight::Receive) && is_birth_class(wired, task, class)
-}
-
-/// Whether the rule concludes the fact of this row, class and right.
-fn concludes(
-    wired: &Wired,
-    first: &Facts,
-    facts: &Facts,
-    rule: RuleName,
-    row: u16,
-    class: u16,
-    right: PortRight,
-) -> bool
-    requires held { IsListOf (IsHeldAtFirst (wiring_of wired.now)) first.now }
-    requires row { row < rows (wiring_of wired.now) rule }
-    ensures { IsTrue result ↔
-        Concludes (wiring_of wired.now) (has facts.now) rule row class right }
-{
-    match rule {
-        RuleName::First => first.has(&hold(row, class, right)),
-        RuleName::Births => is_birth(wired, row, class, right),
-        RuleName::Weaker => {
-            !same_right(right, PortRight::Receive)
-                && facts.has(&hold(row, class, PortRight::Receive))
-        }
-        RuleName::Slot => is_carried(wired, facts, row, class, right),
-        RuleName::Reply => {
-            same_right(right, PortRight::SendOnce)
-                && wired.accepts_routine(ClassId(row))
-                && is_sent(wired, facts, row, class, PortRight::SendOnce)
-        }
-        RuleName::Received => is_received(wired, facts, row, class, right),
-        RuleName::KernelPort => is_shared(wired, facts, row, class, right),
-        RuleName::Request => {
-            wired.accepts_destroyed(ClassId(class)) && is_requested(wired, facts, row, class)
-        }
-        RuleName::Notice => {
-            same_right(right, PortRight::Receive) && facts.has(&backup(class, row))
-        }
-        RuleName::Returned => {
-            same_right(right, PortRight::SendOnce) && is_returned(wired, facts, row, class)
-        }
-    }
-}
-
-/// How many rows the rule has.
-fn rows(wired: &Wired, rule: RuleName) -> u16
-    ensures { result ≡ rows (wiring_of wired.now) rule }
-{
-    match rule {
-        RuleName::First
-        | RuleName::Births
-        | RuleName::Weaker
-        | RuleName::Received
-        | RuleName::KernelPort
-        | RuleName::Returned => wired.tasks(),
-        RuleName::Slot | RuleName::Reply | RuleName::Request | RuleName::Notice => {
-            wired.classes()
-        }
-    }
-}
-
-/// What the rule concludes at this row, class and right.
-fn conclusion(rule: RuleName, row: u16, class: u16, right: PortRight) -> Fact
-    ensures { result ≡ conclusion rule row class right }
-{
-    match rule {
-        RuleName::First
-        | RuleName::Births
-        | RuleName::Weaker
-        | RuleName::Received
-        | RuleName::KernelPort
-        | RuleName::Returned => hold(row, class, right),
-        RuleName::Slot | RuleName::Reply | RuleName::Notice => carry(row, class, right),
-        RuleName::Request => backup(row, class),
-    }
-}
-
-fn lacks(
-    wired: &Wired,
-    first: &Facts,
-    facts: &Facts,
-    rule: RuleName,
-    row: u16,
-    class: u16,
-    right: PortRight,
-) -> bool
-    requires held { IsListOf (IsHeldAtFirst (wiring_of wired.now)) first.now }
-    requires row { row < rows (wiring_of wired.now) rule }
-    ensures { IsTrue result ↔ Lacks (wiring_of wired.now) (has facts.now) rule row class right }
-{
-    !facts.has(&conclusion(rule, row, class, right))
-        && concludes(wired, first, facts, rule, row, class, right)
-}
-
-/// The first of the three rights that the rule concludes at a row and a class, and that the set
-/// lacks.
-fn lacking_right(
-    wired: &Wired,
-    first: &Facts,
-    facts: &Facts,
-    rule: RuleName,
-    row: u16,
-    class: u16,
-) -> Option<PortRight>
-    requires held { IsListOf (IsHeldAtFirst (wiring_of wired.now)) first.now }
-    requires row { row < rows (wiring_of wired.now) rule }
-    ensures found { IfSome result (λ r.
-        Lacks (wiring_of wired.now) (has facts.now) rule row class r) }
-    ensures least { IfSome result (λ r. (q : PortRight) → right_number q < right_number r →
-        Lacks (wiring_of wired.now) (has facts.now) rule row class q → ⊥) }
-    ensures none { IfNone result ((q : PortRight) →
-        Lacks (wiring_of wired.now) (has facts.now) rule row class q → ⊥) }
-{
-    if lacks(wired, first, facts, rule, row, class, PortRight::Send) {
-        Some(PortRight::Send)
-    } else if lacks(wired, first, facts, rule, row, class, PortRight::Receive) {
-        Some(PortRight::Receive)
-    } else if lacks(wired, first, facts, rule, row, class, PortRight::SendOnce) {
-        Some(PortRight::SendOnce)
-    } else {
-        None
-    }
-}
-
-/// The first class at which the rule concludes a right in the row that the set lacks, and that
-/// right.
+/// The first class of the wiring at which the right is marked and the set lacks the rule's
+/// conclusion.
 fn lacking_class(
-    wired: &Wired,
-    first: &Facts,
+    rules: &Rules,
     facts: &Facts,
     rule: RuleName,
     row: u16,
-) -> Option<(u16, PortRight)>
-    requires held { IsListOf (IsHeldAtFirst (wiring_of wired.now)) first.now }
-    requires row { row < rows (wiring_of wired.now) rule }
-    ensures found { IfSome result (λ f. (f.0 < classes (wiring_of wired.now))
-        × Lacks (wiring_of wired.now) (has facts.now) rule row f.0 f.1) }
-    ensures least { IfSome result (λ f. (c : ℕ) (q : PortRight) → c < f.0 →
-        Lacks (wiring_of wired.now) (has facts.now) rule row c q → ⊥) }
-    ensures least_right { IfSome result (λ f. (q : PortRight) →
-        right_number q < right_number f.1 →
-        Lacks (wiring_of wired.now) (has facts.now) rule row f.0 q → ⊥) }
-    ensures none { IfNone result ((c : ℕ) (q : PortRight) → c < classes (wiring_of wired.now) →
-        Lacks (wiring_of wired.now) (has facts.now) rule row c q → ⊥) }
+    marks: &Marks,
+    right: PortRight,
+) -> Option<usize>
+    requires { row < rows (wiring_of rules.now) rule }
+    ensures found { IfSome result (λ c. (c < classes (wiring_of rules.now))
+        × IsLackAt (has facts.now) marks.now rule row c right) }
+    ensures least { IfSome result (λ c. (b : ℕ) → b < c →
+        IsLackAt (has facts.now) marks.now rule row b right → ⊥) }
+    ensures none { IfNone result ((b : ℕ) → b < classes (wiring_of rules.now) →
+        IsLackAt (has facts.now) marks.now rule row b right → ⊥) }
 {
-    for class in 0..wired.classes() {
-        if let Some(right) = lacking_right(wired, first, facts, rule, row, class) {
-            return Some((class, right));
+    let had = had_words(rules, facts, rule, row, right);
+    next_fresh(had, marks.words(right), rules.all(), 0)
+}
+
+/// A right on a class.
+type Place = (usize, PortRight);
+
+/// The first class, and then the first right there, of what is marked and lacking among the rights
+/// up to this one, where that among the rights before it is known.
+fn lacking_up_to(
+    rules: &Rules,
+    facts: &Facts,
+    rule: RuleName,
+    row: u16,
+    marks: &Marks,
+    before: Option<Place>,
+    right: PortRight,
+) -> Option<Place>
+    requires row { row < rows (wiring_of rules.now) rule }
+    requires found { IfSome before (IsFirstPlace (has facts.now) marks.now rule row
+        (classes (wiring_of rules.now)) (right_number right)) }
+    requires none { IfNone before (NoPlace (has facts.now) marks.now rule row
+        (classes (wiring_of rules.now)) (right_number right)) }
+    ensures found { IfSome result (IsFirstPlace (has facts.now) marks.now rule row
+        (classes (wiring_of rules.now)) (right_number right + 1)) }
+    ensures none { IfNone result (NoPlace (has facts.now) marks.now rule row
+        (classes (wiring_of rules.now)) (right_number right + 1)) }
+{
+    match (before, lacking_class(rules, facts, rule, row, marks, right)) {
+        (before, None) => before,
+        (None, Some(class)) => Some((class, right)),
+        (Some(first), Some(class)) => {
+            if class < first.0 {
+                Some((class, right))
+            } else {
+                Some(first)
+            }
         }
     }
-    None
+}
+
+/// The first class, and then the first right there, of what is marked and lacking.
+fn lacking_place(
+    rules: &Rules,
+    facts: &Facts,
+    rule: RuleName,
+    row: u16,
+    marks: &Marks,
+) -> Option<Place>
+    requires { row < rows (wiring_of rules.now) rule }
+    ensures found { IfSome result (IsFirstPlace (has facts.now) marks.now rule row
+        (classes (wiring_of rules.now)) 3) }
+    ensures none { IfNone result (NoPlace (has facts.now) marks.now rule row
+        (classes (wiring_of rules.now)) 3) }
+{
+    let place = lacking_up_to(rules, facts, rule, row, marks, None, PortRight::Send);
+    let place = lacking_up_to(rules, facts, rule, row, marks, place, PortRight::Receive);
+    lacking_up_to(rules, facts, rule, row, marks, place, PortRight::SendOnce)
+}
+
+/// The least fact that the rule concludes in the row and that the set lacks.
+fn row_lack(rules: &Rules, facts: &Facts, rule: RuleName, row: u16) -> Option<Fact>
+    requires { row < rows (wiring_of rules.now) rule }
+    ensures found { IfSome result (IsRowLack (wiring_of rules.now) (has facts.now) rule row) }
+    ensures none { IfNone result (LacksNoneIn (wiring_of rules.now) (has facts.now) rule row) }
+{
+    let _classes = rules.classes();
+    let mut marks = Marks::none();
+    row_of(rules, rule, row, facts, facts, &mut marks);
+    let (class, right) = lacking_place(rules, facts, rule, row, &marks)?;
+    Some(conclusion(rule, row, class as u16, right))
 }
 
 /// A search for what a set lacks by the ten rules, of one rule and one row at a time. Memory is
-/// taken when it begins, for what is held at first.
+/// taken when it begins, for what the rules ask of the wiring.
 #[derive(Drop)]
 pub struct Search<'a> {
-    wired: &'a Wired,
+    rules: Rules,
     facts: &'a Facts,
-    first: Facts,
 }
 
 impl<'a> Model for Search<'a> {
     ghost use Rattle.mrc_wiring.specs.Table.{wiring_of};
-    ghost use Rattle.mrc_classes.specs.Following.{IsListOf, IsHeldAtFirst};
     ghost use Rattle.mrc_classes.specs.Missing.{Searched};
 
     ghost Value = { Searched };
 
-    ghost view = { λ s. record { wiring = wiring_of s.wired.now; facts = s.facts.now } };
-
-    ghost invariant = { λ s. IsListOf (IsHeldAtFirst (wiring_of s.wired.now)) s.first };
+    ghost view = { λ s. record { wiring = wiring_of s.rules; facts = s.facts.now } };
 }
 
 impl<'a> Search<'a> {
@@ -314,12 +144,8 @@ impl<'a> Search<'a> {
         ensures { IfOk result (λ search.
             search ≡ record { wiring = wiring_of wired.now; facts = facts.now }) }
     {
-        let first = held_at_first(alloc, wired)?;
-        Ok(Search {
-            wired,
-            facts,
-            first,
-        })
+        let rules = Rules::new(alloc, wired)?;
+        Ok(Search { rules, facts })
     }
 
     /// How many rows the rule has: one for each task, or one for each class, as its conclusions
@@ -327,7 +153,7 @@ impl<'a> Search<'a> {
     pub fn rows(&self, rule: RuleName) -> u16
         ensures { result ≡ rows self.now.wiring rule }
     {
-        rows(self.wired, rule)
+        rows(self.rules.wired(), rule)
     }
 
     /// The least fact of a row that the rule concludes and that the set lacks. It takes no memory.
@@ -340,8 +166,7 @@ impl<'a> Search<'a> {
         if row >= self.rows(rule) {
             return None;
         }
-        let (class, right) = lacking_class(self.wired, &self.first, self.facts, rule, row)?;
-        Some(conclusion(rule, row, class, right))
+        row_lack(&self.rules, self.facts, rule, row)
     }
 }
 

@@ -3,7 +3,8 @@
 ghost use Rattle.std.specs.Prelude.{◌≡◌, ◌<◌, ◌↔◌, ℕ, IsTrue, IfSome, IfNone, IfOk};
 ghost use Rattle.mrc_wiring.specs.Table.{wiring_of};
 ghost use Rattle.mrc_facts.specs.Sets.{has};
-ghost use Rattle.mrc_classes.specs.Lacks.{rows, IsLackingRow, LacksNothing, IsFirstLack};
+ghost use Rattle.mrc_classes.specs.Concluding.{rows};
+ghost use Rattle.mrc_classes.specs.Lacks.{IsLackingRow, LacksNothing, IsFirstLack};
 ghost use Rattle.mrc_classes.specs.Missing.{rule_number, IsAnswer};
 ghost use Rattle.mrc_classes.specs.declared.rule_names.RuleName.{RuleName};
 

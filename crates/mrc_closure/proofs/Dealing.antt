@@ -1,6 +1,6 @@
 -- Places dealt out among workers, and what they found there put together.
 use Rattle.std.proofs.Common.{◌≡◌, ℕ, ◌+◌, ◌%◌, ◌<◌, List, [], refl, sym, subst}
-use Rattle.std.proofs.Common.{IsTrue, inl, inr, arith}
+use Rattle.std.proofs.Common.{false, IsTrue, inl, inr, arith}
 use Rattle.std.specs.Prelude.{◌||◌, Result, Ok, Err, MatchResult}
 use Rattle.std.specs.declared.alloc.AllocError.{AllocError}
 use Rattle.std.proofs.lemmas.Bool.{cases_eq, or_cases, or_left, or_right, false≢true}
@@ -11,7 +11,7 @@ use Rattle.mrc_facts.specs.Sets.{has}
 use Rattle.mrc_wiring.specs.Table.{Table, wiring_of}
 use Rattle.mrc_classes.specs.Growing.{Added, Below, nothing}
 use Rattle.mrc_classes.specs.Following.{IsListOf}
-use Rattle.mrc_classes.proofs.Concluding.{to_place, from_place}
+use Rattle.mrc_classes.proofs.Placing.{to_place, from_place}
 use Rattle.mrc_closure.specs.declared.workers.Part.{Part}
 use Rattle.mrc_closure.specs.Working.{IsWorking}
 use Rattle.mrc_closure.specs.Merging.{FromOne}
@@ -68,15 +68,38 @@ pub from_all : (W : Wiring) (facts new : List Fact) (workers : ℕ) (found : Lis
 unfolding FromDealt
 from_all W facts new workers found some among is g = (
   (λ h. let x = ((is g).0 h).from in
-      let one = from_place W (has facts) (has new) x.place g x.below x.at.at in
-      record { premise = one.0; there = one.1; consequence = one.2 }),
-  (λ x. let at = to_place W (has facts) (has new) among x.premise g x.there x.consequence in
+      let one = from_place W (has facts) (has new) (has facts) among x.place g x.at.at in
+      record {
+        premise = one.premise;
+        there = one.new;
+        consequence = one.consequence;
+        fresh = x.at.at.at.unknown;
+      }),
+  (λ x. let at = to_place W (has facts) (has new) (has facts) among x.premise g x.there x.fresh
+      x.consequence in
       (is g).1 (record {
-        worker = at.0 % workers;
-        below = mod_below at.0 workers some;
-        from = record { place = at.0; below = at.1; at = record { turn = refl; at = at.2 } };
+        worker = at.place % workers;
+        below = mod_below at.place workers some;
+        from = record {
+          place = at.place;
+          below = at.below;
+          at = record { turn = refl; at = at.at };
+        };
       })),
 )
+
+-- what a worker found the set lacks
+pub dealt_fresh : (W : Wiring) (facts new : List Fact) (worker workers : ℕ) (found : List Fact)
+    → IsListOf (FromDealt W facts new worker workers) found
+    → (g : Fact) → IsTrue (has found g) → has facts g ≡ false
+unfolding FromDealt
+dealt_fresh W facts new worker workers found is g h = ((is g).0 h).at.at.at.unknown
+
+pub first_fresh : (W : Wiring) (facts new : List Fact) (n workers : ℕ) (found : List Fact)
+    → IsListOf (FromFirst W facts new n workers) found
+    → (g : Fact) → IsTrue (has found g) → has facts g ≡ false
+unfolding FromDealt
+first_fresh W facts new n workers found is g h = ((is g).0 h).from.at.at.at.unknown
 
 -- the one worker is the first of one
 pub from_alone : (W : Wiring) (facts new : List Fact) (found : List Fact)

@@ -1,7 +1,7 @@
 -- A round keeps what the loop keeps, and the last one leaves the least closed set.
 use Rattle.std.proofs.Common.{◌≡◌, ℕ, not, Bool, true, false, List, []}
 use Rattle.std.proofs.Common.{◌∷◌}
-use Rattle.std.proofs.Common.{refl, ap, sym, subst, ◌∙◌}
+use Rattle.std.proofs.Common.{refl, sym, subst, ◌∙◌}
 use Rattle.std.proofs.Common.{IsTrue, ◌⊎◌, inl, inr}
 use Rattle.std.specs.Prelude.{◌&&◌, ◌||◌, ◌↔◌}
 use Rattle.std.specs.List.{AllByRecursion}
@@ -35,32 +35,22 @@ or_false false = refl
 
 -- merging
 
--- what others lack is put into them
-pub merged_by : (before found unknown none new after_it : List Fact)
-    → none ≡ []
-    → IsAscending before → IsAscending new → IsAscending after_it
-    → ((g : Fact) → has unknown g ≡ (has found g && not (has before g)))
-    → ((g : Fact) → has new g ≡ (has none g || has unknown g))
-    → ((g : Fact) → has after_it g ≡ (has before g || has new g))
-    → Merged before found after_it new
-merged_by before found unknown none new after_it empty up up_new up_after lacked in_new in_after =
+-- what a set lacks is put into it
+pub merged_by : (before found after_it : List Fact)
+    → IsAscending before → IsAscending found → IsAscending after_it
+    → ((g : Fact) → IsTrue (has found g) → has before g ≡ false)
+    → ((g : Fact) → has after_it g ≡ (has before g || has found g))
+    → Merged before found after_it found
+merged_by before found after_it up up_found up_after lacked in_after =
     record {
-      members = λ g. in_after g ∙ (ap (λ b. has before g || b) (is_new g ∙ lacked g)
-          ∙ whole (has before g) (has found g));
-      new_ones = λ g. is_new g ∙ lacked g;
-      len = length-together before new after_it up up_new up_after in_after
-          (λ g there. false_from (has before g)
-          (and_parts (has found g) (not (has before g))
-          (subst IsTrue (is_new g ∙ lacked g) there)).1);
+      members = in_after;
+      new_ones = λ g. alone (has found g) (has before g) (lacked g);
+      len = length-together before found after_it up up_found up_after in_after lacked;
     }
   where
-    is_new : (g : Fact) → has new g ≡ has unknown g
-    is_new g = in_new g ∙ ap (λ fs. has fs g || has unknown g) empty
-
-    whole : (a b : Bool) → (a || (b && not a)) ≡ (a || b)
-    whole true b = refl
-    whole false true = refl
-    whole false false = refl
+    alone : (a b : Bool) → (IsTrue a → b ≡ false) → a ≡ (a && not b)
+    alone true b h = rw (h refl) refl
+    alone false b h = refl
 
 -- what is new
 
@@ -230,25 +220,29 @@ gone_on W facts new found facts_then new_then round found_is m ascending = recor
     closed k premises g rule within olds (inr old) =
         subst IsTrue (sym (m.members g))
         (or_left (has facts g) (has found g) (round.closed k premises g rule old within))
-    closed k premises g rule within olds (inl x) =
-        let from : FromOne W facts new g = record {
-          premise = x.0;
-          there = x.2;
-          consequence = record {
-            rule = k;
-            follows = record {
-              premises = premises;
-              rule = rule;
-              among = x.1;
-              known = all_as (λ p. InRange W p × Has (has facts) p)
-                  (λ p. InRange W p × (p ≡ x.0 ⊎ Has (has facts) p)) premises
-                  (λ p h. (h.0, inr h.1)) olds;
-              in_range = within;
+    closed k premises g rule within olds (inl x) = elim (decide (has facts g)) [
+      | inl old ↦ subst IsTrue (sym (m.members g)) (or_left (has facts g) (has found g) old)
+      | inr lacked ↦
+          let from : FromOne W facts new g = record {
+            premise = x.0;
+            there = x.2;
+            consequence = record {
+              rule = k;
+              follows = record {
+                premises = premises;
+                rule = rule;
+                among = x.1;
+                known = all_as (λ p. InRange W p × Has (has facts) p)
+                    (λ p. InRange W p × (p ≡ x.0 ⊎ Has (has facts) p)) premises
+                    (λ p h. (h.0, inr h.1)) olds;
+                in_range = within;
+              };
             };
-          };
-        } in
-        subst IsTrue (sym (m.members g))
-        (or_right (has facts g) (has found g) ((found_is g).1 from))
+            fresh = lacked;
+          } in
+          subst IsTrue (sym (m.members g))
+          (or_right (has facts g) (has found g) ((found_is g).1 from))
+    ]
 
 -- no new fact is left
 pub at_rest : (W : Wiring) (facts : List Fact) → IsRound W facts [] → IsLeast W (has facts)

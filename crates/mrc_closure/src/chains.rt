@@ -16,7 +16,7 @@ ghost use Rattle.mrc_closure.specs.Orders.{IsLinked, IsPlaced, backward};
 
 use crate::rounds::{merge, next_round};
 use mrc_base::Fact;
-use mrc_classes::{Facts, FewFacts, Instance, Premises, RuleName, Slots, first_rules, instance_of};
+use mrc_classes::{Facts, FewFacts, Instance, RuleName, Rules, first_conclusions, instance_of};
 use mrc_wiring::Wired;
 use std::alloc::{AllocError, Global};
 use std::marker::Model;
@@ -116,7 +116,7 @@ impl Rounds {
 }
 
 /// Puts the fact at the end of the list, and answers the next one of the set.
-fn list_one(list: &mut Vec<Fact>, facts: &Premises, fact: &Fact) -> Result<Option<Fact>, AllocError>
+fn list_one(list: &mut Vec<Fact>, facts: &Facts, fact: &Fact) -> Result<Option<Fact>, AllocError>
     ensures pushed { OnOk result (list.new.items ≡ list.old.items ++ fact.now ∷ []) }
     ensures next { IfOk result (λ next. next ≡ after facts.now fact.now) }
 {
@@ -125,7 +125,7 @@ fn list_one(list: &mut Vec<Fact>, facts: &Premises, fact: &Fact) -> Result<Optio
 }
 
 /// Puts the facts of the set at the end of the list, in their order.
-fn list_all(list: &mut Vec<Fact>, facts: &Premises) -> Result<(), AllocError>
+fn list_all(list: &mut Vec<Fact>, facts: &Facts) -> Result<(), AllocError>
     ensures listed { OnOk result (list.new.items ≡ list.old.items ++ facts.now) }
     ensures ascending { IsAscending facts.now }
 {
@@ -141,47 +141,42 @@ fn list_all(list: &mut Vec<Fact>, facts: &Premises) -> Result<(), AllocError>
 /// the rounds, and puts how many there are after each round into `ends`.
 fn rounds_in_order(
     alloc: Global,
-    slots: &Slots,
-    first: &Facts,
-    facts: &mut Premises,
+    rules: &Rules,
+    first: Facts,
+    facts: &mut Facts,
     ends: &mut Vec<usize>,
 ) -> Result<Vec<Fact>, AllocError>
     requires empty { facts.old ≡ [] }
-    requires first { IsListOf (IsFirstFact (wiring_of slots.now)) first.now }
-    ensures least { OnOk result (IsLeast (wiring_of slots.now) (has facts.new)) }
-    ensures order { IfOk result (λ order. IsOrder (wiring_of slots.now) order.items) }
+    requires first { IsListOf (IsFirstFact (wiring_of rules.now)) first }
+    ensures least { OnOk result (IsLeast (wiring_of rules.now) (has facts.new)) }
+    ensures order { IfOk result (λ order. IsOrder (wiring_of rules.now) order.items) }
     ensures once { IfOk result (λ order. IsOnce order.items) }
     ensures same { IfOk result (λ order. HaveSame facts.new order.items) }
 {
-    let _classes = slots.classes();
-    let mut new = Premises::new(alloc);
+    let _classes = rules.classes();
+    let mut new = Facts::new(alloc);
     let mut order = Vec::new(alloc);
-    merge(alloc, facts, &mut new, first)?;
+    merge(facts, &mut new, first)?;
     while !new.is_empty() {
         list_all(&mut order, &new)?;
         ends.push(order.len())?;
-        next_round(alloc, slots, facts, &mut new)?;
+        next_round(alloc, rules, facts, &mut new)?;
     }
     Ok(order)
 }
 
 /// The facts of the least closed set, round by round.
-fn derive_all(alloc: Global, wired: &Wired, first: &Facts) -> Result<Rounds, AllocError>
-    requires { IsListOf (IsFirstFact (wiring_of wired.now)) first.now }
-    ensures least { IfOk result (λ d. IsLeast (wiring_of wired.now) (has d.facts)) }
-    ensures order { IfOk result (λ d. IsOrder (wiring_of wired.now) d.order) }
+fn derive_all(alloc: Global, rules: &Rules) -> Result<Rounds, AllocError>
+    ensures least { IfOk result (λ d. IsLeast (wiring_of rules.now) (has d.facts)) }
+    ensures order { IfOk result (λ d. IsOrder (wiring_of rules.now) d.order) }
     ensures once { IfOk result (λ d. IsOnce d.order) }
     ensures same { IfOk result (λ d. HaveSame d.facts d.order) }
 {
-    let slots = Slots::new(alloc, wired)?;
-    let mut facts = Premises::new(alloc);
+    let first = first_conclusions(alloc, rules)?;
+    let mut facts = Facts::new(alloc);
     let mut ends = Vec::new(alloc);
-    let order = rounds_in_order(alloc, &slots, first, &mut facts, &mut ends)?;
-    Ok(Rounds {
-        facts: facts.into_facts(),
-        order,
-        ends,
-    })
+    let order = rounds_in_order(alloc, rules, first, &mut facts, &mut ends)?;
+    Ok(Rounds { facts, order, ends })
 }
 
 /// The facts of the least closed set, round by round.
@@ -192,8 +187,8 @@ pub fn rounds_of(alloc: Global, wired: &Wired) -> Result<Rounds, AllocError>
     ensures once { IfOk result (λ r. IsOnce r.order) }
     ensures same { IfOk result (λ r. HaveSame r.facts r.order) }
 {
-    let first = first_rules(alloc, wired)?;
-    derive_all(alloc, wired, &first)
+    let rules = Rules::new(alloc, wired)?;
+    derive_all(alloc, &rules)
 }
 
 /// Puts the premises into the set.
@@ -217,22 +212,20 @@ fn need(needed: &mut Facts, premises: FewFacts) -> Result<(), AllocError>
 /// Where the fact is needed, puts a link that concludes it at the end of the list; what it needs
 /// is needed then.
 fn link_if_needed(
-    wired: &Wired,
-    first: &Facts,
+    rules: &Rules,
     facts: &Facts,
     fact: Fact,
     needed: &mut Facts,
     links: &mut Vec<Link>,
 ) -> Result<(), AllocError>
-    requires first { IsListOf (IsFirstFact (wiring_of wired.now)) first.now }
-    requires follows { IsFollowing (wiring_of wired.now) (has facts.now) fact }
-    ensures { OnOk result (IsLinked (wiring_of wired.now) (has facts.now) fact
+    requires { IsFollowing (wiring_of rules.now) (has facts.now) fact }
+    ensures { OnOk result (IsLinked (wiring_of rules.now) (has facts.now) fact
         needed.old needed.new links.old.items links.new.items) }
 {
     if !needed.has(&fact) {
         return Ok(());
     }
-    let Some(instance) = instance_of(wired, first, facts, fact) else {
+    let Some(instance) = instance_of(rules, facts, fact) else {
         return Ok(());
     };
     need(needed, instance.premises)?;
@@ -243,18 +236,16 @@ fn link_if_needed(
 /// The links that derive the fact, the last one first.
 fn links_to(
     alloc: Global,
-    wired: &Wired,
-    first: &Facts,
+    rules: &Rules,
     derived: Rounds,
     fact: Fact,
 ) -> Result<Vec<Link>, AllocError>
-    requires first { IsListOf (IsFirstFact (wiring_of wired.now)) first.now }
-    requires order { IsOrder (wiring_of wired.now) derived.order }
+    requires order { IsOrder (wiring_of rules.now) derived.order }
     requires once { IsOnce derived.order }
     requires same { HaveSame derived.facts derived.order }
     requires there { IsTrue (has derived.facts fact) }
     ensures { IfOk result (λ links.
-        IsDerivation (wiring_of wired.now) (backward links.items []) fact) }
+        IsDerivation (wiring_of rules.now) (backward links.items []) fact) }
 {
     let Rounds {
         mut facts,
@@ -266,7 +257,7 @@ fn links_to(
     let mut links = Vec::new(alloc);
     while let Some(next) = order.pop() {
         facts.remove(&next);
-        link_if_needed(wired, first, &facts, next, &mut needed, &mut links)?;
+        link_if_needed(rules, &facts, next, &mut needed, &mut links)?;
     }
     Ok(links)
 }
@@ -330,6 +321,21 @@ fn steps_of(alloc: Global, links: Vec<Link>) -> Result<Vec<Step>, AllocError>
     Ok(steps)
 }
 
+/// A derivation of the fact by the ten rules, from nothing.
+fn chain_of(alloc: Global, rules: &Rules, fact: Fact) -> Result<Option<Chain>, AllocError>
+    ensures some { IfOk result (λ answer. IfSome answer (λ chain.
+        IsChain (wiring_of rules.now) fact chain)) }
+    ensures none { IfOk result (λ answer. IfNone answer (Least (wiring_of rules.now) fact → ⊥)) }
+{
+    let derived = derive_all(alloc, rules)?;
+    if !derived.facts.has(&fact) {
+        return Ok(None);
+    }
+    let links = links_to(alloc, rules, derived, fact)?;
+    let steps = steps_of(alloc, links)?;
+    Ok(Some(Chain { steps }))
+}
+
 /// A derivation of the fact by the ten rules, from nothing. There is none exactly where the fact
 /// is not in the least closed set.
 pub fn explain(alloc: Global, wired: &Wired, fact: Fact) -> Result<Option<Chain>, AllocError>
@@ -337,12 +343,6 @@ pub fn explain(alloc: Global, wired: &Wired, fact: Fact) -> Result<Option<Chain>
         IsChain (wiring_of wired.now) fact chain)) }
     ensures none { IfOk result (λ answer. IfNone answer (Least (wiring_of wired.now) fact → ⊥)) }
 {
-    let first = first_rules(alloc, wired)?;
-    let derived = derive_all(alloc, wired, &first)?;
-    if !derived.facts.has(&fact) {
-        return Ok(None);
-    }
-    let links = links_to(alloc, wired, &first, derived, fact)?;
-    let steps = steps_of(alloc, links)?;
-    Ok(Some(Chain { steps }))
+    let rules = Rules::new(alloc, wired)?;
+    chain_of(alloc, &rules, fact)
 }

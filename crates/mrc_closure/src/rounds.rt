@@ -1,6 +1,6 @@
 //! The least closed set, in rounds.
 
-ghost use Rattle.std.specs.Prelude.{◌≡◌, ◌<◌, [], length, IfOk, OnOk};
+ghost use Rattle.std.specs.Prelude.{IsTrue, false, ◌≡◌, ◌<◌, [], length, IfOk, OnOk};
 ghost use Rattle.mrc_base.specs.declared.Fact.{Fact};
 ghost use Rattle.mrc_model.specs.Wiring.{classes};
 ghost use Rattle.mrc_model.specs.Rules.{IsLeast};
@@ -15,15 +15,16 @@ ghost use Rattle.mrc_closure.specs.Least.{IsLeastList};
 
 use mrc_base::Fact;
 use mrc_certificate::Draft;
-use mrc_classes::{Facts, Premises, Slots, conclude_at, first_rules};
+use mrc_classes::{Facts, Rules, conclude_at, first_conclusions};
 use mrc_wiring::Wired;
 use std::alloc::{AllocError, Global};
 
-/// Puts what follows from a new fact at the place into the set, where this is the worker's turn.
+/// Puts what follows from a new fact at the place, and the set lacks, into `found`, if this is the
+/// worker's turn.
 fn conclude_in_turn(
-    slots: &Slots,
-    facts: &Premises,
-    new: &Premises,
+    rules: &Rules,
+    facts: &Facts,
+    new: &Facts,
     place: u16,
     worker: usize,
     workers: usize,
@@ -31,50 +32,42 @@ fn conclude_in_turn(
 ) -> Result<(), AllocError>
     requires { 0 < workers }
     ensures { OnOk result (Added (has found.old) (has found.new)
-        (AtTurn (wiring_of slots.now) facts.now new.now worker workers place)) }
+        (AtTurn (wiring_of rules.now) facts.now new.now worker workers place)) }
 {
     if place as usize % workers == worker {
-        conclude_at(slots, facts, new, place, found)?;
+        conclude_at(rules, facts, new, facts, place, found)?;
     }
     Ok(())
 }
 
-/// What follows from a new fact, with those of the set, at the places of one of so many workers:
-/// at each task and class whose number leaves the worker's, divided by the number of workers.
+/// What follows from a new fact, with those of the set, and the set lacks, at the places of one of
+/// so many workers: at each task and class whose number leaves the worker's, divided by the number of workers.
 pub(crate) fn round(
     alloc: Global,
-    slots: &Slots,
-    facts: &Premises,
-    new: &Premises,
+    rules: &Rules,
+    facts: &Facts,
+    new: &Facts,
     worker: usize,
     workers: usize,
 ) -> Result<Facts, AllocError>
     requires { 0 < workers }
-    ensures { IsFind (wiring_of slots.now) facts.now new.now worker workers result }
+    ensures { IsFind (wiring_of rules.now) facts.now new.now worker workers result }
 {
     let mut found = Facts::new(alloc);
-    for place in 0..slots.classes() {
-        conclude_in_turn(slots, facts, new, place, worker, workers, &mut found)?;
+    for place in 0..rules.classes() {
+        conclude_in_turn(rules, facts, new, place, worker, workers, &mut found)?;
     }
     Ok(found)
 }
 
-/// Puts the found facts into the set. Those that are new there take the place of the new ones.
-pub(crate) fn merge(
-    alloc: Global,
-    facts: &mut Premises,
-    new: &mut Premises,
-    found: &Facts,
-) -> Result<(), AllocError>
-    ensures merged { OnOk result (Merged facts.old found.now facts.new new.new) }
+/// Puts the found facts, which the set lacks, into it. They take the place of the new ones.
+pub(crate) fn merge(facts: &mut Facts, new: &mut Facts, found: Facts) -> Result<(), AllocError>
+    requires { (g : Fact) → IsTrue (has found g) → has facts.old g ≡ false }
+    ensures merged { OnOk result (Merged facts.old found facts.new new.new) }
     ensures ascending { OnOk result (IsAscending facts.new) }
 {
-    let _count = facts.len();
-    let unknown = found.lacking(facts.facts())?;
-    *new = Premises::new(alloc);
-    new.join(&unknown)?;
-    facts.join_premises(new)?;
-    let _counts = (facts.len(), new.len());
+    facts.join_all(&found)?;
+    *new = found;
     Ok(())
 }
 
@@ -82,33 +75,33 @@ pub(crate) fn merge(
 /// it. Those that are new there take the place of the new ones.
 pub(crate) fn next_round(
     alloc: Global,
-    slots: &Slots,
-    facts: &mut Premises,
-    new: &mut Premises,
+    rules: &Rules,
+    facts: &mut Facts,
+    new: &mut Facts,
 ) -> Result<(), AllocError>
     ensures { OnOk result (IsNextRound
-        (FromDealt (wiring_of slots.now) facts.old new.old 0 1) facts.old facts.new new.new) }
+        (FromDealt (wiring_of rules.now) facts.old new.old 0 1) facts.old facts.new new.new) }
 {
-    let found = round(alloc, slots, facts, new, 0, 1)?;
-    merge(alloc, facts, new, &found)
+    let found = round(alloc, rules, facts, new, 0, 1)?;
+    merge(facts, new, found)
 }
 
 /// The rounds from the first facts on, until one has nothing new.
 fn all_rounds(
     alloc: Global,
-    slots: &Slots,
-    first: &Facts,
-    facts: &mut Premises,
+    rules: &Rules,
+    first: Facts,
+    facts: &mut Facts,
 ) -> Result<(), AllocError>
     requires empty { facts.old ≡ [] }
-    requires first { IsListOf (IsFirstFact (wiring_of slots.now)) first.now }
-    ensures { OnOk result (IsLeastList (wiring_of slots.now) facts.new) }
+    requires first { IsListOf (IsFirstFact (wiring_of rules.now)) first }
+    ensures { OnOk result (IsLeastList (wiring_of rules.now) facts.new) }
 {
-    let _classes = slots.classes();
-    let mut new = Premises::new(alloc);
-    merge(alloc, facts, &mut new, first)?;
+    let _classes = rules.classes();
+    let mut new = Facts::new(alloc);
+    merge(facts, &mut new, first)?;
     while !new.is_empty() {
-        next_round(alloc, slots, facts, &mut new)?;
+        next_round(alloc, rules, facts, &mut new)?;
     }
     Ok(())
 }
@@ -117,11 +110,11 @@ fn all_rounds(
 fn least_set(alloc: Global, wired: &Wired) -> Result<Facts, AllocError>
     ensures { IfOk result (IsLeastList (wiring_of wired.now)) }
 {
-    let slots = Slots::new(alloc, wired)?;
-    let first = first_rules(alloc, wired)?;
-    let mut facts = Premises::new(alloc);
-    all_rounds(alloc, &slots, &first, &mut facts)?;
-    Ok(facts.into_facts())
+    let rules = Rules::new(alloc, wired)?;
+    let first = first_conclusions(alloc, &rules)?;
+    let mut facts = Facts::new(alloc);
+    all_rounds(alloc, &rules, first, &mut facts)?;
+    Ok(facts)
 }
 
 /// The certificate of the wiring: the least set that is closed under the ten rules, with the

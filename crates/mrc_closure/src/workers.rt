@@ -20,7 +20,7 @@ ghost use Rattle.mrc_closure.specs.Working.{IsWorking};
 use crate::rounds::{merge, round};
 use mrc_base::{Fact, OrMemory};
 use mrc_certificate::Draft;
-use mrc_classes::{Facts, Premises, Slots, first_rules};
+use mrc_classes::{Facts, Rules, first_conclusions};
 use mrc_wiring::Wired;
 use std::alloc::{AllocError, Global};
 use std::snapshot::Snapshot;
@@ -39,8 +39,8 @@ pub trait Gate: Sync {
 #[derive(Drop)]
 struct Part {
     wired: Snapshot<Wired>,
-    facts: Snapshot<Premises>,
-    new: Snapshot<Premises>,
+    facts: Snapshot<Facts>,
+    new: Snapshot<Facts>,
     worker: usize,
     workers: usize,
 }
@@ -58,9 +58,9 @@ fn start<'s, E, R: Threads + Wait + Sync, G: Gate>(
     scope: &Scope<'s, E>,
     rt: &'s R,
     alloc: Global,
-    slots: &'s Slots,
-    facts: &'s Premises,
-    new: &'s Premises,
+    rules: &'s Rules,
+    facts: &'s Facts,
+    new: &'s Facts,
     gate: &'s G,
     entering: bool,
     worker: usize,
@@ -68,10 +68,10 @@ fn start<'s, E, R: Threads + Wait + Sync, G: Gate>(
 ) -> Result<Working, AllocError>
     requires { 0 < workers }
     ensures { IfOk result (λ h.
-        IsWorking slots.now facts.now new.now worker workers h.promise) }
+        IsWorking rules.now facts.now new.now worker workers h.promise) }
 {
     let promise = Part {
-        wired: Snapshot::of(slots.wired()),
+        wired: Snapshot::of(rules.wired()),
         facts: Snapshot::of(facts),
         new: Snapshot::of(new),
         worker,
@@ -79,13 +79,13 @@ fn start<'s, E, R: Threads + Wait + Sync, G: Gate>(
     };
     let job = move || -> Result<Facts, AllocError>
         requires { 0 < workers }
-        ensures { IsFind (wiring_of slots.entry.now) facts.entry.now new.entry.now
+        ensures { IsFind (wiring_of rules.entry.now) facts.entry.now new.entry.now
             worker workers result }
     {
         if entering {
             gate.enter(worker);
         }
-        round(alloc, slots, facts, new, worker, workers)
+        round(alloc, rules, facts, new, worker, workers)
     };
     match scope.spawn_with(promise, job) {
         Ok(handle) => Ok(handle),
@@ -98,9 +98,9 @@ fn start_all<'s, E, R: Threads + Wait + Sync, G: Gate>(
     scope: &Scope<'s, E>,
     rt: &'s R,
     alloc: Global,
-    slots: &'s Slots,
-    facts: &'s Premises,
-    new: &'s Premises,
+    rules: &'s Rules,
+    facts: &'s Facts,
+    new: &'s Facts,
     gate: &'s G,
     entering: bool,
     workers: usize,
@@ -109,12 +109,12 @@ fn start_all<'s, E, R: Threads + Wait + Sync, G: Gate>(
     requires empty { working.old.items ≡ [] }
     requires room { workers ≤ vec_capacity working.old }
     ensures each { (k : ℕ) (h : _) → slice_get working.new.items k ≡ Some h →
-        IsWorking slots.now facts.now new.now k workers h.promise }
+        IsWorking rules.now facts.now new.now k workers h.promise }
     ensures all { IsTrue result → vec_len working.new ≡ workers }
 {
     for worker in 0..workers {
         match start(
-            scope, rt, alloc, slots, facts, new, gate, entering, worker, workers,
+            scope, rt, alloc, rules, facts, new, gate, entering, worker, workers,
         ) {
             Ok(one) => working.push_reserved(one),
             Err(_) => return false,
@@ -148,15 +148,15 @@ fn join_all<R: Threads>(
     rt: &R,
     alloc: Global,
     working: Vec<Working>,
-    slots: &Slots,
-    facts: &Premises,
-    new: &Premises,
+    rules: &Rules,
+    facts: &Facts,
+    new: &Facts,
     workers: usize,
 ) -> Result<Facts, AllocError>
     requires { (k : ℕ) (h : _) → slice_get working.items k ≡ Some h →
-        IsWorking slots.now facts.now new.now k workers h.promise }
+        IsWorking rules.now facts.now new.now k workers h.promise }
     ensures { IfOk result (IsListOf
-        (FromFirst (wiring_of slots.now) facts.now new.now (vec_len working) workers)) }
+        (FromFirst (wiring_of rules.now) facts.now new.now (vec_len working) workers)) }
 {
     let mut all = Facts::new(alloc);
     let mut whole = true;
@@ -172,23 +172,23 @@ fn round_in<'s, E, R: Threads + Wait + Sync, G: Gate>(
     scope: &Scope<'s, E>,
     rt: &'s R,
     alloc: Global,
-    slots: &'s Slots,
-    facts: &'s Premises,
-    new: &'s Premises,
+    rules: &'s Rules,
+    facts: &'s Facts,
+    new: &'s Facts,
     gate: &'s G,
     entering: bool,
     workers: usize,
 ) -> Result<Facts, AllocError>
     requires { 0 < workers }
     ensures { IfOk result (IsListOf
-        (FromFirst (wiring_of slots.now) facts.now new.now workers workers)) }
+        (FromFirst (wiring_of rules.now) facts.now new.now workers workers)) }
 {
     let mut working = Vec::with_capacity(alloc, workers)?;
     let started = start_all(
         scope,
         rt,
         alloc,
-        slots,
+        rules,
         facts,
         new,
         gate,
@@ -196,7 +196,7 @@ fn round_in<'s, E, R: Threads + Wait + Sync, G: Gate>(
         workers,
         &mut working,
     );
-    let found = join_all(rt, alloc, working, slots, facts, new, workers);
+    let found = join_all(rt, alloc, working, rules, facts, new, workers);
     if started { found } else { Err(AllocError) }
 }
 
@@ -205,25 +205,25 @@ fn round_in<'s, E, R: Threads + Wait + Sync, G: Gate>(
 fn round_by<R: Threads + Wait + Sync, G: Gate>(
     rt: &R,
     alloc: Global,
-    slots: &Slots,
-    facts: &Premises,
-    new: &Premises,
+    rules: &Rules,
+    facts: &Facts,
+    new: &Facts,
     gate: &G,
     entering: bool,
     workers: usize,
 ) -> Result<Facts, AllocError>
     requires { 0 < workers }
     ensures { IfOk result (IsListOf
-        (FromFirst (wiring_of slots.now) facts.now new.now workers workers)) }
+        (FromFirst (wiring_of rules.now) facts.now new.now workers workers)) }
 {
     thread::scope(
         thread::scope_env(),
         rt,
         |scope| -> Result<Facts, AllocError>
             requires { 0 < workers }
-            ensures { IfOk result (IsListOf (FromFirst (wiring_of slots.entry.now)
+            ensures { IfOk result (IsListOf (FromFirst (wiring_of rules.entry.now)
                 facts.entry.now new.entry.now workers workers)) }
-        { round_in(scope, rt, alloc, slots, facts, new, gate, entering, workers) },
+        { round_in(scope, rt, alloc, rules, facts, new, gate, entering, workers) },
     )
 }
 
@@ -232,19 +232,19 @@ fn round_by<R: Threads + Wait + Sync, G: Gate>(
 fn next_round_by<R: Threads + Wait + Sync, G: Gate>(
     rt: &R,
     alloc: Global,
-    slots: &Slots,
-    facts: &mut Premises,
-    new: &mut Premises,
+    rules: &Rules,
+    facts: &mut Facts,
+    new: &mut Facts,
     gate: &G,
     entering: bool,
     workers: usize,
 ) -> Result<(), AllocError>
     requires { 0 < workers }
-    ensures { OnOk result (IsNextRound (FromFirst (wiring_of slots.now)
+    ensures { OnOk result (IsNextRound (FromFirst (wiring_of rules.now)
         facts.old new.old workers workers) facts.old facts.new new.new) }
 {
-    let found = round_by(rt, alloc, slots, facts, new, gate, entering, workers)?;
-    merge(alloc, facts, new, &found)
+    let found = round_by(rt, alloc, rules, facts, new, gate, entering, workers)?;
+    merge(facts, new, found)
 }
 
 /// The rounds from the first facts on, by so many workers, until one has nothing new. Each worker
@@ -252,23 +252,23 @@ fn next_round_by<R: Threads + Wait + Sync, G: Gate>(
 fn all_rounds_by<R: Threads + Wait + Sync, G: Gate>(
     rt: &R,
     alloc: Global,
-    slots: &Slots,
-    first: &Facts,
-    facts: &mut Premises,
+    rules: &Rules,
+    first: Facts,
+    facts: &mut Facts,
     gate: &G,
     workers: usize,
 ) -> Result<(), AllocError>
     requires some { 0 < workers }
     requires empty { facts.old ≡ [] }
-    requires first { IsListOf (IsFirstFact (wiring_of slots.now)) first.now }
-    ensures { OnOk result (IsLeastList (wiring_of slots.now) facts.new) }
+    requires first { IsListOf (IsFirstFact (wiring_of rules.now)) first }
+    ensures { OnOk result (IsLeastList (wiring_of rules.now) facts.new) }
 {
-    let _classes = slots.classes();
-    let mut new = Premises::new(alloc);
-    merge(alloc, facts, &mut new, first)?;
-    next_round_by(rt, alloc, slots, facts, &mut new, gate, true, workers)?;
+    let _classes = rules.classes();
+    let mut new = Facts::new(alloc);
+    merge(facts, &mut new, first)?;
+    next_round_by(rt, alloc, rules, facts, &mut new, gate, true, workers)?;
     while !new.is_empty() {
-        next_round_by(rt, alloc, slots, facts, &mut new, gate, false, workers)?;
+        next_round_by(rt, alloc, rules, facts, &mut new, gate, false, workers)?;
     }
     Ok(())
 }
@@ -284,11 +284,11 @@ fn least_by<R: Threads + Wait + Sync, G: Gate>(
     requires { 0 < workers }
     ensures { IfOk result (IsLeastList (wiring_of wired.now)) }
 {
-    let slots = Slots::new(alloc, wired)?;
-    let first = first_rules(alloc, wired)?;
-    let mut facts = Premises::new(alloc);
-    all_rounds_by(rt, alloc, &slots, &first, &mut facts, gate, workers)?;
-    Ok(facts.into_facts())
+    let rules = Rules::new(alloc, wired)?;
+    let first = first_conclusions(alloc, &rules)?;
+    let mut facts = Facts::new(alloc);
+    all_rounds_by(rt, alloc, &rules, first, &mut facts, gate, workers)?;
+    Ok(facts)
 }
 
 /// Why no certificate is made.

@@ -6,7 +6,7 @@ use Rattle.std.proofs.Common.{◌≡◌}
 use Rattle.std.proofs.lemmas.Bool.{eqb-true, or_right}
 use Rattle.std.specs.List.{find, list_any}
 use Rattle.std.specs.Prelude.{flat_map}
-use Rattle.mrc_model.proofs.Concluding.{in_append}
+use Rattle.mrc_model.proofs.Members.{in_append}
 use Rattle.mrc_model.proofs.Maps.{not_None, same_Some}
 use Rattle.mrc_model.proofs.Tries.{Gives, gives_err, gives_ok}
 use Rattle.mrc_model.specs.CallSend.{by_filter}

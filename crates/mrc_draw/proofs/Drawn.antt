@@ -14,7 +14,7 @@ use Rattle.mrc_base.specs.declared.Fact.TheVariants.{Hold, Carry, Backup}
 use Rattle.mrc_model.specs.IsIn.{IsIn, here, later}
 use Rattle.mrc_model.specs.Wiring.{classes, kernel_class}
 use Rattle.mrc_model.specs.Rules.{Has, Closed, k7_up}
-use Rattle.mrc_model.proofs.Concluding.{in_left, in_right, in_append, in_filter, filter_in}
+use Rattle.mrc_model.proofs.Members.{in_left, in_right, in_append, in_filter, filter_in}
 use Rattle.mrc_model.proofs.FirstHeld.{in_cons, in_one}
 use Rattle.mrc_wiring.proofs.Takers.{found, finds}
 use Rattle.mrc_wiring.specs.Table.{wiring_of}

@@ -1,7 +1,7 @@
 //! Which classes of ports the slots of a type carry.
 
-use mrc_base::{ClassId, Disp, Fact, PortRight, need};
-use mrc_classes::Facts;
+use mrc_base::{ClassId, Disp, Fact, need};
+use mrc_classes::{Facts, can_send_to};
 use mrc_forms::{Form, Interface, MessageKind};
 use mrc_model::LabelItem;
 use mrc_wiring::Wired;
@@ -71,24 +71,11 @@ fn accepts(wired: &Wired, class: ClassId, item: LabelItem) -> bool {
     false
 }
 
-/// Whether the task can send to ports of the class.
-fn can_send(facts: &Facts, task: u16, class: ClassId) -> bool {
-    facts.has(&Fact::Hold {
-        task,
-        class,
-        right: PortRight::Send,
-    }) || facts.has(&Fact::Hold {
-        task,
-        class,
-        right: PortRight::SendOnce,
-    })
-}
-
 /// Whether the task can send to ports that accept the item.
 fn can_send_item(wired: &Wired, facts: &Facts, task: u16, item: LabelItem) -> bool {
     for number in 0..wired.classes() {
         let class = ClassId(number);
-        if accepts(wired, class, item) && can_send(facts, task, class) {
+        if accepts(wired, class, item) && can_send_to(facts, task, number) {
             return true;
         }
     }

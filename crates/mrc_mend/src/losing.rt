@@ -49,8 +49,8 @@ fn lost_by_names(
     Ok(lost)
 }
 
-/// How many of the first facts are not among these. Where a kind of births is gone, the classes
-/// have other numbers.
+/// How many of the first facts are not among these. A change adds no fact, so that is how many
+/// fewer there are; but if a kind of births is gone, the classes have other numbers.
 pub(crate) fn lost(
     alloc: Global,
     first: &First<'_>,
@@ -58,7 +58,7 @@ pub(crate) fn lost(
     facts: &Facts,
 ) -> Result<usize, AllocError> {
     if first.wired.classes() == wired.classes() {
-        Ok(first.facts.lacking(facts)?.len())
+        Ok(first.facts.len().saturating_sub(facts.len()))
     } else {
         lost_by_names(alloc, first, wired, facts)
     }

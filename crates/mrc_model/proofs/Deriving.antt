@@ -5,7 +5,7 @@ use Rattle.mrc_model.specs.IsIn.{IsIn}
 use Rattle.mrc_model.specs.Wiring.{Wiring}
 use Rattle.mrc_model.specs.Rules.{Has, InRange, Closed, Instance, Derives, EndsIn}
 use Rattle.mrc_model.proofs.FirstHeld.{in_cons}
-use Rattle.mrc_model.proofs.Closing.{all_map}
+use Rattle.mrc_model.proofs.Members.{all_map}
 
 module _ (W : Wiring) (set : Fact → Bool) (closed : Closed W (Has set)) where
   abbrev Known : List Fact → Type 0

@@ -13,7 +13,7 @@ use Rattle.mrc_model.specs.Breach.{Holds, Holding, entry_holdings, space_holding
 use Rattle.mrc_model.specs.Breach.{holdings}
 use Rattle.mrc_model.proofs.Maps.{not_None, find_later, find_here, find_cases}
 use Rattle.mrc_model.proofs.FirstHeld.{in_cons}
-use Rattle.mrc_model.proofs.Concluding.{in_left, in_right, in_append}
+use Rattle.mrc_model.proofs.Members.{in_left, in_right, in_append}
 
 abbrev holding : ℕ → Held → Holding
 holding t h = record { task = t; port = h.port; right = h.right }

@@ -7,10 +7,8 @@ pub mod KeptTasks
 pub mod Dying
 pub mod FirstHeld
 pub mod Few
-pub mod Concluding
-pub mod Closing
+pub mod Members
 pub mod Deriving
 pub mod HoldingLists
 mod Samples
 mod SampleRuns
-mod SampleFacts

@@ -32,4 +32,3 @@ pub mod Rules
 pub mod Covers
 pub mod Headline
 pub mod FirstHoldings
-pub mod Conclusions

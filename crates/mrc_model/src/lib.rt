@@ -4,8 +4,6 @@
 #![tactic(auto)]
 
 ghost use Rattle.mrc_model.specs.Breach.{HoldingsAreHeld};
-ghost use Rattle.mrc_model.specs.Conclusions.{ConclusionsAreByRules, ConsequencesAreByRules};
-ghost use Rattle.mrc_model.specs.Conclusions.{IsClosedTells, RoundsAreLeast};
 ghost use Rattle.mrc_model.specs.FirstHoldings.{FirstHoldingsAreGiven, SoundIfFew, SoundTaskByTask};
 ghost use Rattle.mrc_model.specs.Headline.{DyingIsLeast, FirstHasSpaces, SpacesAreKept};
 ghost use Rattle.mrc_model.specs.Headline.{TasksAreKept};
@@ -228,17 +226,6 @@ pub fn sound_task_by_task()
 /// So lines that name what is there, over few ports and few send-once rights, are sound.
 pub fn sound_if_few()
     ensures sound { SoundIfFew }
-{}
-
-/// The list of conclusions from some facts has the conclusions of the rules' instances over the
-/// wiring's tasks and classes, and no others; and the consequences of a fact are those of the
-/// instances that have it as a premise. So the test of a closed list tells whether it is closed,
-/// and what comes in rounds of conclusions, from nothing, is in every closed set.
-pub fn conclusions_by_rules()
-    ensures by_rules { ConclusionsAreByRules }
-    ensures from_fact { ConsequencesAreByRules }
-    ensures closed { IsClosedTells }
-    ensures least { RoundsAreLeast }
 {}
 
 /// What is derived by instances of the rules, each from conclusions of earlier ones, is in every

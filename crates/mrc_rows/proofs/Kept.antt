@@ -1,30 +1,36 @@
 -- A row of bits that is joined with another one through a mask.
-use Rattle.std.proofs.Common.{◌≡◌, ℕ, ◌+◌, ◌*◌, ◌/◌, ◌<◌, ◌≤◌, ◌==◌, Bool, true, false, Vec, List, length}
+use Rattle.std.proofs.Common.{◌≡◌, ℕ, ◌+◌, ◌*◌, ◌/◌, ◌%◌, ◌<◌, ◌≤◌, ◌==◌, Bool, true, false, Vec, List, length}
 use Rattle.std.proofs.Common.{[], ◌∷◌, Result, Ok, Err, zero, suc}
 use Rattle.std.proofs.Common.{◌-◌, slice_set, refl, ap, sym, subst, ◌∙◌, inl, inr, arith, IsTrue}
-use Rattle.std.specs.Prelude.{◌||◌, ◌&&◌, nat_lt, not, OnOk, OnErr}
+use Rattle.std.specs.Prelude.{◌||◌, ◌&&◌, nat_lt, not, OnOk, OnErr, if◌then◌else◌}
 use Rattle.std.specs.declared.alloc.Global.{Global}
 use Rattle.std.proofs.lemmas.Bool.{cases_lt, cases_order, cases_Bool, and_from, and_parts, eqb-true}
 use Rattle.std.proofs.lemmas.List.{length-set}
 use Rattle.std.proofs.lemmas.Bool.{cases_eq, ne_eqb, eq-eqb, lt-ltb, le-ltb, or_cases, or_left, or_right}
 use Rattle.std.proofs.lemmas.Bool.{true≢false, false≢true, false_from_ne_true}
 use Rattle.mrc_base.specs.declared.Fact.{Fact}
+use Rattle.mrc_base.specs.declared.PortRight.{PortRight}
+use Rattle.mrc_base.specs.declared.PortRight.TheVariants.{Send, Receive, SendOnce}
+use Rattle.mrc_facts.specs.Order.{right_number}
 use Rattle.mrc_base.specs.declared.Fact.TheVariants.{Hold, Carry, Backup}
 use Rattle.mrc_facts.specs.Order.{is_same}
 use Rattle.mrc_facts.specs.Sets.{has, with_fact, begins_after, are_ascending, IsAscending}
 use Rattle.mrc_facts.proofs.Members.{has-with_fact, one_list}
 use Rattle.mrc_facts.proofs.Total.{equal_from_same, same_itself}
 use Rattle.mrc_bits.specs.Bits.{is_set, is_fresh, fresh_count}
-use Rattle.mrc_bits.proofs.Counts.{fresh_none, fresh_yes, fresh_no}
-use Rattle.mrc_rows.specs.Rows.{is_within, IsWithin, row_of, place_of, words_of, width_of, Shows}
-use Rattle.mrc_rows.specs.Joining.{right_at, is_in_row, is_in_both, JoinedBits, ShowJoined}
+use Rattle.mrc_bits.proofs.Counts.{fresh_none, fresh_yes, fresh_no, past}
+use Rattle.mrc_base.specs.Limits.{limit_of_tasks}
+use Rattle.mrc_rows.specs.Limits.{limit_of_classes, limit_of_words, limit_of_rows}
+use Rattle.mrc_rows.specs.Limits.{first_row_of_carries, first_row_of_backups}
+use Rattle.mrc_rows.specs.Rows.{is_within, IsWithin, row_of, place_of, words_of, Shows}
+use Rattle.mrc_rows.specs.Joining.{is_in_row, is_in_both, JoinedBits, ShowJoined}
 use Rattle.mrc_rows.specs.Joining.{is_of, IsNumber, HasRoom}
 use Rattle.mrc_rows.specs.Halves.{IsWhole, Whole}
 use Rattle.mrc_rows.specs.declared.joining.Row.{Row as Rows}
 use Rattle.mrc_rows.proofs.Rows.{words_set, words_other}
 use Rattle.mrc_rows.proofs.Rows.{placed, same_place, ascending_with, length_with}
 use Rattle.mrc_rows.proofs.Wholes.{whole_with_other}
-use Rattle.mrc_rows.proofs.Joins.{place_is, joined_more}
+use Rattle.mrc_rows.proofs.Joins.{joined_more}
 
 abbrev Row : Type 0
 Row = Vec ℕ Global
@@ -37,43 +43,50 @@ record IsAt (row place : ℕ) : Type 0 where
   row_is : row_of fact ≡ row
   place_is : place_of fact ≡ place
 
-at_place : (row place : ℕ) → row < 2752 → place < 64 * width_of row → IsAt row place
-at_place row place there below = elim (cases_lt row 64) [
+-- the right of a row
+right_at : ℕ → PortRight
+right_at n = if n % 3 == 0 then Send else if n % 3 == 1 then Receive else SendOnce
+
+number_at : (n : ℕ) → right_number (right_at n) ≡ n % 3
+unfolding right_at
+number_at n = elim (cases_eq (n % 3) 0) [
+  | inl e ↦ rw e refl
+  | inr more ↦ elim (cases_eq (n % 3) 1) [
+    | inl e ↦ rw e refl
+    | inr two ↦ let e : n % 3 ≡ 2 = omega (arith, more, two) in rw e refl
+  ]
+]
+
+at_place : (row place : ℕ) → row < limit_of_rows → place < limit_of_classes → IsAt row place
+at_place row place there below = elim (cases_lt row first_row_of_carries) [
   | inl hold ↦
-      let w : width_of row ≡ 63 = wide (omega arith) in
+      let e = number_at row in
       record {
-        fact = Hold row (place / 3) (right_at place);
-        within = and_from _ _ (lt-ltb row 64 hold) (lt-ltb (place / 3) 1344 (omega arith));
-        row_is = refl;
-        place_is = place_is place;
+        fact = Hold (row / 3) place (right_at row);
+        within = and_from _ _ (lt-ltb (row / 3) limit_of_tasks (omega arith)) (lt-ltb place limit_of_classes below);
+        row_is = omega arith;
+        place_is = refl;
       }
-  | inr more ↦ elim (cases_lt row 1408) [
+  | inr more ↦ elim (cases_lt row first_row_of_backups) [
     | inl carry ↦
-        let w : width_of row ≡ 63 = wide carry in
+        let e = number_at row in
         record {
-          fact = Carry (row - 64) (place / 3) (right_at place);
-          within = and_from _ _ (lt-ltb (row - 64) 1344 (omega arith))
-              (lt-ltb (place / 3) 1344 (omega arith));
+          fact = Carry ((row - first_row_of_carries) / 3) place (right_at row);
+          within = and_from _ _ (lt-ltb ((row - first_row_of_carries) / 3) limit_of_classes (omega arith))
+              (lt-ltb place limit_of_classes below);
           row_is = omega arith;
-          place_is = place_is place;
+          place_is = refl;
         }
     | inr backup ↦
-        let w : width_of row ≡ 21 = narrow backup in
         record {
-          fact = Backup (row - 1408) place;
-          within = and_from _ _ (lt-ltb (row - 1408) 1344 (omega arith))
-              (lt-ltb place 1344 (omega arith));
+          fact = Backup (row - first_row_of_backups) place;
+          within = and_from _ _ (lt-ltb (row - first_row_of_backups) limit_of_classes (omega arith))
+              (lt-ltb place limit_of_classes below);
           row_is = omega arith;
           place_is = refl;
         }
   ]
 ]
-  where
-    wide : row < 1408 → width_of row ≡ 63
-    wide below = rw (lt-ltb row 1408 below) refl
-
-    narrow : 1408 ≤ row → width_of row ≡ 21
-    narrow above = rw (le-ltb row 1408 above) refl
 
 -- a fact is that of a place by its row and its place
 same_at : (row place : ℕ) (f g : Fact) → IsWithin f → row_of f ≡ row → place_of f ≡ place
@@ -103,11 +116,11 @@ joined_bits rows k row more mask below as_long put = record {
         (sym (or_false (is_set (words_of rows j) i)))
   ];
   sized = λ s j. elim (cases_eq j k) [
-    | inl e ↦ subst (λ n. n ≤ width_of j)
+    | inl e ↦ subst (λ n. n ≤ limit_of_words)
         (sym (ap (λ n. length (words_of (slice_set rows k row) n)) e
         ∙ (ap length (words_set rows k row below)
         ∙ (as_long ∙ ap (λ n. length (words_of rows n)) (sym e))))) (s j)
-    | inr other ↦ subst (λ ws. length ws ≤ width_of j)
+    | inr other ↦ subst (λ ws. length ws ≤ limit_of_words)
         (sym (words_other rows k j row other)) (s j)
   ];
   few_rows = λ h. let e = length-set rows k row in omega arith;
@@ -179,7 +192,7 @@ passed false now true true p at is old = elim (cases_order p at) [
 ]
 
 module _ (row : ℕ) (more mask : List ℕ) (facts : List Fact) (rows : List Row) (count : ℕ)
-    (there : row < 2752) (shows : Shows rows count facts) where
+    (there : row < limit_of_rows) (shows : Shows rows count facts) where
   none_before : JoinedBefore row (words_of rows row) more mask facts count 0
   none_before = record {
     joined = facts;
@@ -199,7 +212,7 @@ module _ (row : ℕ) (more mask : List ℕ) (facts : List Fact) (rows : List Row
       nothing false false in_more = refl
 
   -- a fresh bit more
-  fresh_joined : (at : ℕ) → at < 64 * width_of row
+  fresh_joined : (at : ℕ) → at < limit_of_classes
       → is_fresh (words_of rows row) more mask at ≡ true
       → JoinedBefore row (words_of rows row) more mask facts count at
       → JoinedBefore row (words_of rows row) more mask facts count (at + 1)
@@ -256,7 +269,7 @@ module _ (row : ℕ) (more mask : List ℕ) (facts : List Fact) (rows : List Row
         (ap (is_in_both more mask) (sym same) ∙ both)));
   }
 
-  joined_before : (end : ℕ) → end ≤ 64 * width_of row
+  joined_before : (end : ℕ) → end ≤ limit_of_classes
       → JoinedBefore row (words_of rows row) more mask facts count end
   joined_before zero below = none_before
   joined_before (suc at) below =
@@ -270,13 +283,13 @@ module _ (row : ℕ) (more mask : List ℕ) (facts : List Fact) (rows : List Row
 
   -- all of the row
   pub all_joined : (after_it : List Row)
-      → HasRoom row more mask (length (words_of rows row))
+      → HasRoom more mask (length (words_of rows row))
       → JoinedBits rows after_it row more mask
       → ShowJoined row more mask facts after_it (count
       + fresh_count (words_of rows row) more mask 0 (64 * length (words_of rows row)))
   all_joined after_it room put =
       let sized = shows.sized row in
-      let end : 64 * length (words_of rows row) ≤ 64 * width_of row = omega (arith, sized) in
+      let end : 64 * length (words_of rows row) ≤ limit_of_classes = omega (arith, sized) in
       let all = joined_before (64 * length (words_of rows row)) end in
       record {
         joined = all.joined;
@@ -322,8 +335,7 @@ module _ (row : ℕ) (more mask : List ℕ) (facts : List Fact) (rows : List Row
           let parts = and_parts (is_within g) (row_of g == row) in_row in
           let p = (placed g parts.0).place in
           lt-ltb (place_of g) (64 * length (words_of rows row))
-          (room (place_of g) both
-          (subst (λ k. place_of g < 64 * width_of k) (eqb-true (row_of g) row parts.1) p))
+          (room (place_of g) both p)
 
 -- both halves of a set whose rows have changed
 
@@ -379,11 +391,11 @@ module _ (rows others facts : List Fact) (is : IsWhole rows others facts) (numbe
   whole_joined (Err e) ok err up =
       (facts, subst (λ fs. IsWhole fs others facts) (sym err) is)
 
-  pub kept_joined : (row : Rows) → IsNumber row number → (end : ℕ) → end ≡ 64 * width_of number
+  pub kept_joined : (row : Rows) → IsNumber row number → length more ≤ limit_of_words
       → (whole : Whole after_it others) → HasJoined number more mask rows after_it
-      → (g : Fact) → has whole.0 g ≡ (has facts g
-      || (is_of row g && (is_in_both more mask (place_of g) && nat_lt (place_of g) end)))
-  kept_joined row kept end last whole joined g =
+      → (g : Fact) → has whole.0 g
+      ≡ (has facts g || (is_of row g && is_in_both more mask (place_of g)))
+  kept_joined row kept few whole joined g =
       whole.1.same g
       ∙ (ap (λ b. b || has others g) (joined g)
       ∙ (swapped (has rows g) (is_in_row number g && is_in_both more mask (place_of g))
@@ -391,9 +403,16 @@ module _ (rows others facts : List Fact) (is : IsWhole rows others facts) (numbe
       ∙ (ap (λ b. b || (is_in_row number g && is_in_both more mask (place_of g))) (sym (is.same g))
       ∙ ap (λ b. has facts g || b)
       (part (is_within g) (is_of row g) (row_of g == number) (is_in_both more mask (place_of g))
-      (nat_lt (place_of g) end) (kept.at g)
-      (λ of. kept.within g of ∙ ap (nat_lt (place_of g)) (sym last))))))
+      (nat_lt (place_of g) limit_of_classes) (kept.at g) (kept.within g) low))))
     where
+      low : is_in_both more mask (place_of g) ≡ true → nat_lt (place_of g) limit_of_classes ≡ true
+      low both = elim (cases_lt (place_of g) limit_of_classes) [
+        | inl below ↦ lt-ltb (place_of g) limit_of_classes below
+        | inr behind ↦ absurd (false≢true
+            (sym (past more (place_of g) (omega (arith, few, behind)))
+            ∙ (and_parts (is_set more (place_of g)) (is_set mask (place_of g)) both).0))
+      ]
+
       swapped : (a b c : Bool) → ((a || b) || c) ≡ ((a || c) || b)
       swapped true b c = refl
       swapped false true true = refl
@@ -401,19 +420,11 @@ module _ (rows others facts : List Fact) (is : IsWhole rows others facts) (numbe
       swapped false false true = refl
       swapped false false false = refl
 
-      and_true : (b : Bool) → (b && true) ≡ b
-      and_true true = refl
-      and_true false = refl
-
-      and_false : (b : Bool) → (b && false) ≡ false
-      and_false true = refl
-      and_false false = refl
-
       part : (within of here both low : Bool) → (within ≡ true → of ≡ here)
-          → (of ≡ true → within ≡ low) → ((within && here) && both) ≡ (of && (both && low))
-      part true of true both low same there =
-          let e = same refl in
-          rw e (rw (sym (there e)) (sym (and_true both)))
-      part true of false both low same there = rw (same refl) refl
-      part false true here both low same there = rw (sym (there refl)) (sym (and_false both))
-      part false false here both low same there = refl
+          → (of ≡ true → within ≡ low) → (both ≡ true → low ≡ true)
+          → ((within && here) && both) ≡ (of && both)
+      part true of here both low same there below = ap (λ b. b && both) (sym (same refl))
+      part false false here both low same there below = refl
+      part false true here true low same there below =
+          absurd (false≢true (there refl ∙ below refl))
+      part false true here false low same there below = refl

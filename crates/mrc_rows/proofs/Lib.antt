@@ -2,4 +2,6 @@ pub mod Rows
 pub mod Wholes
 pub mod Kept
 pub mod Joins
+pub mod Groups
+pub mod Iterating
 pub mod Behind

@@ -23,7 +23,10 @@ use Rattle.mrc_facts.specs.Laws.{IsLeast, IsNext}
 use Rattle.mrc_facts.proofs.Comparing.{cmp_less, three_less}
 use Rattle.mrc_facts.proofs.Removing.{has-without, ascending-without, length-without}
 use Rattle.mrc_bits.specs.Bits.{is_set}
-use Rattle.mrc_rows.specs.Rows.{IsFrom, IsNextPlace, NoPlace, IsFirstFrom, NoneFrom, is_within, IsWithin, row_of, place_of, words_of, is_shown, width_of, SameBits, OneMoreBit, OneLessBit, start_row, start_place, Shows, Shown}
+use Rattle.mrc_base.specs.Limits.{limit_of_tasks}
+use Rattle.mrc_rows.specs.Limits.{limit_of_classes, limit_of_words, limit_of_rows, limit_of_groups}
+use Rattle.mrc_rows.specs.Limits.{first_row_of_carries, first_row_of_backups, first_group_of_backups}
+use Rattle.mrc_rows.specs.Rows.{IsFrom, IsNextKey, NoKey, IsFirstFrom, NoneFrom, is_within, IsWithin, row_of, place_of, group_of, key_of, is_key, words_of, is_shown, SameBits, OneMoreBit, OneLessBit, start_group, start_key, Shows, Shown}
 
 abbrev Row : Type 0
 Row = Vec ℕ Global
@@ -49,7 +52,7 @@ words_other rows k j row other =
       | inr past ↦ words_past (slice_set rows k row) j (let e = length-set rows k row in omega arith) ∙ sym (words_past rows j past)
     ]
 
-words_push : (rows : List Row) (row : Row) → row.items ≡ [] → (k : ℕ) → words_of (rows ++ row ∷ []) k ≡ words_of rows k
+pub words_push : (rows : List Row) (row : Row) → row.items ≡ [] → (k : ℕ) → words_of (rows ++ row ∷ []) k ≡ words_of rows k
 words_push rows row empty k =
     elim (cases_lt k (length rows)) [
       | inl below ↦ ap (λ (o : Option Row). unwrap_or (option_map (λ (r : Row). r.items) o) []) (slice_get-get_or (rows ++ row ∷ []) k row (let e = length_push rows row in omega arith) ∙ (ap (λ (r : Row). Some r) (get_or_append_left rows (row ∷ []) row k below) ∙ sym (slice_get-get_or rows k row below)))
@@ -64,10 +67,10 @@ words_push rows row empty k =
 pub same_bits : (rows : List Row) → SameBits rows rows
 same_bits rows = record { same = λ k i. refl; sized = λ s. s; few_rows = λ h. h }
 
-pub same_pushed : (before rows : List Row) (row : Row) → SameBits before rows → row.items ≡ [] → length rows < 2752 → SameBits before (rows ++ row ∷ [])
+pub same_pushed : (before rows : List Row) (row : Row) → SameBits before rows → row.items ≡ [] → length rows < limit_of_rows → SameBits before (rows ++ row ∷ [])
 same_pushed before rows row same empty few = record {
   same = λ k i. ap (λ ws. is_set ws i) (words_push rows row empty k) ∙ same.same k i;
-  sized = λ s k. subst (λ ws. length ws ≤ width_of k) (sym (words_push rows row empty k)) (same.sized s k);
+  sized = λ s k. subst (λ ws. length ws ≤ limit_of_words) (sym (words_push rows row empty k)) (same.sized s k);
   few_rows = λ h. let e = length_push rows row in omega arith;
 }
 
@@ -116,15 +119,15 @@ lengthened_to rows k count row below shorter is =
 
 -- and shows the same
 pub same_lengthened : (before rows : List Row) (k count : ℕ) (row : Row) → SameBits before rows
-    → k < length rows → length (words_of rows k) ≤ count → count ≤ width_of k
+    → k < length rows → length (words_of rows k) ≤ count → count ≤ limit_of_words
     → row.items ≡ words_of rows k ++ replicate (count - length (words_of rows k)) 0
     → SameBits before (slice_set rows k row)
 same_lengthened before rows k count row same below shorter within is = record {
   same = λ j i. same_at j i ∙ same.same j i;
   sized = λ s j. elim (cases_eq j k) [
-    | inl e ↦ subst (λ n. length (words_of (slice_set rows k row) n) ≤ width_of n) (sym e)
+    | inl e ↦ subst (λ n. length (words_of (slice_set rows k row) n) ≤ limit_of_words) (sym e)
         (let l = lengthened_to rows k count row below shorter is in omega (arith, l, within))
-    | inr other ↦ subst (λ ws. length ws ≤ width_of j) (sym (words_other rows k j row other))
+    | inr other ↦ subst (λ ws. length ws ≤ limit_of_words) (sym (words_other rows k j row other))
         (same.sized s j)
   ];
   few_rows = λ h. let e = length-set rows k row in let f = same.few_rows h in omega arith;
@@ -146,11 +149,11 @@ one_more_bit rows k place row below as_long put = record {
     | inr other ↦ rw (ne_eqb j k other, words_other rows k j row other) refl
   ];
   sized = λ s j. elim (cases_eq j k) [
-    | inl e ↦ subst (λ n. n ≤ width_of j)
+    | inl e ↦ subst (λ n. n ≤ limit_of_words)
         (sym (ap (λ n. length (words_of (slice_set rows k row) n)) e
         ∙ (ap length (words_set rows k row below)
         ∙ (as_long ∙ ap (λ n. length (words_of rows n)) (sym e))))) (s j)
-    | inr other ↦ subst (λ ws. length ws ≤ width_of j) (sym (words_other rows k j row other)) (s j)
+    | inr other ↦ subst (λ ws. length ws ≤ limit_of_words) (sym (words_other rows k j row other)) (s j)
   ];
   few_rows = λ h. let e = length-set rows k row in omega arith;
 }
@@ -163,11 +166,11 @@ one_less_bit rows k place row below as_long put = record {
     | inr other ↦ rw (ne_eqb j k other, words_other rows k j row other) refl
   ];
   sized = λ s j. elim (cases_eq j k) [
-    | inl e ↦ subst (λ n. n ≤ width_of j)
+    | inl e ↦ subst (λ n. n ≤ limit_of_words)
         (sym (ap (λ n. length (words_of (slice_set rows k row) n)) e
         ∙ (ap length (words_set rows k row below)
         ∙ (as_long ∙ ap (λ n. length (words_of rows n)) (sym e))))) (s j)
-    | inr other ↦ subst (λ ws. length ws ≤ width_of j) (sym (words_other rows k j row other)) (s j)
+    | inr other ↦ subst (λ ws. length ws ≤ limit_of_words) (sym (words_other rows k j row other)) (s j)
   ];
   few_rows = λ h. let e = length-set rows k row in omega arith;
 }
@@ -185,7 +188,7 @@ right_there Send = lit< tt
 right_there Receive = lit< tt
 right_there SendOnce = lit< tt
 
-one_right : (r q : PortRight) → right_number r ≡ right_number q → r ≡ q
+pub one_right : (r q : PortRight) → right_number r ≡ right_number q → r ≡ q
 one_right Send Send e = refl
 one_right Send Receive e = absurd (omega arith)
 one_right Send SendOnce e = absurd (omega arith)
@@ -198,47 +201,36 @@ one_right SendOnce SendOnce e = refl
 
 -- the numbers of a fact that has a place
 pub record IsPlaced (f : Fact) : Type 0 where
-  pub row : row_of f < 2752
-  pub place : place_of f < 64 * width_of (row_of f)
+  pub row : row_of f < limit_of_rows
+  pub place : place_of f < limit_of_classes
 
-both : (a b c d : ℕ) → IsTrue (nat_lt a b && nat_lt c d) → (a < b) × (c < d)
+pub both : (a b c d : ℕ) → IsTrue (nat_lt a b && nat_lt c d) → (a < b) × (c < d)
 both a b c d h = let p = and_parts (nat_lt a b) (nat_lt c d) h in (ltb-true a b p.0, ltb-true c d p.1)
 
-wide : (k : ℕ) → k < 1408 → width_of k ≡ 63
-wide k below = rw (lt-ltb k 1408 below) refl
-
-narrow : (k : ℕ) → 1408 ≤ k → width_of k ≡ 21
-narrow k above = rw (le-ltb k 1408 above) refl
-
 pub placed : (f : Fact) → IsWithin f → IsPlaced f
-placed (Hold t c r) h = let p = both t 64 c 1344 h in let w = wide t (omega arith) in let q = right_there r in record { row = omega arith; place = omega (arith, w, q) }
-placed (Carry d c r) h = let p = both d 1344 c 1344 h in let w = wide (64 + d) (omega arith) in let q = right_there r in record { row = omega arith; place = omega (arith, w, q) }
-placed (Backup c d) h = let p = both c 1344 d 1344 h in let w = narrow (1408 + c) (omega arith) in record { row = omega arith; place = omega (arith, w) }
-
--- f comes before g by rows, and after_it by places
-abbrev pub Precedes : Fact → Fact → Type 0
-Precedes f g = (row_of f < row_of g) ⊎ ((row_of f ≡ row_of g) × (place_of f < place_of g))
+placed (Hold t c r) h = let p = both t limit_of_tasks c limit_of_classes h in let q = right_there r in record { row = omega arith; place = omega arith }
+placed (Carry d c r) h = let p = both d limit_of_classes c limit_of_classes h in let q = right_there r in record { row = omega arith; place = omega arith }
+placed (Backup c d) h = let p = both c limit_of_classes d limit_of_classes h in record { row = omega arith; place = omega arith }
 
 pub one_place : (f g : Fact) → IsWithin f → IsWithin g → row_of f ≡ row_of g → place_of f ≡ place_of g → f ≡ g
 one_place (Hold t c r) (Hold u d q) a b e h =
     let x = right_there r in
     let y = right_there q in
-    let same : c ≡ d = omega arith in
+    let same : t ≡ u = omega arith in
     let s = one_right r q (omega arith) in
     cc
-one_place (Hold t c r) (Carry u d q) a b e h = let p = both t 64 c 1344 a in absurd (omega arith)
-one_place (Hold t c r) (Backup u d) a b e h = let p = both t 64 c 1344 a in absurd (omega arith)
-one_place (Carry t c r) (Hold u d q) a b e h = let p = both u 64 d 1344 b in absurd (omega arith)
+one_place (Hold t c r) (Carry u d q) a b e h = let p = both t limit_of_tasks c limit_of_classes a in let x = right_there r in absurd (omega arith)
+one_place (Hold t c r) (Backup u d) a b e h = let p = both t limit_of_tasks c limit_of_classes a in let x = right_there r in absurd (omega arith)
+one_place (Carry t c r) (Hold u d q) a b e h = let p = both u limit_of_tasks d limit_of_classes b in let y = right_there q in absurd (omega arith)
 one_place (Carry t c r) (Carry u d q) a b e h =
     let x = right_there r in
     let y = right_there q in
-    let same : c ≡ d = omega arith in
-    let same_row : t ≡ u = omega arith in
+    let same : t ≡ u = omega arith in
     let s = one_right r q (omega arith) in
     cc
-one_place (Carry t c r) (Backup u d) a b e h = let p = both t 1344 c 1344 a in absurd (omega arith)
-one_place (Backup t c) (Hold u d q) a b e h = let p = both u 64 d 1344 b in absurd (omega arith)
-one_place (Backup t c) (Carry u d q) a b e h = let p = both u 1344 d 1344 b in absurd (omega arith)
+one_place (Carry t c r) (Backup u d) a b e h = let p = both t limit_of_classes c limit_of_classes a in let x = right_there r in absurd (omega arith)
+one_place (Backup t c) (Hold u d q) a b e h = let p = both u limit_of_tasks d limit_of_classes b in let y = right_there q in absurd (omega arith)
+one_place (Backup t c) (Carry u d q) a b e h = let p = both u limit_of_classes d limit_of_classes b in let y = right_there q in absurd (omega arith)
 one_place (Backup t c) (Backup u d) a b e h = let same : t ≡ u = omega arith in cc
 
 -- the two tests for one fact
@@ -343,9 +335,9 @@ pub record IsCoded (f : Fact) : Type 0 where
   pub last : last_byte f < 4
 
 coded : (f : Fact) → IsWithin f → IsCoded f
-coded (Hold t c r) h = let p = both t 64 c 1344 h in let q = right_there r in record { kind = lit< tt; first = omega arith; second = omega arith; last = omega arith }
-coded (Carry t c r) h = let p = both t 1344 c 1344 h in let q = right_there r in record { kind = lit< tt; first = omega arith; second = omega arith; last = omega arith }
-coded (Backup t c) h = let p = both t 1344 c 1344 h in record { kind = lit< tt; first = omega arith; second = omega arith; last = lit< tt }
+coded (Hold t c r) h = let p = both t limit_of_tasks c limit_of_classes h in let q = right_there r in record { kind = lit< tt; first = omega arith; second = omega arith; last = omega arith }
+coded (Carry t c r) h = let p = both t limit_of_classes c limit_of_classes h in let q = right_there r in record { kind = lit< tt; first = omega arith; second = omega arith; last = omega arith }
+coded (Backup t c) h = let p = both t limit_of_classes c limit_of_classes h in record { kind = lit< tt; first = omega arith; second = omega arith; last = lit< tt }
 
 code_less : (f g : Fact) → IsCoded f → IsCoded g → IsTrue (is_before f g) → code f < code g
 code_less f g a b h =
@@ -416,7 +408,62 @@ place_made rows m fs f k i shows there row place =
 pub count_some : (rows : List Row) (m : ℕ) (fs : List Fact) (f : Fact) → Shows rows m fs → has fs f ≡ true → 0 < m
 count_some rows m fs f shows there = let e = length-without fs f there in let h = shows.len in omega arith
 
--- the order of places is that of facts
+-- the order of groups and keys is that of facts
+
+-- f comes before g by groups, and after it by keys
+abbrev pub Precedes : Fact → Fact → Type 0
+Precedes f g = (group_of f < group_of g) ⊎ ((group_of f ≡ group_of g) × (key_of f < key_of g))
+
+pub one_key : (f g : Fact) → IsWithin f → IsWithin g → group_of f ≡ group_of g → key_of f ≡ key_of g → f ≡ g
+one_key (Hold t c r) (Hold u d q) a b e h =
+    let x = right_there r in
+    let y = right_there q in
+    let same : c ≡ d = omega arith in
+    let s = one_right r q (omega arith) in
+    cc
+one_key (Hold t c r) (Carry u d q) a b e h = let p = both t limit_of_tasks c limit_of_classes a in absurd (omega arith)
+one_key (Hold t c r) (Backup u d) a b e h = let p = both t limit_of_tasks c limit_of_classes a in absurd (omega arith)
+one_key (Carry t c r) (Hold u d q) a b e h = let p = both u limit_of_tasks d limit_of_classes b in absurd (omega arith)
+one_key (Carry t c r) (Carry u d q) a b e h =
+    let x = right_there r in
+    let y = right_there q in
+    let same : c ≡ d = omega arith in
+    let same_row : t ≡ u = omega arith in
+    let s = one_right r q (omega arith) in
+    cc
+one_key (Carry t c r) (Backup u d) a b e h = let p = both t limit_of_classes c limit_of_classes a in absurd (omega arith)
+one_key (Backup t c) (Hold u d q) a b e h = let p = both u limit_of_tasks d limit_of_classes b in absurd (omega arith)
+one_key (Backup t c) (Carry u d q) a b e h = let p = both u limit_of_classes d limit_of_classes b in absurd (omega arith)
+one_key (Backup t c) (Backup u d) a b e h =
+    let same : t ≡ u = omega arith in
+    let place : c ≡ d = omega arith in
+    cc
+
+-- the bit of a fact's key is its bit
+pub key_bit : (rows : List Row) (f : Fact) → IsWithin f → is_key rows (group_of f) (key_of f) ≡ is_set (words_of rows (row_of f)) (place_of f)
+key_bit rows (Hold t c r) h =
+    let p = both t limit_of_tasks c limit_of_classes h in
+    let q = right_there r in
+    let k : 3 * t + (3 * c + right_number r) % 3 ≡ 3 * t + right_number r = omega arith in
+    let i : (3 * c + right_number r) / 3 ≡ c = omega arith in
+    rw (lt-ltb t first_group_of_backups (omega arith), k, i) refl
+key_bit rows (Carry d c r) h =
+    let p = both d limit_of_classes c limit_of_classes h in
+    let q = right_there r in
+    let k : 3 * (limit_of_tasks + d) + (3 * c + right_number r) % 3 ≡ first_row_of_carries + 3 * d + right_number r = omega arith in
+    let i : (3 * c + right_number r) / 3 ≡ c = omega arith in
+    rw (lt-ltb (limit_of_tasks + d) first_group_of_backups (omega arith), k, i) refl
+key_bit rows (Backup c d) h =
+    let k : first_row_of_backups + ((first_group_of_backups + c) - first_group_of_backups) ≡ first_row_of_backups + c = omega arith in
+    let m : (3 * d) % 3 ≡ 0 = omega arith in
+    let i : (3 * d) / 3 ≡ d = omega arith in
+    rw (le-ltb (first_group_of_backups + c) first_group_of_backups (omega arith), m, k, i) refl
+
+-- and it is one of the groups
+pub group_there : (f : Fact) → IsWithin f → group_of f < limit_of_groups
+group_there (Hold t c r) h = let p = both t limit_of_tasks c limit_of_classes h in omega arith
+group_there (Carry d c r) h = let p = both d limit_of_classes c limit_of_classes h in omega arith
+group_there (Backup c d) h = let p = both c limit_of_classes d limit_of_classes h in omega arith
 
 cmp_low : (m n : ℕ) (o : Ordering) → m < n → is_lt (ordering_then (nat_cmp m n) o) ≡ true
 cmp_low m n o h = rw (lt-ltb m n h) refl
@@ -439,19 +486,19 @@ pub precedes_before : (f g : Fact) → IsWithin f → IsWithin g → Precedes f 
 precedes_before (Hold t c r) (Hold u d q) a b h = precedes_hold t c u d r q h
 precedes_before (Hold t c r) (Carry u d q) a b h = refl
 precedes_before (Hold t c r) (Backup u d) a b h = refl
-precedes_before (Carry t c r) (Hold u d q) a b h = let p = both u 64 d 1344 b in absurd (elim h [ inl low ↦ omega arith | inr (same, low) ↦ omega arith ])
+precedes_before (Carry t c r) (Hold u d q) a b h = let p = both u limit_of_tasks d limit_of_classes b in absurd (elim h [ inl low ↦ omega arith | inr (same, low) ↦ omega arith ])
 precedes_before (Carry t c r) (Carry u d q) a b h = precedes_hold t c u d r q (elim h [ inl low ↦ inl (omega arith) | inr (same, low) ↦ inr (omega arith, low) ])
 precedes_before (Carry t c r) (Backup u d) a b h = refl
-precedes_before (Backup t c) (Hold u d q) a b h = let p = both u 64 d 1344 b in absurd (elim h [ inl low ↦ omega arith | inr (same, low) ↦ omega arith ])
-precedes_before (Backup t c) (Carry u d q) a b h = let p = both u 1344 d 1344 b in absurd (elim h [ inl low ↦ omega arith | inr (same, low) ↦ omega arith ])
+precedes_before (Backup t c) (Hold u d q) a b h = let p = both u limit_of_tasks d limit_of_classes b in absurd (elim h [ inl low ↦ omega arith | inr (same, low) ↦ omega arith ])
+precedes_before (Backup t c) (Carry u d q) a b h = let p = both u limit_of_classes d limit_of_classes b in absurd (elim h [ inl low ↦ omega arith | inr (same, low) ↦ omega arith ])
 precedes_before (Backup t c) (Backup u d) a b h = elim h [
   | inl low ↦ cmp_low t u (ordering_then (nat_cmp c d) (nat_cmp 0 0)) (omega arith)
-  | inr (same, low) ↦ ap is_lt (cmp_same t u (ordering_then (nat_cmp c d) (nat_cmp 0 0)) (omega arith)) ∙ cmp_low c d (nat_cmp 0 0) low
+  | inr (same, low) ↦ ap is_lt (cmp_same t u (ordering_then (nat_cmp c d) (nat_cmp 0 0)) (omega arith)) ∙ cmp_low c d (nat_cmp 0 0) (omega arith)
 ]
 
-three_ways : (f g : Fact) → Precedes f g ⊎ (((row_of f ≡ row_of g) × (place_of f ≡ place_of g)) ⊎ Precedes g f)
-three_ways f g = elim (cases_order (row_of f) (row_of g)) [
-  | inl same ↦ elim (cases_order (place_of f) (place_of g)) [ inl e ↦ inr (inl (same, e)) | inr (inl low) ↦ inl (inr (same, low)) | inr (inr high) ↦ inr (inr (inr (sym same, high))) ]
+pub three_ways : (f g : Fact) → Precedes f g ⊎ (((group_of f ≡ group_of g) × (key_of f ≡ key_of g)) ⊎ Precedes g f)
+three_ways f g = elim (cases_order (group_of f) (group_of g)) [
+  | inl same ↦ elim (cases_order (key_of f) (key_of g)) [ inl e ↦ inr (inl (same, e)) | inr (inl low) ↦ inl (inr (same, low)) | inr (inr high) ↦ inr (inr (inr (sym same, high))) ]
   | inr (inl low) ↦ inl (inl low)
   | inr (inr high) ↦ inr (inr (inl high))
 ]
@@ -459,7 +506,7 @@ three_ways f g = elim (cases_order (row_of f) (row_of g)) [
 pub before_precedes : (f g : Fact) → IsWithin f → IsWithin g → is_before f g ≡ true → Precedes f g
 before_precedes f g a b h = elim (three_ways f g) [
   | inl p ↦ p
-  | inr (inl same) ↦ absurd (true≢false (sym h ∙ (ap (is_before f) (sym (one_place f g a b same.0 same.1)) ∙ not_before_itself f)))
+  | inr (inl same) ↦ absurd (true≢false (sym h ∙ (ap (is_before f) (sym (one_key f g a b same.0 same.1)) ∙ not_before_itself f)))
   | inr (inr p) ↦ absurd (true≢false (sym h ∙ not_before g f (precedes_before g f b a p)))
 ]
 
@@ -471,23 +518,25 @@ neither_before f g a b = elim (fact_cmp f g) as (λ o. fact_cmp f g ≡ o → f 
 ] refl
 
 -- a shown fact has its bit set, and is within
-pub shown_bit : (rows : List Row) (n : ℕ) (fs : List Fact) → Shows rows n fs → (h : Fact) → IsTrue (has fs h) → IsWithin h × (is_set (words_of rows (row_of h)) (place_of h) ≡ true)
-shown_bit rows n fs shows h there = and_parts (is_within h) (is_set (words_of rows (row_of h)) (place_of h)) (subst IsTrue (shows.same h) there)
+pub shown_bit : (rows : List Row) (n : ℕ) (fs : List Fact) → Shows rows n fs → (h : Fact) → IsTrue (has fs h) → IsWithin h × (is_key rows (group_of h) (key_of h) ≡ true)
+shown_bit rows n fs shows h there =
+    let p = and_parts (is_within h) (is_set (words_of rows (row_of h)) (place_of h)) (subst IsTrue (shows.same h) there) in
+    (p.0, key_bit rows h p.0 ∙ p.1)
 
-pub first_from_place : (rows : List Row) (n : ℕ) (fs : List Fact) → Shows rows n fs → (row place : ℕ) (f : Fact) → IsWithin f → IsNextPlace rows row place (row_of f) (place_of f) → IsFirstFrom fs row place f
-first_from_place rows n fs shows row place f within next = record {
-  member = subst IsTrue (sym (shows.same f)) (and_from (is_within f) (is_set (words_of rows (row_of f)) (place_of f)) within next.set);
+pub first_from_key : (rows : List Row) (n : ℕ) (fs : List Fact) → Shows rows n fs → (group key : ℕ) (f : Fact) → IsWithin f → IsNextKey rows group key (group_of f) (key_of f) → IsFirstFrom fs group key f
+first_from_key rows n fs shows group key f within next = record {
+  member = subst IsTrue (sym (shows.same f)) (and_from (is_within f) (is_set (words_of rows (row_of f)) (place_of f)) within (sym (key_bit rows f within) ∙ next.set));
   within = within;
   from_there = next.from_there;
   least = λ h there from. let bit = shown_bit rows n fs shows h there in elim (three_ways h f) [
-    | inl p ↦ absurd (true≢false (sym bit.1 ∙ next.first (row_of h) (place_of h) from p))
-    | inr (inl same) ↦ ap (λ x. is_before x f) (one_place h f bit.0 within same.0 same.1) ∙ not_before_itself f
+    | inl p ↦ absurd (true≢false (sym bit.1 ∙ next.first (group_of h) (key_of h) from p))
+    | inr (inl same) ↦ ap (λ x. is_before x f) (one_key h f bit.0 within same.0 same.1) ∙ not_before_itself f
     | inr (inr p) ↦ not_before f h (precedes_before f h within bit.0 p)
   ];
 }
 
-pub none_from_place : (rows : List Row) (n : ℕ) (fs : List Fact) → Shows rows n fs → (row place : ℕ) → NoPlace rows row place → NoneFrom fs row place
-none_from_place rows n fs shows row place none h there from = let bit = shown_bit rows n fs shows h there in true≢false (sym bit.1 ∙ none (row_of h) (place_of h) from)
+pub none_from_key : (rows : List Row) (n : ℕ) (fs : List Fact) → Shows rows n fs → (group key : ℕ) → NoKey rows group key → NoneFrom fs group key
+none_from_key rows n fs shows group key none h there from = let bit = shown_bit rows n fs shows h there in true≢false (sym bit.1 ∙ none (group_of h) (key_of h) (group_there h bit.0) from)
 
 -- the least fact
 pub is_first : (fs : List Fact) → IsAscending fs → (o : Option Fact) → IfSome o (IsFirstFrom fs 0 0) → IfNone o (NoneFrom fs 0 0) → o ≡ first fs
@@ -495,12 +544,12 @@ is_first fs ascending (Some f) found none = some_first fs f ascending (first_is_
   where
     some_first : (fs : List Fact) (f : Fact) → IsAscending fs → IfSome (first fs) (IsLeast fs) → IsFirstFrom fs 0 0 f → Some f ≡ first fs
     some_first [] f ascending least found = absurd (true≢false (sym found.member))
-    some_first (g ∷ fs) f ascending least found = ap (λ (x : Fact). Some x) (neither_before f g (least.least f found.member) (found.least g least.member (any_place (row_of g) (place_of g))))
+    some_first (g ∷ fs) f ascending least found = ap (λ (x : Fact). Some x) (neither_before f g (least.least f found.member) (found.least g least.member (any_place (group_of g) (key_of g))))
       where
         any_place : (k i : ℕ) → (0 < k) ⊎ ((0 ≡ k) × (0 ≤ i))
         any_place k i = elim (cases_eq k 0) [ inl e ↦ inr (sym e, omega arith) | inr other ↦ inl (omega (arith, other)) ]
 is_first [] ascending None found none = refl
-is_first (g ∷ fs) ascending None found none = absurd (none g (or_left (is_same g g) (has fs g) (same_itself g)) (any_place (row_of g) (place_of g)))
+is_first (g ∷ fs) ascending None found none = absurd (none g (or_left (is_same g g) (has fs g) (same_itself g)) (any_place (group_of g) (key_of g)))
   where
     any_place : (k i : ℕ) → (0 < k) ⊎ ((0 ≡ k) × (0 ≤ i))
     any_place k i = elim (cases_eq k 0) [ inl e ↦ inr (sym e, omega arith) | inr other ↦ inl (omega (arith, other)) ]
@@ -546,31 +595,31 @@ not_from : (row place k i : ℕ) → k < row → IsFrom row place k i → ⊥
 not_from row place k i h (inl low) = omega arith
 not_from row place k i h (inr (same, low)) = omega arith
 
-pub start_from : (f h : Fact) → IsWithin h → is_before f h ≡ true → IsFrom (start_row f) (start_place f) (row_of h) (place_of h)
+pub start_from : (f h : Fact) → IsWithin h → is_before f h ≡ true → IsFrom (start_group f) (start_key f) (group_of h) (key_of h)
 start_from (Hold t c r) (Hold u d q) b e =
-    let p = both u 64 d 1344 b in
-    elim (cases_lt t 64) [
-      | inl low ↦ rw (start_low t 64 low) (from_hold t c u d r q e)
+    let p = both u limit_of_tasks d limit_of_classes b in
+    elim (cases_lt t limit_of_tasks) [
+      | inl low ↦ rw (start_low t limit_of_tasks low) (from_hold t c u d r q e)
       | inr high ↦ elim (three_less t c (right_number r) u d (right_number q) e) [ inl less ↦ absurd (omega arith) | inr (same, rest) ↦ absurd (omega arith) ]
     ]
-start_from (Hold t c r) (Carry u d q) b e = elim (cases_lt t 64) [
-  | inl low ↦ rw (start_low t 64 low) (inl (omega arith))
-  | inr high ↦ rw (start_high t 64 high) (from_base 64 (64 + u) (3 * d + right_number q) (omega arith))
+start_from (Hold t c r) (Carry u d q) b e = elim (cases_lt t limit_of_tasks) [
+  | inl low ↦ rw (start_low t limit_of_tasks low) (inl (omega arith))
+  | inr high ↦ rw (start_high t limit_of_tasks high) (from_base limit_of_tasks (limit_of_tasks + u) (3 * d + right_number q) (omega arith))
 ]
-start_from (Hold t c r) (Backup u d) b e = elim (cases_lt t 64) [
-  | inl low ↦ rw (start_low t 64 low) (inl (omega arith))
-  | inr high ↦ rw (start_high t 64 high) (inl (omega arith))
+start_from (Hold t c r) (Backup u d) b e = elim (cases_lt t limit_of_tasks) [
+  | inl low ↦ rw (start_low t limit_of_tasks low) (inl (omega arith))
+  | inr high ↦ rw (start_high t limit_of_tasks high) (inl (omega arith))
 ]
 start_from (Carry t c r) (Hold u d q) b e = absurd cc
 start_from (Carry t c r) (Carry u d q) b e =
-    let p = both u 1344 d 1344 b in
-    elim (cases_lt t 1344) [
-      | inl low ↦ rw (start_low t 1344 low) (shift_from 64 t (3 * c + right_number r + 1) u (3 * d + right_number q) (from_hold t c u d r q e))
+    let p = both u limit_of_classes d limit_of_classes b in
+    elim (cases_lt t limit_of_classes) [
+      | inl low ↦ rw (start_low t limit_of_classes low) (shift_from limit_of_tasks t (3 * c + right_number r + 1) u (3 * d + right_number q) (from_hold t c u d r q e))
       | inr high ↦ elim (three_less t c (right_number r) u d (right_number q) e) [ inl less ↦ absurd (omega arith) | inr (same, rest) ↦ absurd (omega arith) ]
     ]
-start_from (Carry t c r) (Backup u d) b e = elim (cases_lt t 1344) [
-  | inl low ↦ rw (start_low t 1344 low) (inl (omega arith))
-  | inr high ↦ rw (start_high t 1344 high) (from_base 1408 (1408 + u) d (omega arith))
+start_from (Carry t c r) (Backup u d) b e = elim (cases_lt t limit_of_classes) [
+  | inl low ↦ rw (start_low t limit_of_classes low) (inl (omega arith))
+  | inr high ↦ rw (start_high t limit_of_classes high) (from_base first_group_of_backups (first_group_of_backups + u) (3 * d) (omega arith))
 ]
 start_from (Backup t c) (Hold u d q) b e = absurd cc
 start_from (Backup t c) (Carry u d q) b e = absurd cc
@@ -580,50 +629,61 @@ start_from (Backup t c) (Backup u d) b e = elim (three_less t c 0 u d 0 e) [
   | inr (same, inr (also, last)) ↦ absurd (omega arith)
 ]
 
-pub from_start : (f h : Fact) → IsWithin h → IsFrom (start_row f) (start_place f) (row_of h) (place_of h) → is_before f h ≡ true
+pub from_start : (f h : Fact) → IsWithin h → IsFrom (start_group f) (start_key f) (group_of h) (key_of h) → is_before f h ≡ true
 from_start (Hold t c r) (Hold u d q) b e =
-    let p = both u 64 d 1344 b in
-    elim (cases_lt t 64) [
-      | inl low ↦ before_hold t c u d r q (rw (start_low t 64 low) at e)
-      | inr high ↦ absurd (not_from 64 0 u (3 * d + right_number q) p.0 (rw (start_high t 64 high) at e))
+    let p = both u limit_of_tasks d limit_of_classes b in
+    elim (cases_lt t limit_of_tasks) [
+      | inl low ↦ before_hold t c u d r q (rw (start_low t limit_of_tasks low) at e)
+      | inr high ↦ absurd (not_from limit_of_tasks 0 u (3 * d + right_number q) p.0 (rw (start_high t limit_of_tasks high) at e))
     ]
 from_start (Hold t c r) (Carry u d q) b e = refl
 from_start (Hold t c r) (Backup u d) b e = refl
 from_start (Carry t c r) (Hold u d q) b e =
-    let p = both u 64 d 1344 b in
-    elim (cases_lt t 1344) [
-      | inl low ↦ absurd (not_from (64 + t) (3 * c + right_number r + 1) u (3 * d + right_number q) (omega arith) (rw (start_low t 1344 low) at e))
-      | inr high ↦ absurd (not_from 1408 0 u (3 * d + right_number q) (omega arith) (rw (start_high t 1344 high) at e))
+    let p = both u limit_of_tasks d limit_of_classes b in
+    elim (cases_lt t limit_of_classes) [
+      | inl low ↦ absurd (not_from (limit_of_tasks + t) (3 * c + right_number r + 1) u (3 * d + right_number q) (omega arith) (rw (start_low t limit_of_classes low) at e))
+      | inr high ↦ absurd (not_from first_group_of_backups 0 u (3 * d + right_number q) (omega arith) (rw (start_high t limit_of_classes high) at e))
     ]
 from_start (Carry t c r) (Carry u d q) b e =
-    let p = both u 1344 d 1344 b in
-    elim (cases_lt t 1344) [
-      | inl low ↦ before_hold t c u d r q (unshift_from 64 t (3 * c + right_number r + 1) u (3 * d + right_number q) (rw (start_low t 1344 low) at e))
-      | inr high ↦ absurd (not_from 1408 0 (64 + u) (3 * d + right_number q) (omega arith) (rw (start_high t 1344 high) at e))
+    let p = both u limit_of_classes d limit_of_classes b in
+    elim (cases_lt t limit_of_classes) [
+      | inl low ↦ before_hold t c u d r q (unshift_from limit_of_tasks t (3 * c + right_number r + 1) u (3 * d + right_number q) (rw (start_low t limit_of_classes low) at e))
+      | inr high ↦ absurd (not_from first_group_of_backups 0 (limit_of_tasks + u) (3 * d + right_number q) (omega arith) (rw (start_high t limit_of_classes high) at e))
     ]
 from_start (Carry t c r) (Backup u d) b e = refl
-from_start (Backup t c) (Hold u d q) b e = let p = both u 64 d 1344 b in absurd (not_from (1408 + t) (c + 1) u (3 * d + right_number q) (omega arith) e)
-from_start (Backup t c) (Carry u d q) b e = let p = both u 1344 d 1344 b in absurd (not_from (1408 + t) (c + 1) (64 + u) (3 * d + right_number q) (omega arith) e)
-from_start (Backup t c) (Backup u d) b e = elim (unshift_from 1408 t (c + 1) u d e) [
+from_start (Backup t c) (Hold u d q) b e = let p = both u limit_of_tasks d limit_of_classes b in absurd (not_from (first_group_of_backups + t) (3 * c + 1) u (3 * d + right_number q) (omega arith) e)
+from_start (Backup t c) (Carry u d q) b e = let p = both u limit_of_classes d limit_of_classes b in absurd (not_from (first_group_of_backups + t) (3 * c + 1) (limit_of_tasks + u) (3 * d + right_number q) (omega arith) e)
+from_start (Backup t c) (Backup u d) b e = elim (unshift_from first_group_of_backups t (3 * c + 1) u (3 * d) e) [
   | inl low ↦ cmp_low t u (ordering_then (nat_cmp c d) (nat_cmp 0 0)) low
   | inr (same, low) ↦ ap is_lt (cmp_same t u (ordering_then (nat_cmp c d) (nat_cmp 0 0)) same) ∙ cmp_low c d (nat_cmp 0 0) (omega arith)
 ]
 
 -- the least fact behind f
-pub is_after : (rows : List Row) (n : ℕ) (fs : List Fact) → Shows rows n fs → (f : Fact) → (o : Option Fact) → IfSome o (IsFirstFrom fs (start_row f) (start_place f)) → IfNone o (NoneFrom fs (start_row f) (start_place f)) → o ≡ after fs f
-is_after rows n fs shows f o found none = go o (after fs f) refl found none (after_is_next fs f shows.ascending)
-  where
-    from : (h : Fact) → IsTrue (has fs h) → is_before f h ≡ true → IsFrom (start_row f) (start_place f) (row_of h) (place_of h)
-    from h there later = start_from f h (shown_bit rows n fs shows h there).0 later
+module _ (fs : List Fact) (ascending : IsAscending fs)
+    (within : (h : Fact) → IsTrue (has fs h) → IsWithin h) (f : Fact) where
+  start_of : (h : Fact) → IsTrue (has fs h) → is_before f h ≡ true
+      → IsFrom (start_group f) (start_key f) (group_of h) (key_of h)
+  start_of h there behind = start_from f h (within h there) behind
 
-    later : (g : Fact) → IsFirstFrom fs (start_row f) (start_place f) g → is_before f g ≡ true
-    later g x = from_start f g x.within x.from_there
+  later : (g : Fact) → IsFirstFrom fs (start_group f) (start_key f) g → is_before f g ≡ true
+  later g x = from_start f g x.within x.from_there
 
-    go : (o p : Option Fact) → after fs f ≡ p → IfSome o (IsFirstFrom fs (start_row f) (start_place f)) → IfNone o (NoneFrom fs (start_row f) (start_place f)) → IfSome p (IsNext fs f) → o ≡ p
-    go None None e found none next = refl
-    go None (Some g) e found none next = absurd (none g next.member (from g next.member next.later))
-    go (Some g) None e found none next = absurd (true≢false (sym (later g found) ∙ none_after fs f e g found.member))
-    go (Some g) (Some h) e found none next = ap (λ (x : Fact). Some x) (neither_before g h (next.least g found.member (later g found)) (found.least h next.member (from h next.member next.later)))
+  pub is_after : (o : Option Fact) → IfSome o (IsFirstFrom fs (start_group f) (start_key f))
+      → IfNone o (NoneFrom fs (start_group f) (start_key f)) → o ≡ after fs f
+  is_after o found none = go o (after fs f) refl found none (after_is_next fs f ascending)
+    where
+      go : (o p : Option Fact) → after fs f ≡ p
+          → IfSome o (IsFirstFrom fs (start_group f) (start_key f))
+          → IfNone o (NoneFrom fs (start_group f) (start_key f)) → IfSome p (IsNext fs f) → o ≡ p
+      go None None e found none next = refl
+      go None (Some g) e found none next =
+          absurd (none g next.member (start_of g next.member next.later))
+      go (Some g) None e found none next =
+          absurd (true≢false (sym (later g found) ∙ none_after fs f e g found.member))
+      go (Some g) (Some h) e found none next =
+          ap (λ (x : Fact). Some x) (neither_before g h
+          (next.least g found.member (later g found))
+          (found.least h next.member (start_of h next.member next.later)))
 
 pub shows_none : (rows : List Row) → rows ≡ [] → Shows rows 0 []
 shows_none rows e = subst (λ xs. Shows xs 0 []) (sym e) (record {
@@ -637,11 +697,3 @@ shows_none rows e = subst (λ xs. Shows xs 0 []) (sym e) (record {
     nothing_shown : (a b : Bool) → b ≡ false → (a && b) ≡ false
     nothing_shown true b e = e
     nothing_shown false b e = refl
-
--- a row is 63 words wide at most
-pub place_below : (f : Fact) → IsWithin f → place_of f < 64 * 63
-place_below f within = at (cases_lt (row_of f) 1408)
-  where
-    at : (row_of f < 1408) ⊎ (1408 ≤ row_of f) → place_of f < 64 * 63
-    at (inl low) = let w = wide (row_of f) low in let p = (placed f within).place in omega (arith, w, p)
-    at (inr high) = let w = narrow (row_of f) high in let p = (placed f within).place in omega (arith, w, p)

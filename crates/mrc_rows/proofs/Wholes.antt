@@ -35,7 +35,7 @@ whole_new rows others a b =
       others_ascending = refl;
     }))
 
-or_false : (b : Bool) → (b || false) ≡ b
+pub or_false : (b : Bool) → (b || false) ≡ b
 or_false true = refl
 or_false false = refl
 
@@ -406,60 +406,4 @@ both_joined rows others facts is g had now then in_rows beside =
       | inr outside ↦ rw outside (
           ap (λ b. b || has others g) (or_false had)
           ∙ ap (λ b. had || b) (sym (has_other rows others facts is g outside)))
-    ])
-
--- the facts of a list that others lack
-
-pub begins_unknown : (list had : List Fact) (next : Option Fact) (known : Fact → Bool)
-    → place list next ≡ 0
-    → (g : Fact) → has had g ≡ (has had g || (has (take (place list next) list) g && not (known g)))
-begins_unknown list had next known e g =
-    sym (ap (λ n. has had g || (has (take n list) g && not (known g))) e ∙ or_false (has had g))
-
-pub one_unknown : (list had now then : List Fact) (next : Option Fact) (known : Fact → Bool)
-    (f : Fact) (after_it : Option Fact) → next ≡ Some f → IsStep list f after_it
-    → ((g : Fact) → has now g
-    ≡ (has had g || (has (take (place list next) list) g && not (known g))))
-    → ((g : Fact) → has then g ≡ ((is_same g f && not (known g)) || has now g))
-    → (g : Fact) → has then g
-    ≡ (has had g || (has (take (place list after_it) list) g && not (known g)))
-one_unknown list had now then next known f after_it is step so_far put g =
-    put g ∙ (ap (λ b. (is_same g f && not (known g)) || b) (so_far g)
-    ∙ (ap (λ o. (is_same g f && not (known g))
-    || (has had g || (has (take (place list o) list) g && not (known g)))) is
-    ∙ (swapped (is_same g f) (has had g) (has (take (place list (Some f)) list) g) (not (known g))
-    ∙ ap (λ b. has had g || (b && not (known g)))
-    (sym (ap (λ fs. has fs g) step.taken ∙ has_more (take (place list (Some f)) list) f g)))))
-  where
-    swapped : (a b c k : Bool) → ((a && k) || (b || (c && k))) ≡ (b || ((a || c) && k))
-    swapped true true c true = refl
-    swapped true true c false = refl
-    swapped true false c true = refl
-    swapped true false true false = refl
-    swapped true false false false = refl
-    swapped false b c k = refl
-
-pub all_unknown : (list had now : List Fact) (next : Option Fact) (known : Fact → Bool)
-    → next ≡ None
-    → ((g : Fact) → has now g
-    ≡ (has had g || (has (take (place list next) list) g && not (known g))))
-    → (g : Fact) → has now g ≡ (has had g || (has list g && not (known g)))
-all_unknown list had now next known is so_far g =
-    so_far g
-    ∙ ap (λ fs. has had g || (has fs g && not (known g)))
-    (ap (λ o. take (place list o) list) is ∙ walk_ends list)
-
--- those with a place in rows, and all others
-pub both_unknown : (rows others facts : List Fact) → IsWhole rows others facts → (g : Fact)
-    → (none now then known : Bool) → none ≡ false
-    → now ≡ (none || (is_within g && (has facts g && not known)))
-    → then ≡ (now || (has others g && not known)) → then ≡ (has facts g && not known)
-both_unknown rows others facts is g none now then known nothing in_rows beside =
-    beside ∙ (ap (λ b. b || (has others g && not known)) (in_rows
-    ∙ ap (λ b. b || (is_within g && (has facts g && not known))) nothing)
-    ∙ elim (cases_Bool (is_within g)) [
-      | inl within ↦ rw (within, others_lack rows others facts is g within)
-          (or_false (has facts g && not known))
-      | inr outside ↦ rw outside
-          (ap (λ b. b && not known) (sym (has_other rows others facts is g outside)))
     ])

@@ -1,6 +1,7 @@
 //! Sets of facts.
 
-ghost use Rattle.std.specs.Prelude.{◌≡◌, ◌+◌, ◌↔◌, ◌≤◌, ◌&&◌, ◌||◌, [], length, true, not};
+ghost use Rattle.std.specs.Prelude.{◌≡◌, ◌+◌, ◌↔◌, ◌≤◌, ◌&&◌, ◌||◌, [], length, true, false, not};
+ghost use Rattle.std.specs.Prelude.{ℕ};
 ghost use Rattle.std.specs.Prelude.{IsTrue, IsNone, IfOk, OnOk, OnErr, IfSome, IfNone};
 ghost use Rattle.std.specs.Prelude.{if◌then◌else◌};
 ghost use Rattle.mrc_base.specs.declared.Fact.{Fact};
@@ -9,19 +10,16 @@ ghost use Rattle.mrc_facts.specs.Sets.{has, with_fact, first, after, IsAscending
 ghost use Rattle.mrc_facts.specs.Laws.{IsLeast, IsNext, NoneAfter};
 ghost use Rattle.mrc_rows.specs.Halves.{Whole, earlier};
 ghost use Rattle.mrc_rows.specs.HalvesProp.{whole_prop};
-ghost use Rattle.mrc_rows.specs.Rows.{place_of, is_within};
-ghost use Rattle.mrc_rows.specs.Joining.{is_of};
-ghost use Rattle.mrc_bits.specs.Bits.{is_set};
+ghost use Rattle.mrc_rows.specs.Rows.{is_within, IsWithin};
 
-use crate::joining::{Row, number_of};
 use crate::row_facts::{RowFacts, is_within};
 use mrc_base::Fact;
 use mrc_facts::ListedFacts;
 use std::alloc::{AllocError, Global};
 use std::marker::Model;
 
-/// A set of facts. Its facts stand in the order of their bytes in a certificate. Those that a
-/// wiring can have are bits of rows, all others stand in a list beside them.
+/// A set of facts, in the order of their bytes in a certificate. Those that a wiring can have are
+/// bits of rows, all others are in a list next to them.
 #[derive(Debug, Drop)]
 pub struct Facts {
     pub(crate) rows: RowFacts,
@@ -45,7 +43,7 @@ fn is_before(one: &Fact, other: &Fact) -> bool
     one < other
 }
 
-/// The one that comes first, where there are two.
+/// The one that comes first, if there are two.
 fn earlier(one: Option<Fact>, other: Option<Fact>) -> Option<Fact>
     ensures { result ≡ earlier one other }
 {
@@ -111,20 +109,22 @@ impl Facts {
         }
     }
 
-    /// The words of the row: the places of those of its facts that the set has. In those of a task
-    /// above 63, and of a class above 1,343, no bit is set.
-    pub fn words(&self, row: Row) -> &[u64]
-        ensures shown { (g : Fact) → is_of row g ≡ true →
-            is_set result.now (place_of g) ≡ (is_within g && has self.now g) }
-        ensures few { length result.now ≤ 63 }
+    /// Whether the set may have a backup among the facts that a wiring can have. It reads no row.
+    pub fn may_have_backups(&self) -> bool
+        ensures { result ≡ false → (c d : ℕ) → is_within (Fact.Backup c d) ≡ true →
+            has self.now (Fact.Backup c d) ≡ false }
     {
-        match number_of(row) {
-            Some(number) => self.rows.words(number),
-            None => &[],
-        }
+        self.rows.may_have_backups()
     }
 
-    /// Puts the fact into the set, and answers whether it is new there.
+    /// Whether each fact of the set has a place in a row.
+    pub(crate) fn are_within(&self) -> bool
+        ensures { result ≡ true → (g : Fact) → IsTrue (has self.now g) → IsWithin g }
+    {
+        self.others.len() == 0
+    }
+
+    /// Inserts the fact, and returns whether it is new.
     pub fn insert(&mut self, fact: Fact) -> Result<bool, AllocError>
         ensures added { IfOk result (λ added. added ≡ not (has self.old fact)) }
         ensures ok { OnOk result (self.new ≡ with_fact self.old fact) }
@@ -144,7 +144,7 @@ impl Facts {
         }
     }
 
-    /// Takes the fact out of the set, where it is there.
+    /// Removes the fact, if the set has it.
     pub fn remove(&mut self, fact: &Fact)
         ensures members { (g : Fact) →
             has self.new g ≡ (not (is_same g fact.now) && has self.old g) }
@@ -162,6 +162,7 @@ impl Facts {
         ensures exact { result ≡ first self.now }
         ensures least { IfSome result (IsLeast self.now) }
         ensures none { IsNone result ↔ (self.now ≡ []) }
+        ensures kept { IsAscending self.now }
     {
         earlier(self.rows.first(), self.others.first())
     }
@@ -175,7 +176,7 @@ impl Facts {
         earlier(self.rows.after(&fact), listed_after(&self.others, fact))
     }
 
-    /// Puts the fact into the copy, and answers the next one.
+    /// Inserts the fact into the copy, and returns the next one.
     fn copy_one(&self, copy: &mut Facts, fact: &Fact) -> Result<Option<Fact>, AllocError>
         ensures put { OnOk result (copy.new ≡ with_fact copy.old fact.now) }
         ensures next { IfOk result (λ next. next ≡ after self.now fact.now) }
@@ -188,7 +189,6 @@ impl Facts {
     pub fn copy(&self) -> Result<Facts, AllocError>
         ensures { IfOk result (λ copy. copy ≡ self.now) }
     {
-        let _count = self.len();
         let mut copy = Facts::new(self.alloc);
         let mut next = self.first();
         while let Some(fact) = next {
@@ -197,21 +197,25 @@ impl Facts {
         Ok(copy)
     }
 
-    /// Puts the fact into the set, and answers the next one of the list.
+    /// Inserts the fact, and returns the next one of the list.
     fn put_listed(&mut self, list: &ListedFacts, fact: &Fact) -> Result<Option<Fact>, AllocError>
         ensures put { OnOk result ((g : Fact) →
             has self.new g ≡ (is_same g fact.now || has self.old g)) }
         ensures next { IfOk result (λ next. next ≡ after list.now fact.now) }
+        ensures ascending { IsAscending self.new }
     {
         let _new = self.insert(*fact)?;
         Ok(list.after(*fact))
     }
 
-    /// Puts the facts of the list into the set.
+    /// Inserts the facts of the list.
     fn join_listed(&mut self, list: &ListedFacts) -> Result<(), AllocError>
-        ensures { OnOk result ((g : Fact) → has self.new g ≡ (has self.old g || has list.now g)) }
+        requires own { IsAscending self.old }
+        requires list { IsAscending list.now }
+        ensures ascending { IsAscending self.new }
+        ensures ok { OnOk result ((g : Fact) →
+            has self.new g ≡ (has self.old g || has list.now g)) }
     {
-        let _count = list.len();
         let mut next = list.first();
         while let Some(fact) = next {
             next = self.put_listed(list, &fact)?;
@@ -219,10 +223,15 @@ impl Facts {
         Ok(())
     }
 
-    /// Puts the facts of the other set into the set. Where memory runs out, some of them may be
-    /// there.
+    /// Inserts the facts of the other set. When it is out of memory, the set may have some of them.
     pub fn join_all(&mut self, other: &Facts) -> Result<(), AllocError>
-        ensures { OnOk result ((g : Fact) → has self.new g ≡ (has self.old g || has other.now g)) }
+        ensures ok { OnOk result ((g : Fact) →
+            has self.new g ≡ (has self.old g || has other.now g)) }
+
+        // Each set is ascending.
+        ensures before { IsAscending self.old }
+        ensures ascending { IsAscending self.new }
+        ensures other { OnOk result (IsAscending other.now) }
     {
         self.join_rows(other)?;
         self.join_listed(&other.others)?;
@@ -236,54 +245,12 @@ impl Facts {
         &self.others
     }
 
-    /// Puts the fact into the set, unless the known ones have it, and answers the next one of the
-    /// list.
-    fn put_unknown(
-        &mut self,
-        list: &ListedFacts,
-        known: &Facts,
-        fact: &Fact,
-    ) -> Result<Option<Fact>, AllocError>
-        ensures put { OnOk result ((g : Fact) → has self.new g
-            ≡ ((is_same g fact.now && not (has known.now g)) || has self.old g)) }
-        ensures next { IfOk result (λ next. next ≡ after list.now fact.now) }
-    {
-        if !known.has(fact) {
-            let _new = self.insert(*fact)?;
-        }
-        Ok(list.after(*fact))
-    }
-
-    /// Puts the facts of the list into the set that the known ones lack.
-    fn join_unknown(&mut self, list: &ListedFacts, known: &Facts) -> Result<(), AllocError>
-        ensures { OnOk result ((g : Fact) → has self.new g
-            ≡ (has self.old g || (has list.now g && not (has known.now g)))) }
-    {
-        let _count = list.len();
-        let mut next = list.first();
-        while let Some(fact) = next {
-            next = self.put_unknown(list, known, &fact)?;
-        }
-        Ok(())
-    }
-
-    /// The facts of the set that the known ones lack.
-    pub fn lacking(&self, known: &Facts) -> Result<Facts, AllocError>
-        ensures { IfOk result (λ lacking. (g : Fact) → has lacking g
-            ≡ (has self.now g && not (has known.now g))) }
-    {
-        let mut lacking = Facts::new(self.alloc);
-        lacking.join_unknown_rows(self, known)?;
-        lacking.join_unknown(&self.others, known)?;
-        Ok(lacking)
-    }
-
     /// Whether the set has each fact of the other one.
     fn has_all(&self, other: &Facts) -> bool
-        ensures { IsTrue result ↔
+        ensures exact { IsTrue result ↔
             ((g : Fact) → IsTrue (has other.now g) → IsTrue (has self.now g)) }
+        ensures kept { IsAscending other.now }
     {
-        let _count = other.len();
         let mut next = other.first();
         while let Some(fact) = next {
             if !self.has(&fact) {
@@ -298,7 +265,6 @@ impl Facts {
     pub fn same(&self, other: &Facts) -> bool
         ensures { IsTrue result ↔ (self.now ≡ other.now) }
     {
-        let _counts = (self.len(), other.len());
         self.has_all(other) && other.has_all(self)
     }
 }

@@ -2,11 +2,14 @@
 #![tactic(auto)]
 
 mod facts;
+mod iter;
 mod joining;
+pub mod limits;
+mod places;
+mod planes;
 mod row_facts;
-mod walking;
 
 pub use facts::Facts;
-pub use joining::{Row, fact_of, right_at, right_place, row_at};
+pub use iter::Iter;
+pub use joining::Row;
 pub use mrc_base::Fact;
-pub use walking::{place_of, row_with};

@@ -1,6 +1,6 @@
 //! Sets of facts as rows of bits.
 ghost use Rattle.std.specs.Prelude.{◌≡◌, ◌+◌, ◌-◌, ◌*◌, ◌==◌, ◌||◌, ◌&&◌, ◌++◌, ◌<◌, ◌≤◌, ◌↔◌, []};
-ghost use Rattle.std.specs.Prelude.{replicate};
+ghost use Rattle.std.specs.Prelude.{replicate, ℕ, false, nat_lt};
 ghost use Rattle.std.specs.Prelude.{List, length, not, OnOk, OnErr, IfOk, IfSome, IfNone, IsTrue};
 ghost use Rattle.std.specs.Prelude.{if◌then◌else◌, ◌^◌};
 ghost use Rattle.mrc_base.specs.declared.Fact.{Fact};
@@ -8,20 +8,28 @@ ghost use Rattle.mrc_facts.specs.Sets.{has, with_fact, first, after, IsAscending
 ghost use Rattle.mrc_facts.specs.Order.{right_number, is_same};
 ghost use Rattle.mrc_rows.specs.Rows.{IsWithin, Shown, Shows, is_within, row_of, place_of};
 ghost use Rattle.mrc_rows.specs.Rows.{words_of};
-ghost use Rattle.mrc_rows.specs.Rows.{width_of, AreSized, SameBits, OneMoreBit, OneLessBit};
-ghost use Rattle.mrc_rows.specs.Rows.{IsNextPlace, NoPlace, IsFirstFrom, NoneFrom, start_row};
-ghost use Rattle.mrc_rows.specs.Rows.{start_place};
+ghost use Rattle.mrc_rows.specs.Limits.{limit_of_classes, limit_of_words, limit_of_rows};
+ghost use Rattle.mrc_rows.specs.Limits.{limit_of_groups, first_group_of_backups};
+ghost use Rattle.mrc_rows.specs.Rows.{AreSized, SameBits, OneMoreBit, OneLessBit};
+ghost use Rattle.mrc_rows.specs.Rows.{group_of, key_of, plane_of, is_key, IsNextKey, NoKey};
+ghost use Rattle.mrc_rows.specs.Rows.{IsFirstFrom, NoneFrom, start_group, start_key};
+ghost use Rattle.mrc_rows.specs.Planes.{plane, place_key, key_behind, IsFirstBy, NoneBy};
 ghost use Rattle.mrc_rows.specs.Joining.{is_in_both, is_in_row, HasRoom, JoinedBits, ShowJoined};
 ghost use Rattle.mrc_rows.specs.ShownProp.{shown_prop};
 ghost use Rattle.mrc_bits.specs.Bits.{is_set, fresh_count};
 
+use crate::limits::{
+    CLASSES, FIRST_GROUP_OF_BACKUPS, FIRST_ROW_OF_BACKUPS, FIRST_ROW_OF_CARRIES, GROUPS, WORDS,
+};
+use crate::places::Place;
+use crate::planes::Planes;
+use mrc_base::limits::TASKS;
 use mrc_base::{ClassId, Fact, PortRight};
-use mrc_bits::{clear_bit, has_bit, join_bits, next_bit, set_bit};
+use mrc_bits::{clear_bit, has_bit, has_fresh, join_bits, set_bit};
 use std::alloc::{AllocError, Global};
 use std::marker::Model;
 
-/// A set of facts. Each row has the words that it needed so far: at most 63, or 21 where it is of
-/// backups.
+/// A set of facts. Each row has the words that it needed so far: at most 21.
 #[derive(Debug, Drop)]
 pub(crate) struct RowFacts {
     rows: Vec<Vec<u64>>,
@@ -51,52 +59,55 @@ pub(crate) fn number(right: PortRight) -> usize
     }
 }
 
+/// Whether a row has a place for the class.
+fn is_class(class: ClassId) -> bool
+    ensures { result ≡ nat_lt class limit_of_classes }
+{
+    (class.0 as usize) < CLASSES
+}
+
 /// Whether the fact has a place in a row.
 pub(crate) fn is_within(fact: &Fact) -> bool
     ensures { result ≡ is_within fact.now }
 {
     match fact {
-        Fact::Hold { task, class, .. } => *task < 64 && class.0 < 1344,
+        Fact::Hold { task, class, .. } => (*task as usize) < TASKS && is_class(*class),
         Fact::Carry {
             destination,
             class,
             ..
-        } => destination.0 < 1344 && class.0 < 1344,
-        Fact::Backup { class, notify } => class.0 < 1344 && notify.0 < 1344,
+        } => is_class(*destination) && is_class(*class),
+        Fact::Backup { class, notify } => is_class(*class) && is_class(*notify),
     }
 }
 
 /// The fact's row.
 fn row_of(fact: &Fact) -> usize
     ensures value { result ≡ row_of fact.now }
-    ensures there { IsWithin fact.now → result < 2752 }
+    ensures there { IsWithin fact.now → result < limit_of_rows }
 {
     match fact {
-        Fact::Hold { task, .. } => *task as usize,
-        Fact::Carry { destination, .. } => 64 + destination.0 as usize,
-        Fact::Backup { class, .. } => 1408 + class.0 as usize,
+        Fact::Hold { task, right, .. } => 3 * *task as usize + number(*right),
+        Fact::Carry {
+            destination,
+            right,
+            ..
+        } => FIRST_ROW_OF_CARRIES + 3 * destination.0 as usize + number(*right),
+        Fact::Backup { class, .. } => FIRST_ROW_OF_BACKUPS + class.0 as usize,
     }
 }
 
 /// The fact's place in its row.
 fn place_of(fact: &Fact) -> usize
     ensures value { result ≡ place_of fact.now }
-    ensures few { result < 2 ^ 18 }
-    ensures there { IsWithin fact.now → result < 4032 }
+    ensures few { result < 2 ^ 16 }
+    ensures there { IsWithin fact.now → result < limit_of_classes }
 {
     match fact {
-        Fact::Hold { class, right, .. } => 3 * class.0 as usize + number(*right),
-        Fact::Carry { class, right, .. } => 3 * class.0 as usize + number(*right),
+        Fact::Hold { class, .. } => class.0 as usize,
+        Fact::Carry { class, .. } => class.0 as usize,
         Fact::Backup { notify, .. } => notify.0 as usize,
     }
-}
-
-/// How many words a row has at most.
-pub(crate) fn width_of(row: usize) -> usize
-    ensures value { result ≡ width_of row }
-    ensures few { result ≤ 63 }
-{
-    if row < 1408 { 63 } else { 21 }
 }
 
 /// The words, and so many zeros behind them that there are `count` words.
@@ -117,8 +128,8 @@ fn make_row(
     row: usize,
     count: usize,
 ) -> Result<(), AllocError>
-    requires row { row < 2752 }
-    requires count { count ≤ width_of row }
+    requires row { row < limit_of_rows }
+    requires count { count ≤ limit_of_words }
     ensures same { SameBits rows.old.items rows.new.items }
     ensures made { OnOk result (count ≤ length (words_of rows.new.items row)) }
     ensures there { OnOk result (row < length rows.new.items) }
@@ -133,17 +144,16 @@ fn make_row(
 }
 
 /// How many words of a row can have bits that both have.
-fn room_for(row: usize, more: &[u64], mask: &[u64]) -> usize
-    ensures within { result ≤ width_of row }
-    ensures room { HasRoom row more.now mask.now result }
+fn room_for(more: &[u64], mask: &[u64]) -> usize
+    ensures within { result ≤ limit_of_words }
+    ensures room { HasRoom more.now mask.now result }
 {
     let both = if more.len() < mask.len() {
         more.len()
     } else {
         mask.len()
     };
-    let width = width_of(row);
-    if both < width { both } else { width }
+    if both < WORDS { both } else { WORDS }
 }
 
 /// Sets a bit of a row that is made.
@@ -162,7 +172,7 @@ fn clear_in_row(rows: &mut Vec<Vec<u64>>, row: usize, place: usize)
     clear_bit(rows[row].as_mut_slice(), place);
 }
 
-/// Sets the bits of a row that both `more` and `mask` have, as far as it goes. Answers how many of
+/// Sets the bits of a row that both `more` and `mask` have, as far as it goes. Returns how many of
 /// them were not set.
 fn join_in_row(rows: &mut Vec<Vec<u64>>, row: usize, more: &[u64], mask: &[u64]) -> usize
     requires there { row < length rows.old.items }
@@ -174,12 +184,12 @@ fn join_in_row(rows: &mut Vec<Vec<u64>>, row: usize, more: &[u64], mask: &[u64])
     join_bits(rows[row].as_mut_slice(), more, mask)
 }
 
-/// Sets each bit of a row that is long enough where both `more` and `mask` have it. Answers how many
+/// Sets each bit of a row that is long enough if both `more` and `mask` have it. Returns how many
 /// facts the rows show then, of those that they showed before.
 fn set_both(rows: &mut Vec<Vec<u64>>, shown: usize, row: usize, more: &[u64], mask: &[u64]) -> usize
-    requires row { row < 2752 }
+    requires row { row < limit_of_rows }
     requires there { row < length rows.old.items }
-    requires room { HasRoom row more.now mask.now (length (words_of rows.old.items row)) }
+    requires room { HasRoom more.now mask.now (length (words_of rows.old.items row)) }
     requires shown { Shown rows.old.items shown }
     ensures { (facts : List Fact) → Shows rows.old.items shown facts
         → ShowJoined row more.now mask.now facts rows.new.items result }
@@ -187,27 +197,39 @@ fn set_both(rows: &mut Vec<Vec<u64>>, shown: usize, row: usize, more: &[u64], ma
     shown + join_in_row(rows, row, more, mask)
 }
 
-/// The first row that may have a fact behind this one, and the place where such begin in it.
-fn start_of(fact: &Fact) -> (usize, usize)
-    ensures row { result.0 ≡ start_row fact.now }
-    ensures place { result.1 ≡ start_place fact.now }
+/// The first group that may have a fact behind this one, and the place in it that such are behind,
+/// if not all of the group are.
+fn start_of(fact: &Fact) -> (usize, Option<Place>)
+    ensures group { result.0 ≡ start_group fact.now }
+    ensures key { key_behind result.1 ≡ start_key fact.now }
+    ensures low { IfSome result.1 (λ place. place.0 < 2 ^ 16) }
 {
     match fact {
-        Fact::Hold { task, .. } => {
-            if *task < 64 {
-                (row_of(fact), place_of(fact) + 1)
+        Fact::Hold { task, class, right } => {
+            if (*task as usize) < TASKS {
+                (*task as usize, Some((class.0 as usize, *right)))
             } else {
-                (64, 0)
+                (TASKS, None)
             }
         }
-        Fact::Carry { destination, .. } => {
-            if destination.0 < 1344 {
-                (row_of(fact), place_of(fact) + 1)
+        Fact::Carry {
+            destination,
+            class,
+            right,
+        } => {
+            if is_class(*destination) {
+                (
+                    TASKS + destination.0 as usize,
+                    Some((class.0 as usize, *right)),
+                )
             } else {
-                (1408, 0)
+                (FIRST_GROUP_OF_BACKUPS, None)
             }
         }
-        Fact::Backup { .. } => (row_of(fact), place_of(fact) + 1),
+        Fact::Backup { class, notify } => (
+            FIRST_GROUP_OF_BACKUPS + class.0 as usize,
+            Some((notify.0 as usize, PortRight::Send)),
+        ),
     }
 }
 
@@ -225,46 +247,99 @@ pub(crate) fn right_of(number: usize) -> PortRight
     }
 }
 
-/// The fact of a place.
-fn fact_at(row: usize, place: usize) -> Fact
-    requires row { row < 2752 }
-    requires place { place < 64 * width_of row }
-    ensures row { row_of result ≡ row }
-    ensures place { place_of result ≡ place }
+/// The fact of a place in a group. In a group of backups the right is the first one.
+fn fact_at(group: usize, class: usize, right: PortRight) -> Fact
+    requires group { group < limit_of_groups }
+    requires class { class < limit_of_classes }
+    requires right { first_group_of_backups ≤ group → right_number right ≡ 0 }
+    ensures group { group_of result ≡ group }
+    ensures key { key_of result ≡ place_key (class, right) }
     ensures within { IsWithin result }
 {
-    if row < 64 {
+    let class = ClassId(class as u16);
+    if group < TASKS {
         Fact::Hold {
-            task: row as u16,
-            class: ClassId((place / 3) as u16),
-            right: right_of(place % 3),
+            task: group as u16,
+            class,
+            right,
         }
-    } else if row < 1408 {
+    } else if group < FIRST_GROUP_OF_BACKUPS {
         Fact::Carry {
-            destination: ClassId((row - 64) as u16),
-            class: ClassId((place / 3) as u16),
-            right: right_of(place % 3),
+            destination: ClassId((group - TASKS) as u16),
+            class,
+            right,
         }
     } else {
         Fact::Backup {
-            class: ClassId((row - 1408) as u16),
-            notify: ClassId(place as u16),
+            class: ClassId((group - FIRST_GROUP_OF_BACKUPS) as u16),
+            notify: class,
         }
     }
 }
 
-/// The first set bit from this place on.
-fn next_place(rows: &[Vec<u64>], row: usize, place: usize) -> Option<(usize, usize)>
-    requires { AreSized rows.now }
-    ensures found { IfSome result (λ p. IsNextPlace rows.now row place p.0 p.1) }
-    ensures none { IfNone result (NoPlace rows.now row place) }
+/// The words of a row.
+fn words_of(rows: &[Vec<u64>], row: usize) -> &[u64]
+    ensures { result.now ≡ words_of rows.now row }
 {
-    let mut start = place;
-    for k in row..rows.len() {
-        if let Some(i) = next_bit(rows[k].as_slice(), start) {
-            return Some((k, i));
+    match rows.get(row) {
+        Some(row) => row.as_slice(),
+        None => &[],
+    }
+}
+
+/// The rows of a group.
+fn planes_of(rows: &[Vec<u64>], group: usize) -> Planes<'_>
+    requires sized { AreSized rows.now }
+    requires group { group < limit_of_groups }
+    ensures { (right : ℕ) → right < 3 → plane result right ≡ plane_of rows.now group right }
+{
+    if group < FIRST_GROUP_OF_BACKUPS {
+        Planes {
+            send: words_of(rows, 3 * group),
+            receive: words_of(rows, 3 * group + 1),
+            once: words_of(rows, 3 * group + 2),
         }
-        start = 0;
+    } else {
+        let row = FIRST_ROW_OF_BACKUPS + (group - FIRST_GROUP_OF_BACKUPS);
+        Planes {
+            send: words_of(rows, row),
+            receive: &[],
+            once: &[],
+        }
+    }
+}
+
+/// The first place of a fact in a group behind this place; without one the first of all.
+fn next_in_group(rows: &[Vec<u64>], group: usize, behind: Option<Place>) -> Option<Place>
+    requires sized { AreSized rows.now }
+    requires group { group < limit_of_groups }
+    requires low { IfSome behind (λ place. place.0 < 2 ^ 16) }
+    ensures found { IfSome result (λ place.
+        IsFirstBy (is_key rows.now group) (key_behind behind) (place_key place)) }
+    ensures none { IfNone result (NoneBy (is_key rows.now group) (key_behind behind)) }
+{
+    planes_of(rows, group).next_behind(behind)
+}
+
+/// The first group from this one on that has a fact, in this group one behind this place, and the
+/// first such fact's place.
+fn next_key(
+    rows: &[Vec<u64>],
+    group: usize,
+    behind: Option<Place>,
+) -> Option<(usize, usize, PortRight)>
+    requires sized { AreSized rows.now }
+    requires low { IfSome behind (λ place. place.0 < 2 ^ 16) }
+    ensures found { IfSome result (λ p.
+        IsNextKey rows.now group (key_behind behind) p.0 (place_key (p.1, p.2))) }
+    ensures none { IfNone result (NoKey rows.now group (key_behind behind)) }
+{
+    let mut start = behind;
+    for k in group..GROUPS {
+        if let Some((class, right)) = next_in_group(rows, k, start) {
+            return Some((k, class, right));
+        }
+        start = None;
     }
     None
 }
@@ -290,7 +365,7 @@ impl RowFacts {
             }
     }
 
-    /// Puts the fact into the set, and answers whether it is new there.
+    /// Inserts the fact, and returns whether it is new.
     pub(crate) fn insert(&mut self, fact: Fact) -> Result<bool, AllocError>
         requires { IsWithin fact }
         ensures added { IfOk result (λ added. added ≡ not (has self.old fact)) }
@@ -308,16 +383,19 @@ impl RowFacts {
         Ok(true)
     }
 
-    /// Puts the facts of the row into the set whose places both `more` and `mask` have.
+    /// Inserts the facts of the row whose places both `more` and `mask` have.
     pub(crate) fn join(&mut self, row: usize, more: &[u64], mask: &[u64]) -> Result<(), AllocError>
-        requires row { row < 2752 }
-        requires few { length more.now ≤ 63 }
+        requires row { row < limit_of_rows }
+        requires few { length more.now ≤ limit_of_words }
         ensures ok { OnOk result ((g : Fact) → has self.new g
             ≡ (has self.old g || (is_in_row row g && is_in_both more.now mask.now (place_of g)))) }
         ensures err { OnErr result (self.new ≡ self.old) }
         ensures ascending { IsAscending self.new }
     {
-        make_row(self.alloc, &mut self.rows, row, room_for(row, more, mask))?;
+        if !has_fresh(words_of(self.rows.as_slice(), row), more, mask) {
+            return Ok(());
+        }
+        make_row(self.alloc, &mut self.rows, row, room_for(more, mask))?;
         self.count = set_both(&mut self.rows, self.count, row, more, mask);
         Ok(())
     }
@@ -337,40 +415,47 @@ impl RowFacts {
     pub(crate) fn words(&self, row: usize) -> &[u64]
         ensures shown { (f : Fact) → row_of f ≡ row → IsWithin f →
             has self.now f ≡ is_set result.now (place_of f) }
-        ensures few { length result.now ≤ width_of row }
+        ensures few { length result.now ≤ limit_of_words }
     {
-        match self.rows.get(row) {
-            Some(row) => row.as_slice(),
-            None => &[],
-        }
+        words_of(self.rows.as_slice(), row)
     }
 
-    fn first_from(&self, row: usize, place: usize) -> Option<Fact>
-        ensures found { IfSome result (IsFirstFrom self.now row place) }
-        ensures none { IfNone result (NoneFrom self.now row place) }
+    /// Whether there may be a backup: there is none if no row of backups is made.
+    pub(crate) fn may_have_backups(&self) -> bool
+        ensures { result ≡ false → (c d : ℕ) → IsWithin (Fact.Backup c d) →
+            has self.now (Fact.Backup c d) ≡ false }
     {
-        let (row, place) = next_place(self.rows.as_slice(), row, place)?;
-        Some(fact_at(row, place))
+        self.rows.len() > FIRST_ROW_OF_BACKUPS
+    }
+
+    /// The least fact of the groups from this one on, in this group of those behind this place.
+    fn first_from(&self, group: usize, behind: Option<Place>) -> Option<Fact>
+        requires { IfSome behind (λ place. place.0 < 2 ^ 16) }
+        ensures found { IfSome result (IsFirstFrom self.now group (key_behind behind)) }
+        ensures none { IfNone result (NoneFrom self.now group (key_behind behind)) }
+        ensures ascending { IsAscending self.now }
+        ensures within { (g : Fact) → IsTrue (has self.now g) → IsWithin g }
+    {
+        let (group, class, right) = next_key(self.rows.as_slice(), group, behind)?;
+        Some(fact_at(group, class, right))
     }
 
     /// The least fact.
     pub(crate) fn first(&self) -> Option<Fact>
         ensures { result ≡ first self.now }
     {
-        let _count = self.count;
-        self.first_from(0, 0)
+        self.first_from(0, None)
     }
 
     /// The least fact that is greater than this one, which need not be in the set.
     pub(crate) fn after(&self, fact: &Fact) -> Option<Fact>
         ensures { result ≡ after self.now fact.now }
     {
-        let _count = self.count;
-        let (row, place) = start_of(fact);
-        self.first_from(row, place)
+        let (group, behind) = start_of(fact);
+        self.first_from(group, behind)
     }
 
-    /// Takes the fact out of the set, where it is there.
+    /// Removes the fact, if the set has it.
     pub(crate) fn remove(&mut self, fact: &Fact)
         ensures members { (g : Fact) →
             has self.new g ≡ (not (is_same g fact.now) && has self.old g) }

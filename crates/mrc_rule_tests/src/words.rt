@@ -3,8 +3,8 @@
 use crate::samples::{backup, carry, hold};
 use mrc_base::{OrMemory, PortRight};
 use mrc_model::{
-    Code, Denied, conclusions_by_rules, derivations_are_least, dying_least, first_holdings_given,
-    holdings_are_held, sound_if_few, sound_task_by_task, spaces_kept,
+    Code, Denied, derivations_are_least, dying_least, first_holdings_given, holdings_are_held,
+    sound_if_few, sound_task_by_task, spaces_kept,
 };
 use std::alloc::AllocError;
 use std::test::Fail;
@@ -89,7 +89,6 @@ fn laws_are_calls_that_do_nothing() {
     first_holdings_given();
     sound_task_by_task();
     sound_if_few();
-    conclusions_by_rules();
     derivations_are_least();
     holdings_are_held();
 }

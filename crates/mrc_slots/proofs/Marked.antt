@@ -1,5 +1,5 @@
 -- Rows of bits that say what classes take.
-use Rattle.std.proofs.Common.{◌≡◌, ℕ, ◌+◌, ◌*◌, ◌/◌, ◌<◌, ◌≤◌, ◌==◌, Bool, true, false, Vec}
+use Rattle.std.proofs.Common.{◌≡◌, ℕ, ◌+◌, ◌*◌, ◌/◌, ◌%◌, ◌<◌, ◌≤◌, ◌==◌, lit<, Bool, true, false, Vec}
 use Rattle.std.proofs.Common.{List, [], ◌∷◌, ◌++◌, length, replicate, Some, Option}
 use Rattle.std.proofs.Common.{refl, ap, sym, subst, ◌∙◌, inl, inr, arith}
 use Rattle.std.specs.Prelude.{◌||◌, ◌&&◌, nat_lt, unwrap_or, option_map}
@@ -8,15 +8,18 @@ use Rattle.std.proofs.lemmas.Bool.{cases_eq, cases_lt, eq-eqb, ne_eqb, lt-ltb, l
 use Rattle.std.proofs.lemmas.Option.{slice_get-get_or}
 use Rattle.std.proofs.lemmas.List.{get_or_append_left, get_or_push, length_push, length-replicate}
 use Rattle.mrc_base.specs.declared.PortRight.{PortRight}
+use Rattle.mrc_base.specs.declared.PortRight.TheVariants.{Send, Receive, SendOnce}
+use Rattle.mrc_base.specs.declared.Disp.{Disp}
+use Rattle.mrc_wiring.specs.Slots.{takes}
+use Rattle.mrc_facts.specs.Order.{right_number}
 use Rattle.mrc_bits.specs.Bits.{is_set}
 use Rattle.mrc_rows.specs.Rows.{words_of}
-use Rattle.mrc_rows.specs.Joining.{right_place, right_at}
-use Rattle.mrc_rows.proofs.Rows.{words_at, words_past, no_bit, right_there}
-use Rattle.mrc_rows.proofs.Joins.{class_of_place, right_of_place, next_below}
+use Rattle.mrc_rows.proofs.Rows.{words_at, words_past, no_bit}
+use Rattle.mrc_rows.proofs.Joins.{next_below}
 use Rattle.mrc_model.specs.Wiring.{Wiring, classes, label}
 use Rattle.mrc_slots.specs.Passing.{passes, is_passed}
-use Rattle.mrc_slots.specs.Masks.{IsMask, AreMasks, AreFirstRows, is_taken}
-use Rattle.mrc_slots.proofs.Passing.{same_label_passes}
+use Rattle.mrc_slots.specs.Masks.{IsMask, AreMasks, AreFirstRows, is_taken, right_at, row_number}
+use Rattle.mrc_slots.proofs.Passing.{same_label_passes, takes_below}
 
 abbrev Row : Type 0
 Row = Vec ℕ Global
@@ -58,12 +61,42 @@ one_marked test n row marked so_far put p = elim (cases_eq p n) [
 ]
 
 pub all_marked : (test : ℕ → Bool) (at places n : ℕ) (row : List ℕ)
-    → length row ≡ (places + 63) / 64 → n ≤ 4032 → at ≡ n → places ≡ n
+    → length row ≡ (places + 63) / 64 → n ≤ 1344 → at ≡ n → places ≡ n
     → ((p : ℕ) → is_set row p ≡ (nat_lt p at && test p)) → IsMask test n row
 all_marked test at places n row wide few end same bits = record {
   few = omega arith;
   bits = λ p. bits p ∙ ap (λ m. nat_lt p m && test p) end;
 }
+
+-- the classes that are taken
+
+or_classes : (n a b : Bool) → ((n && a) || (n && b)) ≡ (n && (a || b))
+or_classes true a b = refl
+or_classes false a b = refl
+
+pub slot_mask : (W : Wiring) (d : ℕ) (x : Disp) (row zeros : List ℕ) → zeros ≡ replicate 21 0
+    → length row ≡ length zeros
+    → ((c : ℕ) → is_set row c ≡ (is_set zeros c || takes W d x c))
+    → IsMask (takes W d x) (classes W) row
+slot_mask W d x row zeros e wide bits = record {
+  few = let l = zeros_long 21 zeros e in omega arith;
+  bits = λ c. bits c ∙ (ap (λ b. b || takes W d x c) (ap (λ ws. is_set ws c) e ∙ no_bit 21 c)
+      ∙ takes_below W d x c);
+}
+
+pub either_mask : (W : Wiring) (d : ℕ) (x y : Disp) (row one zeros : List ℕ)
+    → zeros ≡ replicate 21 0 → length one ≡ length zeros → length row ≡ length one
+    → ((c : ℕ) → is_set one c ≡ (is_set zeros c || takes W d x c))
+    → ((c : ℕ) → is_set row c ≡ (is_set one c || takes W d y c))
+    → IsMask (λ c. takes W d x c || takes W d y c) (classes W) row
+either_mask W d x y row one zeros e wide wider first bits =
+    let mask = slot_mask W d x one zeros e wide first in
+    record {
+      few = let l = zeros_long 21 zeros e in omega (arith, l, wide, wider);
+      bits = λ c. bits c ∙ (ap (λ b. b || takes W d y c) (mask.bits c)
+          ∙ (ap (λ b. (nat_lt c (classes W) && takes W d x c) || b) (takes_below W d y c)
+          ∙ or_classes (nat_lt c (classes W)) (takes W d x c) (takes W d y c)));
+    }
 
 -- rows
 
@@ -101,9 +134,9 @@ more_masks test m n rows longer row masks len mask pushed =
     subst (AreMasks test (m + 1) n) (sym pushed) (record {
       few = λ k. elim (cases_eq k m) [
         | inl same ↦
-            subst (λ ws. length ws ≤ 63) (sym (words_last rows row k (same ∙ sym len))) mask.few
+            subst (λ ws. length ws ≤ 21) (sym (words_last rows row k (same ∙ sym len))) mask.few
         | inr other ↦
-            subst (λ ws. length ws ≤ 63)
+            subst (λ ws. length ws ≤ 21)
             (sym (words_else rows row k (λ e. other (e ∙ len)))) (masks.few k)
       ];
       bits = λ k p. elim (cases_eq k m) [
@@ -124,14 +157,49 @@ pub more_rows : (m : ℕ) (rows longer : List Row) (row : Row) → length rows �
 more_rows m rows longer row len pushed =
     ap length pushed ∙ (length_push rows row ∙ (let h = len in omega arith))
 
--- places of rights on the classes of a wiring
+-- numbers of rows
 
-below_place : (n c : ℕ) (r : PortRight) → nat_lt (right_place c r) (3 * n) ≡ nat_lt c n
-below_place n c r =
-    let h = right_there r in
-    elim (cases_lt c n) [
-      | inl low ↦ lt-ltb (right_place c r) (3 * n) (omega arith) ∙ sym (lt-ltb c n low)
-      | inr high ↦ le-ltb (right_place c r) (3 * n) (omega arith) ∙ sym (le-ltb c n high)
+right_there : (r : PortRight) → right_number r < 3
+right_there Send = lit< tt
+right_there Receive = lit< tt
+right_there SendOnce = lit< tt
+
+number_at : (n : ℕ) → right_number (right_at n) ≡ n % 3
+number_at n = elim (cases_eq (n % 3) 0) [
+  | inl e ↦ rw e refl
+  | inr more ↦ elim (cases_eq (n % 3) 1) [
+    | inl e ↦ rw e refl
+    | inr two ↦ let e : n % 3 ≡ 2 = omega (arith, more, two) in rw e refl
+  ]
+]
+
+right_of_number : (n : ℕ) (r : PortRight) → n % 3 ≡ right_number r → right_at n ≡ r
+right_of_number n Send e = rw e refl
+right_of_number n Receive e = rw e refl
+right_of_number n SendOnce e = rw e refl
+
+class_of_row : (d : ℕ) (q g : PortRight) → row_number d q g / 9 ≡ d
+class_of_row d q g = let x = right_there q in let y = right_there g in omega arith
+
+held_of_row : (d : ℕ) (q g : PortRight) → right_at (row_number d q g / 3) ≡ q
+held_of_row d q g =
+    let x = right_there q in
+    let y = right_there g in
+    right_of_number (row_number d q g / 3) q (omega arith)
+
+give_of_row : (d : ℕ) (q g : PortRight) → right_at (row_number d q g) ≡ g
+give_of_row d q g =
+    let x = right_there q in
+    let y = right_there g in
+    right_of_number (row_number d q g) g (omega arith)
+
+below_row : (n d : ℕ) (q g : PortRight) → nat_lt (row_number d q g) (9 * n) ≡ nat_lt d n
+below_row n d q g =
+    let x = right_there q in
+    let y = right_there g in
+    elim (cases_lt d n) [
+      | inl low ↦ lt-ltb (row_number d q g) (9 * n) (omega arith) ∙ sym (lt-ltb d n low)
+      | inr high ↦ le-ltb (row_number d q g) (9 * n) (omega arith) ∙ sym (le-ltb d n high)
     ]
 
 and_both : (a b c d s t : Bool) → a ≡ b → c ≡ d → s ≡ t → (a && (c && s)) ≡ (b && (d && t))
@@ -150,35 +218,40 @@ pub same_row : (test : ℕ → ℕ → Bool) (m n j k : ℕ) (rows : List Row) (
     → AreMasks test m n rows → j < m → ((p : ℕ) → test j p ≡ test k p)
     → words ≡ words_of rows j → IsMask (test k) n words
 same_row test m n j k rows words masks below same is = record {
-  few = subst (λ ws. length ws ≤ 63) (sym is) (masks.few j);
+  few = subst (λ ws. length ws ≤ 21) (sym is) (masks.few j);
   bits = λ p. ap (λ ws. is_set ws p) is
       ∙ (masks.bits j p ∙ (ap (λ b. b && (nat_lt p n && test j p)) (lt-ltb j m below)
       ∙ ap (λ b. nat_lt p n && b) (same p)));
 }
 
-pub alike_taken : (W : Wiring) (d k : ℕ) → label W d ≡ label W (k / 3) → (p : ℕ)
-    → is_taken W (right_place d (right_at k)) p ≡ is_taken W k p
-alike_taken W d k same p =
-    same_passes W _ d _ (p / 3) _ (right_at k) _ (right_at p) (class_of_place d (right_at k)) refl
-    (right_of_place d (right_at k)) refl
-    ∙ same_label_passes W d (k / 3) (p / 3) (right_at k) (right_at p) same
+pub alike_taken : (W : Wiring) (d k : ℕ) → label W d ≡ label W (k / 9) → (c : ℕ)
+    → is_taken W (row_number d (right_at (k / 3)) (right_at k)) c ≡ is_taken W k c
+alike_taken W d k same c =
+    same_passes W _ d c c _ (right_at (k / 3)) _ (right_at k)
+    (class_of_row d (right_at (k / 3)) (right_at k)) refl
+    (held_of_row d (right_at (k / 3)) (right_at k)) (give_of_row d (right_at (k / 3)) (right_at k))
+    ∙ same_label_passes W d (k / 9) c (right_at (k / 3)) (right_at k) same
 
-pub alike_below : (d k : ℕ) → d < k / 3 → right_place d (right_at k) < k
-alike_below d k below = let h = right_there (right_at k) in omega arith
+pub alike_below : (d k : ℕ) → d < k / 9 → row_number d (right_at (k / 3)) (right_at k) < k
+alike_below d k below =
+    let x = number_at (k / 3) in
+    let y = number_at k in
+    let z : k ≡ 9 * (k / 9) + 3 * ((k / 3) % 3) + k % 3 = omega arith in
+    omega (arith, below)
 
 -- the first rows
 
 pub no_rows : (W : Wiring) (rows : List Row) → rows ≡ [] → AreFirstRows W 0 rows
 no_rows W rows e = record {
-  masks = no_masks (is_taken W) (3 * classes W) rows e;
+  masks = no_masks (is_taken W) (classes W) rows e;
   len = ap length e;
 }
 
 pub one_more_row : (W : Wiring) (m : ℕ) (rows longer : List Row) (row : Row)
-    → AreFirstRows W m rows → IsMask (is_taken W m) (3 * classes W) row.items
+    → AreFirstRows W m rows → IsMask (is_taken W m) (classes W) row.items
     → longer ≡ rows ++ row ∷ [] → AreFirstRows W (m + 1) longer
 one_more_row W m rows longer row first mask pushed = record {
-  masks = more_masks (is_taken W) m (3 * classes W) rows longer row first.masks first.len mask
+  masks = more_masks (is_taken W) m (classes W) rows longer row first.masks first.len mask
       pushed;
   len = more_rows m rows longer row first.len pushed;
 }
@@ -189,13 +262,12 @@ row_is words rows read number place is same at =
     is ∙ (ap (λ (ks : List Row). words_of ks number) same ∙ ap (words_of rows) at)
 
 module _ (W : Wiring) (rows : List Row) where
-  -- the bit of a class and a right in the row of a class and a right
-  pub taken_bit : AreMasks (is_taken W) (3 * classes W) (3 * classes W) rows
+  -- the bit of a class in the row of a class and two rights
+  pub taken_bit : AreMasks (is_taken W) (9 * classes W) (classes W) rows
       → (d c : ℕ) (held give : PortRight)
-      → is_set (words_of rows (right_place d held)) (right_place c give)
-      ≡ is_passed W d c held give
+      → is_set (words_of rows (row_number d held give)) c ≡ is_passed W d c held give
   taken_bit masks d c held give =
-      masks.bits (right_place d held) (right_place c give)
-      ∙ and_both _ _ _ _ _ _ (below_place (classes W) d held) (below_place (classes W) c give)
-      (same_passes W _ d _ c _ held _ give (class_of_place d held) (class_of_place c give)
-      (right_of_place d held) (right_of_place c give))
+      masks.bits (row_number d held give) c
+      ∙ and_both _ _ _ _ _ _ (below_row (classes W) d held give) refl
+      (same_passes W _ d c c _ held _ give (class_of_row d held give) refl
+      (held_of_row d held give) (give_of_row d held give))

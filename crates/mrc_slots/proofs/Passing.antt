@@ -1,18 +1,29 @@
--- What passes, by slots and as reply rights.
-use Rattle.std.proofs.Common.{◌≡◌, ℕ, Bool, true, false, refl, ap, inl, inr, ◌⊎◌}
-use Rattle.std.specs.Prelude.{◌||◌, flat_map}
+-- What passes by slots.
+use Rattle.std.proofs.Common.{◌≡◌, ℕ, Bool, true, false, refl, ap, sym, ◌∙◌, inl, inr}
+use Rattle.std.specs.Prelude.{◌||◌, ◌&&◌, nat_lt, flat_map}
 use Rattle.std.specs.List.{list_any}
-use Rattle.std.proofs.lemmas.Bool.{or_cases, or_right, false≢true}
+use Rattle.std.proofs.lemmas.Bool.{or_cases, or_right, and_parts, false≢true}
 use Rattle.mrc_base.specs.declared.PortRight.{PortRight}
 use Rattle.mrc_base.specs.declared.PortRight.TheVariants.{Send, Receive, SendOnce}
 use Rattle.mrc_base.specs.declared.Disp.{Disp}
 use Rattle.mrc_base.specs.declared.Disp.TheVariants.{MoveReceive, MoveSend, MoveSendOnce, CopySend}
 use Rattle.mrc_base.specs.declared.Disp.TheVariants.{MakeSend, MakeSendOnce}
 use Rattle.mrc_base.specs.Disposition.{needed, given}
-use Rattle.mrc_model.specs.Wiring.{Wiring, label, forms, item_forms}
-use Rattle.mrc_model.specs.Wiring.{accepts_routine, has_routine}
+use Rattle.mrc_model.specs.Wiring.{Wiring, classes, label, forms, item_forms, admits}
 use Rattle.mrc_wiring.specs.Slots.{takes, form_takes}
-use Rattle.mrc_slots.specs.Passing.{passes}
+use Rattle.mrc_wiring.proofs.Takers.{taker}
+use Rattle.mrc_slots.specs.Passing.{same_right, passes}
+
+pub same_right_is : (r q : PortRight) → same_right r q ≡ true → r ≡ q
+same_right_is Send Send e = refl
+same_right_is Receive Receive e = refl
+same_right_is SendOnce SendOnce e = refl
+same_right_is Send Receive e = cc
+same_right_is Send SendOnce e = cc
+same_right_is Receive Send e = cc
+same_right_is Receive SendOnce e = cc
+same_right_is SendOnce Send e = cc
+same_right_is SendOnce Receive e = cc
 
 -- what a slot takes passes
 pub by_slot : (W : Wiring) (d c : ℕ) (x : Disp) → takes W d x c ≡ true
@@ -24,11 +35,6 @@ by_slot W d c CopySend h = rw h (or_right (takes W d MoveSend c) true refl)
 by_slot W d c MakeSend h = rw h refl
 by_slot W d c MakeSendOnce h = rw h refl
 
--- and so does a reply right
-pub by_reply : (W : Wiring) (d c : ℕ) → accepts_routine W d ≡ true
-    → passes W d c SendOnce SendOnce ≡ true
-by_reply W d c h = rw h (or_right (takes W d MoveSendOnce c) true refl)
-
 -- what passes does so by one of them
 
 or_nothing : (b : Bool) → (b || false) ≡ true → b ≡ true
@@ -36,26 +42,21 @@ or_nothing true e = refl
 or_nothing false e = e
 
 pub passed_by : (W : Wiring) (d c : ℕ) (held give : PortRight) → passes W d c held give ≡ true
-    → ((x : Disp) × ((needed x ≡ held) × ((given x ≡ give) × (takes W d x c ≡ true))))
-    ⊎ ((held ≡ SendOnce) × ((give ≡ SendOnce) × (accepts_routine W d ≡ true)))
+    → (x : Disp) × ((needed x ≡ held) × ((given x ≡ give) × (takes W d x c ≡ true)))
 passed_by W d c Send Send h = elim (or_cases (takes W d MoveSend c) _ h) [
-  | inl there ↦ inl (MoveSend, (refl, (refl, there)))
-  | inr more ↦ inl (CopySend, (refl, (refl, or_nothing (takes W d CopySend c) more)))
+  | inl there ↦ (MoveSend, (refl, (refl, there)))
+  | inr more ↦ (CopySend, (refl, (refl, or_nothing (takes W d CopySend c) more)))
 ]
 passed_by W d c Send Receive h = absurd (false≢true h)
 passed_by W d c Send SendOnce h = absurd (false≢true h)
-passed_by W d c Receive Send h =
-    inl (MakeSend, (refl, (refl, or_nothing (takes W d MakeSend c) h)))
+passed_by W d c Receive Send h = (MakeSend, (refl, (refl, or_nothing (takes W d MakeSend c) h)))
 passed_by W d c Receive Receive h =
-    inl (MoveReceive, (refl, (refl, or_nothing (takes W d MoveReceive c) h)))
-passed_by W d c Receive SendOnce h =
-    inl (MakeSendOnce, (refl, (refl, or_nothing (takes W d MakeSendOnce c) h)))
+    (MoveReceive, (refl, (refl, or_nothing (takes W d MoveReceive c) h)))
+passed_by W d c Receive SendOnce h = (MakeSendOnce, (refl, (refl, h)))
 passed_by W d c SendOnce Send h = absurd (false≢true h)
 passed_by W d c SendOnce Receive h = absurd (false≢true h)
-passed_by W d c SendOnce SendOnce h = elim (or_cases (takes W d MoveSendOnce c) _ h) [
-  | inl there ↦ inl (MoveSendOnce, (refl, (refl, there)))
-  | inr reply ↦ inr (refl, (refl, reply))
-]
+passed_by W d c SendOnce SendOnce h =
+    (MoveSendOnce, (refl, (refl, or_nothing (takes W d MoveSendOnce c) h)))
 
 -- what a class takes depends on its label alone
 
@@ -64,11 +65,6 @@ same_label_takes : (W : Wiring) (d e : ℕ) → label W d ≡ label W e → (x :
 unfolding takes forms
 same_label_takes W d e same x c =
     ap (λ items. list_any (form_takes W x c) (flat_map (item_forms W) items)) same
-
-same_label_routine : (W : Wiring) (d e : ℕ) → label W d ≡ label W e
-    → accepts_routine W d ≡ accepts_routine W e
-unfolding accepts_routine
-same_label_routine W d e same = ap (list_any (has_routine W)) same
 
 pub same_label_passes : (W : Wiring) (d e c : ℕ) (held give : PortRight)
     → label W d ≡ label W e → passes W d c held give ≡ passes W e c held give
@@ -79,5 +75,25 @@ same_label_passes W d e c held give same =
     let copy_send = same_label_takes W d e same CopySend c in
     let make_send = same_label_takes W d e same MakeSend c in
     let make_once = same_label_takes W d e same MakeSendOnce c in
-    let reply = same_label_routine W d e same in
     cc
+
+-- what is taken is a class
+
+takes_class : (W : Wiring) (d : ℕ) (x : Disp) (c : ℕ) → takes W d x c ≡ true
+    → nat_lt c (classes W) ≡ true
+unfolding admits
+takes_class W d x c e =
+    let t = taker W d x c e in
+    (and_parts (nat_lt c (classes W)) _ t.admitted).0
+
+and_false : (b : Bool) → (b && false) ≡ false
+and_false true = refl
+and_false false = refl
+
+pub takes_below : (W : Wiring) (d : ℕ) (x : Disp) (c : ℕ)
+    → takes W d x c ≡ (nat_lt c (classes W) && takes W d x c)
+takes_below W d x c = go (takes W d x c) refl
+  where
+    go : (b : Bool) → takes W d x c ≡ b → takes W d x c ≡ (nat_lt c (classes W) && takes W d x c)
+    go true e = e ∙ sym (rw (takes_class W d x c e, e) refl)
+    go false e = e ∙ sym (rw e (and_false (nat_lt c (classes W))))

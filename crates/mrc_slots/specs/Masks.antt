@@ -1,16 +1,20 @@
--- What classes take, as rows of bits. This profile's own choice.
-use Rattle.std.specs.Prelude.{◌≡◌, ℕ, ◌*◌, ◌/◌, ◌≤◌, Bool, true, ◌&&◌, nat_lt}
+-- Step. Which bits of rows are what classes take. This profile's own choice.
+use Rattle.std.specs.Prelude.{◌≡◌, ℕ, ◌+◌, ◌*◌, ◌/◌, ◌%◌, ◌==◌, ◌≤◌, Bool, true, ◌&&◌, nat_lt}
+use Rattle.std.specs.Prelude.{if◌then◌else◌}
+use Rattle.mrc_base.specs.declared.PortRight.{PortRight}
+use Rattle.mrc_base.specs.declared.PortRight.TheVariants.{Send, Receive, SendOnce}
+use Rattle.mrc_facts.specs.Order.{right_number}
 use Rattle.std.specs.Prelude.{List, length, Vec}
 use Rattle.std.specs.declared.alloc.Global.{Global}
 use Rattle.mrc_bits.specs.Bits.{is_set}
+use Rattle.mrc_rows.specs.Limits.{limit_of_words}
 use Rattle.mrc_rows.specs.Rows.{words_of}
-use Rattle.mrc_rows.specs.Joining.{right_at}
-use Rattle.mrc_model.specs.Wiring.{Wiring, classes, accepts_destroyed}
+use Rattle.mrc_model.specs.Wiring.{Wiring, classes, accepts_destroyed, accepts_routine}
 use Rattle.mrc_slots.specs.Passing.{passes}
 
 -- the bits of the row are the places below n that pass the test
 pub record IsMask (test : ℕ → Bool) (n : ℕ) (row : List ℕ) : Type 0 where
-  pub few : length row ≤ 63
+  pub few : length row ≤ limit_of_words
   pub bits : (p : ℕ) → is_set row p ≡ (nat_lt p n && test p)
 
 -- so are the bits of each of m rows, whose test has the row's number
@@ -19,29 +23,38 @@ pub record AreMasks
     (m n : ℕ)
     (rows : List (Vec ℕ Global))
     : Type 0 where
-  pub few : (k : ℕ) → length (words_of rows k) ≤ 63
+  pub few : (k : ℕ) → length (words_of rows k) ≤ limit_of_words
   pub bits : (k p : ℕ) → is_set (words_of rows k) p ≡ (nat_lt k m && (nat_lt p n && test k p))
 
--- the class and the right of place k: whether the class takes the right of place p, as which one
+-- the right of a number that is divided by three
+abbrev pub right_at : ℕ → PortRight
+right_at n = if n % 3 == 0 then Send else if n % 3 == 1 then Receive else SendOnce
+
+-- the number of the row of a class, a right that is held and one as which it comes
+abbrev pub row_number : ℕ → PortRight → PortRight → ℕ
+row_number d held give = 9 * d + 3 * right_number held + right_number give
+
+-- whether the class of row k takes the right of this row on class c
 abbrev pub is_taken : Wiring → ℕ → ℕ → Bool
-is_taken W k p = passes W (k / 3) (p / 3) (right_at k) (right_at p)
+is_taken W k c = passes W (k / 9) c (right_at (k / 3)) (right_at k)
 
 -- the first rows, this many, of what each class takes of each right
 pub record AreFirstRows (W : Wiring) (count : ℕ) (rows : List (Vec ℕ Global)) : Type 0 where
-  pub masks : AreMasks (is_taken W) count (3 * classes W) rows
+  pub masks : AreMasks (is_taken W) count (classes W) rows
   pub len : length rows ≡ count
 
 -- each place
 abbrev pub is_any : ℕ → Bool
 is_any p = true
 
--- what each class takes, the places of all rights on classes, and the classes that accept
--- port-destroyed notices
+-- what each class takes, all classes, those that accept port-destroyed notices, and those that
+-- accept requests of routines
 pub record HasMasks
     (W : Wiring)
     (rows : List (Vec ℕ Global))
-    (places accepting : List ℕ)
+    (places accepting routines : List ℕ)
     : Type 0 where
-  pub taken : AreMasks (is_taken W) (3 * classes W) (3 * classes W) rows
-  pub all : IsMask is_any (3 * classes W) places
+  pub taken : AreMasks (is_taken W) (9 * classes W) (classes W) rows
+  pub all : IsMask is_any (classes W) places
   pub notified : IsMask (accepts_destroyed W) (classes W) accepting
+  pub routines_are : IsMask (accepts_routine W) (classes W) routines

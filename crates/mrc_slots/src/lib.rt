@@ -4,6 +4,5 @@
 mod alike;
 mod masks;
 mod slots;
-mod taking;
 
 pub use slots::Slots;

@@ -2,30 +2,31 @@
 
 ghost use Rattle.std.specs.Prelude.{◌≡◌, ◌+◌, ◌*◌, ◌≤◌, ◌&&◌, ℕ, IfOk, length, nat_lt};
 ghost use Rattle.mrc_base.specs.declared.PortRight.{PortRight};
-ghost use Rattle.mrc_base.specs.Limits.{limit_of_tasks, limit_of_wired_ports, limit_of_kinds};
+ghost use Rattle.mrc_base.specs.Limits.{limit_of_tasks};
+ghost use Rattle.mrc_rows.specs.Limits.{limit_of_classes, limit_of_words};
 ghost use Rattle.mrc_bits.specs.Bits.{is_set};
-ghost use Rattle.mrc_rows.specs.Joining.{right_place};
 ghost use Rattle.mrc_wiring.specs.Table.{wiring_of};
-ghost use Rattle.mrc_model.specs.Wiring.{classes, accepts_destroyed};
+ghost use Rattle.mrc_model.specs.Wiring.{classes, accepts_destroyed, accepts_routine};
 ghost use Rattle.mrc_slots.specs.Passing.{is_passed};
 ghost use Rattle.mrc_slots.specs.Masks.{HasMasks};
 
-use crate::masks::{all_places, notified_row, row_at, taken_rows};
+use crate::masks::{all_places, notified_row, routines_row, row_at, row_number, taken_rows};
 use mrc_base::PortRight;
-use mrc_rows::right_place;
+use mrc_bits::has_bit;
 use mrc_wiring::Wired;
 use std::alloc::{AllocError, Global};
 use std::marker::Model;
 
-/// A wiring, with what its classes take in rows of bits: a row for each class and right, by places
-/// of rights on classes. Beside those stand the places of all rights on classes, and the classes
-/// that accept port-destroyed notices.
+/// A wiring, with what its classes take in rows of bits: a row of classes for each class, each right
+/// that is held and each right as which it comes. Beside those stand all classes, those that accept
+/// port-destroyed notices, and those that accept requests of routines.
 #[derive(Drop)]
 pub struct Slots {
     wired: Wired,
     taken: Vec<Vec<u64>>,
     all: Vec<u64>,
     notified: Vec<u64>,
+    routines: Vec<u64>,
 }
 
 impl Model for Slots {
@@ -37,7 +38,8 @@ impl Model for Slots {
     ghost view = { λ s. s.wired };
 
     ghost invariant = { λ s.
-        HasMasks (wiring_of s.wired) s.taken.items s.all.items s.notified.items };
+        HasMasks (wiring_of s.wired) s.taken.items s.all.items s.notified.items
+        s.routines.items };
 }
 
 impl Slots {
@@ -47,41 +49,48 @@ impl Slots {
     {
         let wired = wired.copy(alloc)?;
         let taken = taken_rows(alloc, &wired)?;
-        let places = 3 * wired.classes();
-        let all = all_places(alloc, places)?;
+        let all = all_places(alloc, wired.classes())?;
         let notified = notified_row(alloc, &wired)?;
+        let routines = routines_row(alloc, &wired)?;
         Ok(Slots {
             wired,
             taken,
             all,
             notified,
+            routines,
         })
     }
 
-    /// What class `to` takes of rights `held`: the bit at the place of `give` on a class is set
-    /// where it takes a right `held` on that class, which comes there as `give`.
-    pub fn taken_by(&self, to: u16, held: PortRight) -> &[u64]
-        ensures taken { (c : ℕ) (give : PortRight) →
-            is_set result.now (right_place c give) ≡ is_passed (wiring_of self.now) to c held give }
-        ensures few { length result.now ≤ 63 }
+    /// The classes of which class `to` takes rights `held` by a slot, where they come as `give`.
+    pub fn taken_by(&self, to: u16, held: PortRight, give: PortRight) -> &[u64]
+        ensures taken { (c : ℕ) →
+            is_set result.now c ≡ is_passed (wiring_of self.now) to c held give }
+        ensures few { length result.now ≤ limit_of_words }
     {
-        row_at(self.taken.as_slice(), right_place(to, held))
+        row_at(self.taken.as_slice(), row_number(to, held, give))
     }
 
-    /// The places of all rights on the wiring's classes.
+    /// All classes of the wiring.
     pub fn all(&self) -> &[u64]
-        ensures shown { (c : ℕ) (r : PortRight) →
-            is_set result.now (right_place c r) ≡ nat_lt c (classes (wiring_of self.now)) }
-        ensures few { length result.now ≤ 63 }
+        ensures shown { (c : ℕ) → is_set result.now c ≡ nat_lt c (classes (wiring_of self.now)) }
+        ensures few { length result.now ≤ limit_of_words }
     {
         self.all.as_slice()
+    }
+
+    /// Whether the class accepts requests of routines, to which reply rights go.
+    pub fn takes_replies(&self, class: u16) -> bool
+        ensures { result ≡ (nat_lt class (classes (wiring_of self.now))
+            && accepts_routine (wiring_of self.now) class) }
+    {
+        has_bit(self.routines.as_slice(), class as usize)
     }
 
     /// The classes that accept port-destroyed notices.
     pub fn notified(&self) -> &[u64]
         ensures shown { (d : ℕ) → is_set result.now d ≡ (nat_lt d (classes (wiring_of self.now))
             && accepts_destroyed (wiring_of self.now) d) }
-        ensures few { length result.now ≤ 63 }
+        ensures few { length result.now ≤ limit_of_words }
     {
         self.notified.as_slice()
     }
@@ -104,8 +113,7 @@ impl Slots {
     /// How many classes of ports there are.
     pub fn classes(&self) -> u16
         ensures exact { result ≡ classes (wiring_of self.now) }
-        ensures within { result ≤ limit_of_wired_ports + limit_of_tasks
-            + limit_of_tasks * limit_of_kinds }
+        ensures within { result ≤ limit_of_classes }
     {
         self.wired.classes()
     }

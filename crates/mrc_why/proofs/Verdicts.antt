@@ -13,7 +13,7 @@ use Rattle.mrc_model.specs.IsIn.{IsIn, here, later}
 use Rattle.mrc_model.specs.Wiring.{Wiring}
 use Rattle.mrc_model.specs.Breach.{Forbid}
 use Rattle.mrc_model.specs.Rules.{Has, IsLeast, ForbidsNone, Least}
-use Rattle.mrc_model.proofs.Concluding.{in_filter, filter_in}
+use Rattle.mrc_model.proofs.Members.{in_filter, filter_in}
 use Rattle.mrc_wiring.specs.declared.claim.ForbiddenLine.{ForbiddenLine}
 use Rattle.mrc_wiring.specs.Claims.{Claimed, holding_of, policy_of}
 use Rattle.mrc_wiring.specs.Table.{Table, wiring_of}

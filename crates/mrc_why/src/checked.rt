@@ -2,14 +2,12 @@
 
 ghost use Rattle.std.specs.Prelude.{IsTrue, OnOk, IfOk, IfSome};
 ghost use Rattle.mrc_wiring.specs.Table.{wiring_of};
-ghost use Rattle.mrc_classes.specs.Following.{IsListOf, IsFirstFact};
 ghost use Rattle.mrc_classes.specs.Instances.{premise_list};
 ghost use Rattle.mrc_closure.specs.Chains.{place_list, IsAt, AreAt, IsStep, AreSteps, Concludes};
 
 use mrc_base::Fact;
-use mrc_classes::{Facts, FewFacts, instance_of};
+use mrc_classes::{Facts, FewFacts, Rules, instance_of};
 use mrc_closure::{Places, Step};
-use mrc_wiring::Wired;
 use std::alloc::{AllocError, Global};
 use std::collections::BTreeMap;
 
@@ -62,17 +60,15 @@ fn places_of(steps: &[Step], places: &BTreeMap<Fact, usize>, premises: FewFacts)
 /// The step that concludes the fact from steps before it, where the proposed premises do so.
 fn step_of(
     alloc: Global,
-    wired: &Wired,
-    first: &Facts,
+    rules: &Rules,
     steps: &[Step],
     places: &BTreeMap<Fact, usize>,
     proposal: &Proposal,
 ) -> Result<Option<Step>, AllocError>
-    requires { IsListOf (IsFirstFact (wiring_of wired.now)) first.now }
-    ensures { IfOk result (λ answer. IfSome answer (IsStep (wiring_of wired.now) steps.now)) }
+    ensures { IfOk result (λ answer. IfSome answer (IsStep (wiring_of rules.now) steps.now)) }
 {
     let known = set_of(alloc, proposal.premises)?;
-    let Some(instance) = instance_of(wired, first, &known, proposal.fact) else {
+    let Some(instance) = instance_of(rules, &known, proposal.fact) else {
         return Ok(None);
     };
     let Some(premises) = places_of(steps, places, instance.premises) else {
@@ -88,17 +84,15 @@ fn step_of(
 /// Puts a step at the end that concludes the proposal's fact, where there is one.
 fn add_step(
     alloc: Global,
-    wired: &Wired,
-    first: &Facts,
+    rules: &Rules,
     steps: &mut Vec<Step>,
     places: &mut BTreeMap<Fact, usize>,
     proposal: &Proposal,
 ) -> Result<(), AllocError>
-    requires { IsListOf (IsFirstFact (wiring_of wired.now)) first.now }
-    ensures { OnOk result (AreSteps (wiring_of wired.now) steps.old.items →
-        AreSteps (wiring_of wired.now) steps.new.items) }
+    ensures { OnOk result (AreSteps (wiring_of rules.now) steps.old.items →
+        AreSteps (wiring_of rules.now) steps.new.items) }
 {
-    let Some(step) = step_of(alloc, wired, first, steps.as_slice(), places, proposal)? else {
+    let Some(step) = step_of(alloc, rules, steps.as_slice(), places, proposal)? else {
         return Ok(());
     };
     let _ = places.insert(proposal.fact, steps.len())?;
@@ -109,17 +103,15 @@ fn add_step(
 /// Steps that conclude the facts of the proposals, in their order.
 pub(crate) fn steps_by(
     alloc: Global,
-    wired: &Wired,
-    first: &Facts,
+    rules: &Rules,
     proposals: &[Proposal],
 ) -> Result<Vec<Step>, AllocError>
-    requires { IsListOf (IsFirstFact (wiring_of wired.now)) first.now }
-    ensures { IfOk result (λ steps. AreSteps (wiring_of wired.now) steps.items) }
+    ensures { IfOk result (λ steps. AreSteps (wiring_of rules.now) steps.items) }
 {
     let mut steps = Vec::new(alloc);
     let mut places = BTreeMap::new(alloc);
     for proposal in proposals {
-        add_step(alloc, wired, first, &mut steps, &mut places, proposal)?;
+        add_step(alloc, rules, &mut steps, &mut places, proposal)?;
     }
     Ok(steps)
 }

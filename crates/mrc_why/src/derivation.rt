@@ -10,7 +10,7 @@ use crate::checked::{Proposal, concludes, steps_by};
 use crate::proposing::{Known, count_steps};
 use crate::ranks::{Ranked, rank_of, ranks_of};
 use mrc_base::Fact;
-use mrc_classes::{Facts, FewFacts, first_rules};
+use mrc_classes::{Facts, FewFacts, Rules};
 use mrc_closure::{Rounds, Step, explain, rounds_of};
 use mrc_wiring::Wired;
 use std::alloc::{AllocError, Global};
@@ -22,7 +22,7 @@ use std::marker::Model;
 #[derive(Drop)]
 pub struct Derivations<'a> {
     wired: &'a Wired,
-    first: Facts,
+    rules: Rules,
     rounds: Rounds,
     ranked: Vec<Ranked>,
     chosen: BTreeMap<Fact, FewFacts>,
@@ -32,14 +32,15 @@ impl<'a> Model for Derivations<'a> {
     ghost use Rattle.mrc_facts.specs.Sets.{has};
     ghost use Rattle.mrc_model.specs.Rules.{IsLeast};
     ghost use Rattle.mrc_wiring.specs.Table.{wiring_of};
-    ghost use Rattle.mrc_classes.specs.Following.{IsListOf, IsFirstFact};
     ghost use Rattle.mrc_why.specs.Derived.{Derived};
 
     ghost Value = { Derived };
 
-    ghost view = { λ d. record { table = d.wired.now; facts = d.rounds.facts } };
+    ghost view = { λ d. record { table = d.rules; facts = d.rounds.facts } };
 
-    ghost invariant = { λ d. IsListOf (IsFirstFact (wiring_of d.wired.now)) d.first
+    ghost use Rattle.std.specs.Prelude.{◌≡◌};
+
+    ghost invariant = { λ d. (d.rules ≡ d.wired.now)
         × IsLeast (wiring_of d.wired.now) (has d.rounds.facts) };
 }
 
@@ -172,13 +173,13 @@ impl<'a> Derivations<'a> {
         ensures table { IfOk result (λ d. d.table ≡ wired.now) }
         ensures least { IfOk result (λ d. IsLeast (wiring_of wired.now) (has d.facts)) }
     {
-        let first = first_rules(alloc, wired)?;
+        let rules = Rules::new(alloc, wired)?;
         let rounds = rounds_of(alloc, wired)?;
         let mut ranked = ranks_of(alloc, &rounds)?;
-        count_steps(wired, &first, rounds.facts(), rounds.order(), &mut ranked);
+        count_steps(&rules, rounds.facts(), rounds.order(), &mut ranked);
         Ok(Derivations {
             wired,
-            first,
+            rules,
             rounds,
             ranked,
             chosen: BTreeMap::new(alloc),
@@ -207,13 +208,12 @@ impl<'a> Derivations<'a> {
             AreSteps (wiring_of self.old.table) steps.items) }
     {
         let known = Known {
-            wired: self.wired,
-            first: &self.first,
+            rules: &self.rules,
             facts: self.rounds.facts(),
             ranked: self.ranked.as_slice(),
         };
         let proposals = proposals_for(alloc, &known, &mut self.chosen, *fact)?;
-        steps_by(alloc, self.wired, &self.first, &proposals)
+        steps_by(alloc, &self.rules, &proposals)
     }
 
     /// A short derivation of the fact by the ten rules, from nothing. There is none exactly where

@@ -1,12 +1,22 @@
-use Rattle.mrc_certificate.proofs.Runs.{bytes_begin, first_there}
+use Rattle.std.proofs.Common.{◌++◌, ◌∙◌, ap}
+use Rattle.mrc_certificate.specs.Spelling.{facts_bytes}
+use Rattle.mrc_certificate.proofs.Runs.{bytes_more}
 use Rattle.mrc_certificate.proofs.writing.put_facts.Goals as goal
 
-pub loop-next-init : goal.loop-next-init
-loop-next-init c =
-    let facts = c.args.facts.now in
-    let next = c.first-next.result in
-    let first = c.first-next.ensures.exact in
-    record {
-      there = first_there facts next first;
-      so_far = bytes_begin facts next c.args.out.now.items c.len-count.ensures.ascending first;
-    }
+pub loop-fact-init : goal.loop-fact-init
+loop-fact-init c = (
+  tt,
+  tt,
+  ap (λ fs. c.args.out.now.items ++ facts_bytes fs)
+      (c.into_iter-fact-iterator.ensures.into_iter_gives ∙ c.iter-fact-items.ensures.exact),
+)
+
+pub loop-fact-preserved : goal.loop-fact-preserved
+loop-fact-preserved c = (
+  tt,
+  tt,
+  bytes_more c.loop-fact.out.items c.put_fact.new.out.items
+      (c.args.out.now.items ++ facts_bytes c.args.facts.now) c.loop-fact.fact-iterator
+      c.next.new.self c.in-Some.fact c.in-Some.ensures.steps c.in_ok-put_fact.ensures
+      c.loop-fact.invariant.2,
+)

@@ -1,17 +1,10 @@
-use Rattle.std.proofs.Common.{◌≡◌, ◌++◌, length, IsTrue}
-use Rattle.std.specs.Prelude.{IfSome}
-use Rattle.mrc_facts.specs.Sets.{has}
-use Rattle.mrc_rows.specs.Walking.{facts_from}
+use Rattle.std.proofs.Common.{◌≡◌, ◌++◌}
 use Rattle.mrc_certificate.specs.Spelling.{facts_bytes}
 use Rattle.mrc_certificate.proofs.writing.put_facts.Given as goal
 
--- the bytes of those before the next one are put
-abbrev pub invariant-loop-next : goal.invariant-loop-next
-invariant-loop-next l = record {
-  there : IfSome l.next (λ f. IsTrue (has l.facts f));
-  so_far : l.out.items ++ facts_bytes (facts_from l.facts l.next)
-      ≡ l.fn.out.items ++ facts_bytes l.facts;
-}
-
-abbrev pub decreases-loop-next : goal.decreases-loop-next
-decreases-loop-next l = length (facts_from l.facts l.next)
+-- the bytes of all facts but those that are left are written
+abbrev pub invariant-loop-fact : goal.invariant-loop-fact
+invariant-loop-fact l =
+    (goal.iterator-loop-fact).can_next l.fact-iterator
+    × (goal.iterator-loop-fact).is_finite l.fact-iterator
+    × (l.out.items ++ facts_bytes l.fact-iterator ≡ l.fn.out.items ++ facts_bytes l.facts)

@@ -2,7 +2,8 @@ use Rattle.std.proofs.Common.{◌<◌, ℕ, Bool, Option, Some, None, IfSome, If
 use Rattle.mrc_facts.specs.Sets.{has}
 use Rattle.mrc_base.specs.declared.Fact.{Fact}
 use Rattle.mrc_model.specs.Wiring.{Wiring}
-use Rattle.mrc_classes.specs.Lacks.{rows, LacksNoneIn, IsLackingRow, LacksNothing, IsRowLack}
+use Rattle.mrc_classes.specs.Concluding.{rows}
+use Rattle.mrc_classes.specs.Lacks.{LacksNoneIn, IsLackingRow, LacksNothing, IsRowLack}
 use Rattle.mrc_classes.specs.Lacks.{IsFirstLack}
 use Rattle.mrc_classes.specs.declared.rule_names.RuleName.{RuleName}
 use Rattle.mrc_classes.proofs.searching.first_lack.Goals as goal

@@ -1,7 +1,8 @@
 use Rattle.std.proofs.Common.{ℕ, ◌∙◌}
 use Rattle.mrc_facts.specs.Sets.{has}
 use Rattle.rayon.specs.Numbers.{nat_range}
-use Rattle.mrc_classes.specs.Lacks.{rows, IsLackingRow}
+use Rattle.mrc_classes.specs.Concluding.{rows}
+use Rattle.mrc_classes.specs.Lacks.{IsLackingRow}
 use Rattle.mrc_classes.proofs.FirstPassing.{IsFirst, first_of, found_in, least_in, none_in}
 use Rattle.mrc_classes.proofs.searching.first_row.Goals as goal
 

@@ -1,12 +1,16 @@
-use Rattle.std.proofs.Common.{sym, ◌∙◌, subst, IsTrue}
-use Rattle.std.proofs.lemmas.Bool.{false≢true}
-use Rattle.mrc_facts.specs.Sets.{has}
-use Rattle.mrc_closure.specs.Orders.{Ordered}
+use Rattle.std.proofs.Common.{subst}
+use Rattle.std.specs.Prelude.{IfOk, IfSome, IfNone}
+use Rattle.mrc_model.specs.Rules.{Least}
+use Rattle.mrc_wiring.specs.Table.{Table, wiring_of}
+use Rattle.mrc_closure.specs.Chains.{IsChain}
 use Rattle.mrc_closure.proofs.chains.explain.Goals as goal
 
--- every closed set has the fact, and so has the least one
-pub returns-then-not-has-clause-none : goal.returns-then-not-has-clause-none
-returns-then-not-has-clause-none c = λ in_each.
-    let there = subst (λ (o : Ordered). IsTrue (has o.facts c.args.fact)) (sym c.derived.view_is)
-    (in_each (has c.in_ok-derived.derived.facts) c.in_ok-derived.ensures.least.closed) in
-    false≢true (sym c.if-not-has.true ∙ c.has.ensures ∙ there)
+pub returns-clause-some : goal.returns-clause-some
+returns-clause-some c =
+    subst (λ (t : Table). IfOk c.chain_of.result (λ answer. IfSome answer (λ chain.
+    IsChain (wiring_of t) c.args.fact chain))) c.in_ok-rules.ensures c.chain_of.ensures.some
+
+pub returns-clause-none : goal.returns-clause-none
+returns-clause-none c =
+    subst (λ (t : Table). IfOk c.chain_of.result (λ answer. IfNone answer
+    (Least (wiring_of t) c.args.fact → ⊥))) c.in_ok-rules.ensures c.chain_of.ensures.none

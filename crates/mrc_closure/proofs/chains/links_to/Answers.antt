@@ -10,7 +10,7 @@ use Rattle.mrc_closure.proofs.chains.links_to.Goals as goal
 
 pub loop-next-init : goal.loop-next-init
 loop-next-init c =
-    let W = wiring_of c.args.wired.now in
+    let W = wiring_of c.args.rules.now in
     let facts = c.derived.inside.facts in
     let order = c.derived.inside.order.items in
     let is = sym c.derived.view_is in
@@ -23,9 +23,9 @@ loop-next-init c =
     (λ g. c.in_ok-_new.ensures.members g ∙ ap (λ (fs : List Fact). is_same g c.args.fact || has fs g)
     c.new-needed.ensures))
 
-pub link_if_needed-requires-clause-follows : goal.link_if_needed-requires-clause-follows
-link_if_needed-requires-clause-follows c =
-    let W = wiring_of c.args.wired.now in
+pub link_if_needed-requires : goal.link_if_needed-requires
+link_if_needed-requires c =
+    let W = wiring_of c.args.rules.now in
     let same : HaveSame c.remove.new.self c.pop.new.self.items = same_then W c.args.fact
     c.loop-next.facts c.loop-next.order.items c.loop-next.needed c.loop-next.links.items
     c.loop-next.invariant c.in-Some.next c.pop.new.self.items c.in-Some.ensures.items
@@ -36,7 +36,7 @@ link_if_needed-requires-clause-follows c =
 
 pub loop-next-preserved : goal.loop-next-preserved
 loop-next-preserved c =
-    let W = wiring_of c.args.wired.now in
+    let W = wiring_of c.args.rules.now in
     let same : HaveSame c.remove.new.self c.pop.new.self.items = same_then W c.args.fact
     c.loop-next.facts c.loop-next.order.items c.loop-next.needed c.loop-next.links.items
     c.loop-next.invariant c.in-Some.next c.pop.new.self.items c.in-Some.ensures.items

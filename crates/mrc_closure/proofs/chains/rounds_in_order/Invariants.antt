@@ -7,8 +7,8 @@ use Rattle.mrc_closure.proofs.chains.rounds_in_order.Given as goal
 -- the order has the facts of the rounds before the last one
 abbrev pub invariant-loop-alloc : goal.invariant-loop-alloc
 invariant-loop-alloc l = record {
-  round : IsRound (wiring_of l.slots) l.facts l.new;
-  ordered : IsOrdered (wiring_of l.slots) l.facts l.order.items l.new;
+  round : IsRound (wiring_of l.rules) l.facts l.new;
+  ordered : IsOrdered (wiring_of l.rules) l.facts l.order.items l.new;
 }
 
 -- a round that finds nothing new is the last

@@ -7,13 +7,13 @@ use Rattle.mrc_closure.proofs.rounds.all_rounds.Goals as goal
 
 pub loop-alloc-init : goal.loop-alloc-init
 loop-alloc-init c =
-    begun (wiring_of c.args.slots.now) c.args.facts.now c.args.first.now c.merge.new.facts
+    begun (wiring_of c.args.rules.now) c.args.facts.now c.args.first c.merge.new.facts
     c.merge.new.new c.requires.empty c.requires.first c.in_ok-merge.ensures.merged
     c.in_ok-merge.ensures.ascending
 
 pub loop-alloc-preserved : goal.loop-alloc-preserved
 loop-alloc-preserved c =
-    let W = wiring_of c.args.slots.now in
+    let W = wiring_of c.args.rules.now in
     let next = c.in_ok-next_round.ensures in
     gone_on W c.loop-alloc.facts c.loop-alloc.new next.found c.next_round.new.facts
     c.next_round.new.new c.loop-alloc.invariant
@@ -23,8 +23,8 @@ loop-alloc-preserved c =
 pub loop-alloc-smaller : goal.loop-alloc-smaller
 loop-alloc-smaller c =
     let next = c.in_ok-next_round.ensures in
-    fewer (wiring_of c.args.slots.now)
-    (small_at c.args.slots.now c.classes-classes.result c.classes-classes.ensures.exact
+    fewer (wiring_of c.args.rules.now)
+    (small_at c.args.rules.now c.classes-classes.result c.classes-classes.ensures.exact
     (omega (arith, c.classes-classes.ensures.within))) c.loop-alloc.facts c.loop-alloc.new
     next.found c.next_round.new.facts c.next_round.new.new
     (some_there c.loop-alloc.new c.is_empty.result c.is_empty.ensures c.loop-alloc-test.true)
@@ -32,8 +32,8 @@ loop-alloc-smaller c =
 
 pub returns : goal.returns
 returns c =
-    least_list (wiring_of c.args.slots.now)
-    (small_at c.args.slots.now c.classes-classes.result c.classes-classes.ensures.exact
+    least_list (wiring_of c.args.rules.now)
+    (small_at c.args.rules.now c.classes-classes.result c.classes-classes.ensures.exact
     (omega (arith, c.classes-classes.ensures.within))) c.loop-alloc.facts c.loop-alloc.new
     (none_there c.loop-alloc.new c.is_empty.result c.is_empty.ensures c.loop-alloc-test.false)
     c.loop-alloc.invariant

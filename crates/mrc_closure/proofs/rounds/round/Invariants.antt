@@ -8,4 +8,4 @@ use Rattle.mrc_closure.proofs.rounds.round.Given as goal
 abbrev pub invariant-loop-place : goal.invariant-loop-place
 invariant-loop-place l =
     Added nothing (has l.found)
-    (Below l.place (AtTurn (wiring_of l.slots) l.facts l.new l.worker l.workers))
+    (Below l.place (AtTurn (wiring_of l.rules) l.facts l.new l.worker l.workers))

@@ -7,10 +7,10 @@ use Rattle.mrc_closure.proofs.workers.all_rounds_by.Goals as goal
 
 pub loop-alloc-init : goal.loop-alloc-init
 loop-alloc-init g c =
-    let W = wiring_of c.args.slots.now in
+    let W = wiring_of c.args.rules.now in
     let workers = c.args.workers in
     let next = c.in_ok-next_round_by.ensures in
-    let start = begun W c.args.facts.now c.args.first.now c.merge.new.facts c.merge.new.new
+    let start = begun W c.args.facts.now c.args.first c.merge.new.facts c.merge.new.new
     c.requires.empty c.requires.first c.in_ok-merge.ensures.merged
     c.in_ok-merge.ensures.ascending in
     gone_on W c.merge.new.facts c.merge.new.new next.found c.next_round_by.new.facts
@@ -20,7 +20,7 @@ loop-alloc-init g c =
 
 pub loop-alloc-preserved : goal.loop-alloc-preserved
 loop-alloc-preserved g c =
-    let W = wiring_of c.args.slots.now in
+    let W = wiring_of c.args.rules.now in
     let workers = c.args.workers in
     let next = c.in_ok-next_round_by-2.ensures in
     gone_on W c.loop-alloc.facts c.loop-alloc.new next.found
@@ -32,8 +32,8 @@ loop-alloc-preserved g c =
 pub loop-alloc-smaller : goal.loop-alloc-smaller
 loop-alloc-smaller g c =
     let next = c.in_ok-next_round_by-2.ensures in
-    fewer (wiring_of c.args.slots.now)
-    (small_at c.args.slots.now c.classes-classes.result c.classes-classes.ensures.exact
+    fewer (wiring_of c.args.rules.now)
+    (small_at c.args.rules.now c.classes-classes.result c.classes-classes.ensures.exact
     (omega (arith, c.classes-classes.ensures.within))) c.loop-alloc.facts c.loop-alloc.new
     next.found c.next_round_by-in-loop-alloc.new.facts c.next_round_by-in-loop-alloc.new.new
     (some_there c.loop-alloc.new c.is_empty.result c.is_empty.ensures c.loop-alloc-test.true)
@@ -41,8 +41,8 @@ loop-alloc-smaller g c =
 
 pub returns : goal.returns
 returns g c =
-    least_list (wiring_of c.args.slots.now)
-    (small_at c.args.slots.now c.classes-classes.result c.classes-classes.ensures.exact
+    least_list (wiring_of c.args.rules.now)
+    (small_at c.args.rules.now c.classes-classes.result c.classes-classes.ensures.exact
     (omega (arith, c.classes-classes.ensures.within))) c.loop-alloc.facts c.loop-alloc.new
     (none_there c.loop-alloc.new c.is_empty.result c.is_empty.ensures c.loop-alloc-test.false)
     c.loop-alloc.invariant

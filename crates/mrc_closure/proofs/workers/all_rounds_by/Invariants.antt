@@ -4,7 +4,7 @@ use Rattle.mrc_closure.proofs.Keeping.{IsRound, some}
 use Rattle.mrc_closure.proofs.workers.all_rounds_by.Given as goal
 
 abbrev pub invariant-loop-alloc : goal.invariant-loop-alloc
-invariant-loop-alloc g l = IsRound (wiring_of l.slots) l.facts l.new
+invariant-loop-alloc g l = IsRound (wiring_of l.rules) l.facts l.new
 
 -- a round that finds nothing new is the last
 abbrev pub decreases-loop-alloc : goal.decreases-loop-alloc

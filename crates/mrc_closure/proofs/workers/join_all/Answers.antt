@@ -11,7 +11,7 @@ use Rattle.mrc_closure.proofs.workers.join_all.Goals as goal
 -- the first of the rest has ended with what it promised
 pub loop-one-preserved : goal.loop-one-preserved
 loop-one-preserved g c =
-    let table = c.args.slots.now in
+    let table = c.args.rules.now in
     let facts = c.args.facts.now in
     let new = c.args.new.now in
     let total = vec_len c.args.working in

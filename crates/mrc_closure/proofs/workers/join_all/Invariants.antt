@@ -12,7 +12,7 @@ abbrev pub invariant-loop-one : goal.invariant-loop-one
 invariant-loop-one g l = record {
   few : into_iter_len l.one-iterator ≤ vec_len l.fn.working;
   rest : (k : ℕ) (h : _) → slice_get (into_iter_items l.one-iterator) k ≡ Some h
-      → IsWorking l.slots l.facts l.new ((vec_len l.fn.working - into_iter_len l.one-iterator) + k) l.workers h.promise;
+      → IsWorking l.rules l.facts l.new ((vec_len l.fn.working - into_iter_len l.one-iterator) + k) l.workers h.promise;
   found : l.whole ≡ true
-      → IsListOf (FromFirst (wiring_of l.slots) l.facts l.new (vec_len l.fn.working - into_iter_len l.one-iterator) l.workers) l.all;
+      → IsListOf (FromFirst (wiring_of l.rules) l.facts l.new (vec_len l.fn.working - into_iter_len l.one-iterator) l.workers) l.all;
 }

@@ -9,5 +9,5 @@ use Rattle.mrc_closure.proofs.workers.round_in.Goals as goal
 pub returns-then-started : goal.returns-then-started
 returns-then-started g c =
     subst (λ (n : ℕ). IfOk c.join_all-found.result (IsListOf (FromFirst
-    (wiring_of c.args.slots.now) c.args.facts.now c.args.new.now n c.args.workers)))
+    (wiring_of c.args.rules.now) c.args.facts.now c.args.new.now n c.args.workers)))
     (c.start_all-started.ensures.all c.if-started.true) c.join_all-found.ensures

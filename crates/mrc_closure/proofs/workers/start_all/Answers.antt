@@ -9,7 +9,7 @@ loop-worker-preserved g c =
     let len : c.loop-worker.worker ≡ length was.items = search rules in (
       search rules,
       search rules,
-      each_grown (λ k h. IsWorking c.args.slots.now c.args.facts.now c.args.new.now k c.args.workers h.promise)
+      each_grown (λ k h. IsWorking c.args.rules.now c.args.facts.now c.args.new.now k c.args.workers h.promise)
           was.items c.push_reserved.new.self.items c.in-Ok.one c.loop-worker.worker
           c.push_reserved.ensures.items len c.loop-worker.invariant.2 c.in-Ok.ensures,
     )

@@ -7,4 +7,4 @@ abbrev pub invariant-loop-worker : goal.invariant-loop-worker
 invariant-loop-worker g l =
     (vec_len l.working ≡ l.worker) × (l.workers ≤ vec_capacity l.working)
     × ((k : ℕ) (h : _) → slice_get l.working.items k ≡ Some h
-    → IsWorking l.slots l.facts l.new k l.workers h.promise)
+    → IsWorking l.rules l.facts l.new k l.workers h.promise)

@@ -11,6 +11,6 @@ loop-class-init c = no_rows (wiring_of c.args.wired.now) _ c.new-rows.ensures.it
 pub returns : goal.returns
 returns c =
     let W = wiring_of c.args.wired.now in
-    let end : 3 * c.loop-class.class ≡ 3 * classes W = omega arith in
-    subst (λ n. AreMasks (is_taken W) n (3 * classes W) c.loop-class.rows.items) end
+    let end : 9 * c.loop-class.class ≡ 9 * classes W = omega arith in
+    subst (λ n. AreMasks (is_taken W) n (classes W) c.loop-class.rows.items) end
     c.loop-class.invariant.masks

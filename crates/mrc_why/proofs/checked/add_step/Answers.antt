@@ -7,7 +7,7 @@ use Rattle.mrc_why.proofs.checked.add_step.Goals as goal
 
 pub returns : goal.returns
 returns c =
-    let W = wiring_of c.args.wired.now in
+    let W = wiring_of c.args.rules.now in
     let new : IsStep W c.as_slice.result.now c.in-Some.step = subst (λ o. IfSome o (IsStep W
     c.as_slice.result.now)) c.in-Some.is c.in_ok-step.ensures in
     λ are. subst (AreSteps W) (sym c.in_ok-push.ensures.items)

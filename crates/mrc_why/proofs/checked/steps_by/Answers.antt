@@ -6,5 +6,5 @@ use Rattle.mrc_why.proofs.checked.steps_by.Goals as goal
 
 pub loop-proposal-init : goal.loop-proposal-init
 loop-proposal-init c =
-    let W = wiring_of c.args.wired.now in
+    let W = wiring_of c.args.rules.now in
     subst (AreSteps W) (sym c.new-steps.ensures.items) (no_steps W)

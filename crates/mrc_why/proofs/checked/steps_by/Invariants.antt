@@ -4,4 +4,4 @@ use Rattle.mrc_why.proofs.checked.steps_by.Given as goal
 
 -- the steps so far are such
 abbrev pub invariant-loop-proposal : goal.invariant-loop-proposal
-invariant-loop-proposal l = AreSteps (wiring_of l.wired) l.steps.items
+invariant-loop-proposal l = AreSteps (wiring_of l.rules) l.steps.items

@@ -14,3 +14,7 @@ returns-clause-least c =
 
 pub returns-clause-none : goal.returns-clause-none
 returns-clause-none c = none_answer c.args.self.now c.earlier.result (returns-clause-exact c)
+
+pub returns-clause-kept : goal.returns-clause-kept
+returns-clause-kept c =
+    (whole_as c.self.inside.rows c.self.inside.others c.self.inside.whole c.args.self.now c.self.view_is).ascending

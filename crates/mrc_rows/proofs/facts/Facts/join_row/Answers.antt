@@ -7,11 +7,11 @@ use Rattle.mrc_rows.specs.Joining.{is_of}
 use Rattle.mrc_rows.proofs.Joins.{one_row}
 use Rattle.mrc_rows.proofs.facts.Facts.join_row.Goals as goal
 
-pub returns : goal.returns
-returns c = λ g.
+pub returns-clause-ok : goal.returns-clause-ok
+returns-clause-ok c = λ g.
     let row = c.row_at-row.result in
     let words = c.words-words.result.now in
     c.in_ok-join.ensures.ok g
     ∙ ap (λ b. has c.args.self.now g || b)
     (one_row (is_within g) (is_of row g) (row_of g == c.args.number) (is_set words (place_of g))
-    (has c.args.other.now g) (c.row_at-row.ensures g) (c.words-words.ensures.shown g))
+    (has c.args.other.now g) (c.row_at-row.ensures.facts g) (c.words-words.ensures.shown g))

@@ -16,14 +16,14 @@ returns-then-not-has-clause-none c = λ in_each.
 
 pub returns-clause-some : goal.returns-clause-some
 returns-clause-some c =
-    let same : c.self.inside.wired.now ≡ c.args.self.now.table = ap (λ (d : Derived). d.table)
-    (c.self.view_is ∙ c.in_ok-steps.ensures.kept) in
+    let same : c.self.inside.wired.now ≡ c.args.self.now.table = sym c.self.invariant.0
+    ∙ ap (λ (d : Derived). d.table) (c.self.view_is ∙ c.in_ok-steps.ensures.kept) in
     subst (λ (t : Table). IfOk c.explained.result (λ answer. IfSome answer (λ steps.
     IsChain (wiring_of t) c.args.fact steps.items))) same c.explained.ensures.some
 
 pub returns-clause-none : goal.returns-clause-none
 returns-clause-none c =
-    let same : c.self.inside.wired.now ≡ c.args.self.now.table = ap (λ (d : Derived). d.table)
-    (c.self.view_is ∙ c.in_ok-steps.ensures.kept) in
+    let same : c.self.inside.wired.now ≡ c.args.self.now.table = sym c.self.invariant.0
+    ∙ ap (λ (d : Derived). d.table) (c.self.view_is ∙ c.in_ok-steps.ensures.kept) in
     subst (λ (t : Table). IfOk c.explained.result (λ answer. IfNone answer
     (Least (wiring_of t) c.args.fact → ⊥))) same c.explained.ensures.none

@@ -1,0 +1,12 @@
+use Rattle.std.proofs.Common.{◌≡◌, ℕ, ◌*◌, length}
+use Rattle.std.specs.Prelude.{◌||◌, ◌&&◌, nat_lt}
+use Rattle.mrc_bits.specs.Bits.{is_set}
+use Rattle.mrc_bits.proofs.bits.or_both.Given as goal
+
+-- the words before this one are joined
+abbrev pub invariant-loop-k : goal.invariant-loop-k
+invariant-loop-k l = record {
+  len : length l.words ≡ length l.fn.words;
+  bits : (i : ℕ) → is_set l.words i ≡ (is_set l.fn.words i
+      || (nat_lt i (64 * l.k) && (is_set l.more i && is_set l.mask i)));
+}

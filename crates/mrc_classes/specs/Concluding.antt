@@ -1,0 +1,146 @@
+-- Step. What each of the ten rules concludes in a row, from a first premise in one set and a last
+-- premise in another: the one coding of the rules that code goes by. W is the wiring, S tells the
+-- facts of the set of the first premises, T those of the set of the last. This profile's own
+-- choice.
+use Rattle.std.specs.Prelude.{◌≡◌, ℕ, ◌<◌, ◌||◌, ◌&&◌, Bool, true, false, not, Some, IsTrue, List, [], ◌∷◌}
+use Rattle.std.specs.List.{AllByRecursion}
+use Rattle.mrc_model.specs.Rules.{FactSet, Rule, InRange}
+use Rattle.mrc_base.specs.declared.PortRight.{PortRight}
+use Rattle.mrc_base.specs.declared.PortRight.TheVariants.{Send, Receive, SendOnce}
+use Rattle.mrc_base.specs.declared.Fact.{Fact}
+use Rattle.mrc_base.specs.declared.Fact.TheVariants.{Hold, Carry, Backup}
+use Rattle.mrc_model.specs.Wiring.{Wiring, classes, kernel_class, births_class, accepts_routine}
+use Rattle.mrc_model.specs.Wiring.{accepts_destroyed}
+use Rattle.mrc_slots.specs.Passing.{same_right}
+use Rattle.mrc_slots.specs.Passing.{passes}
+use Rattle.mrc_classes.specs.Following.{IsHeldAtFirst}
+use Rattle.mrc_classes.specs.declared.rule_names.RuleName.{RuleName}
+use Rattle.mrc_classes.specs.declared.rule_names.RuleName.TheVariants.{First, Births, Weaker, Slot}
+use Rattle.mrc_classes.specs.declared.rule_names.RuleName.TheVariants.{Reply, Received, KernelPort}
+use Rattle.mrc_classes.specs.declared.rule_names.RuleName.TheVariants.{Request, Notice, Returned}
+
+-- the fact that a rule concludes: a hold of a task, a carry or a backup of a class
+abbrev pub conclusion : RuleName → ℕ → ℕ → PortRight → Fact
+conclusion First row c r = Hold row c r
+conclusion Births row c r = Hold row c r
+conclusion Weaker row c r = Hold row c r
+conclusion Slot row c r = Carry row c r
+conclusion Reply row c r = Carry row c r
+conclusion Received row c r = Hold row c r
+conclusion KernelPort row c r = Hold row c r
+conclusion Request row c r = Backup row c
+conclusion Notice row c r = Carry row c r
+conclusion Returned row c r = Hold row c r
+
+-- how many rows a rule has: one for each task, or one for each class
+abbrev pub rows : Wiring → RuleName → ℕ
+rows W First = W.tasks
+rows W Births = W.tasks
+rows W Weaker = W.tasks
+rows W Slot = classes W
+rows W Reply = classes W
+rows W Received = W.tasks
+rows W KernelPort = W.tasks
+rows W Request = classes W
+rows W Notice = classes W
+rows W Returned = W.tasks
+
+-- the rule has two premises
+abbrev pub has_two : RuleName → Bool
+has_two First = false
+has_two Births = false
+has_two Weaker = false
+has_two Slot = true
+has_two Reply = true
+has_two Received = true
+has_two KernelPort = true
+has_two Request = true
+has_two Notice = false
+has_two Returned = true
+
+-- how many sources a row has: tasks, or classes, by one of which each conclusion comes
+abbrev pub sources : Wiring → RuleName → ℕ
+sources W First = 1
+sources W Births = classes W
+sources W Weaker = 1
+sources W Slot = W.tasks
+sources W Reply = W.tasks
+sources W Received = classes W
+sources W KernelPort = W.tasks
+sources W Request = W.tasks
+sources W Notice = classes W
+sources W Returned = classes W
+
+-- t can send to ports of class d
+abbrev pub can_send_to : (Fact → Bool) → ℕ → ℕ → Bool
+can_send_to S t d = S (Hold t d Send) || S (Hold t d SendOnce)
+
+-- one of the two holds a send right to the other's kernel port
+abbrev pub are_linked : Wiring → (Fact → Bool) → ℕ → ℕ → Bool
+are_linked W S t u =
+    S (Hold t (kernel_class W u) Send) || S (Hold u (kernel_class W t) Send)
+
+-- the first premise is there for the source n: for the rules of two premises
+abbrev pub leads : Wiring → (Fact → Bool) → RuleName → ℕ → ℕ → Bool
+leads W S First row n = true
+leads W S Births row n = true
+leads W S Weaker row n = true
+leads W S Slot row n = can_send_to S n row
+leads W S Reply row n = can_send_to S n row
+leads W S Received row n = S (Hold row n Receive)
+leads W S KernelPort row n = are_linked W S row n
+leads W S Request row n = S (Hold n row Receive)
+leads W S Notice row n = true
+leads W S Returned row n = S (Hold row n Receive)
+
+-- it is the class of a task's births
+abbrev pub IsBirthClass : Wiring → ℕ → ℕ → Type 0
+IsBirthClass W t c = (kind : ℕ) × (births_class W t kind ≡ Some c)
+
+-- class d takes, as the right r, of what t holds on class c
+abbrev pub is_taken_of : Wiring → (Fact → Bool) → ℕ → ℕ → ℕ → PortRight → Bool
+is_taken_of W T d t c r =
+    (T (Hold t c Send) && passes W d c Send r) || ((T (Hold t c Receive) && passes W d c Receive r)
+    || (T (Hold t c SendOnce) && passes W d c SendOnce r))
+
+-- the last premise is there for the source n, and the side condition holds, for the right r on
+-- class c
+abbrev pub Comes : Wiring → (Fact → Bool) → RuleName → ℕ → ℕ → ℕ → PortRight → Type 0
+Comes W T First row n c r = IsHeldAtFirst W (Hold row c r)
+Comes W T Births row n c r = IsTrue (same_right r Receive) × (c ≡ n) × IsBirthClass W row n
+Comes W T Weaker row n c r =
+    IsTrue (not (same_right r Receive)) × IsTrue (T (Hold row c Receive))
+Comes W T Slot row n c r = IsTrue (is_taken_of W T row n c r)
+Comes W T Reply row n c r =
+    IsTrue (same_right r SendOnce) × IsTrue (accepts_routine W row)
+    × IsTrue (T (Hold n c SendOnce))
+Comes W T Received row n c r = IsTrue (T (Carry n c r))
+Comes W T KernelPort row n c r = IsTrue (T (Hold n c r))
+Comes W T Request row n c r =
+    IsTrue (same_right r Send) × IsTrue (accepts_destroyed W c) × IsTrue (T (Hold n c SendOnce))
+Comes W T Notice row n c r = IsTrue (same_right r Receive) × (c ≡ n) × IsTrue (T (Backup n row))
+Comes W T Returned row n c r = IsTrue (same_right r SendOnce) × IsTrue (T (Backup n c))
+
+-- an instance of the rule concludes the fact of this row, class and right, with its first premise
+-- in the one set and its last in the other
+pub record Concludes (W : Wiring) (S T : Fact → Bool) (rule : RuleName) (row c : ℕ) (r : PortRight)
+    : Type 0 where
+  pub source : ℕ
+  pub there : source < sources W rule
+  pub first : IsTrue (leads W S rule row source)
+  pub last : Comes W T rule row source c r
+
+-- The premises are over the wiring's tasks and classes. The last one is in G, and the first of two
+-- in F.
+abbrev pub AreKnown : Wiring → FactSet → FactSet → List Fact → Type 0
+AreKnown W F G [] = Unit {0}
+AreKnown W F G (p ∷ []) = (InRange W p × G p) × Unit {0}
+AreKnown W F G (p ∷ q ∷ more) =
+    (InRange W p × F p) × AllByRecursion (λ x. InRange W x × G x) (q ∷ more)
+
+-- the rule of this number concludes the fact from such premises, by an instance in range
+pub record FollowsBy (W : Wiring) (F G : FactSet) (k : ℕ) (f : Fact) : Type 0 where
+  pub premises : List Fact
+  pub rule : Rule W k premises f
+  pub known : AreKnown W F G premises
+  pub in_range : InRange W f
