@@ -1,5 +1,6 @@
--- Who holds what in a world, which tasks a task counts as, and when a world breaks a policy. That
--- holding a task's kernel port counts as being that task is Mach's rule, read so by this profile.
+-- Believe. Who holds what in a world, which tasks a task counts as, and when a world breaks a
+-- policy. From Mach: a send right to a task's kernel port lets its holder act on that task. That
+-- the holder therefore counts as the task is this profile's own reading.
 use Rattle.std.specs.Prelude.{◌≡◌, ◌↔◌, ℕ, true, List, [], ◌∷◌, ◌++◌, map, Some}
 use Rattle.mrc_base.specs.declared.PortRight.{PortRight}
 use Rattle.mrc_base.specs.declared.PortRight.TheVariants.{Send}
@@ -50,13 +51,15 @@ pub data Counts (w : World) : ℕ → ℕ → Type 0 where
   itself : {t : ℕ} → Counts w t t
   also : {t u v : ℕ} → Counts w t u → Reaches w u v → Counts w t v
 
--- a line of a policy: a task of the class `task` is not to get the right on a port of the class
+-- a line of a policy: no task whose class is `task` (the wired task of this number, or one that a
+-- call made like it) may hold the right on a port of this class
 pub record Forbid : Type 0 where
   pub task : ℕ
   pub right : PortRight
   pub class : ℕ
 
--- a task, or one that it counts as, holds a right that a line forbids it
+-- A line is broken: `named` is a task of the line's class, `holder` one that `named` counts as, and
+-- `holder` holds the right on a port of the line's class.
 pub record Breach (w : World) (policy : List Forbid) : Type 0 where
   pub line : Forbid
   pub forbidden : IsIn line policy

@@ -1,5 +1,5 @@
--- Receiving a message. From Mach 3 Kernel Interfaces, mach_msg (MACH_RCV_MSG, MACH_RCV_LARGE).
--- PROFILE_NO_SPACE, and the order of the refusals, are this profile's own choice.
+-- Believe. Receiving a message. From Mach 3 Kernel Interfaces, mach_msg (MACH_RCV_MSG,
+-- MACH_RCV_LARGE). PROFILE_NO_SPACE, and the order of the refusals, are this profile's own choice.
 use Rattle.std.specs.Prelude.{ℕ, ◌+◌, ◌%◌, Bool, true, false, not, ◌&&◌, List, [], ◌∷◌, length}
 use Rattle.std.specs.Prelude.{Option, Some, None, Ok, Err, ◌==◌, nat_lt, nat_le, if◌then◌else◌}
 use Rattle.mrc_base.specs.declared.PortRight.TheVariants.{Send, SendOnce}
@@ -44,13 +44,15 @@ give_args t s (x ∷ xs) =
     let b = give_args t a.0 xs in
     (b.0, a.1 ∷ b.1)
 
--- a receiver sees the disposition of a send-once right where there is a reply, dead ones included
+-- if the message has a reply right, alive or dead, the receiver sees the disposition of a send-once
+-- right
 abbrev pub reply_disp : Item → ℕ
 reply_disp NullItem = 0
 reply_disp DeadItem = given_number SendOnce
 reply_disp (RightItem p r) = given_number SendOnce
 
--- the message as received under this name, and the store after the giving
+-- the message as received under this name, and the store after the giving: `remote` names the reply
+-- right, `local` is the name that was received from
 unfoldable pub received : Store → ℕ → ℕ → ℕ → Parcel → Store × Message
 received s t name receipts m =
     let a = give_item s t m.reply in

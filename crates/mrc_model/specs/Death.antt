@@ -1,5 +1,5 @@
--- Which ports die when rights or a task's kernel port are destroyed, and what follows. From Mach 3
--- Kernel Interfaces, mach_port_destroy and mach_port_request_notification
+-- Believe. Which ports die when rights or a task's kernel port are destroyed, and what follows.
+-- From Mach 3 Kernel Interfaces, mach_port_destroy and mach_port_request_notification
 -- (MACH_NOTIFY_PORT_DESTROYED, MACH_NOTIFY_SEND_ONCE). The ids and the order of the notices are
 -- this profile's own choice.
 use Rattle.std.specs.Prelude.{ℕ, zero, suc, Bool, true, false, ◌&&◌, ◌||◌, List, [], ◌∷◌, ◌++◌, map}
@@ -35,7 +35,7 @@ is_receive_of p h = is_receive h.right && h.port == p
 abbrev pub has_receive : ℕ → List Held → Bool
 has_receive p hs = list_any (is_receive_of p) hs
 
--- the rights that are queued on these ports
+-- the rights that are queued on those of these ports that are in `dead`
 abbrev pub queued_on : List ℕ → List (ℕ × Port) → List Held
 queued_on dead [] = []
 queued_on dead (e ∷ es) = (if has dead e.0 then queue_rights e.1.queue else []) ++ queued_on dead es
@@ -65,7 +65,7 @@ abbrev pub is_kernel_of : Option ℕ → ℕ → Bool
 is_kernel_of None p = false
 is_kernel_of (Some k) p = k == p
 
--- The port dies, where those in `dead` do: it is the ended task's kernel port, or its receive right
+-- The port dies if those in `dead` die: it is the ended task's kernel port, or its receive right
 -- goes and no backup saves it.
 abbrev pub dies : Store → Doomed → List ℕ → ℕ → Bool
 dies s d dead p =

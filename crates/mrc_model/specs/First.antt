@@ -1,4 +1,5 @@
--- The first state of a wiring: its lines, one after the other. This profile's own choice.
+-- Believe. The first state of a wiring, line by line; with the law `FirstHoldingsAreGiven`. This
+-- profile's own choice.
 use Rattle.std.specs.Prelude.{ℕ, ◌+◌, Bool, List, [], ◌∷◌, Ok, Err, nat_lt, is_ok}
 use Rattle.mrc_model.specs.declared.Item.TheVariants.{Right as RightItem}
 use Rattle.mrc_model.specs.declared.FirstLine.{FirstLine}
@@ -33,8 +34,9 @@ add_task W f = record {
   world = with_task f.world f.tasks f.tasks (kernel_class W f.tasks);
 }
 
--- A line is refused where it makes a task or port beyond the wiring's numbers, names a task or port
--- that is not there, holds a receive right, or leaves a space with more entries than it may have.
+-- A line is refused if it makes a task or port beyond the wiring's numbers, names a task or port
+-- that is not there, gives a receive right by a hold line, or leaves a space with more entries than
+-- it may have. The port of a hold line is a birth number, kernel ports counted.
 abbrev pub add_line : Wiring → First → FirstLine → Try First
 add_line W f TaskLine = do
   check (nat_lt f.tasks W.tasks) (Refused KernInvalidTask)

@@ -1,6 +1,7 @@
--- The state of the machine: spaces, ports with their queues, and tasks. From Mach 3 Kernel
--- Interfaces, "Ports" and "Messages". Ports stand by birth numbers that never come again, where a
--- kernel reuses its slots; this is the profile's own choice, as classes are.
+-- Believe. The state of the machine: entries, spaces, ports with their queues, and tasks. From Mach
+-- 3 Kernel Interfaces, "Ports" and "Messages". Ports are numbered in the order in which they are
+-- made, and no number is used twice; a kernel reuses its slots. That is this profile's own choice,
+-- as classes are.
 use Rattle.std.specs.Prelude.{ℕ, ◌+◌, ◌^◌, Bool, List, [], ◌∷◌, ◌++◌, Option, unwrap_or, ◌==◌}
 use Rattle.std.specs.Prelude.{nat_lt, if◌then◌else◌, option_map}
 use Rattle.mrc_base.specs.declared.PortRight.{PortRight}
@@ -15,9 +16,9 @@ use Rattle.mrc_model.specs.declared.Item.TheVariants.{Right as RightItem}
 use Rattle.mrc_model.specs.declared.Backup.{Backup}
 use Rattle.mrc_model.specs.Map.{Map, empty, get, insert, total}
 
--- What a task has under its names. An entry for a port is a receive entry, with the send references
--- beside the right and the set that it is in, or a send entry. Which maps of entries are spaces of
--- a world is said by IsSpace (Space).
+-- What a task has under its names. For a port a space has at most one receive or send entry. A
+-- receive entry also has the number of send references, and the set that the right is in. Which
+-- maps of entries are spaces of a world is said by IsSpace (Space).
 abbrev pub Space : Type 0
 Space = Map Entry
 
