@@ -1,14 +1,14 @@
 -- The two halves of a set of facts.
-use Rattle.std.proofs.Common.{◌≡◌, ℕ, zero, suc, ◌+◌, ◌++◌, take, Bool, true, false, cond, List, [], ◌∷◌, length, refl, ap, sym, subst, ◌∙◌, inl, inr, arith}
+use Rattle.std.proofs.Common.{◌≡◌, ℕ, ◌+◌, take, Bool, true, false, cond, List, [], ◌∷◌, length, refl, ap, sym, subst, ◌∙◌, inl, inr, arith}
 use Rattle.std.specs.Prelude.{IsTrue, not, ◌&&◌, ◌||◌, Option, Some, None, IfSome, IsNone, ◌↔◌, Result, Ok, Err, IfOk, OnOk, OnErr}
 use Rattle.std.specs.Ordering.{is_lt}
 use Rattle.std.specs.declared.cmp.Ordering.TheVariants.{Less, Equal, Greater}
 use Rattle.std.proofs.lemmas.Bool.{cases_Bool, and_parts, and_from, or_cases, or_left, or_right, true≢false, false≢true, false_from_ne_true}
 use Rattle.mrc_base.specs.declared.Fact.{Fact}
 use Rattle.mrc_facts.specs.Order.{fact_cmp, is_before, is_same}
-use Rattle.mrc_facts.specs.Sets.{has, with_fact, without, first, after, begins_after, are_ascending, IsAscending}
+use Rattle.mrc_facts.specs.Sets.{has, with_fact, without, first, after, IsAscending}
 use Rattle.mrc_facts.specs.Laws.{IsLeast, IsNext}
-use Rattle.mrc_facts.proofs.Total.{fact_total, equal_from_same}
+use Rattle.mrc_facts.proofs.Total.{fact_total, equal_from_same, same_itself}
 use Rattle.mrc_facts.proofs.Members.{one_list, has-with_fact, first_is_least, after_is_next, none_after}
 use Rattle.mrc_facts.proofs.Walking.{place, IsStep, has_more, walk_ends}
 use Rattle.mrc_facts.proofs.Removing.{has-without, ascending-without, length-without}
@@ -307,41 +307,50 @@ none_answer [] (Some g) e = absurd cc
 none_answer (f ∷ fs) None e = absurd cc
 none_answer (f ∷ fs) (Some g) e = (λ h. absurd (true≢false h), λ h. absurd cc)
 
--- a copy, fact by fact
+-- of a set's facts, those that are not left to look at are in another set
+pub record AreHad (facts other left : List Fact) : Type 0 where
+  pub there : (g : Fact) → IsTrue (has left g) → IsTrue (has facts g)
+  pub so_far : (g : Fact) → IsTrue (has facts g) → IsTrue (has other g || has left g)
 
-ascending_take : (fs : List Fact) (n : ℕ) → IsAscending fs → IsAscending (take n fs)
-ascending_take [] zero up = refl
-ascending_take [] (suc n) up = refl
-ascending_take (f ∷ fs) zero up = refl
-ascending_take (f ∷ fs) (suc n) up =
-    let parts = and_parts (begins_after f fs) (are_ascending fs) up in
-    and_from (begins_after f (take n fs)) (are_ascending (take n fs)) (begins fs n parts.0) (ascending_take fs n parts.1)
-  where
-    begins : (gs : List Fact) (m : ℕ) → IsTrue (begins_after f gs) → IsTrue (begins_after f (take m gs))
-    begins [] zero h = refl
-    begins [] (suc m) h = refl
-    begins (g ∷ gs) zero h = refl
-    begins (g ∷ gs) (suc m) h = h
+pub none_had : (facts other left : List Fact) → left ≡ facts → AreHad facts other left
+none_had facts other left is = record {
+  there = λ g h. subst (λ fs. IsTrue (has fs g)) is h;
+  so_far = λ g h. or_right (has other g) (has left g) (subst (λ fs. IsTrue (has fs g)) (sym is) h);
+}
 
-pub begins_copied : (fs : List Fact) (next : Option Fact) (copy : List Fact) → place fs next ≡ 0 → copy ≡ [] → copy ≡ take (place fs next) fs
-begins_copied fs next copy at e = e ∙ ap (λ n. take n fs) (sym at)
-
-at_end : (fs : List Fact) (f : Fact) (n : ℕ) → IsAscending fs → take (n + 1) fs ≡ take n fs ++ f ∷ [] → IsAscending (take (n + 1) fs) → with_fact (take n fs) f ≡ take n fs ++ f ∷ []
-at_end fs f n up e taken = one_list (with_fact (take n fs) f) (take n fs ++ f ∷ []) (ascending_with (take n fs) f (ascending_take fs n up)) (subst IsAscending e taken) (λ g. has-with_fact (take n fs) f g ∙ sym (has_more (take n fs) f g))
-
-pub put_next : (fs : List Fact) (f : Fact) (next : Option Fact) (copy after_it : List Fact) → IsAscending fs → IsStep fs f next → copy ≡ take (place fs (Some f)) fs → after_it ≡ with_fact copy f → after_it ≡ take (place fs next) fs
-put_next fs f next copy after_it up step so_far put =
-    let n = place fs (Some f) in
-    let e = ap (λ m. take m fs) (sym step.moved) ∙ step.taken in
-    put ∙ (ap (λ xs. with_fact xs f) so_far ∙ (at_end fs f n up e (ascending_take fs (n + 1) up) ∙ sym step.taken))
-
--- all facts of a set, one by one
-pub had_more : (fs other : List Fact) (f : Fact) (next : Option Fact) → IsStep fs f next → ((g : Fact) → IsTrue (has (take (place fs (Some f)) fs) g) → IsTrue (has other g)) → IsTrue (has other f) → (g : Fact) → IsTrue (has (take (place fs next) fs) g) → IsTrue (has other g)
-had_more fs other f next step so_far there g h =
-    elim (or_cases (is_same g f) (has (take (place fs (Some f)) fs) g) (sym (has_more (take (place fs (Some f)) fs) f g) ∙ (ap (λ xs. has xs g) (sym step.taken) ∙ h))) [
-      | inl same ↦ subst (λ x. IsTrue (has other x)) (sym (equal_from_same g f same)) there
-      | inr before ↦ so_far g before
+pub one_had : (facts other left rest : List Fact) (f : Fact) → left ≡ f ∷ rest
+    → IsTrue (has other f) → AreHad facts other left → AreHad facts other rest
+one_had facts other left rest f is had at = record {
+  there = λ g h. at.there g (subst (λ fs. IsTrue (has fs g)) (sym is)
+      (or_right (is_same g f) (has rest g) h));
+  so_far = λ g h. elim (or_cases (has other g) (has left g) (at.so_far g h)) [
+    | inl there ↦ or_left (has other g) (has rest g) there
+    | inr more ↦ elim (or_cases (is_same g f) (has rest g) (subst (λ fs. IsTrue (has fs g)) is more)) [
+      | inl same ↦ or_left (has other g) (has rest g)
+          (subst (λ x. IsTrue (has other x)) (sym (equal_from_same g f same)) had)
+      | inr later ↦ or_right (has other g) (has rest g) later
     ]
+  ];
+}
+
+pub not_had : (facts other left rest : List Fact) (f : Fact) → left ≡ f ∷ rest
+    → has other f ≡ false → AreHad facts other left
+    → IsTrue false ↔ ((g : Fact) → IsTrue (has facts g) → IsTrue (has other g))
+not_had facts other left rest f is lacks at = (
+  λ h. absurd (false≢true h),
+  λ all. absurd (false≢true (sym lacks ∙ all f (at.there f (subst (λ fs. IsTrue (has fs f)) (sym is)
+      (or_left (is_same f f) (has rest f) (same_itself f)))))),
+)
+
+pub all_had : (facts other left : List Fact) → left ≡ [] → AreHad facts other left
+    → IsTrue true ↔ ((g : Fact) → IsTrue (has facts g) → IsTrue (has other g))
+all_had facts other left none at = (
+  λ yes g h. elim (or_cases (has other g) (has left g) (at.so_far g h)) [
+    | inl there ↦ there
+    | inr more ↦ absurd (false≢true (subst (λ fs. IsTrue (has fs g)) none more))
+  ],
+  λ all. refl,
+)
 
 pub same_lists : (fs gs : List Fact) → IsAscending fs → IsAscending gs → ((g : Fact) → IsTrue (has fs g) → IsTrue (has gs g)) → ((g : Fact) → IsTrue (has gs g) → IsTrue (has fs g)) → fs ≡ gs
 same_lists fs gs a b to from = one_list fs gs a b (λ g. equal (has fs g) (has gs g) (to g) (from g))
@@ -350,18 +359,6 @@ same_lists fs gs a b to from = one_list fs gs a b (λ g. equal (has fs g) (has g
     equal true q f g = sym (f refl)
     equal false true f g = g refl
     equal false false f g = refl
-
-pub had_first : (fs other : List Fact) (next : Option Fact) → place fs next ≡ 0 → (g : Fact) → IsTrue (has (take (place fs next) fs) g) → IsTrue (has other g)
-had_first fs other next e g h = absurd (false≢true (ap (λ n. has (take n fs) g) (sym e) ∙ h))
-
-pub had_some : (fs other : List Fact) (next : Option Fact) (f : Fact) → next ≡ Some f → ((g : Fact) → IsTrue (has (take (place fs next) fs) g) → IsTrue (has other g)) → (g : Fact) → IsTrue (has (take (place fs (Some f)) fs) g) → IsTrue (has other g)
-had_some fs other next f e so_far g h = so_far g (ap (λ o. has (take (place fs o) fs) g) e ∙ h)
-
-pub had_all : (fs other : List Fact) (next : Option Fact) → next ≡ None → ((g : Fact) → IsTrue (has (take (place fs next) fs) g) → IsTrue (has other g)) → (g : Fact) → IsTrue (has fs g) → IsTrue (has other g)
-had_all fs other next e so_far g h = so_far g (ap (λ o. has (take (place fs o) fs) g) e ∙ (ap (λ xs. has xs g) (walk_ends fs) ∙ h))
-
-pub not_had : (fs other : List Fact) (f : Fact) → IsTrue (has fs f) → has other f ≡ false → IsTrue false ↔ ((g : Fact) → IsTrue (has fs g) → IsTrue (has other g))
-not_had fs other f there lacks = (λ h. absurd (false≢true h), λ all. absurd (false≢true (sym lacks ∙ all f there)))
 
 -- what is joined
 

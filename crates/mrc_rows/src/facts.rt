@@ -176,24 +176,12 @@ impl Facts {
         earlier(self.rows.after(&fact), listed_after(&self.others, fact))
     }
 
-    /// Inserts the fact into the copy, and returns the next one.
-    fn copy_one(&self, copy: &mut Facts, fact: &Fact) -> Result<Option<Fact>, AllocError>
-        ensures put { OnOk result (copy.new ≡ with_fact copy.old fact.now) }
-        ensures next { IfOk result (λ next. next ≡ after self.now fact.now) }
-    {
-        let _new = copy.insert(*fact)?;
-        Ok(self.after(*fact))
-    }
-
     /// An equal set.
     pub fn copy(&self) -> Result<Facts, AllocError>
         ensures { IfOk result (λ copy. copy ≡ self.now) }
     {
         let mut copy = Facts::new(self.alloc);
-        let mut next = self.first();
-        while let Some(fact) = next {
-            next = self.copy_one(&mut copy, &fact)?;
-        }
+        copy.join_all(self)?;
         Ok(copy)
     }
 
@@ -251,12 +239,10 @@ impl Facts {
             ((g : Fact) → IsTrue (has other.now g) → IsTrue (has self.now g)) }
         ensures kept { IsAscending other.now }
     {
-        let mut next = other.first();
-        while let Some(fact) = next {
+        for fact in other.iter() {
             if !self.has(&fact) {
                 return false;
             }
-            next = other.after(fact);
         }
         true
     }

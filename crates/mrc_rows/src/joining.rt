@@ -14,7 +14,6 @@ use crate::limits::{CLASSES, FIRST_ROW_OF_BACKUPS, FIRST_ROW_OF_CARRIES, ROWS};
 use crate::row_facts::{number, right_of};
 use mrc_base::PortRight;
 use mrc_base::limits::TASKS;
-use mrc_bits::has_fresh;
 use std::alloc::AllocError;
 
 /// A row of facts: classes, each at the place of its number.
