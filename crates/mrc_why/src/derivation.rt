@@ -7,8 +7,8 @@ ghost use Rattle.mrc_wiring.specs.Table.{wiring_of};
 ghost use Rattle.mrc_closure.specs.Chains.{AreSteps, IsChain};
 
 use crate::checked::{Proposal, concludes, steps_by};
-use crate::proposing::{Known, count_steps};
-use crate::ranks::{Ranked, rank_of, ranks_of};
+use crate::proposing::{Known, counted_ranks};
+use crate::ranks::Ranks;
 use mrc_base::Fact;
 use mrc_classes::{Facts, FewFacts, Rules};
 use mrc_closure::{Rounds, Step, explain, rounds_of};
@@ -17,15 +17,22 @@ use std::alloc::{AllocError, Global};
 use std::collections::BTreeMap;
 use std::marker::Model;
 
-/// Derivations of the facts of a wiring's least closed set. What is found at first is kept, so
-/// that each chain takes only what it needs.
+/// What the search for chains has found: how many steps facts take, once they are counted, and the
+/// premises that are proposed for the facts of chains so far.
+#[derive(Drop)]
+struct Search {
+    ranks: Option<Ranks>,
+    chosen: BTreeMap<Fact, FewFacts>,
+}
+
+/// Derivations of the facts of a wiring's least closed set. The first chain counts how many steps
+/// facts take. The counts are kept, so that each other chain takes only what it needs.
 #[derive(Drop)]
 pub struct Derivations<'a> {
     wired: &'a Wired,
     rules: Rules,
     rounds: Rounds,
-    ranked: Vec<Ranked>,
-    chosen: BTreeMap<Fact, FewFacts>,
+    search: Search,
 }
 
 impl<'a> Model for Derivations<'a> {
@@ -46,7 +53,7 @@ impl<'a> Model for Derivations<'a> {
 
 /// The premises that are proposed for the fact.
 fn proposed(known: &Known<'_>, fact: &Fact) -> FewFacts {
-    let Some(rank) = rank_of(known.ranked, fact) else {
+    let Some(rank) = known.ranks.get(fact) else {
         return FewFacts::Empty;
     };
     match known.choice(rank.round, fact) {
@@ -105,7 +112,7 @@ impl Needs {
         if self.seen.insert(*fact, ())?.is_some() {
             return Ok(());
         }
-        if let Some(rank) = rank_of(known.ranked, fact) {
+        if let Some(rank) = known.ranks.get(fact) {
             self.list.push((rank.round, *fact))?;
         }
         push_all(&mut self.open, chosen(known, kept, fact)?)
@@ -126,7 +133,7 @@ fn needed(
         list: Vec::new(alloc),
     };
     needs.open.push(goal)?;
-    for _ in 0..known.ranked.len().saturating_mul(2).saturating_add(1) {
+    for _ in 0..known.facts.len().saturating_mul(2).saturating_add(1) {
         let Some(fact) = needs.open.pop() else {
             break;
         };
@@ -155,6 +162,38 @@ fn proposals_for(
     Ok(proposals)
 }
 
+impl Search {
+    /// Nothing is found yet.
+    fn new(alloc: Global) -> Search {
+        Search {
+            ranks: None,
+            chosen: BTreeMap::new(alloc),
+        }
+    }
+
+    /// The proposals for a chain for the goal. Steps are counted first, if they are not yet.
+    fn proposals(
+        &mut self,
+        alloc: Global,
+        rules: &Rules,
+        rounds: &Rounds,
+        goal: Fact,
+    ) -> Result<Vec<Proposal>, AllocError> {
+        if self.ranks.is_none() {
+            self.ranks = Some(counted_ranks(alloc, rules, rounds)?);
+        }
+        let Some(ranks) = &self.ranks else {
+            return Ok(Vec::new(alloc));
+        };
+        let known = Known {
+            rules,
+            facts: rounds.facts(),
+            ranks,
+        };
+        proposals_for(alloc, &known, &mut self.chosen, goal)
+    }
+}
+
 /// The steps of a derivation of the fact, as `explain` finds it.
 fn explained(alloc: Global, wired: &Wired, fact: Fact) -> Result<Option<Vec<Step>>, AllocError>
     ensures some { IfOk result (λ answer. IfSome answer (λ steps.
@@ -175,14 +214,11 @@ impl<'a> Derivations<'a> {
     {
         let rules = Rules::new(alloc, wired)?;
         let rounds = rounds_of(alloc, wired)?;
-        let mut ranked = ranks_of(alloc, &rounds)?;
-        count_steps(&rules, rounds.facts(), rounds.order(), &mut ranked);
         Ok(Derivations {
             wired,
             rules,
             rounds,
-            ranked,
-            chosen: BTreeMap::new(alloc),
+            search: Search::new(alloc),
         })
     }
 
@@ -207,12 +243,9 @@ impl<'a> Derivations<'a> {
         ensures steps { IfOk result (λ steps.
             AreSteps (wiring_of self.old.table) steps.items) }
     {
-        let known = Known {
-            rules: &self.rules,
-            facts: self.rounds.facts(),
-            ranked: self.ranked.as_slice(),
-        };
-        let proposals = proposals_for(alloc, &known, &mut self.chosen, *fact)?;
+        let proposals = self
+            .search
+            .proposals(alloc, &self.rules, &self.rounds, *fact)?;
         steps_by(alloc, &self.rules, &proposals)
     }
 

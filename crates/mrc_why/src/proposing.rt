@@ -9,9 +9,11 @@
 //! How many steps a fact takes is counted for the facts of the first rounds, as many as a bound
 //! allows: one more than its premises take together.
 
-use crate::ranks::{Ranked, put_steps, rank_of};
+use crate::ranks::{Ranks, ranks_of};
 use mrc_base::Fact;
 use mrc_classes::{Candidates, Facts, FewFacts, Goal, Premise, RULES, RuleName, Rules};
+use mrc_closure::Rounds;
+use std::alloc::{AllocError, Global};
 
 /// How many pairs of premises are looked at to count steps, at most.
 const LOOKS: usize = 2_000_000;
@@ -31,7 +33,7 @@ pub(crate) struct Choice {
 pub(crate) struct Known<'a> {
     pub(crate) rules: &'a Rules,
     pub(crate) facts: &'a Facts,
-    pub(crate) ranked: &'a [Ranked],
+    pub(crate) ranks: &'a Ranks,
 }
 
 /// The shorter one, and of two that are as short the first.
@@ -47,19 +49,25 @@ fn shorter(one: Option<Choice>, other: Option<Choice>) -> Option<Choice> {
     }
 }
 
+/// Whether no premises of a fact that this round finds take fewer steps: a fact takes at least as
+/// many steps as the number of its round, and so its premises take at least one less.
+fn is_least(best: &Option<Choice>, round: u32) -> bool {
+    match best {
+        Some(choice) => choice.steps < u64::from(round),
+        None => false,
+    }
+}
+
 impl<'a> Known<'a> {
     /// How many steps the fact takes, if a round before this one finds it.
     fn steps_of(&self, before: u32, fact: &Fact) -> Option<u64> {
-        if !self.facts.has(fact) {
-            return None;
-        }
-        let known = rank_of(self.ranked, fact)?;
-        if known.round >= before {
+        let rank = self.ranks.get(fact)?;
+        if rank.round >= before {
             None
-        } else if known.steps == 0 {
-            Some(UNKNOWN.saturating_add(u64::from(known.round)))
+        } else if rank.steps == 0 {
+            Some(UNKNOWN.saturating_add(u64::from(rank.round)))
         } else {
-            Some(u64::from(known.steps))
+            Some(u64::from(rank.steps))
         }
     }
 
@@ -71,25 +79,27 @@ impl<'a> Known<'a> {
         })
     }
 
-    /// Two premises, which may be one fact.
-    fn two(&self, before: u32, one: &Fact, other: &Fact) -> Option<Choice> {
-        let mut steps = self.steps_of(before, one)?;
-        if *one != *other {
-            steps = steps.saturating_add(self.steps_of(before, other)?);
-        }
+    /// Two premises, which may be one fact. The first one takes so many steps.
+    fn two(&self, before: u32, first: &Fact, steps: u64, last: &Fact) -> Option<Choice> {
+        let more = if *first == *last {
+            0
+        } else {
+            self.steps_of(before, last)?
+        };
         Some(Choice {
-            premises: FewFacts::Two(*one, *other),
-            steps,
+            premises: FewFacts::Two(*first, *last),
+            steps: steps.saturating_add(more),
         })
     }
 
     /// A first premise, and a last one of these facts.
     fn with_last(&self, before: u32, first: &Fact, last: &Premise) -> Option<Choice> {
+        let steps = self.steps_of(before, first)?;
         match last {
-            Premise::Only(fact) => self.two(before, first, fact),
+            Premise::Only(fact) => self.two(before, first, steps, fact),
             Premise::Either(one, other) => shorter(
-                self.two(before, first, one),
-                self.two(before, first, other),
+                self.two(before, first, steps, one),
+                self.two(before, first, steps, other),
             ),
         }
     }
@@ -119,6 +129,9 @@ impl<'a> Known<'a> {
         for source in first..end {
             if goal.leads(source, self.facts) {
                 best = shorter(best, self.shortest(round, &goal.candidates(source)));
+                if is_least(&best, round) {
+                    break;
+                }
             }
         }
         best
@@ -129,6 +142,9 @@ impl<'a> Known<'a> {
         let mut best = None;
         for rule in RULES {
             best = shorter(best, self.by_rule(round, rule, fact));
+            if is_least(&best, round) {
+                break;
+            }
         }
         best
     }
@@ -136,7 +152,7 @@ impl<'a> Known<'a> {
 
 /// How many steps the fact takes, one more than its premises; 0 if no premises are found.
 fn counted(known: &Known<'_>, fact: &Fact) -> u32 {
-    let Some(rank) = rank_of(known.ranked, fact) else {
+    let Some(rank) = known.ranks.get(fact) else {
         return 0;
     };
     match known.choice(rank.round, fact) {
@@ -145,16 +161,23 @@ fn counted(known: &Known<'_>, fact: &Fact) -> u32 {
     }
 }
 
-/// Counts the steps of the first facts of the order, as many as the bound allows.
-pub(crate) fn count_steps(rules: &Rules, facts: &Facts, order: &[Fact], ranked: &mut [Ranked]) {
+/// The rounds that find the facts, and how many steps the first of them take, as many as the bound
+/// allows.
+pub(crate) fn counted_ranks(
+    alloc: Global,
+    rules: &Rules,
+    rounds: &Rounds,
+) -> Result<Ranks, AllocError> {
+    let mut ranks = ranks_of(alloc, rounds)?;
     let most = LOOKS / (usize::from(rules.classes()) + 1);
-    for fact in order.iter().take(most) {
+    for fact in rounds.order().iter().take(most) {
         let known = Known {
             rules,
-            facts,
-            ranked: &*ranked,
+            facts: rounds.facts(),
+            ranks: &ranks,
         };
         let steps = counted(&known, fact);
-        put_steps(ranked, fact, steps);
+        ranks.put_steps(fact, steps);
     }
+    Ok(ranks)
 }
