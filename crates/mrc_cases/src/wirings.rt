@@ -1,7 +1,10 @@
 //! What the lines of wirings say.
 
 use anyhow::Result;
-use mrc_wiring_text::{ClassName, HeldRight, Item, Items, Kind, Name, WiringSays, read_wiring};
+use mrc_wiring_text::{
+    ClassName, HeldRight, Item, Items, Kind, Name, TrustVerb, TrustedRight, WiringSays, read_wiring,
+};
+use mrc_words::right_word;
 use std::alloc::{AllocError, Global};
 use std::fmt::Write;
 
@@ -90,6 +93,29 @@ fn put_admit(
     out.push(';')
 }
 
+fn put_trust(
+    out: &mut String,
+    task: &Name,
+    verb: TrustVerb,
+    right: &Option<TrustedRight>,
+) -> Result<(), AllocError> {
+    let verb = match verb {
+        TrustVerb::Takes => "takes",
+        TrustVerb::Gives => "gives",
+        TrustVerb::Sends => "sends",
+        TrustVerb::Replies => "replies",
+    };
+    write!(out, "trust {} {verb} ", task.as_str())?;
+    match right {
+        Some(on) => {
+            write!(out, "{} ", right_word(on.right))?;
+            put_class(out, &on.class)?;
+        }
+        None => out.push_str("none")?,
+    }
+    out.push(';')
+}
+
 fn put_says(out: &mut String, says: &WiringSays) -> Result<(), AllocError> {
     match says {
         WiringSays::Task(task) => write!(out, "task {};", task.as_str()),
@@ -116,6 +142,8 @@ fn put_says(out: &mut String, says: &WiringSays) -> Result<(), AllocError> {
             type_name,
             class,
         } => { put_admit(out, subsystem, type_name, class) }
+        WiringSays::Trust { task, verb, right } => put_trust(out, task, *verb, right),
+        WiringSays::RepliesFit => out.push_str("replies fit;"),
     }
 }
 

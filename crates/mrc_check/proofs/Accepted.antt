@@ -1,6 +1,6 @@
 -- From what the code found to the verdict: forbidden lines, and that the verdict is one.
 use Rattle.std.proofs.Common.{◌≡◌, ℕ, true, false, List, [], ◌∷◌, map, Some, None, refl}
-use Rattle.std.proofs.Common.{subst, arith, IsTrue, inl, inr, if◌then◌else◌}
+use Rattle.std.proofs.Common.{subst, sym, arith, IsTrue, inl, inr, if◌then◌else◌}
 use Rattle.std.specs.Prelude.{find}
 use Rattle.std.specs.Option.{option_map}
 use Rattle.mrc_base.specs.declared.memory.OrMemory.{OrMemory}
@@ -17,6 +17,7 @@ use Rattle.mrc_classes.specs.declared.rule_names.RuleName.TheVariants.{Request, 
 use Rattle.mrc_certificate.specs.Drafts.{Content}
 use Rattle.mrc_model.specs.IsIn.{IsIn, here, later}
 use Rattle.mrc_model.proofs.FirstHeld.{in_cons}
+use Rattle.mrc_model.proofs.Members.{in_right}
 use Rattle.mrc_model.specs.Breach.{Forbid}
 use Rattle.mrc_model.specs.Rules.{Has, Closed, ForbidsNone}
 use Rattle.mrc_wiring.specs.declared.claim.ForbiddenLine.{ForbiddenLine}
@@ -24,9 +25,10 @@ use Rattle.mrc_wiring.specs.Table.{wiring_of}
 use Rattle.mrc_wiring.specs.Claims.{Claimed, holding_of}
 use Rattle.mrc_check.specs.declared.verdict.Why.{Why}
 use Rattle.mrc_check.specs.declared.verdict.Why.TheVariants.{Counts, MissingFirst, NotClosed}
-use Rattle.mrc_check.specs.declared.verdict.Why.TheVariants.{Forbidden}
+use Rattle.mrc_check.specs.declared.verdict.Why.TheVariants.{Trusted, Forbidden}
+use Rattle.mrc_check.specs.Trusted.{AreSecure}
 use Rattle.mrc_check.specs.Verdict.{HasCounts, IsAccepted, is_broken, line_number, first_broken}
-use Rattle.mrc_check.specs.Verdict.{IsWhy, reason}
+use Rattle.mrc_check.specs.Verdict.{IsObjection, IsWhy, reason}
 
 -- where no line is broken, nothing is forbidden
 pub none_forbidden : (facts : List Fact) (lines : List ForbiddenLine)
@@ -76,11 +78,19 @@ no_reason claim draft (NotClosed rule f) is why =
     let x = m.follows in
     let there = is.yes.closed _ x.premises f x.rule x.known x.in_range in
     cc
+no_reason claim draft (Trusted n f) is why =
+    let exposed = why.2 in
+    let line_in : IsIn exposed.line claim.table.trusts =
+    subst (IsIn exposed.line) (sym exposed.lines)
+    (in_right exposed.line exposed.before (exposed.line ∷ exposed.behind) here) in
+    let none = is.secure exposed.line line_in exposed.task exposed.first.there in
+    let some = exposed.first.may in
+    cc
 no_reason claim draft (Forbidden n) is why =
-    let b = broken_line draft.facts claim.lines n why.2 in
+    let b = broken_line draft.facts claim.lines n why.2.1 in
     is.yes.allowed b.0 b.1 b.2
 
--- but want of memory
+-- but that memory runs out
 pub only_memory : (claim : Claimed) (draft : Content) (why : OrMemory Why)
     → IsAccepted claim draft
     → UnlessMemory (IsWhy claim draft) why
@@ -88,16 +98,29 @@ pub only_memory : (claim : Claimed) (draft : Content) (why : OrMemory Why)
 only_memory claim draft (Fault reason) is why = absurd (no_reason claim draft reason is why)
 only_memory claim draft Memory is why = refl
 
--- no lack and no broken line: the draft is accepted
+-- no lack, no trusted task that another may rewrite, no broken line: the draft is accepted
 pub accepted : (claim : Claimed) (draft : Content)
     → HasCounts claim draft
     → Closed (wiring_of claim.table) (Has (has draft.facts))
+    → AreSecure (wiring_of claim.table) (has draft.facts) claim.table.trusts
     → first_broken draft.facts claim.lines ≡ None
     → IsAccepted claim draft
-accepted claim draft counts closed none = record {
+accepted claim draft counts closed secure none = record {
   counts = counts;
+  secure = secure;
   yes = record { closed = closed; allowed = none_forbidden draft.facts claim.lines none };
 }
+
+-- what closed facts give as a reason is one
+pub objection_is_why : (claim : Claimed) (draft : Content)
+    → HasCounts claim draft
+    → Closed (wiring_of claim.table) (Has (has draft.facts))
+    → (why : Why) → IsObjection claim draft.facts why → IsWhy claim draft why
+objection_is_why claim draft counts closed Counts is = absurd is
+objection_is_why claim draft counts closed (MissingFirst f) is = absurd is
+objection_is_why claim draft counts closed (NotClosed rule f) is = absurd is
+objection_is_why claim draft counts closed (Trusted n f) is = (counts, closed, is)
+objection_is_why claim draft counts closed (Forbidden n) is = (counts, closed, is)
 
 -- the reason that is told for a missing fact is a reason
 pub missing_is_why : (claim : Claimed) (draft : Content)

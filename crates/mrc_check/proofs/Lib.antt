@@ -1,2 +1,4 @@
 pub mod Accepted
+pub mod Exposed
 pub mod TextLaws
+mod Worked

@@ -1,6 +1,6 @@
 -- From what each step answered to what the texts say.
 use Rattle.std.proofs.Common.{◌≡◌, ℕ, List, Result, Ok, Err, refl, ap, sym, subst, ◌∙◌}
-use Rattle.std.specs.Prelude.{codes, IfOk, IfErr}
+use Rattle.std.specs.Prelude.{IfOk, IfErr}
 use Rattle.mrc_base.specs.declared.memory.OrMemory.{OrMemory}
 use Rattle.mrc_base.specs.declared.memory.OrMemory.TheVariants.{Fault, Memory}
 use Rattle.mrc_base.specs.Reading.{◌>>=◌}
@@ -69,10 +69,10 @@ yes_from defs wiring policy certificate case bytes e accepted =
       interfaces = i.0;
       are_interfaces = read_interfaces_are defs i.0 (step_ok InDefs (interfaces_of defs) i.0 i.1);
       wiring_lines = w.0;
-      is_wiring = text_found (codes "wiring") wiring_says wiring w.0 is_wiring;
+      is_wiring = text_found _ wiring_says wiring w.0 is_wiring;
       is_table = step_ok wiring_fault.Lines (resolved i.0 w.0) t.0 w.2;
       policy_lines = p.0;
-      is_policy = text_found (codes "policy") policy_says policy p.0 is_policy;
+      is_policy = text_found _ policy_says policy p.0 is_policy;
       is_claim = step_ok policy_fault.Lines (forbidden_lines t.0 p.0) l.0 l.1;
       spells = draft_takes certificate d.0 bytes is_draft;
       accepted = of_made;
@@ -85,7 +85,7 @@ pub said_from : (defs : List (List ℕ)) (wiring policy certificate : List ℕ) 
     → case_of defs wiring policy certificate ≡ Ok case
 said_from defs wiring policy certificate case says =
     let table = case.claim.table in
-    let read_wiring = text_read (codes "wiring") wiring_says wiring says.wiring_lines says.is_wiring
+    let read_wiring = text_read _ wiring_says wiring says.wiring_lines says.is_wiring
     in
     let read_defs : interfaces_of defs ≡ Ok says.interfaces =
     interfaces_read defs says.interfaces says.are_interfaces
@@ -98,7 +98,7 @@ said_from defs wiring policy certificate case says =
     goes_on InDefs says.interfaces (interfaces_of defs) _ read_defs
     ∙ ap (step InWiring) over
     in
-    let read_policy = text_read (codes "policy") policy_says policy says.policy_lines says.is_policy
+    let read_policy = text_read _ policy_says policy says.policy_lines says.is_policy
     in
     let claim_is : claim_of table policy ≡ Ok case.claim =
     goes_on policy_fault.Text says.policy_lines (policy_of policy) _ read_policy

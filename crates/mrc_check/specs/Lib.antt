@@ -1,2 +1,3 @@
+pub mod Trusted
 pub mod Verdict
 pub mod Texts

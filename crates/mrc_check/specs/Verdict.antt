@@ -1,5 +1,5 @@
--- When a certificate is accepted for a claim, and else why not: the first reason. This profile's
--- own choice.
+-- When a certificate is accepted for a claim, and if not, the first reason why. This profile's own
+-- choice.
 use Rattle.std.specs.Prelude.{◌≡◌, ℕ, ◌<◌, ◌≤◌, Bool, List, length, Option, Some, find}
 use Rattle.std.specs.Option.{option_map}
 use Rattle.mrc_base.specs.declared.Fact.TheVariants.{Hold}
@@ -16,7 +16,8 @@ use Rattle.mrc_wiring.specs.Table.{wiring_of}
 use Rattle.mrc_wiring.specs.Claims.{Claimed, policy_of}
 use Rattle.mrc_check.specs.declared.verdict.Why.{Why}
 use Rattle.mrc_check.specs.declared.verdict.Why.TheVariants.{Counts, MissingFirst, NotClosed}
-use Rattle.mrc_check.specs.declared.verdict.Why.TheVariants.{Forbidden}
+use Rattle.mrc_check.specs.declared.verdict.Why.TheVariants.{Trusted, Forbidden}
+use Rattle.mrc_check.specs.Trusted.{AreSecure, IsExposed}
 
 -- the draft has the numbers of the claim's wiring
 pub record HasCounts (claim : Claimed) (draft : Content) : Type 0 where
@@ -24,10 +25,11 @@ pub record HasCounts (claim : Claimed) (draft : Content) : Type 0 where
   pub class_count : draft.classes ≡ classes (wiring_of claim.table)
   pub births : draft.births ≡ length claim.table.births
 
--- the draft has the wiring's numbers, its facts are closed under the ten rules, and none of them is
--- forbidden
+-- the draft has the wiring's numbers, its facts are closed under the ten rules and expose no
+-- trusted task, and none of them is forbidden
 pub record IsAccepted (claim : Claimed) (draft : Content) : Type 0 where
   pub counts : HasCounts claim draft
+  pub secure : AreSecure (wiring_of claim.table) (has draft.facts) claim.table.trusts
   pub yes : SaysYes (wiring_of claim.table) (policy_of claim) (has draft.facts)
 
 -- a claim, and what a certificate says to it
@@ -53,6 +55,15 @@ reason First f = MissingFirst f
 reason Births f = MissingFirst f
 reason rule f = NotClosed rule f
 
+-- the reason is the first that closed facts give: a trusted task that another may rewrite, then a
+-- broken line of the policy
+abbrev pub IsObjection : Claimed → List Fact → Why → Type 0
+IsObjection claim facts (Trusted n f) = IsExposed claim.table (has facts) n f
+IsObjection claim facts (Forbidden n) =
+    AreSecure (wiring_of claim.table) (has facts) claim.table.trusts
+    × (first_broken facts claim.lines ≡ Some n)
+IsObjection claim facts why = ⊥
+
 -- the reason is the first, in the order in which the reasons are declared
 abbrev pub IsWhy : Claimed → Content → Why → Type 0
 IsWhy claim draft Counts = HasCounts claim draft → ⊥
@@ -62,6 +73,9 @@ IsWhy claim draft (MissingFirst f) =
 IsWhy claim draft (NotClosed rule f) =
     HasCounts claim draft × (3 ≤ rule_number rule)
     × IsFirstMissing (wiring_of claim.table) (has draft.facts) (rule_number rule) f
+IsWhy claim draft (Trusted n f) =
+    HasCounts claim draft × Closed (wiring_of claim.table) (Has (has draft.facts))
+    × IsObjection claim draft.facts (Trusted n f)
 IsWhy claim draft (Forbidden n) =
     HasCounts claim draft × Closed (wiring_of claim.table) (Has (has draft.facts))
-    × (first_broken draft.facts claim.lines ≡ Some n)
+    × IsObjection claim draft.facts (Forbidden n)

@@ -14,7 +14,8 @@ use std::marker::Model;
 use std::thread::Threads;
 
 /// A claim with a certificate that was accepted for it: its facts are closed under the ten rules,
-/// and none of them is forbidden. Only [`check`] and [`Confined::copy`] make one.
+/// by none of them could a task rewrite a trusted one, and none is forbidden. Only [`check`] and
+/// [`Confined::copy`] make one.
 #[derive(Debug, Drop)]
 pub struct Confined {
     claim: Claim,
@@ -43,10 +44,11 @@ pub struct Refused<W> {
     pub why: W,
 }
 
-/// Accepts the certificate for the claim exactly where it has the wiring's numbers of tasks and
-/// classes, its facts are closed under the ten rules, and none of them is forbidden. Else the first
-/// reason is told, or that memory ran out, and both come back. What the rules conclude and the
-/// draft lacks is looked for by as many threads as there are processors.
+/// Accepts the certificate for the claim if and only if it has the wiring's numbers of tasks and
+/// classes, its facts are closed under the ten rules, by none of them could a task rewrite a
+/// trusted one, and none is forbidden. If not, it returns the first reason, or that memory ran out,
+/// with both. What the rules conclude and the draft lacks is looked for by as many threads as there
+/// are processors.
 pub fn check(
     rt: &(impl Threads + Sync),
     alloc: Global,

@@ -187,12 +187,12 @@ fn checked(
     }
 }
 
-/// Checks a certificate for a wiring and a policy over MIG files, all from their bytes. Accepted
-/// exactly where each file is a MIG file, the wiring over their interfaces and the policy have
-/// meanings, the certificate spells a draft with the wiring's counts whose facts are closed, and
-/// none of them is forbidden. Else the first step that refuses is told, in the order of the
-/// arguments, or that memory ran out; of a MIG file that the grammar refuses, that it is so, and of
-/// the tokens or ids also where and why.
+/// Checks a certificate for a wiring and a policy over MIG files, all from their bytes. It is
+/// accepted if and only if each file is a MIG file, the wiring over their interfaces and the policy
+/// have meanings, and the certificate encodes a draft that [`check`] accepts. If not, the first
+/// step that refuses is returned, in the order of the arguments, or that memory ran out. Of a MIG
+/// file that the grammar refuses the fault is only that it is so; of the tokens or ids it is also
+/// where and why.
 pub fn check_texts(
     rt: &(impl Threads + Sync),
     alloc: Global,

@@ -1,13 +1,16 @@
 //! Claims and certificates: accepted or refused.
 
-ghost use Rattle.std.specs.Prelude.{◌≡◌, ◌↔◌, IsTrue, IfOk, OnOk, IfErr};
+ghost use Rattle.std.specs.Prelude.{◌≡◌, ◌↔◌, IsTrue, None, IfOk, OnOk, IfErr, IfSome, IfNone};
 ghost use Rattle.mrc_base.specs.Reading.{UnlessMemory};
 ghost use Rattle.mrc_certificate.specs.Spelling.{content};
 ghost use Rattle.mrc_facts.specs.Sets.{has};
 ghost use Rattle.mrc_classes.specs.Missing.{IsAnswer};
 ghost use Rattle.mrc_wiring.specs.Table.{wiring_of};
-ghost use Rattle.mrc_check.specs.Verdict.{HasCounts, IsAccepted, IsWhy, first_broken, reason};
+ghost use Rattle.mrc_check.specs.Trusted.{AreSecure};
+ghost use Rattle.mrc_check.specs.Verdict.{HasCounts, IsAccepted, IsObjection, IsWhy};
+ghost use Rattle.mrc_check.specs.Verdict.{first_broken, reason};
 
+use crate::trusted::first_exposed;
 use mrc_base::{Fact, OrMemory};
 use mrc_certificate::Draft;
 use mrc_classes::{Facts, Missing, RuleName, violation_by};
@@ -26,6 +29,9 @@ pub enum Why {
     MissingFirst(Fact),
     /// The certificate lacks this conclusion of the rule.
     NotClosed(RuleName, Fact),
+    /// The certificate has this hold of a trusted task's kernel port, by a task that could rewrite
+    /// the trusted task. The wiring's line of this number is the first about the trusted task.
+    Trusted(u32, Fact),
     /// The certificate has what the policy's line of this number forbids.
     Forbidden(u32),
 }
@@ -87,7 +93,20 @@ fn first_missing(
     violation_by(rt, alloc, claim.wired(), &draft.facts)
 }
 
-/// Whether the draft is accepted, and else the first reason why not.
+/// The first reason why a closed draft is refused.
+fn first_objection(claim: &Claim, facts: &Facts) -> Option<Why>
+    ensures none { IfNone result
+        (AreSecure (wiring_of claim.now.table) (has facts.now) claim.now.table.trusts
+        × (first_broken facts.now claim.now.lines ≡ None)) }
+    ensures some { IfSome result (IsObjection claim.now facts.now) }
+{
+    match first_exposed(claim.wired(), facts) {
+        Some((line, fact)) => Some(Why::Trusted(line, fact)),
+        None => Some(Why::Forbidden(first_broken(facts, claim.lines())?)),
+    }
+}
+
+/// Whether the draft is accepted, and if not, the first reason why.
 pub(crate) fn judge(
     rt: &(impl Threads + Sync),
     alloc: Global,
@@ -102,8 +121,8 @@ pub(crate) fn judge(
     }
     match first_missing(rt, alloc, claim, draft)? {
         Some(missing) => Err(OrMemory::Fault(reason(missing.rule, missing.fact))),
-        None => match first_broken(&draft.facts, claim.lines()) {
-            Some(line) => Err(OrMemory::Fault(Why::Forbidden(line))),
+        None => match first_objection(claim, &draft.facts) {
+            Some(why) => Err(OrMemory::Fault(why)),
             None => Ok(()),
         },
     }

@@ -1,6 +1,7 @@
 -- What tasks hold in the first state, and what the rules without premises conclude.
 use Rattle.std.proofs.Common.{◌≡◌, ℕ, ◌+◌, ◌<◌, Bool, List, [], ◌∷◌, ◌++◌, length, take}
-use Rattle.std.proofs.Common.{refl, ap, sym, slice_index_or, subst, ◌∙◌, arith, IsTrue, ◌↔◌, ◌⊎◌, inl, inr}
+use Rattle.std.proofs.Common.{refl, ap, sym, slice_index_or, subst, ◌∙◌, arith, IsTrue, ◌↔◌, ◌⊎◌}
+use Rattle.std.proofs.Common.{inl, inr}
 use Rattle.std.proofs.lemmas.Bool.{false≢true}
 use Rattle.std.proofs.lemmas.List.{take_more}
 use Rattle.mrc_base.specs.declared.PortRight.{PortRight}
@@ -15,7 +16,7 @@ use Rattle.mrc_model.specs.Rules.{InRange, Rule, k1, k2}
 use Rattle.mrc_model.proofs.Members.{in_left, in_right, in_append}
 use Rattle.mrc_model.proofs.FirstHeld.{in_one}
 use Rattle.mrc_wiring.specs.FirstState.{HasFirstHolds}
-use Rattle.mrc_slots.specs.Passing.{same_right}
+use Rattle.mrc_model.specs.Rights.{same_right}
 use Rattle.mrc_slots.proofs.Passing.{same_right_is}
 use Rattle.mrc_facts.specs.Sets.{has}
 use Rattle.mrc_classes.specs.Growing.{Added, Only, Below, nothing}

@@ -41,6 +41,14 @@ first_before_two h = (
   λ x. h.1 (x.1.0, (x.1.1, (x.0, x.1.2))),
 )
 
+-- and before three
+pub first_before_three : {A B C P Q R : Type 0} → R ↔ (A × (B × (C × (P × Q))))
+    → R ↔ (P × (A × B × C × Q))
+first_before_three h = (
+  λ r. let x = h.0 r in (x.1.1.1.0, (x.0, x.1.0, x.1.1.0, x.1.1.1.1)),
+  λ x. h.1 (x.1.0, (x.1.1, (x.1.2, (x.0, x.1.3)))),
+)
+
 -- two classes are one
 pub same_class : (c n : ℕ) → IsTrue (c == n) ↔ (c ≡ n)
 same_class c n = (eqb-true c n, eq-eqb c n)

@@ -42,12 +42,15 @@ counted W rule k premises f e (k1 t p held is) = ap premises_count (number_rule 
 counted W rule k premises f e (k2 kind is) = ap premises_count (number_rule Births rule e)
 counted W rule k premises f e k3_send = ap premises_count (number_rule Weaker rule e)
 counted W rule k premises f e k3_once = ap premises_count (number_rule Weaker rule e)
-counted W rule k premises f e (k4 can label slot is fits) =
+counted W rule k premises f e (k4 can label slot typed is fits may_send) =
     ap premises_count (number_rule Slot rule e)
-counted W rule k premises f e (k5 can side) = ap premises_count (number_rule Reply rule e)
+counted W rule k premises f e (k5 can side may_reply) =
+    ap premises_count (number_rule Reply rule e)
 counted W rule k premises f e k6 = ap premises_count (number_rule Received rule e)
-counted W rule k premises f e k7_up = ap premises_count (number_rule KernelPort rule e)
-counted W rule k premises f e k7_down = ap premises_count (number_rule KernelPort rule e)
+counted W rule k premises f e (k7_up may_take) =
+    ap premises_count (number_rule KernelPort rule e)
+counted W rule k premises f e (k7_down may_give) =
+    ap premises_count (number_rule KernelPort rule e)
 counted W rule k premises f e (k8 side) = ap premises_count (number_rule Request rule e)
 counted W rule k premises f e k9 = ap premises_count (number_rule Notice rule e)
 counted W rule k premises f e k10 = ap premises_count (number_rule Returned rule e)

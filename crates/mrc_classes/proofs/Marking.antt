@@ -1,12 +1,15 @@
 -- How marks grow, source by source.
-use Rattle.std.proofs.Common.{◌≡◌, ℕ, ◌+◌, ◌<◌, Bool, false, subst, sym, ◌∙◌, IsTrue, inl, inr, arith}
+use Rattle.std.proofs.Common.{◌≡◌, ℕ, ◌+◌, ◌<◌, Bool, true, false, refl, subst, sym, ◌∙◌, IsTrue}
+use Rattle.std.proofs.Common.{inl}
+use Rattle.std.proofs.Common.{inr, arith}
 use Rattle.std.specs.Prelude.{◌||◌, ◌&&◌}
-use Rattle.std.proofs.lemmas.Bool.{cases_eq, or_cases, or_left, or_right, and_parts, and_from, true≢false}
+use Rattle.std.proofs.lemmas.Bool.{cases_eq, or_cases, or_left, or_right, and_parts, and_from}
+use Rattle.std.proofs.lemmas.Bool.{true≢false}
 use Rattle.mrc_base.specs.declared.PortRight.{PortRight}
 use Rattle.mrc_base.specs.declared.PortRight.TheVariants.{Send, SendOnce}
 use Rattle.mrc_base.specs.declared.Fact.{Fact}
 use Rattle.mrc_base.specs.declared.Fact.TheVariants.{Hold}
-use Rattle.mrc_slots.specs.Passing.{same_right}
+use Rattle.mrc_model.specs.Rights.{same_right}
 use Rattle.mrc_model.specs.Wiring.{Wiring, accepts_destroyed}
 use Rattle.mrc_classes.specs.declared.rule_names.RuleName.{RuleName}
 use Rattle.mrc_classes.specs.declared.rule_names.RuleName.TheVariants.{Request}
@@ -36,6 +39,17 @@ marked_as n before after P Q p there back = record {
   all = λ c r low q. p.all c r low (back c r low q);
   new = λ c r low h. elim (p.new c r low h) [ inl was ↦ inl was | inr x ↦ inr (there c r low x) ];
 }
+
+-- marks by two tests
+pub marked_both : (n : ℕ) (before after test other : Tests)
+    → ((c : ℕ) (r : PortRight) → c < n → after c r ≡ (before c r || (test c r && other c r)))
+    → Marked n before after (λ c r. IsTrue (test c r) × IsTrue (other c r))
+marked_both n before after test other is =
+    marked_as n before after (λ c r. IsTrue (test c r && other c r))
+    (λ c r. IsTrue (test c r) × IsTrue (other c r))
+    (marked_by n before after (λ c r. test c r && other c r) is)
+    (λ c r low x. and_parts (test c r) (other c r) x)
+    (λ c r low x. and_from (test c r) (other c r) x.0 x.1)
 
 -- what comes by the first sources, this many
 pub record ByFirst (W : Wiring) (S T : Fact → Bool) (rule : RuleName) (row n c : ℕ) (r : PortRight)
@@ -126,6 +140,17 @@ module _ (W : Wiring) (S T : Fact → Bool) (rule : RuleName) (row : ℕ) where
         first = x.first;
         last = x.last;
       })
+
+-- a mask of two rows
+pub three_rows : (low more mask limits : Bool)
+    → (low && (more && (low && (mask && limits)))) ≡ (low && (limits && (more && mask)))
+three_rows false more mask limits = refl
+three_rows true false mask true = refl
+three_rows true false mask false = refl
+three_rows true true true true = refl
+three_rows true true true false = refl
+three_rows true true false true = refl
+three_rows true true false false = refl
 
 -- what a request marks
 pub asked : (n : ℕ) (before after : Tests) (W : Wiring) (T : Fact → Bool) (row t : ℕ)

@@ -1,7 +1,8 @@
 -- What the ten rules conclude is what the one coding of them concludes.
-use Rattle.std.proofs.Common.{◌≡◌, ℕ, ◌+◌, ◌<◌, Bool, true, List, [], ◌∷◌, IsTrue, inl, inr}
+use Rattle.std.proofs.Common.{◌≡◌, ℕ, ◌+◌, ◌*◌, ◌/◌, ◌%◌, ◌==◌, ◌<◌, Bool, true, false, List, []}
+use Rattle.std.proofs.Common.{◌∷◌, IsTrue, inl, inr}
 use Rattle.std.proofs.Common.{refl, sym, subst, arith, length}
-use Rattle.std.specs.Prelude.{◌||◌, ◌&&◌}
+use Rattle.std.specs.Prelude.{◌||◌, ◌&&◌, if◌then◌else◌}
 use Rattle.std.specs.List.{AllByRecursion}
 use Rattle.std.proofs.lemmas.Bool.{or_cases, or_left, or_right, and_parts, and_from}
 use Rattle.mrc_base.specs.declared.PortRight.{PortRight}
@@ -10,12 +11,13 @@ use Rattle.mrc_base.specs.declared.Disp.{Disp}
 use Rattle.mrc_base.specs.Disposition.{needed, given}
 use Rattle.mrc_base.specs.declared.Fact.{Fact}
 use Rattle.mrc_base.specs.declared.Fact.TheVariants.{Hold, Carry}
-use Rattle.mrc_model.specs.Wiring.{Wiring, classes, kernel_class}
+use Rattle.mrc_model.specs.Wiring.{Wiring, classes, kernel_class, may}
 use Rattle.mrc_model.specs.World.{task_class}
 use Rattle.mrc_model.specs.First.{first}
 use Rattle.mrc_model.specs.Rules.{Has, InRange, Follows, FactSet, CanSendBy, by_send, by_once, Rule}
 use Rattle.mrc_model.specs.Rules.{k1, k2, k3_send, k3_once, k4, k5, k6, k7_up, k7_down, k8, k9, k10}
-use Rattle.mrc_slots.specs.Passing.{same_right}
+use Rattle.mrc_model.specs.declared.Verb.TheVariants.{Takes, Gives, Sends}
+use Rattle.mrc_model.specs.Rights.{same_right}
 use Rattle.mrc_slots.proofs.Passing.{same_right_is}
 use Rattle.mrc_wiring.specs.Slots.{takes}
 use Rattle.mrc_wiring.proofs.Takers.{IsTaker, taken, taker}
@@ -26,7 +28,7 @@ use Rattle.mrc_classes.specs.declared.rule_names.RuleName.TheVariants.{First, Bi
 use Rattle.mrc_classes.specs.declared.rule_names.RuleName.TheVariants.{Reply, Received, KernelPort}
 use Rattle.mrc_classes.specs.declared.rule_names.RuleName.TheVariants.{Request, Notice, Returned}
 use Rattle.mrc_classes.specs.Concluding.{conclusion, rows, Concludes, can_send_to, is_taken_of}
-use Rattle.mrc_classes.specs.Concluding.{AreKnown, FollowsBy}
+use Rattle.mrc_classes.specs.Concluding.{kernel_port_held, may_share, AreKnown, FollowsBy}
 use Rattle.mrc_classes.specs.Missing.{rule_number}
 use Rattle.mrc_classes.proofs.Beginning.{first_hold_is}
 
@@ -93,6 +95,48 @@ taken_by W T d t c r h =
           takes_it = x.1.1.1;
           held = subst (λ y. IsTrue (T (Hold t c y))) (sym x.1.0) p.0;
         }
+
+-- sources of the rule of kernel ports: two for each task
+
+twice_below : (u n : ℕ) → u < n → 2 * u < 2 * n
+twice_below u n low = omega (arith, low)
+
+next_below_twice : (u n : ℕ) → u < n → 2 * u + 1 < 2 * n
+next_below_twice u n low = omega (arith, low)
+
+half_below : (k n : ℕ) → k < 2 * n → k / 2 < n
+half_below k n low = omega (arith, low)
+
+half_of_twice : (u : ℕ) → (2 * u) / 2 ≡ u
+half_of_twice u = omega arith
+
+half_of_next : (u : ℕ) → (2 * u + 1) / 2 ≡ u
+half_of_next u = omega arith
+
+even : (u : ℕ) → ((2 * u) % 2 == 0) ≡ true
+even u = let e : (2 * u) % 2 ≡ 0 = omega arith in rw e refl
+
+odd : (u : ℕ) → ((2 * u + 1) % 2 == 0) ≡ false
+odd u = let e : (2 * u + 1) % 2 ≡ 1 = omega arith in rw e refl
+
+-- by the first the row's task takes
+
+taken_port : (W : Wiring) (t u : ℕ) → kernel_port_held W t (2 * u) ≡ Hold t (kernel_class W u) Send
+taken_port W t u = rw (even u, half_of_twice u) refl
+
+taken_share : (W : Wiring) (t u c : ℕ) (r : PortRight)
+    → may_share W t (2 * u) c r ≡ may W Takes t r c
+taken_share W t u c r = rw (even u) refl
+
+-- by the second it is given
+
+given_port : (W : Wiring) (t u : ℕ)
+    → kernel_port_held W t (2 * u + 1) ≡ Hold u (kernel_class W t) Send
+given_port W t u = rw (odd u, half_of_next u) refl
+
+given_share : (W : Wiring) (t u c : ℕ) (r : PortRight)
+    → may_share W t (2 * u + 1) c r ≡ may W Gives u r c
+given_share W t u c r = rw (odd u, half_of_next u) refl
 
 -- the one coding of a rule concludes the fact
 pub record IsTested (W : Wiring) (S T : Fact → Bool) (k : ℕ) (f : Fact) : Type 0 where
@@ -167,12 +211,15 @@ module _ (W : Wiring) (S T : Fact → Bool) where
     is = refl;
     concluded = record { source = 0; there = omega arith; first = refl; last = (refl, all.0.1) };
   }
-  tested k premises g (k4 {t} {d} {c} {r} {f} {s} {x} can label slot is fits) all within =
+  tested k premises g (k4 {t} {d} {c} {n} {r} {f} {s} {x} can label slot typed is fits may_send)
+      all within =
       let at : IsTaker W d x c = record {
         form = f;
         slot = s;
         labelled = label;
         among = slot;
+        number = n;
+        typed = typed;
         disposition = is;
         admitted = fits;
       } in
@@ -187,11 +234,14 @@ module _ (W : Wiring) (S T : Fact → Bool) where
           source = t;
           there = all.0.0.0;
           first = can_send t d r can all.0.1;
-          last = taken_of W T d t c (needed x) (given x) all.1.0.1
-              (by_slot W d c x (taken W d x c at));
+          last = (
+            may_send,
+            taken_of W T d t c (needed x) (given x) all.1.0.1
+                (by_slot W d c x (taken W d x c at)),
+          );
         };
       }
-  tested k premises g (k5 {t} {d} {c} {r} can side) all within = record {
+  tested k premises g (k5 {t} {d} {c} {r} can side may_reply) all within = record {
     rule = Reply;
     number = refl;
     row = d;
@@ -202,7 +252,7 @@ module _ (W : Wiring) (S T : Fact → Bool) where
       source = t;
       there = all.0.0.0;
       first = can_send t d r can all.0.1;
-      last = (refl, side, all.1.0.1);
+      last = (refl, side, may_reply, all.1.0.1);
     };
   }
   tested k premises g (k6 {t} {d} {c} {r}) all within = record {
@@ -214,7 +264,7 @@ module _ (W : Wiring) (S T : Fact → Bool) where
     is = refl;
     concluded = record { source = d; there = all.0.0.1; first = all.0.1; last = all.1.0.1 };
   }
-  tested k premises g (k7_up {t} {u} {c} {r}) all within = record {
+  tested k premises g (k7_up {t} {u} {c} {r} may_take) all within = record {
     rule = KernelPort;
     number = refl;
     row = t;
@@ -222,14 +272,16 @@ module _ (W : Wiring) (S T : Fact → Bool) where
     right = r;
     is = refl;
     concluded = record {
-      source = u;
-      there = all.1.0.0.0;
-      first = or_left (S (Hold t (kernel_class W u) Send))
-          (S (Hold u (kernel_class W t) Send)) all.0.1;
-      last = all.1.0.1;
+      source = 2 * u;
+      there = twice_below u W.tasks all.1.0.0.0;
+      first = subst (λ x. IsTrue (S x)) (sym (taken_port W t u)) all.0.1;
+      last = (
+        subst IsTrue (sym (taken_share W t u c r)) may_take,
+        subst (λ n. IsTrue (T (Hold n c r))) (sym (half_of_twice u)) all.1.0.1,
+      );
     };
   }
-  tested k premises g (k7_down {t} {u} {c} {r}) all within = record {
+  tested k premises g (k7_down {t} {u} {c} {r} may_give) all within = record {
     rule = KernelPort;
     number = refl;
     row = u;
@@ -237,11 +289,13 @@ module _ (W : Wiring) (S T : Fact → Bool) where
     right = r;
     is = refl;
     concluded = record {
-      source = t;
-      there = all.1.0.0.0;
-      first = or_right (S (Hold u (kernel_class W t) Send))
-          (S (Hold t (kernel_class W u) Send)) all.0.1;
-      last = all.1.0.1;
+      source = 2 * t + 1;
+      there = next_below_twice t W.tasks all.1.0.0.0;
+      first = subst (λ x. IsTrue (S x)) (sym (given_port W u t)) all.0.1;
+      last = (
+        subst IsTrue (sym (given_share W u t c r)) may_give,
+        subst (λ n. IsTrue (T (Hold n c r))) (sym (half_of_next t)) all.1.0.1,
+      );
     };
   }
   tested k premises g (k8 {t} {c} {d} side) all within = record {
@@ -323,6 +377,18 @@ module _ (W : Wiring) (S T : Fact → Bool) where
   from_right k f r q e x =
       subst (λ y. FollowsBy W (Has S) (Has T) k (f y)) (sym (same_right_is r q e)) x
 
+  -- by the rule of kernel ports: `taking` tells whether the row's task takes
+  shared : (taking : Bool) (t u c : ℕ) (r : PortRight)
+      → t < W.tasks → u < W.tasks → c < classes W
+      → IsTrue (S (Hold (if taking then t else u) (kernel_class W (if taking then u else t)) Send))
+      → IsTrue (may W (if taking then Takes else Gives) (if taking then t else u) r c)
+      → IsTrue (T (Hold u c r))
+      → FollowsBy W (Has S) (Has T) 7 (Hold t c r)
+  shared true t u c r low there high port may_take held =
+      two (k7_up may_take) ((low, kernel_there W u there), port) ((there, high), held) (low, high)
+  shared false t u c r low there high port may_give held =
+      two (k7_down may_give) ((there, kernel_there W t low), port) ((there, high), held) (low, high)
+
   pub concluded : (rule : RuleName) (row c : ℕ) (r : PortRight)
       → row < rows W rule
       → c < classes W
@@ -346,26 +412,22 @@ module _ (W : Wiring) (S T : Fact → Bool) where
   concluded Weaker row c Receive low high x = absurd (let h = x.last.0 in cc)
   concluded Weaker row c SendOnce low high x = one k3_once ((low, high), x.last.1) (low, high)
   concluded Slot row c r low high x =
-      let y = taken_by W T row x.source c r x.last in
+      let y = taken_by W T row x.source c r x.last.1 in
       let w = taker W row y.disp c y.takes_it in
+      let may_send = subst (λ q. may W Sends x.source q c ≡ true) (sym y.gives) x.last.0 in
       subst (λ z. FollowsBy W (Has S) (Has T) 4 (Carry row c z)) y.gives
       (sent 4 x.source row c (needed y.disp) (Carry row c (given y.disp))
-      (λ q can. k4 can w.labelled w.among w.disposition w.admitted)
+      (λ q can. k4 can w.labelled w.among w.typed w.disposition w.admitted may_send)
       x.there low high x.first y.held (low, high))
   concluded Reply row c r low high x =
       from_right 5 (λ y. Carry row c y) r SendOnce x.last.0
-      (sent 5 x.source row c SendOnce (Carry row c SendOnce) (λ q can. k5 can x.last.1)
-      x.there low high x.first x.last.2 (low, high))
+      (sent 5 x.source row c SendOnce (Carry row c SendOnce) (λ q can. k5 can x.last.1 x.last.2)
+      x.there low high x.first x.last.3 (low, high))
   concluded Received row c r low high x =
       two k6 ((low, x.there), x.first) ((x.there, high), x.last) (low, high)
   concluded KernelPort row c r low high x =
-      elim (or_cases (S (Hold row (kernel_class W x.source) Send))
-      (S (Hold x.source (kernel_class W row) Send)) x.first) [
-        | inl up ↦ two k7_up ((low, kernel_there W x.source x.there), up)
-            ((x.there, high), x.last) (low, high)
-        | inr down ↦ two k7_down ((x.there, kernel_there W row low), down)
-            ((x.there, high), x.last) (low, high)
-      ]
+      let there : x.source / 2 < W.tasks = half_below x.source W.tasks x.there in
+      shared (x.source % 2 == 0) row (x.source / 2) c r low there high x.first x.last.0 x.last.1
   concluded Request row c r low high x =
       two (k8 x.last.1) ((x.there, low), x.first) ((x.there, high), x.last.2) (low, high)
   concluded Notice row c r low high x =

@@ -1,6 +1,7 @@
 -- What follows from a new fact and is not known is at one of the places, and nothing else is. S tells
 -- the facts of a set, N the new ones among them, K the known ones.
-use Rattle.std.proofs.Common.{◌≡◌, ℕ, ◌+◌, ◌<◌, ◌≤◌, Bool, true, false, List, [], ◌∷◌, IsTrue, ◌⊎◌, inl, inr}
+use Rattle.std.proofs.Common.{◌≡◌, ℕ, ◌+◌, ◌<◌, ◌≤◌, Bool, true, false, List, [], ◌∷◌, IsTrue, ◌⊎◌}
+use Rattle.std.proofs.Common.{inl, inr}
 use Rattle.std.proofs.Common.{refl, sym, subst, arith, length}
 use Rattle.std.specs.List.{AllByRecursion}
 use Rattle.mrc_base.specs.declared.Fact.{Fact}
@@ -53,15 +54,15 @@ record IsTwo (k : ℕ) : Type 0 where
 
 two_number : (W : Wiring) (k : ℕ) (p q : Fact) (more : List Fact) (g : Fact)
     → Rule W k (p ∷ q ∷ more) g → IsTwo k
-two_number W k p q more g (k4 can label slot is fits) =
+two_number W k p q more g (k4 can label slot typed is fits may_send) =
     record { low = omega arith; other = λ e. omega arith; high = omega arith }
-two_number W k p q more g (k5 can side) =
+two_number W k p q more g (k5 can side may_reply) =
     record { low = omega arith; other = λ e. omega arith; high = omega arith }
 two_number W k p q more g k6 =
     record { low = omega arith; other = λ e. omega arith; high = omega arith }
-two_number W k p q more g k7_up =
+two_number W k p q more g (k7_up may_take) =
     record { low = omega arith; other = λ e. omega arith; high = omega arith }
-two_number W k p q more g k7_down =
+two_number W k p q more g (k7_down may_give) =
     record { low = omega arith; other = λ e. omega arith; high = omega arith }
 two_number W k p q more g (k8 side) =
     record { low = omega arith; other = λ e. omega arith; high = omega arith }

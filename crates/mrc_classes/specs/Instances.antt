@@ -72,6 +72,11 @@ pub record IsSource (S T : Fact → Bool) (g : Concluded) (n : ℕ) : Type 0 whe
   pub first : IsTrue (leads g.wiring S g.rule g.row n)
   pub last : Comes g.wiring T g.rule g.row n g.class g.right
 
+-- the same of a rule, a row, a source, a class and a right
+abbrev pub ComesBy : Wiring → (Fact → Bool) → (Fact → Bool) → RuleName → ℕ → ℕ → ℕ → PortRight
+    → Type 0
+ComesBy W S T rule row n c r = IsTrue (leads W S rule row n) × Comes W T rule row n c r
+
 -- one of the facts that the premise can be is in the set
 abbrev pub has_premise : (Fact → Bool) → Premise → Bool
 has_premise S (Only f) = S f

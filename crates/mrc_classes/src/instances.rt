@@ -2,25 +2,30 @@
 //!
 //! `candidates_of` has the ten rules for a single fact, as `rules` has them for whole rows.
 
-ghost use Rattle.std.specs.Prelude.{◌≡◌, ◌<◌, ◌≤◌, ◌↔◌, ◌&&◌, ◌||◌, ℕ, Bool, IsTrue, IfSome, IfNone};
+ghost use Rattle.std.specs.Prelude.{◌≡◌, ◌<◌, ◌≤◌, ◌*◌, ◌↔◌, ◌&&◌, ◌||◌, ℕ, Bool, IsTrue, IfSome};
+ghost use Rattle.std.specs.Prelude.{IfNone};
 ghost use Rattle.mrc_base.specs.declared.PortRight.{PortRight};
 ghost use Rattle.mrc_base.specs.declared.Fact.{Fact};
 ghost use Rattle.mrc_model.specs.Wiring.{classes};
 ghost use Rattle.mrc_model.specs.Rules.{Has, Follows};
 ghost use Rattle.mrc_wiring.specs.Table.{wiring_of};
 ghost use Rattle.mrc_facts.specs.Sets.{has};
-ghost use Rattle.mrc_classes.specs.Concluding.{conclusion, rows, sources, can_send_to, are_linked};
+ghost use Rattle.mrc_classes.specs.Concluding.{conclusion, rows, sources, can_send_to};
 ghost use Rattle.mrc_classes.specs.Concluding.{is_taken_of, leads, Comes};
+ghost use Rattle.mrc_classes.specs.Instances.{ComesBy};
 ghost use Rattle.mrc_classes.specs.Missing.{rule_number};
 ghost use Rattle.mrc_classes.specs.Instances.{IsInstance, AreParts, IsWithin, IsGoal, IsSource};
 ghost use Rattle.mrc_classes.specs.Instances.{has_premise, HavePremises, premises_count, HasCount};
 ghost use Rattle.mrc_classes.specs.Instances.{fact_of, fact_in, premises_in};
 ghost use Rattle.mrc_classes.specs.declared.rule_names.RuleName.{RuleName};
 
-use crate::rights::{backup, carry, hold, is_in_range, kernel_port, same_right};
+use crate::rights::{backup, carry, hold, is_in_range, same_right};
 use crate::rule_names::{RuleName, rule_of};
-use crate::rules::{Rules, conclusion, is_birth_class, leads, sources};
+use crate::rules::{
+    Rules, caller_of, conclusion, is_birth_class, kernel_port_held, leads, sources, verb_of,
+};
 use mrc_base::{Fact, PortRight};
+use mrc_model::Verb;
 use mrc_rows::Facts;
 use std::marker::Model;
 
@@ -153,19 +158,6 @@ fn sender(task: u16, to: u16) -> Premise
     )
 }
 
-/// The send right to a kernel port that links the two tasks.
-fn link(rules: &Rules, one: u16, other: u16) -> Premise
-    requires one { one < (wiring_of rules.now).tasks }
-    requires other { other < (wiring_of rules.now).tasks }
-    ensures { (S : Fact → Bool) →
-        has_premise S result ≡ are_linked (wiring_of rules.now) S one other }
-{
-    Premise::Either(
-        hold(one, kernel_port(rules.wired(), other), PortRight::Send),
-        hold(other, kernel_port(rules.wired(), one), PortRight::Send),
-    )
-}
-
 /// `sender` as the first premise; as the last one, each of two facts that is taken.
 fn by_held(
     sender: Premise,
@@ -187,10 +179,10 @@ fn by_held(
     }
 }
 
-/// The premises of the rule of slots: class `to` takes a right of the task on the class, which comes
-/// as `give`. A send right comes of a send or a receive right, a receive right of a receive right, a
-/// send-once right of a receive or a send-once right.
-fn by_slot(rules: &Rules, to: u16, class: u16, give: PortRight, task: u16) -> Candidates
+/// Class `to` takes a right of the task on the class by a slot, which comes as `give`. A send right
+/// comes of a send or a receive right, a receive right of a receive right, a send-once right of a
+/// receive or a send-once right.
+fn by_taken(rules: &Rules, to: u16, class: u16, give: PortRight, task: u16) -> Candidates
     requires to { to < classes (wiring_of rules.now) }
     requires class { class < classes (wiring_of rules.now) }
     ensures premises { (S T : Fact → Bool) → HavePremises S T result
@@ -210,6 +202,139 @@ fn by_slot(rules: &Rules, to: u16, class: u16, give: PortRight, task: u16) -> Ca
     }
 }
 
+/// The premises of the rule of first holds.
+fn by_first(rules: &Rules, row: u16, class: u16, right: PortRight, source: u16) -> Candidates
+    ensures premises { (S T : Fact → Bool) → HavePremises S T result
+        ↔ ComesBy (wiring_of rules.now) S T RuleName.First row source class right }
+    ensures count { HasCount 0 result }
+{
+    let is_held = rules.is_held_at_first(&hold(row, class, right));
+    when(is_held, Candidates::ByNone)
+}
+
+/// The premises of the rule of births.
+fn by_births(rules: &Rules, row: u16, class: u16, right: PortRight, source: u16) -> Candidates
+    ensures premises { (S T : Fact → Bool) → HavePremises S T result
+        ↔ ComesBy (wiring_of rules.now) S T RuleName.Births row source class right }
+    ensures count { HasCount 0 result }
+{
+    let is_receive = same_right(right, PortRight::Receive);
+    let is_birth = is_birth_class(rules.wired(), row, source);
+    let at_source = when(class == source, when(is_birth, Candidates::ByNone));
+    when(is_receive, at_source)
+}
+
+/// The premises of the rule of weaker rights.
+fn by_weaker(rules: &Rules, row: u16, class: u16, right: PortRight, source: u16) -> Candidates
+    ensures premises { (S T : Fact → Bool) → HavePremises S T result
+        ↔ ComesBy (wiring_of rules.now) S T RuleName.Weaker row source class right }
+    ensures count { HasCount 1 result }
+{
+    let is_receive = same_right(right, PortRight::Receive);
+    when(
+        !is_receive,
+        Candidates::ByOne(hold(row, class, PortRight::Receive)),
+    )
+}
+
+/// The premises of the rule of slots.
+fn by_slot(rules: &Rules, row: u16, class: u16, right: PortRight, source: u16) -> Candidates
+    requires row { row < classes (wiring_of rules.now) }
+    requires class { class < classes (wiring_of rules.now) }
+    ensures premises { (S T : Fact → Bool) → HavePremises S T result
+        ↔ ComesBy (wiring_of rules.now) S T RuleName.Slot row source class right }
+    ensures count { HasCount 2 result }
+{
+    let may_send = rules.may(Verb::Sends, source, right, class);
+    when(may_send, by_taken(rules, row, class, right, source))
+}
+
+/// The premises of the rule of reply rights.
+fn by_reply(rules: &Rules, row: u16, class: u16, right: PortRight, source: u16) -> Candidates
+    requires row { row < classes (wiring_of rules.now) }
+    requires class { class < classes (wiring_of rules.now) }
+    ensures premises { (S T : Fact → Bool) → HavePremises S T result
+        ↔ ComesBy (wiring_of rules.now) S T RuleName.Reply row source class right }
+    ensures count { HasCount 2 result }
+{
+    let is_once = same_right(right, PortRight::SendOnce);
+    let fits = rules.accepts_replier(row, class);
+    let may_reply = rules.may(Verb::Replies, source, PortRight::SendOnce, class);
+    let held = Premise::Only(hold(source, class, PortRight::SendOnce));
+    let sent = Candidates::ByTwo(sender(source, row), held);
+    when(is_once, when(fits, when(may_reply, sent)))
+}
+
+/// The premises of the rule of receiving.
+fn by_received(rules: &Rules, row: u16, class: u16, right: PortRight, source: u16) -> Candidates
+    ensures premises { (S T : Fact → Bool) → HavePremises S T result
+        ↔ ComesBy (wiring_of rules.now) S T RuleName.Received row source class right }
+    ensures count { HasCount 2 result }
+{
+    Candidates::ByTwo(
+        Premise::Only(hold(row, source, PortRight::Receive)),
+        Premise::Only(carry(source, class, right)),
+    )
+}
+
+/// The premises of the rule of kernel ports.
+fn by_kernel_port(rules: &Rules, row: u16, class: u16, right: PortRight, source: u16) -> Candidates
+    requires row { row < (wiring_of rules.now).tasks }
+    requires source { source < 2 * (wiring_of rules.now).tasks }
+    ensures premises { (S T : Fact → Bool) → HavePremises S T result
+        ↔ ComesBy (wiring_of rules.now) S T RuleName.KernelPort row source class right }
+    ensures count { HasCount 2 result }
+{
+    let may_share = rules.may(verb_of(source), caller_of(row, source), right, class);
+    let port = kernel_port_held(rules.wired(), row, source);
+    let shared = hold(source / 2, class, right);
+    when(
+        may_share,
+        Candidates::ByTwo(Premise::Only(port), Premise::Only(shared)),
+    )
+}
+
+/// The premises of the rule of requests for notices.
+fn by_request(rules: &Rules, row: u16, class: u16, right: PortRight, source: u16) -> Candidates
+    requires class { class < classes (wiring_of rules.now) }
+    ensures premises { (S T : Fact → Bool) → HavePremises S T result
+        ↔ ComesBy (wiring_of rules.now) S T RuleName.Request row source class right }
+    ensures count { HasCount 2 result }
+{
+    let is_send = same_right(right, PortRight::Send);
+    let receiver = Premise::Only(hold(source, row, PortRight::Receive));
+    let once = Premise::Only(hold(source, class, PortRight::SendOnce));
+    when(
+        is_send,
+        when(rules.is_notified(class), Candidates::ByTwo(receiver, once)),
+    )
+}
+
+/// The premises of the rule of notices.
+fn by_notice(rules: &Rules, row: u16, class: u16, right: PortRight, source: u16) -> Candidates
+    ensures premises { (S T : Fact → Bool) → HavePremises S T result
+        ↔ ComesBy (wiring_of rules.now) S T RuleName.Notice row source class right }
+    ensures count { HasCount 1 result }
+{
+    let is_receive = same_right(right, PortRight::Receive);
+    when(
+        is_receive,
+        when(class == source, Candidates::ByOne(backup(source, row))),
+    )
+}
+
+/// The premises of the rule of returned rights.
+fn by_returned(rules: &Rules, row: u16, class: u16, right: PortRight, source: u16) -> Candidates
+    ensures premises { (S T : Fact → Bool) → HavePremises S T result
+        ↔ ComesBy (wiring_of rules.now) S T RuleName.Returned row source class right }
+    ensures count { HasCount 2 result }
+{
+    let is_once = same_right(right, PortRight::SendOnce);
+    let receiver = Premise::Only(hold(row, source, PortRight::Receive));
+    let asked = Premise::Only(backup(source, class));
+    when(is_once, Candidates::ByTwo(receiver, asked))
+}
+
 /// The premises from which the rule concludes the right on the class in the row, by the source.
 fn candidates_of(
     rules: &Rules,
@@ -223,71 +348,20 @@ fn candidates_of(
     requires class { class < classes (wiring_of rules.now) }
     requires source { source < sources (wiring_of rules.now) rule }
     ensures premises { (S T : Fact → Bool) → HavePremises S T result
-        ↔ (IsTrue (leads (wiring_of rules.now) S rule row source)
-        × Comes (wiring_of rules.now) T rule row source class right) }
+        ↔ ComesBy (wiring_of rules.now) S T rule row source class right }
     ensures count { HasCount (premises_count rule) result }
 {
-    let is_receive = same_right(right, PortRight::Receive);
-    let is_once = same_right(right, PortRight::SendOnce);
     match rule {
-        RuleName::First => when(
-            rules.is_held_at_first(&hold(row, class, right)),
-            Candidates::ByNone,
-        ),
-        RuleName::Births => when(
-            is_receive,
-            when(
-                class == source,
-                when(
-                    is_birth_class(rules.wired(), row, source),
-                    Candidates::ByNone,
-                ),
-            ),
-        ),
-        RuleName::Weaker => when(
-            !is_receive,
-            Candidates::ByOne(hold(row, class, PortRight::Receive)),
-        ),
+        RuleName::First => by_first(rules, row, class, right, source),
+        RuleName::Births => by_births(rules, row, class, right, source),
+        RuleName::Weaker => by_weaker(rules, row, class, right, source),
         RuleName::Slot => by_slot(rules, row, class, right, source),
-        RuleName::Reply => when(
-            is_once,
-            when(
-                rules.takes_replies(row),
-                Candidates::ByTwo(
-                    sender(source, row),
-                    Premise::Only(hold(source, class, PortRight::SendOnce)),
-                ),
-            ),
-        ),
-        RuleName::Received => Candidates::ByTwo(
-            Premise::Only(hold(row, source, PortRight::Receive)),
-            Premise::Only(carry(source, class, right)),
-        ),
-        RuleName::KernelPort => Candidates::ByTwo(
-            link(rules, row, source),
-            Premise::Only(hold(source, class, right)),
-        ),
-        RuleName::Request => when(
-            same_right(right, PortRight::Send),
-            when(
-                rules.is_notified(class),
-                Candidates::ByTwo(
-                    Premise::Only(hold(source, row, PortRight::Receive)),
-                    Premise::Only(hold(source, class, PortRight::SendOnce)),
-                ),
-            ),
-        ),
-        RuleName::Notice => when(
-            is_receive,
-            when(class == source, Candidates::ByOne(backup(source, row))),
-        ),
-        RuleName::Returned => when(
-            is_once,
-            Candidates::ByTwo(
-                Premise::Only(hold(row, source, PortRight::Receive)),
-                Premise::Only(backup(source, class)),
-            ),
-        ),
+        RuleName::Reply => by_reply(rules, row, class, right, source),
+        RuleName::Received => by_received(rules, row, class, right, source),
+        RuleName::KernelPort => by_kernel_port(rules, row, class, right, source),
+        RuleName::Request => by_request(rules, row, class, right, source),
+        RuleName::Notice => by_notice(rules, row, class, right, source),
+        RuleName::Returned => by_returned(rules, row, class, right, source),
     }
 }
 
@@ -398,7 +472,8 @@ impl<'a> Goal<'a> {
     }
 
     /// The sources by which the rule may conclude the fact: from the first number up to the second,
-    /// which is none of them. A source is a task or a class; a rule that needs none has source 0.
+    /// which is none of them. A source is a task or a class; for the rule of kernel ports each task
+    /// is two, one that is taken from and one that gives. A rule that needs none has source 0.
     pub fn sources(&self) -> (u16, u16)
         ensures all { (S T : Fact → Bool) (n : ℕ) → IsSource S T self.now n →
             (result.0 ≤ n) × (n < result.1) }

@@ -4,7 +4,7 @@ ghost use Rattle.std.specs.Prelude.{◌≡◌, ◌<◌, ◌==◌, ◌&&◌, ◌|
 ghost use Rattle.mrc_base.specs.declared.PortRight.{PortRight};
 ghost use Rattle.mrc_bits.specs.Bits.{is_set};
 ghost use Rattle.mrc_rows.specs.Limits.{limit_of_classes};
-ghost use Rattle.mrc_slots.specs.Passing.{same_right};
+ghost use Rattle.mrc_model.specs.Rights.{same_right};
 ghost use Rattle.mrc_classes.specs.Marking.{words_of, is_marked};
 
 use mrc_base::PortRight;
@@ -46,13 +46,31 @@ impl Marks {
     /// Marks the right at the classes that both have.
     pub(crate) fn add(&mut self, right: PortRight, more: &[u64], mask: &[u64])
         ensures { (c : ℕ) (r : PortRight) → is_marked self.new c r ≡ (is_marked self.old c r
-            || (same_right r right && (nat_lt c limit_of_classes && (is_set more.now c && is_set mask.now c)))) }
+            || (same_right r right && (nat_lt c limit_of_classes
+            && (is_set more.now c && is_set mask.now c)))) }
     {
         match right {
             PortRight::Send => or_both(&mut self.send, more, mask),
             PortRight::Receive => or_both(&mut self.receive, more, mask),
             PortRight::SendOnce => or_both(&mut self.once, more, mask),
         }
+    }
+
+    /// Marks the right at the classes that all three have.
+    pub(crate) fn add_within(
+        &mut self,
+        right: PortRight,
+        more: &[u64],
+        mask: &[u64],
+        limits: &[u64],
+    )
+        ensures { (c : ℕ) (r : PortRight) → is_marked self.new c r ≡ (is_marked self.old c r
+            || (same_right r right && (nat_lt c limit_of_classes
+            && (is_set limits.now c && (is_set more.now c && is_set mask.now c))))) }
+    {
+        let mut both = [0; WORDS];
+        or_both(&mut both, mask, limits);
+        self.add(right, more, &both);
     }
 
     /// Takes away the marks of the right at the classes of the row.

@@ -4,7 +4,7 @@ ghost use Rattle.std.specs.Prelude.{◌≡◌, ◌<◌, ◌↔◌, IsTrue};
 ghost use Rattle.mrc_base.specs.declared.Fact.{Fact};
 ghost use Rattle.mrc_model.specs.Wiring.{classes, kernel_class};
 ghost use Rattle.mrc_model.specs.Rules.{InRange};
-ghost use Rattle.mrc_slots.specs.Passing.{same_right};
+ghost use Rattle.mrc_model.specs.Rights.{same_right};
 ghost use Rattle.mrc_wiring.specs.Table.{wiring_of};
 
 use mrc_base::{ClassId, Fact, PortRight};

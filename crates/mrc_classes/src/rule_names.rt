@@ -18,7 +18,8 @@ pub enum RuleName {
     Reply,
     /// What is carried can be received.
     Received,
-    /// A task and one that holds a send right to its kernel port may each hold what the other may.
+    /// Who holds a send right to a task's kernel port takes what the task may hold, and gives it
+    /// what it may hold itself.
     KernelPort,
     /// A port's receiver can ask for a port-destroyed notice.
     Request,

@@ -1,22 +1,25 @@
 //! The ten rules: what each concludes in a row.
 
-ghost use Rattle.std.specs.Prelude.{◌≡◌, ◌<◌, ◌==◌, ◌↔◌, ◌&&◌, ◌||◌, ℕ, not, IsTrue, IfOk, true, nat_lt, length};
+ghost use Rattle.std.specs.Prelude.{◌≡◌, ◌<◌, ◌≤◌, ◌+◌, ◌*◌, ◌==◌, ◌↔◌, ◌&&◌, ◌||◌, ℕ, not, IsTrue};
+ghost use Rattle.std.specs.Prelude.{IfOk, true, nat_lt, length};
 ghost use Rattle.mrc_base.specs.Limits.{limit_of_tasks};
 ghost use Rattle.mrc_rows.specs.Limits.{limit_of_classes, limit_of_words};
-ghost use Rattle.std.specs.Prelude.{◌+◌, ◌*◌, ◌≤◌};
 ghost use Rattle.mrc_base.specs.declared.PortRight.{PortRight};
-ghost use Rattle.mrc_model.specs.Wiring.{classes, accepts_routine, accepts_destroyed};
+ghost use Rattle.mrc_model.specs.declared.Verb.{Verb};
+ghost use Rattle.mrc_model.specs.Rights.{same_right};
+ghost use Rattle.mrc_model.specs.Wiring.{classes, accepts_replier, accepts_destroyed, may};
 ghost use Rattle.mrc_base.specs.declared.Fact.{Fact};
 ghost use Rattle.mrc_bits.specs.Bits.{is_set};
 ghost use Rattle.mrc_slots.specs.Passing.{passes};
 ghost use Rattle.mrc_rows.specs.Joining.{is_of, is_kept};
 ghost use Rattle.mrc_rows.specs.Rows.{place_of};
-ghost use Rattle.mrc_slots.specs.Passing.{same_right};
 ghost use Rattle.mrc_wiring.specs.Table.{wiring_of};
 ghost use Rattle.mrc_facts.specs.Sets.{has};
 ghost use Rattle.mrc_classes.specs.Marking.{is_marked, Marked};
 ghost use Rattle.mrc_classes.specs.Concluding.{conclusion, rows, has_two, sources, can_send_to};
-ghost use Rattle.mrc_classes.specs.Concluding.{are_linked, leads, Comes, Concludes};
+ghost use Rattle.mrc_classes.specs.Concluding.{task_of, verb_of, caller_of, target_of};
+ghost use Rattle.mrc_classes.specs.Concluding.{kernel_port_held, may_share};
+ghost use Rattle.mrc_classes.specs.Concluding.{leads, Comes, Concludes};
 ghost use Rattle.mrc_classes.specs.Concluding.{IsBirthClass, is_taken_of};
 ghost use Rattle.mrc_classes.specs.Following.{IsHeldAtFirst};
 
@@ -24,16 +27,17 @@ use crate::first_facts::held_at_first;
 use crate::marks::Marks;
 use crate::rights::{backup, carry, hold, kernel_port};
 use crate::rule_names::RuleName;
-use mrc_base::{ClassId, Fact, PortRight};
+use mrc_base::{ClassId, Fact, PortRight, TaskId};
 use mrc_bits::has_bit;
+use mrc_model::Verb;
 use mrc_rows::{Facts, Row};
 use mrc_slots::Slots;
 use mrc_wiring::Wired;
 use std::alloc::{AllocError, Global};
 use std::marker::Model;
 
-/// A wiring, with what its rules ask of it: what its classes take, as rows of bits, and what is held
-/// at first.
+/// A wiring, with what its rules ask of it: what its classes take, as rows of bits, and what is
+/// held at first.
 #[derive(Drop)]
 pub struct Rules {
     slots: Slots,
@@ -100,12 +104,21 @@ impl Rules {
         self.first.has(fact)
     }
 
-    /// Whether the class accepts requests of routines, to which reply rights go.
-    pub(crate) fn takes_replies(&self, class: u16) -> bool
-        requires { class < classes (wiring_of self.now) }
-        ensures { result ≡ accepts_routine (wiring_of self.now) class }
+    /// Whether a reply right on a port of the class can come with a request to class `to`.
+    pub(crate) fn accepts_replier(&self, to: u16, class: u16) -> bool
+        requires to { to < classes (wiring_of self.now) }
+        requires class { class < classes (wiring_of self.now) }
+        ensures { result ≡ accepts_replier (wiring_of self.now) to class }
     {
-        self.slots.takes_replies(class)
+        has_bit(self.slots.repliers(to), class as usize)
+    }
+
+    /// Whether the task may use the verb with the right on ports of the class.
+    pub(crate) fn may(&self, verb: Verb, task: u16, right: PortRight, class: u16) -> bool
+        ensures { result ≡ may (wiring_of self.now) verb task right class }
+    {
+        self.wired()
+            .may(verb, TaskId(task as u32), right, ClassId(class))
     }
 
     /// Whether the class accepts port-destroyed notices.
@@ -133,14 +146,44 @@ pub fn can_send_to(facts: &Facts, task: u16, to: u16) -> bool
     facts.has(&hold(task, to, PortRight::Send)) || facts.has(&hold(task, to, PortRight::SendOnce))
 }
 
+/// By which verb the rule of kernel ports goes, by this source.
 #[inline(always)]
-pub(crate) fn are_linked(wired: &Wired, facts: &Facts, one: u16, other: u16) -> bool
-    requires one { one < (wiring_of wired.now).tasks }
-    requires other { other < (wiring_of wired.now).tasks }
-    ensures { result ≡ are_linked (wiring_of wired.now) (has facts.now) one other }
+pub(crate) fn verb_of(source: u16) -> Verb
+    ensures { result ≡ verb_of source }
 {
-    facts.has(&hold(one, kernel_port(wired, other), PortRight::Send))
-        || facts.has(&hold(other, kernel_port(wired, one), PortRight::Send))
+    if source % 2 == 0 {
+        Verb::Takes
+    } else {
+        Verb::Gives
+    }
+}
+
+/// Who takes or gives, by this source of the row of a task.
+#[inline(always)]
+pub(crate) fn caller_of(row: u16, source: u16) -> u16
+    ensures { result ≡ caller_of row source }
+{
+    if source % 2 == 0 { row } else { source / 2 }
+}
+
+/// From whom, or to whom.
+#[inline(always)]
+pub(crate) fn target_of(row: u16, source: u16) -> u16
+    ensures { result ≡ target_of row source }
+{
+    if source % 2 == 0 { source / 2 } else { row }
+}
+
+/// The hold of the target's kernel port by the caller.
+#[inline(always)]
+pub(crate) fn kernel_port_held(wired: &Wired, row: u16, source: u16) -> Fact
+    requires row { row < (wiring_of wired.now).tasks }
+    requires source { source < 2 * (wiring_of wired.now).tasks }
+    ensures { result ≡ kernel_port_held (wiring_of wired.now) row source }
+{
+    let caller = caller_of(row, source);
+    let port = kernel_port(wired, target_of(row, source));
+    hold(caller, port, PortRight::Send)
 }
 
 /// How many rows the rule has.
@@ -168,9 +211,8 @@ pub(crate) fn sources(wired: &Wired, rule: RuleName) -> u16
 {
     match rule {
         RuleName::First | RuleName::Weaker => 1,
-        RuleName::Slot | RuleName::Reply | RuleName::KernelPort | RuleName::Request => {
-            wired.tasks()
-        }
+        RuleName::Slot | RuleName::Reply | RuleName::Request => wired.tasks(),
+        RuleName::KernelPort => 2 * wired.tasks(),
         RuleName::Births | RuleName::Received | RuleName::Notice | RuleName::Returned => {
             wired.classes()
         }
@@ -206,7 +248,7 @@ pub(crate) fn leads(rules: &Rules, rule: RuleName, row: u16, source: u16, first:
         RuleName::Received | RuleName::Returned => {
             first.has(&hold(row, source, PortRight::Receive))
         }
-        RuleName::KernelPort => are_linked(rules.wired(), first, row, source),
+        RuleName::KernelPort => first.has(&kernel_port_held(rules.wired(), row, source)),
         RuleName::Request => first.has(&hold(source, row, PortRight::Receive)),
     }
 }
@@ -215,7 +257,8 @@ pub(crate) fn leads(rules: &Rules, rule: RuleName, row: u16, source: u16, first:
 #[inline(always)]
 fn held_words(facts: &Facts, task: u16, right: PortRight) -> &[u64]
     requires { task < limit_of_tasks }
-    ensures { (c : ℕ) → c < limit_of_classes → is_set result.now c ≡ has facts.now (Fact.Hold task c right) }
+    ensures { (c : ℕ) → c < limit_of_classes →
+        is_set result.now c ≡ has facts.now (Fact.Hold task c right) }
 {
     facts.words(Row::Holds(task, right))
 }
@@ -224,7 +267,8 @@ fn held_words(facts: &Facts, task: u16, right: PortRight) -> &[u64]
 #[inline(always)]
 fn carried_words(facts: &Facts, to: u16, right: PortRight) -> &[u64]
     requires { to < limit_of_classes }
-    ensures { (c : ℕ) → c < limit_of_classes → is_set result.now c ≡ has facts.now (Fact.Carry to c right) }
+    ensures { (c : ℕ) → c < limit_of_classes →
+        is_set result.now c ≡ has facts.now (Fact.Carry to c right) }
 {
     facts.words(Row::Carries(to, right))
 }
@@ -233,7 +277,8 @@ fn carried_words(facts: &Facts, to: u16, right: PortRight) -> &[u64]
 #[inline(always)]
 fn asked_words(facts: &Facts, class: u16) -> &[u64]
     requires { class < limit_of_classes }
-    ensures { (d : ℕ) → d < limit_of_classes → is_set result.now d ≡ has facts.now (Fact.Backup class d) }
+    ensures { (d : ℕ) → d < limit_of_classes →
+        is_set result.now d ≡ has facts.now (Fact.Backup class d) }
 {
     facts.words(Row::Backups(class))
 }
@@ -242,7 +287,8 @@ fn asked_words(facts: &Facts, class: u16) -> &[u64]
 #[inline(always)]
 fn add_held(facts: &Facts, task: u16, right: PortRight, out: &mut Marks)
     requires { task < limit_of_tasks }
-    ensures { (c : ℕ) (r : PortRight) → c < limit_of_classes → is_marked out.new c r ≡ (is_marked out.old c r
+    ensures { (c : ℕ) (r : PortRight) → c < limit_of_classes →
+        is_marked out.new c r ≡ (is_marked out.old c r
         || (same_right r right && has facts.now (Fact.Hold task c right))) }
 {
     let held = held_words(facts, task, right);
@@ -264,7 +310,8 @@ fn add_holds(facts: &Facts, task: u16, out: &mut Marks)
 #[inline(always)]
 fn add_carried(facts: &Facts, to: u16, right: PortRight, out: &mut Marks)
     requires { to < limit_of_classes }
-    ensures { (c : ℕ) (r : PortRight) → c < limit_of_classes → is_marked out.new c r ≡ (is_marked out.old c r
+    ensures { (c : ℕ) (r : PortRight) → c < limit_of_classes →
+        is_marked out.new c r ≡ (is_marked out.old c r
         || (same_right r right && has facts.now (Fact.Carry to c right))) }
 {
     let carried = carried_words(facts, to, right);
@@ -306,7 +353,8 @@ fn mark_if(test: bool, class: u16, out: &mut Marks)
 /// Marks the weaker rights on the classes on which the task has a receive right.
 fn add_weaker(facts: &Facts, task: u16, out: &mut Marks)
     requires { task < limit_of_tasks }
-    ensures { (c : ℕ) (r : PortRight) → c < limit_of_classes → is_marked out.new c r ≡ (is_marked out.old c r
+    ensures { (c : ℕ) (r : PortRight) → c < limit_of_classes →
+        is_marked out.new c r ≡ (is_marked out.old c r
         || (not (same_right r PortRight.Receive)
         && has facts.now (Fact.Hold task c PortRight.Receive))) }
 {
@@ -315,7 +363,31 @@ fn add_weaker(facts: &Facts, task: u16, out: &mut Marks)
     out.add(PortRight::SendOnce, received, received);
 }
 
-/// Marks what class `to` takes, as rights `give`, of rights `held` of the task.
+/// Marks a right on the classes of both rows, of those with which the task may use the verb.
+#[inline(always)]
+#[tactic(auto, unfolding(mrc_model::specs::Wiring::may))]
+fn add_allowed(
+    wired: &Wired,
+    verb: Verb,
+    task: u16,
+    right: PortRight,
+    more: &[u64],
+    mask: &[u64],
+    out: &mut Marks,
+)
+    ensures { (c : ℕ) (r : PortRight) → c < limit_of_classes →
+        is_marked out.new c r ≡ (is_marked out.old c r || (same_right r right
+        && (may (wiring_of wired.now) verb task right c
+        && (is_set more.now c && is_set mask.now c)))) }
+{
+    match wired.trusted(verb, TaskId(task as u32), right) {
+        None => out.add(right, more, mask),
+        Some(limits) => out.add_within(right, more, mask, limits),
+    }
+}
+
+/// Marks what class `to` takes by slots, as rights `give`, of rights `held` of the task: of those
+/// that it may send.
 #[inline(always)]
 fn add_passed(
     slots: &Slots,
@@ -328,80 +400,108 @@ fn add_passed(
 )
     requires task { task < limit_of_tasks }
     requires to { to < classes (wiring_of slots.now) }
-    ensures { (c : ℕ) (r : PortRight) → c < classes (wiring_of slots.now) → is_marked out.new c r
-        ≡ (is_marked out.old c r || (same_right r give
-        && (has facts.now (Fact.Hold task c held) && passes (wiring_of slots.now) to c held give))) }
+    ensures { (c : ℕ) (r : PortRight) → c < classes (wiring_of slots.now) →
+        is_marked out.new c r ≡ (is_marked out.old c r || (same_right r give
+        && (may (wiring_of slots.now) Verb.Sends task give c
+        && (has facts.now (Fact.Hold task c held)
+        && passes (wiring_of slots.now) to c held give)))) }
 {
     let _within = slots.classes();
+    let more = held_words(facts, task, held);
     let taken = slots.taken_by(to, held, give);
-    out.add(give, held_words(facts, task, held), taken);
+    add_allowed(slots.wired(), Verb::Sends, task, give, more, taken, out);
 }
 
-/// Marks what class `to` takes by slots of what the task holds.
+/// Marks what class `to` takes by slots, as rights `give`, of what the task holds and may send: of
+/// rights of this kind, and of receive rights.
+#[inline(always)]
+fn add_given(slots: &Slots, facts: &Facts, to: u16, task: u16, give: PortRight, out: &mut Marks)
+    requires task { task < limit_of_tasks }
+    requires to { to < classes (wiring_of slots.now) }
+    ensures { (c : ℕ) (r : PortRight) → c < classes (wiring_of slots.now) →
+        is_marked out.new c r ≡ (is_marked out.old c r || (same_right r give
+        && (may (wiring_of slots.now) Verb.Sends task give c
+        && is_taken_of (wiring_of slots.now) (has facts.now) to task c give))) }
+{
+    let receive = PortRight::Receive;
+    match give {
+        PortRight::Send => {
+            add_passed(slots, facts, to, task, PortRight::Send, give, out);
+            add_passed(slots, facts, to, task, receive, give, out);
+        }
+        PortRight::Receive => add_passed(slots, facts, to, task, receive, give, out),
+        PortRight::SendOnce => {
+            add_passed(slots, facts, to, task, receive, give, out);
+            add_passed(slots, facts, to, task, PortRight::SendOnce, give, out);
+        }
+    }
+}
+
+/// Marks what class `to` takes by slots of what the task holds and may send.
 fn add_taken(slots: &Slots, facts: &Facts, to: u16, task: u16, out: &mut Marks)
     requires task { task < limit_of_tasks }
     requires to { to < classes (wiring_of slots.now) }
-    ensures { (c : ℕ) (r : PortRight) → c < classes (wiring_of slots.now) → is_marked out.new c r
-        ≡ (is_marked out.old c r || is_taken_of (wiring_of slots.now) (has facts.now) to task c r) }
+    ensures { (c : ℕ) (r : PortRight) → c < classes (wiring_of slots.now) →
+        is_marked out.new c r ≡ (is_marked out.old c r
+        || (may (wiring_of slots.now) Verb.Sends task r c
+        && is_taken_of (wiring_of slots.now) (has facts.now) to task c r)) }
 {
-    add_passed(
-        slots,
-        facts,
-        to,
-        task,
-        PortRight::Send,
-        PortRight::Send,
-        out,
-    );
-    add_passed(
-        slots,
-        facts,
-        to,
-        task,
-        PortRight::Receive,
-        PortRight::Send,
-        out,
-    );
-    add_passed(
-        slots,
-        facts,
-        to,
-        task,
-        PortRight::Receive,
-        PortRight::Receive,
-        out,
-    );
-    add_passed(
-        slots,
-        facts,
-        to,
-        task,
-        PortRight::Receive,
-        PortRight::SendOnce,
-        out,
-    );
-    add_passed(
-        slots,
-        facts,
-        to,
-        task,
-        PortRight::SendOnce,
-        PortRight::SendOnce,
-        out,
-    );
+    add_given(slots, facts, to, task, PortRight::Send, out);
+    add_given(slots, facts, to, task, PortRight::Receive, out);
+    add_given(slots, facts, to, task, PortRight::SendOnce, out);
 }
 
-/// Marks the reply rights of the task, where class `to` takes some.
+/// Marks the reply rights of the task that can come with requests to class `to`: of those that it
+/// may have replies at.
 fn add_replies(slots: &Slots, facts: &Facts, to: u16, task: u16, out: &mut Marks)
     requires task { task < limit_of_tasks }
     requires to { to < classes (wiring_of slots.now) }
-    ensures { (c : ℕ) (r : PortRight) → c < limit_of_classes → is_marked out.new c r ≡ (is_marked out.old c r
-        || (accepts_routine (wiring_of slots.now) to && (same_right r PortRight.SendOnce
-        && has facts.now (Fact.Hold task c PortRight.SendOnce)))) }
+    ensures { (c : ℕ) (r : PortRight) → c < classes (wiring_of slots.now) →
+        is_marked out.new c r ≡ (is_marked out.old c r || (same_right r PortRight.SendOnce
+        && (may (wiring_of slots.now) Verb.Replies task PortRight.SendOnce c
+        && (has facts.now (Fact.Hold task c PortRight.SendOnce)
+        && accepts_replier (wiring_of slots.now) to c)))) }
 {
-    if slots.takes_replies(to) {
-        add_held(facts, task, PortRight::SendOnce, out);
-    }
+    let _within = slots.classes();
+    let once = PortRight::SendOnce;
+    let more = held_words(facts, task, once);
+    let fitting = slots.repliers(to);
+    add_allowed(slots.wired(), Verb::Replies, task, once, more, fitting, out);
+}
+
+/// Marks a right on the classes on which the source's task holds it, of those that the caller may
+/// take or give.
+#[inline(always)]
+fn add_shared(
+    wired: &Wired,
+    facts: &Facts,
+    row: u16,
+    source: u16,
+    right: PortRight,
+    out: &mut Marks,
+)
+    requires { source < 2 * limit_of_tasks }
+    ensures { (c : ℕ) (r : PortRight) → c < limit_of_classes →
+        is_marked out.new c r ≡ (is_marked out.old c r || (same_right r right
+        && (may_share (wiring_of wired.now) row source c right
+        && has facts.now (Fact.Hold (task_of source) c right)))) }
+{
+    let held = held_words(facts, source / 2, right);
+    let caller = caller_of(row, source);
+    add_allowed(wired, verb_of(source), caller, right, held, held, out);
+}
+
+/// Marks all that the source's task holds, of what the caller may take or give.
+fn add_shares(wired: &Wired, facts: &Facts, row: u16, source: u16, out: &mut Marks)
+    requires { source < 2 * limit_of_tasks }
+    ensures { (c : ℕ) (r : PortRight) → c < limit_of_classes →
+        is_marked out.new c r ≡ (is_marked out.old c r
+        || (may_share (wiring_of wired.now) row source c r
+        && has facts.now (Fact.Hold (task_of source) c r))) }
+{
+    add_shared(wired, facts, row, source, PortRight::Send, out);
+    add_shared(wired, facts, row, source, PortRight::Receive, out);
+    add_shared(wired, facts, row, source, PortRight::SendOnce, out);
 }
 
 /// Marks the classes that accept notices and on which the task has a send-once right.
@@ -420,7 +520,8 @@ fn add_requests(slots: &Slots, facts: &Facts, task: u16, out: &mut Marks)
 /// Marks send-once rights on the classes that are to be notified of ports of the class.
 fn add_returned(facts: &Facts, class: u16, out: &mut Marks)
     requires { class < limit_of_classes }
-    ensures { (c : ℕ) (r : PortRight) → c < limit_of_classes → is_marked out.new c r ≡ (is_marked out.old c r
+    ensures { (c : ℕ) (r : PortRight) → c < limit_of_classes →
+        is_marked out.new c r ≡ (is_marked out.old c r
         || (same_right r PortRight.SendOnce && has facts.now (Fact.Backup class c))) }
 {
     let asked = asked_words(facts, class);
@@ -452,7 +553,7 @@ pub(crate) fn add_source(
         RuleName::Slot => add_taken(&rules.slots, last, row, source, out),
         RuleName::Reply => add_replies(&rules.slots, last, row, source, out),
         RuleName::Received => add_carries(last, source, out),
-        RuleName::KernelPort => add_holds(last, source, out),
+        RuleName::KernelPort => add_shares(rules.wired(), last, row, source, out),
         RuleName::Request => add_requests(&rules.slots, last, source, out),
         RuleName::Notice => mark_if(last.has(&backup(source, row)), source, out),
         RuleName::Returned => add_returned(last, source, out),
@@ -481,7 +582,7 @@ pub(crate) fn row_of(
     }
 }
 
-/// The row of facts in which the rule's conclusions of a right stand.
+/// The row of facts that has the rule's conclusions of a right.
 pub(crate) fn row_with(rules: &Rules, rule: RuleName, row: u16, right: PortRight) -> Row
     requires { row < rows (wiring_of rules.now) rule }
     ensures kept { is_kept result ≡ true }

@@ -167,6 +167,10 @@ graph_app =
     with_rule (with_rule (with_rule graph_options (free_rule (codes "policy")))
     (free_rule (codes "fact"))) defs_rule
 
+-- `promises --wiring FILE [DEFS]...`
+abbrev pub promises_app : App
+promises_app = with_files (new_app (codes "promises")) (codes "wiring" ∷ [])
+
 -- `replay --wiring FILE --script FILE [DEFS]...`
 abbrev pub replay_app : App
 replay_app = with_files (new_app (codes "replay")) (codes "wiring" ∷ codes "script" ∷ [])
@@ -224,9 +228,13 @@ fact_app = with_subcommand (with_subcommand certificate_app explain_app.top) fac
 abbrev pub drawing_app : App
 drawing_app = with_subcommand fact_app graph_app.top
 
+-- the same, and what speaks of trusted tasks
+abbrev pub trust_app : App
+trust_app = with_subcommand drawing_app promises_app.top
+
 -- the same, and what runs scripts
 abbrev pub script_app : App
-script_app = with_subcommand (with_subcommand drawing_app replay_app.top) live_app.top
+script_app = with_subcommand (with_subcommand trust_app replay_app.top) live_app.top
 
 -- the program and its commands
 abbrev pub machcheck_app : App

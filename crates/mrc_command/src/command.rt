@@ -32,6 +32,8 @@ pub enum Command<'a> {
     Facts(FactsFiles<'a>),
     /// The same as a drawing.
     Graph(GraphFiles<'a>),
+    /// What has to be found in the code of trusted tasks?
+    Promises(SystemFiles<'a>),
     /// What do the calls of the script answer?
     Replay(ReplayFiles<'a>),
     /// What do they answer where the certificate is accepted and tasks run as threads?
@@ -508,6 +510,9 @@ fn command_of<'a>(alloc: Global, matches: &ArgMatches<'a>) -> Result<Command<'a>
     }
     if let Some(matches) = matches.subcommand_matches("graph") {
         return Ok(Command::Graph(graph_files(alloc, matches)?));
+    }
+    if let Some(matches) = matches.subcommand_matches("promises") {
+        return Ok(Command::Promises(system_files(alloc, matches)?));
     }
     if let Some(matches) = matches.subcommand_matches("replay") {
         return Ok(Command::Replay(replay_files(alloc, matches)?));

@@ -1,9 +1,9 @@
 //! The texts of help.
 
 pub(crate) const PROGRAM_HELP: &str = "Exit status of each command:
-  0  YES was printed, or changes that lead to it, a certificate was made, a chain, facts or a
-     drawing were printed, a script was replayed or run by threads, MIG files were cut, or help
-     or the version was printed
+  0  YES was printed, or changes that lead to it, a certificate was made, a chain, facts, a
+     drawing or promises were printed, a script was replayed or run by threads, MIG files were
+     cut, or help or the version was printed
   1  NO was printed, with a reason, or none: where no chain leads to a fact, or where no
      change was found that leads to YES
   2  a fault was told on standard error: a file can't be read or has no meaning,
@@ -21,10 +21,13 @@ pub(crate) const CHECK_HELP: &str = "Files, as README.md describes them:
 
 --verbose says on standard error what to do where the certificate is not of this wiring.
 
+With YES a line on standard error names the tasks that the wiring trusts, if there are any:
+`machcheck: FILE: trusted: TASK, TASK`. `machcheck promises` prints what they must keep to.
+
 Exit status:
   0  YES: no list of calls can lead to a holding that the policy forbids
-  1  NO, with the first reason: the certificate lacks what can come about,
-     or has what the policy forbids
+  1  NO, with the first reason: the certificate lacks what can come about, another task
+     could rewrite a trusted one, or the certificate has what the policy forbids
   2  a fault on standard error, as `machcheck: FILE: FAULT`: a file can't be read or has
      no meaning, the command line is wrong, the output was not taken, or memory ran out
 
@@ -114,17 +117,23 @@ pub(crate) const VERIFY_HELP: &str = "Files, as README.md describes them:
   a policy has who must never hold what.
 
 All that may come about is found and judged: no certificate is needed, and none is written.
-YES is printed where the policy forbids none of it. Else each of its lines that is broken is
-told as `NO forbidden line N FACT`, and below it how the fact comes about, a line for each
-step: its number from 0, the rule, what it concludes, the numbers of the steps that it follows
-from, and where it comes from in the files: `by line N` of the wiring,
-`by SUBSYSTEM.ROUTINE.ARGUMENT (SUBSYSTEM.TYPE)`, `by SUBSYSTEM` for the reply right of a
-request, `by task:U` for the task whose kernel port is held. --tree prints the steps from the
-fact down instead, each above those that it follows from.
+YES is printed if the policy forbids none of it, and no other task could rewrite one that the
+wiring trusts. If one could, `NO trusted line N FACT` is printed, with the number of the first
+line that trusts the task, and that the other task holds its kernel port. Each line of the policy
+that is broken is printed as `NO forbidden line N FACT`. Below each of these is printed how the
+fact comes about, a line for each step: its number from 0, the rule, what it concludes, the
+numbers of the steps that it follows from, and where it comes from in the files: `by line N` of
+the wiring, `by SUBSYSTEM.ROUTINE.ARGUMENT (SUBSYSTEM.TYPE)`, `by SUBSYSTEM` for the reply right
+of a request, `by task:U` for the task whose kernel port is held. --tree prints the steps from
+the fact down instead, each above those that it follows from.
+
+With YES a line on standard error names the tasks that the wiring trusts, if there are any:
+`machcheck: FILE: trusted: TASK, TASK`. `machcheck promises` prints what they must keep to.
 
 Exit status:
   0  YES: no list of calls can lead to a holding that the policy forbids
-  1  NO: each line that is broken, with the steps that lead to it
+  1  NO: a trusted task that another could rewrite, and each line that is broken, with the
+     steps that lead there
   2  a fault on standard error, as `machcheck: FILE: FAULT`: a file can't be read or has
      no meaning, the command line is wrong, the output was not taken, or memory ran out
 
@@ -136,11 +145,11 @@ pub(crate) const MEND_HELP: &str = "Files, as README.md describes them:
   a policy has who must never hold what.
 
 Where `verify` says NO, changes of the wiring are looked for after which it says YES. Each is
-a line `K remove line N`, with the words of the line, or `K add admit S.TYPE CLASS`; the lines
-with the same K are to be made together. The smallest changes come first, and of those those
-that lose the fewest facts. Each one that is printed has been judged: with it the answer is
-YES. At most three changes are made together; --most says how many are printed, and is 10
-where it is not given.
+a line `K remove line N`, with the words of the line, `K add admit S.TYPE CLASS`, or
+`K add trust TASK VERB none`; the lines with the same K are to be made together. The smallest
+changes come first, and of those those that lose the fewest facts. Each one that is printed has
+been judged: with it the answer is YES. At most three changes are made together; --most says how
+many are printed, and is 10 where it is not given.
 
 Exit status:
   0  changes were printed, or YES: nothing has to be changed
@@ -190,6 +199,27 @@ Exit status:
   2  a fault on standard error, as `machcheck: FILE: FAULT`: a file can't be read or has
      no meaning, the text of the fact names none of the wiring (BadFact), the command line is
      wrong, the output was not taken, or memory ran out
+
+Read on in README.md, and in docs/ARCHITECTURE.md.";
+
+pub(crate) const PROMISES_HELP: &str = "Files, as docs/FORMATS.md describes them:
+  MIG files have the messages of the interfaces that the wiring names,
+  a wiring has the tasks and ports, what they accept, and the rights that are held at first.
+
+A wiring may trust tasks. Its `trust` lines limit what a task takes from other tasks, gives to
+them, sends in messages, and names as its reply ports. machcheck's machine refuses all else. A
+kernel that does not refuse it needs tasks whose code keeps to these lines.
+
+A line is printed for each of them, in their order: the task, the calls of Mach to look for in
+its code, with which rights on which ports they may be there, and the number of the line in the
+wiring. Lines of one task about the same calls belong together: each behind the first begins
+its limit with `or`, and what none of them allows must not be there. What `replies fit` asks is
+printed as a line for each task. If the wiring has no such lines, nothing is printed.
+
+Exit status:
+  0  a line was printed for each of them
+  2  a fault on standard error, as `machcheck: FILE: FAULT`: a file can't be read or has
+     no meaning, the command line is wrong, the output was not taken, or memory ran out
 
 Read on in README.md, and in docs/ARCHITECTURE.md.";
 

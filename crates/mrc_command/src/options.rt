@@ -7,15 +7,15 @@ ghost use Rattle.mrc_command.specs.CommandLine.{verify_options, verify_app, mend
 ghost use Rattle.mrc_command.specs.CommandLine.{check_options, check_app, make_options, make_app};
 ghost use Rattle.mrc_command.specs.CommandLine.{explain_options, explain_app, facts_options};
 ghost use Rattle.mrc_command.specs.CommandLine.{facts_app};
-ghost use Rattle.mrc_command.specs.CommandLine.{graph_options, graph_app, replay_app};
+ghost use Rattle.mrc_command.specs.CommandLine.{graph_options, graph_app, promises_app, replay_app};
 ghost use Rattle.mrc_command.specs.CommandLine.{live_options, live_app, HasNoGlobals};
 ghost use Rattle.mrc_command.specs.CommandLine.{answer_app, certificate_app, fact_app};
-ghost use Rattle.mrc_command.specs.CommandLine.{drawing_app, script_app, machcheck_app};
+ghost use Rattle.mrc_command.specs.CommandLine.{drawing_app, trust_app, script_app, machcheck_app};
 ghost use Rattle.mrc_command.specs.CommandLine.{given_defs_rule, mig_options, mig_app};
 
 use crate::help::{
     CHECK_HELP, EXPLAIN_HELP, FACTS_HELP, GRAPH_HELP, LIVE_HELP, MAKE_HELP, MEND_HELP, MIG_HELP,
-    PROGRAM_HELP, REPLAY_HELP, VERIFY_HELP,
+    PROGRAM_HELP, PROMISES_HELP, REPLAY_HELP, VERIFY_HELP,
 };
 use clap::{Arg, ArgAction};
 use std::alloc::{AllocError, Global};
@@ -269,6 +269,17 @@ fn graph_command<'a>(alloc: Global) -> Result<clap::Command<'a>, AllocError>
         .arg(defs_arguments(alloc))
 }
 
+fn promises_command<'a>(alloc: Global) -> Result<clap::Command<'a>, AllocError>
+    ensures app { IfOk result (λ command. app_of command ≡ promises_app) }
+    ensures local { IfOk result HasNoGlobals }
+{
+    clap::Command::new(alloc, "promises")
+        .about("Prints what has to be found in the code of trusted tasks")
+        .after_help(PROMISES_HELP)
+        .arg(wiring_option(alloc))?
+        .arg(defs_arguments(alloc))
+}
+
 fn replay_command<'a>(alloc: Global) -> Result<clap::Command<'a>, AllocError>
     ensures app { IfOk result (λ command. app_of command ≡ replay_app) }
     ensures local { IfOk result HasNoGlobals }
@@ -396,11 +407,20 @@ fn drawing_commands<'a>(alloc: Global) -> Result<clap::Command<'a>, AllocError>
     commands.subcommand(graph)
 }
 
+/// The same with the command that speaks of trusted tasks.
+fn trust_commands<'a>(alloc: Global) -> Result<clap::Command<'a>, AllocError>
+    ensures { IfOk result (λ command. app_of command ≡ trust_app) }
+{
+    let commands = drawing_commands(alloc)?;
+    let promises = promises_command(alloc)?;
+    commands.subcommand(promises)
+}
+
 /// The same with the commands that run scripts.
 fn script_commands<'a>(alloc: Global) -> Result<clap::Command<'a>, AllocError>
     ensures { IfOk result (λ command. app_of command ≡ script_app) }
 {
-    let commands = drawing_commands(alloc)?;
+    let commands = trust_commands(alloc)?;
     let replay = replay_command(alloc)?;
     let live = live_command(alloc)?;
     commands.subcommand(replay)?.subcommand(live)

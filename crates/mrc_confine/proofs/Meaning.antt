@@ -1,16 +1,24 @@
 -- Bytes mean one claim at most, so what is refused of it is refused of each certificate.
-use Rattle.std.proofs.Common.{◌≡◌, ◌∙◌, ℕ, Bool, List, Ok, ap, subst, sym}
-use Rattle.std.specs.Prelude.{codes}
+use Rattle.std.proofs.Common.{◌≡◌, ◌≢◌, ◌∙◌, ◌<◌, ℕ, Bool, true, false, List, ap, subst, sym}
+use Rattle.std.proofs.Common.{IsTrue, not, inl, inr, refl}
+use Rattle.std.specs.Prelude.{◌==◌, ◌&&◌, nat_lt}
+use Rattle.std.proofs.lemmas.Bool.{false≢true, lt-ltb}
+use Rattle.std.proofs.lemmas.Bool.Decides.{eqb_tells}
+use Rattle.mrc_base.specs.declared.Fact.{Fact}
+use Rattle.mrc_base.specs.declared.Fact.TheVariants.{Hold}
+use Rattle.mrc_base.specs.declared.PortRight.TheVariants.{Send}
 use Rattle.mrc_base.proofs.Steps.{ok_is}
 use Rattle.mrc_check.specs.Texts.{SayYes}
+use Rattle.mrc_check.specs.Trusted.{is_bound, may_rewrite}
 use Rattle.mrc_check.specs.Verdict.{Case}
-use Rattle.mrc_confine.specs.Safety.{HaveNoYes, IsBroken, IsNo, MeanClaim, NoneIsAccepted}
+use Rattle.mrc_confine.specs.Safety.{HasRewriter, HaveNoYes, IsBroken, IsNo, MeanClaim}
 use Rattle.mrc_facts.specs.Sets.{has}
 use Rattle.mrc_interface.proofs.ReadingLaws.{interfaces_read}
+use Rattle.mrc_model.specs.Wiring.{Wiring, kernel_class}
 use Rattle.mrc_wiring.specs.Claims.{Claimed, forbidden_lines}
 use Rattle.mrc_wiring.specs.declared.claim.ForbiddenLine.{ForbiddenLine}
 use Rattle.mrc_wiring.specs.Resolving.{resolved}
-use Rattle.mrc_wiring.specs.Table.{Table}
+use Rattle.mrc_wiring.specs.Table.{Table, wiring_of}
 use Rattle.mrc_wiring_text.proofs.TextLaws.{text_read}
 use Rattle.mrc_wiring_text.specs.Policy.{policy_says}
 use Rattle.mrc_wiring_text.specs.Wiring.{wiring_says}
@@ -37,14 +45,14 @@ same_claim defs wiring policy a b m n =
     (sym (interfaces_read defs m.interfaces m.are_interfaces)
     ∙ interfaces_read defs n.interfaces n.are_interfaces) in
     let lines : m.wiring_lines ≡ n.wiring_lines = ok_is m.wiring_lines n.wiring_lines
-    (sym (text_read (codes "wiring") wiring_says wiring m.wiring_lines m.is_wiring)
-    ∙ text_read (codes "wiring") wiring_says wiring n.wiring_lines n.is_wiring) in
+    (sym (text_read _ wiring_says wiring m.wiring_lines m.is_wiring)
+    ∙ text_read _ wiring_says wiring n.wiring_lines n.is_wiring) in
     let table : a.table ≡ b.table = ok_is a.table b.table
     (sym m.is_table ∙ ap (λ i. resolved i m.wiring_lines) interfaces
     ∙ ap (λ l. resolved n.interfaces l) lines ∙ n.is_table) in
     let says : m.policy_lines ≡ n.policy_lines = ok_is m.policy_lines n.policy_lines
-    (sym (text_read (codes "policy") policy_says policy m.policy_lines m.is_policy)
-    ∙ text_read (codes "policy") policy_says policy n.policy_lines n.is_policy) in
+    (sym (text_read _ policy_says policy m.policy_lines m.is_policy)
+    ∙ text_read _ policy_says policy n.policy_lines n.is_policy) in
     let forbidden : a.lines ≡ b.lines = ok_is a.lines b.lines
     (sym m.is_claim ∙ ap (λ t. forbidden_lines t m.policy_lines) table
     ∙ ap (λ l. forbidden_lines b.table l) says ∙ n.is_claim) in
@@ -52,18 +60,53 @@ same_claim defs wiring policy a b m n =
     let with_lines : List ForbiddenLine → Claimed = λ l. record { table = b.table; lines = l } in
     ap with_table table ∙ ap with_lines forbidden
 
+all_true : (low same bound held : Bool) → low ≡ true → same ≡ false → bound ≡ false → held ≡ true
+    → (low && (not same && (not bound && held))) ≡ true
+all_true true false false true l s b h = refl
+all_true false same bound held l s b h = absurd (false≢true l)
+all_true true true bound held l s b h = absurd (false≢true (sym s))
+all_true true false true held l s b h = absurd (false≢true (sym b))
+all_true true false false false l s b h = absurd (false≢true h)
+
+unequal : (a b : ℕ) → a ≢ b → (a == b) ≡ false
+unequal a b other = elim (eqb_tells a b) [
+  | inl same ↦ absurd (other same.1)
+  | inr apart ↦ apart.0
+]
+
+-- a task may rewrite another if lines do not bind it and it holds the kernel port
+may_by : (W : Wiring) (set : Fact → Bool) (t u : ℕ) → t < W.tasks → u ≢ t → is_bound W u ≡ false
+    → IsTrue (set (Hold u (kernel_class W t) Send))
+    → may_rewrite W set t u ≡ true
+may_by W set t u low other free held =
+    all_true (nat_lt t W.tasks) (u == t) (is_bound W u) (set (Hold u (kernel_class W t) Send))
+    (lt-ltb t W.tasks low) (unequal u t other) free held
+
 -- no set of facts is a yes, so no draft is accepted
 pub no_has_no_yes : HaveNoYes IsNo
 no_has_no_yes defs wiring policy claim mean refused certificate case says =
     let same = same_claim defs wiring policy claim case.claim mean
     (meant defs wiring policy certificate case says) in
     subst (λ (c : Claimed). IsNo c) same refused (has case.draft.facts) says.accepted.yes
+    says.accepted.secure
 
 -- a closed set has each fact of the least one, so a line that forbids one of these is broken
 broken_is_no : (claim : Claimed) → IsBroken claim → IsNo claim
-broken_is_no claim broken set says =
+broken_is_no claim broken set says secure =
     says.allowed broken.line broken.among (broken.least set says.closed)
 
 pub broken_has_none : HaveNoYes IsBroken
 broken_has_none defs wiring policy claim mean broken =
     no_has_no_yes defs wiring policy claim mean (broken_is_no claim broken)
+
+-- a closed set has each fact of the least one, so by it the task could rewrite the trusted one
+rewriter_is_no : (claim : Claimed) → HasRewriter claim → IsNo claim
+rewriter_is_no claim x set says secure =
+    let none = secure x.line x.among x.task x.there in
+    let some = may_by (wiring_of claim.table) set x.line.task x.task x.trusted x.other x.free
+    (x.least set says.closed) in
+    false≢true (sym none ∙ some)
+
+pub rewriter_has_none : HaveNoYes HasRewriter
+rewriter_has_none defs wiring policy claim mean x =
+    no_has_no_yes defs wiring policy claim mean (rewriter_is_no claim x)

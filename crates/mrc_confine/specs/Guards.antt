@@ -30,5 +30,5 @@ started case = record { confined = case; world = first (wiring_in case) }
 pub record IsGuarded (case : Case) (w : World) : Type 0 where
   pub well_formed : IsWellFormed (numbers_of (wiring_in case)) w
   pub covered : Covers (Has (has case.draft.facts)) w
-  pub safe : Breach w (policy_of case.claim) → ⊥
+  pub safe : Breach (wiring_in case) w (policy_of case.claim) → ⊥
   pub wired : (t : ℕ) → t < (wiring_in case).tasks → IsSome (get w.tasks t)

@@ -1,10 +1,12 @@
 -- What a yes means for every run of the machine: that of the checker to a certificate, and that of
 -- the least set of facts; and what a no means for certificates. This profile's own choice.
-use Rattle.std.specs.Prelude.{◌≡◌, ℕ, Bool, List, Ok, IsTrue}
+use Rattle.std.specs.Prelude.{◌≡◌, ◌≢◌, ◌<◌, ℕ, Bool, false, List, Ok, IsTrue}
 use Rattle.mrc_base.specs.declared.Fact.{Fact}
 use Rattle.mrc_base.specs.declared.Fact.TheVariants.{Hold}
+use Rattle.mrc_base.specs.declared.PortRight.TheVariants.{Send}
 use Rattle.mrc_certificate.specs.Drafts.{Content}
 use Rattle.mrc_check.specs.Texts.{SayYes}
+use Rattle.mrc_check.specs.Trusted.{AreSecure, is_bound}
 use Rattle.mrc_check.specs.Verdict.{Case, IsAccepted}
 use Rattle.mrc_facts.specs.Sets.{has}
 use Rattle.mrc_forms.specs.Tables.{Table as Interface}
@@ -15,7 +17,9 @@ use Rattle.mrc_model.specs.First.{first, is_sound}
 use Rattle.mrc_model.specs.IsIn.{IsIn}
 use Rattle.mrc_model.specs.Rules.{Has, IsLeast, Least, SaysYes}
 use Rattle.mrc_model.specs.Runs.{Event, Run}
+use Rattle.mrc_model.specs.Wiring.{kernel_class}
 use Rattle.mrc_model.specs.World.{World}
+use Rattle.mrc_wiring.specs.declared.table.TrustedLine.{TrustedLine}
 use Rattle.mrc_wiring.specs.Claims.{Claimed, forbidden_lines, policy_of}
 use Rattle.mrc_wiring.specs.Resolving.{resolved}
 use Rattle.mrc_wiring.specs.Table.{wiring_of}
@@ -33,7 +37,7 @@ LeadsTo claim events w = let W = wiring_of claim.table in Run W (first W) events
 abbrev pub IsSafeBy : Claimed → (Fact → Bool) → Type 0
 IsSafeBy claim set =
     (events : List Event) (w : World) → LeadsTo claim events w
-    → Covers (Has set) w × (Breach w (policy_of claim) → ⊥)
+    → Covers (Has set) w × (Breach (wiring_of claim.table) w (policy_of claim) → ⊥)
 
 -- this is so of a claim and the facts of a draft
 abbrev pub IsSafe : Case → Type 0
@@ -84,16 +88,30 @@ abbrev pub NoneIsAccepted : List (List ℕ) → (wiring policy : List ℕ) → T
 NoneIsAccepted defs wiring policy =
     (certificate : List ℕ) (case : Case) → SayYes defs wiring policy certificate case → ⊥
 
--- the checker says yes to no set of facts
+-- no set of facts is a yes and keeps each trusted task from being rewritten
 abbrev pub IsNo : Claimed → Type 0
 IsNo claim =
-    (set : Fact → Bool) → SaysYes (wiring_of claim.table) (policy_of claim) set → ⊥
+    (set : Fact → Bool) → SaysYes (wiring_of claim.table) (policy_of claim) set
+    → AreSecure (wiring_of claim.table) set claim.table.trusts → ⊥
 
 -- a line of the claim's policy forbids a fact that is in the least set: in each closed one
 pub record IsBroken (claim : Claimed) : Type 0 where
   pub line : Forbid
   pub among : IsIn line (policy_of claim)
   pub least : Least (wiring_of claim.table) (Hold line.task line.class line.right)
+
+-- a task that lines do not bind holds the kernel port of another one, which is trusted, by the
+-- least set: by each closed one
+pub record HasRewriter (claim : Claimed) : Type 0 where
+  pub line : TrustedLine
+  pub among : IsIn line claim.table.trusts
+  pub trusted : line.task < (wiring_of claim.table).tasks
+  pub task : ℕ
+  pub there : task < (wiring_of claim.table).tasks
+  pub other : task ≢ line.task
+  pub free : is_bound (wiring_of claim.table) task ≡ false
+  pub least : Least (wiring_of claim.table)
+      (Hold task (kernel_class (wiring_of claim.table) line.task) Send)
 
 -- no certificate is accepted for bytes that mean a claim of this kind
 abbrev pub HaveNoYes : (Claimed → Type 0) → Type 0

@@ -32,8 +32,8 @@ impl Model for Guarded {
 }
 
 impl Guarded {
-    /// The machine in the first state of the wiring that was checked. Where memory runs out, what
-    /// was checked comes back.
+    /// The machine in the first state of the wiring that was checked. If memory runs out, what was
+    /// checked comes back.
     pub fn start(alloc: Global, confined: Confined) -> Result<Guarded, Confined>
         // Whether or not it starts: every list of calls from the first state, by tasks in any order
         // and with any arguments, ends in a world that the accepted facts cover and that has no
@@ -49,9 +49,9 @@ impl Guarded {
         }
     }
 
-    /// One call of a task, made whole: the reply, with the world as the call leaves it. A reply
-    /// that is a refusal leaves it as it was, and so does want of memory, which is told only where
-    /// the call is not refused.
+    /// One call of a task, made whole: the reply, with the world as the call leaves it. A refusal
+    /// leaves the world unchanged, and so does out of memory, which is reported only if the call is
+    /// not refused.
     pub fn step(&mut self, caller: TaskId, call: &Call) -> Result<Reply, AllocError>
         ensures step { IfOk result (λ reply.
             step (wiring_in self.old.confined) self.old.world caller (call_of call.now)

@@ -1,7 +1,7 @@
 //! The laws above the checker and the machine, proved of the definitions alone. Each is the
 //! contract of a function that does nothing.
-ghost use Rattle.mrc_confine.specs.Safety.{AcceptedIsSafe, HaveNoYes, IsBroken, IsNo, IsSafe};
-ghost use Rattle.mrc_confine.specs.Safety.{VerifiedIsSafe, YesIsSafe};
+ghost use Rattle.mrc_confine.specs.Safety.{AcceptedIsSafe, HasRewriter, HaveNoYes, IsBroken, IsNo};
+ghost use Rattle.mrc_confine.specs.Safety.{IsSafe, VerifiedIsSafe, YesIsSafe};
 ghost use Rattle.mrc_model.specs.Headline.{CoveredIsSafe, FirstIsCovered, StepIsCovered};
 
 use mrc_check::Confined;
@@ -59,9 +59,11 @@ pub fn verified_is_safe()
     ensures safe { VerifiedIsSafe }
 {}
 
-/// Where the bytes of MIG files, a wiring and a policy mean a claim to which no set of facts is a
-/// yes, or of which a line forbids a fact of the least set, no certificate is accepted for them.
+/// The bytes of MIG files, a wiring and a policy mean a claim. In three cases no certificate is
+/// accepted for them: no set of facts is a yes and keeps each trusted task from being rewritten; a
+/// line forbids a fact of the least set; by the least set another task could rewrite a trusted one.
 pub fn broken_has_no_yes()
     ensures no { HaveNoYes IsNo }
     ensures broken { HaveNoYes IsBroken }
+    ensures rewritten { HaveNoYes HasRewriter }
 {}

@@ -253,4 +253,5 @@ module _ (W : Wiring) (G : FactSet) where
                 (task_class w) s u c sound range owes fact t apart) ∙ kept.tasks.gone t n e
           ];
         };
+        kernels = kept.kernels;
       }

@@ -14,26 +14,26 @@ use Rattle.mrc_model.proofs.Tries.{Gives, bind, bind_, checked, found, gives_ok}
 use Rattle.mrc_model.specs.CallSend.{admit_item, dead_taken, take_arg, take_args, take_dead}
 use Rattle.mrc_model.specs.CallSend.{take_item, take_items, take_live, take_named}
 use Rattle.mrc_model.specs.Covers.{Known}
-use Rattle.mrc_model.specs.Filter.{arg_name}
 use Rattle.mrc_model.specs.IsIn.{IsIn, here, later}
 use Rattle.mrc_model.specs.Map.{get, len}
 use Rattle.mrc_model.specs.Message.{Arg, Data, Ports}
 use Rattle.mrc_model.specs.Reply.{Reply}
 use Rattle.mrc_model.specs.Rules.{FactSet}
 use Rattle.mrc_model.specs.Step.{step}
-use Rattle.mrc_model.specs.Wiring.{Shape, Wiring, admits}
+use Rattle.mrc_model.specs.Wiring.{Shape, Wiring, admits, may, type_numbers}
 use Rattle.mrc_model.specs.World.{Held, QueuedArg, Store, arg_rights, args_rights, class_of}
 use Rattle.mrc_model.specs.World.{item_rights, items_rights, receives, space}
 use Rattle.mrc_model.specs.declared.Entry.{Entry}
 use Rattle.mrc_model.specs.declared.Entry.TheVariants.{DeadName as DeadEntry, SendOnce as OnceEntry}
 use Rattle.mrc_model.specs.declared.Entry.TheVariants.{Receive as ReceiveEntry, Send as SendEntry}
 use Rattle.mrc_model.specs.declared.Entry.TheVariants.{PortSet as SetEntry}
+use Rattle.mrc_model.specs.declared.Verb.TheVariants.{Sends}
 use Rattle.mrc_model.specs.declared.Item.{Item}
 use Rattle.mrc_model.specs.declared.Item.TheVariants.{Dead as DeadItem, Null as NullItem}
 use Rattle.mrc_model.specs.declared.Item.TheVariants.{Right as RightItem}
 use Rattle.mrc_cover.proofs.Entries.{IsLeft, all_is_left, dead_is_left, rights-dead_entry}
 use Rattle.mrc_cover.proofs.Entries.{rights_left}
-use Rattle.mrc_cover.proofs.Judging.{Fit, fits_next}
+use Rattle.mrc_cover.proofs.Judging.{Fit, Meets, fits_next}
 use Rattle.mrc_cover.proofs.Obeyed.{Obeys, obeys}
 use Rattle.mrc_cover.proofs.Rights.{Known-along, Known-append, Known-more, MayHold, receives-append}
 use Rattle.mrc_cover.proofs.Sound.{Leaves, SoundWith, changes_nothing, changes_then, exchange_hand}
@@ -163,12 +163,19 @@ module _ (W : Wiring) (G : FactSet) (task : ℕ → ℕ) (A : ℕ → Type 0) wh
   carries_weaker step c =
       record { leaves = c.leaves; known = Known-more step c.known; small = c.small }
 
-  -- an item of a slot, admitted
+  -- the rule of slots serves a right that is sent by this disposition in a slot of this type
+  abbrev Serves : (ℕ → PortRight → Type 0) → ℕ → ℕ → Disp → Type 0
+  Serves Q t sort x =
+      (c : ℕ) → admits W sort c ≡ true → may W Sends (task t) (given x) c ≡ true
+      → G (Hold (task t) c (needed x)) → Q c (given x)
+
+  -- an item of a slot, admitted, and sent by a task that may send it
   admitted : (s z : Store) (hand : List Held) (t sort i : ℕ) (x : Disp) (item : Item) (Q : ℕ
       → PortRight → Type 0)
-      → ((c : ℕ) → admits W sort c ≡ true → G (Hold (task t) c (needed x)) → Q c (given x))
+      → Serves Q t sort x
       → IsCarried s hand (item_rights item) (By t x) z
-      → Gives (λ _. IsCarried s hand (item_rights item) Q z) (admit_item W z sort i item)
+      → Gives (λ _. IsCarried s hand (item_rights item) Q z)
+      (admit_item W (task t) z sort i item)
   admitted s z hand t sort i x NullItem Q step c = gives_ok record {
     leaves = c.leaves;
     known = record { all = tt };
@@ -180,28 +187,32 @@ module _ (W : Wiring) (G : FactSet) (task : ℕ → ℕ) (A : ℕ → Type 0) wh
     small = c.small;
   }
   admitted s z hand t sort i x (RightItem p r) Q step c =
-      bind _ _ (found (get z.ports p) _) (λ y live. record {
+      bind _ _ (found (get z.ports p) _) (λ y live.
+      bind_ _ _ (checked (admits W sort y.class) _) (λ _ yes. record {
         holds = λ a e.
-            let yes = (checked (admits W sort y.class) _).holds a e in
+            let trusted = (checked (may W Sends (task t) r y.class) _).holds a e in
             let h = c.known.all.0 in
             let same : y.class ≡ h.0 = same_Some y.class h.0 (sym (live_class z p y live) ∙ h.1) in
-            let q : Q h.0 (given x) = step h.0 (rw same at yes) h.2.0 in
+            let sends : may W Sends (task t) (given x) h.0 ≡ true =
+            subst (λ v. may W Sends (task t) v h.0 ≡ true) h.2.1
+            (subst (λ v. may W Sends (task t) r v ≡ true) same trusted) in
+            let q : Q h.0 (given x) = step h.0 (rw same at yes) sends h.2.0 in
             record {
               leaves = c.leaves;
               known =
                   record { all = ((h.0, h.1, rw (sym h.2.1) at q), tt) };
               small = c.small;
             };
-      })
+      }))
 
   -- the items of one argument
   take_items_carry : Obeys W G
       → (s : Store) (hand : List Held) (t sort i : ℕ) (x : Disp) (ns : List ℕ) (Q : ℕ → PortRight
       → Type 0)
-      → ((c : ℕ) → admits W sort c ≡ true → G (Hold (task t) c (needed x)) → Q c (given x)) → A t
+      → Serves Q t sort x → A t
       → SoundWith W G task s hand
       → Gives (λ (r : Store × List Item). IsCarried s hand (items_rights r.1) Q r.0)
-      (take_items W t x sort i s ns)
+      (take_items W (task t) t x sort i s ns)
   take_items_carry obeys s hand t sort i x [] Q step mine sound =
       gives_ok (carries_nothing s hand Q sound)
   take_items_carry obeys s hand t sort i x (n ∷ ns) Q step mine sound =
@@ -211,29 +222,38 @@ module _ (W : Wiring) (G : FactSet) (task : ℕ → ℕ) (A : ℕ → Type 0) wh
       ++ hand) t sort i x ns Q step mine g.leaves.sound) (λ b k.
       gives_ok (carries_then g k))))
 
+  -- the argument carries rights by this disposition
+  abbrev CarriesBy : Arg → Disp → Type 0
+  CarriesBy (Data name size number bytes) x = ⊥
+  CarriesBy (Ports disp names) x = disp_of_number disp ≡ Some x
+
   -- one argument
   take_arg_carries : Obeys W G
       → (s : Store) (hand : List Held) (t sort i : ℕ) (a : Arg) (Q : ℕ → PortRight → Type 0)
-      → ((c : ℕ) (x : Disp) → disp_of_number (arg_name a) ≡ Some x → admits W sort c ≡ true
-      → G (Hold (task t) c (needed x)) → Q c (given x))
+      → ((x : Disp) → CarriesBy a x → Serves Q t sort x)
       → A t → SoundWith W G task s hand
       → Gives (λ (r : Store × QueuedArg). IsCarried s hand (arg_rights r.1) Q r.0)
-      (take_arg W t sort i s a)
+      (take_arg W (task t) t sort i s a)
   take_arg_carries obeys s hand t sort i (Data name size number bytes) Q step mine sound =
       gives_ok (carries_nothing s hand Q sound)
   take_arg_carries obeys s hand t sort i (Ports disp names) Q step mine sound =
       bind _ _ (found (disp_of_number disp) _) (λ x is.
       bind _ _
-      (take_items_carry obeys s hand t sort i x names Q (λ c a g. step c x is a g) mine sound)
+      (take_items_carry obeys s hand t sort i x names Q (step x is) mine sound)
       (λ b k.
       gives_ok k))
 
   -- the rule of slots serves each argument
   abbrev pub IsSlotOf : (ℕ → PortRight → Type 0) → ℕ → Shape → Type 0
   IsSlotOf Q t s =
-      (c : ℕ) (x : Disp) → disp_of_number s.name ≡ Some x → admits W s.sort c ≡ true
-      → G (Hold (task t) c (needed x))
-      → Q c (given x)
+      (n : ℕ) (x : Disp) → IsIn n (type_numbers s.types) → disp_of_number n ≡ Some x
+      → Serves Q t s.sort x
+
+  -- so an argument that meets the shape
+  slot_serves : (Q : ℕ → PortRight → Type 0) (t : ℕ) (s : Shape) (a : Arg) → Meets s a
+      → IsSlotOf Q t s → (x : Disp) → CarriesBy a x → Serves Q t s.sort x
+  slot_serves Q t s (Data name size number bytes) met step x by = absurd by
+  slot_serves Q t s (Ports disp names) met step x by = step disp x met by
 
   -- all arguments
   pub take_args_carry : Obeys W G
@@ -241,13 +261,13 @@ module _ (W : Wiring) (G : FactSet) (task : ℕ → ℕ) (A : ℕ → Type 0) wh
       → PortRight → Type 0)
       → Fit ss xs → ((h : Shape) → IsIn h ss → IsSlotOf Q t h) → A t → SoundWith W G task s hand
       → Gives (λ (r : Store × List QueuedArg). IsCarried s hand (args_rights r.1) Q r.0)
-      (take_args W t i ss s xs)
+      (take_args W (task t) t i ss s xs)
   take_args_carry obeys s hand t i ss [] Q fit step mine sound =
       gives_ok (carries_nothing s hand Q sound)
   take_args_carry obeys s hand t i [] (a ∷ more) Q fit step mine sound = elim fit [ ]
   take_args_carry obeys s hand t i (h ∷ ss) (a ∷ more) Q (fits_next k fit) step mine sound =
       bind _ _ (take_arg_carries obeys s hand t h.sort i a Q
-      (λ c x is yes g. step h (here) c x (ap disp_of_number k ∙ is) yes g) mine sound) (λ b l.
+      (slot_serves Q t h a k (step h (here))) mine sound) (λ b l.
       bind _ _ (take_args_carry obeys b.0 (arg_rights b.1 ++ hand) t (i + 1) ss more Q fit
       (λ v j. step v (later j)) mine l.leaves.sound) (λ d m.
       gives_ok (carries_then l m)))

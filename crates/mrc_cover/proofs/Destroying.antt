@@ -218,6 +218,7 @@ module _ (W : Wiring) (G : FactSet) where
               λ t n e. ap (λ x. get x n) (done.spaces t)
               ∙ space-none (dying s d) (space s t) n (m.gone t n e);
         };
+        kernels = kept.kernels;
       }
     where
       was : (s : Store) (dead : List ℕ) (p c : ℕ)

@@ -172,6 +172,7 @@ module _ (W : Wiring) where
         only = λ p c e. absurd (no_port p c e);
         gone = λ t n e. ap (λ x. get x n) (no_space t) ∙ get-empty n;
       };
+      kernels = λ t x e. absurd (not_None x (sym e ∙ get-empty t));
     };
     idle = λ p x is. absurd (not_None x (sym is ∙ get-empty p));
     alive = λ t l. absurd (omega arith);

@@ -3,32 +3,77 @@ use Rattle.mrc_base.specs.Disposition.{is_port_number}
 use Rattle.std.proofs.Common.{Bool, Err, List, None, Ok, Option, Some, [], ap, false, if◌then◌else◌}
 use Rattle.std.proofs.Common.{inl, inr, map, refl, subst, sym, true, ℕ, ◌&&◌, ◌+◌, ◌==◌, ◌∙◌, ◌∷◌}
 use Rattle.std.proofs.Common.{◌≡◌}
-use Rattle.std.proofs.lemmas.Bool.{eqb-true, or_right}
+use Rattle.std.proofs.lemmas.Bool.{and_from, and_parts, eqb-true, or_cases, or_right}
 use Rattle.std.specs.List.{find, list_any}
 use Rattle.std.specs.Prelude.{flat_map}
-use Rattle.mrc_model.proofs.Members.{in_append}
+use Rattle.mrc_model.proofs.Members.{any_more, in_append}
 use Rattle.mrc_model.proofs.Maps.{not_None, same_Some}
 use Rattle.mrc_model.proofs.Tries.{Gives, gives_err, gives_ok}
 use Rattle.mrc_model.specs.CallSend.{by_filter}
-use Rattle.mrc_model.specs.Filter.{arg_name, expected, first_alone, first_difference, fits_reply}
+use Rattle.mrc_model.specs.Filter.{difference, expected, first_alone, first_difference, fits_reply}
 use Rattle.mrc_model.specs.Filter.{has_size, is_zero_data, judge, judge_form, judge_found}
+use Rattle.mrc_model.specs.Filter.{or_behind}
 use Rattle.mrc_model.specs.IsIn.{IsIn, here, later}
-use Rattle.mrc_model.specs.Message.{Arg, Message}
-use Rattle.mrc_model.specs.Wiring.{Form, OfReply, OfRequest, RequestForm, Shape, Wiring}
+use Rattle.mrc_model.specs.Message.{Arg, Data, Message, Ports}
+use Rattle.mrc_model.specs.Wiring.{AnyData, Form, ItemTypes, OfReply, OfRequest, OneOf, RequestForm}
+use Rattle.mrc_model.specs.Wiring.{Shape, Wiring, type_numbers}
 use Rattle.mrc_model.specs.Wiring.{accepts_routine, form_id, form_shapes, forms, has_routine}
-use Rattle.mrc_model.specs.Wiring.{interface, is_routine, item_forms, label}
+use Rattle.mrc_model.specs.Wiring.{accepts_replier, accepts_reply, fits_at, interface, is_answered}
+use Rattle.mrc_model.specs.Wiring.{is_answered_at, is_routine, is_routine_of, item_forms, label}
 use Rattle.mrc_model.specs.declared.Denied.{Denied}
 use Rattle.mrc_model.specs.declared.Denied.TheVariants.{ReplySlot, WrongDisposition, WrongShape}
 use Rattle.mrc_model.specs.declared.LabelItem.{LabelItem}
 use Rattle.mrc_model.specs.declared.LabelItem.TheVariants.{Destroyed, Reply as ReplyOf}
 use Rattle.mrc_model.specs.declared.LabelItem.TheVariants.{Request as RequestOf}
 
+-- what rights the argument has are of one of the shape's types
+abbrev pub Meets : Shape → Arg → Type 0
+Meets s (Data name size number bytes) = Unit {0}
+Meets s (Ports disp names) = IsIn disp (type_numbers s.types)
+
 -- the arguments stand at shapes of their kinds
 pub data Fit : List Shape → List Arg → Type 0 where
   fits_none : {ss : List Shape} → Fit ss []
-  fits_next : {s : Shape} {ss : List Shape} {a : Arg} {more : List Arg} → s.name ≡ arg_name a
+  fits_next : {s : Shape} {ss : List Shape} {a : Arg} {more : List Arg} → Meets s a
       → Fit ss more
       → Fit (s ∷ ss) (a ∷ more)
+
+-- a number that is found in a list is in it
+number_in : (n : ℕ) (ns : List ℕ) → list_any (λ k. k == n) ns ≡ true → IsIn n ns
+number_in n [] e = cc
+number_in n (k ∷ ns) e = elim (or_cases (k == n) (list_any (λ k. k == n) ns) e) [
+  | inl z ↦ subst (λ v. IsIn n (v ∷ ns)) (sym (eqb-true k n z)) here
+  | inr z ↦ later (number_in n ns z)
+]
+
+-- an argument that does not differ from a shape meets it
+meets : (i : ℕ) (s : Shape) (a : Arg) → difference i s.types s a ≡ None → Meets s a
+meets i s (Data name size number bytes) e = tt
+meets i s (Ports disp names) e = by_types s.types e
+  where
+    never : (b : Bool) (x y : Denied) → (if b then Some x else Some y) ≡ None → ⊥
+    never true x y z = not_None x z
+    never false x y z = not_None y z
+
+    by_types : (ts : ItemTypes) → difference i ts s (Ports disp names) ≡ None
+        → IsIn disp (type_numbers ts)
+    by_types AnyData z = absurd (not_None _ z)
+    by_types (OneOf ns) z =
+        let go : (b c : Bool) → list_any (λ n. n == disp) ns ≡ c
+        → (if b then
+        (if c then None else if list_any is_port_number ns && is_port_number disp
+        then Some (WrongDisposition i) else Some (WrongShape i)) else Some (WrongShape i))
+        ≡ None
+        → IsIn disp ns = elim [
+          | true ↦ elim [
+            | true ↦ λ k v. number_in disp ns k
+            | false ↦ λ k v. absurd
+                (never (list_any is_port_number ns && is_port_number disp) (WrongDisposition i)
+                (WrongShape i) v)
+          ]
+          | false ↦ λ c k v. absurd (not_None (WrongShape i) v)
+        ] in
+        go (has_size s (Ports disp names)) (list_any (λ n. n == disp) ns) refl z
 
 -- where no difference is found the arguments fit
 fits : (i : ℕ) (ss : List Shape) (xs : List Arg) → first_difference i ss xs ≡ None → Fit ss xs
@@ -36,26 +81,12 @@ fits i [] [] e = fits_none
 fits i [] (a ∷ more) e = absurd (not_None _ e)
 fits i (s ∷ ss) [] e = fits_none
 fits i (s ∷ ss) (a ∷ more) e =
-    let go : (b c : Bool) → (s.name == arg_name a) ≡ c
-    → (if b then
-    (if c then first_difference (i + 1) ss more else if is_port_number s.name && is_port_number
-    (arg_name a) then Some (WrongDisposition i) else Some (WrongShape i)) else Some (WrongShape i))
-    ≡ None
-    → Fit (s ∷ ss) (a ∷ more) = elim [
-      | true ↦ elim [
-        | true ↦ λ k z. fits_next (eqb-true s.name (arg_name a) k)
-            (fits (i + 1) ss more z)
-        | false ↦ λ k z. absurd
-            (never (is_port_number s.name && is_port_number (arg_name a)) (WrongDisposition i)
-            (WrongShape i) z)
-      ]
-      | false ↦ λ c k z. absurd (not_None (WrongShape i) z)
+    let go : (o : Option Denied) → difference i s.types s a ≡ o
+    → or_behind o (first_difference (i + 1) ss more) ≡ None → Fit (s ∷ ss) (a ∷ more) = elim [
+      | None ↦ λ k z. fits_next (meets i s a k) (fits (i + 1) ss more z)
+      | Some d ↦ λ k z. absurd (not_None d z)
     ] in
-    go (has_size s a) (s.name == arg_name a) refl e
-  where
-    never : (b : Bool) (x y : Denied) → (if b then Some x else Some y) ≡ None → ⊥
-    never true x y z = not_None x z
-    never false x y z = not_None y z
+    go (difference i s.types s a) refl e
 
 -- what fits the first shape alone fits all shapes
 fit_alone : (ss : List Shape) (xs : List Arg) → Fit (first_alone ss) xs → Fit ss xs
@@ -155,3 +186,26 @@ routine_accepted W d f i e = of_items (label W d) i
           | inl a ↦ let is = item_routine W f x a e in rw is
           | inr b ↦ or_right (has_routine W x) (list_any (has_routine W) more) (of_items more b)
         ]
+
+-- an item that answers a request with this id at c answers some request there
+answered : (W : Wiring) (id c : ℕ) (x : LabelItem) → is_answered_at W id c x ≡ true
+    → is_answered W c x ≡ true
+answered W id c (RequestOf s) e =
+    let z = and_parts (list_any (is_routine_of id) (interface W s).requests) (accepts_reply W c s) e
+    in
+    and_from _ _
+    (any_more (is_routine_of id) is_routine (interface W s).requests
+    (λ f h. (and_parts (is_routine f) (f.id == id) h).0) z.0) z.1
+answered W id c (ReplyOf s) e = cc
+answered W id c Destroyed e = cc
+
+-- so a reply right that fits a routine's request to a class can come with some request there
+pub replier_accepted : (W : Wiring) (d id c : ℕ) → accepts_routine W d ≡ true
+    → fits_at W d id c ≡ true → accepts_replier W d c ≡ true
+unfolding fits_at accepts_replier
+replier_accepted W d id c routine = go W.replies_fit
+  where
+    go : (b : Bool) → (if b then list_any (is_answered_at W id c) (label W d) else true) ≡ true
+        → (if b then list_any (is_answered W c) (label W d) else accepts_routine W d) ≡ true
+    go true e = any_more (is_answered_at W id c) (is_answered W c) (label W d) (answered W id c) e
+    go false e = routine

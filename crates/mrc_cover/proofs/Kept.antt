@@ -36,6 +36,8 @@ pub record Kept (W : Wiring) (G : FactSet) (w : World) : Type 0 where
   pub sound : SoundWith W G (task_class w) w.store []
   pub few : (t : ℕ) → len (space w.store t) ≤ 4096
   pub tasks : IsManned (numbers_of W) w
+  pub kernels : (t : ℕ) (x : Task) → get w.tasks t ≡ Some x → x.alive ≡ true
+      → G (Hold x.class (kernel_class W x.class) Send)
 
 -- a call keeps the world so where it is not refused
 abbrev pub Keeps : Wiring → FactSet → Try (World × Reply) → Type 0
@@ -63,8 +65,12 @@ module _ (W : Wiring) (G : FactSet) where
   pub keeps_with : (w : World) (s : Store) → Kept W G w
       → Leaves W G (task_class w) (IsAlive w) w.store [] s
       → ((t : ℕ) → len (space s t) ≤ 4096) → Kept W G (with_store w s)
-  keeps_with w s kept leaves few =
-      record { sound = leaves.sound; few = few; tasks = manned_along w s kept.tasks leaves.changes }
+  keeps_with w s kept leaves few = record {
+    sound = leaves.sound;
+    few = few;
+    tasks = manned_along w s kept.tasks leaves.changes;
+    kernels = kept.kernels;
+  }
 
   -- the call's task may act for this one
   pub record IsTarget (w : World) (t u : ℕ) : Type 0 where

@@ -11,6 +11,7 @@ pub mod Gaining
 pub mod Giving
 -- what every call keeps
 pub mod Kept
+pub mod Trusting
 pub mod Altering
 -- rights are destroyed, and ports die
 pub mod Pruning

@@ -294,6 +294,10 @@ module _ (W : Wiring) (G : FactSet) (base : World) (number wired : ℕ) (kept : 
             (ap is_alive (sym (get-insert_other base.tasks number task t apart)) ∙ e)
       ];
     };
+    kernels = λ t x is a. elim (task_origin t x is) [
+      | inl h ↦ subst (λ (v : Task). G (Hold v.class (kernel_class W v.class) Send)) h.1 fact
+      | inr h ↦ kept.kernels t x h.1 a
+    ];
   }
     where
       its_fact : (u : ℕ) → u ≡ number

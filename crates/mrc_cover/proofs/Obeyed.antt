@@ -8,8 +8,10 @@ use Rattle.mrc_base.specs.declared.PortRight.TheVariants.{Receive, Send, SendOnc
 use Rattle.mrc_model.specs.IsIn.{IsIn}
 use Rattle.mrc_model.specs.Rules.{CanSendBy, Closed, FactSet, InRange, k10, k2, k3_once, k3_send}
 use Rattle.mrc_model.specs.Rules.{k4, k5, k6, k7_down, k7_up, k8, k9}
-use Rattle.mrc_model.specs.Wiring.{Form, Shape, Wiring, accepts_destroyed, accepts_routine, admits}
-use Rattle.mrc_model.specs.Wiring.{births_class, classes, form_shapes, forms, kernel_class}
+use Rattle.mrc_model.specs.Wiring.{Form, Shape, Wiring, accepts_destroyed, accepts_replier, admits}
+use Rattle.mrc_model.specs.Wiring.{births_class, classes, form_shapes, forms, kernel_class, may}
+use Rattle.mrc_model.specs.Wiring.{type_numbers}
+use Rattle.mrc_model.specs.declared.Verb.TheVariants.{Gives, Replies, Sends, Takes}
 
 -- each rule as a function from the facts of its premises to that of its conclusion
 pub record Obeys (W : Wiring) (G : FactSet) : Type 0 where
@@ -17,18 +19,23 @@ pub record Obeys (W : Wiring) (G : FactSet) : Type 0 where
       → G (Hold t c Receive)
   pub sends : {t c : ℕ} → G (Hold t c Receive) → G (Hold t c Send)
   pub onces : {t c : ℕ} → G (Hold t c Receive) → G (Hold t c SendOnce)
-  pub slot : {t d c : ℕ} {r : PortRight} {f : Form} {s : Shape} {x : Disp} → CanSendBy r
+  pub slot : {t d c n : ℕ} {r : PortRight} {f : Form} {s : Shape} {x : Disp} → CanSendBy r
       → IsIn f (forms W d)
-      → IsIn s (form_shapes f) → disp_of_number s.name ≡ Some x → admits W s.sort c ≡ true
+      → IsIn s (form_shapes f) → IsIn n (type_numbers s.types) → disp_of_number n ≡ Some x
+      → admits W s.sort c ≡ true
+      → may W Sends t (given x) c ≡ true
       → G (Hold t d r) → G (Hold t c (needed x)) → G (Carry d c (given x))
-  pub reply : {t d c : ℕ} {r : PortRight} → CanSendBy r → accepts_routine W d ≡ true
+  pub reply : {t d c : ℕ} {r : PortRight} → CanSendBy r → accepts_replier W d c ≡ true
+      → may W Replies t SendOnce c ≡ true
       → G (Hold t d r) → G (Hold t c SendOnce) → G (Carry d c SendOnce)
   pub receive : {t d c : ℕ} {r : PortRight} → G (Hold t d Receive) → G (Carry d c r)
       → G (Hold t c r)
-  pub up : {t u c : ℕ} {r : PortRight} → G (Hold t (kernel_class W u) Send) → u < W.tasks
+  pub up : {t u c : ℕ} {r : PortRight} → may W Takes t r c ≡ true
+      → G (Hold t (kernel_class W u) Send) → u < W.tasks
       → G (Hold u c r)
       → G (Hold t c r)
-  pub down : {t u c : ℕ} {r : PortRight} → G (Hold t (kernel_class W u) Send) → u < W.tasks
+  pub down : {t u c : ℕ} {r : PortRight} → may W Gives t r c ≡ true
+      → G (Hold t (kernel_class W u) Send) → u < W.tasks
       → G (Hold t c r)
       → G (Hold u c r)
   pub backup : {t c d : ℕ} → accepts_destroyed W d ≡ true → G (Hold t c Receive)
@@ -49,21 +56,21 @@ obeys W F closed = record {
       (r, closed _ _ _ (k2 kind is) tt r);
   sends = λ p. (p.0, closed _ _ _ k3_send (p, tt) p.0);
   onces = λ p. (p.0, closed _ _ _ k3_once (p, tt) p.0);
-  slot = λ {t} {d} {c} {r} {f} {s} {x} a b e g h p q.
+  slot = λ {t} {d} {c} {n} {r} {f} {s} {x} a b e j g h m p q.
       let i : InRange W (Carry d c (given x)) = (p.0.1, q.0.1) in
-      (i, closed _ _ _ (k4 {f = f} {s = s} {x = x} a b e g h) (p, (q, tt)) i);
-  reply = λ {t} {d} {c} {r} a b p q.
+      (i, closed _ _ _ (k4 {n = n} {f = f} {s = s} {x = x} a b e j g h m) (p, (q, tt)) i);
+  reply = λ {t} {d} {c} {r} a b m p q.
       let k : InRange W (Carry d c SendOnce) = (p.0.1, q.0.1) in
-      (k, closed _ _ _ (k5 a b) (p, (q, tt)) k);
+      (k, closed _ _ _ (k5 a b m) (p, (q, tt)) k);
   receive =
       λ {t} {d} {c} {r} p q. let k : InRange W (Hold t c r) = (p.0.0, q.0.1) in
       (k, closed _ _ _ k6 (p, (q, tt)) k);
-  up = λ {t} {u} {c} {r} p l q.
+  up = λ {t} {u} {c} {r} m p l q.
       let k : InRange W (Hold t c r) = (p.0.0, q.0.1) in
-      (k, closed _ _ _ (k7_up {u = u}) (p, (q, tt)) k);
-  down = λ {t} {u} {c} {r} p l q.
+      (k, closed _ _ _ (k7_up {u = u} m) (p, (q, tt)) k);
+  down = λ {t} {u} {c} {r} m p l q.
       let k : InRange W (Hold u c r) = (l, q.0.1) in
-      (k, closed _ _ _ (k7_down {t = t}) (p, (q, tt)) k);
+      (k, closed _ _ _ (k7_down {t = t} m) (p, (q, tt)) k);
   backup = λ {t} {c} {d} a p q.
       let k : InRange W (BackupFact c d) = (p.0.1, q.0.1) in
       (k, closed _ _ _ (k8 {t = t} a) (p, (q, tt)) k);

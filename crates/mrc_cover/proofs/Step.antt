@@ -54,7 +54,7 @@ module _ (W : Wiring) (G : FactSet) (obeys : Obeys W G) where
   call_keeps w t (ListNames task) alive kept = names_keeps W G w t task kept
   call_keeps w t (Rename task old new) alive kept = rename_keeps W G w t task old new kept
   call_keeps w t (Terminate task) alive kept = terminate_keeps W G obeys w t task kept
-  call_keeps w t (CreateTask task) alive kept = create_task_keeps W G obeys w t task alive kept
+  call_keeps w t (CreateTask task) alive kept = create_task_keeps W G w t task alive kept
 
   -- a refusal changes nothing
   concluded_keeps : (w : World) (r : Try (World × Reply)) → Kept W G w → Keeps W G r

@@ -1,6 +1,6 @@
 -- task_create keeps a world well formed and covered. The new task's own send right to its kernel
--- port is one that the task it is made from may hold (K7), and the caller's is one that it held
--- already, by its class.
+-- port is one that the task it is made from may hold, and the caller's is one that it held already,
+-- by its class.
 use Rattle.std.proofs.Common.{None, [], ap, arith, false, inl, inr, refl, subst, sym}
 use Rattle.std.proofs.Common.{true, ℕ, ◌∙◌, ◌≡◌}
 use Rattle.std.proofs.lemmas.Bool.{both_ways, cases_eq}
@@ -23,7 +23,6 @@ use Rattle.mrc_cover.proofs.Kept.{IsAlive, IsTarget, Keeps, Kept, keeps_with, ta
 use Rattle.mrc_cover.proofs.Kept.{task_class_is}
 use Rattle.mrc_cover.proofs.NewTask.{new_task_class, new_task_classes, new_task_keeps}
 use Rattle.mrc_cover.proofs.NewTask.{new_task_spaces}
-use Rattle.mrc_cover.proofs.Obeyed.{Obeys}
 use Rattle.mrc_cover.proofs.Rights.{MayHold, right_on}
 use Rattle.mrc_cover.proofs.Sound.{exchange_hand}
 
@@ -91,10 +90,10 @@ module _ (W : Wiring) (G : FactSet) (w : World) (t u : ℕ) (alive : IsAlive w t
 
 module _ (W : Wiring) (G : FactSet) where
   -- task_create
-  pub create_task_keeps : Obeys W G → (w : World) (t task : ℕ) → IsAlive w t → Kept W G w
+  pub create_task_keeps : (w : World) (t task : ℕ) → IsAlive w t → Kept W G w
       → Keeps W G (call_create_task w t task)
   unfolding call_create_task number made
-  create_task_keeps obeys w t task alive kept =
+  create_task_keeps w t task alive kept =
       bind _ _ (target_is W G w t task _ kept) (λ u is.
       bind _ _ (found (get w.tasks u) _) (λ x at.
       bind _ _ (found (class_of w.store x.kernel) _) (λ c has.
@@ -104,5 +103,6 @@ module _ (W : Wiring) (G : FactSet) where
       let lives : x.alive ≡ true = sym (ap is_alive at) ∙ is.alive.of in
       let kernel : c ≡ kernel_class W (task_class w u) =
       same_Some c _ (sym has ∙ kept.tasks.kernel u x at lives) ∙ ap (kernel_class W) (sym class) in
-      gives_ok (rw (kernel, sym class) (made_and_given W G w t u alive is kept
-      (obeys.down is.acts is.class is.acts) room)))))))
+      let own = subst (λ v. G (Hold v (kernel_class W v) Send)) (sym class)
+      (kept.kernels u x at lives) in
+      gives_ok (rw (kernel, sym class) (made_and_given W G w t u alive is kept own room)))))))

@@ -1,9 +1,10 @@
 -- request_notification keeps a world well formed and covered. New is the request: its send-once
--- right is the caller's, so by K7 one that the task may hold, which has the port's receive right,
--- and so the fact comes by K8. New is also that the caller holds the right of the request before,
--- which by K10 the task may hold, and by K7 the caller.
+-- right is the caller's, which is trusted to give it, so by K7 one that the task may hold, which
+-- has the port's receive right, and so the fact comes by K8. New is also that the caller holds the
+-- right of the request before, which by K10 the task may hold, and by K7 the caller, which is
+-- trusted to take it.
 use Rattle.std.proofs.Common.{Bool, Ok, Option, Some, [], ap, arith, false, if◌then◌else◌, inl, inr}
-use Rattle.std.proofs.Common.{refl, sym, true, ℕ, ◌&&◌, ◌==◌, ◌∙◌, ◌∷◌, ◌≡◌, ◌≤◌}
+use Rattle.std.proofs.Common.{refl, subst, sym, true, ℕ, ◌&&◌, ◌==◌, ◌∙◌, ◌∷◌, ◌≡◌, ◌≤◌}
 use Rattle.std.proofs.Math.Nat.{le_trans}
 use Rattle.std.proofs.lemmas.Bool.{and_parts, cases_eq}
 use Rattle.mrc_base.specs.Disposition.{given}
@@ -14,13 +15,15 @@ use Rattle.mrc_base.specs.declared.Fact.TheVariants.{Hold}
 use Rattle.mrc_base.specs.declared.PortRight.TheVariants.{Receive, SendOnce}
 use Rattle.mrc_model.proofs.Maps.{not_None, same_Some}
 use Rattle.mrc_model.proofs.Tries.{Gives, bind, bind_, checked, found, gives_ok, not_refused}
-use Rattle.mrc_model.specs.CallRequestNotification.{call_request_notification, give_backup}
+use Rattle.mrc_model.specs.CallRequestNotification.{backup_item, call_request_notification}
+use Rattle.mrc_model.specs.CallRequestNotification.{give_backup}
 use Rattle.mrc_model.specs.CallRequestNotification.{is_live_backup, is_notify_disp, new_backup}
 use Rattle.mrc_model.specs.CallRequestNotification.{received_port, take_backup}
 use Rattle.mrc_model.specs.Covers.{IsBackup}
 use Rattle.mrc_model.specs.Map.{get, len}
 use Rattle.mrc_model.specs.Rules.{FactSet}
 use Rattle.mrc_model.specs.Space.{give_item, is_full}
+use Rattle.mrc_model.specs.Trust.{may_on}
 use Rattle.mrc_model.specs.Wiring.{Wiring, accepts_destroyed}
 use Rattle.mrc_model.specs.World.{Port, Store, World, class_of, receives, set_port, space}
 use Rattle.mrc_model.specs.World.{task_class}
@@ -31,6 +34,8 @@ use Rattle.mrc_model.specs.declared.Entry.{Entry}
 use Rattle.mrc_model.specs.declared.Entry.TheVariants.{DeadName as DeadEntry, SendOnce as OnceEntry}
 use Rattle.mrc_model.specs.declared.Entry.TheVariants.{Receive as ReceiveEntry, Send as SendEntry}
 use Rattle.mrc_model.specs.declared.Entry.TheVariants.{PortSet as SetEntry}
+use Rattle.mrc_model.specs.declared.Item.TheVariants.{Right as RightItem}
+use Rattle.mrc_model.specs.declared.Verb.TheVariants.{Gives as GivesVerb, Takes}
 use Rattle.mrc_cover.proofs.Gaining.{room_if_not_full}
 use Rattle.mrc_cover.proofs.Giving.{give_right_leaves}
 use Rattle.mrc_cover.proofs.Kept.{IsAlive, Keeps, Kept, entry_is, keeps_with, target_is}
@@ -40,6 +45,7 @@ use Rattle.mrc_cover.proofs.Sound.{Leaves, SoundWith, changes_nothing, changes_t
 use Rattle.mrc_cover.proofs.Sound.{leaves_then, set_port_changes, set_port_sound}
 use Rattle.mrc_cover.proofs.Stores.{live_class}
 use Rattle.mrc_cover.proofs.Taking.{take_leaves}
+use Rattle.mrc_cover.proofs.Trusting.{given_fact, taken_fact}
 
 -- the port of a receive right
 received_is : (e : Entry) (p : ℕ) → received_port e ≡ Some p
@@ -151,7 +157,9 @@ module _ (W : Wiring) (G : FactSet) where
       bind _ _ (found (received_port e) _) (λ p got.
       let once = (and_parts _ _ (and_parts (id == 69) _ asked).1).1 in
       bind _ _ (new_backup_is W G obeys τ A w.store t notify x once alive kept.sound) (λ r h.
+      bind_ _ _ (checked (may_on W w GivesVerb t u (backup_item r.1)) _) (λ _ gives.
       bind _ _ (found (get r.0.ports p) _) (λ y live.
+      bind_ _ _ (checked (may_on W w Takes t u (backup_item y.backup)) _) (λ _ takes.
       bind_ _ _ (not_refused (is_live_backup y.backup && is_full (space r.0 t)) _) (λ _ room.
       let (k, i, shape) = received_is e p got in
       let held = (kept.sound.covers.held u name (ReceiveEntry p k i) (at
@@ -168,21 +176,32 @@ module _ (W : Wiring) (G : FactSet) where
             record {
               live = λ q e.
                   let b = h.backup.live q e in
-                  (b.0, b.1, obeys.backup b.2.0 receive (obeys.down is.acts is.class b.2.1));
+                  let class = sym (h.leaves.changes.classes q) ∙ b.1 in
+                  let trusted : may_on W w GivesVerb t u (RightItem q SendOnce) ≡ true =
+                  subst (λ v. may_on W w GivesVerb t u (backup_item v) ≡ true) e gives in (
+                    b.0,
+                    b.1,
+                    obeys.backup b.2.0 receive
+                        (given_fact W G obeys w t u q b.0 SendOnce is class trusted b.2.1),
+                  );
             };
         changes = set_port_changes r.0 p y z live refl;
       } in
       let previous : IsBackup (class_of (set_port r.0 p z))
       (λ d. G (Hold (τ t) d SendOnce)) y.backup = record {
         live = λ q e.
-            let b = (h.leaves.sound.covers.backups p y live).live q e in (
+            let b = (h.leaves.sound.covers.backups p y live).live q e in
+            let class = sym (h.leaves.changes.classes q) ∙ b.1 in
+            let trusted : may_on W w Takes t u (RightItem q SendOnce) ≡ true =
+            subst (λ v. may_on W w Takes t u (backup_item v) ≡ true) e takes in (
               b.0,
               mid.changes.classes q
                   ∙ b.1,
-              obeys.up is.acts is.class (obeys.previous receive b.2),
+              taken_fact W G obeys w t u q b.0 SendOnce is class trusted
+                  (obeys.previous receive b.2),
             );
       } in
       let end = backup_given w (set_port r.0 p z) t y.backup alive mid.sound previous room
       (λ u. le_trans (h.small u) (kept.few u)) in
       gives_ok (keeps_with W G w (give_backup (set_port r.0 p z) t y.backup).0 kept
-      (leaves_then (changes_then h.leaves.changes mid.changes) end.0) end.1))))))))
+      (leaves_then (changes_then h.leaves.changes mid.changes) end.0) end.1))))))))))

@@ -212,6 +212,7 @@ module _ (W : Wiring) (G : FactSet) (obeys : Obeys W G) (w : World) (u : ℕ) (x
             (sym (get-insert_other w.tasks u (record x { alive = false }) t apart)) ∙ e)
       ]);
     };
+    kernels = λ t y is a. kept.kernels t y (task_after t y is a).1 a;
   }
 
 -- the task that is alive

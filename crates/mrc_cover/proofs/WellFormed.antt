@@ -1,6 +1,7 @@
 -- What every call keeps is that a world is well formed and covered, for the facts over the wiring's
 -- tasks and classes.
-use Rattle.std.proofs.Common.{List, None, Option, Some, [], arith, inl, inr, refl, sym, true, ℕ}
+use Rattle.std.proofs.Common.{List, None, Option, Some, [], arith, inl, inr, refl, subst, sym, true}
+use Rattle.std.proofs.Common.{ℕ}
 use Rattle.std.proofs.Common.{◌<◌, ◌∙◌, ◌∷◌, ◌≡◌}
 use Rattle.std.proofs.lemmas.Bool.{cases_Bool}
 use Rattle.std.specs.List.{AllByRecursion}
@@ -8,13 +9,14 @@ use Rattle.std.specs.Option.{option_map, unwrap_or}
 use Rattle.mrc_base.specs.declared.Fact.{Fact}
 use Rattle.mrc_base.specs.declared.Fact.TheVariants.{Backup as BackupFact, Carry, Hold}
 use Rattle.mrc_base.specs.declared.PortRight.{PortRight}
-use Rattle.mrc_model.proofs.Maps.{not_None}
+use Rattle.mrc_base.specs.declared.PortRight.TheVariants.{Send}
+use Rattle.mrc_model.proofs.Maps.{not_None, same_Some}
 use Rattle.mrc_model.specs.Covers.{Covers, HasSpaces, IsManned, IsWellFormed, KnownAt}
 use Rattle.mrc_model.specs.Map.{get}
 use Rattle.mrc_model.specs.Rules.{FactSet}
 use Rattle.mrc_model.specs.Step.{step}
 use Rattle.mrc_model.specs.Target.{is_alive}
-use Rattle.mrc_model.specs.Wiring.{Wiring, classes, numbers_of}
+use Rattle.mrc_model.specs.Wiring.{Wiring, classes, kernel_class, numbers_of}
 use Rattle.mrc_model.specs.World.{Held, Task, World, class_of, entry_rights, queue_rights, space}
 use Rattle.mrc_model.specs.World.{task_class}
 use Rattle.mrc_model.specs.declared.Entry.{Entry}
@@ -67,6 +69,12 @@ module _ (W : Wiring) (F : FactSet) (w : World) where
       record {
         few = wf.few;
         tasks = wf.tasks;
+        kernels = λ t x at alive.
+            let its = covers.kernels t x at alive in
+            let same : its.0 ≡ kernel_class W x.class =
+            same_Some _ _ (sym its.1 ∙ wf.tasks.kernel t x at alive) in
+            let low = wf.tasks.class t x at in
+            ((low, omega arith), subst (λ v. F (Hold x.class v Send)) same its.2);
         sound = record {
           receive_once = λ p c e. let a = wf.receive_once p c e in omega arith;
           numbers = wf.numbers;
@@ -79,18 +87,19 @@ module _ (W : Wiring) (F : FactSet) (w : World) where
                   all =
                       all_ranged (MayHold (Ranged W F) (task_class w t))
                       (MayHold F (task_class w t))
-                      (entry_rights e) range (λ c r l f. ((its, l), f)) (covers.held t n e is).all;
+                      (entry_rights e) range (λ c r l f. ((its, l), f))
+                      (covers.store.held t n e is).all;
                 };
             carried = λ q x is. let its = range q x.class (live_class w.store q x is) in
                 record {
                   all =
                       all_ranged (MayCarry (Ranged W F) x.class) (MayCarry F x.class)
                       (queue_rights x.queue) range
-                      (λ c r l f. ((its, l), f)) (covers.carried q x is).all;
+                      (λ c r l f. ((its, l), f)) (covers.store.carried q x is).all;
                 };
             backups = λ p x is. let its = range p x.class (live_class w.store p x is) in
                 record {
-                  live = λ q e. let h = (covers.backups p x is).live q e in
+                  live = λ q e. let h = (covers.store.backups p x is).live q e in
                       (h.0, h.1, ((its, range q h.0 h.1), h.2));
                 };
           };
@@ -100,16 +109,23 @@ module _ (W : Wiring) (F : FactSet) (w : World) where
   -- what is kept is covered by each set that has the facts in range
   less : (P : FactSet) → ((f : Fact) → Ranged W F f → P f) → Kept W (Ranged W F) w → Covers P w
   less P step kept = record {
-    held =
-        λ t n e is. Known-more (λ c r. step (Hold (task_class w t) c r))
-        (kept.sound.covers.held t n e is);
-    carried =
-        λ q x is. Known-more (λ c r. step (Carry x.class c r)) (kept.sound.covers.carried q x is);
-    backups = λ p x is. record {
-      live = λ q e.
-          let h = (kept.sound.covers.backups p x is).live q e in
-          (h.0, h.1, step (BackupFact x.class h.0) h.2);
+    store = record {
+      held =
+          λ t n e is. Known-more (λ c r. step (Hold (task_class w t) c r))
+          (kept.sound.covers.held t n e is);
+      carried =
+          λ q x is. Known-more (λ c r. step (Carry x.class c r)) (kept.sound.covers.carried q x is);
+      backups = λ p x is. record {
+        live = λ q e.
+            let h = (kept.sound.covers.backups p x is).live q e in
+            (h.0, h.1, step (BackupFact x.class h.0) h.2);
+      };
     };
+    kernels = λ t x at alive. (
+      kernel_class W x.class,
+      kept.tasks.kernel t x at alive,
+      step (Hold x.class (kernel_class W x.class) Send) (kept.kernels t x at alive),
+    );
   }
 
   -- so it is covered

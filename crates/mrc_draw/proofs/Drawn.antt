@@ -12,8 +12,10 @@ use Rattle.mrc_base.specs.declared.PortRight.{PortRight}
 use Rattle.mrc_base.specs.declared.PortRight.TheVariants.{Send, Receive, SendOnce}
 use Rattle.mrc_base.specs.declared.Fact.TheVariants.{Hold, Carry, Backup}
 use Rattle.mrc_model.specs.IsIn.{IsIn, here, later}
-use Rattle.mrc_model.specs.Wiring.{classes, kernel_class}
-use Rattle.mrc_model.specs.Rules.{Has, Closed, k7_up}
+use Rattle.mrc_model.specs.declared.Verb.{Verb}
+use Rattle.mrc_model.specs.declared.Verb.TheVariants.{Takes, Gives}
+use Rattle.mrc_model.specs.Wiring.{Wiring, classes, is_limited, kernel_class, may, trusts_by}
+use Rattle.mrc_model.specs.Rules.{Has, Closed, k7_up, k7_down}
 use Rattle.mrc_model.proofs.Members.{in_left, in_right, in_append, in_filter, filter_in}
 use Rattle.mrc_model.proofs.FirstHeld.{in_cons, in_one}
 use Rattle.mrc_wiring.proofs.Takers.{found, finds}
@@ -304,17 +306,37 @@ from_range a (suc n) k at = elim (in_cons k a (range_with_len (a + 1) n) at) [
   | inr rest ↦ let h = from_range (a + 1) n k rest in omega (arith, h)
 ]
 
-module _ (P : Picture) (closed : Closed (wiring_of P.table) (Has P.facts)) where
-  taken : (t u c : ℕ) (r : PortRight) → holds_kernel P t u ≡ true → t < length P.table.names
-      → u < length P.table.names → c < classes (wiring_of P.table)
+-- no line limits the task
+module _ (W : Wiring) (v : Verb) (t : ℕ) (free : is_limited W v t ≡ false) where
+  may_all : (r : PortRight) (c : ℕ) → may W v t r c ≡ true
+  unfolding may
+  may_all r c = ap (λ b. if b then list_any (trusts_by v t r c) W.trusted else true) free
+
+module _ (P : Picture) (closed : Closed (wiring_of P.table) (Has P.facts)) (t u c : ℕ)
+    (r : PortRight) (h : holds_kernel P t u ≡ true) (at_t : t < length P.table.names)
+    (at_u : u < length P.table.names) (at_c : c < classes (wiring_of P.table)) where
+  at_kernel : kernel_class (wiring_of P.table) u < classes (wiring_of P.table)
+  at_kernel = omega (arith, at_u)
+
+  holds : P.facts (Hold t (kernel_class (wiring_of P.table) u) Send) ≡ true
+  holds = (and_parts (nat_lt u (length P.table.names))
+      (P.facts (Hold t (kernel_class (wiring_of P.table) u) Send)) h).1
+
+  taken : is_limited (wiring_of P.table) Takes t ≡ false
       → P.facts (Hold u c r) ≡ true → P.facts (Hold t c r) ≡ true
-  taken t u c r h at_t at_u at_c is =
+  taken free is =
       let W = wiring_of P.table in
-      let parts = and_parts (nat_lt u (length P.table.names))
-      (P.facts (Hold t (kernel_class W u) Send)) h in
-      let at_kernel : kernel_class W u < classes W = omega (arith, at_u) in
-      closed 7 (Hold t (kernel_class W u) Send ∷ Hold u c r ∷ []) (Hold t c r) k7_up
-      (((at_t, at_kernel), parts.1), (((at_u, at_c), is), tt)) (at_t, at_c)
+      closed 7 (Hold t (kernel_class W u) Send ∷ Hold u c r ∷ []) (Hold t c r)
+      (k7_up (may_all W Takes t free r c))
+      (((at_t, at_kernel), holds), (((at_u, at_c), is), tt)) (at_t, at_c)
+
+  given : is_limited (wiring_of P.table) Gives t ≡ false
+      → P.facts (Hold t c r) ≡ true → P.facts (Hold u c r) ≡ true
+  given free is =
+      let W = wiring_of P.table in
+      closed 7 (Hold t (kernel_class W u) Send ∷ Hold t c r ∷ []) (Hold u c r)
+      (k7_down (may_all W Gives t free r c))
+      (((at_t, at_kernel), holds), (((at_t, at_c), is), tt)) (at_u, at_c)
 
 is_task : (P : Picture) (t u : ℕ) → holds_kernel P t u ≡ true → u < length P.table.names
 is_task P t u h =
@@ -322,7 +344,7 @@ is_task P t u h =
     (P.facts (Hold t (kernel_class (wiring_of P.table) u) Send)) h).0
 
 pub kernel_ports_make_one : KernelPortsMakeOne
-kernel_ports_make_one P t u closed up down =
+kernel_ports_make_one P t u closed takes gives up down =
     let at_u = is_task P t u up in
     let at_t = is_task P u t down in
     let alike : (c : ℕ) → IsIn c (classes_of P) → hold_alike P t u c ≡ true = λ c at.
@@ -331,8 +353,8 @@ kernel_ports_make_one P t u closed up down =
     all_from (λ q. agree (P.facts (Hold t c q)) (P.facts (Hold u c q))) all_rights
     (λ r _. let same : P.facts (Hold t c r) ≡ P.facts (Hold u c r) =
     same_answers (P.facts (Hold t c r)) (P.facts (Hold u c r))
-    (taken P closed u t c r down at_u at_t at_class)
-    (taken P closed t u c r up at_t at_u at_class) in
+    (given P closed t u c r up at_t at_u at_class gives)
+    (taken P closed t u c r up at_t at_u at_class takes) in
     ap (λ b. agree (P.facts (Hold t c r)) b) (sym same) ∙ agrees (P.facts (Hold t c r))) in
     let same : hold_same P t u ≡ true = all_from (hold_alike P t u) (classes_of P) alike in
     or_right (t == u) (holds_kernel P t u && (holds_kernel P u t && hold_same P t u))

@@ -23,6 +23,8 @@ three = record {
   lines = TaskLine ∷ TaskLine ∷ TaskLine ∷ HoldLine 0 1 Send ∷ [];
   admits = [];
   interfaces = [];
+  trusts = [];
+  fits = false;
 }
 
 -- some of what they may come to hold, and a request

@@ -1,10 +1,11 @@
 -- What holds of every picture. This profile's own choice.
-use Rattle.std.specs.Prelude.{◌≡◌, ℕ, ◌<◌, IsTrue}
+use Rattle.std.specs.Prelude.{◌≡◌, ℕ, ◌<◌, IsTrue, false}
 use Rattle.mrc_base.specs.declared.PortRight.{PortRight}
 use Rattle.mrc_base.specs.declared.Fact.{Fact}
 use Rattle.mrc_base.specs.declared.Fact.TheVariants.{Hold, Carry, Backup}
 use Rattle.mrc_model.specs.IsIn.{IsIn}
-use Rattle.mrc_model.specs.Wiring.{classes}
+use Rattle.mrc_model.specs.declared.Verb.TheVariants.{Takes, Gives}
+use Rattle.mrc_model.specs.Wiring.{classes, is_limited}
 use Rattle.mrc_model.specs.Rules.{Has, Closed, InRange}
 use Rattle.mrc_wiring.specs.Table.{wiring_of}
 use Rattle.mrc_draw.specs.Pictures.{Picture, Edge, Holding, Carrying, Asking, leader_of, are_one}
@@ -46,10 +47,13 @@ abbrev pub NodesHoldTheSame : Type 0
 NodesHoldTheSame = (P : Picture) (t u c : ℕ) (r : PortRight) → IsTrue (are_one P t u)
     → c < classes (wiring_of P.table) → P.facts (Hold t c r) ≡ P.facts (Hold u c r)
 
--- in a closed set, tasks are one where each of them holds the kernel port of the other
+-- In a closed set, tasks are one if each of them holds the kernel port of the other, and no line
+-- limits what the first takes or what it gives.
 abbrev pub KernelPortsMakeOne : Type 0
 KernelPortsMakeOne = (P : Picture) (t u : ℕ)
     → Closed (wiring_of P.table) (Has P.facts)
+    → is_limited (wiring_of P.table) Takes t ≡ false
+    → is_limited (wiring_of P.table) Gives t ≡ false
     → IsTrue (holds_kernel P t u)
     → IsTrue (holds_kernel P u t)
     → IsTrue (are_one P t u)

@@ -19,7 +19,8 @@ pub fn nodes_hold_the_same()
     ensures { NodesHoldTheSame }
 {}
 
-/// In a closed set, tasks are one where each of them holds the kernel port of the other.
+/// In a closed set, tasks are one node if each of them holds the kernel port of the other, and no
+/// line limits what the first of them takes or gives.
 pub fn kernel_ports_make_one()
     ensures { KernelPortsMakeOne }
 {}

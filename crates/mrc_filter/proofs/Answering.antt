@@ -6,6 +6,7 @@ use Rattle.std.proofs.lemmas.Bool.{eq-eqb, eqb-true}
 use Rattle.mrc_model.specs.declared.Denied.{Denied}
 use Rattle.mrc_model.specs.declared.Denied.TheVariants.{NoSuchId, WrongShape, WrongDisposition}
 use Rattle.mrc_model.specs.declared.Denied.TheVariants.{ReplySlot, NotAdmitted, NotDestroyed}
+use Rattle.mrc_model.specs.declared.Denied.TheVariants.{NotTaken, NotGiven, NotSent, NotForReply}
 use Rattle.mrc_model.specs.IsIn.{IsIn, here, later}
 use Rattle.mrc_model.specs.Message.{Message}
 use Rattle.mrc_model.specs.Wiring.{Wiring, Form, form_id, forms}
@@ -67,6 +68,10 @@ by_difference W c m f (Some NoSuchId) has t = absurd t
 by_difference W c m f (Some ReplySlot) has t = absurd t
 by_difference W c m f (Some (NotAdmitted n)) has t = absurd t
 by_difference W c m f (Some NotDestroyed) has t = absurd t
+by_difference W c m f (Some NotTaken) has t = absurd t
+by_difference W c m f (Some NotGiven) has t = absurd t
+by_difference W c m f (Some (NotSent n)) has t = absurd t
+by_difference W c m f (Some NotForReply) has t = absurd t
 
 by_form : (W : Wiring) (c : ℕ) (m : Message) (o : Option Form)
     → find (has_id m.id) (forms W c) ≡ o
@@ -122,3 +127,7 @@ answers W c m (Err ReplySlot) (f, has, met, e) =
     ∙ not_chosen (fits_reply f m.local_disp) _ _ (sym e)
 answers W c m (Err (NotAdmitted i)) is = absurd is
 answers W c m (Err NotDestroyed) is = absurd is
+answers W c m (Err NotTaken) is = absurd is
+answers W c m (Err NotGiven) is = absurd is
+answers W c m (Err (NotSent i)) is = absurd is
+answers W c m (Err NotForReply) is = absurd is

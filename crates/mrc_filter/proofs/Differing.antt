@@ -1,19 +1,21 @@
 -- The first difference is where the arguments are no longer met.
-use Rattle.std.proofs.Common.{◌≡◌, ◌≢◌, ℕ, zero, suc, ◌+◌, Bool, true, false, ◌&&◌, List, []}
-use Rattle.std.proofs.Common.{◌∷◌, Option, Some, None, refl, ap, sym, ◌∙◌, arith}
+use Rattle.std.proofs.Common.{◌≡◌, ℕ, zero, suc, ◌+◌, Bool, true, false, ◌&&◌, List, []}
+use Rattle.std.proofs.Common.{◌∷◌, Option, Some, None, refl, ap, sym, subst, ◌∙◌, arith}
 use Rattle.std.specs.Prelude.{slice_get, ◌==◌, nat_le, if◌then◌else◌}
 use Rattle.std.proofs.lemmas.Bool.{and_parts, and_from, leb-true, le-leb, eqb-true, eq-eqb}
-use Rattle.std.proofs.lemmas.Bool.{eqb-false, ne_eqb}
 use Rattle.mrc_base.specs.Disposition.{is_port_number}
 use Rattle.mrc_model.specs.declared.Denied.{Denied}
 use Rattle.mrc_model.specs.declared.Denied.TheVariants.{NoSuchId, WrongShape, WrongDisposition}
 use Rattle.mrc_model.specs.declared.Denied.TheVariants.{ReplySlot, NotAdmitted, NotDestroyed}
-use Rattle.mrc_model.specs.Message.{Arg}
-use Rattle.mrc_model.specs.Wiring.{Shape}
-use Rattle.mrc_model.specs.Filter.{arg_name, arg_size, arg_number, has_size, first_difference}
+use Rattle.mrc_model.specs.declared.Denied.TheVariants.{NotTaken, NotGiven, NotSent, NotForReply}
+use Rattle.std.specs.List.{list_any}
+use Rattle.mrc_model.specs.Message.{Arg, is_port_arg}
+use Rattle.mrc_model.specs.Wiring.{ItemTypes, AnyData, OneOf, Shape}
+use Rattle.mrc_model.specs.Filter.{arg_name, arg_size, arg_number, has_size, difference, or_behind}
+use Rattle.mrc_model.specs.Filter.{first_difference}
 use Rattle.mrc_filter.specs.Meeting.{IsCount, FitsIn, IsMet, AreMet, IsFirst}
-use Rattle.mrc_filter.specs.Meeting.{DifferInShape, DifferInDisposition}
-use Rattle.mrc_filter.proofs.Shapes.{chosen, not_chosen}
+use Rattle.mrc_filter.specs.Meeting.{DifferInShape, DifferInDisposition, IsMetBy, HasOtherName}
+use Rattle.mrc_filter.specs.Meeting.{HasOtherNameBy}
 
 -- ---- one argument
 
@@ -39,6 +41,155 @@ fits_size s a fits =
     (if s.is_bound then nat_le (arg_number a) s.number else arg_number a == s.number)
     (eq-eqb s.size (arg_size a) fits.0) (is_count s.is_bound s.number (arg_number a) fits.1)
 
+-- ---- how one argument differs
+
+-- how the argument differs, if this is the answer
+abbrev Tells : ℕ → Shape → Arg → Option Denied → Type 0
+Tells k s a None = IsMet s a
+Tells k s a (Some (WrongShape n)) = (n ≡ k) × ¬ IsMet s a × ¬ HasOtherName s a
+Tells k s a (Some (WrongDisposition n)) = (n ≡ k) × HasOtherName s a
+Tells k s a (Some NoSuchId) = ⊥
+Tells k s a (Some ReplySlot) = ⊥
+Tells k s a (Some (NotAdmitted n)) = ⊥
+Tells k s a (Some NotDestroyed) = ⊥
+Tells k s a (Some NotTaken) = ⊥
+Tells k s a (Some NotGiven) = ⊥
+Tells k s a (Some (NotSent n)) = ⊥
+Tells k s a (Some NotForReply) = ⊥
+
+contradict : true ≡ false → ⊥
+contradict h = cc
+
+-- the same if the types of the shape are these
+abbrev TellsBy : ItemTypes → ℕ → Shape → Arg → Option Denied → Type 0
+TellsBy types k s a o = s.types ≡ types → Tells k s a o
+
+any_data_tells : (k : ℕ) (s : Shape) (a : Arg) (b : Bool) → is_port_arg a ≡ b
+    → TellsBy AnyData k s a (if b then Some (WrongShape k) else None)
+any_data_tells k s a true e same = (
+  refl,
+  λ met. contradict (sym e ∙ subst (λ types. IsMetBy types s a) same met),
+  λ other. subst (λ types. HasOtherNameBy types s a) same other,
+)
+any_data_tells k s a false e same = subst (λ types. IsMetBy types s a) (sym same) e
+
+ported : (k : ℕ) (s : Shape) (a : Arg) (numbers : List ℕ) (b : Bool)
+    → (list_any is_port_number numbers && is_port_number (arg_name a)) ≡ b
+    → has_size s a ≡ true
+    → list_any (λ n. n == arg_name a) numbers ≡ false
+    → TellsBy (OneOf numbers) k s a (if b then Some (WrongDisposition k) else Some (WrongShape k))
+ported k s a numbers true e size none same =
+    let ports = and_parts (list_any is_port_number numbers) (is_port_number (arg_name a)) e in (
+      refl,
+      subst (λ types. HasOtherNameBy types s a) (sym same)
+          (size_fits s a size, none, ports.0, ports.1),
+    )
+ported k s a numbers false e size none same = (
+  refl,
+  λ met.
+      let is = subst (λ types. IsMetBy types s a) same met in contradict (sym is.1 ∙ none),
+  λ other.
+      let is = subst (λ types. HasOtherNameBy types s a) same other in
+      contradict (sym (and_from (list_any is_port_number numbers) (is_port_number (arg_name a))
+      is.2 is.3) ∙ e),
+)
+
+named : (k : ℕ) (s : Shape) (a : Arg) (numbers : List ℕ) (b : Bool)
+    → list_any (λ n. n == arg_name a) numbers ≡ b
+    → has_size s a ≡ true
+    → TellsBy (OneOf numbers) k s a (if b then None
+    else if list_any is_port_number numbers && is_port_number (arg_name a)
+    then Some (WrongDisposition k) else Some (WrongShape k))
+named k s a numbers true e size same =
+    subst (λ types. IsMetBy types s a) (sym same) (size_fits s a size, e)
+named k s a numbers false e size same =
+    ported k s a numbers (list_any is_port_number numbers && is_port_number (arg_name a)) refl size
+    e same
+
+sized : (k : ℕ) (s : Shape) (a : Arg) (numbers : List ℕ) (b : Bool) → has_size s a ≡ b
+    → TellsBy (OneOf numbers) k s a (if b
+    then (if list_any (λ n. n == arg_name a) numbers then None
+    else if list_any is_port_number numbers && is_port_number (arg_name a)
+    then Some (WrongDisposition k) else Some (WrongShape k))
+    else Some (WrongShape k))
+sized k s a numbers true e same =
+    named k s a numbers (list_any (λ n. n == arg_name a) numbers) refl e same
+sized k s a numbers false e same = (
+  refl,
+  λ met.
+      let is = subst (λ types. IsMetBy types s a) same met in
+      contradict (sym (fits_size s a is.0) ∙ e),
+  λ other.
+      let is = subst (λ types. HasOtherNameBy types s a) same other in
+      contradict (sym (fits_size s a is.0) ∙ e),
+)
+
+tells_by : (types : ItemTypes) (k : ℕ) (s : Shape) (a : Arg)
+    → TellsBy types k s a (difference k types s a)
+tells_by AnyData k s a same = any_data_tells k s a (is_port_arg a) refl same
+tells_by (OneOf numbers) k s a same = sized k s a numbers (has_size s a) refl same
+
+tells : (k : ℕ) (s : Shape) (a : Arg) → Tells k s a (difference k s.types s a)
+tells k s a = tells_by s.types k s a refl
+
+-- an argument with another disposition is not met
+other_is_not_met : (types : ItemTypes) (s : Shape) (a : Arg) → HasOtherNameBy types s a
+    → IsMetBy types s a → ⊥
+other_is_not_met AnyData s a other met = other
+other_is_not_met (OneOf numbers) s a other met = contradict (sym met.1 ∙ other.1)
+
+-- ---- the answer of such an argument
+
+met_is_none : (k : ℕ) (s : Shape) (a : Arg) → IsMet s a → difference k s.types s a ≡ None
+met_is_none k s a met = go (difference k s.types s a) (tells k s a)
+  where
+    go : (o : Option Denied) → Tells k s a o → o ≡ None
+    go None t = refl
+    go (Some (WrongShape n)) t = absurd (t.1 met)
+    go (Some (WrongDisposition n)) t = absurd (other_is_not_met s.types s a t.1 met)
+    go (Some NoSuchId) t = absurd t
+    go (Some ReplySlot) t = absurd t
+    go (Some (NotAdmitted n)) t = absurd t
+    go (Some NotDestroyed) t = absurd t
+    go (Some NotTaken) t = absurd t
+    go (Some NotGiven) t = absurd t
+    go (Some (NotSent n)) t = absurd t
+    go (Some NotForReply) t = absurd t
+
+shape_is_told : (k : ℕ) (s : Shape) (a : Arg) → ¬ IsMet s a × ¬ HasOtherName s a
+    → difference k s.types s a ≡ Some (WrongShape k)
+shape_is_told k s a differ = go (difference k s.types s a) (tells k s a)
+  where
+    go : (o : Option Denied) → Tells k s a o → o ≡ Some (WrongShape k)
+    go None t = absurd (differ.0 t)
+    go (Some (WrongShape n)) t = ap (λ i. Some (WrongShape i)) t.0
+    go (Some (WrongDisposition n)) t = absurd (differ.1 t.1)
+    go (Some NoSuchId) t = absurd t
+    go (Some ReplySlot) t = absurd t
+    go (Some (NotAdmitted n)) t = absurd t
+    go (Some NotDestroyed) t = absurd t
+    go (Some NotTaken) t = absurd t
+    go (Some NotGiven) t = absurd t
+    go (Some (NotSent n)) t = absurd t
+    go (Some NotForReply) t = absurd t
+
+other_is_told : (k : ℕ) (s : Shape) (a : Arg) → HasOtherName s a
+    → difference k s.types s a ≡ Some (WrongDisposition k)
+other_is_told k s a other = go (difference k s.types s a) (tells k s a)
+  where
+    go : (o : Option Denied) → Tells k s a o → o ≡ Some (WrongDisposition k)
+    go None t = absurd (other_is_not_met s.types s a other t)
+    go (Some (WrongShape n)) t = absurd (t.2 other)
+    go (Some (WrongDisposition n)) t = ap (λ i. Some (WrongDisposition i)) t.0
+    go (Some NoSuchId) t = absurd t
+    go (Some ReplySlot) t = absurd t
+    go (Some (NotAdmitted n)) t = absurd t
+    go (Some NotDestroyed) t = absurd t
+    go (Some NotTaken) t = absurd t
+    go (Some NotGiven) t = absurd t
+    go (Some (NotSent n)) t = absurd t
+    go (Some NotForReply) t = absurd t
+
 -- ---- what the first difference tells
 
 abbrev ToldOf : ℕ → List Shape → List Arg → Denied → Type 0
@@ -49,6 +200,10 @@ ToldOf k ss args NoSuchId = ⊥
 ToldOf k ss args ReplySlot = ⊥
 ToldOf k ss args (NotAdmitted n) = ⊥
 ToldOf k ss args NotDestroyed = ⊥
+ToldOf k ss args NotTaken = ⊥
+ToldOf k ss args NotGiven = ⊥
+ToldOf k ss args (NotSent n) = ⊥
+ToldOf k ss args NotForReply = ⊥
 
 abbrev pub Told : ℕ → List Shape → List Arg → Option Denied → Type 0
 Told k ss args None = AreMet ss args
@@ -66,92 +221,45 @@ behind k s ss a more (Some NoSuchId) met t = t
 behind k s ss a more (Some ReplySlot) met t = t
 behind k s ss a more (Some (NotAdmitted n)) met t = t
 behind k s ss a more (Some NotDestroyed) met t = t
+behind k s ss a more (Some NotTaken) met t = t
+behind k s ss a more (Some NotGiven) met t = t
+behind k s ss a more (Some (NotSent n)) met t = t
+behind k s ss a more (Some NotForReply) met t = t
 
--- the first argument has another type number
-other_name : (k : ℕ) (s : Shape) (ss : List Shape) (a : Arg) (more : List Arg) (b : Bool)
-    → (is_port_number s.name && is_port_number (arg_name a)) ≡ b
-    → has_size s a ≡ true
-    → s.name ≢ arg_name a
-    → Told k (s ∷ ss) (a ∷ more)
-    (if b then Some (WrongDisposition k) else Some (WrongShape k))
-other_name k s ss a more true e size differ =
-    let ports = and_parts (is_port_number s.name) (is_port_number (arg_name a)) e in (
-      0,
-      omega arith,
-      record {
-        before = tt;
-        here = (size_fits s a size, differ, ports.0, ports.1);
-      },
-    )
-other_name k s ss a more false e size differ = (
-  0,
-  omega arith,
-  record {
-    before = tt;
-    here = (
-      λ met. differ met.1,
-      λ other. contradict (sym (and_from (is_port_number s.name) (is_port_number (arg_name a))
-          other.2 other.3) ∙ e),
-    );
-  },
-)
-  where
-    contradict : true ≡ false → ⊥
-    contradict h = cc
-
-by_name : (k : ℕ) (s : Shape) (ss : List Shape) (a : Arg) (more : List Arg) (b : Bool)
-    (rest : Option Denied)
-    → (s.name == arg_name a) ≡ b
-    → has_size s a ≡ true
+-- the first argument differs, or those after it do
+in_front : (k : ℕ) (s : Shape) (ss : List Shape) (a : Arg) (more : List Arg)
+    (o rest : Option Denied)
+    → Tells k s a o
     → Told (k + 1) ss more rest
-    → Told k (s ∷ ss) (a ∷ more) (if b then rest
-    else if is_port_number s.name && is_port_number (arg_name a) then Some (WrongDisposition k)
-    else Some (WrongShape k))
-by_name k s ss a more true rest e size t =
-    behind k s ss a more rest (size_fits s a size, eqb-true s.name (arg_name a) e) t
-by_name k s ss a more false rest e size t =
-    other_name k s ss a more (is_port_number s.name && is_port_number (arg_name a)) refl size
-    (eqb-false s.name (arg_name a) e)
-
-by_size : (k : ℕ) (s : Shape) (ss : List Shape) (a : Arg) (more : List Arg) (b : Bool)
-    (rest : Option Denied)
-    → has_size s a ≡ b
-    → Told (k + 1) ss more rest
-    → Told k (s ∷ ss) (a ∷ more) (if b then (if s.name == arg_name a then rest
-    else if is_port_number s.name && is_port_number (arg_name a) then Some (WrongDisposition k)
-    else Some (WrongShape k)) else Some (WrongShape k))
-by_size k s ss a more true rest e t =
-    by_name k s ss a more (s.name == arg_name a) rest refl e t
-by_size k s ss a more false rest e t = (
-  0,
-  omega arith,
-  record {
-    before = tt;
-    here = (
-      λ met. contradict (sym (fits_size s a met.0) ∙ e),
-      λ other. contradict (sym (fits_size s a other.0) ∙ e),
-    );
-  },
-)
-  where
-    contradict : true ≡ false → ⊥
-    contradict h = cc
+    → Told k (s ∷ ss) (a ∷ more) (or_behind o rest)
+in_front k s ss a more None rest t behind_it = behind k s ss a more rest t behind_it
+in_front k s ss a more (Some (WrongShape n)) rest t behind_it =
+    let e = t.0 in (0, omega (arith, e), record { before = tt; here = (t.1, t.2) })
+in_front k s ss a more (Some (WrongDisposition n)) rest t behind_it =
+    let e = t.0 in (0, omega (arith, e), record { before = tt; here = t.1 })
+in_front k s ss a more (Some NoSuchId) rest t behind_it = absurd t
+in_front k s ss a more (Some ReplySlot) rest t behind_it = absurd t
+in_front k s ss a more (Some (NotAdmitted n)) rest t behind_it = absurd t
+in_front k s ss a more (Some NotDestroyed) rest t behind_it = absurd t
+in_front k s ss a more (Some NotTaken) rest t behind_it = absurd t
+in_front k s ss a more (Some NotGiven) rest t behind_it = absurd t
+in_front k s ss a more (Some (NotSent n)) rest t behind_it = absurd t
+in_front k s ss a more (Some NotForReply) rest t behind_it = absurd t
 
 pub told : (k : ℕ) (ss : List Shape) (args : List Arg) → Told k ss args (first_difference k ss args)
 told k [] [] = tt
 told k [] (a ∷ more) = (0, omega arith, record { before = tt; here = tt })
 told k (s ∷ ss) [] = (0, omega arith, record { before = tt; here = tt })
 told k (s ∷ ss) (a ∷ more) =
-    by_size k s ss a more (has_size s a) (first_difference (k + 1) ss more) refl
-    (told (k + 1) ss more)
+    in_front k s ss a more (difference k s.types s a) (first_difference (k + 1) ss more)
+    (tells k s a) (told (k + 1) ss more)
 
 -- ---- and where it is told
 
 met_goes_on : (k : ℕ) (s : Shape) (ss : List Shape) (a : Arg) (more : List Arg) → IsMet s a
     → first_difference k (s ∷ ss) (a ∷ more) ≡ first_difference (k + 1) ss more
 met_goes_on k s ss a more met =
-    chosen (has_size s a) _ _ (sym (fits_size s a met.0))
-    ∙ chosen (s.name == arg_name a) _ _ (sym (eq-eqb s.name (arg_name a) met.1))
+    ap (λ o. or_behind o (first_difference (k + 1) ss more)) (met_is_none k s a met)
 
 pub met_none : (k : ℕ) (ss : List Shape) (args : List Arg) → AreMet ss args
     → first_difference k ss args ≡ None
@@ -168,34 +276,8 @@ shape_here : (k : ℕ) (ss : List Shape) (args : List Arg)
 shape_here k [] [] differ = absurd differ
 shape_here k [] (a ∷ more) differ = refl
 shape_here k (s ∷ ss) [] differ = refl
-shape_here k (s ∷ ss) (a ∷ more) differ = sized (has_size s a) refl
-  where
-    named : (b : Bool) → (s.name == arg_name a) ≡ b → has_size s a ≡ true
-        → (if b then first_difference (k + 1) ss more
-        else if is_port_number s.name && is_port_number (arg_name a)
-        then Some (WrongDisposition k) else Some (WrongShape k)) ≡ Some (WrongShape k)
-    named true e size = absurd (differ.0 (size_fits s a size, eqb-true s.name (arg_name a) e))
-    named false e size = ported (is_port_number s.name && is_port_number (arg_name a)) refl
-      where
-        ported : (b : Bool) → (is_port_number s.name && is_port_number (arg_name a)) ≡ b
-            → (if b then Some (WrongDisposition k) else Some (WrongShape k)) ≡ Some (WrongShape k)
-        ported true f =
-            let ports = and_parts (is_port_number s.name) (is_port_number (arg_name a)) f in
-            absurd (differ.1 (
-              size_fits s a size,
-              eqb-false s.name (arg_name a) e,
-              ports.0,
-              ports.1,
-            ))
-        ported false f = refl
-
-    sized : (b : Bool) → has_size s a ≡ b
-        → (if b then (if s.name == arg_name a then first_difference (k + 1) ss more
-        else if is_port_number s.name && is_port_number (arg_name a)
-        then Some (WrongDisposition k) else Some (WrongShape k)) else Some (WrongShape k))
-        ≡ Some (WrongShape k)
-    sized true e = named (s.name == arg_name a) refl e
-    sized false e = refl
+shape_here k (s ∷ ss) (a ∷ more) differ =
+    ap (λ o. or_behind o (first_difference (k + 1) ss more)) (shape_is_told k s a differ)
 
 disposition_here : (k : ℕ) (ss : List Shape) (args : List Arg)
     → DifferInDisposition (slice_get ss 0) (slice_get args 0)
@@ -203,10 +285,7 @@ disposition_here : (k : ℕ) (ss : List Shape) (args : List Arg)
 disposition_here k [] args differ = absurd differ
 disposition_here k (s ∷ ss) [] differ = absurd differ
 disposition_here k (s ∷ ss) (a ∷ more) differ =
-    chosen (has_size s a) _ _ (sym (fits_size s a differ.0))
-    ∙ not_chosen (s.name == arg_name a) _ _ (sym (ne_eqb s.name (arg_name a) differ.1))
-    ∙ chosen (is_port_number s.name && is_port_number (arg_name a)) _ _
-    (sym (and_from (is_port_number s.name) (is_port_number (arg_name a)) differ.2 differ.3))
+    ap (λ o. or_behind o (first_difference (k + 1) ss more)) (other_is_told k s a differ)
 
 -- a difference at a later place
 found : (Differ : Option Shape → Option Arg → Type 0) (denied : ℕ → Denied)

@@ -2,15 +2,17 @@
 use Rattle.std.proofs.Common.{◌≡◌, ℕ, zero, suc, ◌+◌, ◌<◌, ◌≤◌, Bool, true, false, List, [], ◌∷◌}
 use Rattle.std.proofs.Common.{length, drop, cond, Option, Some, None, refl, ap, sym, ◌∙◌}
 use Rattle.std.proofs.Common.{arith, get_or, add-one, drop-cons}
-use Rattle.std.specs.Option.{option_or}
 use Rattle.std.proofs.lemmas.List.{get_or_default}
 use Rattle.mrc_model.specs.declared.Denied.{Denied}
 use Rattle.mrc_model.specs.declared.Denied.TheVariants.{WrongShape}
 use Rattle.mrc_model.specs.Message.{Arg, Data, Ports}
-use Rattle.mrc_model.specs.Filter.{arg_name, first_difference}
+use Rattle.std.specs.Prelude.{◌||◌, ◌&&◌, ◌==◌}
+use Rattle.mrc_base.specs.Disposition.{is_port_number}
+use Rattle.mrc_model.specs.declared.Denied.TheVariants.{WrongDisposition}
+use Rattle.mrc_model.specs.Filter.{arg_name, has_size, difference, or_behind, first_difference}
 use Rattle.mrc_desc.specs.declared.argument.Argument.{Argument}
 use Rattle.mrc_desc.specs.View.{argument_of, arguments_of, desc_of}
-use Rattle.mrc_model.specs.Wiring.{Shape}
+use Rattle.mrc_model.specs.Wiring.{OneOf, Shape}
 
 -- what a descriptor says is what the filter looks at
 pub name_of : (a : Arg) → (desc_of a).name ≡ arg_name a
@@ -23,6 +25,26 @@ chosen b x y e = ap (λ c. cond c x y) (sym e)
 
 pub not_chosen : {X : Type 0} (b : Bool) (x y : X) → false ≡ b → cond b x y ≡ y
 not_chosen b x y e = ap (λ c. cond c x y) (sym e)
+
+-- the difference of one argument from a shape of one type
+pub of_one_type : (i name : ℕ) (s : Shape) (a : Arg) → OneOf (name ∷ []) ≡ s.types
+    → difference i s.types s a
+    ≡ cond (has_size s a) (cond (name == arg_name a) None
+    (cond (is_port_number name && is_port_number (arg_name a)) (Some (WrongDisposition i))
+    (Some (WrongShape i)))) (Some (WrongShape i))
+of_one_type i name s a e =
+    sym (ap (λ types. difference i types s a) e)
+    ∙ ap (λ b. cond (has_size s a) (cond b None
+    (cond ((is_port_number name || false) && is_port_number (arg_name a))
+    (Some (WrongDisposition i)) (Some (WrongShape i)))) (Some (WrongShape i)))
+    (or_nothing (name == arg_name a))
+    ∙ ap (λ b. cond (has_size s a) (cond (name == arg_name a) None
+    (cond (b && is_port_number (arg_name a)) (Some (WrongDisposition i))
+    (Some (WrongShape i)))) (Some (WrongShape i))) (or_nothing (is_port_number name))
+  where
+    or_nothing : (b : Bool) → (b || false) ≡ b
+    or_nothing true = refl
+    or_nothing false = refl
 
 -- the first difference from place i on
 abbrev pub differs_from : ℕ → List Shape → List Argument → Option Denied
@@ -47,18 +69,16 @@ pub place_turn : (i : ℕ) (shapes : List Shape) (args : List Argument) (shape :
     (a : Argument) (here all : Option Denied)
     → i < length args → a ≡ get_or args i a
     → i < length shapes → shape ≡ get_or shapes i shape
-    → first_difference i (shape ∷ drop (i + 1) shapes)
-    (argument_of a ∷ arguments_of (drop (i + 1) args))
-    ≡ option_or here (differs_from (i + 1) shapes args)
+    → here ≡ difference i shape.types shape (argument_of a)
     → all ≡ differs_from i shapes args
-    → all ≡ option_or here (differs_from (i + 1) shapes args)
+    → all ≡ or_behind here (differs_from (i + 1) shapes args)
 place_turn i shapes args shape a here all less is there said told so_far =
     so_far
     ∙ ap (λ xs. first_difference i xs (arguments_of (drop i args)))
     (at_place shapes i shape there said)
     ∙ ap (λ ys. first_difference i (shape ∷ drop (i + 1) shapes) (arguments_of ys))
     (at_place args i a less is)
-    ∙ told
+    ∙ ap (λ o. or_behind o (differs_from (i + 1) shapes args)) (sym told)
 
 -- an argument that the form does not have
 pub extra : (i : ℕ) (shapes : List Shape) (args : List Argument) (a : Argument)

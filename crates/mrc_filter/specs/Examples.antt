@@ -6,24 +6,33 @@ use Rattle.mrc_model.specs.declared.LabelItem.TheVariants as label
 use Rattle.mrc_model.specs.declared.RequestKind.TheVariants.{Simple}
 use Rattle.mrc_model.specs.Filter.{judge}
 use Rattle.mrc_model.specs.Message.{Message, Arg, Data, Ports}
-use Rattle.mrc_model.specs.Wiring.{Wiring, Shape, RequestForm, ReplyForm}
+use Rattle.mrc_model.specs.Wiring.{Wiring, OneOf, Shape, RequestForm, ReplyForm}
 use Rattle.mrc_model.specs.Wiring.{OfRequest, OfReply, forms, admits}
 use Rattle.mrc_wiring.specs.Finding.{form_at}
 use Rattle.mrc_filter.specs.Places.{admitted}
+
+-- an argument of one item of 32 bits, by its type's number and its sort's
+abbrev shape : ℕ → ℕ → Shape
+shape number sort = record {
+  types = OneOf (number ∷ []);
+  size = 32;
+  number = 1;
+  is_bound = false;
+  sort = sort;
+}
 
 -- a simpleroutine that hands over a receive right
 abbrev hand : RequestForm
 hand = record {
   id = 2000;
   kind = Simple;
-  shapes = record { name = 16; size = 32; number = 1; is_bound = false; sort = 0 } ∷ [];
+  shapes = shape 16 0 ∷ [];
 }
 
 -- a reply of a return code and an integer
 abbrev number : ReplyForm
 number =
-    let one : Shape = record { name = 2; size = 32; number = 1; is_bound = false; sort = 1 } in
-    record { id = 1100; shapes = one ∷ one ∷ [] }
+    record { id = 1100; shapes = shape 2 1 ∷ shape 2 1 ∷ [] }
 
 -- One wired port, of class 0, accepts both; class 1 is the kernel port of its receiver. The slot
 -- admits class 0 alone.
@@ -36,6 +45,8 @@ filing = record {
   interfaces = record { requests = hand ∷ []; replies = number ∷ [] } ∷ [];
   labels = (label.Reply 0 ∷ label.Request 0 ∷ []) ∷ [] ∷ [];
   admitted = (0, Some 0) ∷ [];
+  trusted = [];
+  replies_fit = false;
 }
 
 abbrev message : ℕ → List Arg → Message

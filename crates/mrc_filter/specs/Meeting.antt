@@ -1,14 +1,16 @@
 -- What it is for a message to meet a form, place by place, after MIG (Server Writer's Guide), and
 -- the law that the filter answers by it.
 use Rattle.std.specs.Prelude.{◌≡◌, ◌≢◌, ◌↔◌, ℕ, ◌≤◌, Bool, true, false, List, [], ◌∷◌, take, Option}
-use Rattle.std.specs.Prelude.{Some, None, Result, Ok, Err, find, slice_get}
+use Rattle.std.specs.Prelude.{◌==◌, Some, None, Result, Ok, Err, find, slice_get}
+use Rattle.std.specs.List.{list_any}
 use Rattle.mrc_base.specs.Disposition.{is_port_number}
 use Rattle.mrc_model.specs.declared.Denied.{Denied}
 use Rattle.mrc_model.specs.declared.Denied.TheVariants.{NoSuchId, WrongShape, WrongDisposition}
 use Rattle.mrc_model.specs.declared.Denied.TheVariants.{ReplySlot, NotAdmitted, NotDestroyed}
+use Rattle.mrc_model.specs.declared.Denied.TheVariants.{NotTaken, NotGiven, NotSent, NotForReply}
 use Rattle.mrc_model.specs.IsIn.{IsIn}
-use Rattle.mrc_model.specs.Message.{Message, Arg}
-use Rattle.mrc_model.specs.Wiring.{Wiring, Shape, Form, form_id, forms}
+use Rattle.mrc_model.specs.Message.{Message, Arg, is_port_arg}
+use Rattle.mrc_model.specs.Wiring.{ItemTypes, AnyData, OneOf, Wiring, Shape, Form, form_id, forms}
 use Rattle.mrc_model.specs.Filter.{arg_name, arg_size, arg_number, expected, fits_reply, judge}
 use Rattle.mrc_wiring.specs.Finding.{has_id}
 
@@ -21,15 +23,31 @@ IsCount false count number = number ≡ count
 abbrev pub FitsIn : Shape → Arg → Type 0
 FitsIn s a = (s.size ≡ arg_size a) × IsCount s.is_bound s.number (arg_number a)
 
--- and of the same type: the argument is what the form says
-abbrev pub IsMet : Shape → Arg → Type 0
-IsMet s a = FitsIn s a × (s.name ≡ arg_name a)
+-- one of these numbers is that of port rights
+abbrev pub HasPortNumber : List ℕ → Type 0
+HasPortNumber numbers = list_any is_port_number numbers ≡ true
 
--- the argument is what the form says but for its disposition
-abbrev pub HasOtherName : Shape → Arg → Type 0
-HasOtherName s a =
-    FitsIn s a × (s.name ≢ arg_name a) × (is_port_number s.name ≡ true)
+-- The argument is what the form says, if the form's items are of these types. Data of any kind are
+-- met by what has no port rights; other items are as large and as many, and of one of the types.
+abbrev pub IsMetBy : ItemTypes → Shape → Arg → Type 0
+IsMetBy AnyData s a = is_port_arg a ≡ false
+IsMetBy (OneOf numbers) s a =
+    FitsIn s a × (list_any (λ n. n == arg_name a) numbers ≡ true)
+
+-- the same except for the disposition: it has a port type that is none of those of the form
+abbrev pub HasOtherNameBy : ItemTypes → Shape → Arg → Type 0
+HasOtherNameBy AnyData s a = ⊥
+HasOtherNameBy (OneOf numbers) s a =
+    FitsIn s a × (list_any (λ n. n == arg_name a) numbers ≡ false) × HasPortNumber numbers
     × (is_port_number (arg_name a) ≡ true)
+
+-- the argument is what the form says
+abbrev pub IsMet : Shape → Arg → Type 0
+IsMet s a = IsMetBy s.types s a
+
+-- the argument is what the form says except for its disposition
+abbrev pub HasOtherName : Shape → Arg → Type 0
+HasOtherName s a = HasOtherNameBy s.types s a
 
 -- each argument is what the form says, and there are no others
 abbrev pub AreMet : List Shape → List Arg → Type 0
@@ -76,8 +94,12 @@ IsAnswer W c m (Err ReplySlot) =
     × (fits_reply f m.local_disp ≡ false)
 IsAnswer W c m (Err (NotAdmitted i)) = ⊥
 IsAnswer W c m (Err NotDestroyed) = ⊥
+IsAnswer W c m (Err NotTaken) = ⊥
+IsAnswer W c m (Err NotGiven) = ⊥
+IsAnswer W c m (Err (NotSent i)) = ⊥
+IsAnswer W c m (Err NotForReply) = ⊥
 
--- an answer is the filter's exactly where it is so
+-- an answer is the filter's if and only if it is so
 abbrev pub JudgingIsMeeting : Type 0
 JudgingIsMeeting =
     (W : Wiring) (c : ℕ) (m : Message) (answer : Result Form Denied)

@@ -9,7 +9,8 @@ pub fn judging_is_meeting()
     ensures meeting { JudgingIsMeeting }
 {}
 
-/// What `admit_port` answers of a live port's class is what sending a message asks of that port.
+/// What `admit_port` answers of a live port's class is what sending a message asks of that port
+/// before it asks whether the sender may send the right.
 pub fn admitting_is_sending()
     ensures sending { AdmittingIsSending }
 {}

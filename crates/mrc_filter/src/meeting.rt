@@ -3,10 +3,9 @@
 ghost use Rattle.std.specs.Prelude.{◌≡◌, ◌<◌, ◌==◌, ◌+◌, ◌^◌, ℕ, List, ◌∷◌, length, Some, Ok, Err};
 ghost use Rattle.std.specs.Prelude.{MatchResult};
 ghost use Rattle.std.specs.List.{list_all};
-ghost use Rattle.std.specs.Option.{option_or};
-ghost use Rattle.mrc_model.specs.Message.{Arg};
 ghost use Rattle.mrc_model.specs.Wiring as model;
-ghost use Rattle.mrc_model.specs.Filter.{has_size, first_difference, is_zero_data, expected};
+ghost use Rattle.mrc_model.specs.Filter.{has_size, difference, first_difference, is_zero_data};
+ghost use Rattle.mrc_model.specs.Filter.{expected};
 ghost use Rattle.mrc_model.specs.Filter.{fits_reply, judge_found};
 ghost use Rattle.mrc_desc.specs.View.{argument_of, arguments_of};
 ghost use Rattle.mrc_wiring.specs.Finding.{form_by};
@@ -33,9 +32,7 @@ fn has_size(says: &TypedArgument, argument: &Argument) -> bool
 
 /// How the argument, which has this number, differs from what the form says of it.
 fn difference(number: u32, says: &TypedArgument, argument: &Argument) -> Option<Denied>
-    ensures { (shapes : List model.Shape) (args : List Arg)
-        → first_difference number (says.now ∷ shapes) (argument_of argument.now ∷ args)
-        ≡ option_or result (first_difference (number + 1) shapes args) }
+    ensures { result ≡ difference number says.now.types says.now (argument_of argument.now) }
 {
     if !has_size(says, argument) {
         Some(Denied::WrongShape(number))

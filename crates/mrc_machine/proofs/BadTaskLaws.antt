@@ -1,5 +1,5 @@
 -- That every call is refused where its name stands for no live task.
-use Rattle.std.proofs.Common.{◌≡◌, ℕ, Some, None, Err, sym, ap, ◌∙◌}
+use Rattle.std.proofs.Common.{◌≡◌, ℕ, false, Some, None, Err, sym, ap, ◌∙◌}
 use Rattle.std.specs.Option.{option_and_then}
 use Rattle.mrc_model.specs.declared.Code.{Code}
 use Rattle.mrc_model.specs.Wiring.{Wiring}
@@ -9,11 +9,12 @@ use Rattle.mrc_model.specs.Step.{try_call}
 use Rattle.mrc_machine.specs.declared.call.Call.{Call}
 use Rattle.mrc_machine.specs.declared.call.Call.TheVariants.{Allocate, GetRefs, InsertRight}
 use Rattle.mrc_machine.specs.declared.call.Call.TheVariants.{ExtractRight, SetQlimit, PortType}
-use Rattle.mrc_machine.specs.declared.call.Call.TheVariants.{Names, Rename}
+use Rattle.mrc_machine.specs.declared.call.Call.TheVariants.{Names, Rename, Send, Receive}
 use Rattle.mrc_machine.specs.declared.call.Call.TheVariants.{MoveMember, RequestNotification}
 use Rattle.mrc_machine.specs.declared.call.Call.TheVariants.{Deallocate, Destroy, ModRefs}
 use Rattle.mrc_machine.specs.declared.call.Call.TheVariants.{Terminate, CreateTask}
-use Rattle.mrc_machine.specs.Calls.{call_of, task_name, bad_task, target_of_call}
+use Rattle.mrc_machine.specs.Calls.{call_of, task_name, bad_task, target_of_call, is_moving}
+use Rattle.mrc_machine.specs.Calls.{IsCoded}
 use Rattle.mrc_machine.specs.Housing.{target_of}
 use Rattle.mrc_machine.proofs.AllocateLaws.{allocate_no_task}
 use Rattle.mrc_machine.proofs.AskingLaws.{refs_no_task, type_no_task, names_no_task}
@@ -35,9 +36,9 @@ refused W w t _ (Allocate task right kind) named none =
     allocate_no_task W w t task right kind none
 refused W w t _ (GetRefs task name right) named none = refs_no_task w t task name right none
 refused W w t _ (InsertRight task name right disp) named none =
-    insert_no_task w t task name right disp none
+    insert_no_task W w t task name right disp none
 refused W w t _ (ExtractRight task name disp) named none =
-    extract_no_task w t task name disp none
+    extract_no_task W w t task name disp none
 refused W w t _ (SetQlimit task name limit) named none =
     limit_no_task w t task name limit none
 refused W w t _ (PortType task name) named none = type_no_task w t task name none
@@ -63,3 +64,13 @@ pub call_no_task : (W : Wiring) (w : World) (t task : ℕ) (call : Call) (code :
 call_no_task W w t task call code named none code_is =
     refused W w t task call named (ap (option_and_then (target_of w t)) named ∙ none)
     ∙ ap (λ k. Err (Refused k)) (sym code_is)
+
+-- a call of a task that moves no right between tasks is refused by codes alone
+pub is_coded : (call : Call) (task : ℕ) → task_name call ≡ Some task → is_moving call ≡ false
+    → IsCoded call
+is_coded (Send message) task named still = cc
+is_coded (Receive name limit) task named still = cc
+is_coded (InsertRight u name right disp) task named still = cc
+is_coded (ExtractRight u name disp) task named still = cc
+is_coded (RequestNotification u name id sync notify disp) task named still = cc
+is_coded call task named still = tt

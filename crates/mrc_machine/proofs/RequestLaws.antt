@@ -11,7 +11,8 @@ use Rattle.mrc_model.specs.declared.Entry.{Entry}
 use Rattle.mrc_model.specs.declared.Backup.{Backup}
 use Rattle.mrc_model.specs.declared.Backup.TheVariants.{Absent as NoBackup, Dead as DeadBackup}
 use Rattle.mrc_model.specs.declared.Backup.TheVariants.{Port as BackupPort}
-use Rattle.mrc_model.specs.declared.Denied.TheVariants.{NotDestroyed}
+use Rattle.mrc_model.specs.declared.Denied.TheVariants.{NotDestroyed, NotTaken, NotGiven}
+use Rattle.mrc_model.specs.declared.Verb.TheVariants.{Takes, Gives}
 use Rattle.mrc_model.specs.declared.Code.TheVariants.{KernInvalidTask, KernInvalidValue}
 use Rattle.mrc_model.specs.declared.Code.TheVariants.{KernInvalidCapability, KernNoSpace}
 use Rattle.mrc_model.specs.Rights.{is_receive}
@@ -27,6 +28,8 @@ use Rattle.mrc_model.specs.Target.{with_store, with_space, bad_name, wrong_right
 use Rattle.mrc_model.specs.CallSend.{dead_taken, is_dead_taken}
 use Rattle.mrc_model.specs.CallRequestNotification.{received_port, is_notify_disp, take_backup}
 use Rattle.mrc_model.specs.CallRequestNotification.{new_backup, is_live_backup, give_backup}
+use Rattle.mrc_model.specs.CallRequestNotification.{backup_item}
+use Rattle.mrc_model.specs.Trust.{may_on}
 use Rattle.mrc_model.specs.CallRequestNotification.{call_request_notification}
 use Rattle.std.proofs.Common.{inl, inr}
 use Rattle.std.proofs.lemmas.Bool.{cases_eq, ne_eqb}
@@ -422,12 +425,14 @@ module _ (W : Wiring) (w : World) (t task name id sync n : ℕ) (x : Disp) where
       let given = give_backup (set_port got.0 p (record y { backup = got.1 })) t y.backup in
       Ok (with_store w given.0, Name given.1)
 
-  abbrev replaced : ℕ → Store × Backup → Try (World × Reply)
-  replaced p got =
-      or_refuse (get got.0.ports p) bad_name
+  abbrev replaced : ℕ → ℕ → Store × Backup → Try (World × Reply)
+  replaced u p got =
+      check (may_on W w Gives t u (backup_item got.1)) (DeniedBy NotGiven)
+      >> (or_refuse (get got.0.ports p) bad_name
       >>= λ (y : Port).
-      refuse_if (is_live_backup y.backup && is_full (space got.0 t)) (Refused KernNoSpace)
-      >> answered p got y
+      check (may_on W w Takes t u (backup_item y.backup)) (DeniedBy NotTaken)
+      >> (refuse_if (is_live_backup y.backup && is_full (space got.0 t)) (Refused KernNoSpace)
+      >> answered p got y))
 
   module _ (u : ℕ) (task_is : target_of w t task ≡ Some u) where
     pub request_no_kind : (id == port_destroyed_id && (sync == 0 && is_notify_disp x)) ≡ false
@@ -445,13 +450,13 @@ module _ (W : Wiring) (w : World) (t task name id sync n : ℕ) (x : Disp) where
           go false b is = cc
 
       by_port : call_request_notification W w t task name id sync n x
-          ≡ (received_at w u name >>= λ p. new_backup W w.store t n x >>= replaced p)
+          ≡ (received_at w u name >>= λ p. new_backup W w.store t n x >>= replaced u p)
       unfolding call_request_notification received_at ◌>>◌ check
       by_port =
           ok_bind _ u _ (target_some w t task u KernInvalidTask task_is)
           ∙ rw is_kind (sym (bind_bind (entry_at w u name)
           (λ e. or_refuse (received_port e) wrong_right)
-          (λ p. new_backup W w.store t n x >>= replaced p)))
+          (λ p. new_backup W w.store t n x >>= replaced u p)))
 
       pub request_no_name : (e : Reply)
           → received_at w u name ≡ Err e
@@ -463,10 +468,10 @@ module _ (W : Wiring) (w : World) (t task name id sync n : ℕ) (x : Disp) where
         by_parts : call_request_notification W w t task name id sync n x
             ≡ (named_backup W w.store t n x
             >>= in_store w.store t (request_left (space w.store t) n x)
-            >>= replaced p)
+            >>= replaced u p)
         by_parts =
             by_port ∙ ok_bind _ p _ at
-            ∙ ap (λ (m : Try (Store × Backup)). m >>= replaced p)
+            ∙ ap (λ (m : Try (Store × Backup)). m >>= replaced u p)
             (new_by_parts W w.store t n x once has)
 
         pub request_no_backup : (e : Reply)
@@ -479,52 +484,73 @@ module _ (W : Wiring) (w : World) (t task name id sync n : ℕ) (x : Disp) where
         module _ (b : Backup) (named : named_backup W w.store t n x ≡ Ok b)
             (a : Space) (left : request_left (space w.store t) n x ≡ Ok a) where
           by_left : call_request_notification W w t task name id sync n x
-              ≡ replaced p (set_space w.store t a, b)
+              ≡ replaced u p (set_space w.store t a, b)
           by_left =
               by_parts ∙ ok_bind _ (set_space w.store t a, b) _
               (ok_bind _ b _ named ∙ ok_bind _ a _ left)
 
-          pub request_no_port : get w.store.ports p ≡ None
-              → call_request_notification W w t task name id sync n x ≡ Err bad_name
-          unfolding ◌>>=◌ or_refuse
-          request_no_port none = by_left ∙ rw none refl
+          pub request_not_given : may_on W w Gives t u (backup_item b) ≡ false
+              → call_request_notification W w t task name id sync n x ≡ Err (DeniedBy NotGiven)
+          unfolding ◌>>◌ check
+          request_not_given limited = by_left ∙ rw limited refl
 
-          module _ (y : Port) (there : get w.store.ports p ≡ Some y) where
-            by_store : call_request_notification W w t task name id sync n x
-                ≡ (refuse_if (is_live_backup y.backup && is_full a) (Refused KernNoSpace)
-                >> answered p (set_space w.store t a, b) y)
-            unfolding ◌>>=◌ or_refuse
-            by_store =
-                let here : space (set_space w.store t a) t ≡ a =
-                ap (λ o. unwrap_or o empty) (get-insert_same w.store.spaces t a) in
-                by_left ∙ rw there (ap (λ (k : Space).
-                refuse_if (is_live_backup y.backup && is_full k) (Refused KernNoSpace)
-                >> answered p (set_space w.store t a, b) y) here)
+          module _ (gives : may_on W w Gives t u (backup_item b) ≡ true) where
+            pub request_no_port : get w.store.ports p ≡ None
+                → call_request_notification W w t task name id sync n x ≡ Err bad_name
+            unfolding ◌>>=◌ ◌>>◌ or_refuse check
+            request_no_port none = by_left ∙ rw (gives, none) refl
 
-            pub request_full : (is_live_backup y.backup && is_full a) ≡ true
-                → call_request_notification W w t task name id sync n x
-                ≡ Err (Refused KernNoSpace)
-            unfolding ◌>>◌ refuse_if
-            request_full full = by_store ∙ rw full refl
+            module _ (y : Port) (there : get w.store.ports p ≡ Some y) where
+              pub request_not_taken : may_on W w Takes t u (backup_item y.backup) ≡ false
+                  → call_request_notification W w t task name id sync n x
+                  ≡ Err (DeniedBy NotTaken)
+              unfolding ◌>>=◌ ◌>>◌ or_refuse check
+              request_not_taken limited = by_left ∙ rw (gives, there, limited) refl
 
-            module _ (room : (is_live_backup y.backup && is_full a) ≡ false) where
-              by_room : call_request_notification W w t task name id sync n x
-                  ≡ answered p (set_space w.store t a, b) y
-              unfolding ◌>>◌ refuse_if
-              by_room = by_store ∙ rw room refl
+              module _ (takes : may_on W w Takes t u (backup_item y.backup) ≡ true) where
+                by_store : call_request_notification W w t task name id sync n x
+                    ≡ (refuse_if (is_live_backup y.backup && is_full a) (Refused KernNoSpace)
+                    >> answered p (set_space w.store t a, b) y)
+                unfolding ◌>>=◌ ◌>>◌ or_refuse check
+                by_store =
+                    let here : space (set_space w.store t a) t ≡ a =
+                    ap (λ o. unwrap_or o empty) (get-insert_same w.store.spaces t a) in
+                    by_left ∙ rw (gives, there, takes) (ap (λ (k : Space).
+                    refuse_if (is_live_backup y.backup && is_full k) (Refused KernNoSpace)
+                    >> answered p (set_space w.store t a, b) y) here)
 
-              pub request_goes : IsOk (call_request_notification W w t task name id sync n x)
-              request_goes = subst IsOk (sym by_room) refl
+                pub request_full : (is_live_backup y.backup && is_full a) ≡ true
+                    → call_request_notification W w t task name id sync n x
+                    ≡ Err (Refused KernNoSpace)
+                unfolding ◌>>◌ refuse_if
+                request_full full = by_store ∙ rw full refl
 
-              pub request_done : (z : Space) (got : ℕ) (v : World)
-                  → given_backup a y.backup ≡ (z, got)
-                  → v ≡ with_store w
-                  (set_port (set_space w.store t z) p (record y { backup = b }))
-                  → call_request_notification W w t task name id sync n x ≡ Ok (v, Name got)
-              request_done z got v given is =
-                  by_room
-                  ∙ ap (λ (k : Store × ℕ). Ok (with_store w k.0, Name k.1))
-                  (given_in_store w.store t a p (record y { backup = b }) y.backup
-                  ∙ ap (λ (k : Space × ℕ).
-                  (set_port (set_space w.store t k.0) p (record y { backup = b }), k.1)) given)
-                  ∙ ap (λ (k : World). Ok (k, Name got)) (sym is)
+                module _ (room : (is_live_backup y.backup && is_full a) ≡ false) where
+                  by_room : call_request_notification W w t task name id sync n x
+                      ≡ answered p (set_space w.store t a, b) y
+                  unfolding ◌>>◌ refuse_if
+                  by_room = by_store ∙ rw room refl
+
+                  pub request_goes : IsOk (call_request_notification W w t task name id sync n x)
+                  request_goes = subst IsOk (sym by_room) refl
+
+                  pub request_done : (z : Space) (got : ℕ) (v : World)
+                      → given_backup a y.backup ≡ (z, got)
+                      → v ≡ with_store w
+                      (set_port (set_space w.store t z) p (record y { backup = b }))
+                      → call_request_notification W w t task name id sync n x ≡ Ok (v, Name got)
+                  request_done z got v given is =
+                      by_room
+                      ∙ ap (λ (k : Store × ℕ). Ok (with_store w k.0, Name k.1))
+                      (given_in_store w.store t a p (record y { backup = b }) y.backup
+                      ∙ ap (λ (k : Space × ℕ).
+                      (set_port (set_space w.store t k.0) p (record y { backup = b }), k.1)) given)
+                      ∙ ap (λ (k : World). Ok (k, Name got)) (sym is)
+
+-- what the previous request's right is, from what code tells of the port
+pub takes_previous : (W : Wiring) (w : World) (t u : ℕ) (b k : Backup) (answer : Bool)
+    → b ≡ k
+    → answer ≡ may_on W w Takes t u (backup_item k)
+    → may_on W w Takes t u (backup_item b) ≡ answer
+takes_previous W w t u b k answer same told =
+    ap (λ (z : Backup). may_on W w Takes t u (backup_item z)) same ∙ sym told

@@ -7,7 +7,7 @@ use Rattle.mrc_base.specs.declared.memory.OrMemory.TheVariants.{Fault, Memory}
 use Rattle.mrc_model.specs.declared.Code.{Code}
 use Rattle.mrc_names.specs.Refusals.{IsRefusal}
 use Rattle.mrc_machine.specs.declared.refusal.Refusal.{Refusal}
-use Rattle.mrc_machine.specs.Calls.{IsRefusedBy}
+use Rattle.mrc_machine.specs.Calls.{IsRefusedBy, refusal_reply}
 use Rattle.mrc_machine.specs.Starts.{IsFaultOf}
 use Rattle.mrc_model.specs.Reply.{Reply, Refused, Try, ◌>>=◌, ◌>>◌}
 
@@ -67,6 +67,19 @@ is_refused (Ok a) call step k total is refuses = tt
 is_refused (Err (Fault code)) call step k total is refuses =
     is ∙ err_bind step k (Refused code) refuses
 is_refused (Err Memory) call step k total is refuses =
+    subst IsOk (sym is) (ok_goes step k total refuses)
+
+-- the same of calls that are not refused by codes alone
+pub is_turned : {A B C : Type 0} (r : Result A (OrMemory Refusal)) (call : Try C) (step : Try B)
+    (k : B → Try C)
+    → ((b : B) → IsOk (k b))
+    → call ≡ (step >>= k)
+    → IfErr r (λ e. IsRefusedBy e step)
+    → IfErr r (λ e. IsRefusedBy e call)
+is_turned (Ok a) call step k total is refuses = tt
+is_turned (Err (Fault why)) call step k total is refuses =
+    is ∙ err_bind step k (refusal_reply why) refuses
+is_turned (Err Memory) call step k total is refuses =
     subst IsOk (sym is) (ok_goes step k total refuses)
 
 -- the same where of memory nothing is said

@@ -78,10 +78,20 @@ IsRefused told.DeadTask = Unit {0}
 abbrev pub IsGranted : Wiring → World → ℕ → model.Call → Type 0
 IsGranted W w t call = IsTrue (is_alive (get w.tasks t)) × IsOk (try_call W w t call)
 
--- the call is refused by codes alone: the filter has no part in it, and there is no message
+-- the call moves rights between its task's names and those of a task
+abbrev pub is_moving : Call → Bool
+is_moving (InsertRight task name right disp) = true
+is_moving (ExtractRight task name disp) = true
+is_moving (RequestNotification task name id sync notify disp) = true
+is_moving call = false
+
+-- the call is refused by codes alone: neither the filter nor a line about a trusted task has a part
+-- in it, and there is no message
 abbrev pub IsCoded : Call → Type 0
 IsCoded (Send message) = ⊥
 IsCoded (Receive name limit) = ⊥
+IsCoded (InsertRight task name right disp) = ⊥
+IsCoded (ExtractRight task name disp) = ⊥
 IsCoded (RequestNotification task name id sync notify disp) = ⊥
 IsCoded call = Unit {0}
 

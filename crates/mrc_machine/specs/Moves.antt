@@ -3,10 +3,15 @@ use Rattle.std.specs.Prelude.{ℕ, Ok, ◌==◌, if◌then◌else◌}
 use Rattle.mrc_base.specs.declared.Disp.{Disp}
 use Rattle.mrc_base.specs.Disposition.{given}
 use Rattle.mrc_base.specs.declared.PortRight.{PortRight}
+use Rattle.mrc_model.specs.declared.Item.TheVariants.{Right as RightItem}
+use Rattle.mrc_model.specs.declared.Denied.TheVariants.{NotGiven}
+use Rattle.mrc_model.specs.declared.Verb.TheVariants.{Gives}
 use Rattle.mrc_model.specs.Rights.{is_receive}
 use Rattle.mrc_model.specs.Map.{get}
+use Rattle.mrc_model.specs.Wiring.{Wiring}
 use Rattle.mrc_model.specs.World.{Space, Store, World, space, set_space, set_port}
-use Rattle.mrc_model.specs.Reply.{Try, ◌>>=◌, or_refuse}
+use Rattle.mrc_model.specs.Reply.{DeniedBy, Try, ◌>>=◌, ◌>>◌, check, or_refuse}
+use Rattle.mrc_model.specs.Trust.{may_on}
 use Rattle.mrc_model.specs.Target.{with_store, bad_name}
 use Rattle.mrc_model.specs.Space.{restart_if, insert_at}
 use Rattle.mrc_names.specs.Takes.{take_right}
@@ -26,9 +31,11 @@ limited w p limit = do
 abbrev pub space_beside : Store → ℕ → ℕ → Space → Space
 space_beside s t u x = if u == t then x else space s u
 
--- the world after a right that a name n of t gives went under a name of u: t and u may be one task
-unfoldable pub with_moved : World → ℕ → ℕ → Disp → ℕ → ℕ → Try World
-with_moved w t n x u name = do
+-- the world after a right that a name n of t gives went under a name of u, which t has to be
+-- trusted to give: t and u may be one task
+unfoldable pub with_moved : Wiring → World → ℕ → ℕ → Disp → ℕ → ℕ → Try World
+with_moved W w t n x u name = do
   got ← take_right (space w.store t) n x
+  check (may_on W w Gives t u (RightItem got.1 (given x))) (DeniedBy NotGiven)
   y ← insert_at (space_beside w.store t u got.0) name got.1 (given x)
   Ok (with_store w (moved w.store t got.0 got.1 (given x) u y))

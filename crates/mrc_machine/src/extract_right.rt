@@ -2,6 +2,7 @@
 
 ghost use Rattle.std.specs.Prelude.{◌≡◌, Some, Ok, OnErr, IfOk, IfErr, IsSome};
 ghost use Rattle.mrc_model.specs.Map.{get};
+ghost use Rattle.mrc_model.specs.Wiring.{Wiring};
 ghost use Rattle.mrc_model.specs.World.{Space as TSpace, space};
 ghost use Rattle.mrc_model.specs.Space.{put_entry};
 ghost use Rattle.mrc_model.specs.Reply.{Name};
@@ -10,11 +11,15 @@ ghost use Rattle.mrc_model.specs.CallInsertRight.{call_extract_right};
 ghost use Rattle.mrc_index.specs.Undo.{CanPut};
 ghost use Rattle.mrc_names.specs.Refusals.{IsRefusal};
 ghost use Rattle.mrc_names.specs.Takes.{give_right};
+ghost use Rattle.mrc_wiring.specs.Table.{wiring_of};
+ghost use Rattle.mrc_machine.specs.Calls.{IsRefusedBy};
 ghost use Rattle.mrc_machine.specs.Housing.{target_of};
 
+use crate::refusal::{Refusal, refusal_of};
 use crate::state::State;
 use mrc_base::{Disp, OrMemory, PortId, PortRight, TaskId, give};
-use mrc_model::{Code, Entry};
+use mrc_model::{Code, Denied, Entry, Item, Verb};
+use mrc_wiring::Wired;
 
 impl State {
     /// Gives a task a right, as a receiver gets it: its name.
@@ -65,90 +70,103 @@ impl State {
         given
     }
 
-    /// Gives a right of another task to the caller, and answers its name. What can fail comes
-    /// first.
+    /// Gives a right of another task to the caller, which has to be trusted to take it, and answers
+    /// its name. What can fail comes first.
     fn extract_across(
         &mut self,
+        wired: &Wired,
         caller: TaskId,
         task: u32,
         target: TaskId,
         name: u32,
         disp: Disp,
-    ) -> Result<u32, OrMemory<Code>>
+    ) -> Result<u32, OrMemory<Refusal>>
         requires caller { IsSome (get self.old.tasks caller) }
         requires target { target_of self.old caller task ≡ Some target }
         requires there { IsSome (get self.old.tasks target) }
         requires apart { caller ≡ target → ⊥ }
-        ensures ok { IfOk result (λ given.
-            call_extract_right self.old caller task name disp ≡ Ok (self.new, Name given)) }
-        ensures refused { IfErr result
-            (λ e. IsRefusal e (call_extract_right self.old caller task name disp)) }
+        ensures ok { IfOk result (λ given. call_extract_right (wiring_of wired.now) self.old caller
+            task name disp ≡ Ok (self.new, Name given)) }
+        ensures refused { IfErr result (λ e. IsRefusedBy e
+            (call_extract_right (wiring_of wired.now) self.old caller task name disp)) }
         ensures err { OnErr result (self.new ≡ self.old) }
     {
         let (port, rest) = match self.space(target).parting(name, disp) {
             Ok(taken) => taken,
-            Err(code) => return Err(OrMemory::Fault(code)),
+            Err(code) => return Err(OrMemory::Fault(Refusal::Refused(code))),
         };
-        if self.space(caller).is_full() {
-            return Err(OrMemory::Fault(Code::KernNoSpace));
-        }
         let right = give(disp);
-        let given = self.copyout(caller, port, right)?;
+        let item = Item::Right { port, right };
+        if !self.may_on(wired, Verb::Takes, caller, target, &item) {
+            return Err(OrMemory::Fault(Refusal::Denied(Denied::NotTaken)));
+        }
+        if self.space(caller).is_full() {
+            return Err(OrMemory::Fault(Refusal::Refused(Code::KernNoSpace)));
+        }
+        let given = match self.copyout(caller, port, right) {
+            Ok(given) => given,
+            Err(fault) => return Err(refusal_of(fault)),
+        };
         self.leave(target, name, rest);
         self.restart_moved(right, port);
         Ok(given)
     }
 
-    /// Gives a right of the caller to the caller, and answers its name.
+    /// Gives a right of the caller to the caller, and answers its name: no wiring limits that.
     fn extract_within(
         &mut self,
         caller: TaskId,
         task: u32,
         name: u32,
         disp: Disp,
-    ) -> Result<u32, OrMemory<Code>>
+    ) -> Result<u32, OrMemory<Refusal>>
         requires caller { IsSome (get self.old.tasks caller) }
         requires target { target_of self.old caller task ≡ Some caller }
-        ensures ok { IfOk result (λ given.
-            call_extract_right self.old caller task name disp ≡ Ok (self.new, Name given)) }
-        ensures refused { IfErr result
-            (λ e. IsRefusal e (call_extract_right self.old caller task name disp)) }
+        ensures ok { IfOk result (λ given. (W : Wiring)
+            → call_extract_right W self.old caller task name disp ≡ Ok (self.new, Name given)) }
+        ensures refused { IfErr result (λ e. (W : Wiring)
+            → IsRefusedBy e (call_extract_right W self.old caller task name disp)) }
         ensures err { OnErr result (self.new ≡ self.old) }
     {
         let (port, rest) = match self.space(caller).parting(name, disp) {
             Ok(taken) => taken,
-            Err(code) => return Err(OrMemory::Fault(code)),
+            Err(code) => return Err(OrMemory::Fault(Refusal::Refused(code))),
         };
         if self.space(caller).is_full_after(name, disp) {
-            return Err(OrMemory::Fault(Code::KernNoSpace));
+            return Err(OrMemory::Fault(Refusal::Refused(Code::KernNoSpace)));
         }
         let right = give(disp);
-        let given = self.exchange(caller, name, rest, port, right)?;
+        let given = match self.exchange(caller, name, rest, port, right) {
+            Ok(given) => given,
+            Err(fault) => return Err(refusal_of(fault)),
+        };
         self.restart_moved(right, port);
         Ok(given)
     }
 
-    /// Gives a right of the task to the caller, and answers its name.
+    /// Gives a right of the task to the caller, which has to be trusted to take it from tasks of
+    /// other classes, and answers its name.
     pub(crate) fn extract_right(
         &mut self,
+        wired: &Wired,
         caller: TaskId,
         task: u32,
         target: TaskId,
         name: u32,
         disp: Disp,
-    ) -> Result<u32, OrMemory<Code>>
+    ) -> Result<u32, OrMemory<Refusal>>
         requires caller { IsSome (get self.old.tasks caller) }
         requires target { target_of self.old caller task ≡ Some target }
         requires there { IsSome (get self.old.tasks target) }
-        ensures ok { IfOk result (λ given.
-            call_extract_right self.old caller task name disp ≡ Ok (self.new, Name given)) }
-        ensures refused { IfErr result
-            (λ e. IsRefusal e (call_extract_right self.old caller task name disp)) }
+        ensures ok { IfOk result (λ given. call_extract_right (wiring_of wired.now) self.old caller
+            task name disp ≡ Ok (self.new, Name given)) }
+        ensures refused { IfErr result (λ e. IsRefusedBy e
+            (call_extract_right (wiring_of wired.now) self.old caller task name disp)) }
         ensures err { OnErr result (self.new ≡ self.old) }
     {
         if target.0 == caller.0 {
             return self.extract_within(caller, task, name, disp);
         }
-        self.extract_across(caller, task, target, name, disp)
+        self.extract_across(wired, caller, task, target, name, disp)
     }
 }

@@ -2,6 +2,7 @@
 
 ghost use Rattle.std.specs.Prelude.{◌≡◌, ◌||◌, Some, Ok, OnOk, OnErr, IfOk, IfErr, IsSome};
 ghost use Rattle.mrc_model.specs.Map.{get};
+ghost use Rattle.mrc_model.specs.Wiring.{Wiring};
 ghost use Rattle.mrc_model.specs.World.{Space as TSpace, space};
 ghost use Rattle.mrc_model.specs.Space.{insert_at};
 ghost use Rattle.mrc_model.specs.Reply.{Done};
@@ -9,12 +10,16 @@ ghost use Rattle.mrc_model.specs.Target.{is_reserved, with_space};
 ghost use Rattle.mrc_model.specs.CallSend.{dead_taken, is_dead_taken};
 ghost use Rattle.mrc_model.specs.CallInsertRight.{call_insert_right};
 ghost use Rattle.mrc_names.specs.Refusals.{IsRefusal};
+ghost use Rattle.mrc_wiring.specs.Table.{wiring_of};
+ghost use Rattle.mrc_machine.specs.Calls.{IsRefusedBy};
 ghost use Rattle.mrc_machine.specs.Housing.{target_of};
 ghost use Rattle.mrc_machine.specs.Moves.{with_moved};
 
+use crate::refusal::{Refusal, refusal_of};
 use crate::state::State;
 use mrc_base::{Disp, OrMemory, PortId, PortRight, TaskId, give};
-use mrc_model::{Code, Entry};
+use mrc_model::{Code, Denied, Entry, Item, Verb};
+use mrc_wiring::Wired;
 
 /// Whether the name stands for no entry: 0 is MACH_PORT_NULL, 0xffffffff MACH_PORT_DEAD.
 fn is_reserved(name: u32) -> bool
@@ -69,85 +74,101 @@ impl State {
         put
     }
 
-    /// Puts a right that is taken from a name of a task under a name of the same task.
+    /// Puts a right that is taken from a name of a task under a name of the same task: no wiring
+    /// limits that.
     fn insert_within(
         &mut self,
         task: TaskId,
         from: u32,
         disp: Disp,
         name: u32,
-    ) -> Result<(), OrMemory<Code>>
+    ) -> Result<(), OrMemory<Refusal>>
         requires { IsSome (get self.old.tasks task) }
-        ensures ok { OnOk result (with_moved self.old task from disp task name ≡ Ok self.new) }
-        ensures refused { IfErr result
-            (λ e. IsRefusal e (with_moved self.old task from disp task name)) }
+        ensures ok { OnOk result ((W : Wiring)
+            → with_moved W self.old task from disp task name ≡ Ok self.new) }
+        ensures refused { IfErr result (λ e. (W : Wiring)
+            → IsRefusedBy e (with_moved W self.old task from disp task name)) }
         ensures err { OnErr result (self.new ≡ self.old) }
     {
         let mut space = self.take_space(task);
         let moved = space.move_right(from, disp, name);
         self.put_space(task, space);
-        let port = moved?;
+        let port = match moved {
+            Ok(port) => port,
+            Err(fault) => return Err(refusal_of(fault)),
+        };
         self.restart_moved(give(disp), port);
         Ok(())
     }
 
-    /// Puts a right that is taken from a name of a task under a name of another task. What can fail
-    /// comes first.
+    /// Puts a right that is taken from a name of a task under a name of another task, which the
+    /// first has to be trusted to give. What can fail comes first.
     fn insert_across(
         &mut self,
+        wired: &Wired,
         first: TaskId,
         from: u32,
         disp: Disp,
         second: TaskId,
         name: u32,
-    ) -> Result<(), OrMemory<Code>>
+    ) -> Result<(), OrMemory<Refusal>>
         requires first { IsSome (get self.old.tasks first) }
         requires second { IsSome (get self.old.tasks second) }
         requires apart { second ≡ first → ⊥ }
-        ensures ok { OnOk result (with_moved self.old first from disp second name ≡ Ok self.new) }
-        ensures refused { IfErr result
-            (λ e. IsRefusal e (with_moved self.old first from disp second name)) }
+        ensures ok { OnOk result (with_moved (wiring_of wired.now) self.old first from disp second
+            name ≡ Ok self.new) }
+        ensures refused { IfErr result (λ e. IsRefusedBy e
+            (with_moved (wiring_of wired.now) self.old first from disp second name)) }
         ensures err { OnErr result (self.new ≡ self.old) }
     {
         let (port, rest) = match self.space(first).parting(from, disp) {
             Ok(taken) => taken,
-            Err(code) => return Err(OrMemory::Fault(code)),
+            Err(code) => return Err(OrMemory::Fault(Refusal::Refused(code))),
         };
         let right = give(disp);
-        self.insert_at(second, name, port, right)?;
+        let item = Item::Right { port, right };
+        if !self.may_on(wired, Verb::Gives, first, second, &item) {
+            return Err(OrMemory::Fault(Refusal::Denied(Denied::NotGiven)));
+        }
+        match self.insert_at(second, name, port, right) {
+            Ok(()) => (),
+            Err(fault) => return Err(refusal_of(fault)),
+        }
         self.leave(first, from, rest);
         self.restart_moved(right, port);
         Ok(())
     }
 
-    /// Puts a right of the caller under a name of the task.
+    /// Puts a right of the caller under a name of the task, which the caller has to be trusted to
+    /// give to tasks of other classes.
     pub(crate) fn insert_right(
         &mut self,
+        wired: &Wired,
         caller: TaskId,
         task: u32,
         target: TaskId,
         name: u32,
         right: u32,
         disp: Disp,
-    ) -> Result<(), OrMemory<Code>>
+    ) -> Result<(), OrMemory<Refusal>>
         requires caller { IsSome (get self.old.tasks caller) }
         requires target { target_of self.old caller task ≡ Some target }
         requires there { IsSome (get self.old.tasks target) }
-        ensures ok { OnOk result
-            (call_insert_right self.old caller task name right disp ≡ Ok (self.new, Done)) }
-        ensures refused { IfErr result
-            (λ e. IsRefusal e (call_insert_right self.old caller task name right disp)) }
+        ensures ok { OnOk result (call_insert_right (wiring_of wired.now) self.old caller task name
+            right disp ≡ Ok (self.new, Done)) }
+        ensures refused { IfErr result (λ e. IsRefusedBy e
+            (call_insert_right (wiring_of wired.now) self.old caller task name right disp)) }
         ensures err { OnErr result (self.new ≡ self.old) }
     {
         if is_reserved(name) {
-            return Err(OrMemory::Fault(Code::KernInvalidValue));
+            return Err(OrMemory::Fault(Refusal::Refused(Code::KernInvalidValue)));
         }
         if self.gives_none(caller, right, disp) {
-            return Err(OrMemory::Fault(Code::KernInvalidCapability));
+            return Err(OrMemory::Fault(Refusal::Refused(Code::KernInvalidCapability)));
         }
         if target.0 == caller.0 {
             return self.insert_within(caller, right, disp, name);
         }
-        self.insert_across(caller, right, disp, target, name)
+        self.insert_across(wired, caller, right, disp, target, name)
     }
 }

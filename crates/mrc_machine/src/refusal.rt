@@ -12,7 +12,7 @@ use mrc_model::{Code, Denied};
 pub(crate) enum Refusal {
     /// By Mach's rules.
     Refused(Code),
-    /// By the filter.
+    /// By the filter, or by a line about a trusted task.
     Denied(Denied),
     /// The message has so many bytes, more than the limit.
     TooLarge(u32),

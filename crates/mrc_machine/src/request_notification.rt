@@ -9,7 +9,9 @@ ghost use Rattle.mrc_model.specs.Target.{with_space};
 ghost use Rattle.mrc_index.specs.Undo.{CanPut};
 ghost use Rattle.mrc_model.specs.Death.{port_destroyed_id};
 ghost use Rattle.mrc_model.specs.Reply.{Name, Refused};
+ghost use Rattle.mrc_model.specs.Trust.{may_on};
 ghost use Rattle.mrc_model.specs.CallRequestNotification.{is_notify_disp, is_live_backup};
+ghost use Rattle.mrc_model.specs.CallRequestNotification.{backup_item};
 ghost use Rattle.mrc_model.specs.CallRequestNotification.{call_request_notification};
 ghost use Rattle.mrc_wiring.specs.Table.{wiring_of};
 ghost use Rattle.mrc_machine.specs.Calls.{refusal_reply, IsRefusedBy};
@@ -22,7 +24,7 @@ use crate::refusal::Refusal;
 use crate::set_qlimit::received_port;
 use crate::state::State;
 use mrc_base::{ClassId, Disp, OrMemory, PortId, PortRight, TaskId};
-use mrc_model::{Backup, Code, Denied, Entry};
+use mrc_model::{Backup, Code, Denied, Entry, Item, Verb};
 use mrc_names::Space;
 use mrc_wiring::Wired;
 use std::alloc::AllocError;
@@ -54,6 +56,20 @@ fn is_live_backup(backup: &Backup) -> bool
     match *backup {
         Backup::Absent | Backup::Dead => false,
         Backup::Port(_) => true,
+    }
+}
+
+/// The right of a request, as it is carried.
+fn backup_item(backup: &Backup) -> Item
+    ensures { result ≡ backup_item backup.now }
+{
+    match *backup {
+        Backup::Absent => Item::Null,
+        Backup::Dead => Item::Dead,
+        Backup::Port(port) => Item::Right {
+            port,
+            right: PortRight::SendOnce,
+        },
     }
 }
 
@@ -200,6 +216,21 @@ impl State {
         Ok(Backup::Port(port))
     }
 
+    /// Whether the caller may do so by the verb to the task with the right of a request.
+    fn may_backup(
+        &self,
+        wired: &Wired,
+        verb: Verb,
+        caller: TaskId,
+        target: TaskId,
+        backup: &Backup,
+    ) -> bool
+        ensures { result ≡ may_on (wiring_of wired.now) self.now verb caller target
+            (backup_item backup.now) }
+    {
+        self.may_on(wired, verb, caller, target, &backup_item(backup))
+    }
+
     /// Whether the space of the task has 4,096 entries after a request took its right from a name.
     fn is_full_after(&self, task: TaskId, name: u32, disp: Disp) -> bool
         requires { IsSome (get self.now.tasks task) }
@@ -284,9 +315,15 @@ impl State {
             Ok(backup) => backup,
             Err(refusal) => return Err(OrMemory::Fault(refusal)),
         };
+        if !self.may_backup(wired, Verb::Gives, caller, target, &backup) {
+            return Err(OrMemory::Fault(Refusal::Denied(Denied::NotGiven)));
+        }
         let Some(previous) = self.backup_of(port) else {
             return Err(OrMemory::Fault(Refusal::Refused(Code::KernInvalidName)));
         };
+        if !self.may_backup(wired, Verb::Takes, caller, target, &previous) {
+            return Err(OrMemory::Fault(Refusal::Denied(Denied::NotTaken)));
+        }
         if self.lacks_room(caller, notify, disp, &previous) {
             return Err(OrMemory::Fault(Refusal::Refused(Code::KernNoSpace)));
         }

@@ -30,7 +30,8 @@ impl State {
             (call_send (wiring_of wired.now) self.old caller message.now)) }
         ensures err { OnErr result (self.new ≡ self.old) }
     {
-        let plan = match copy_in(self.alloc, &self.store, wired, caller, message) {
+        let own = self.task_class(caller);
+        let plan = match copy_in(self.alloc, &self.store, wired, own, caller, message) {
             Ok(plan) => plan,
             Err(OrMemory::Memory) => return Err(OrMemory::Memory),
             Err(OrMemory::Fault(SendFault::Refused(code))) => {

@@ -9,6 +9,7 @@ ghost use Rattle.mrc_model.specs.CallCreateTask.{limit_of_task_numbers};
 ghost use Rattle.mrc_model.specs.Rights.{is_receive};
 ghost use Rattle.mrc_model.specs.Map.{empty, get, insert, len, next_key};
 ghost use Rattle.mrc_model.specs.World.{space, task_class, Task as TTask};
+ghost use Rattle.mrc_model.specs.Trust.{may_on};
 ghost use Rattle.mrc_model.specs.Space.{is_full, unused, put_entry, restart_if};
 ghost use Rattle.mrc_index.specs.Undo.{CanPut};
 ghost use Rattle.mrc_model.specs.Reply.{Refused};
@@ -31,15 +32,18 @@ ghost use Rattle.mrc_machine.specs.Starts.{with_right};
 ghost use Rattle.mrc_machine.specs.Housing.{kernel_class_of};
 ghost use Rattle.mrc_model.specs.CallCreateTask.{with_task};
 ghost use Rattle.mrc_map.specs.Entries.{below};
+ghost use Rattle.mrc_wiring.specs.Table.{wiring_of};
 
 use crate::holding::{Holding, spaces_holdings};
 use crate::task::Task;
 use mrc_base::{ClassId, OrMemory, PortId, PortRight, TaskId};
 use mrc_death::{Destroyed, dying};
 use mrc_map::Map;
-use mrc_model::{Backup, Code, Entry};
+use mrc_model::{Backup, Code, Entry, Item, Verb};
 use mrc_names::{Listing, Space};
 use mrc_ports::Store;
+use mrc_transit::may_item;
+use mrc_wiring::Wired;
 use std::alloc::{AllocError, Global};
 use std::marker::Model;
 
@@ -151,6 +155,22 @@ impl State {
             Some(found) => found.class(),
             None => task,
         }
+    }
+
+    /// Whether a task may do so by the verb to another with what is carried, in constant time. If
+    /// both are of one class, it may do everything.
+    pub(crate) fn may_on(
+        &self,
+        wired: &Wired,
+        verb: Verb,
+        caller: TaskId,
+        target: TaskId,
+        item: &Item,
+    ) -> bool
+        ensures { result ≡ may_on (wiring_of wired.now) self.now verb caller target item.now }
+    {
+        let own = self.task_class(caller);
+        own.0 == self.task_class(target).0 || may_item(wired, &self.store, verb, own, item)
     }
 
     /// The space of a task.

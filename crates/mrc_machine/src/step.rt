@@ -7,7 +7,7 @@ ghost use Rattle.mrc_wiring.specs.Table.{wiring_of};
 ghost use Rattle.mrc_names.specs.Refusals.{IsRefusal};
 ghost use Rattle.mrc_machine.specs.Calls.{call_of, reply_of, IsRefused, IsCoded};
 ghost use Rattle.mrc_machine.specs.Calls.{IsRefusedBy, task_name, target_of_call};
-ghost use Rattle.mrc_machine.specs.Calls.{is_asking, is_dropping};
+ghost use Rattle.mrc_machine.specs.Calls.{is_asking, is_dropping, is_moving};
 
 use crate::call::Call;
 use crate::refusal::{Refusal, refusal_of};
@@ -40,6 +40,16 @@ fn is_dropping(call: &Call) -> bool
     )
 }
 
+/// Whether the call moves rights between its task's names and those of a task.
+fn is_moving(call: &Call) -> bool
+    ensures { result ≡ is_moving call.now }
+{
+    matches!(
+        call,
+        Call::InsertRight { .. } | Call::ExtractRight { .. } | Call::RequestNotification { .. }
+    )
+}
+
 impl State {
     /// One call of a live task, or why it is refused. The task that it acts on is found here and
     /// nowhere else: the function of a call gets it as `target`, beside the caller's name for it.
@@ -64,19 +74,8 @@ impl State {
         let Some(target) = self.target(caller, task) else {
             return Err(OrMemory::Fault(Refusal::Refused(call.bad_task())));
         };
-        if let Call::RequestNotification {
-            task,
-            name,
-            id,
-            sync,
-            notify,
-            disp,
-        } = *call
-        {
-            let given = self.request_notification(
-                wired, caller, task, target, name, id, sync, notify, disp,
-            )?;
-            return Ok(Reply::Name(given));
+        if is_moving(call) {
+            return self.moving_call(wired, caller, target, call);
         }
         match self.port_call(wired, caller, target, call) {
             Ok(reply) => Ok(reply),
@@ -110,6 +109,57 @@ impl State {
             return Ok(Reply::Message(bytes));
         }
         unreachable!()
+    }
+
+    /// One call of a live task that moves rights between its names and those of a task.
+    fn moving_call(
+        &mut self,
+        wired: &Wired,
+        caller: TaskId,
+        target: TaskId,
+        call: &Call,
+    ) -> Result<Reply, OrMemory<Refusal>>
+        requires caller { IsSome (get self.old.tasks caller) }
+        requires target { target_of_call self.old caller call.now ≡ Some target }
+        requires there { IsSome (get self.old.tasks target) }
+        requires moving { is_moving call.now ≡ true }
+        ensures ok { IfOk result (λ reply.
+            try_call (wiring_of wired.now) self.old caller (call_of call.now)
+            ≡ Ok (self.new, reply_of reply)) }
+        ensures told { IfOk result (λ reply. IsRefused reply → ⊥) }
+        ensures refused { IfErr result (λ fault. IsRefusedBy fault
+            (try_call (wiring_of wired.now) self.old caller (call_of call.now))) }
+        ensures err { OnErr result (self.new ≡ self.old) }
+    {
+        match *call {
+            Call::InsertRight {
+                task,
+                name,
+                right,
+                disp,
+            } => {
+                self.insert_right(wired, caller, task, target, name, right, disp)?;
+                Ok(Reply::Done)
+            }
+            Call::ExtractRight { task, name, disp } => {
+                let given = self.extract_right(wired, caller, task, target, name, disp)?;
+                Ok(Reply::Name(given))
+            }
+            Call::RequestNotification {
+                task,
+                name,
+                id,
+                sync,
+                notify,
+                disp,
+            } => {
+                let given = self.request_notification(
+                    wired, caller, task, target, name, id, sync, notify, disp,
+                )?;
+                Ok(Reply::Name(given))
+            }
+            _ => unreachable!(),
+        }
     }
 
     /// One call of a live task that is refused by codes alone, or why it is refused.
@@ -213,7 +263,7 @@ impl State {
         Ok(Reply::Done)
     }
 
-    /// One call of a live task that makes names, gives rights or moves names.
+    /// One call of a live task that makes names or tasks, or changes names and ports.
     fn giving_call(
         &mut self,
         wired: &Wired,
@@ -239,19 +289,6 @@ impl State {
             Call::Allocate { task, right, kind } => {
                 let name = self.allocate(wired, caller, task, target, right, kind)?;
                 Ok(Reply::Name(name))
-            }
-            Call::InsertRight {
-                task,
-                name,
-                right,
-                disp,
-            } => {
-                self.insert_right(caller, task, target, name, right, disp)?;
-                Ok(Reply::Done)
-            }
-            Call::ExtractRight { task, name, disp } => {
-                let given = self.extract_right(caller, task, target, name, disp)?;
-                Ok(Reply::Name(given))
             }
             Call::SetQlimit { task, name, limit } => {
                 match self.set_qlimit(caller, task, target, name, limit) {

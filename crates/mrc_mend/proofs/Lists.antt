@@ -1,5 +1,5 @@
 -- Lists of which some are kept.
-use Rattle.std.proofs.Common.{◌≡◌, List, sym, subst}
+use Rattle.std.proofs.Common.{List, sym, subst}
 use Rattle.std.specs.Prelude.{Bool}
 use Rattle.std.specs.List.{All}
 use Rattle.std.specs.List.Retain.{IsFiltered}

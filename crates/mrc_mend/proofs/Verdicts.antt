@@ -10,6 +10,7 @@ use Rattle.mrc_model.specs.Rules.{IsLeast}
 use Rattle.mrc_wiring.specs.declared.claim.ForbiddenLine.{ForbiddenLine}
 use Rattle.mrc_wiring.specs.Table.{wiring_of}
 use Rattle.mrc_wiring.specs.Claims.{Claimed, holding_of}
+use Rattle.mrc_check.specs.Trusted.{AreSecure}
 use Rattle.mrc_check.specs.Verdict.{line_number}
 use Rattle.mrc_check.proofs.Accepted.{none_forbidden}
 use Rattle.mrc_why.specs.Broken.{is_broken, forbidden_fact, HasYes, HasNoYes}
@@ -34,22 +35,24 @@ found_line facts (first ∷ lines) line e =
           (later rest.0, rest.1)
     ] refl e
 
--- no line is broken: the least set is a yes
+-- no task could rewrite a trusted one and no line is broken: the least set is a yes
 pub yes_of : (claim : Claimed) (facts : List Fact) (r : Option ForbiddenLine)
     → IsLeast (wiring_of claim.table) (has facts)
+    → AreSecure (wiring_of claim.table) (has facts) claim.table.trusts
     → r ≡ find (is_broken (has facts)) claim.lines
     → IfNone r (HasYes claim)
-yes_of claim facts None least e = (
+yes_of claim facts None least secure e = (
   facts,
   record {
     least = least;
+    secure = secure;
     says = record {
       closed = least.closed;
       allowed = none_forbidden facts claim.lines (ap (option_map line_number) (sym e));
     };
   },
 )
-yes_of claim facts (Some line) least e = tt
+yes_of claim facts (Some line) least secure e = tt
 
 -- a line is broken: no set is a yes
 pub no_of : (claim : Claimed) (facts : List Fact) (r : Option ForbiddenLine)
@@ -57,7 +60,7 @@ pub no_of : (claim : Claimed) (facts : List Fact) (r : Option ForbiddenLine)
     → r ≡ find (is_broken (has facts)) claim.lines
     → IfSome r (λ line. HasNoYes claim)
 no_of claim facts None least e = tt
-no_of claim facts (Some line) least e = λ set yes.
+no_of claim facts (Some line) least e = λ set yes secure.
     let found = found_line facts claim.lines line (sym e) in
     yes.allowed (holding_of line) found.0
     (least.least (forbidden_fact line) found.1 set yes.closed)

@@ -36,7 +36,8 @@ abbrev pub no_claim_of : MendFault → Meaningless
 no_claim_of (faults.System fault) = InSystem (no_table_of fault)
 no_claim_of (faults.Policy fault) = InPolicy fault
 
--- the text with the changes has a claim over interfaces, and its least set is a yes
+-- the text with the changes has a claim over interfaces, and its least set is a yes by which no
+-- task could rewrite a trusted one
 pub record MendOver (interfaces : List Interface) (wiring policy : List ℕ) (changes : List Change)
     : Type 0 where
   pub claim : Claimed
@@ -44,7 +45,7 @@ pub record MendOver (interfaces : List Interface) (wiring policy : List ℕ) (ch
   pub yes : HasYes claim
 
 -- the changes mend the wiring: its text, changed as it is printed, has a claim with the policy over
--- the MIG files, and its least set is a yes
+-- the MIG files, and its least set is a yes by which no task could rewrite a trusted one
 pub record IsMend (defs : List (List ℕ)) (wiring policy : List ℕ) (changes : List Change)
     : Type 0 where
   pub claim : Claimed
@@ -71,7 +72,8 @@ abbrev pub AreAtMost : ℕ → Answer → Type 0
 AreAtMost most Nothing = Unit {0}
 AreAtMost most (Found mends) = length mends.mends.items ≤ most
 
--- of a claim there is nothing to mend exactly where its least set is a yes; else no set is one
+-- of a claim there is nothing to mend if and only if its least set is a yes by which no task could
+-- rewrite a trusted one; else no set is one
 abbrev pub IsNeeded : Claimed → Answer → Type 0
 IsNeeded claim Nothing = HasYes claim
 IsNeeded claim (Found mends) = HasNoYes claim

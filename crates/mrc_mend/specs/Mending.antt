@@ -3,12 +3,15 @@
 use Rattle.std.specs.Prelude.{ℕ, ◌+◌, ◌==◌, Bool, false, List, [], ◌∷◌, ◌++◌, map, flat_map}
 use Rattle.std.specs.Prelude.{codes, string_bytes, if◌then◌else◌}
 use Rattle.std.specs.List.{list_any}
+use Rattle.mrc_model.specs.declared.Verb.{Verb}
+use Rattle.mrc_model.specs.declared.Verb.TheVariants.{Takes, Gives, Sends, Replies}
 use Rattle.mrc_wiring_text.specs.Lexis.{lines}
 use Rattle.mrc_wiring.specs.declared.names.ClassKind.{ClassKind}
 use Rattle.mrc_wiring.specs.declared.names.ClassKind.TheVariants.{Port, Task, Births}
 use Rattle.mrc_wiring.specs.Names.{kind_word}
 use Rattle.mrc_mend.specs.declared.changes.Change.{Change}
-use Rattle.mrc_mend.specs.declared.changes.Change.TheVariants.{Remove, Restrict}
+use Rattle.mrc_mend.specs.declared.changes.Change.TheVariants.{Remove, Restrict, Limit}
+use Rattle.mrc_mend.specs.declared.changes.Limitation.{Limitation}
 use Rattle.mrc_mend.specs.declared.changes.NamedClass.{NamedClass}
 use Rattle.mrc_mend.specs.declared.changes.Restriction.{Restriction}
 
@@ -42,10 +45,24 @@ abbrev pub admit_lines : Restriction → List NamedClass → List (List ℕ)
 admit_lines r [] = admit_line r (codes "none") ∷ []
 admit_lines r (class ∷ classes) = map (class_line r) (class ∷ classes)
 
+-- the word of a verb
+abbrev pub verb_word : Verb → List ℕ
+verb_word Takes = codes "takes"
+verb_word Gives = codes "gives"
+verb_word Sends = codes "sends"
+verb_word Replies = codes "replies"
+
+-- a line that trusts the task to do so with no right: `trust T VERB none`
+abbrev pub trust_line : Limitation → List ℕ
+trust_line l =
+    codes "trust " ++ (string_bytes l.task
+    ++ (codes " " ++ (verb_word l.verb ++ codes " none")))
+
 -- the lines that a change adds
 abbrev pub added_lines : Change → List (List ℕ)
 added_lines (Remove line) = []
 added_lines (Restrict r) = admit_lines r r.classes.items
+added_lines (Limit l) = trust_line l ∷ []
 
 -- a line, with its end
 abbrev pub ended : List ℕ → List ℕ
@@ -55,6 +72,7 @@ ended line = line ++ codes "\n"
 abbrev pub leaves_out : ℕ → Change → Bool
 leaves_out n (Remove line) = line == n
 leaves_out n (Restrict r) = false
+leaves_out n (Limit l) = false
 
 -- the line of this number: nothing where a change leaves it out
 abbrev pub line_left : List Change → ℕ → List ℕ → List ℕ

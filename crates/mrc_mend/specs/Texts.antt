@@ -4,7 +4,7 @@ use Rattle.std.specs.Prelude.{slice_get, unwrap_or, if◌then◌else◌}
 use Rattle.std.specs.Str.{is_utf8}
 use Rattle.mrc_wiring_text.specs.Lexis.{lines, words}
 use Rattle.mrc_mend.specs.declared.changes.Change.{Change}
-use Rattle.mrc_mend.specs.declared.changes.Change.TheVariants.{Remove, Restrict}
+use Rattle.mrc_mend.specs.declared.changes.Change.TheVariants.{Remove, Restrict, Limit}
 use Rattle.mrc_mend.specs.declared.answers.Answer.{Answer}
 use Rattle.mrc_mend.specs.declared.answers.Answer.TheVariants.{Nothing, Found}
 use Rattle.mrc_mend.specs.declared.answers.Mend.{Mend}
@@ -36,6 +36,7 @@ added_line line = codes "add " ++ line
 abbrev pub change_lines : List ℕ → Change → List (List ℕ)
 change_lines wiring (Remove n) = removed_line wiring n ∷ []
 change_lines wiring (Restrict r) = map added_line (added_lines (Restrict r))
+change_lines wiring (Limit l) = map added_line (added_lines (Limit l))
 
 -- what a mend loses, as it stands behind its first line
 abbrev pub loses : ℕ → List ℕ

@@ -8,9 +8,10 @@ ghost use Rattle.mrc_mend.specs.Judging.{AreAtMost, IsNeeded, IsNeededOf};
 use crate::changes::Change;
 use crate::claims::{MendFault, Said, said_by};
 use crate::cutting::children;
-use crate::judging::{System, first_broken};
+use crate::judging::{System, first_objection};
 use crate::losing::First;
 use crate::searching::search;
+use crate::trusting::can_trust;
 use mrc_base::{OrMemory, copy_all};
 use mrc_check::SystemFault;
 use mrc_closure::make_alone;
@@ -66,12 +67,16 @@ fn answered<P: Progress>(
     let wired = first.claim.wired();
     let made = make_alone(alloc, wired)?;
     let facts = &made.facts;
-    let Some(line) = first_broken(&first.claim, facts) else {
+    let Some(fact) = first_objection(&first.claim, facts) else {
         return Ok(Answer::Nothing);
     };
-    let next = children(alloc, first, facts, &[], &line)?;
-    let first = First { wired, facts };
-    Ok(Answer::Found(search(alloc, system, &first, next, most, progress)?))
+    let before = First {
+        wired,
+        facts,
+        can_trust: can_trust(alloc, system.wiring)?,
+    };
+    let next = children(alloc, &before, first, facts, &[], &fact)?;
+    Ok(Answer::Found(search(alloc, system, &before, next, most, progress)?))
 }
 
 /// The mends of a wiring for a policy over MIG files, all from their bytes: `most` of them at most,
@@ -89,7 +94,7 @@ pub fn find_mends<P: Progress>(
         (IsMend (map (λ bytes. bytes.items) defs.now) wiring.now policy.now)) }
     // There are no more than that.
     ensures within { IfOk result (AreAtMost most) }
-    // Nothing is to be mended exactly where the least set is a yes; else no set is.
+    // Nothing is to be mended if and only if the least set is a yes; else no set is.
     ensures needed { IfOk result (IsNeededOf
         (claimed_of (map (λ bytes. bytes.items) defs.now) wiring.now policy.now)) }
     // Which fault it is: that of the first file.

@@ -5,9 +5,10 @@ ghost use Rattle.std.specs.List.{list_any};
 ghost use Rattle.mrc_wiring_text.specs.Lexis.{lines};
 ghost use Rattle.mrc_mend.specs.Mending as definitions;
 ghost use Rattle.mrc_mend.specs.Mending.{behind_task, class_words, admit_line, class_line};
-ghost use Rattle.mrc_mend.specs.Mending.{admit_lines, added_lines, ended, leaves_out, line_left};
-ghost use Rattle.mrc_mend.specs.Mending.{lines_left};
+ghost use Rattle.mrc_mend.specs.Mending.{admit_lines, verb_word, trust_line, added_lines, ended};
+ghost use Rattle.mrc_mend.specs.Mending.{leaves_out, line_left, lines_left};
 
+use mrc_model::Verb;
 use mrc_wiring::{ClassKind, kind_word};
 use mrc_wiring_text::first_line;
 use std::alloc::{AllocError, Global};
@@ -32,6 +33,15 @@ pub struct Restriction {
     pub classes: Vec<NamedClass>,
 }
 
+/// A task, and what it is to do with no right.
+#[derive(Clone, Debug, Drop)]
+pub struct Limitation {
+    /// The task.
+    pub task: String,
+    /// What it does: takes, gives, sends, or names reply ports.
+    pub verb: Verb,
+}
+
 /// A change of a wiring's text.
 #[derive(Clone, Debug, Drop)]
 pub enum Change {
@@ -39,6 +49,8 @@ pub enum Change {
     Remove(u32),
     /// Lines are added that restrict a type.
     Restrict(Restriction),
+    /// A line is added that trusts a task to do something with no right.
+    Limit(Limitation),
 }
 
 /// The word of a kind of births, behind the name of their task.
@@ -113,6 +125,27 @@ fn add_admit_lines(
     add_class_lines(alloc, added, restriction)
 }
 
+/// The word of a verb.
+fn verb_word(verb: Verb) -> &'static str
+    ensures { result.now ≡ verb_word verb }
+{
+    match verb {
+        Verb::Takes => "takes",
+        Verb::Gives => "gives",
+        Verb::Sends => "sends",
+        Verb::Replies => "replies",
+    }
+}
+
+/// A line that trusts a task to do something with no right.
+fn trust_line(alloc: Global, limitation: &Limitation) -> Result<String, AllocError>
+    ensures { IfOk result (λ text. string_bytes text ≡ trust_line limitation.now) }
+{
+    let task = limitation.task.as_str();
+    let verb = verb_word(limitation.verb);
+    format!(in alloc; "trust {task} {verb} none")
+}
+
 /// The lines that a change adds.
 pub(crate) fn added_lines(alloc: Global, change: &Change) -> Result<Vec<String>, AllocError>
     ensures { IfOk result (λ added. map string_bytes added.items ≡ added_lines change.now) }
@@ -121,6 +154,9 @@ pub(crate) fn added_lines(alloc: Global, change: &Change) -> Result<Vec<String>,
     match change {
         Change::Remove(_) => {}
         Change::Restrict(restriction) => add_admit_lines(alloc, &mut added, restriction)?,
+        Change::Limit(limitation) => {
+            added.push(trust_line(alloc, limitation)?)?;
+        }
     }
     Ok(added)
 }
@@ -131,7 +167,7 @@ fn leaves_out(number: usize, change: &Change) -> bool
 {
     match change {
         Change::Remove(line) => *line as usize == number,
-        Change::Restrict(_) => false,
+        Change::Restrict(_) | Change::Limit(_) => false,
     }
 }
 

@@ -4,20 +4,25 @@ use crate::carrying::{TypeNames, carried};
 use crate::changes::{Change, NamedClass, Restriction};
 use crate::claims::Said;
 use crate::extending::{DEEPEST, extended, restriction_of};
+use crate::losing::First;
+use crate::trusting::{limitation_of, names_actor};
 use mrc_base::{ClassId, Fact};
 use mrc_classes::Facts;
 use mrc_closure::{Step, explain};
-use mrc_why::{Source, Sources, forbidden_fact};
-use mrc_wiring::{ClassKind, ClassLabel, ForbiddenLine, Wired};
+use mrc_why::{Source, Sources};
+use mrc_wiring::{ClassKind, ClassLabel, Wired};
 use mrc_wiring_text::{ClassName, WiringLine, WiringSays};
 use std::alloc::{AllocError, Global};
 
-/// What was said and derived after some changes.
+/// What was said and derived after some changes, and the fact that is not to be derived.
 #[derive(Clone, Copy)]
 struct Node<'a> {
     said: &'a Said,
     facts: &'a Facts,
+    first: &'a Facts,
     changes: &'a [Change],
+    goal: Fact,
+    can_trust: bool,
 }
 
 /// The admit lines of a type.
@@ -36,7 +41,9 @@ fn is_hold(says: &WiringSays) -> bool {
         WiringSays::Task(_)
         | WiringSays::Port { .. }
         | WiringSays::Births { .. }
-        | WiringSays::Admit { .. } => false,
+        | WiringSays::Admit { .. }
+        | WiringSays::Trust { .. }
+        | WiringSays::RepliesFit => false,
     }
 }
 
@@ -246,25 +253,47 @@ fn cut_step(
     }
 }
 
-/// The changes that cut one of the steps, beside those that were made.
+/// Adds the changes with a line more that limits the task that takes, gives or sends in the step.
+/// No task is trusted that a line names which was broken at first.
+fn limit_step(
+    alloc: Global,
+    next: &mut Vec<Vec<Change>>,
+    node: &Node<'_>,
+    steps: &[Step],
+    step: &Step,
+) -> Result<(), AllocError> {
+    let lines = node.said.claim.lines();
+    if !node.can_trust || names_actor(lines, node.first, steps, step) {
+        return Ok(());
+    }
+    let wired = node.said.claim.wired();
+    if let Some(limitation) = limitation_of(alloc, wired, steps, step, &node.goal)? {
+        next.push(extended(alloc, node.changes, Change::Limit(limitation))?)?;
+    }
+    Ok(())
+}
+
+/// The changes that cut one of the steps, in addition to those that were made.
 fn cuts(alloc: Global, node: &Node<'_>, steps: &[Step]) -> Result<Vec<Vec<Change>>, AllocError> {
     let said = node.said;
     let sources = Sources::new(alloc, said.claim.wired(), said.lines.as_slice())?;
     let mut next = Vec::new(alloc);
     for step in steps {
         cut_step(alloc, &mut next, node, step, sources.source(steps, step))?;
+        limit_step(alloc, &mut next, node, steps, step)?;
     }
     Ok(next)
 }
 
-/// The changes to be tried where these were not enough and the line is broken: each cuts a chain
-/// that derives what the line forbids. There are none behind as many as a mend may have.
+/// The changes to be tried if these were not enough, since the fact is objected to: each cuts a
+/// chain that derives the fact. There are none after as many changes as a mend may have.
 pub(crate) fn children(
     alloc: Global,
+    first: &First<'_>,
     said: &Said,
     facts: &Facts,
     changes: &[Change],
-    line: &ForbiddenLine,
+    goal: &Fact,
 ) -> Result<Vec<Vec<Change>>, AllocError> {
     if changes.len() >= DEEPEST {
         return Ok(Vec::new(alloc));
@@ -272,9 +301,12 @@ pub(crate) fn children(
     let node = Node {
         said,
         facts,
+        first: first.facts,
         changes,
+        goal: *goal,
+        can_trust: first.can_trust,
     };
-    match explain(alloc, said.claim.wired(), forbidden_fact(line))? {
+    match explain(alloc, said.claim.wired(), *goal)? {
         Some(chain) => cuts(alloc, &node, chain.steps()),
         None => Ok(Vec::new(alloc)),
     }

@@ -1,7 +1,8 @@
 //! Lists of changes, and larger ones.
 
 use crate::carrying::TypeNames;
-use crate::changes::{Change, NamedClass, Restriction, added_lines};
+use crate::changes::{Change, Limitation, NamedClass, Restriction, added_lines};
+use mrc_model::Verb;
 use std::alloc::{AllocError, Global};
 
 /// How many changes a mend has at most.
@@ -28,12 +29,33 @@ pub(crate) fn restriction_of<'a>(
     None
 }
 
-/// Whether the change is printed before the other: lines that are left out come first.
+/// A number for each verb.
+fn verb_number(verb: Verb) -> u8 {
+    match verb {
+        Verb::Takes => 0,
+        Verb::Gives => 1,
+        Verb::Sends => 2,
+        Verb::Replies => 3,
+    }
+}
+
+/// Whether the limitation is printed before the other: by the names of tasks, and then by verbs.
+fn is_lower(limitation: &Limitation, other: &Limitation) -> bool {
+    let task = limitation.task.as_str();
+    let verb = verb_number(limitation.verb);
+    (task, verb) < (other.task.as_str(), verb_number(other.verb))
+}
+
+/// Whether the change is printed before the other: removed lines come first, lines about trusted
+/// tasks last.
 fn is_before(change: &Change, other: &Change) -> bool {
     match (change, other) {
         (Change::Remove(line), Change::Remove(known)) => line < known,
-        (Change::Remove(_), Change::Restrict(_)) => true,
-        (Change::Restrict(_), Change::Remove(_)) => false,
+        (Change::Remove(_), Change::Restrict(_) | Change::Limit(_)) => true,
+        (Change::Restrict(_), Change::Limit(_)) => true,
+        (Change::Restrict(_) | Change::Limit(_), Change::Remove(_)) => false,
+        (Change::Limit(_), Change::Restrict(_)) => false,
+        (Change::Limit(limitation), Change::Limit(known)) => is_lower(limitation, known),
         (Change::Restrict(restriction), Change::Restrict(known)) => {
             let subsystem = restriction.subsystem.as_str();
             let type_name = restriction.type_name.as_str();
@@ -98,6 +120,9 @@ fn includes(changes: &[Change], change: &Change) -> bool {
             (Change::Remove(line), Change::Remove(known)) => line == known,
             (Change::Restrict(restriction), Change::Restrict(known)) => {
                 is_instead(change, other) && is_wider(restriction, known)
+            }
+            (Change::Limit(limitation), Change::Limit(known)) => {
+                limitation.task == known.task && limitation.verb == known.verb
             }
             _ => false,
         };

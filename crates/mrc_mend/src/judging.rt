@@ -4,6 +4,7 @@ ghost use Rattle.std.specs.Prelude.{◌≡◌, find, IfOk, IfSome, IfNone};
 ghost use Rattle.mrc_facts.specs.Sets.{has};
 ghost use Rattle.mrc_model.specs.Rules.{IsLeast};
 ghost use Rattle.mrc_wiring.specs.Table.{wiring_of};
+ghost use Rattle.mrc_check.specs.Trusted.{AreSecure};
 ghost use Rattle.mrc_why.specs.Broken.{is_broken, HasYes, HasNoYes};
 ghost use Rattle.mrc_mend.specs.Judging.{MendOver, IfMending};
 
@@ -11,7 +12,8 @@ use crate::changes::{Change, mended};
 use crate::claims::{Said, said_by};
 use crate::cutting::children;
 use crate::losing::{First, lost};
-use mrc_base::{OrMemory, copy_all};
+use mrc_base::{Fact, OrMemory, copy_all};
+use mrc_check::first_exposed;
 use mrc_classes::Facts;
 use mrc_closure::make_alone;
 use mrc_forms::Interface;
@@ -50,14 +52,33 @@ fn broken_of(lines: &[ForbiddenLine], facts: &Facts) -> Option<ForbiddenLine>
     None
 }
 
-/// The first line that forbids a fact of the least set. Where there is none the least set is a yes,
-/// and where there is one no set is.
-pub(crate) fn first_broken(claim: &Claim, facts: &Facts) -> Option<ForbiddenLine>
-    requires { IsLeast (wiring_of claim.now.table) (has facts.now) }
+/// The first line that forbids a fact of the least set, by which no task could rewrite a trusted
+/// one. If there is none, the least set is a yes; if there is one, no set is.
+fn first_broken(claim: &Claim, facts: &Facts) -> Option<ForbiddenLine>
+    requires least { IsLeast (wiring_of claim.now.table) (has facts.now) }
+    requires secure { AreSecure (wiring_of claim.now.table) (has facts.now)
+        claim.now.table.trusts }
     ensures yes { IfNone result (HasYes claim.now) }
     ensures no { IfSome result (λ line. HasNoYes claim.now) }
 {
     broken_of(claim.lines(), facts)
+}
+
+/// The first fact of the least set that is objected to: the hold by which a task could rewrite a
+/// trusted one, or else what the first broken line forbids. If there is none, the least set is a
+/// yes; if there is one, no set is.
+pub(crate) fn first_objection(claim: &Claim, facts: &Facts) -> Option<Fact>
+    requires { IsLeast (wiring_of claim.now.table) (has facts.now) }
+    ensures yes { IfNone result (HasYes claim.now) }
+    ensures no { IfSome result (λ fact. HasNoYes claim.now) }
+{
+    match first_exposed(claim.wired(), facts) {
+        Some((_, fact)) => Some(fact),
+        None => match first_broken(claim, facts) {
+            Some(line) => Some(forbidden_fact(&line)),
+            None => None,
+        },
+    }
 }
 
 /// What the changes do that say this.
@@ -71,9 +92,12 @@ fn verdict_of(
 {
     let wired = said.claim.wired();
     let made = make_alone(alloc, wired)?;
-    match first_broken(&said.claim, &made.facts) {
+    match first_objection(&said.claim, &made.facts) {
         None => Ok(Verdict::Mends(lost(alloc, first, wired, &made.facts)?)),
-        Some(line) => Ok(Verdict::Fails(children(alloc, said, &made.facts, changes, &line)?)),
+        Some(fact) => {
+            let next = children(alloc, first, said, &made.facts, changes, &fact)?;
+            Ok(Verdict::Fails(next))
+        }
     }
 }
 

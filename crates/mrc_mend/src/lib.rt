@@ -14,8 +14,9 @@ mod printing;
 mod searching;
 #[cfg(test)]
 mod tests;
+mod trusting;
 
 pub use answers::{Answer, Mend, Mends, Progress, find_mends};
-pub use changes::{Change, NamedClass, Restriction, mended};
+pub use changes::{Change, Limitation, NamedClass, Restriction, mended};
 pub use claims::{MendFault, claim_of};
 pub use printing::mends_text;

@@ -11,6 +11,8 @@ use std::alloc::{AllocError, Global};
 pub(crate) struct First<'a> {
     pub(crate) wired: &'a Wired,
     pub(crate) facts: &'a Facts,
+    /// Whether its text may have trust lines.
+    pub(crate) can_trust: bool,
 }
 
 /// Whether the fact, by its names, is among the facts of the other wiring.

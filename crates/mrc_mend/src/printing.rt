@@ -99,7 +99,7 @@ fn add_change(
             told.push(removed_line(alloc, wiring, *number)?)?;
             Ok(())
         }
-        Change::Restrict(_) => add_added(alloc, told, change),
+        Change::Restrict(_) | Change::Limit(_) => add_added(alloc, told, change),
     }
 }
 

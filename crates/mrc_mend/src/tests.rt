@@ -32,9 +32,8 @@ fn with_line(alloc: Global, text: &str, line: &str) -> Result<String, AllocError
     format!(in alloc; "{text}{line}")
 }
 
-/// What is told of the wiring with more lines and of a policy with one; nothing of a fault.
-fn told(alloc: Global, lines: &str, forbids: &str) -> Result<String, AllocError> {
-    let wiring = with_line(alloc, WIRING, lines)?;
+/// What is printed of a wiring and of a policy with one line; nothing if there is a fault.
+fn told_of(alloc: Global, wiring: &str, forbids: &str) -> Result<String, AllocError> {
     let policy = with_line(alloc, "policy 1\n", forbids)?;
     let mut defs = Vec::new(alloc);
     defs.push(Vec::from_slice(alloc, DEFS.as_bytes())?)?;
@@ -51,6 +50,12 @@ fn told(alloc: Global, lines: &str, forbids: &str) -> Result<String, AllocError>
         Ok(answer) => mends_text(alloc, wiring, &answer),
         Err(_) => Ok(String::new(alloc)),
     }
+}
+
+/// The same of the wiring with more lines.
+fn told(alloc: Global, lines: &str, forbids: &str) -> Result<String, AllocError> {
+    let wiring = with_line(alloc, WIRING, lines)?;
+    told_of(alloc, wiring.as_str(), forbids)
 }
 
 #[test]
@@ -99,5 +104,51 @@ fn there_may_be_nothing_to_tell(rt: HostRuntime) -> Result<(), Fail> {
     assert_eq!(rt; none.as_str(), "YES\n");
     assert_eq!(rt; always.as_str(), "none\n");
     assert_eq!(rt; fault.as_str(), "");
+    Ok(())
+}
+
+/// The loader holds the kernel port of the program. Both have all 16 facts.
+const LOADER: &str = "wiring 3\n\
+    task loader\n\
+    task program\n\
+    hold loader send task program\n";
+
+#[test]
+fn a_task_is_trusted_to_give_nothing(rt: HostRuntime) -> Result<(), Fail> {
+    let alloc = rt.alloc();
+    let given = told_of(alloc, LOADER, "forbid program send births loader")?;
+    // Of 16 facts 12 are left, or 8.
+    assert_eq!(rt;
+        given.as_str(),
+        "1 add trust loader gives none # loses 4 facts\n\
+         2 remove line 4 # hold loader send task program # loses 8 facts\n"
+    );
+    // The loader takes, and is the one that is not to have it.
+    let taken = told_of(alloc, LOADER, "forbid loader send births program")?;
+    assert_eq!(rt;
+        taken.as_str(),
+        "1 remove line 4 # hold loader send task program # loses 8 facts\n"
+    );
+    Ok(())
+}
+
+#[test]
+fn a_trusted_task_is_not_to_be_rewritten(rt: HostRuntime) -> Result<(), Fail> {
+    let mends = told_of(
+        rt.alloc(),
+        "wiring 3\n\
+         task loader\n\
+         task shell\n\
+         task guest\n\
+         hold loader send task guest\n\
+         hold shell send task loader\n\
+         trust loader gives none\n",
+        "forbid guest send births loader",
+    )?;
+    // Of 36 facts 16 are left.
+    assert_eq!(rt;
+        mends.as_str(),
+        "1 remove line 6 # hold shell send task loader # loses 20 facts\n"
+    );
     Ok(())
 }

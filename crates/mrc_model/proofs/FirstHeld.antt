@@ -28,7 +28,7 @@ use Rattle.mrc_model.specs.Target.{with_store}
 use Rattle.mrc_model.specs.CallAllocate.{new_port, birth}
 use Rattle.mrc_model.specs.First.{First, no_world, add_task, add_lines, built, world_of, is_sound}
 use Rattle.mrc_model.specs.First.{first}
-use Rattle.mrc_model.specs.Breach.{Holding}
+use Rattle.mrc_model.specs.Breach.{Holding, Holds}
 use Rattle.mrc_model.specs.FirstHoldings.{line_holdings, line_classes, HasGiven}
 use Rattle.mrc_model.proofs.Maps.{same_Some, not_None, get-insert_same, get-insert_other, get-empty}
 use Rattle.mrc_model.proofs.Maps.{origin-insert}
@@ -291,6 +291,10 @@ pub record Tidy (f : First) (cs : List ℕ) : Type 0 where
   pub next : f.world.store.next ≡ length cs
   pub classes : (p : ℕ) → class_of f.world.store p ≡ slice_get cs p
 
+-- a send right of the task
+abbrev pub own_right : ℕ → ℕ → Holding
+own_right t p = record { task = t; port = p; right = Send }
+
 -- what the state has after further lines
 pub record Ends (W : Wiring) (f : First) (cs : List ℕ) (ls : List FirstLine)
     (g : First) : Type 0 where
@@ -298,6 +302,18 @@ pub record Ends (W : Wiring) (f : First) (cs : List ℕ) (ls : List FirstLine)
   pub classes : (p : ℕ)
       → class_of g.world.store p ≡ slice_get (cs ++ line_classes W f.tasks f.ports ls) p
   pub own : (t : ℕ) → task_class g.world t ≡ t
+  pub kernels : (t : ℕ) (x : Task) → get g.world.tasks t ≡ Some x
+      → (get f.world.tasks t ≡ Some x)
+      ⊎ IsIn (own_right t x.kernel) (line_holdings f.tasks f.world.store.next ls)
+
+-- a new task's send right to its kernel port is what its line gives
+own_here : (f : First) (made : Task) (t : ℕ) (x : Task) (more : List Holding)
+    → made.kernel ≡ f.world.store.next → t ≡ f.tasks → made ≡ x
+    → IsIn (own_right t x.kernel) (own_right f.tasks f.world.store.next ∷ more)
+own_here f made t x more kernel number same =
+    subst (λ v. IsIn v (own_right f.tasks f.world.store.next ∷ more))
+    (ap (own_right f.tasks) (sym kernel ∙ ap (λ (v : Task). v.kernel) same)
+    ∙ ap (λ v. own_right v x.kernel) (sym number)) here
 
 tidy_task : (W : Wiring) (f : First) (cs : List ℕ) → Tidy f cs
     → Tidy (add_task W f) (cs ++ kernel_class W f.tasks ∷ [])
@@ -389,6 +405,7 @@ lines_end W [] f cs tidy =
       classes = λ p. tidy.classes p
           ∙ ap (λ v. slice_get v p) (sym (append_none cs));
       own = tidy.own;
+      kernels = λ u x at. inl at;
     }
 lines_end W (TaskLine ∷ ls) f cs tidy =
     bind {Q = λ g. g ≡ add_task W f} _ _ (bind_ _ _ (checked _ _) (λ _ room. gives_ok refl))
@@ -402,6 +419,13 @@ lines_end W (TaskLine ∷ ls) f cs tidy =
           λ p. ends.classes p ∙ ap (λ v. slice_get v p)
           (append_one cs (kernel_class W f.tasks) (line_classes W (f.tasks + 1) f.ports ls));
       own = ends.own;
+      kernels = λ u x at. elim (ends.kernels u x at) [
+        | inl old ↦ elim (origin-insert f.world.tasks f.tasks _ u x old) [
+          | inl new ↦ inr (own_here f _ u x _ refl new.0 new.1)
+          | inr before ↦ inl before.1
+        ]
+        | inr more ↦ inr (later more)
+      ];
     })))
 lines_end W (PortLine t ∷ ls) f cs tidy =
     let g0 : First = record {
@@ -422,6 +446,8 @@ lines_end W (PortLine t ∷ ls) f cs tidy =
           λ p. ends.classes p ∙ ap (λ v. slice_get v p)
           (append_one cs f.ports (line_classes W f.tasks (f.ports + 1) ls));
       own = ends.own;
+      kernels =
+          λ u x at. elim (ends.kernels u x at) [ inl old ↦ inl old | inr more ↦ inr (later more) ];
     })))
 lines_end W (HoldLine t p r ∷ ls) f cs tidy =
     let g0 : First = record f {
@@ -442,6 +468,12 @@ lines_end W (HoldLine t p r ∷ ls) f cs tidy =
           (same_next f.world.store t p r) ends.leads);
       classes = ends.classes;
       own = ends.own;
+      kernels = λ u x at. elim (ends.kernels u x at) [
+        | inl old ↦ inl old
+        | inr more ↦ inr (later (subst
+            (λ n. IsIn (own_right u x.kernel) (line_holdings f.tasks n ls))
+            (same_next f.world.store t p r) more))
+      ];
     })))
 
 -- the first state
@@ -463,7 +495,7 @@ given_of : (W : Wiring) (r : Try First) → built W ≡ r → is_ok r ≡ true �
     { world = world_of r; tasks = 0; ports = 0 }
 given_of W (Ok f) is ok = let e = (lines_end W W.lines
     record { world = no_world; tasks = 0; ports = 0 } [] tidy_first).holds f is in
-    record { leads = e.leads; classes = e.classes; own = e.own }
+    record { leads = e.leads; classes = e.classes; own = e.own; kernels = e.kernels }
 given_of W (Err e) is ok = cc
 
 pub first_given : (W : Wiring) → is_sound W ≡ true → HasGiven W
@@ -482,3 +514,14 @@ first_given W sound =
       classes = e.classes;
       tasks = e.own;
     }
+
+-- there each task holds a send right to its kernel port
+pub first_kernels : (W : Wiring) → is_sound W ≡ true → (t : ℕ) (x : Task)
+    → get (first W).tasks t ≡ Some x → Holds (first W) t x.kernel Send
+unfolding first
+first_kernels W sound t x at =
+    let e = given_of W (built W) refl sound in
+    elim (e.kernels t x at) [
+      | inl none ↦ absurd (not_None x (sym none ∙ get-empty t))
+      | inr line ↦ e.leads.given t (held x.kernel Send) line
+    ]

@@ -444,27 +444,29 @@ reply_kept s t n None fault all = go (n == port_null) (n == port_dead)
     go false true = gives_ok all
     go false false = gives_err _ _
 
-items_kept : (W : Wiring) (t : ℕ) (x : Disp) (sort i : ℕ) (s : Store) (ns : List ℕ) → AreSpaces s
-    → Gives (λ (got : Store × List Item). AreSpaces got.0) (take_items W t x sort i s ns)
-items_kept W t x sort i s [] all = gives_ok all
-items_kept W t x sort i s (n ∷ ns) all =
+items_kept : (W : Wiring) (own t : ℕ) (x : Disp) (sort i : ℕ) (s : Store) (ns : List ℕ)
+    → AreSpaces s
+    → Gives (λ (got : Store × List Item). AreSpaces got.0) (take_items W own t x sort i s ns)
+items_kept W own t x sort i s [] all = gives_ok all
+items_kept W own t x sort i s (n ∷ ns) all =
     bind _ _ (item_kept s t n x _ all) (λ got kept.
-    bind_ _ _ (any_of (admit_item W got.0 sort i got.1)) (λ _ _.
-    bind _ _ (items_kept W t x sort i got.0 ns kept) (λ rest after. gives_ok after)))
+    bind_ _ _ (any_of (admit_item W own got.0 sort i got.1)) (λ _ _.
+    bind _ _ (items_kept W own t x sort i got.0 ns kept) (λ rest after. gives_ok after)))
 
-arg_kept : (W : Wiring) (t sort i : ℕ) (s : Store) (a : Arg) → AreSpaces s
-    → Gives (λ (got : Store × QueuedArg). AreSpaces got.0) (take_arg W t sort i s a)
-arg_kept W t sort i s (Data name size number bytes) all = gives_ok all
-arg_kept W t sort i s (Ports disp names) all =
+arg_kept : (W : Wiring) (own t sort i : ℕ) (s : Store) (a : Arg) → AreSpaces s
+    → Gives (λ (got : Store × QueuedArg). AreSpaces got.0) (take_arg W own t sort i s a)
+arg_kept W own t sort i s (Data name size number bytes) all = gives_ok all
+arg_kept W own t sort i s (Ports disp names) all =
     bind _ _ (found (disp_of_number disp) _) (λ x _.
-    bind _ _ (items_kept W t x sort i s names all) (λ got kept. gives_ok kept))
+    bind _ _ (items_kept W own t x sort i s names all) (λ got kept. gives_ok kept))
 
-args_kept : (W : Wiring) (t i : ℕ) (shapes : List Shape) (s : Store) (as' : List Arg) → AreSpaces s
-    → Gives (λ (got : Store × List QueuedArg). AreSpaces got.0) (take_args W t i shapes s as')
-args_kept W t i shapes s [] all = gives_ok all
-args_kept W t i shapes s (a ∷ more) all =
-    bind _ _ (arg_kept W t _ i s a all) (λ got kept.
-    bind _ _ (args_kept W t (i + 1) _ got.0 more kept) (λ rest after. gives_ok after))
+args_kept : (W : Wiring) (own t i : ℕ) (shapes : List Shape) (s : Store) (as' : List Arg)
+    → AreSpaces s
+    → Gives (λ (got : Store × List QueuedArg). AreSpaces got.0) (take_args W own t i shapes s as')
+args_kept W own t i shapes s [] all = gives_ok all
+args_kept W own t i shapes s (a ∷ more) all =
+    bind _ _ (arg_kept W own t _ i s a all) (λ got kept.
+    bind _ _ (args_kept W own t (i + 1) _ got.0 more kept) (λ rest after. gives_ok after))
 
 send_kept : (W : Wiring) (w : World) (t : ℕ) (m : Message) → AreSpaces w.store
     → Ends (call_send W w t m)
@@ -476,9 +478,12 @@ send_kept W w t m all =
     bind _ _ (any_of _) (λ dest _.
     bind _ _ (any_of _) (λ form _.
     bind _ _ (reply_kept got.0 t m.local (disp_of_number m.local_disp) _ kept) (λ reply after.
-    bind _ _ (args_kept W t 0 _ reply.0 m.args after) (λ args last.
     bind_ _ _ (any_of _) (λ _ _.
-    gives_ok (same_kept args.0 (append args.0 got.1 _) (append_spaces args.0 got.1 _) last)))))))))
+    bind_ _ _ (any_of _) (λ _ _.
+    bind _ _ (args_kept W _ t 0 _ reply.0 m.args after) (λ args last.
+    bind_ _ _ (any_of _) (λ _ _.
+    gives_ok
+    (same_kept args.0 (append args.0 got.1 _) (append_spaces args.0 got.1 _) last)))))))))))
 
 -- receiving
 
@@ -586,24 +591,27 @@ mod_refs_kept w t task name right delta all =
 
 -- rights between tasks
 
-insert_right_kept : (w : World) (t task name right : ℕ) (x : Disp) → AreSpaces w.store
-    → Ends (call_insert_right w t task name right x)
+insert_right_kept : (W : Wiring) (w : World) (t task name right : ℕ) (x : Disp)
+    → AreSpaces w.store
+    → Ends (call_insert_right W w t task name right x)
 unfolding call_insert_right
-insert_right_kept w t task name right x all =
+insert_right_kept W w t task name right x all =
     bind _ _ (any_of _) (λ u _.
     bind_ _ _ (any_of _) (λ _ _.
     bind_ _ _ (any_of _) (λ _ _.
     bind _ _ (take_kept w.store t right x _ _ all) (λ got kept.
+    bind_ _ _ (any_of _) (λ _ _.
     bind _ _ (insert_at_is_space (space got.0 u) name got.1 (given x) (kept.of u)) (λ y is.
-    gives_ok (set_space_kept got.0 u y kept is))))))
+    gives_ok (set_space_kept got.0 u y kept is)))))))
 
-extract_right_kept : (w : World) (t task name : ℕ) (x : Disp) → AreSpaces w.store
-    → Ends (call_extract_right w t task name x)
+extract_right_kept : (W : Wiring) (w : World) (t task name : ℕ) (x : Disp) → AreSpaces w.store
+    → Ends (call_extract_right W w t task name x)
 unfolding call_extract_right
-extract_right_kept w t task name x all =
+extract_right_kept W w t task name x all =
     bind _ _ (any_of _) (λ u _.
     bind _ _ (take_kept w.store u name x _ _ all) (λ got kept.
-    bind_ _ _ (any_of _) (λ _ _. gives_ok (give_kept got.0 t (RightItem got.1 (given x)) kept))))
+    bind_ _ _ (any_of _) (λ _ _.
+    bind_ _ _ (any_of _) (λ _ _. gives_ok (give_kept got.0 t (RightItem got.1 (given x)) kept)))))
 
 -- sets
 
@@ -682,9 +690,11 @@ request_kept W w t task name id sync notify x all =
     bind _ _ (any_of _) (λ e _.
     bind _ _ (any_of _) (λ p _.
     bind _ _ (backup_kept W w.store t notify x all) (λ got kept.
+    bind_ _ _ (any_of _) (λ _ _.
     bind _ _ (any_of _) (λ y _.
     bind_ _ _ (any_of _) (λ _ _.
-    gives_ok (give_backup_kept _ t y.backup (set_port_kept got.0 p _ kept)))))))))
+    bind_ _ _ (any_of _) (λ _ _.
+    gives_ok (give_backup_kept _ t y.backup (set_port_kept got.0 p _ kept)))))))))))
 
 qlimit_kept : (w : World) (t task name limit : ℕ) → AreSpaces w.store
     → Ends (call_set_qlimit w t task name limit)
@@ -753,8 +763,8 @@ call_kept W w t (Deallocate task name) all = deallocate_kept w t task name all
 call_kept W w t (Destroy task name) all = destroy_call_kept w t task name all
 call_kept W w t (ModRefs task name right delta) all = mod_refs_kept w t task name right delta all
 call_kept W w t (InsertRight task name right disp) all =
-    insert_right_kept w t task name right disp all
-call_kept W w t (ExtractRight task name disp) all = extract_right_kept w t task name disp all
+    insert_right_kept W w t task name right disp all
+call_kept W w t (ExtractRight task name disp) all = extract_right_kept W w t task name disp all
 call_kept W w t (MoveMember task member set) all = move_member_kept w t task member set all
 call_kept W w t (RequestNotification task name id sync notify disp) all =
     request_kept W w t task name id sync notify disp all

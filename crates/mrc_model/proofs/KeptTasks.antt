@@ -105,7 +105,7 @@ module _ (W : Wiring) (w : World) (t : ℕ) where
   call_stays (Allocate task right kind) = past _ _ (λ u. allocate_in_stays u right kind)
   call_stays (MoveMember task member n) =
       past _ _ (λ u. past _ _ (λ e. move_entry_stays u member n e))
-  call_stays call = search (past, past_, left, asked) depth 12
+  call_stays call = search (past, past_, left, asked) depth 15
 
   step_stays : (call : Call) → Stay w (step W w t call).0
   unfolding step

@@ -10,5 +10,8 @@ pub mod Few
 pub mod Members
 pub mod Deriving
 pub mod HoldingLists
+pub mod Added
 mod Samples
 mod SampleRuns
+mod SampleTrust
+mod SampleTypes

@@ -1,7 +1,8 @@
 -- Members of lists that are joined or filtered.
 use Rattle.std.proofs.Common.{◌≡◌, ◌⊎◌, inl, inr, Bool, true, false, List, [], ◌∷◌, ◌++◌, refl, sym}
 use Rattle.std.proofs.Common.{subst, ap, if◌then◌else◌, ◌∙◌}
-use Rattle.std.specs.List.{AllByRecursion, filter}
+use Rattle.std.specs.List.{AllByRecursion, filter, list_any}
+use Rattle.std.proofs.lemmas.Bool.{or_cases, or_right}
 use Rattle.mrc_base.specs.declared.Fact.{Fact}
 use Rattle.mrc_model.specs.IsIn.{IsIn, here, later}
 use Rattle.mrc_model.proofs.FirstHeld.{in_cons}
@@ -54,3 +55,13 @@ pub all_map : {P Q : Fact → Type 0} (ps : List Fact) → ((p : Fact) → P p �
     → AllByRecursion P ps → AllByRecursion Q ps
 all_map [] k h = tt
 all_map (p ∷ ps) k h = (k p h.0, all_map ps k h.1)
+
+-- if a test holds of an element, so does each weaker test
+pub any_more : {X : Type 0} (test other : X → Bool) (xs : List X)
+    → ((x : X) → test x ≡ true → other x ≡ true) → list_any test xs ≡ true
+    → list_any other xs ≡ true
+any_more test other [] more e = cc
+any_more test other (x ∷ xs) more e = elim (or_cases (test x) (list_any test xs) e) [
+  | inl z ↦ let is = more x z in rw is refl
+  | inr z ↦ or_right (other x) (list_any other xs) (any_more test other xs more z)
+]

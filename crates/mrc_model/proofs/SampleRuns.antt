@@ -15,7 +15,8 @@ use Rattle.mrc_model.specs.declared.Denied.TheVariants.{NoSuchId, WrongDispositi
 use Rattle.mrc_model.specs.declared.Denied.TheVariants.{NotDestroyed}
 use Rattle.mrc_model.specs.Message.{Data, Ports}
 use Rattle.mrc_model.specs.Map.{empty, get, insert, alter_all, len, keys, next_key}
-use Rattle.mrc_model.specs.Wiring.{forms, accepts_destroyed, admits, births_class, kernel_class}
+use Rattle.mrc_model.specs.Wiring.{forms, accepts_destroyed, admits, may, births_class}
+use Rattle.mrc_model.specs.Wiring.{kernel_class, fits_at}
 use Rattle.mrc_model.specs.World.{class_of}
 use Rattle.mrc_model.specs.Filter.{judge}
 use Rattle.mrc_model.specs.Reply.{Done, Name, Refs, Mask, Names, Created, Bytes, TooLarge, Refused}
@@ -64,8 +65,8 @@ pub full_queue_takes_send_once_alone : Replays pinging (
     event 0 (sent 21 2 500 []) Done ∷
     []) 2
 unfolding ◌>>=◌ ◌>>◌ check refuse_if or_refuse empty get insert alter_all len keys forms
-    accepts_destroyed admits judge restart take unused entry_of give_item insert_at dying bury
-    append destroy destroyed target entry_at take_item call_send received call_receive
+    accepts_destroyed admits may fits_at judge restart take unused entry_of give_item insert_at
+    dying bury append destroy destroyed target entry_at take_item call_send received call_receive
     call_allocate call_deallocate call_destroy call_mod_refs call_get_refs call_type call_names
     call_insert_right call_extract_right call_move_member call_request_notification
     call_set_qlimit call_rename call_terminate step first
@@ -80,8 +81,8 @@ pub port_in_its_own_queue_stays : Replays handing (
     event 0 (ListNames 1) DeadTask ∷
     []) 1
 unfolding ◌>>=◌ ◌>>◌ check refuse_if or_refuse empty get insert alter_all len keys forms
-    accepts_destroyed admits judge restart take unused entry_of give_item insert_at dying bury
-    append destroy destroyed target entry_at take_item call_send received call_receive
+    accepts_destroyed admits may fits_at judge restart take unused entry_of give_item insert_at
+    dying bury append destroy destroyed target entry_at take_item call_send received call_receive
     call_allocate call_deallocate call_destroy call_mod_refs call_get_refs call_type call_names
     call_insert_right call_extract_right call_move_member call_request_notification
     call_set_qlimit call_rename call_terminate step first
@@ -100,8 +101,8 @@ pub receive_right_goes_to_its_request : Replays inbox_and_safe (
     event 0 (PortType 1 3) (Mask 1048576) ∷
     []) 4
 unfolding ◌>>=◌ ◌>>◌ check refuse_if or_refuse empty get insert alter_all len keys forms
-    accepts_destroyed admits judge restart take unused entry_of give_item insert_at dying bury
-    append destroy destroyed target entry_at take_item call_send received call_receive
+    accepts_destroyed admits may fits_at judge restart take unused entry_of give_item insert_at
+    dying bury append destroy destroyed target entry_at take_item call_send received call_receive
     call_allocate call_deallocate call_destroy call_mod_refs call_get_refs call_type call_names
     call_insert_right call_extract_right call_move_member call_request_notification
     call_set_qlimit call_rename call_terminate step first
@@ -123,8 +124,8 @@ request_script =
 
 pub previous_request_is_given : Replays inbox_and_safe request_script 5
 unfolding ◌>>=◌ ◌>>◌ check refuse_if or_refuse empty get insert alter_all len keys forms
-    accepts_destroyed admits judge restart take unused entry_of give_item insert_at dying bury
-    append destroy destroyed target entry_at take_item call_send received call_receive
+    accepts_destroyed admits may fits_at judge restart take unused entry_of give_item insert_at
+    dying bury append destroy destroyed target entry_at take_item call_send received call_receive
     call_allocate call_deallocate call_destroy call_mod_refs call_get_refs call_type call_names
     call_insert_right call_extract_right call_move_member call_request_notification
     call_set_qlimit call_rename call_terminate step first
@@ -137,8 +138,8 @@ pub held_after_request : holdings
     holding 0 0 Send ∷ holding 0 3 Receive ∷ holding 0 2 Send
     ∷ holding 1 1 Send ∷ holding 1 2 Receive ∷ holding 1 4 Receive ∷ holding 1 3 SendOnce ∷ []
 unfolding ◌>>=◌ ◌>>◌ check refuse_if or_refuse empty get insert alter_all len keys forms
-    accepts_destroyed admits judge restart take unused entry_of give_item insert_at dying bury
-    append destroy destroyed target entry_at take_item call_send received call_receive
+    accepts_destroyed admits may fits_at judge restart take unused entry_of give_item insert_at
+    dying bury append destroy destroyed target entry_at take_item call_send received call_receive
     call_allocate call_deallocate call_destroy call_mod_refs call_get_refs call_type call_names
     call_insert_right call_extract_right call_move_member call_request_notification
     call_set_qlimit call_rename call_terminate step first
@@ -158,8 +159,8 @@ pub message_too_large_stays : Replays inbox_and_safe (
     event 1 (PortType 1 4) (Mask 262144) ∷
     []) 5
 unfolding ◌>>=◌ ◌>>◌ check refuse_if or_refuse empty get insert alter_all len keys forms
-    accepts_destroyed admits judge restart take unused entry_of give_item insert_at dying bury
-    append destroy destroyed target entry_at take_item call_send received call_receive
+    accepts_destroyed admits may fits_at judge restart take unused entry_of give_item insert_at
+    dying bury append destroy destroyed target entry_at take_item call_send received call_receive
     call_allocate call_deallocate call_destroy call_mod_refs call_get_refs call_type call_names
     call_insert_right call_extract_right call_move_member call_request_notification
     call_set_qlimit call_rename call_terminate step first
@@ -178,8 +179,8 @@ pub references_stop_at_65535 : Replays showing (
     event 0 (GetRefs 1 2 named.Send) (Refs 65535) ∷
     []) 2
 unfolding ◌>>=◌ ◌>>◌ check refuse_if or_refuse empty get insert alter_all len keys forms
-    accepts_destroyed admits judge restart take unused entry_of give_item insert_at dying bury
-    append destroy destroyed target entry_at take_item call_send received call_receive
+    accepts_destroyed admits may fits_at judge restart take unused entry_of give_item insert_at
+    dying bury append destroy destroyed target entry_at take_item call_send received call_receive
     call_allocate call_deallocate call_destroy call_mod_refs call_get_refs call_type call_names
     call_insert_right call_extract_right call_move_member call_request_notification
     call_set_qlimit call_rename call_terminate step first
@@ -195,8 +196,8 @@ pub filter_turns_away : Replays inbox_and_safe (
     event 0 (RequestNotification 1 2 69 0 4 MakeSendOnce) (DeniedBy NotDestroyed) ∷
     []) 5
 unfolding ◌>>=◌ ◌>>◌ check refuse_if or_refuse empty get insert alter_all len keys forms
-    accepts_destroyed admits judge restart take unused entry_of give_item insert_at dying bury
-    append destroy destroyed target entry_at take_item call_send received call_receive
+    accepts_destroyed admits may fits_at judge restart take unused entry_of give_item insert_at
+    dying bury append destroy destroyed target entry_at take_item call_send received call_receive
     call_allocate call_deallocate call_destroy call_mod_refs call_get_refs call_type call_names
     call_insert_right call_extract_right call_move_member call_request_notification
     call_set_qlimit call_rename call_terminate step first
@@ -220,8 +221,8 @@ pub names_of_one_port : Replays alone (
     event 0 (ListNames 7) (Refused KernInvalidTask) ∷
     []) 2
 unfolding ◌>>=◌ ◌>>◌ check refuse_if or_refuse empty get insert alter_all len keys forms
-    accepts_destroyed admits judge restart take unused entry_of give_item insert_at dying bury
-    append destroy destroyed target entry_at take_item call_send received call_receive
+    accepts_destroyed admits may fits_at judge restart take unused entry_of give_item insert_at
+    dying bury append destroy destroyed target entry_at take_item call_send received call_receive
     call_allocate call_deallocate call_destroy call_mod_refs call_get_refs call_type call_names
     call_insert_right call_extract_right call_move_member call_request_notification
     call_set_qlimit call_rename call_terminate step first
@@ -254,8 +255,8 @@ pub file_is_opened : Replays filing (
     event 0 (PortType 1 4) (Mask 65536) ∷
     []) 5
 unfolding ◌>>=◌ ◌>>◌ check refuse_if or_refuse empty get insert alter_all len keys forms
-    accepts_destroyed admits judge restart take unused entry_of give_item insert_at dying bury
-    append destroy destroyed target entry_at take_item call_send received call_receive
+    accepts_destroyed admits may fits_at judge restart take unused entry_of give_item insert_at
+    dying bury append destroy destroyed target entry_at take_item call_send received call_receive
     call_allocate call_deallocate call_destroy call_mod_refs call_get_refs call_type call_names
     call_insert_right call_extract_right call_move_member call_request_notification
     call_set_qlimit call_rename call_terminate step first
@@ -283,8 +284,8 @@ pub receipts_restart_with_the_right : Replays pinging (
     event 0 (MoveMember 1 2 0) (Refused KernNotInSet) ∷
     []) 3
 unfolding ◌>>=◌ ◌>>◌ check refuse_if or_refuse empty get insert alter_all len keys forms
-    accepts_destroyed admits judge restart take unused entry_of give_item insert_at dying bury
-    append destroy destroyed target entry_at take_item call_send received call_receive
+    accepts_destroyed admits may fits_at judge restart take unused entry_of give_item insert_at
+    dying bury append destroy destroyed target entry_at take_item call_send received call_receive
     call_allocate call_deallocate call_destroy call_mod_refs call_get_refs call_type call_names
     call_insert_right call_extract_right call_move_member call_request_notification
     call_set_qlimit call_rename call_terminate step first
@@ -300,8 +301,8 @@ pub unused_send_once_right_notifies : Replays pinging (
     ∷ 0 ∷ 71 ∷ 0 ∷ 0 ∷ 0 ∷ [])) ∷
     []) 2
 unfolding ◌>>=◌ ◌>>◌ check refuse_if or_refuse empty get insert alter_all len keys forms
-    accepts_destroyed admits judge restart take unused entry_of give_item insert_at dying bury
-    append destroy destroyed target entry_at take_item call_send received call_receive
+    accepts_destroyed admits may fits_at judge restart take unused entry_of give_item insert_at
+    dying bury append destroy destroyed target entry_at take_item call_send received call_receive
     call_allocate call_deallocate call_destroy call_mod_refs call_get_refs call_type call_names
     call_insert_right call_extract_right call_move_member call_request_notification
     call_set_qlimit call_rename call_terminate step first
@@ -318,8 +319,8 @@ pub old_name_misses_new_port : Replays pinging (
     event 0 (ReceiveMessage 2 24) (Refused MachRcvTimedOut) ∷
     []) 2
 unfolding ◌>>=◌ ◌>>◌ check refuse_if or_refuse empty get insert alter_all len keys forms
-    accepts_destroyed admits judge restart take unused entry_of give_item insert_at dying bury
-    append destroy destroyed target entry_at take_item call_send received call_receive
+    accepts_destroyed admits may fits_at judge restart take unused entry_of give_item insert_at
+    dying bury append destroy destroyed target entry_at take_item call_send received call_receive
     call_allocate call_deallocate call_destroy call_mod_refs call_get_refs call_type call_names
     call_insert_right call_extract_right call_move_member call_request_notification
     call_set_qlimit call_rename call_terminate step first
@@ -332,8 +333,8 @@ pub kinds_of_births : Replays filing_by_kind (
     event 1 (Allocate 1 named.PortSet 1) (Refused KernInvalidValue) ∷
     []) 4
 unfolding ◌>>=◌ ◌>>◌ check refuse_if or_refuse empty get insert alter_all len keys forms
-    accepts_destroyed admits judge restart take unused entry_of give_item insert_at dying bury
-    append destroy destroyed target entry_at take_item call_send received call_receive
+    accepts_destroyed admits may fits_at judge restart take unused entry_of give_item insert_at
+    dying bury append destroy destroyed target entry_at take_item call_send received call_receive
     call_allocate call_deallocate call_destroy call_mod_refs call_get_refs call_type call_names
     call_insert_right call_extract_right call_move_member call_request_notification
     call_set_qlimit call_rename call_terminate step first
@@ -354,8 +355,8 @@ pub task_is_made : Replays leading (
     event 2 (ListNames 1) DeadTask ∷
     []) 1
 unfolding ◌>>=◌ ◌>>◌ check refuse_if or_refuse empty get insert alter_all len keys next_key forms
-    accepts_destroyed admits judge restart take unused entry_of give_item insert_at dying bury
-    append destroy destroyed target entry_at take_item call_send received call_receive
+    accepts_destroyed admits may fits_at judge restart take unused entry_of give_item insert_at
+    dying bury append destroy destroyed target entry_at take_item call_send received call_receive
     call_allocate call_deallocate call_destroy call_mod_refs call_get_refs call_type call_names
     call_insert_right call_extract_right call_move_member call_request_notification
     call_set_qlimit call_rename call_terminate call_create_task step first
@@ -373,8 +374,8 @@ pub held_after_making : holdings (world_after leading (first leading) made_scrip
     holding 0 0 Send ∷ holding 0 1 Send ∷ holding 0 2 Send
     ∷ holding 1 1 Send ∷ holding 2 2 Send ∷ holding 2 3 Receive ∷ []
 unfolding ◌>>=◌ ◌>>◌ check refuse_if or_refuse empty get insert alter_all len keys next_key forms
-    accepts_destroyed admits judge restart take unused entry_of give_item insert_at dying bury
-    append destroy destroyed target entry_at take_item call_send received call_receive
+    accepts_destroyed admits may fits_at judge restart take unused entry_of give_item insert_at
+    dying bury append destroy destroyed target entry_at take_item call_send received call_receive
     call_allocate call_deallocate call_destroy call_mod_refs call_get_refs call_type call_names
     call_insert_right call_extract_right call_move_member call_request_notification
     call_set_qlimit call_rename call_terminate call_create_task step first
@@ -386,8 +387,8 @@ pub classes_after_making :
     map (λ p. class_of s p) (2 ∷ 3 ∷ [])
     ≡ Some (kernel_class leading 1) ∷ births_class leading 1 0 ∷ []
 unfolding ◌>>=◌ ◌>>◌ check refuse_if or_refuse empty get insert alter_all len keys next_key forms
-    accepts_destroyed admits judge restart take unused entry_of give_item insert_at dying bury
-    append destroy destroyed target entry_at take_item call_send received call_receive
+    accepts_destroyed admits may fits_at judge restart take unused entry_of give_item insert_at
+    dying bury append destroy destroyed target entry_at take_item call_send received call_receive
     call_allocate call_deallocate call_destroy call_mod_refs call_get_refs call_type call_names
     call_insert_right call_extract_right call_move_member call_request_notification
     call_set_qlimit call_rename call_terminate call_create_task step first

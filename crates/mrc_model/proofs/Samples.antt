@@ -8,7 +8,7 @@ use Rattle.mrc_model.specs.declared.FirstLine.TheVariants.{Task as TaskLine, Por
 use Rattle.mrc_model.specs.declared.FirstLine.TheVariants.{Hold as HoldLine}
 use Rattle.mrc_model.specs.Message.{Arg}
 use Rattle.mrc_model.specs.Map.{len}
-use Rattle.mrc_model.specs.Wiring.{Shape, Interface, Wiring}
+use Rattle.mrc_model.specs.Wiring.{OneOf, Shape, Interface, Wiring}
 use Rattle.mrc_model.specs.World.{World}
 use Rattle.mrc_model.specs.Reply.{Reply, Call, SendMessage}
 use Rattle.mrc_model.specs.Step.{step}
@@ -20,7 +20,13 @@ use Rattle.mrc_model.specs.Runs.{Event}
 -- one argument: type number, bits of an item, number of items, number of its MIG type
 abbrev pub shape : ℕ → ℕ → ℕ → ℕ → Shape
 shape name size number sort =
-    record { name = name; size = size; number = number; is_bound = false; sort = sort }
+    record {
+      types = OneOf (name ∷ []);
+      size = size;
+      number = number;
+      is_bound = false;
+      sort = sort;
+    }
 
 -- subsystem ping 500; simpleroutine ping(server : mach_port_t);
 abbrev pub ping : Interface
@@ -67,6 +73,8 @@ alone =
       interfaces = [];
       labels = [];
       admitted = [];
+      trusted = [];
+      replies_fit = false;
     }
 
 -- two tasks, of which the first holds the kernel port of the second
@@ -79,6 +87,8 @@ leading = record {
   interfaces = [];
   labels = [];
   admitted = [];
+  trusted = [];
+  replies_fit = false;
 }
 
 -- one task, whose births accept requests of an interface
@@ -91,6 +101,8 @@ serving i = record {
   interfaces = i ∷ [];
   labels = [] ∷ (RequestOf 0 ∷ []) ∷ [];
   admitted = [];
+  trusted = [];
+  replies_fit = false;
 }
 
 abbrev pub pinging : Wiring
@@ -113,6 +125,8 @@ inbox_and_safe = record {
   interfaces = xfer ∷ look ∷ [];
   labels = (RequestOf 0 ∷ []) ∷ (Destroyed ∷ []) ∷ [] ∷ [] ∷ [] ∷ [] ∷ [];
   admitted = (0, Some 4) ∷ [];
+  trusted = [];
+  replies_fit = false;
 }
 
 -- task app; task fs; port root receiver fs accepts request fsys; births app accepts reply fsys;
@@ -126,6 +140,8 @@ files admitted = record {
   interfaces = fsys ∷ [];
   labels = (RequestOf 0 ∷ []) ∷ [] ∷ [] ∷ (ReplyOf 0 ∷ []) ∷ [] ∷ [];
   admitted = admitted;
+  trusted = [];
+  replies_fit = false;
 }
 
 -- admit fsys.file_t births fs

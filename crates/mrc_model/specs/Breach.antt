@@ -1,12 +1,14 @@
 -- Believe. Who holds what in a world, which tasks a task counts as, and when a world breaks a
 -- policy. From Mach: a send right to a task's kernel port lets its holder act on that task. That
 -- the holder therefore counts as the task is this profile's own reading.
-use Rattle.std.specs.Prelude.{◌≡◌, ◌↔◌, ℕ, true, List, [], ◌∷◌, ◌++◌, map, Some}
+use Rattle.std.specs.Prelude.{◌≡◌, ◌↔◌, ℕ, true, false, List, [], ◌∷◌, ◌++◌, map, Some}
 use Rattle.mrc_base.specs.declared.PortRight.{PortRight}
 use Rattle.mrc_base.specs.declared.PortRight.TheVariants.{Send}
 use Rattle.mrc_model.specs.declared.Entry.{Entry}
+use Rattle.mrc_model.specs.declared.Verb.TheVariants.{Takes}
 use Rattle.mrc_model.specs.IsIn.{IsIn}
 use Rattle.mrc_model.specs.Map.{get}
+use Rattle.mrc_model.specs.Wiring.{Wiring, is_limited}
 use Rattle.mrc_model.specs.World.{Space, Task, World, Held, space, task_class, class_of}
 use Rattle.mrc_model.specs.World.{entry_rights}
 
@@ -42,14 +44,17 @@ spaces_holdings (x ∷ xs) = space_holdings x.0 x.1.list ++ spaces_holdings xs
 abbrev pub holdings : World → List Holding
 holdings w = spaces_holdings w.store.spaces.list
 
--- t holds a send right to the kernel port of u
-abbrev pub Reaches : World → ℕ → ℕ → Type 0
-Reaches w t u = (x : Task) × (get w.tasks u ≡ Some x) × (x.alive ≡ true) × Holds w t x.kernel Send
+-- t holds a send right to the kernel port of u, and no line limits what tasks of its class take. If
+-- one does, t counts as itself alone, since the machine lets it use only what it then holds itself.
+abbrev pub Reaches : Wiring → World → ℕ → ℕ → Type 0
+Reaches W w t u =
+    (x : Task) × (get w.tasks u ≡ Some x) × (x.alive ≡ true) × Holds w t x.kernel Send
+    × (is_limited W Takes (task_class w t) ≡ false)
 
 -- t counts as u: the reflexive, transitive closure of Reaches
-pub data Counts (w : World) : ℕ → ℕ → Type 0 where
-  itself : {t : ℕ} → Counts w t t
-  also : {t u v : ℕ} → Counts w t u → Reaches w u v → Counts w t v
+pub data Counts (W : Wiring) (w : World) : ℕ → ℕ → Type 0 where
+  itself : {t : ℕ} → Counts W w t t
+  also : {t u v : ℕ} → Counts W w t u → Reaches W w u v → Counts W w t v
 
 -- a line of a policy: no task whose class is `task` (the wired task of this number, or one that a
 -- call made like it) may hold the right on a port of this class
@@ -60,13 +65,13 @@ pub record Forbid : Type 0 where
 
 -- A line is broken: `named` is a task of the line's class, `holder` one that `named` counts as, and
 -- `holder` holds the right on a port of the line's class.
-pub record Breach (w : World) (policy : List Forbid) : Type 0 where
+pub record Breach (W : Wiring) (w : World) (policy : List Forbid) : Type 0 where
   pub line : Forbid
   pub forbidden : IsIn line policy
   pub holder : ℕ
   pub named : ℕ
   pub of_class : task_class w named ≡ line.task
-  pub counts : Counts w named holder
+  pub counts : Counts W w named holder
   pub port : ℕ
   pub held : Holds w holder port line.right
   pub class : class_of w.store port ≡ Some line.class

@@ -12,12 +12,14 @@ use Rattle.mrc_model.specs.declared.Entry.{Entry}
 use Rattle.mrc_model.specs.declared.Entry.TheVariants.{Receive as ReceiveEntry, Send as SendEntry}
 use Rattle.mrc_model.specs.declared.Entry.TheVariants.{SendOnce as OnceEntry, PortSet as SetEntry}
 use Rattle.mrc_model.specs.declared.Entry.TheVariants.{DeadName as DeadEntry}
+use Rattle.mrc_model.specs.declared.Item.{Item}
 use Rattle.mrc_model.specs.declared.Item.TheVariants.{Null as NullItem, Dead as DeadItem}
 use Rattle.mrc_model.specs.declared.Item.TheVariants.{Right as RightItem}
 use Rattle.mrc_model.specs.declared.Backup.{Backup}
 use Rattle.mrc_model.specs.declared.Backup.TheVariants.{Absent as NoBackup, Dead as DeadBackup}
 use Rattle.mrc_model.specs.declared.Backup.TheVariants.{Port as BackupPort}
-use Rattle.mrc_model.specs.declared.Denied.TheVariants.{NotDestroyed}
+use Rattle.mrc_model.specs.declared.Denied.TheVariants.{NotDestroyed, NotTaken, NotGiven}
+use Rattle.mrc_model.specs.declared.Verb.TheVariants.{Takes, Gives}
 use Rattle.mrc_model.specs.declared.Code.TheVariants.{KernInvalidTask, KernInvalidValue}
 use Rattle.mrc_model.specs.declared.Code.TheVariants.{KernInvalidCapability, KernNoSpace}
 use Rattle.mrc_model.specs.Map.{get}
@@ -28,6 +30,7 @@ use Rattle.mrc_model.specs.Reply.{refuse_if, or_refuse}
 use Rattle.mrc_model.specs.Space.{take, give_item, is_full}
 use Rattle.mrc_model.specs.Target.{with_store, target, bad_name, wrong_right, entry_at}
 use Rattle.mrc_model.specs.CallSend.{dead_taken, is_dead_taken}
+use Rattle.mrc_model.specs.Trust.{may_on}
 
 -- the port of a receive right
 abbrev pub received_port : Entry → Option ℕ
@@ -66,6 +69,12 @@ is_live_backup NoBackup = false
 is_live_backup DeadBackup = false
 is_live_backup (BackupPort b) = true
 
+-- the right of a request, as an item
+abbrev pub backup_item : Backup → Item
+backup_item NoBackup = NullItem
+backup_item DeadBackup = DeadItem
+backup_item (BackupPort b) = RightItem b SendOnce
+
 -- the previous request's right, given to the caller, and its name
 abbrev pub give_backup : Store → ℕ → Backup → Store × ℕ
 give_backup s t NoBackup = give_item s t NullItem
@@ -73,7 +82,8 @@ give_backup s t DeadBackup = give_item s t DeadItem
 give_backup s t (BackupPort b) = give_item s t (RightItem b SendOnce)
 
 -- The port's request is replaced, and the previous one's right is given to the caller. A port of a
--- class that does not accept port-destroyed notices cannot be named.
+-- class that does not accept port-destroyed notices cannot be named. The caller has to be trusted
+-- to give the one right and to take the other.
 unfoldable pub call_request_notification : Wiring → World → ℕ → ℕ → ℕ → ℕ → ℕ → ℕ → Disp
     → Try (World × Reply)
 call_request_notification W w t task name id sync notify x = do
@@ -82,7 +92,9 @@ call_request_notification W w t task name id sync notify x = do
   e ← entry_at w u name
   p ← or_refuse (received_port e) wrong_right
   (s1, b) ← new_backup W w.store t notify x
+  check (may_on W w Gives t u (backup_item b)) (DeniedBy NotGiven)
   y ← or_refuse (get s1.ports p) bad_name
+  check (may_on W w Takes t u (backup_item y.backup)) (DeniedBy NotTaken)
   refuse_if (is_live_backup y.backup && is_full (space s1 t)) (Refused KernNoSpace)
   let got = give_backup (set_port s1 p (record y { backup = b })) t y.backup
   Ok (with_store w got.0, Name got.1)

@@ -5,6 +5,7 @@ use Rattle.std.specs.Prelude.{◌≡◌, ℕ, ◌<◌, ◌≤◌, true, false, L
 use Rattle.std.specs.Prelude.{if◌then◌else◌, IsTrue}
 use Rattle.std.specs.List.{AllByRecursion}
 use Rattle.mrc_base.specs.declared.PortRight.{PortRight}
+use Rattle.mrc_base.specs.declared.PortRight.TheVariants.{Send}
 use Rattle.mrc_base.specs.declared.Fact.TheVariants.{Hold, Carry, Backup as BackupFact}
 use Rattle.mrc_model.specs.declared.Entry.{Entry}
 use Rattle.mrc_model.specs.declared.Backup.{Backup}
@@ -40,9 +41,13 @@ pub record CoversStore (F : FactSet) (task : ℕ → ℕ) (s : Store) : Type 0 w
   pub backups : (p : ℕ) (x : Port) → get s.ports p ≡ Some x
       → IsBackup (class_of s) (λ d. F (BackupFact x.class d)) x.backup
 
--- F says all of the world
-abbrev pub Covers : FactSet → World → Type 0
-Covers F w = CoversStore F (task_class w) w.store
+-- F says all of the world: all of its store, and that each live task may hold a send right to its
+-- kernel port. A task that is made from it is born with one, whether or not it has kept its own.
+pub record Covers (F : FactSet) (w : World) : Type 0 where
+  pub store : CoversStore F (task_class w) w.store
+  pub kernels : (t : ℕ) (x : Task) → get w.tasks t ≡ Some x → x.alive ≡ true
+      → KnownAt (class_of w.store) (λ c r. F (Hold x.class c r))
+      record { port = x.kernel; right = Send }
 
 -- in how many places the receive right of a port of the class has to be: the kernel keeps those of
 -- kernel ports

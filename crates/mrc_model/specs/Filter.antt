@@ -4,15 +4,16 @@
 use Rattle.mrc_base.specs.Disposition.{is_port_number, disp_number}
 use Rattle.std.specs.Prelude.{ℕ, ◌+◌, Bool, true, ◌&&◌, ◌||◌, List, [], ◌∷◌, length, Option, Some}
 use Rattle.std.specs.Prelude.{None, Result, Ok, Err, nat_le, ◌==◌, if◌then◌else◌, find}
-use Rattle.std.specs.List.{list_all}
+use Rattle.std.specs.List.{list_all, list_any}
 use Rattle.mrc_base.specs.declared.Disp.TheVariants.{MoveSendOnce, MakeSendOnce}
 use Rattle.mrc_model.specs.declared.RequestKind.{RequestKind}
 use Rattle.mrc_model.specs.declared.RequestKind.TheVariants.{Routine, Simple}
 use Rattle.mrc_model.specs.declared.Denied.{Denied}
 use Rattle.mrc_model.specs.declared.Denied.TheVariants.{NoSuchId, WrongShape, WrongDisposition}
 use Rattle.mrc_model.specs.declared.Denied.TheVariants.{ReplySlot}
-use Rattle.mrc_model.specs.Message.{Message, Arg, Data, Ports}
-use Rattle.mrc_model.specs.Wiring.{Wiring, Shape, Form, OfRequest, OfReply, form_id, forms}
+use Rattle.mrc_model.specs.Message.{Message, Arg, Data, Ports, is_port_arg}
+use Rattle.mrc_model.specs.Wiring.{Wiring, ItemTypes, AnyData, OneOf, Shape, Form, OfRequest}
+use Rattle.mrc_model.specs.Wiring.{OfReply, form_id, forms}
 
 -- the type number of an argument
 abbrev pub arg_name : Arg → ℕ
@@ -36,17 +37,29 @@ has_size s a =
     s.size == arg_size a
     && (if s.is_bound then nat_le (arg_number a) s.number else arg_number a == s.number)
 
+-- how the argument of this number differs from a shape whose items are so
+abbrev pub difference : ℕ → ItemTypes → Shape → Arg → Option Denied
+difference i AnyData s a = if is_port_arg a then Some (WrongShape i) else None
+difference i (OneOf numbers) s a =
+    if has_size s a
+    then (if list_any (λ n. n == arg_name a) numbers then None
+    else if list_any is_port_number numbers && is_port_number (arg_name a)
+    then Some (WrongDisposition i)
+    else Some (WrongShape i))
+    else Some (WrongShape i)
+
+-- the difference, or else the one behind it
+abbrev pub or_behind : Option Denied → Option Denied → Option Denied
+or_behind (Some d) behind = Some d
+or_behind None behind = behind
+
 -- the first argument, counted from i, at which message and form differ
 abbrev pub first_difference : ℕ → List Shape → List Arg → Option Denied
 first_difference i [] [] = None
 first_difference i [] (a ∷ more) = Some (WrongShape i)
 first_difference i (s ∷ ss) [] = Some (WrongShape i)
 first_difference i (s ∷ ss) (a ∷ more) =
-    if has_size s a
-    then (if s.name == arg_name a then first_difference (i + 1) ss more
-    else if is_port_number s.name && is_port_number (arg_name a) then Some (WrongDisposition i)
-    else Some (WrongShape i))
-    else Some (WrongShape i)
+    or_behind (difference i s.types s a) (first_difference (i + 1) ss more)
 
 -- the return code of a reply is 0, as far as the first argument has one
 abbrev pub is_zero_data : List Arg → Bool

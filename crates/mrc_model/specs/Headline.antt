@@ -35,14 +35,14 @@ abbrev pub CoveredIsSafe : Type 0
 CoveredIsSafe =
     (W : Wiring) (set : Fact → Bool) → Closed W (Has set)
     → (policy : List Forbid) → ForbidsNone policy (Has set)
-    → (w : World) → IsWellFormed (numbers_of W) w → Covers (Has set) w → Breach w policy → ⊥
+    → (w : World) → IsWellFormed (numbers_of W) w → Covers (Has set) w → Breach W w policy → ⊥
 
 -- where the checker says yes, no list of calls leads from the first state to a breach
 abbrev pub RunsAreSafe : Type 0
 RunsAreSafe =
     (W : Wiring) (policy : List Forbid) (set : Fact → Bool) → IsTrue (is_sound W)
     → SaysYes W policy set → (events : List Event) (w : World) → Run W (first W) events w
-    → Covers (Has set) w × (Breach w policy → ⊥)
+    → Covers (Has set) w × (Breach W w policy → ⊥)
 
 -- the set has each port that dies where its ports do
 abbrev pub HasDying : Store → Doomed → List ℕ → Type 0

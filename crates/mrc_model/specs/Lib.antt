@@ -10,6 +10,7 @@ pub mod Space
 pub mod Death
 pub mod Destroyed
 pub mod Target
+pub mod Trust
 pub mod CallSend
 pub mod CallReceive
 pub mod CallAllocate
@@ -31,4 +32,5 @@ pub mod Breach
 pub mod Rules
 pub mod Covers
 pub mod Headline
+pub mod Additions
 pub mod FirstHoldings

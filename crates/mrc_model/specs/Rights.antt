@@ -19,6 +19,13 @@ is_once SendOnce = true
 is_once Send = false
 is_once Receive = false
 
+-- the rights are the same
+abbrev pub same_right : PortRight → PortRight → Bool
+same_right Send Send = true
+same_right Receive Receive = true
+same_right SendOnce SendOnce = true
+same_right r q = false
+
 -- the disposition that moves the right
 abbrev pub moving : PortRight → Disp
 moving Receive = MoveReceive

@@ -8,9 +8,11 @@ use Rattle.mrc_base.specs.declared.Disp.{Disp}
 use Rattle.mrc_base.specs.Disposition.{needed, given, disp_of_number}
 use Rattle.mrc_base.specs.declared.Fact.{Fact}
 use Rattle.mrc_base.specs.declared.Fact.TheVariants.{Hold, Carry, Backup as BackupFact}
+use Rattle.mrc_model.specs.declared.Verb.TheVariants.{Takes, Gives, Sends, Replies}
 use Rattle.mrc_model.specs.IsIn.{IsIn}
-use Rattle.mrc_model.specs.Wiring.{Wiring, Shape, Form, form_shapes, kernel_class, births_class}
-use Rattle.mrc_model.specs.Wiring.{classes, forms, admits, accepts_destroyed, accepts_routine}
+use Rattle.mrc_model.specs.Wiring.{Wiring, Shape, Form, type_numbers, form_shapes, kernel_class}
+use Rattle.mrc_model.specs.Wiring.{births_class}
+use Rattle.mrc_model.specs.Wiring.{classes, forms, admits, accepts_destroyed, accepts_replier, may}
 use Rattle.mrc_model.specs.World.{class_of, task_class}
 use Rattle.mrc_model.specs.First.{first}
 use Rattle.mrc_model.specs.Breach.{Holds, Forbid}
@@ -39,20 +41,23 @@ pub data Rule (W : Wiring) : ℕ → List Fact → Fact → Type 0 where
   -- a receive right makes send and send-once rights
   k3_send : {t c : ℕ} → Rule W 3 (Hold t c Receive ∷ []) (Hold t c Send)
   k3_once : {t c : ℕ} → Rule W 3 (Hold t c Receive ∷ []) (Hold t c SendOnce)
-  -- a slot of a form carries what its type admits
-  k4 : {t d c : ℕ} {r : PortRight} {f : Form} {s : Shape} {x : Disp} → CanSendBy r
-      → IsIn f (forms W d) → IsIn s (form_shapes f) → disp_of_number s.name ≡ Some x
-      → admits W s.sort c ≡ true
+  -- a slot of a form carries what its type admits and the sender may send
+  k4 : {t d c n : ℕ} {r : PortRight} {f : Form} {s : Shape} {x : Disp} → CanSendBy r
+      → IsIn f (forms W d) → IsIn s (form_shapes f) → IsIn n (type_numbers s.types)
+      → disp_of_number n ≡ Some x
+      → admits W s.sort c ≡ true → may W Sends t (given x) c ≡ true
       → Rule W 4 (Hold t d r ∷ Hold t c (needed x) ∷ []) (Carry d c (given x))
-  -- a routine's request carries a reply right, of any class
-  k5 : {t d c : ℕ} {r : PortRight} → CanSendBy r → accepts_routine W d ≡ true
+  -- a routine's request carries a reply right, of any class that fits it and that the sender may
+  -- have replies at
+  k5 : {t d c : ℕ} {r : PortRight} → CanSendBy r → accepts_replier W d c ≡ true
+      → may W Replies t SendOnce c ≡ true
       → Rule W 5 (Hold t d r ∷ Hold t c SendOnce ∷ []) (Carry d c SendOnce)
   -- what is carried can be received
   k6 : {t d c : ℕ} {r : PortRight} → Rule W 6 (Hold t d Receive ∷ Carry d c r ∷ []) (Hold t c r)
-  -- who holds a task's kernel port can take from that task and give to it
-  k7_up : {t u c : ℕ} {r : PortRight}
+  -- who holds a task's kernel port can take from that task, and give to it, what it may
+  k7_up : {t u c : ℕ} {r : PortRight} → may W Takes t r c ≡ true
       → Rule W 7 (Hold t (kernel_class W u) Send ∷ Hold u c r ∷ []) (Hold t c r)
-  k7_down : {t u c : ℕ} {r : PortRight}
+  k7_down : {t u c : ℕ} {r : PortRight} → may W Gives t r c ≡ true
       → Rule W 7 (Hold t (kernel_class W u) Send ∷ Hold t c r ∷ []) (Hold u c r)
   -- a port's receiver can ask for port-destroyed notices
   k8 : {t c d : ℕ} → accepts_destroyed W d ≡ true

@@ -32,8 +32,8 @@ try_call W w t (Deallocate task name) = call_deallocate w t task name
 try_call W w t (Destroy task name) = call_destroy w t task name
 try_call W w t (ModRefs task name right delta) = call_mod_refs w t task name right delta
 try_call W w t (GetRefs task name right) = call_get_refs w t task name right
-try_call W w t (InsertRight task name right disp) = call_insert_right w t task name right disp
-try_call W w t (ExtractRight task name disp) = call_extract_right w t task name disp
+try_call W w t (InsertRight task name right disp) = call_insert_right W w t task name right disp
+try_call W w t (ExtractRight task name disp) = call_extract_right W w t task name disp
 try_call W w t (MoveMember task member set) = call_move_member w t task member set
 try_call W w t (RequestNotification task name id sync notify disp) =
     call_request_notification W w t task name id sync notify disp

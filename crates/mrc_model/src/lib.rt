@@ -3,6 +3,8 @@
 //! definitions stand in `specs/`; here are the enums that they speak of, and the laws about them.
 #![tactic(auto)]
 
+ghost use Rattle.mrc_model.specs.Additions.{AdditionsKeepYes, AdditionsOnlyRefuse};
+ghost use Rattle.mrc_model.specs.Additions.{LimitedCountsAlone};
 ghost use Rattle.mrc_model.specs.Breach.{HoldingsAreHeld};
 ghost use Rattle.mrc_model.specs.FirstHoldings.{FirstHoldingsAreGiven, SoundIfFew, SoundTaskByTask};
 ghost use Rattle.mrc_model.specs.Headline.{DyingIsLeast, FirstHasSpaces, SpacesAreKept};
@@ -93,6 +95,19 @@ impl Copies for LabelItem {
     }
 }
 
+/// What a line about a trusted task limits: each verb apart from the others.
+#[derive(Clone, Copy, Debug, PartialEq, Eq)]
+pub enum Verb {
+    /// What it takes from tasks of other classes, by their kernel ports.
+    Takes,
+    /// What it gives to tasks of other classes, by their kernel ports.
+    Gives,
+    /// What it puts into slots of messages.
+    Sends,
+    /// Of which ports the reply rights of its requests are.
+    Replies,
+}
+
 /// A line of a wiring that makes a part of the first state. Ports and kernel ports stand by their
 /// birth numbers.
 #[derive(Clone, Copy, Debug, PartialEq, Eq)]
@@ -167,7 +182,8 @@ pub enum Code {
     ProfileNoSpace,
 }
 
-/// Why the filter turns a message or a request away. Arguments count from 0 in the body.
+/// Why the filter refuses a message or a request, or why a line about a trusted task refuses a call.
+/// Arguments count from 0 in the body.
 #[derive(Clone, Copy, Debug, PartialEq, Eq, Error)]
 pub enum Denied {
     /// No form of the label has the message's id.
@@ -188,6 +204,18 @@ pub enum Denied {
     /// The class of the port does not accept port-destroyed notices.
     #[error("NotDestroyed")]
     NotDestroyed,
+    /// The caller is trusted to take no such right from tasks of other classes.
+    #[error("NotTaken")]
+    NotTaken,
+    /// The caller is trusted to give no such right to tasks of other classes.
+    #[error("NotGiven")]
+    NotGiven,
+    /// The argument carries a right that the sender is trusted to put into no slot.
+    #[error("NotSent {0}")]
+    NotSent(u32),
+    /// The sender is trusted to ask for no reply at a port of this class.
+    #[error("NotForReply")]
+    NotForReply,
 }
 
 /// The dying set is the least of those that have each port that dies: the definition computes it by
@@ -237,4 +265,14 @@ pub fn derivations_are_least()
 /// The list of a world's holdings has what tasks hold, and nothing else.
 pub fn holdings_are_held()
     ensures held { HoldingsAreHeld }
+{}
+
+/// What version 3 of wirings adds only refuses. Each call is refused by a line about a trusted task,
+/// or because a reply port does not fit, and leaves the world unchanged; or it does what it does in
+/// the wiring without these lines. What the checker accepts without them, it accepts with them. A
+/// task whose takings a line limits counts as itself alone.
+pub fn additions_only_refuse()
+    ensures refuses { AdditionsOnlyRefuse }
+    ensures yes { AdditionsKeepYes }
+    ensures alone { LimitedCountsAlone }
 {}

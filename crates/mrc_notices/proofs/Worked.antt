@@ -1,7 +1,7 @@
 -- Worked examples: a wiring of two tasks, `disk` and `plugin`, where the disk has births of the
 -- kinds 0, 1 and 3. Their values were worked out by hand.
 use Rattle.std.proofs.Common.{◌≡◌, List, [], ◌∷◌, ◌++◌, ℕ, refl}
-use Rattle.std.specs.Prelude.{codes}
+use Rattle.std.specs.Prelude.{codes, false}
 use Rattle.mrc_base.specs.declared.Fact.{Fact}
 use Rattle.mrc_base.specs.declared.Fact.TheVariants.{Hold}
 use Rattle.mrc_base.specs.declared.PortRight.TheVariants.{Send, Receive, SendOnce}
@@ -24,6 +24,8 @@ two = record {
   accepts = [];
   lines = TaskLine ∷ TaskLine ∷ [];
   admits = [];
+  trusts = [];
+  fits = false;
   interfaces = [];
 }
 

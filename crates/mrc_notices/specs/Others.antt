@@ -1,16 +1,13 @@
 -- Which lines of a policy hold while their task may come to hold another right on the same class.
 -- This profile's own choice.
-use Rattle.std.specs.Prelude.{◌≡◌, ◌&&◌, Bool, true, false, not, List, [], ◌∷◌, filter, flat_map}
+use Rattle.std.specs.Prelude.{◌&&◌, Bool, true, false, not, List, [], ◌∷◌, filter, flat_map}
 use Rattle.std.specs.List.{list_any}
 use Rattle.mrc_base.specs.declared.Fact.{Fact}
 use Rattle.mrc_base.specs.declared.Fact.TheVariants.{Hold}
 use Rattle.mrc_base.specs.declared.PortRight.{PortRight}
 use Rattle.mrc_base.specs.declared.PortRight.TheVariants.{Send, Receive, SendOnce}
 use Rattle.mrc_facts.specs.Order.{is_same}
-use Rattle.mrc_model.specs.Rules.{IsLeast}
 use Rattle.mrc_wiring.specs.declared.claim.ForbiddenLine.{ForbiddenLine}
-use Rattle.mrc_wiring.specs.Claims.{Claimed}
-use Rattle.mrc_wiring.specs.Table.{wiring_of}
 use Rattle.mrc_why.specs.Broken.{forbidden_fact, is_broken}
 
 -- A line that holds, and the other rights on its class that its task may come to hold.
@@ -63,9 +60,3 @@ all_leaky set forbidden lines = flat_map (leaky_by set forbidden) lines
 -- with these rights. A right that one of the lines forbids is none of them: that line is broken.
 abbrev pub leaky_lines : (Fact → Bool) → List ForbiddenLine → List LeakyLine
 leaky_lines set lines = all_leaky set (is_forbidden lines) lines
-
--- they are those of the lines of the claim's policy, by the least set: no other, none is left out,
--- and in their order
-abbrev pub AreLeaky : Claimed → List LeakyLine → Type 0
-AreLeaky claim leaky = (set : Fact → Bool) → IsLeast (wiring_of claim.table) set
-    → leaky ≡ leaky_lines set claim.lines

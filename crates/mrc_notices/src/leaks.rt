@@ -3,14 +3,14 @@
 ghost use Rattle.std.specs.Prelude.{◌≡◌, ◌++◌, IfOk, OnOk};
 ghost use Rattle.mrc_base.specs.declared.Fact.{Fact};
 ghost use Rattle.mrc_facts.specs.Sets.{has};
+ghost use Rattle.mrc_notices.specs.Others as definitions;
 ghost use Rattle.mrc_notices.specs.Others.{hold_of, is_forbidden, is_leak, leaks_of, leaky_line};
-ghost use Rattle.mrc_notices.specs.Others.{leaky_by, all_leaky, AreLeaky};
+ghost use Rattle.mrc_notices.specs.Others.{leaky_by, all_leaky};
 
 use mrc_base::{Fact, PortRight};
-use mrc_closure::make_alone;
 use mrc_rows::Facts;
 use mrc_why::forbidden_fact;
-use mrc_wiring::{Claim, ForbiddenLine};
+use mrc_wiring::ForbiddenLine;
 use std::alloc::{AllocError, Global};
 use std::marker::Model;
 
@@ -145,14 +145,19 @@ fn all_leaky(
     Ok(leaky)
 }
 
-/// The lines of the claim's policy that hold while their task may come to hold another right on
-/// their class, which no line forbids: in their order, each with these rights.
-pub fn leaky_lines(alloc: Global, claim: &Claim) -> Result<Vec<LeakyLine>, AllocError>
-    // They are these lines by the least set, and no others.
-    ensures { IfOk result (λ leaky. AreLeaky claim.now leaky.items) }
+/// Those of the lines that hold by these facts while their task may hold another right on their
+/// class, which no line forbids: in their order, each with these rights. By the least set they are
+/// the lines that hold while their task may come to hold another right.
+pub fn leaky_lines(
+    alloc: Global,
+    facts: &Facts,
+    lines: &[ForbiddenLine],
+) -> Result<Vec<LeakyLine>, AllocError>
+    // They are these lines, and no others.
+    ensures { IfOk result (λ leaky. leaky.items
+        ≡ definitions.leaky_lines (has facts.now) lines.now) }
 {
-    let least = make_alone(alloc, claim.wired())?;
-    let forbidden = forbidden_by(alloc, claim.lines())?;
-    let leaky = all_leaky(alloc, &least.facts, &forbidden, claim.lines())?;
+    let forbidden = forbidden_by(alloc, lines)?;
+    let leaky = all_leaky(alloc, facts, &forbidden, lines)?;
     Ok(leaky)
 }

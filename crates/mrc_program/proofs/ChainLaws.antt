@@ -40,7 +40,8 @@ pub lines_more : (table : Table) (steps : List Step) (i : ℕ) (s : Step)
 lines_more table steps i s low is text line text_then so_far at_line then_is =
     let more : take (i + 1) steps ≡ take i steps ++ s ∷ [] = take_more steps i s low
     ∙ ap (λ x. take i steps ++ x ∷ []) (sym is) in
-    let long : 0 + length (take i steps) ≡ i = omega (arith, length-take-le i steps (omega arith)) in
+    let long : 0 + length (take i steps) ≡ i =
+    omega (arith, length-take-le i steps (omega arith)) in
     then_is ∙ (ap (λ xs. xs ++ line) so_far
     ∙ (ap (λ xs. lines_from table 0 (take i steps) ++ xs)
     (at_line ∙ ap (λ k. step_line table k s) (sym long))

@@ -14,6 +14,8 @@ use Rattle.mrc_command.specs.declared.command.GraphFiles.{GraphFiles}
 use Rattle.mrc_program.specs.Told.{ToldMemory}
 use Rattle.mrc_program.specs.Listed.{word_of, AreDrawn, AreLines, IsDrawing, ToldGraph}
 use Rattle.mrc_program.specs.Listed.{ToldUndrawn, ToldNoDraft, ToldBadIfGiven, ToldNoGraph}
+use Rattle.mrc_program.specs.Listed.{OfDrawing}
+use Rattle.mrc_program.specs.Texts.{GraphTexts, wired_by}
 
 -- the claim is of the wiring
 pub of_table : (table : Table) (policy : List ℕ) (claim : Claimed)
@@ -74,3 +76,21 @@ module _ (files : GraphFiles) (given : Option (List ℕ)) (policy : List ℕ)
         subst (λ (t : Table). ToldBadIfGiven (word_of files.fact) t told) same bad)))
   ]
   fault_of_claim (Err e) fault = tt
+
+-- that there is nothing to draw, of the texts of the wiring
+pub undrawn_of_texts : {E : Type 0} (seen texts : GraphTexts) (certificate : Option (List ℕ))
+    (fact : Option (List ℕ)) (table : Table) (result : Result Told E)
+    → seen ≡ texts
+    → wired_by seen.system ≡ Ok table
+    → certificate ≡ seen.certificate
+    → IfOk result (λ told. told.status ≡ 1 → ToldUndrawn certificate fact table told)
+    → IfOk result (λ told. told.status ≡ 1
+    → OfDrawing (λ policy certificate. ToldUndrawn certificate fact) texts told)
+undrawn_of_texts seen texts certificate fact table (Ok told) are says given undrawn = λ one.
+    record {
+      table = table;
+      says = subst (λ (t : GraphTexts). wired_by t.system ≡ Ok table) are says;
+      tells = subst (λ c. ToldUndrawn c fact table told)
+          (given ∙ ap (λ (t : GraphTexts). t.certificate) are) (undrawn one);
+    }
+undrawn_of_texts seen texts certificate fact table (Err e) are says given undrawn = tt

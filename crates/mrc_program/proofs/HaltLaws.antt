@@ -10,7 +10,7 @@ use Rattle.mrc_command.specs.declared.told.Told.{Told}
 use Rattle.mrc_command.specs.declared.command.Command.{Command}
 use Rattle.mrc_command.specs.declared.command.Command.TheVariants.{Verify, Mend, Check, Make}
 use Rattle.mrc_command.specs.declared.command.Command.TheVariants.{Explain, Facts, Graph, Replay}
-use Rattle.mrc_command.specs.declared.command.Command.TheVariants.{Live, Mig}
+use Rattle.mrc_command.specs.declared.command.Command.TheVariants.{Promises, Live, Mig}
 use Rattle.mrc_command.specs.declared.command.SystemFiles.{SystemFiles}
 use Rattle.mrc_command.specs.declared.command.LiveFiles.{LiveFiles}
 use Rattle.mrc_files.specs.Files.{Held}
@@ -90,6 +90,11 @@ silent held (Graph files) told fault = inl (elim fault [
       | inr (inr bad) ↦ bad_silent (word_of files.fact) wiring.table told bad
     ]
   ]
+])
+silent held (Promises files) told fault = inl (elim fault [
+  | inl memory ↦ memory.out
+  | inr (inl unread) ↦ unread.out
+  | inr (inr none) ↦ none.tells.out
 ])
 silent held (Check words) told fault = inl (elim fault [
   | inl memory ↦ memory.out

@@ -11,3 +11,6 @@ mod VerifyLaws
 mod NoticeExamples
 mod PolicyExamples
 mod LeftLaws
+mod TrustedLaws
+mod PromiseLaws
+mod PromiseExamples

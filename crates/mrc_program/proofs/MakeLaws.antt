@@ -48,7 +48,8 @@ pub cut_told : (files : MakeFiles) (draft : Content) (before after : Held) (byte
     → Spells bytes draft
     → IsLeftBy before after files.out.now bytes refusal
     → UnwrittenTold files refusal r
-    → IsOkAnd r (λ told. told.status ≡ 0) ⊎ (IsOkAnd r (ToldCut files draft after) ⊎ (after ≡ before))
+    → IsOkAnd r (λ told. told.status ≡ 0)
+    ⊎ (IsOkAnd r (ToldCut files draft after) ⊎ (after ≡ before))
 cut_told files draft before after bytes refusal r spells (inl same) taken = inr (inr same)
 cut_told files draft before after bytes Memory r spells (inr none) taken = absurd none
 cut_told files draft before after bytes (Fault fault) (Ok told) spells (inr held) taken =

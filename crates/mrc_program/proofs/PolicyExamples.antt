@@ -1,5 +1,5 @@
 -- Worked examples of what is printed of policies. The lines were written by hand.
-use Rattle.std.proofs.Common.{◌≡◌, ℕ, [], ◌∷◌, ◌++◌, refl}
+use Rattle.std.proofs.Common.{◌≡◌, ℕ, [], ◌∷◌, ◌++◌, false, refl}
 use Rattle.std.specs.Prelude.{codes, decimal}
 use Rattle.std.specs.Str.{chars}
 use Rattle.std.proofs.Math.Utf8.{encode}
@@ -24,6 +24,8 @@ two = record {
   accepts = [];
   lines = TaskLine ∷ TaskLine ∷ [];
   admits = [];
+  trusts = [];
+  fits = false;
   interfaces = [];
 }
 

@@ -113,7 +113,7 @@ no_told notices verbose files texts answer (Err e) v says = tt
 pub yes_told : {E : Type 0} (notices : List ℕ) (verbose : Bool) (files : CheckFiles)
     (texts : CheckTexts) (answer : Result Case (OrMemory TextsFault)) (result : Result Told E)
     → Verdict notices verbose files answer result → IfOk answer (AreAccepted texts)
-    → IfOk result (λ told. told.status ≡ 0 → ToldYes notices texts told)
+    → IfOk result (λ told. told.status ≡ 0 → ToldYes files.system notices texts told)
 yes_told notices verbose files texts (Ok case) (Ok told) v says =
     λ zero. record { case = case; says = says; out = v.out; err = v.err }
 yes_told notices verbose files texts (Err Memory) (Ok told) v says =

@@ -1,6 +1,5 @@
 -- What is read of texts is what they mean, so that the laws of a yes and of a no apply to it.
 use Rattle.std.proofs.Common.{◌≡◌, ℕ, List, Result, Ok, Err, subst}
-use Rattle.std.specs.Prelude.{codes}
 use Rattle.mrc_base.proofs.Steps.{bind_ok, ok_is}
 use Rattle.mrc_facts.specs.Sets.{has}
 use Rattle.mrc_interface.specs.Reading.{interfaces_of, step}
@@ -46,10 +45,10 @@ claim_meant defs wiring policy claim e =
       interfaces = i.0;
       are_interfaces = read_interfaces_are defs i.0 (step_ok InDefs (interfaces_of defs) i.0 i.1);
       wiring_lines = w.0;
-      is_wiring = text_found (codes "wiring") wiring_says wiring w.0 is_wiring;
+      is_wiring = text_found _ wiring_says wiring w.0 is_wiring;
       is_table = step_ok wiring_fault.Lines (resolved i.0 w.0) t.0 w.2;
       policy_lines = p.0;
-      is_policy = text_found (codes "policy") policy_says policy p.0 is_policy;
+      is_policy = text_found _ policy_says policy p.0 is_policy;
       is_claim = step_ok policy_fault.Lines (forbidden_lines t.0 p.0) l.0 l.1;
     } in
     subst (MeanClaim defs wiring policy) same mean

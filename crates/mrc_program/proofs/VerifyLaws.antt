@@ -1,7 +1,8 @@
--- What is told of a claim and of texts that make none.
-use Rattle.std.proofs.Common.{◌≡◌, ◌⊎◌, ◌∙◌, ◌++◌, ℕ, Bool, List, [], Result, Ok, Err, ap, inl, inr}
-use Rattle.std.proofs.Common.{subst, sym, string_bytes}
-use Rattle.std.specs.Prelude.{All, IfOk}
+-- What is printed for a claim and for texts that make none.
+use Rattle.std.proofs.Common.{◌≡◌, ◌⊎◌, ◌∙◌, ◌++◌, ℕ, List, [], ◌∷◌, Result, Ok, Err, ap, inl, inr}
+use Rattle.std.proofs.Common.{Bool, true, Option, Some, None, subst, sym, string_bytes}
+use Rattle.std.proofs.lemmas.Bool.{false≢true}
+use Rattle.std.specs.Prelude.{All, IfOk, IfSome, codes}
 use Rattle.mrc_base.specs.declared.Fact.{Fact}
 use Rattle.mrc_base.specs.declared.memory.OrMemory.{OrMemory}
 use Rattle.mrc_base.specs.declared.memory.OrMemory.TheVariants.{Fault}
@@ -19,7 +20,9 @@ use Rattle.mrc_check.specs.Texts.{Meaningless}
 use Rattle.mrc_why.specs.declared.printing.Layout.{Layout}
 use Rattle.mrc_why.specs.Lines.{Numbered, first_numbers}
 use Rattle.mrc_why.specs.Broken.{BrokenLine, AreBroken, IsDerived, HasYes, HasNoYes}
+use Rattle.mrc_why.specs.Broken.{ExposedTask, IsExposedOf, IsReached, is_yes}
 use Rattle.mrc_why.specs.Texts.{IsVerdictText}
+use Rattle.mrc_why.proofs.Verdicts.{least_one}
 use Rattle.mrc_mend.specs.declared.claims.MendFault.{MendFault}
 use Rattle.mrc_mend.specs.Judging.{no_claim_of}
 use Rattle.mrc_command.specs.declared.told.Told.{Told}
@@ -31,72 +34,108 @@ use Rattle.mrc_program.specs.Told.{ToldMemory, IsFaultOf}
 use Rattle.mrc_program.specs.Notices.{notice}
 use Rattle.mrc_program.specs.LeftNotices.{left_notices}
 use Rattle.mrc_program.specs.PolicyNotices.{policy_notices}
-use Rattle.mrc_program.specs.Verified.{layout_of, AreNotices, IsAllowed, ToldLines, ToldUnclaimed}
-use Rattle.mrc_program.specs.Verified.{claim_file}
+use Rattle.mrc_program.specs.Trusted.{trusted_notice}
+use Rattle.mrc_program.specs.Verified.{layout_of, AreNotices, AreNoticesOfYes, IsAllowed, ToldLines}
+use Rattle.mrc_program.specs.Verified.{ToldUnclaimed, claim_file, notices as shown_notices}
 
--- the notices are those of their three parts
+-- the notices are those of their three parts, the last of which is by the least set
 pub all_notices : (files : VerifyFiles) (texts : PolicyTexts) (claim : Claimed) (table : Table)
     (left asked policy text l a p : List ℕ) (defs : List (List ℕ)) (shown : List Interface)
+    (facts : List Fact)
     → left ≡ left_notices files.system defs
     → defs ≡ texts.system.defs
     → asked ≡ notice files.system shown
     → shown ≡ table.interfaces
     → table ≡ claim.table
-    → ((set : Fact → Bool) → IsLeast (wiring_of claim.table) set
-    → policy ≡ policy_notices files.policy.now texts.policy claim set)
+    → IsLeast (wiring_of claim.table) (has facts)
+    → policy ≡ policy_notices files.policy.now texts.policy claim (has facts)
     → l ≡ left
     → a ≡ asked
     → p ≡ policy
     → text ≡ l ++ (a ++ p)
     → AreNotices files texts claim text
-all_notices files texts claim table left asked policy text l a p defs shown of_left are_defs
-    of_asked are is_table of_policy is_left is_asked is_policy made set least =
+all_notices files texts claim table left asked policy text l a p defs shown facts of_left are_defs
+    of_asked are is_table its_least of_policy is_left is_asked is_policy made set least =
     let first : l ≡ left_notices files.system texts.system.defs = is_left ∙ of_left
     ∙ ap (left_notices files.system) are_defs in
     let second : a ≡ notice files.system claim.table.interfaces = is_asked ∙ of_asked
     ∙ ap (notice files.system) (are ∙ ap (λ (t : Table). t.interfaces) is_table) in
     let third : p ≡ policy_notices files.policy.now texts.policy claim set = is_policy
-    ∙ of_policy set least in
+    ∙ (of_policy
+    ∙ ap (λ (s : Fact → Bool). policy_notices files.policy.now texts.policy claim s)
+    (least_one (wiring_of claim.table) (has facts) set its_least least)) in
     made ∙ ap (λ x. x ++ (a ++ p)) first
     ∙ ap (λ y. left_notices files.system texts.system.defs ++ (y ++ p)) second
     ∙ ap (λ z. left_notices files.system texts.system.defs
     ++ (notice files.system claim.table.interfaces ++ z)) third
 
--- where no line is broken the text is a yes
-pub allowed : (layout : Layout) (numbered : Numbered) (broken : List BrokenLine)
-    (files : VerifyFiles) (texts : PolicyTexts) (claim : Claimed) (told : Told) (text : List ℕ)
-    → broken ≡ []
-    → IsVerdictText layout numbered broken text
+-- notices, and then those of a yes
+pub noted_yes : (files : VerifyFiles) (texts : PolicyTexts) (claim : Claimed) (table : Table)
+    (notices text : List ℕ)
+    → AreNotices files texts claim notices
+    → table ≡ claim.table
+    → text ≡ notices ++ trusted_notice files.system table
+    → AreNoticesOfYes files texts claim text
+noted_yes files texts claim table notices text are is made set least =
+    made
+    ∙ (ap (λ n. n ++ trusted_notice files.system table) (are set least)
+    ∙ ap (λ (t : Table). shown_notices files texts claim set ++ trusted_notice files.system t) is)
+
+-- notices that are not followed by others
+pub noted_no : (files : VerifyFiles) (texts : PolicyTexts) (claim : Claimed) (notices text : List ℕ)
+    → AreNotices files texts claim notices
+    → text ≡ notices
+    → AreNotices files texts claim text
+noted_no files texts claim notices text are same set least = same ∙ are set least
+
+-- the text of a verdict that is a yes
+yes_text : (layout : Layout) (numbered : Numbered) (exposed : Option ExposedTask)
+    (broken : List BrokenLine) (text : List ℕ)
+    → is_yes exposed broken ≡ true
+    → IsVerdictText layout numbered exposed broken text
+    → text ≡ codes "YES\n"
+yes_text layout numbered None [] text is tells = tells
+yes_text layout numbered None (b ∷ broken) text is tells = absurd (false≢true is)
+yes_text layout numbered (Some x) broken text is tells = absurd (false≢true is)
+
+-- a verdict that is a yes is printed so
+pub allowed : (layout : Layout) (numbered : Numbered) (exposed : Option ExposedTask)
+    (broken : List BrokenLine) (files : VerifyFiles) (texts : PolicyTexts) (claim : Claimed)
+    (told : Told) (text : List ℕ)
+    → is_yes exposed broken ≡ true
+    → IsVerdictText layout numbered exposed broken text
     → string_bytes told.out ≡ text
-    → AreNotices files texts claim (string_bytes told.err)
+    → AreNoticesOfYes files texts claim (string_bytes told.err)
     → HasYes claim
     → IsAllowed files texts claim told
-allowed layout numbered broken files texts claim told text none tells out err has_yes = record {
-  yes = has_yes;
-  out = out ∙ subst (λ bs. IsVerdictText layout numbered bs text) none tells;
-  err = err;
-}
+allowed layout numbered exposed broken files texts claim told text is tells out err has_yes =
+    record {
+      yes = has_yes;
+      out = out ∙ yes_text layout numbered exposed broken text is tells;
+      err = err;
+    }
 
--- the lines that are broken, by what was made
+-- what is exposed and broken, by what was made
 pub lines_told : (files : VerifyFiles) (by : Layout) (texts : PolicyTexts) (claim : Claimed)
     (told : Told)
     (lines given : List (Line WiringSays)) (table : Table) (numbered : Numbered)
-    (broken shown : List BrokenLine) (text : List ℕ)
+    (exposed : Option ExposedTask) (broken : List BrokenLine) (text : List ℕ)
     → IsWiring texts.system.wiring lines
     → numbered ≡ record { table = table; numbers = first_numbers given }
     → table ≡ claim.table
     → given ≡ lines
-    → shown ≡ broken
-    → IsVerdictText by numbered shown text
+    → IsVerdictText by numbered exposed broken text
     → by ≡ layout_of files.tree
     → string_bytes told.out ≡ text
     → AreNotices files texts claim (string_bytes told.err)
+    → IsExposedOf claim exposed
+    → IfSome exposed (IsReached claim.table)
     → AreBroken claim broken
     → All (IsDerived claim) broken
     → HasNoYes claim
     → ToldLines files texts claim told
-lines_told files by texts claim told lines given table numbered broken shown text is_wiring made
-    is_table are_lines are_shown tells is_layout out err are chains none =
+lines_told files by texts claim told lines given table numbered exposed broken text is_wiring made
+    is_table are_lines tells is_layout out err first reached are chains none =
     let layout = layout_of files.tree in
     let is : numbered ≡ numbered_by claim.table lines =
     made ∙ (ap (λ (t : Table). numbered_by t given) is_table
@@ -104,18 +143,20 @@ lines_told files by texts claim told lines given table numbered broken shown tex
     record {
       lines = lines;
       is_wiring = is_wiring;
+      exposed = exposed;
+      first = first;
+      reached = reached;
       broken = broken;
       are = are;
       chains = chains;
       no = none;
-      out = subst (IsVerdictText layout (numbered_by claim.table lines) broken) (sym out)
-          (subst (λ n. IsVerdictText layout n broken text) is
-          (subst (λ bs. IsVerdictText layout numbered bs text) are_shown
-          (subst (λ l. IsVerdictText l numbered shown text) is_layout tells)));
+      out = subst (IsVerdictText layout (numbered_by claim.table lines) exposed broken) (sym out)
+          (subst (λ n. IsVerdictText layout n exposed broken text) is
+          (subst (λ l. IsVerdictText l numbered exposed broken text) is_layout tells));
       err = err;
     }
 
--- of a claim that has a yes no line is told to be broken
+-- of a claim that has a yes no no is printed
 pub only_yes : {E : Type 0} (files : VerifyFiles) (texts : PolicyTexts) (claim other : Claimed)
     (said : Result Claimed Meaningless) (result : Result Told E)
     → said ≡ Ok claim
@@ -128,7 +169,7 @@ only_yes files texts claim other said (Ok told) is also has_yes status broken = 
   | inl zero ↦ inl zero
   | inr one ↦
       let same : HasYes claim = subst HasYes (ok_is other claim (sym also ∙ is)) has_yes in
-      absurd ((broken one).no (has same.0) same.1.says)
+      absurd ((broken one).no (has same.0) same.1.says same.1.secure)
 ]
 only_yes files texts claim other said (Err e) is also has_yes status broken = tt
 

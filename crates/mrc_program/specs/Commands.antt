@@ -6,7 +6,7 @@ use Rattle.mrc_command.specs.declared.told.Told.{Told}
 use Rattle.mrc_command.specs.declared.command.Command.{Command}
 use Rattle.mrc_command.specs.declared.command.Command.TheVariants.{Verify, Mend, Check, Make}
 use Rattle.mrc_command.specs.declared.command.Command.TheVariants.{Explain, Facts, Graph, Replay}
-use Rattle.mrc_command.specs.declared.command.Command.TheVariants.{Live, Mig}
+use Rattle.mrc_command.specs.declared.command.Command.TheVariants.{Promises, Live, Mig}
 use Rattle.mrc_files.specs.Files.{Held}
 use Rattle.mrc_program.specs.Told.{YesOfFiles, NoOfFiles, FaultOfFiles, MadeOfFiles, FaultOfMake}
 use Rattle.mrc_program.specs.Told.{CutOfFiles}
@@ -15,12 +15,13 @@ use Rattle.mrc_program.specs.Told.{HaltedOfFiles}
 use Rattle.mrc_program.specs.Explained.{ChainOfFiles, NoneOfFiles, FaultOfExplain}
 use Rattle.mrc_program.specs.Listed.{FactsOfFiles, OtherOfFiles, FaultOfFacts}
 use Rattle.mrc_program.specs.Listed.{GraphOfFiles, UndrawnOfFiles, FaultOfGraph}
+use Rattle.mrc_program.specs.Promised.{PromisesOfFiles, FaultOfPromises}
 use Rattle.mrc_program.specs.Verified.{AllowedOfFiles, BrokenOfFiles, FaultOfVerify}
 use Rattle.mrc_program.specs.Verified.{MendsOfFiles, FaultOfMend}
 use Rattle.mrc_program.specs.Cutting.{CutsOfFiles, RefusedOfFiles, FaultOfMig}
 
--- with status 0: a yes, mends, the making of a certificate, a chain, facts, a drawing, a replay, a
--- journal, or what MIG files are cut to
+-- with status 0: a yes, mends, the making of a certificate, a chain, facts, a drawing, what has to
+-- be found in the code of trusted tasks, a replay, a journal, or what MIG files are cut to
 abbrev pub DoneOf : Held → Held → Command → Told → Type 0
 DoneOf before after (Verify files) told = AllowedOfFiles before files told
 DoneOf before after (Mend files) told = MendsOfFiles before files told
@@ -29,12 +30,13 @@ DoneOf before after (Make files) told = MadeOfFiles before after files told
 DoneOf before after (Explain files) told = ChainOfFiles before files told
 DoneOf before after (Facts files) told = FactsOfFiles before files told
 DoneOf before after (Graph files) told = GraphOfFiles before files told
+DoneOf before after (Promises files) told = PromisesOfFiles before files told
 DoneOf before after (Replay files) told = ReplayOfFiles before files told
 DoneOf before after (Live files) told = LiveOfFiles before files told
 DoneOf before after (Mig files) told = CutsOfFiles before after files told
 
 -- with status 1: a no, that no chain leads to a fact, or that no mend was found; never of a `make`,
--- a `replay` or a `mig`
+-- a `promises`, a `replay` or a `mig`
 abbrev pub NoOf : Held → Command → Told → Type 0
 NoOf held (Verify files) told = BrokenOfFiles held files told
 NoOf held (Mend files) told = MendsOfFiles held files told
@@ -43,6 +45,7 @@ NoOf held (Make files) told = ⊥
 NoOf held (Explain files) told = NoneOfFiles held files told
 NoOf held (Facts files) told = OtherOfFiles held files told
 NoOf held (Graph files) told = UndrawnOfFiles held files told
+NoOf held (Promises files) told = ⊥
 NoOf held (Replay files) told = ⊥
 NoOf held (Live files) told = NoOfLive held files told
 NoOf held (Mig files) told = ⊥
@@ -56,6 +59,7 @@ FaultOf held (Make files) told = FaultOfMake held files told
 FaultOf held (Explain files) told = FaultOfExplain held files told
 FaultOf held (Facts files) told = FaultOfFacts held files told
 FaultOf held (Graph files) told = FaultOfGraph held files told
+FaultOf held (Promises files) told = FaultOfPromises held files told
 FaultOf held (Replay files) told = FaultOfReplay held files told
 FaultOf held (Live files) told = FaultOfLive held files told
 FaultOf held (Mig files) told = FaultOfMig held files told
@@ -70,6 +74,7 @@ CutOf before after (Make files) told = CutOfFiles before after files told
 CutOf before after (Explain files) told = ⊥
 CutOf before after (Facts files) told = ⊥
 CutOf before after (Graph files) told = ⊥
+CutOf before after (Promises files) told = ⊥
 CutOf before after (Replay files) told = ⊥
 CutOf before after (Live files) told = ⊥
 CutOf before after (Mig files) told = RefusedOfFiles before after files told
@@ -83,6 +88,7 @@ HaltedOf held (Make files) told = ⊥
 HaltedOf held (Explain files) told = ⊥
 HaltedOf held (Facts files) told = ⊥
 HaltedOf held (Graph files) told = ⊥
+HaltedOf held (Promises files) told = ⊥
 HaltedOf held (Replay files) told = ⊥
 HaltedOf held (Live files) told = HaltedOfFiles held files told
 HaltedOf held (Mig files) told = ⊥
@@ -96,6 +102,7 @@ HasOut (Make files) = Unit {0}
 HasOut (Explain files) = ⊥
 HasOut (Facts files) = ⊥
 HasOut (Graph files) = ⊥
+HasOut (Promises files) = ⊥
 HasOut (Replay files) = ⊥
 HasOut (Live files) = ⊥
 HasOut (Mig files) = Unit {0}

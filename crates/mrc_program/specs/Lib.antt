@@ -4,8 +4,10 @@ pub mod Told
 pub mod Notices
 pub mod LeftNotices
 pub mod PolicyNotices
+pub mod Trusted
 pub mod Explained
 pub mod Listed
+pub mod Promised
 pub mod Verified
 pub mod VerifiedLaws
 pub mod Cutting

@@ -11,7 +11,7 @@ use Rattle.mrc_check.specs.declared.verdict.Why.{Why}
 use Rattle.mrc_base.specs.declared.memory.OrMemory.{OrMemory}
 use Rattle.mrc_base.specs.declared.memory.OrMemory.TheVariants.{Fault, Memory}
 use Rattle.mrc_check.specs.declared.verdict.Why.TheVariants.{Counts, MissingFirst, NotClosed}
-use Rattle.mrc_check.specs.declared.verdict.Why.TheVariants.{Forbidden}
+use Rattle.mrc_check.specs.declared.verdict.Why.TheVariants.{Trusted, Forbidden}
 use Rattle.mrc_check.specs.declared.texts.TextsFault.{TextsFault}
 use Rattle.mrc_check.specs.declared.texts.TextsFault.TheVariants.{Defs, Wiring, Policy}
 use Rattle.mrc_check.specs.declared.texts.TextsFault.TheVariants.{Certificate, Check}
@@ -52,6 +52,7 @@ use Rattle.mrc_program.specs.Texts.{LiveTexts, live_list, script_said}
 use Rattle.mrc_program.specs.Texts as texts
 use Rattle.mrc_files.specs.Files.{Held, HasBytes, AreHeld, IsFirstUnread}
 use Rattle.mrc_program.specs.LeftNotices.{left_notices}
+use Rattle.mrc_program.specs.Trusted.{trusted_notice}
 use Rattle.mrc_program.specs.Files.{defs_names, system_names, check_names, replay_names}
 use Rattle.mrc_program.specs.Files.{live_names}
 
@@ -71,6 +72,8 @@ why_line table Counts = codes "NO counts\n"
 why_line table (MissingFirst fact) = codes "NO missing " ++ (fact_text table fact ++ codes "\n")
 why_line table (NotClosed rule fact) =
     codes "NO not closed K" ++ (decimal (rule_number rule) ␣ fact_text table fact ++ codes "\n")
+why_line table (Trusted number fact) =
+    codes "NO trusted line " ++ (decimal number ␣ fact_text table fact ++ codes "\n")
 why_line table (Forbidden number) = codes "NO forbidden line " ++ (decimal number ++ codes "\n")
 
 -- the line that tells it
@@ -85,6 +88,7 @@ stale_note false why = []
 stale_note true Counts = stale_line
 stale_note true (MissingFirst fact) = stale_line
 stale_note true (NotClosed rule fact) = stale_line
+stale_note true (Trusted number fact) = []
 stale_note true (Forbidden number) = []
 
 -- what an answer gives to standard output
@@ -105,10 +109,12 @@ IsFaultOf file text = (fault : List ℕ) × (text ≡ fault_line file fault)
 abbrev pub defs_name : SystemFiles → ℕ → List ℕ
 defs_name files n = get_or (defs_names files) n []
 
--- the text is what an answer gives to standard error, with these notices of a yes and of a refusal
+-- the text is what an answer gives to standard error, with these notices of a yes and of a refusal.
+-- Behind those of a yes it is said which tasks are trusted
 abbrev pub IsError : List ℕ → Bool → CheckFiles → Result Case (OrMemory TextsFault) → List ℕ
     → Type 0
-IsError notices verbose files (Ok case) text = text ≡ notices
+IsError notices verbose files (Ok case) text =
+    text ≡ notices ++ trusted_notice files.system case.claim.table
 IsError notices verbose files (Err (Fault (Check refused))) text =
     text ≡ notices ++ stale_note verbose refused.why
 IsError notices verbose files (Err (Fault (Defs fault))) text =
@@ -152,12 +158,14 @@ pub record ToldUnread (held : Held) (files : List (List ℕ)) (told : Told) : Ty
 abbrev pub notices_of : SystemFiles → CheckTexts → List ℕ
 notices_of files texts = left_notices files texts.system.defs
 
--- `YES` is told of texts, and it is right: the checker accepts them; and these notices
-pub record ToldYes (notices : List ℕ) (texts : CheckTexts) (told : Told) : Type 0 where
+-- `YES` is told of texts, and it is right: the checker accepts them; and these notices, and which
+-- tasks are trusted
+pub record ToldYes (files : SystemFiles) (notices : List ℕ) (texts : CheckTexts) (told : Told)
+    : Type 0 where
   pub case : Case
   pub says : AreAccepted texts case
   pub out : string_bytes told.out ≡ codes "YES\n"
-  pub err : string_bytes told.err ≡ notices
+  pub err : string_bytes told.err ≡ notices ++ trusted_notice files case.claim.table
 
 -- `NO` is told of texts, and it is right: each of them has a meaning, together they are a case for
 -- the checker, and the reason that is told is the one by which the checker refuses the case; and
@@ -193,7 +201,7 @@ pub record ToldFault (files : CheckFiles) (texts : CheckTexts) (told : Told) : T
 -- `YES` is told of what the files hold
 abbrev pub YesOfFiles : Held → CheckFiles → Told → Type 0
 YesOfFiles held files told =
-    OfFiles check_list (λ texts. ToldYes (notices_of files.system texts) texts) held
+    OfFiles check_list (λ texts. ToldYes files.system (notices_of files.system texts) texts) held
     (check_names files) told
 
 -- `NO` is told of what the files hold

@@ -1,7 +1,8 @@
--- What the program tells of a wiring and a policy: that no line of the policy can be broken, or
--- each line that is, with a chain; and changes after which none is. This profile's own choice.
+-- What the program prints of a wiring and a policy: a yes, or the trusted task that another could
+-- rewrite and each line of the policy that is broken, with their chains; and changes after which
+-- the answer is a yes. This profile's own choice.
 use Rattle.std.specs.Prelude.{◌≡◌, ◌⊎◌, ◌<◌, Bool, true, false, ℕ, List, [], ◌∷◌, ◌++◌, Ok, Err}
-use Rattle.std.specs.Prelude.{All, codes, string_bytes}
+use Rattle.std.specs.Prelude.{All, IfSome, Option, codes, string_bytes}
 use Rattle.mrc_base.specs.declared.Fact.{Fact}
 use Rattle.mrc_model.specs.Rules.{IsLeast}
 use Rattle.mrc_wiring_text.specs.declared.reading.Line.{Line}
@@ -13,6 +14,7 @@ use Rattle.mrc_check.specs.Texts.{Meaningless, InSystem, InPolicy, InCertificate
 use Rattle.mrc_why.specs.declared.printing.Layout.{Layout}
 use Rattle.mrc_why.specs.declared.printing.Layout.TheVariants.{Flat, Tree}
 use Rattle.mrc_why.specs.Broken.{BrokenLine, AreBroken, IsDerived, HasYes, HasNoYes}
+use Rattle.mrc_why.specs.Broken.{ExposedTask, IsExposedOf, IsReached}
 use Rattle.mrc_why.specs.Texts.{IsVerdictText}
 use Rattle.mrc_mend.specs.declared.answers.Answer.{Answer}
 use Rattle.mrc_mend.specs.declared.answers.Answer.TheVariants.{Nothing, Found}
@@ -29,6 +31,7 @@ use Rattle.mrc_program.specs.Files.{policy_names}
 use Rattle.mrc_program.specs.Notices.{notice}
 use Rattle.mrc_program.specs.LeftNotices.{left_notices}
 use Rattle.mrc_program.specs.PolicyNotices.{policy_notices}
+use Rattle.mrc_program.specs.Trusted.{trusted_notice}
 use Rattle.mrc_program.specs.Texts.{PolicyTexts, policy_list, claimed}
 use Rattle.mrc_program.specs.Told.{OfFiles, ToldMemory, ToldUnread, IsFaultOf, system_file}
 
@@ -50,35 +53,47 @@ abbrev pub AreNotices : VerifyFiles → PolicyTexts → Claimed → List ℕ →
 AreNotices files texts claim text = (set : Fact → Bool) → IsLeast (wiring_of claim.table) set
     → text ≡ notices files texts claim set
 
--- `YES` is told of texts that make this claim: its least set is a yes; and their notices
+-- the same, and then which tasks are trusted
+abbrev pub AreNoticesOfYes : VerifyFiles → PolicyTexts → Claimed → List ℕ → Type 0
+AreNoticesOfYes files texts claim text =
+    (set : Fact → Bool) → IsLeast (wiring_of claim.table) set
+    → text ≡ notices files texts claim set ++ trusted_notice files.system claim.table
+
+-- `YES` is printed for texts that make this claim: its least set is a yes; and their notices, and
+-- which tasks are trusted
 pub record IsAllowed (files : VerifyFiles) (texts : PolicyTexts) (claim : Claimed) (told : Told)
     : Type 0 where
   pub yes : HasYes claim
   pub out : string_bytes told.out ≡ codes "YES\n"
-  pub err : AreNotices files texts claim (string_bytes told.err)
+  pub err : AreNoticesOfYes files texts claim (string_bytes told.err)
 
--- `YES` is told of texts, and it is right: the least set of their wiring is a yes to their policy
+-- `YES` is printed for texts, and it is right: the least set of their wiring is a yes to their
+-- policy
 pub record ToldAllowed (files : VerifyFiles) (texts : PolicyTexts) (told : Told) : Type 0 where
   pub claim : Claimed
   pub says : claimed texts ≡ Ok claim
   pub tells : IsAllowed files texts claim told
 
--- the lines that are broken are told of texts that make this claim, with chains that derive what
--- they forbid, and the lines and slots of the texts from which the steps come, and the notices; no
--- set of facts is a yes
+-- What is printed of texts that make this claim: the first trusted task that another could rewrite,
+-- with a chain that derives the hold by which it could; the lines that are broken, with chains that
+-- derive what they forbid; the lines and slots of the texts from which the steps come; and the
+-- notices. No set of facts is a yes.
 pub record ToldLines (files : VerifyFiles) (texts : PolicyTexts) (claim : Claimed) (told : Told)
     : Type 0 where
   pub lines : List (Line WiringSays)
   pub is_wiring : IsWiring texts.system.wiring lines
+  pub exposed : Option ExposedTask
+  pub first : IsExposedOf claim exposed
+  pub reached : IfSome exposed (IsReached claim.table)
   pub broken : List BrokenLine
   pub are : AreBroken claim broken
   pub chains : All (IsDerived claim) broken
   pub no : HasNoYes claim
-  pub out : IsVerdictText (layout_of files.tree) (numbered_by claim.table lines) broken
+  pub out : IsVerdictText (layout_of files.tree) (numbered_by claim.table lines) exposed broken
       (string_bytes told.out)
   pub err : AreNotices files texts claim (string_bytes told.err)
 
--- the lines that are broken are told of texts
+-- a no is printed of texts, with what is exposed and broken
 pub record ToldBroken (files : VerifyFiles) (texts : PolicyTexts) (told : Told) : Type 0 where
   pub claim : Claimed
   pub says : claimed texts ≡ Ok claim
@@ -104,12 +119,12 @@ abbrev pub OfPolicy : (PolicyTexts → Told → Type 0) → Held → SystemFiles
 OfPolicy Tells held files policy told =
     OfFiles policy_list Tells held (policy_names files policy) told
 
--- `YES` is told of what the files hold
+-- `YES` is printed for what the files hold
 abbrev pub AllowedOfFiles : Held → VerifyFiles → Told → Type 0
 AllowedOfFiles held files told =
     OfPolicy (ToldAllowed files) held files.system files.policy.now told
 
--- the lines that are broken are told of what the files hold
+-- a no is printed of what the files hold, with what is exposed and broken
 abbrev pub BrokenOfFiles : Held → VerifyFiles → Told → Type 0
 BrokenOfFiles held files told =
     OfPolicy (ToldBroken files) held files.system files.policy.now told

@@ -33,7 +33,7 @@ fn counted_text(alloc: Global, count: usize, list: &str) -> Result<String, Alloc
 
 /// Names with a comma and a blank between.
 #[tactic(auto, using(crate::proofs::LeftLaws::names_joined))]
-fn names_text(alloc: Global, names: &[String]) -> Result<String, AllocError>
+pub fn names_text(alloc: Global, names: &[String]) -> Result<String, AllocError>
     ensures { IfOk result (λ text. string_bytes text
         ≡ join_by (λ name. name) (codes ", ") (map string_bytes names.now)) }
 {

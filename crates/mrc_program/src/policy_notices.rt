@@ -1,11 +1,9 @@
 //! What `verify` prints of a policy that is easily read wrongly.
 
-ghost use Rattle.std.specs.Prelude.{◌≡◌, ◌++◌, Bool, IfOk, OnOk, codes, flat_map, string_bytes};
+ghost use Rattle.std.specs.Prelude.{◌≡◌, ◌++◌, IfOk, OnOk, codes, flat_map, string_bytes};
 ghost use Rattle.std.specs.Prelude.{take};
-ghost use Rattle.mrc_base.specs.declared.Fact.{Fact};
-ghost use Rattle.mrc_model.specs.Rules.{IsLeast};
+ghost use Rattle.mrc_facts.specs.Sets.{has};
 ghost use Rattle.mrc_wiring.specs.Names.{kind_word};
-ghost use Rattle.mrc_wiring.specs.Table.{wiring_of};
 ghost use Rattle.mrc_words.specs.Words.{right_word, task_word};
 ghost use Rattle.mrc_command.specs.Lines.{fault_line};
 ghost use Rattle.mrc_program.specs.PolicyNotices.{at_line, behind, joined, most_lines, more_text};
@@ -18,6 +16,7 @@ ghost use Rattle.mrc_program.specs.PolicyNotices.{policy_notices};
 use mrc_base::{PortRight, TaskId};
 use mrc_command::shown;
 use mrc_notices::{LeakyLine, PlainLine, leaky_lines, plain_lines};
+use mrc_rows::Facts;
 use mrc_wiring::{Claim, ForbiddenLine, Wired, kind_word};
 use mrc_words::{class_word, right_word, task_word};
 use std::alloc::{AllocError, Global};
@@ -312,19 +311,19 @@ fn notices_of(
     format!(in alloc; "{nothing}{plain}{leaky}")
 }
 
-/// What is printed of a policy, by its file, its bytes and what it claims.
+/// What is printed of a policy, by its file, its bytes, what it claims, and these facts.
 pub fn policy_notices(
     alloc: Global,
     policy: &str,
     text: &[u8],
     claim: &Claim,
+    facts: &Facts,
 ) -> Result<String, AllocError>
-    // It is that by the least set.
-    ensures { IfOk result (λ told. (set : Fact → Bool) → IsLeast (wiring_of claim.now.table) set
-        → string_bytes told ≡ policy_notices policy.now text.now claim.now set) }
+    ensures { IfOk result (λ told. string_bytes told
+        ≡ policy_notices policy.now text.now claim.now (has facts.now)) }
 {
     let plain = plain_lines(alloc, claim.wired(), text)?;
-    let leaky = leaky_lines(alloc, claim)?;
+    let leaky = leaky_lines(alloc, facts, claim.lines())?;
     let text = notices_of(alloc, policy, claim, plain.as_slice(), leaky.as_slice())?;
     Ok(text)
 }

@@ -25,6 +25,7 @@ use crate::make::make_files;
 use crate::mend::mend_files;
 use crate::mig::mig_files;
 use crate::progress::Counter;
+use crate::promises::promises_files;
 use crate::replay::replay_files;
 use crate::system::{SystemBytes, system_bytes};
 use crate::tell::verdict;
@@ -132,7 +133,7 @@ fn told_of<R: Threads + Sync>(
     ensures status { IfOk result (λ told. told.status ≤ 2) }
     // A yes is right.
     ensures yes { IfOk result (λ told. told.status ≡ 0
-        → ToldYes (notices_of files.now.system bytes.now) bytes.now told) }
+        → ToldYes files.now.system (notices_of files.now.system bytes.now) bytes.now told) }
     // Where the answer is yes it is told, unless memory runs out.
     ensures only { (case : Case) → AreAccepted bytes.now case
         → IfOk result (λ told. (told.status ≡ 0) ⊎ ToldMemory told) }
@@ -212,6 +213,7 @@ fn answer<F: Folder, R: Threads + Wait + Sync, P: Progress>(
         Command::Explain(files) => explain_files(folder, alloc, files),
         Command::Facts(files) => facts_files(folder, alloc, files),
         Command::Graph(files) => graph_files(folder, alloc, files),
+        Command::Promises(files) => promises_files(folder, alloc, files),
         Command::Replay(files) => replay_files(folder, alloc, files),
         Command::Live(files) => live_files(rt, folder, alloc, files, EVENTS),
         Command::Mig(files) => mig_files(folder, alloc, files),
@@ -271,9 +273,9 @@ fn write_told<O: Write, E: Write>(alloc: Global, told: &Told, out: &mut O, err: 
 /// Runs the program on the words of a command line, its own name first, and on the files of a
 /// folder. Where a person looks on, it tells on `err` how far a long search has come. The status is
 /// 0 for `YES`, for mends, for a certificate that is made, for a chain, for facts, for a drawing,
-/// for a replay, for a journal, for MIG files that are cut and for help and the version, 1 for `NO`
-/// and for `none`, and 2 for a fault, where too little is read of MIG files, and where all tasks of
-/// a `live` that have lines left wait for messages.
+/// for promises, for a replay, for a journal, for MIG files that are cut and for help and the
+/// version, 1 for `NO` and for `none`, and 2 for a fault, if too little is read of MIG files, and
+/// if all tasks of a `live` that have lines left wait for messages.
 pub fn run<F: Folder, R: Threads + Wait + Sync, O: Write, E: Write>(
     rt: &R,
     folder: &mut F,
@@ -284,9 +286,9 @@ pub fn run<F: Folder, R: Threads + Wait + Sync, O: Write, E: Write>(
     watched: bool,
 ) -> u8
     ensures status { result ≤ 2 }
-    // With status 0 a yes, mends, the making of a certificate, a chain, facts, a drawing, a replay,
-    // a journal or what MIG files are cut to went out that is right of what the files held, unless
-    // the words ask for help or the version.
+    // With status 0 a yes, mends, the making of a certificate, a chain, facts, a drawing, promises,
+    // a replay, a journal or what MIG files are cut to went out that is right of what the files
+    // held, unless the words ask for help or the version.
     ensures yes { result ≡ 0
         → WentOut (DoneOf (F.held folder.old) (F.held folder.new))
         (O.contents out.old) (O.contents out.new)
@@ -319,9 +321,9 @@ pub fn start<F: Folder, R: Threads + Wait + Sync, O: Write, E: Write>(
 ) -> u8
     ensures status { result ≤ 2 }
     ensures fault { IfErr words (λ _. result ≡ 2) }
-    // With status 0 a yes, mends, the making of a certificate, a chain, facts, a drawing, a replay,
-    // a journal or what MIG files are cut to went out that is right of what the files held, unless
-    // the words ask for help or the version.
+    // With status 0 a yes, mends, the making of a certificate, a chain, facts, a drawing, promises,
+    // a replay, a journal or what MIG files are cut to went out that is right of what the files
+    // held, unless the words ask for help or the version.
     ensures yes { result ≡ 0
         → WentOut (DoneOf (F.held folder.old) (F.held folder.new))
         (O.contents out.old) (O.contents out.new)

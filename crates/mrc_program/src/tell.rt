@@ -3,11 +3,14 @@
 ghost use Rattle.std.specs.Prelude.{◌≡◌, ◌++◌, IfOk, codes, string_bytes};
 ghost use Rattle.mrc_base.specs.declared.memory.OrMemory.TheVariants.{Fault};
 ghost use Rattle.mrc_program.specs.Told.{why_line, stale_note, status_of, out_of, IsError};
+ghost use Rattle.mrc_program.specs.Trusted.{trusted_notice};
 
 use crate::system::{defs_fault_told, wiring_fault_told};
+use crate::trusted::trusted_notice;
 use mrc_base::OrMemory;
 use mrc_check::{Confined, Refused, TextsFault, Why};
-use mrc_command::{CheckFiles, Told, fault_of, memory};
+use mrc_command::{CheckFiles, SystemFiles, Told, fault_of, memory};
+use mrc_wiring::Wired;
 use mrc_words::fact_text;
 use std::alloc::{AllocError, Global};
 
@@ -23,7 +26,7 @@ fn stale_note(alloc: Global, verbose: bool, why: Why) -> Result<String, AllocErr
             alloc,
             "machcheck: this certificate is not of this wiring: make it anew, or use verify\n",
         ),
-        Why::Forbidden(_) => Ok(String::new(alloc)),
+        Why::Trusted(_, _) | Why::Forbidden(_) => Ok(String::new(alloc)),
     }
 }
 
@@ -63,6 +66,10 @@ fn refusal(
             let rule = rule.number();
             let fact = fact_text(alloc, wired, fact)?;
             format!(in alloc; "NO not closed K{rule} {fact}\n")?
+        }
+        Why::Trusted(number, fact) => {
+            let fact = fact_text(alloc, wired, fact)?;
+            format!(in alloc; "NO trusted line {number} {fact}\n")?
         }
         Why::Forbidden(number) => format!(in alloc; "NO forbidden line {number}\n")?,
     };
@@ -105,22 +112,46 @@ fn fault_told(
     }
 }
 
-/// What is told of a yes, with these notices.
-fn yes(alloc: Global, notices: String) -> Result<Told, AllocError>
+/// Notices of a yes, and then which tasks the wiring trusts.
+pub fn with_trusted(
+    alloc: Global,
+    files: &SystemFiles<'_>,
+    notices: String,
+    wired: &Wired,
+) -> Result<String, AllocError>
+    ensures { IfOk result (λ text. string_bytes text
+        ≡ string_bytes notices ++ trusted_notice files.now wired.now) }
+{
+    let trusted = trusted_notice(alloc, files, wired)?;
+    let mut text = notices;
+    text.push_str(trusted.as_str())?;
+    Ok(text)
+}
+
+/// What is told of a yes over a wiring, with these notices.
+fn yes(
+    alloc: Global,
+    files: &SystemFiles<'_>,
+    notices: String,
+    wired: &Wired,
+) -> Result<Told, AllocError>
     ensures status { IfOk result (λ told. told.status ≡ 0) }
     ensures out { IfOk result (λ told. string_bytes told.out ≡ codes "YES\n") }
-    ensures err { IfOk result (λ told. string_bytes told.err ≡ string_bytes notices) }
+    ensures err { IfOk result (λ told. string_bytes told.err
+        ≡ string_bytes notices ++ trusted_notice files.now wired.now) }
 {
+    let err = with_trusted(alloc, files, notices, wired)?;
     Ok(Told {
         out: String::from_str(alloc, "YES\n")?,
-        err: notices,
+        err,
         status: 0,
     })
 }
 
 /// What is told of the checker's answer, over the bytes of a wiring, with these notices of a yes
 /// and of a refusal. If more is asked for, it is told what to do with a certificate of another
-/// wiring. Want of memory is no file's fault.
+/// wiring. After the notices of a yes it says which tasks are trusted. Out of memory is no file's
+/// fault.
 pub fn verdict(
     alloc: Global,
     files: &CheckFiles<'_>,
@@ -136,7 +167,7 @@ pub fn verdict(
         (string_bytes told.err)) }
 {
     match answer {
-        Ok(_) => yes(alloc, notices),
+        Ok(confined) => yes(alloc, &files.system, notices, confined.wired()),
         Err(OrMemory::Fault(fault)) => fault_told(alloc, files, notices, verbose, wiring, fault),
         Err(OrMemory::Memory) => memory(alloc),
     }

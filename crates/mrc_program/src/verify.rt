@@ -1,11 +1,16 @@
-//! What the program tells of a wiring and a policy: a yes, or each line that is broken.
+//! What the program prints of a wiring and a policy: a yes, or the trusted task that another could
+//! rewrite, and each line that is broken.
 
-ghost use Rattle.std.specs.Prelude.{◌≡◌, ◌⊎◌, ◌<◌, ◌≤◌, ◌++◌, [], Ok, IfOk, IsOk, length};
+ghost use Rattle.std.specs.Prelude.{◌≡◌, ◌⊎◌, ◌≤◌, ◌++◌, true, false, Ok, IfOk, IsOk};
 ghost use Rattle.std.specs.Prelude.{map, string_bytes};
+ghost use Rattle.mrc_facts.specs.Sets.{has};
+ghost use Rattle.mrc_model.specs.Rules.{IsLeast};
 ghost use Rattle.mrc_wiring.specs.Claims.{Claimed};
-ghost use Rattle.mrc_why.specs.Broken.{HasYes};
+ghost use Rattle.mrc_wiring.specs.Table as tables;
+ghost use Rattle.mrc_why.specs.Broken.{HasYes, is_yes};
 ghost use Rattle.mrc_program.specs.Texts.{claimed};
 ghost use Rattle.mrc_program.specs.Told.{ToldMemory};
+ghost use Rattle.mrc_program.specs.Trusted.{trusted_notice};
 ghost use Rattle.mrc_program.specs.Verified.{layout_of, AreNotices, IsAllowed, ToldLines};
 ghost use Rattle.mrc_program.specs.Verified.{ToldAllowed, ToldBroken, ToldUnclaimed};
 ghost use Rattle.mrc_wiring_text.specs.Wiring.{wiring_of};
@@ -16,12 +21,14 @@ use crate::lines::lines_of;
 use crate::notices::notice;
 use crate::policy::{PolicyBytes, claim_fault_told, claimed, policy_bytes};
 use crate::policy_notices::policy_notices;
+use crate::tell::with_trusted;
 use crate::told::unread_told;
 use mrc_base::OrMemory;
-use mrc_command::{Told, VerifyFiles, memory};
+use mrc_command::{SystemFiles, Told, VerifyFiles, memory};
 use mrc_files::Folder;
-use mrc_why::{Broken, Layout, Sources, verify, verify_text};
-use mrc_wiring::Claim;
+use mrc_rows::Facts;
+use mrc_why::{Layout, Sources, Verdict, verify, verify_text};
+use mrc_wiring::{Claim, Wired};
 use std::alloc::{AllocError, Global};
 
 /// Chains are told from their conclusions down where a tree is asked for.
@@ -31,13 +38,13 @@ fn layout_of(tree: bool) -> Layout
     if tree { Layout::Tree } else { Layout::Flat }
 }
 
-/// The status of lines that are broken: 0 where there are none.
-fn status_of(broken: &[Broken]) -> u8
+/// The status of a verdict: 0 if it is a yes.
+fn status_of(verdict: &Verdict) -> u8
     ensures status { (result ≡ 0) ⊎ (result ≡ 1) }
-    ensures none { result ≡ 0 → broken.now ≡ [] }
-    ensures some { result ≡ 1 → 0 < length broken.now }
+    ensures none { result ≡ 0 → is_yes verdict.now.exposed verdict.now.broken.items ≡ true }
+    ensures some { result ≡ 1 → is_yes verdict.now.exposed verdict.now.broken.items ≡ false }
 {
-    if broken.is_empty() { 0 } else { 1 }
+    if verdict.is_yes() { 0 } else { 1 }
 }
 
 /// The bytes of the MIG files.
@@ -69,24 +76,44 @@ fn joined(alloc: Global, left: &str, asked: &str, policy: &str) -> Result<String
     format!(in alloc; "{left}{asked}{policy}")
 }
 
-/// What goes to standard error of texts and their claim.
+/// What goes to standard error of texts and their claim, by the least set of its wiring.
 fn notices(
     alloc: Global,
     files: &VerifyFiles<'_>,
     bytes: &PolicyBytes,
     claim: &Claim,
+    facts: &Facts,
 ) -> Result<String, AllocError>
+    requires { IsLeast (tables.wiring_of claim.now.table) (has facts.now) }
     ensures { IfOk result (λ text. AreNotices files.now bytes.now claim.now (string_bytes text)) }
 {
     let left = left_notices(alloc, &files.system, defs_texts(bytes))?;
     let asked = notice(alloc, &files.system, claim.wired().interfaces())?;
-    let of_policy = policy_notices(alloc, files.policy, policy_text(bytes), claim)?;
+    let of_policy = policy_notices(alloc, files.policy, policy_text(bytes), claim, facts)?;
     let text = joined(alloc, left.as_str(), asked.as_str(), of_policy.as_str())?;
     Ok(text)
 }
 
-/// What is told of texts and their claim: that no line is broken, or those that are; and what goes
-/// to standard error.
+/// Notices, and then, with the status of a yes, which tasks the wiring trusts.
+fn noted(
+    alloc: Global,
+    files: &SystemFiles<'_>,
+    notices: String,
+    wired: &Wired,
+    status: u8,
+) -> Result<String, AllocError>
+    ensures yes { IfOk result (λ text. status ≡ 0 → string_bytes text
+        ≡ string_bytes notices ++ trusted_notice files.now wired.now) }
+    ensures no { IfOk result (λ text. status ≡ 1 → string_bytes text ≡ string_bytes notices) }
+{
+    if status != 0 {
+        return Ok(notices);
+    }
+    with_trusted(alloc, files, notices, wired)
+}
+
+/// What is printed of texts and their claim: a yes, or the trusted task that another could rewrite
+/// and the lines that are broken; and what goes to standard error.
 fn claim_told(
     alloc: Global,
     files: &VerifyFiles<'_>,
@@ -102,17 +129,19 @@ fn claim_told(
 {
     let lines = lines_of(alloc, wiring_text(bytes))?;
     let sources = Sources::new(alloc, claim.wired(), lines.as_slice())?;
-    let broken = verify(alloc, claim)?;
-    let text = verify_text(alloc, &sources, broken.as_slice(), layout_of(files.tree))?;
-    let notices = notices(alloc, files, bytes, claim)?;
+    let verdict = verify(alloc, claim)?;
+    let text = verify_text(alloc, &sources, &verdict, layout_of(files.tree))?;
+    let notices = notices(alloc, files, bytes, claim, &verdict.facts)?;
+    let status = status_of(&verdict);
+    let err = noted(alloc, &files.system, notices, claim.wired(), status)?;
     Ok(Told {
         out: text,
-        err: notices,
-        status: status_of(broken.as_slice()),
+        err,
+        status,
     })
 }
 
-/// What is told of the bytes of MIG files, a wiring and a policy.
+/// What is printed for the bytes of MIG files, a wiring and a policy.
 fn verify_told(
     alloc: Global,
     files: &VerifyFiles<'_>,
@@ -121,7 +150,7 @@ fn verify_told(
     ensures status { IfOk result (λ told. told.status ≤ 2) }
     ensures yes { IfOk result (λ told. told.status ≡ 0
         → ToldAllowed files.now bytes.now told) }
-    // Where the least set is a yes that is told, unless memory runs out.
+    // If the least set is a yes, that is printed, unless memory runs out.
     ensures only { (claim : Claimed) → claimed bytes.now ≡ Ok claim → HasYes claim
         → IfOk result (λ told. (told.status ≡ 0) ⊎ ToldMemory told) }
     ensures no { IfOk result (λ told. told.status ≡ 1
@@ -139,7 +168,7 @@ fn verify_told(
     }
 }
 
-/// What is told of the files of a `verify`.
+/// What is printed for the files of a `verify`.
 pub fn verify_files<F: Folder>(
     folder: &F,
     alloc: Global,

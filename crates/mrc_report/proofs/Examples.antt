@@ -102,6 +102,8 @@ table = record {
   accepts = [];
   lines = [];
   admits = [];
+  trusts = [];
+  fits = false;
   interfaces = [];
 }
 

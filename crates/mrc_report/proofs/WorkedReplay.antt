@@ -12,6 +12,7 @@ use Rattle.mrc_model.specs.Reply.{Call, Created, Done, Names, CreateTask, Insert
 use Rattle.mrc_model.specs.Reply.{◌>>=◌, ◌>>◌, check, refuse_if, or_refuse}
 use Rattle.mrc_model.specs.Space.{restart, take, unused, entry_of, give_item, insert_at}
 use Rattle.mrc_model.specs.Target.{target, entry_at}
+use Rattle.mrc_model.specs.Wiring.{may}
 use Rattle.mrc_model.specs.CallSend.{take_item}
 use Rattle.mrc_model.specs.CallCreateTask.{call_create_task}
 use Rattle.mrc_model.specs.CallNames.{call_names}
@@ -34,6 +35,8 @@ loader = record {
   accepts = [];
   lines = Task ∷ Task ∷ Hold 0 1 Send ∷ [];
   admits = [];
+  trusts = [];
+  fits = false;
   interfaces = [];
 }
 
@@ -52,8 +55,8 @@ after world task call = (step (wiring_of loader) world task call).0
 pub worked : IsReplay loader script
     (codes "0 l done\n1 f names 1:65536 9:65536\nend events 2 ports 2\n")
 unfolding ◌>>=◌ ◌>>◌ check refuse_if or_refuse empty get insert alter_all len keys restart take
-    unused entry_of give_item insert_at target entry_at take_item call_names call_insert_right step
-    first digits
+    unused entry_of give_item insert_at target entry_at take_item may call_names call_insert_right
+    step first digits
 worked = record {
   events = record { task = 0; call = InsertRight 2 9 1 CopySend; reply = Done }
       ∷ record { task = 1; call = ListNames 1; reply = Names ((1, 65536) ∷ (9, 65536) ∷ []) } ∷ [];

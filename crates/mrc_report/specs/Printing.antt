@@ -8,6 +8,7 @@ use Rattle.mrc_model.specs.declared.Code.TheVariants as code
 use Rattle.mrc_model.specs.declared.Denied.{Denied}
 use Rattle.mrc_model.specs.declared.Denied.TheVariants.{NoSuchId, WrongShape, WrongDisposition}
 use Rattle.mrc_model.specs.declared.Denied.TheVariants.{ReplySlot, NotAdmitted, NotDestroyed}
+use Rattle.mrc_model.specs.declared.Denied.TheVariants.{NotTaken, NotGiven, NotSent, NotForReply}
 use Rattle.mrc_model.specs.Reply.{Reply, Done, Name, Refs, Mask, Names, Bytes, TooLarge, Refused}
 use Rattle.mrc_model.specs.Reply.{Created, DeniedBy, DeadTask}
 use Rattle.mrc_wiring.specs.Table.{Table}
@@ -36,7 +37,8 @@ code_word code.MachRcvInSet = codes "MACH_RCV_IN_SET"
 code_word code.MachRcvTimedOut = codes "MACH_RCV_TIMED_OUT"
 code_word code.ProfileNoSpace = codes "PROFILE_NO_SPACE"
 
--- what the filter tells, with the argument's number where it tells one
+-- why the filter, or a line about a trusted task, refuses, with the argument's number if there is
+-- one
 abbrev pub denied_words : Denied → List ℕ
 denied_words NoSuchId = codes "NoSuchId"
 denied_words (WrongShape n) = codes "WrongShape" ␣ decimal n
@@ -44,6 +46,10 @@ denied_words (WrongDisposition n) = codes "WrongDisposition" ␣ decimal n
 denied_words ReplySlot = codes "ReplySlot"
 denied_words (NotAdmitted n) = codes "NotAdmitted" ␣ decimal n
 denied_words NotDestroyed = codes "NotDestroyed"
+denied_words NotTaken = codes "NotTaken"
+denied_words NotGiven = codes "NotGiven"
+denied_words (NotSent n) = codes "NotSent" ␣ decimal n
+denied_words NotForReply = codes "NotForReply"
 
 -- the digit of a number below 16, in small letters
 abbrev pub hex_digit : ℕ → ℕ

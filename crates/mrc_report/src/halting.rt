@@ -1,7 +1,7 @@
 //! Runs that end because all tasks that have lines left wait for messages.
 
-ghost use Rattle.std.specs.Prelude.{◌≡◌, ◌<◌, ◌==◌, ℕ, ◌++◌, IfNone, IfOk, IfSome, IsPermutation, IsTrue};
-ghost use Rattle.std.specs.Prelude.{None, Some, length, map, slice_get};
+ghost use Rattle.std.specs.Prelude.{◌≡◌, ◌<◌, ◌==◌, ℕ, ◌++◌, IfNone, IfOk, IfSome, IsTrue};
+ghost use Rattle.std.specs.Prelude.{IsPermutation, None, Some, length, map, slice_get};
 ghost use Rattle.mrc_confine.specs.Guards.{wiring_in};
 ghost use Rattle.mrc_live.specs.Runs.{event_of};
 ghost use Rattle.mrc_report.specs.Halts.{WaitsInVain, lines_of, next_line, next_numbers, number_in};
@@ -39,7 +39,8 @@ fn calls_made(events: &[Event], task: TaskId) -> usize
 
 /// The line that the task says after so many of its lines.
 fn line_after(lines: &[Line<TaskCall>], task: TaskId, said: usize) -> Option<&Line<TaskCall>>
-    ensures some { IfSome result (λ line. slice_get (lines_of task lines.now) said ≡ Some line.now) }
+    ensures some { IfSome result
+        (λ line. slice_get (lines_of task lines.now) said ≡ Some line.now) }
     ensures none { IfNone result (slice_get (lines_of task lines.now) said ≡ None) }
 {
     let mut left = said;

@@ -102,6 +102,10 @@ fn denied_words(alloc: Global, denied: Denied) -> Result<String, AllocError>
         Denied::ReplySlot => String::from_str(alloc, "ReplySlot"),
         Denied::NotAdmitted(argument) => format!(in alloc; "NotAdmitted {argument}"),
         Denied::NotDestroyed => String::from_str(alloc, "NotDestroyed"),
+        Denied::NotTaken => String::from_str(alloc, "NotTaken"),
+        Denied::NotGiven => String::from_str(alloc, "NotGiven"),
+        Denied::NotSent(argument) => format!(in alloc; "NotSent {argument}"),
+        Denied::NotForReply => String::from_str(alloc, "NotForReply"),
     }
 }
 

@@ -270,7 +270,7 @@ const MEANINGLESS: [(&str, &str, &str); 11] = [
         "wiring UnknownName 2",
     ),
     ("wiring 1\ntask a\ntask a\n", ANY, "wiring TwiceNamed 3"),
-    ("wiring 3\n", ANY, "wiring Version"),
+    ("wiring 4\n", ANY, "wiring Version"),
     ("wiring 1\ntask\n", ANY, "wiring BadLine 2"),
     (
         "wiring 1\n",
@@ -279,7 +279,7 @@ const MEANINGLESS: [(&str, &str, &str); 11] = [
     ),
     (ONE, "policy 3\n", "policy Version"),
     (ONE, "policy 1\nforbid a\n", "policy BadLine 2"),
-    ("wiring 3\n", "policy 3\n", "wiring Version"),
+    ("wiring 4\n", "policy 3\n", "wiring Version"),
     (
         "wiring 1\nhold a send task a\n",
         "policy 3\n",

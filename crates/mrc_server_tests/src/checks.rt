@@ -287,7 +287,7 @@ fn faults_of_wirings(rt: HostRuntime) -> Result<(), Fail> {
             "w",
             "UnknownName 2",
         ),
-        (wired("wiring 3\n"), "w", "Version"),
+        (wired("wiring 4\n"), "w", "Version"),
         (wired("wiring 1\ntask\n"), "w", "BadLine 2"),
     ];
     tell_faults(&rt, &rt, "wirings", &table)

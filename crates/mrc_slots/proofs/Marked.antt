@@ -1,5 +1,6 @@
 -- Rows of bits that say what classes take.
-use Rattle.std.proofs.Common.{◌≡◌, ℕ, ◌+◌, ◌*◌, ◌/◌, ◌%◌, ◌<◌, ◌≤◌, ◌==◌, lit<, Bool, true, false, Vec}
+use Rattle.std.proofs.Common.{◌≡◌, ℕ, ◌+◌, ◌*◌, ◌/◌, ◌%◌, ◌<◌, ◌≤◌, ◌==◌, lit<, Bool, true, false}
+use Rattle.std.proofs.Common.{Vec}
 use Rattle.std.proofs.Common.{List, [], ◌∷◌, ◌++◌, length, replicate, Some, Option}
 use Rattle.std.proofs.Common.{refl, ap, sym, subst, ◌∙◌, inl, inr, arith}
 use Rattle.std.specs.Prelude.{◌||◌, ◌&&◌, nat_lt, unwrap_or, option_map}
@@ -18,7 +19,7 @@ use Rattle.mrc_rows.proofs.Rows.{words_at, words_past, no_bit}
 use Rattle.mrc_rows.proofs.Joins.{next_below}
 use Rattle.mrc_model.specs.Wiring.{Wiring, classes, label}
 use Rattle.mrc_slots.specs.Passing.{passes, is_passed}
-use Rattle.mrc_slots.specs.Masks.{IsMask, AreMasks, AreFirstRows, is_taken, right_at, row_number}
+use Rattle.mrc_slots.specs.Masks.{IsMask, AreMasks, AreFirst, is_taken, right_at, row_number}
 use Rattle.mrc_slots.proofs.Passing.{same_label_passes, takes_below}
 
 abbrev Row : Type 0
@@ -241,18 +242,15 @@ alike_below d k below =
 
 -- the first rows
 
-pub no_rows : (W : Wiring) (rows : List Row) → rows ≡ [] → AreFirstRows W 0 rows
-no_rows W rows e = record {
-  masks = no_masks (is_taken W) (classes W) rows e;
-  len = ap length e;
-}
+pub no_rows : (test : ℕ → ℕ → Bool) (n : ℕ) (rows : List Row) → rows ≡ []
+    → AreFirst test n 0 rows
+no_rows test n rows e = record { masks = no_masks test n rows e; len = ap length e }
 
-pub one_more_row : (W : Wiring) (m : ℕ) (rows longer : List Row) (row : Row)
-    → AreFirstRows W m rows → IsMask (is_taken W m) (classes W) row.items
-    → longer ≡ rows ++ row ∷ [] → AreFirstRows W (m + 1) longer
-one_more_row W m rows longer row first mask pushed = record {
-  masks = more_masks (is_taken W) m (classes W) rows longer row first.masks first.len mask
-      pushed;
+pub one_more_row : (test : ℕ → ℕ → Bool) (n m : ℕ) (rows longer : List Row) (row : Row)
+    → AreFirst test n m rows → IsMask (test m) n row.items
+    → longer ≡ rows ++ row ∷ [] → AreFirst test n (m + 1) longer
+one_more_row test n m rows longer row first mask pushed = record {
+  masks = more_masks test m n rows longer row first.masks first.len mask pushed;
   len = more_rows m rows longer row first.len pushed;
 }
 

@@ -1,6 +1,6 @@
--- What passes by slots.
+-- What passes by slots, and which reply rights can come.
 use Rattle.std.proofs.Common.{◌≡◌, ℕ, Bool, true, false, refl, ap, sym, ◌∙◌, inl, inr}
-use Rattle.std.specs.Prelude.{◌||◌, ◌&&◌, nat_lt, flat_map}
+use Rattle.std.specs.Prelude.{◌||◌, ◌&&◌, nat_lt, flat_map, if◌then◌else◌}
 use Rattle.std.specs.List.{list_any}
 use Rattle.std.proofs.lemmas.Bool.{or_cases, or_right, and_parts, false≢true}
 use Rattle.mrc_base.specs.declared.PortRight.{PortRight}
@@ -9,10 +9,12 @@ use Rattle.mrc_base.specs.declared.Disp.{Disp}
 use Rattle.mrc_base.specs.declared.Disp.TheVariants.{MoveReceive, MoveSend, MoveSendOnce, CopySend}
 use Rattle.mrc_base.specs.declared.Disp.TheVariants.{MakeSend, MakeSendOnce}
 use Rattle.mrc_base.specs.Disposition.{needed, given}
+use Rattle.mrc_model.specs.Rights.{same_right}
 use Rattle.mrc_model.specs.Wiring.{Wiring, classes, label, forms, item_forms, admits}
+use Rattle.mrc_model.specs.Wiring.{accepts_replier, accepts_routine, has_routine, is_answered}
 use Rattle.mrc_wiring.specs.Slots.{takes, form_takes}
 use Rattle.mrc_wiring.proofs.Takers.{taker}
-use Rattle.mrc_slots.specs.Passing.{same_right, passes}
+use Rattle.mrc_slots.specs.Passing.{passes}
 
 pub same_right_is : (r q : PortRight) → same_right r q ≡ true → r ≡ q
 same_right_is Send Send e = refl
@@ -77,6 +79,13 @@ same_label_passes W d e c held give same =
     let make_once = same_label_takes W d e same MakeSendOnce c in
     cc
 
+pub same_label_replier : (W : Wiring) (d e : ℕ) → label W d ≡ label W e → (c : ℕ)
+    → accepts_replier W d c ≡ accepts_replier W e c
+unfolding accepts_replier accepts_routine
+same_label_replier W d e same c =
+    ap (λ items. if W.replies_fit then list_any (is_answered W c) items
+    else list_any (has_routine W) items) same
+
 -- what is taken is a class
 
 takes_class : (W : Wiring) (d : ℕ) (x : Disp) (c : ℕ) → takes W d x c ≡ true
@@ -86,7 +95,7 @@ takes_class W d x c e =
     let t = taker W d x c e in
     (and_parts (nat_lt c (classes W)) _ t.admitted).0
 
-and_false : (b : Bool) → (b && false) ≡ false
+pub and_false : (b : Bool) → (b && false) ≡ false
 and_false true = refl
 and_false false = refl
 

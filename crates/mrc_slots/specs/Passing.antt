@@ -1,21 +1,14 @@
 -- Step. Which rights a class takes, of what a task that can send to it holds, and as which rights
 -- they come there. This profile's own choice.
-use Rattle.std.specs.Prelude.{ℕ, Bool, true, false, ◌&&◌, ◌||◌, nat_lt}
+use Rattle.std.specs.Prelude.{ℕ, Bool, ◌&&◌, ◌||◌, nat_lt}
 use Rattle.mrc_base.specs.declared.PortRight.{PortRight}
-use Rattle.mrc_base.specs.declared.PortRight.TheVariants.{Send, Receive, SendOnce}
 use Rattle.mrc_base.specs.declared.Disp.{Disp}
 use Rattle.mrc_base.specs.declared.Disp.TheVariants.{MoveReceive, MoveSend, MoveSendOnce, CopySend}
 use Rattle.mrc_base.specs.declared.Disp.TheVariants.{MakeSend, MakeSendOnce}
 use Rattle.mrc_base.specs.Disposition.{needed, given}
-use Rattle.mrc_model.specs.Wiring.{Wiring, classes}
+use Rattle.mrc_model.specs.Rights.{same_right}
+use Rattle.mrc_model.specs.Wiring.{Wiring, classes, accepts_replier}
 use Rattle.mrc_wiring.specs.Slots.{takes}
-
--- the rights are the same
-abbrev pub same_right : PortRight → PortRight → Bool
-same_right Send Send = true
-same_right Receive Receive = true
-same_right SendOnce SendOnce = true
-same_right r q = false
 
 -- a slot of the disposition takes a right `held` on class c to class d, as the right `give`
 abbrev pub passes_by : Wiring → ℕ → ℕ → PortRight → PortRight → Disp → Bool
@@ -33,3 +26,8 @@ passes W d c held give =
 abbrev pub is_passed : Wiring → ℕ → ℕ → PortRight → PortRight → Bool
 is_passed W d c held give =
     nat_lt d (classes W) && (nat_lt c (classes W) && passes W d c held give)
+
+-- a reply right on a port of class c can come with a request to class d, and both are classes of
+-- the wiring
+abbrev pub is_replier : Wiring → ℕ → ℕ → Bool
+is_replier W d c = nat_lt d (classes W) && (nat_lt c (classes W) && accepts_replier W d c)

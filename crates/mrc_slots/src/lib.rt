@@ -3,6 +3,7 @@
 
 mod alike;
 mod masks;
+mod repliers;
 mod slots;
 
 pub use slots::Slots;

@@ -6,7 +6,7 @@ ghost use Rattle.mrc_facts.specs.Order.{right_number};
 ghost use Rattle.mrc_rows.specs.Limits.{limit_of_classes};
 ghost use Rattle.mrc_bits.specs.Bits.{is_set};
 ghost use Rattle.mrc_rows.specs.Rows.{words_of};
-ghost use Rattle.mrc_model.specs.Wiring.{classes, accepts_destroyed, accepts_routine, label};
+ghost use Rattle.mrc_model.specs.Wiring.{classes, accepts_destroyed, label};
 ghost use Rattle.mrc_wiring.specs.Table.{wiring_of};
 ghost use Rattle.mrc_wiring.specs.Admitting.{class_words};
 ghost use Rattle.mrc_wiring.specs.Slots.{takes};
@@ -22,14 +22,14 @@ use mrc_wiring::Wired;
 use std::alloc::{AllocError, Global};
 
 /// A row of zeros, with a bit for each place.
-fn zeros(alloc: Global, places: u16) -> Result<Vec<u64>, AllocError>
+pub(crate) fn zeros(alloc: Global, places: u16) -> Result<Vec<u64>, AllocError>
     ensures { IfOk result (λ row. row.items ≡ replicate ((places + 63) / 64) 0) }
 {
     vec![in alloc; 0u64; (places as usize + 63) / 64]
 }
 
 /// Sets the bit of the place, where the test passed.
-fn mark(row: &mut Vec<u64>, place: usize, test: bool)
+pub(crate) fn mark(row: &mut Vec<u64>, place: usize, test: bool)
     requires { place < 64 * vec_len row.old }
     ensures bits { (p : ℕ) →
         is_set row.new.items p ≡ ((p == place && test) || is_set row.old.items p) }
@@ -71,20 +71,6 @@ pub(crate) fn notified_row(alloc: Global, wired: &Wired) -> Result<Vec<u64>, All
     let mut row = zeros(alloc, count)?;
     for class in 0..count {
         let test = wired.accepts_destroyed(ClassId(class));
-        mark(&mut row, class as usize, test);
-    }
-    Ok(row)
-}
-
-/// The classes that accept requests of routines.
-pub(crate) fn routines_row(alloc: Global, wired: &Wired) -> Result<Vec<u64>, AllocError>
-    ensures { IfOk result (λ row. IsMask (accepts_routine (wiring_of wired.now))
-        (classes (wiring_of wired.now)) row.items) }
-{
-    let count = wired.classes();
-    let mut row = zeros(alloc, count)?;
-    for class in 0..count {
-        let test = wired.accepts_routine(ClassId(class));
         mark(&mut row, class as usize, test);
     }
     Ok(row)
@@ -172,8 +158,8 @@ fn taken_row(
     }
 }
 
-/// The row of a class and two rights, where those before it are made: a copy of the row of the class
-/// `like`, which accepts the same, or a new one.
+/// The row of a class and two rights, where those before it are made: a copy of the row of the
+/// class `like`, which accepts the same, or a new one.
 fn next_row(
     alloc: Global,
     wired: &Wired,

@@ -6,27 +6,27 @@ ghost use Rattle.mrc_base.specs.Limits.{limit_of_tasks};
 ghost use Rattle.mrc_rows.specs.Limits.{limit_of_classes, limit_of_words};
 ghost use Rattle.mrc_bits.specs.Bits.{is_set};
 ghost use Rattle.mrc_wiring.specs.Table.{wiring_of};
-ghost use Rattle.mrc_model.specs.Wiring.{classes, accepts_destroyed, accepts_routine};
-ghost use Rattle.mrc_slots.specs.Passing.{is_passed};
+ghost use Rattle.mrc_model.specs.Wiring.{classes, accepts_destroyed};
+ghost use Rattle.mrc_slots.specs.Passing.{is_passed, is_replier};
 ghost use Rattle.mrc_slots.specs.Masks.{HasMasks};
 
-use crate::masks::{all_places, notified_row, routines_row, row_at, row_number, taken_rows};
+use crate::masks::{all_places, notified_row, row_at, row_number, taken_rows};
+use crate::repliers::{Repliers, repliers_of};
 use mrc_base::PortRight;
-use mrc_bits::has_bit;
 use mrc_wiring::Wired;
 use std::alloc::{AllocError, Global};
 use std::marker::Model;
 
-/// A wiring, with what its classes take in rows of bits: a row of classes for each class, each right
-/// that is held and each right as which it comes. Beside those stand all classes, those that accept
-/// port-destroyed notices, and those that accept requests of routines.
+/// A wiring, with what its classes take in rows of bits: a row of classes for each class, each
+/// right that is held and each right as which it comes. It also has all classes, those that accept
+/// port-destroyed notices, and those that reply ports can have.
 #[derive(Drop)]
 pub struct Slots {
     wired: Wired,
     taken: Vec<Vec<u64>>,
     all: Vec<u64>,
     notified: Vec<u64>,
-    routines: Vec<u64>,
+    repliers: Repliers,
 }
 
 impl Model for Slots {
@@ -38,8 +38,7 @@ impl Model for Slots {
     ghost view = { λ s. s.wired };
 
     ghost invariant = { λ s.
-        HasMasks (wiring_of s.wired) s.taken.items s.all.items s.notified.items
-        s.routines.items };
+        HasMasks (wiring_of s.wired) s.taken.items s.all.items s.notified.items s.repliers };
 }
 
 impl Slots {
@@ -51,13 +50,13 @@ impl Slots {
         let taken = taken_rows(alloc, &wired)?;
         let all = all_places(alloc, wired.classes())?;
         let notified = notified_row(alloc, &wired)?;
-        let routines = routines_row(alloc, &wired)?;
+        let repliers = repliers_of(alloc, &wired)?;
         Ok(Slots {
             wired,
             taken,
             all,
             notified,
-            routines,
+            repliers,
         })
     }
 
@@ -78,12 +77,13 @@ impl Slots {
         self.all.as_slice()
     }
 
-    /// Whether the class accepts requests of routines, to which reply rights go.
-    pub fn takes_replies(&self, class: u16) -> bool
-        ensures { result ≡ (nat_lt class (classes (wiring_of self.now))
-            && accepts_routine (wiring_of self.now) class) }
+    /// The classes that reply ports of requests to class `to` can have.
+    pub fn repliers(&self, to: u16) -> &[u64]
+        ensures shown { (c : ℕ) →
+            is_set result.now c ≡ is_replier (wiring_of self.now) to c }
+        ensures few { length result.now ≤ limit_of_words }
     {
-        has_bit(self.routines.as_slice(), class as usize)
+        self.repliers.row(self.all.as_slice(), to)
     }
 
     /// The classes that accept port-destroyed notices.

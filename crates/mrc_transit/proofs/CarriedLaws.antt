@@ -37,17 +37,17 @@ same_ok : {A : Type 0} (a b : A) → ◌≡◌ {A = Try A} (Ok a) (Ok b) → a �
 same_ok a b is = ap (λ r. result_unwrap_or r a) is
 
 -- as many items are taken as there are names
-items_taken : (W : Wiring) (t : ℕ) (x : Disp) (sort i : ℕ) (s s2 : Store) (ns : List ℕ)
+items_taken : (W : Wiring) (own t : ℕ) (x : Disp) (sort i : ℕ) (s s2 : Store) (ns : List ℕ)
     (items : List Item)
-    → take_items W t x sort i s ns ≡ Ok (s2, items)
+    → take_items W own t x sort i s ns ≡ Ok (s2, items)
     → length items ≡ length ns
-items_taken W t x sort i s s2 [] items is =
+items_taken W own t x sort i s s2 [] items is =
     ap (λ (r : Store × List Item). length r.1) (sym (same_ok (s, []) (s2, items) is))
-items_taken W t x sort i s s2 (n ∷ ns) items is =
+items_taken W own t x sort i s s2 (n ∷ ns) items is =
     let one = bind_ok (take_item s t n x (Refused MachSendInvalidRight)) _ (s2, items) is in
-    let two = then_ok (admit_item W one.0.0 sort i one.0.1) _ (s2, items) one.1.1 in
-    let three = bind_ok (take_items W t x sort i one.0.0 ns) _ (s2, items) two in
-    let rest = items_taken W t x sort i one.0.0 three.0.0 ns three.0.1 three.1.0 in
+    let two = then_ok (admit_item W own one.0.0 sort i one.0.1) _ (s2, items) one.1.1 in
+    let three = bind_ok (take_items W own t x sort i one.0.0 ns) _ (s2, items) two in
+    let rest = items_taken W own t x sort i one.0.0 three.0.0 ns three.0.1 three.1.0 in
     let last : length items ≡ length (one.0.1 ∷ three.0.1) =
     ap (λ (r : Store × List Item). length r.1)
     (sym (same_ok (three.0.0, one.0.1 ∷ three.0.1) (s2, items) three.1.1)) in
@@ -59,17 +59,17 @@ no_names_fit [] = tt
 no_names_fit (x ∷ xs) = (omega arith, no_names_fit xs)
 
 -- an argument
-arg_taken : (W : Wiring) (t sort i : ℕ) (s s2 : Store) (a : Arg) (q : QueuedArg)
-    → take_arg W t sort i s a ≡ Ok (s2, q)
+arg_taken : (W : Wiring) (own t sort i : ℕ) (s s2 : Store) (a : Arg) (q : QueuedArg)
+    → take_arg W own t sort i s a ≡ Ok (s2, q)
     → OtherArg a (unnamed q)
-arg_taken W t sort i s s2 (Data name size number bytes) q is =
+arg_taken W own t sort i s s2 (Data name size number bytes) q is =
     ap (λ (r : Store × QueuedArg). unnamed r.1)
     (sym (same_ok (s, QueuedData name size number bytes) (s2, q) is))
-arg_taken W t sort i s s2 (Ports disp names) q is =
+arg_taken W own t sort i s s2 (Ports disp names) q is =
     let bad = Refused MachSendInvalidRight in
     let one = bind_ok (or_refuse (disp_of_number disp) bad) _ (s2, q) is in
-    let two = bind_ok (take_items W t one.0 sort i s names) _ (s2, q) one.1.1 in
-    let many = items_taken W t one.0 sort i s two.0.0 names two.0.1 two.1.0 in
+    let two = bind_ok (take_items W own t one.0 sort i s names) _ (s2, q) one.1.1 in
+    let many = items_taken W own t one.0 sort i s two.0.0 names two.0.1 two.1.0 in
     let same : QueuedItems (given one.0) two.0.1 ≡ q =
     ap (λ (r : Store × QueuedArg). r.1)
     (same_ok (two.0.0, QueuedItems (given one.0) two.0.1) (s2, q) two.1.1) in
@@ -81,21 +81,21 @@ arg_taken W t sort i s s2 (Ports disp names) q is =
     })
 
 -- all of them
-args_taken : (W : Wiring) (t i : ℕ) (shapes : List Shape) (s s2 : Store) (args : List Arg)
+args_taken : (W : Wiring) (own t i : ℕ) (shapes : List Shape) (s s2 : Store) (args : List Arg)
     (queued : List QueuedArg)
-    → take_args W t i shapes s args ≡ Ok (s2, queued)
+    → take_args W own t i shapes s args ≡ Ok (s2, queued)
     → OtherArgs args (map unnamed queued)
-args_taken W t i shapes s s2 [] queued is =
+args_taken W own t i shapes s s2 [] queued is =
     subst (λ (r : Store × List QueuedArg). OtherArgs [] (map unnamed r.1))
     (same_ok (s, []) (s2, queued) is) tt
-args_taken W t i shapes s s2 (a ∷ more) queued is =
-    let one = bind_ok (take_arg W t (first_sort shapes) i s a) _ (s2, queued) is in
-    let after = take_args W t (i + 1) (rest_of shapes) one.0.0 more in
+args_taken W own t i shapes s s2 (a ∷ more) queued is =
+    let one = bind_ok (take_arg W own t (first_sort shapes) i s a) _ (s2, queued) is in
+    let after = take_args W own t (i + 1) (rest_of shapes) one.0.0 more in
     let two = bind_ok after _ (s2, queued) one.1.1 in
     subst (λ (r : Store × List QueuedArg). OtherArgs (a ∷ more) (map unnamed r.1))
     (same_ok (two.0.0, one.0.1 ∷ two.0.1) (s2, queued) two.1.1) (
-      arg_taken W t (first_sort shapes) i s one.0.0 a one.0.1 one.1.0,
-      args_taken W t (i + 1) (rest_of shapes) one.0.0 two.0.0 more two.0.1 two.1.0,
+      arg_taken W own t (first_sort shapes) i s one.0.0 a one.0.1 one.1.0,
+      args_taken W own t (i + 1) (rest_of shapes) one.0.0 two.0.0 more two.0.1 two.1.0,
     )
 
 -- a message with these arguments, and nothing else
@@ -120,12 +120,13 @@ blank_fits args = record {
   id = omega arith;
 }
 
-pub taken_carried : (W : Wiring) (t i : ℕ) (shapes : List Shape) (s s2 : Store) (args : List Arg)
+pub taken_carried : (W : Wiring) (own t i : ℕ) (shapes : List Shape) (s s2 : Store) (args : List
+    Arg)
     (queued : List QueuedArg)
-    → take_args W t i shapes s args ≡ Ok (s2, queued)
+    → take_args W own t i shapes s args ≡ Ok (s2, queued)
     → AreLawful args
     → AreCarried queued
-taken_carried W t i shapes s s2 args queued is lawful =
+taken_carried W own t i shapes s s2 args queued is lawful =
     (other_message_lawful (with_args args) (with_args (map unnamed queued))
     (record { header = blank_fits args; args = lawful }) (blank_fits (map unnamed queued))
-    (args_taken W t i shapes s s2 args queued is)).args
+    (args_taken W own t i shapes s s2 args queued is)).args

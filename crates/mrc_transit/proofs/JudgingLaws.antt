@@ -167,7 +167,8 @@ module _ (s : Store) (t n : ℕ) (x : Disp) (g : Taking) where
           refl,
           λ e. item_of_live s t n x g null dead (ap (λ o. dead_taken o x) at ∙ none)
               e h got.port (given x)
-              (staged_taken s t n x g e h.space got.port (given x) h (rw (at, is) refl) refl refl) refl,
+              (staged_taken s t n x g e h.space got.port (given x) h (rw (at, is) refl) refl refl)
+              refl,
         )
 
     by_dead : (o : Option Entry) (d : Option (Option Entry))
@@ -311,55 +312,56 @@ module _ (s : Store) (t n : ℕ) (g : Taking) where
 
 -- a name of an argument
 
-module _ (W : Wiring) (s : Store) (t n : ℕ) (x : Disp) (sort i : ℕ) (g : Taking) (y : Space)
-    (at : g.space ≡ y) (o : Option Entry) (held : get y n ≡ o) where
+module _ (W : Wiring) (own : ℕ) (s : Store) (t n : ℕ) (x : Disp) (sort i : ℕ) (g : Taking)
+    (y : Space) (at : g.space ≡ y) (o : Option Entry) (held : get y n ≡ o) where
   pub name_leaves : (item : Item)
       → item_of o n x ≡ Some item
-      → admit_item W s sort i item ≡ Ok tt
-      → Leaves s t (after_name x y n) (take_admitted W t x sort i (staged s t g) n)
+      → admit_item W own s sort i item ≡ Ok tt
+      → Leaves s t (after_name x y n) (take_admitted W own t x sort i (staged s t g) n)
   name_leaves item is ok =
       let got = item_gives s t n x g o item (ap (λ z. get z n) at ∙ held) is in (
         got.0,
         item,
         got.1 ∙ ap (λ z. after_name x z n) at,
-        admitted W s t n x sort i g got.0 item (got.2 (Refused MachSendInvalidRight)) ok,
+        admitted W own s t n x sort i g got.0 item (got.2 (Refused MachSendInvalidRight)) ok,
       )
 
   pub name_denied : (item : Item) (e : Reply)
       → item_of o n x ≡ Some item
-      → admit_item W s sort i item ≡ Err e
-      → take_admitted W t x sort i (staged s t g) n ≡ Err e
+      → admit_item W own s sort i item ≡ Err e
+      → take_admitted W own t x sort i (staged s t g) n ≡ Err e
   name_denied item e is fails =
       let got = item_gives s t n x g o item (ap (λ z. get z n) at ∙ held) is in
-      not_admitted W s t n x sort i g got.0 item (got.2 (Refused MachSendInvalidRight)) e fails
+      not_admitted W own s t n x sort i g got.0 item (got.2 (Refused MachSendInvalidRight)) e fails
 
   pub name_lacks : item_of o n x ≡ None
-      → take_admitted W t x sort i (staged s t g) n ≡ Err (Refused MachSendInvalidRight)
+      → take_admitted W own t x sort i (staged s t g) n ≡ Err (Refused MachSendInvalidRight)
   name_lacks none =
-      name_refused W t sort i n x (staged s t g) (Fault (faults.Refused MachSendInvalidRight))
+      name_refused W own t sort i n x (staged s t g) (Fault (faults.Refused MachSendInvalidRight))
       (item_lacks s t n x g o (ap (λ z. get z n) at ∙ held) none (Refused MachSendInvalidRight))
 
 -- an argument of names
 
-module _ (W : Wiring) (s : Store) (t sort i : ℕ) (y : Space) (a : Argument) (x : Disp)
-    (names : List ℕ) (is : a ≡ arguments.Ports x names) (g : Taking) where
+module _ (W : Wiring) (own : ℕ) (s : Store) (t sort i : ℕ) (y : Space) (a : Argument)
+    (x : Disp) (names : List ℕ) (is : a ≡ arguments.Ports x names) (g : Taking) where
   pub arg_leaves : Leaves s t (after_names x names y)
-      (take_items W t x sort i (staged s t g) names)
-      → Leaves s t (after_arg a y) (take_arg W t sort i (staged s t g) (argument_of a))
+      (take_items W own t x sort i (staged s t g) names)
+      → Leaves s t (after_arg a y) (take_arg W own t sort i (staged s t g) (argument_of a))
   arg_leaves got = (
     got.0,
     QueuedItems (given x) got.1,
     got.2 ∙ ap (λ b. after_arg b y) (sym is),
-    ap (λ b. take_arg W t sort i (staged s t g) (argument_of b)) is
-        ∙ arg_taken W t sort i (staged s t g) (staged s t got.0) x names got.1 (given x) got.3 refl,
+    ap (λ b. take_arg W own t sort i (staged s t g) (argument_of b)) is
+        ∙ arg_taken W own t sort i (staged s t g) (staged s t got.0) x names got.1 (given x) got.3
+        refl,
   )
 
   pub arg_stops : (fault : SendFault)
-      → take_items W t x sort i (staged s t g) names ≡ Err (fault_reply fault)
-      → take_arg W t sort i (staged s t g) (argument_of a) ≡ Err (fault_reply fault)
+      → take_items W own t x sort i (staged s t g) names ≡ Err (fault_reply fault)
+      → take_arg W own t sort i (staged s t g) (argument_of a) ≡ Err (fault_reply fault)
   arg_stops fault fails =
-      ap (λ b. take_arg W t sort i (staged s t g) (argument_of b)) is
-      ∙ arg_refused W t sort i (staged s t g) x names (Fault fault) fails
+      ap (λ b. take_arg W own t sort i (staged s t g) (argument_of b)) is
+      ∙ arg_refused W own t sort i (staged s t g) x names (Fault fault) fails
 
 -- the destination's right
 
@@ -394,22 +396,22 @@ onto_none (Err e) = refl
 
 -- the names of one argument
 
-module _ (W : Wiring) (s : Store) (t : ℕ) (x : Disp) (sort i : ℕ) (y : Space)
+module _ (W : Wiring) (own : ℕ) (s : Store) (t : ℕ) (x : Disp) (sort i : ℕ) (y : Space)
     (names : List ℕ) where
   -- so many names are judged: from each store after takings that leave this space
   abbrev pub NamesJudged : ℕ → Type 0
   NamesJudged k = (g : Taking) → g.space ≡ y → (h : Taking) × (items : List Item)
       × (h.space ≡ after_names x (take k names) y)
-      × ItemsSoFar W t x sort i (staged s t g) (staged s t h) items k names
+      × ItemsSoFar W own t x sort i (staged s t g) (staged s t h) items k names
 
   pub names_start : NamesJudged 0
-  names_start g at = (g, [], at, onto_none (take_items W t x sort i (staged s t g) names))
+  names_start g at = (g, [], at, onto_none (take_items W own t x sort i (staged s t g) names))
 
   module _ (k n : ℕ) (far : NamesJudged k) (less : k < length names)
       (here : n ≡ get_or names k n) where
     pub names_judged : ((g : Taking) → g.space ≡ after_names x (take k names) y
         → Leaves s t (after_name x (after_names x (take k names) y) n)
-        (take_admitted W t x sort i (staged s t g) n))
+        (take_admitted W own t x sort i (staged s t g) n))
         → NamesJudged (k + 1)
     names_judged ok g at =
         let f = far g at in
@@ -417,42 +419,42 @@ module _ (W : Wiring) (s : Store) (t : ℕ) (x : Disp) (sort i : ℕ) (y : Space
           got.0,
           f.1 ++ got.1 ∷ [],
           got.2 ∙ sym (names_turn x y names k n less here),
-          items_turn W t x sort i (staged s t g) (staged s t f.0) f.1 k n names f.3 less here
+          items_turn W own t x sort i (staged s t g) (staged s t f.0) f.1 k n names f.3 less here
               (staged s t got.0) got.1 got.3,
         )
 
     pub names_refused : (fault : SendFault)
         → ((g : Taking) → g.space ≡ after_names x (take k names) y
-        → take_admitted W t x sort i (staged s t g) n ≡ Err (fault_reply fault))
+        → take_admitted W own t x sort i (staged s t g) n ≡ Err (fault_reply fault))
         → (g : Taking)
         → g.space ≡ y
-        → take_items W t x sort i (staged s t g) names ≡ Err (fault_reply fault)
+        → take_items W own t x sort i (staged s t g) names ≡ Err (fault_reply fault)
     names_refused fault not g at =
         let f = far g at in
-        items_refused W t x sort i (staged s t g) (staged s t f.0) f.1 k n names f.3 less here
+        items_refused W own t x sort i (staged s t g) (staged s t f.0) f.1 k n names f.3 less here
         (Fault fault) (not f.0 f.2)
 
   pub names_done : (k : ℕ) → NamesJudged k → length names ≤ k
       → (g : Taking)
       → g.space ≡ y
-      → Leaves s t (after_names x names y) (take_items W t x sort i (staged s t g) names)
+      → Leaves s t (after_names x names y) (take_items W own t x sort i (staged s t g) names)
   names_done k far most g at =
       let f = far g at in (
         f.0,
         f.1,
         f.2 ∙ names_all x y names k most,
-        items_done W t x sort i (staged s t g) (staged s t f.0) f.1 k names f.3 most,
+        items_done W own t x sort i (staged s t g) (staged s t f.0) f.1 k names f.3 most,
       )
 
 -- all arguments
 
-module _ (W : Wiring) (s : Store) (t : ℕ) (shapes : List Shape) (y : Space)
+module _ (W : Wiring) (own : ℕ) (s : Store) (t : ℕ) (shapes : List Shape) (y : Space)
     (args : List Argument) where
   -- what the rest of the arguments gives stands behind these
   abbrev pub Behind : Store → Store → List QueuedArg → ℕ → Type 0
   Behind a z queued k =
-      take_args W t 0 shapes a (arguments_of args)
-      ≡ onto queued (take_args W t k (drop k shapes) z (arguments_of (drop k args)))
+      take_args W own t 0 shapes a (arguments_of args)
+      ≡ onto queued (take_args W own t k (drop k shapes) z (arguments_of (drop k args)))
 
   -- so many arguments are judged
   abbrev pub ArgsJudged : ℕ → Type 0
@@ -462,21 +464,21 @@ module _ (W : Wiring) (s : Store) (t : ℕ) (shapes : List Shape) (y : Space)
 
   pub args_start : ArgsJudged 0
   args_start g at =
-      (g, [], at, onto_none (take_args W t 0 shapes (staged s t g) (arguments_of args)))
+      (g, [], at, onto_none (take_args W own t 0 shapes (staged s t g) (arguments_of args)))
 
   module _ (k : ℕ) (a : Argument) (sort : ℕ) (far : ArgsJudged k) (less : k < length args)
       (here : a ≡ get_or args k a) (sort_is : sort ≡ first_sort (drop k shapes)) where
     at_arg : (b z : Store) (queued : List QueuedArg) → Behind b z queued k
-        → take_args W t 0 shapes b (arguments_of args)
-        ≡ onto queued (take_args W t k (drop k shapes) z
+        → take_args W own t 0 shapes b (arguments_of args)
+        ≡ onto queued (take_args W own t k (drop k shapes) z
         (argument_of a ∷ arguments_of (drop (k + 1) args)))
     at_arg b z queued is =
-        is ∙ ap (λ rest. onto queued (take_args W t k (drop k shapes) z (arguments_of rest)))
+        is ∙ ap (λ rest. onto queued (take_args W own t k (drop k shapes) z (arguments_of rest)))
         (at_place args k a less here)
 
     pub args_judged : ((g : Taking) → g.space ≡ after_args (take k args) y
         → Leaves s t (after_arg a (after_args (take k args) y))
-        (take_arg W t sort k (staged s t g) (argument_of a)))
+        (take_arg W own t sort k (staged s t g) (argument_of a)))
         → ArgsJudged (k + 1)
     args_judged ok g at =
         let f = far g at in
@@ -486,40 +488,43 @@ module _ (W : Wiring) (s : Store) (t : ℕ) (shapes : List Shape) (y : Space)
           f.1 ++ got.1 ∷ [],
           got.2 ∙ sym (args_turn y args k a less here),
           at_arg (staged s t g) (staged s t f.0) f.1 f.3
-              ∙ ap (onto f.1) (args_more W t k (drop k shapes) (staged s t f.0) (staged s t got.0)
+              ∙ ap (onto f.1) (args_more W own t k (drop k shapes) (staged s t f.0) (staged s t
+              got.0)
               (argument_of a) rest got.1
-              (ap (λ n. take_arg W t n k (staged s t f.0) (argument_of a)) (sym sort_is) ∙ got.3))
-              ∙ onto_more f.1 got.1 (take_args W t (k + 1) (rest_of (drop k shapes))
+              (ap (λ n. take_arg W own t n k (staged s t f.0) (argument_of a)) (sym sort_is) ∙
+              got.3))
+              ∙ onto_more f.1 got.1 (take_args W own t (k + 1) (rest_of (drop k shapes))
               (staged s t got.0) rest)
-              ∙ ap (λ ss. onto (f.1 ++ got.1 ∷ []) (take_args W t (k + 1) ss (staged s t got.0) rest))
+              ∙ ap (λ ss. onto (f.1 ++ got.1 ∷ []) (take_args W own t (k + 1) ss (staged s t got.0)
+              rest))
               (rest_drop k shapes),
         )
 
     pub args_refused : (fault : SendFault)
         → ((g : Taking) → g.space ≡ after_args (take k args) y
-        → take_arg W t sort k (staged s t g) (argument_of a) ≡ Err (fault_reply fault))
+        → take_arg W own t sort k (staged s t g) (argument_of a) ≡ Err (fault_reply fault))
         → (g : Taking)
         → g.space ≡ y
-        → take_args W t 0 shapes (staged s t g) (arguments_of args) ≡ Err (fault_reply fault)
+        → take_args W own t 0 shapes (staged s t g) (arguments_of args) ≡ Err (fault_reply fault)
     args_refused fault not g at =
         let f = far g at in
         at_arg (staged s t g) (staged s t f.0) f.1 f.3
-        ∙ ap (onto f.1) (args_stop W t k (drop k shapes) (staged s t f.0) (argument_of a)
+        ∙ ap (onto f.1) (args_stop W own t k (drop k shapes) (staged s t f.0) (argument_of a)
         (arguments_of (drop (k + 1) args)) (Fault fault)
-        (ap (λ n. take_arg W t n k (staged s t f.0) (argument_of a)) (sym sort_is)
+        (ap (λ n. take_arg W own t n k (staged s t f.0) (argument_of a)) (sym sort_is)
         ∙ not f.0 f.2))
 
   pub args_done : (k : ℕ) → ArgsJudged k → length args ≤ k
       → (g : Taking)
       → g.space ≡ y
       → Leaves s t (after_args args y)
-      (take_args W t 0 shapes (staged s t g) (arguments_of args))
+      (take_args W own t 0 shapes (staged s t g) (arguments_of args))
   args_done k far most g at =
       let f = far g at in (
         f.0,
         f.1,
         f.2 ∙ args_all y args k most,
-        f.3 ∙ ap (λ rest. onto f.1 (take_args W t k (drop k shapes) (staged s t f.0)
+        f.3 ∙ ap (λ rest. onto f.1 (take_args W own t k (drop k shapes) (staged s t f.0)
             (arguments_of rest))) (past args k most)
             ∙ ap (λ qs. Ok (staged s t f.0, qs)) (append-nil f.1),
       )

@@ -20,6 +20,7 @@ use Rattle.mrc_model.specs.Message.{Message, Arg}
 use Rattle.mrc_model.specs.Wiring.{Wiring, form_shapes}
 use Rattle.mrc_model.specs.Filter.{judge}
 use Rattle.mrc_model.specs.World.{Space, QueuedArg, Port, Store, World, space, set_space}
+use Rattle.mrc_model.specs.World.{task_class}
 use Rattle.mrc_model.specs.Reply.{Reply, Refused, Done, Try, ◌>>=◌, or_refuse}
 use Rattle.mrc_model.specs.Death.{append}
 use Rattle.mrc_model.specs.Space.{take, take_from, Taken, put_entry, restart_if}
@@ -37,12 +38,12 @@ use Rattle.mrc_transit.specs.declared.sending.SendFault.{SendFault}
 use Rattle.mrc_transit.specs.declared.sending.SendFault.TheVariants as faults
 use Rattle.mrc_names.specs.Leaving.{patched, AreRests}
 use Rattle.mrc_transit.specs.Staging.{Taking, staged, restart_each, IsRefusedBy}
-use Rattle.mrc_transit.specs.Sending.{IsSendRefusal, refused_by, fault_reply}
+use Rattle.mrc_transit.specs.Sending.{IsSendRefusal, refused_by, fault_reply, judge_reply}
 use Rattle.mrc_transit.specs.SendPlans.{SendPlan, sent, IsReady, IsPlanOf, IsNotPlanned, IsNoRoom}
 use Rattle.mrc_transit.specs.SendPlans.{destination_disp}
 use Rattle.mrc_transit.proofs.SendLaws.{bad_destination, plain, send_no_disp, send_no_right}
 use Rattle.mrc_transit.proofs.SendLaws.{send_no_port, send_denied, send_no_reply, send_no_args}
-use Rattle.mrc_transit.proofs.SendLaws.{send_full, send_done}
+use Rattle.mrc_transit.proofs.SendLaws.{send_unfit, send_full, send_done}
 
 -- a space that is there already
 put_same : (s : Store) (t : ℕ) (x : Space) → get s.spaces t ≡ Some x → set_space s t x ≡ s
@@ -128,10 +129,11 @@ either_fails false b is = refl
 
 -- each exit
 
-module _ (W : Wiring) (s : Store) (t : ℕ) (m : Message) (h : Header) (has : HasHeader m h) where
+module _ (W : Wiring) (s : Store) (own t : ℕ) (m : Message) (h : Header)
+    (has : HasHeader m h) where
   pub plan_no_disp : destination_disp h.remote_disp ≡ None
-      → IsNotPlanned (Fault (faults.Refused MachSendInvalidDest)) W s t m
-  plan_no_disp none = λ w.
+      → IsNotPlanned (Fault (faults.Refused MachSendInvalidDest)) W s own t m
+  plan_no_disp none = λ w of_class.
       send_no_disp W (with_store w s) t m (ap destination_disp (sym has.remote_disp) ∙ none)
 
   module _ (x : Disp) (disp : destination_disp h.remote_disp ≡ Some x) where
@@ -139,8 +141,8 @@ module _ (W : Wiring) (s : Store) (t : ℕ) (m : Message) (h : Header) (has : Ha
     disp_of = ap destination_disp (sym has.remote_disp) ∙ disp
 
     pub plan_no_space : get s.spaces t ≡ None
-        → IsNotPlanned (Fault (faults.Refused MachSendInvalidDest)) W s t m
-    plan_no_space none = λ w.
+        → IsNotPlanned (Fault (faults.Refused MachSendInvalidDest)) W s own t m
+    plan_no_space none = λ w of_class.
         send_no_right W (with_store w s) t m x disp_of
         (take_none s t m.remote x bad_destination none)
 
@@ -155,11 +157,11 @@ module _ (W : Wiring) (s : Store) (t : ℕ) (m : Message) (h : Header) (has : Ha
 
       pub plan_no_right : (fault : OrMemory NotHeld)
           → IsRefusedBy fault (λ e. take (staged s t g) t h.remote_port x e e)
-          → IsNotPlanned (refused_by MachSendInvalidDest fault) W s t m
-      plan_no_right (Fault held) refused = λ w.
+          → IsNotPlanned (refused_by MachSendInvalidDest fault) W s own t m
+      plan_no_right (Fault held) refused = λ w of_class.
           send_no_right W (with_store w s) t m x disp_of
           (from_start bad_destination _ (refused bad_destination))
-      plan_no_right Memory refused = λ w. tt
+      plan_no_right Memory refused = λ w of_class. tt
 
       module _ (g1 : Taking) (d : ℕ)
           (given_up : (e : Reply)
@@ -175,8 +177,8 @@ module _ (W : Wiring) (s : Store) (t : ℕ) (m : Message) (h : Header) (has : Ha
             (plain W (with_store w s) t m x disp_of) bad_destination (staged s t g1) d took) ∙ is
 
         pub plan_no_port : get s.ports d ≡ None
-            → IsNotPlanned (Fault (faults.Refused MachSendInvalidDest)) W s t m
-        plan_no_port none = λ w.
+            → IsNotPlanned (Fault (faults.Refused MachSendInvalidDest)) W s own t m
+        plan_no_port none = λ w of_class.
             send_no_port W (with_store w s) t m x disp_of (staged s t g1) d took
             (at_port w None none)
 
@@ -184,8 +186,8 @@ module _ (W : Wiring) (s : Store) (t : ℕ) (m : Message) (h : Header) (has : Ha
             (class_is : class ≡ dest.class) where
           pub plan_denied : (denied : Denied)
               → IsJudged W (Err denied) (judge W class m)
-              → IsNotPlanned (Fault (faults.Denied denied)) W s t m
-          plan_denied denied judged = λ w.
+              → IsNotPlanned (Fault (faults.Denied denied)) W s own t m
+          plan_denied denied judged = λ w of_class.
               send_denied W (with_store w s) t m x disp_of (staged s t g1) d took dest
               (at_port w (Some dest) live) denied
               (ap (λ c. judge W c m) (sym class_is) ∙ judged)
@@ -206,133 +208,155 @@ module _ (W : Wiring) (s : Store) (t : ℕ) (m : Message) (h : Header) (has : Ha
 
               pub plan_no_reply : (fault : OrMemory NotHeld)
                   → IsRefusedBy fault (λ e. take_reply_by (staged s t g1) t h.local_port o e)
-                  → IsNotPlanned (refused_by MachSendInvalidReply fault) W s t m
-              plan_no_reply (Fault held) refused = λ w.
+                  → IsNotPlanned (refused_by MachSendInvalidReply fault) W s own t m
+              plan_no_reply (Fault held) refused = λ w of_class.
                   send_no_reply W (with_store w s) t m x disp_of (staged s t g1) d took dest
                   (at_port w (Some dest) live) form.found.now form_is
                   (of_reply (Refused MachSendInvalidReply) _
                   (refused (Refused MachSendInvalidReply)))
-              plan_no_reply Memory refused = λ w. tt
+              plan_no_reply Memory refused = λ w of_class. tt
 
               module _ (g2 : Taking) (reply : Item)
                   (answered : (e : Reply)
                   → take_reply_by (staged s t g1) t h.local_port o e
-                  ≡ Ok (staged s t g2, reply)) (args : List Arg) (args_are : args ≡ m.args) where
+                  ≡ Ok (staged s t g2, reply)) where
                 replied : take_reply_by (staged s t g1) t m.local (disp_of_number m.local_disp)
                     (Refused MachSendInvalidReply) ≡ Ok (staged s t g2, reply)
                 replied =
                     of_reply (Refused MachSendInvalidReply) _
                     (answered (Refused MachSendInvalidReply))
 
-                of_args : (r : Try (Store × List QueuedArg))
-                    → take_args W t 0 (form_shapes form.found.now) (staged s t g2) args ≡ r
-                    → take_args W t 0 (form_shapes form.found.now) (staged s t g2) m.args ≡ r
-                of_args r is =
-                    ap (take_args W t 0 (form_shapes form.found.now) (staged s t g2)) (sym args_are)
-                    ∙ is
+                of_judged : (r : Try (Unit {0}))
+                    → judge_reply W s own class h.id reply ≡ r
+                    → judge_reply W s own dest.class m.id reply ≡ r
+                of_judged r is =
+                    ap (λ c. judge_reply W s own c m.id reply) (sym class_is)
+                    ∙ ap (λ n. judge_reply W s own class n reply) (sym has.id) ∙ is
 
-                pub plan_no_args : (fault : OrMemory SendFault)
-                    → IsSendRefusal fault
-                    (take_args W t 0 (form_shapes form.found.now) (staged s t g2) args)
-                    → IsNotPlanned fault W s t m
-                plan_no_args (Fault fault) refused = λ w.
-                    send_no_args W (with_store w s) t m x disp_of (staged s t g1) d took dest
+                pub plan_unfit : (fault : SendFault)
+                    → judge_reply W s own class h.id reply ≡ Err (fault_reply fault)
+                    → IsNotPlanned (Fault fault) W s own t m
+                plan_unfit fault refused = λ w of_class.
+                    send_unfit W (with_store w s) t m x disp_of (staged s t g1) d took dest
                     (at_port w (Some dest) live) form.found.now form_is (staged s t g2)
-                    reply replied
-                    (fault_reply fault) (of_args _ refused)
-                plan_no_args Memory refused = λ w. tt
+                    reply replied own of_class (fault_reply fault) (of_judged _ refused)
 
-                module _ (g3 : Taking) (queued : List QueuedArg)
-                    (taken : take_args W t 0 (form_shapes form.found.now) (staged s t g2) args
-                    ≡ Ok (staged s t g3, queued)) (b : Bool) (once : b ≡ is_once (given x)) where
-                  pub plan_no_room : (fault : OrMemory SendFault)
-                      → IsNoRoom fault dest b
-                      → IsNotPlanned fault W s t m
-                  plan_no_room (Fault fault) full = λ w.
-                      send_full W (with_store w s) t m x disp_of (staged s t g1) d took dest
+                module _ (good : judge_reply W s own class h.id reply ≡ Ok tt) (args : List Arg)
+                    (args_are : args ≡ m.args) where
+                  of_args : (r : Try (Store × List QueuedArg))
+                      → take_args W own t 0 (form_shapes form.found.now) (staged s t g2) args ≡ r
+                      → take_args W own t 0 (form_shapes form.found.now) (staged s t g2) m.args ≡ r
+                  of_args r is =
+                      ap (take_args W own t 0 (form_shapes form.found.now) (staged s t g2)) (sym
+                      args_are)
+                      ∙ is
+
+                  pub plan_no_args : (fault : OrMemory SendFault)
+                      → IsSendRefusal fault
+                      (take_args W own t 0 (form_shapes form.found.now) (staged s t g2) args)
+                      → IsNotPlanned fault W s own t m
+                  plan_no_args (Fault fault) refused = λ w of_class.
+                      send_no_args W (with_store w s) t m x disp_of (staged s t g1) d took dest
                       (at_port w (Some dest) live) form.found.now form_is (staged s t g2)
-                      reply replied
-                      (staged s t g3) queued (of_args _ taken)
-                      (ap (λ k. not k && nat_le dest.limit (length dest.queue)) (sym once)
-                      ∙ full.1)
-                      ∙ ap (λ f. Err (fault_reply f)) (sym full.0)
-                  plan_no_room Memory full = λ w. tt
+                      reply replied own of_class (of_judged _ good)
+                      (fault_reply fault) (of_args _ refused)
+                  plan_no_args Memory refused = λ w of_class. tt
 
-                  pub plan_at_limit : (not b && nat_le dest.limit (length dest.queue)) ≡ true
-                      → IsNotPlanned (Fault (faults.Refused MachSendTimedOut)) W s t m
-                  plan_at_limit full = plan_no_room (Fault (faults.Refused MachSendTimedOut))
-                      (refl, full)
-
-                  pub plan_granted : (not b && nat_le dest.limit (length dest.queue)) ≡ false
-                      → (w : World)
-                      → IsOk (call_send W (with_store w s) t m)
-                  plan_granted below w =
-                      subst IsOk (sym (send_done W (with_store w s) t m x disp_of (staged s t g1) d
-                      took dest (at_port w (Some dest) live) form.found.now form_is (staged s t g2)
-                      reply replied (staged s t g3) queued (of_args _ taken)
-                      (ap (λ k. not k && nat_le dest.limit (length dest.queue)) (sym once)
-                      ∙ below))) refl
-
-                  module _ (room : is_full_for dest b ≡ false) (base : g3.base ≡ y)
-                      (changes : Map (Option Entry)) (left : patched g3.base changes ≡ g3.space)
-                      (rests : AreRests g3.base changes) (moved : List ℕ)
-                      (moved_is : moved ≡ g3.moved) (plan : SendPlan)
-                      (plan_is : plan ≡ record {
-                        sender = t;
-                        changes = changes;
-                        moved = moved;
-                        destination = d;
-                        parcel = record {
-                          by_once = b;
-                          id = h.id;
-                          reply = reply;
-                          args = queued;
-                        };
-                      }) where
-                    -- the sender's space
-                    from_base : g3.base ≡ space s t
-                    from_base = base ∙ ap (λ o. unwrap_or o empty) (sym there)
-
-                    -- what was taken is what the plan leaves
-                    staged_so : staged s t g3 ≡ staged s t record {
-                      base = space s t;
-                      space = patched (space s t) changes;
-                      moved = moved;
-                    }
-                    unfolding staged
-                    staged_so =
-                        ap (λ z. restart_each (set_space s t z) g3.moved) (sym left)
-                        ∙ ap (λ z. restart_each (set_space s t (patched z changes)) g3.moved)
-                        from_base
-                        ∙ ap (restart_each (set_space s t (patched (space s t) changes)))
-                        (sym moved_is)
-
-                    pub plan_done : IsPlanOf W s t m plan
-                    unfolding sent
-                    plan_done w =
-                        send_done W (with_store w s) t m x disp_of (staged s t g1) d took dest
+                  module _ (g3 : Taking) (queued : List QueuedArg)
+                      (taken : take_args W own t 0 (form_shapes form.found.now) (staged s t g2) args
+                      ≡ Ok (staged s t g3, queued)) (b : Bool) (once : b ≡ is_once (given x)) where
+                    pub plan_no_room : (fault : OrMemory SendFault)
+                        → IsNoRoom fault dest b
+                        → IsNotPlanned fault W s own t m
+                    plan_no_room (Fault fault) full = λ w of_class.
+                        send_full W (with_store w s) t m x disp_of (staged s t g1) d took dest
                         (at_port w (Some dest) live) form.found.now form_is (staged s t g2)
-                        reply replied
+                        reply replied own of_class (of_judged _ good)
                         (staged s t g3) queued (of_args _ taken)
                         (ap (λ k. not k && nat_le dest.limit (length dest.queue)) (sym once)
-                        ∙ either_fails _ _ room)
-                        ∙ (λ i. Ok (
-                          with_store w (append (staged_so i) d record {
-                            by_once = sym once i;
-                            id = sym has.id i;
+                        ∙ full.1)
+                        ∙ ap (λ f. Err (fault_reply f)) (sym full.0)
+                    plan_no_room Memory full = λ w of_class. tt
+
+                    pub plan_at_limit : (not b && nat_le dest.limit (length dest.queue)) ≡ true
+                        → IsNotPlanned (Fault (faults.Refused MachSendTimedOut)) W s own t m
+                    plan_at_limit full = plan_no_room (Fault (faults.Refused MachSendTimedOut))
+                        (refl, full)
+
+                    pub plan_granted : (not b && nat_le dest.limit (length dest.queue)) ≡ false
+                        → (w : World)
+                        → task_class w t ≡ own
+                        → IsOk (call_send W (with_store w s) t m)
+                    plan_granted below w of_class =
+                        subst IsOk (sym (send_done W (with_store w s) t m x disp_of (staged s t g1)
+                        d
+                        took dest (at_port w (Some dest) live) form.found.now form_is (staged s t
+                        g2)
+                        reply replied own of_class (of_judged _ good) (staged s t g3) queued
+                        (of_args _ taken)
+                        (ap (λ k. not k && nat_le dest.limit (length dest.queue)) (sym once)
+                        ∙ below))) refl
+
+                    module _ (room : is_full_for dest b ≡ false) (base : g3.base ≡ y)
+                        (changes : Map (Option Entry)) (left : patched g3.base changes ≡ g3.space)
+                        (rests : AreRests g3.base changes) (moved : List ℕ)
+                        (moved_is : moved ≡ g3.moved) (plan : SendPlan)
+                        (plan_is : plan ≡ record {
+                          sender = t;
+                          changes = changes;
+                          moved = moved;
+                          destination = d;
+                          parcel = record {
+                            by_once = b;
+                            id = h.id;
                             reply = reply;
                             args = queued;
-                          }),
-                          Done,
-                        ))
-                        ∙ ap (λ p. Ok (with_store w (sent s p), Done)) (sym plan_is)
+                          };
+                        }) where
+                      -- the sender's space
+                      from_base : g3.base ≡ space s t
+                      from_base = base ∙ ap (λ o. unwrap_or o empty) (sym there)
 
-                    pub plan_ready : IsReady s plan
-                    plan_ready =
-                        subst (IsReady s) (sym plan_is) record {
-                          has_space = ap is_some there;
-                          rests = subst (λ z. AreRests z changes) from_base rests;
-                          port = dest;
-                          live = live;
-                          room = room;
-                        }
+                      -- what was taken is what the plan leaves
+                      staged_so : staged s t g3 ≡ staged s t record {
+                        base = space s t;
+                        space = patched (space s t) changes;
+                        moved = moved;
+                      }
+                      unfolding staged
+                      staged_so =
+                          ap (λ z. restart_each (set_space s t z) g3.moved) (sym left)
+                          ∙ ap (λ z. restart_each (set_space s t (patched z changes)) g3.moved)
+                          from_base
+                          ∙ ap (restart_each (set_space s t (patched (space s t) changes)))
+                          (sym moved_is)
+
+                      pub plan_done : IsPlanOf W s own t m plan
+                      unfolding sent
+                      plan_done w of_class =
+                          send_done W (with_store w s) t m x disp_of (staged s t g1) d took dest
+                          (at_port w (Some dest) live) form.found.now form_is (staged s t g2)
+                          reply replied own of_class (of_judged _ good)
+                          (staged s t g3) queued (of_args _ taken)
+                          (ap (λ k. not k && nat_le dest.limit (length dest.queue)) (sym once)
+                          ∙ either_fails _ _ room)
+                          ∙ (λ i. Ok (
+                            with_store w (append (staged_so i) d record {
+                              by_once = sym once i;
+                              id = sym has.id i;
+                              reply = reply;
+                              args = queued;
+                            }),
+                            Done,
+                          ))
+                          ∙ ap (λ p. Ok (with_store w (sent s p), Done)) (sym plan_is)
+
+                      pub plan_ready : IsReady s plan
+                      plan_ready =
+                          subst (IsReady s) (sym plan_is) record {
+                            has_space = ap is_some there;
+                            rests = subst (λ z. AreRests z changes) from_base rests;
+                            port = dest;
+                            live = live;
+                            room = room;
+                          }

@@ -1,5 +1,6 @@
 -- What sending a message comes to, exit by exit.
-use Rattle.std.proofs.Common.{◌≡◌, ℕ, true, false, Option, Some, None, Ok, Err, refl, inl, inr}
+use Rattle.std.proofs.Common.{◌≡◌, ℕ, Bool, true, false, Option, Some, None, Ok, Err, refl, inl}
+use Rattle.std.proofs.Common.{inr}
 use Rattle.std.proofs.Common.{sym, ◌∙◌, ap, subst, List, ◌⊎◌}
 use Rattle.std.specs.Prelude.{not, ◌&&◌, nat_le, length, option_and_then}
 use Rattle.mrc_base.specs.declared.Disp.{Disp}
@@ -8,6 +9,7 @@ use Rattle.mrc_base.specs.declared.Disp.TheVariants.{MakeSend, MakeSendOnce}
 use Rattle.mrc_base.specs.Disposition.{given, disp_of_number}
 use Rattle.mrc_model.specs.declared.Item.{Item}
 use Rattle.mrc_model.specs.declared.Denied.{Denied}
+use Rattle.mrc_model.specs.declared.Denied.TheVariants.{ReplySlot, NotForReply}
 use Rattle.mrc_model.specs.declared.Code.TheVariants.{MachSendInvalidDest, MachSendInvalidReply}
 use Rattle.mrc_model.specs.declared.Code.TheVariants.{MachSendTimedOut}
 use Rattle.mrc_model.specs.Rights.{is_once}
@@ -15,14 +17,17 @@ use Rattle.mrc_model.specs.Map.{get}
 use Rattle.mrc_model.specs.Message.{Message}
 use Rattle.mrc_model.specs.Wiring.{Wiring, Form, form_shapes}
 use Rattle.mrc_model.specs.Filter.{judge}
-use Rattle.mrc_model.specs.World.{QueuedArg, Port, Store, World}
-use Rattle.mrc_model.specs.Reply.{Reply, Done, Refused, DeniedBy, ◌>>=◌, ◌>>◌, check, refuse_if}
-use Rattle.mrc_model.specs.Reply.{or_refuse}
+use Rattle.mrc_model.specs.declared.Verb.TheVariants.{Replies}
+use Rattle.mrc_model.specs.Trust.{may_item}
+use Rattle.mrc_model.specs.World.{QueuedArg, Port, Store, World, task_class}
+use Rattle.mrc_model.specs.Reply.{Reply, Done, Refused, DeniedBy, Try, ◌>>=◌, ◌>>◌, check}
+use Rattle.mrc_model.specs.Reply.{refuse_if, or_refuse}
 use Rattle.mrc_model.specs.Space.{take}
 use Rattle.mrc_model.specs.Death.{append}
 use Rattle.mrc_model.specs.Target.{with_store}
-use Rattle.mrc_model.specs.CallSend.{call_send, not_receive, take_reply_by, take_args}
+use Rattle.mrc_model.specs.CallSend.{call_send, not_receive, take_reply_by, take_args, fits_item}
 use Rattle.mrc_model.proofs.Maps.{same_Some, not_None}
+use Rattle.mrc_transit.specs.Sending.{judge_reply}
 use Rattle.mrc_transit.specs.SendPlans.{destination_disp, but_receive}
 
 -- the refusal of a destination
@@ -51,6 +56,27 @@ kept_some (Some x) y is = elim (is_kept x) [
       let same : x ≡ y = same_Some x y (sym kept.0 ∙ is) in
       (ap Some same, subst (λ z. not_receive z ≡ true) same kept.1)
 ]
+
+-- two tests, one behind the other
+
+reason : Try (Unit {0}) → Reply
+reason (Ok u) = Done
+reason (Err e) = e
+
+both_hold : (a b : Bool) (d e : Reply) → (check a d >> check b e) ≡ Ok tt
+    → (a ≡ true) × (b ≡ true)
+unfolding ◌>>◌ check
+both_hold true true d e is = (refl, refl)
+both_hold true false d e is = cc
+both_hold false b d e is = cc
+
+-- whichever fails first
+fails_first : (a b : Bool) (d e why : Reply) → (check a d >> check b e) ≡ Err why
+    → ((a ≡ false) × (d ≡ why)) ⊎ ((a ≡ true) × (b ≡ false) × (e ≡ why))
+unfolding ◌>>◌ check reason
+fails_first true true d e why is = cc
+fails_first true false d e why is = inr (refl, refl, ap reason is)
+fails_first false b d e why is = inl (refl, ap reason is)
 
 module _ (W : Wiring) (w : World) (t : ℕ) (m : Message) where
   pub send_no_disp : destination_disp m.remote_disp ≡ None
@@ -104,31 +130,72 @@ module _ (W : Wiring) (w : World) (t : ℕ) (m : Message) where
 
           module _ (s2 : Store) (reply : Item)
               (replied : take_reply_by s1 t m.local (disp_of_number m.local_disp)
-              (Refused MachSendInvalidReply) ≡ Ok (s2, reply)) where
-            pub send_no_args : (e : Reply)
-                → take_args W t 0 (form_shapes form) s2 m.args ≡ Err e
+              (Refused MachSendInvalidReply) ≡ Ok (s2, reply)) (own : ℕ)
+              (of_class : task_class w t ≡ own) where
+            pub send_unfit : (e : Reply)
+                → judge_reply W w.store own dest.class m.id reply ≡ Err e
                 → call_send W w t m ≡ Err e
-            unfolding call_send ◌>>=◌ ◌>>◌ or_refuse check
-            send_no_args e is = rw (disp_is, plain, took, live, judged, replied, is) refl
+            unfolding call_send judge_reply ◌>>=◌ ◌>>◌ or_refuse check
+            send_unfit e is =
+                elim (fails_first (fits_item W w.store dest.class m.id reply)
+                (may_item W w.store Replies own reply) (DeniedBy ReplySlot)
+                (DeniedBy NotForReply) e is) [
+                  | inl unfit ↦
+                      rw (disp_is, plain, took, live, judged, replied, of_class, unfit.0)
+                      (ap Err unfit.1)
+                  | inr unnamed ↦
+                      rw (
+                        disp_is,
+                        plain,
+                        took,
+                        live,
+                        judged,
+                        replied,
+                        of_class,
+                        unnamed.0,
+                        unnamed.1,
+                      )
+                      (ap Err unnamed.2)
+                ]
 
-            module _ (s3 : Store) (args : List QueuedArg)
-                (taken : take_args W t 0 (form_shapes form) s2 m.args ≡ Ok (s3, args)) where
-              pub send_full :
-                  (not (is_once (given x)) && nat_le dest.limit (length dest.queue)) ≡ true
-                  → call_send W w t m ≡ Err (Refused MachSendTimedOut)
-              unfolding call_send ◌>>=◌ ◌>>◌ or_refuse check refuse_if
-              send_full is = rw (disp_is, plain, took, live, judged, replied, taken, is) refl
+            module _ (good : judge_reply W w.store own dest.class m.id reply ≡ Ok tt) where
+              passed : (fits_item W w.store dest.class m.id reply ≡ true)
+                  × (may_item W w.store Replies own reply ≡ true)
+              unfolding judge_reply
+              passed = both_hold (fits_item W w.store dest.class m.id reply)
+                  (may_item W w.store Replies own reply) (DeniedBy ReplySlot)
+                  (DeniedBy NotForReply) good
 
-              pub send_done :
-                  (not (is_once (given x)) && nat_le dest.limit (length dest.queue)) ≡ false
-                  → call_send W w t m ≡ Ok (
-                    with_store w (append s3 d record {
-                      by_once = is_once (given x);
-                      id = m.id;
-                      reply = reply;
-                      args = args;
-                    }),
-                    Done,
-                  )
-              unfolding call_send ◌>>=◌ ◌>>◌ or_refuse check refuse_if
-              send_done is = rw (disp_is, plain, took, live, judged, replied, taken, is) refl
+              pub send_no_args : (e : Reply)
+                  → take_args W own t 0 (form_shapes form) s2 m.args ≡ Err e
+                  → call_send W w t m ≡ Err e
+              unfolding call_send ◌>>=◌ ◌>>◌ or_refuse check
+              send_no_args e is =
+                  rw (disp_is, plain, took, live, judged, replied, of_class, passed.0, passed.1, is)
+                  refl
+
+              module _ (s3 : Store) (args : List QueuedArg)
+                  (taken : take_args W own t 0 (form_shapes form) s2 m.args ≡ Ok (s3, args)) where
+                pub send_full :
+                    (not (is_once (given x)) && nat_le dest.limit (length dest.queue)) ≡ true
+                    → call_send W w t m ≡ Err (Refused MachSendTimedOut)
+                unfolding call_send ◌>>=◌ ◌>>◌ or_refuse check refuse_if
+                send_full is =
+                    rw (disp_is, plain, took, live, judged, replied, of_class, passed.0, passed.1)
+                    (rw (taken, is) refl)
+
+                pub send_done :
+                    (not (is_once (given x)) && nat_le dest.limit (length dest.queue)) ≡ false
+                    → call_send W w t m ≡ Ok (
+                      with_store w (append s3 d record {
+                        by_once = is_once (given x);
+                        id = m.id;
+                        reply = reply;
+                        args = args;
+                      }),
+                      Done,
+                    )
+                unfolding call_send ◌>>=◌ ◌>>◌ or_refuse check refuse_if
+                send_done is =
+                    rw (disp_is, plain, took, live, judged, replied, of_class, passed.0, passed.1)
+                    (rw (taken, is) refl)

@@ -10,8 +10,8 @@ use Rattle.mrc_ports.specs.Parcels.{AreCarried}
 -- what is taken for the arguments of a lawful message fits a message, whatever names its rights get
 abbrev pub TakenIsCarried : Type 0
 TakenIsCarried =
-    (W : Wiring) (t i : ℕ) (shapes : List Shape) (s s2 : Store) (args : List Arg)
+    (W : Wiring) (own t i : ℕ) (shapes : List Shape) (s s2 : Store) (args : List Arg)
     (queued : List QueuedArg)
-    → take_args W t i shapes s args ≡ Ok (s2, queued)
+    → take_args W own t i shapes s args ≡ Ok (s2, queued)
     → AreLawful args
     → AreCarried queued

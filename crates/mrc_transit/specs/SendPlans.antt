@@ -13,7 +13,7 @@ use Rattle.mrc_model.specs.declared.Entry.{Entry}
 use Rattle.mrc_model.specs.Map.{Map, get}
 use Rattle.mrc_model.specs.Message.{Message}
 use Rattle.mrc_model.specs.Wiring.{Wiring}
-use Rattle.mrc_model.specs.World.{Parcel, Port, Store, World, space}
+use Rattle.mrc_model.specs.World.{Parcel, Port, Store, World, space, task_class}
 use Rattle.mrc_model.specs.Reply.{Done, Try}
 use Rattle.mrc_model.specs.Death.{append}
 use Rattle.mrc_model.specs.Target.{with_store}
@@ -55,23 +55,26 @@ pub record IsReady (s : Store) (plan : SendPlan) : Type 0 where
   pub live : get s.ports plan.destination ≡ Some port
   pub room : is_full_for port plan.parcel.by_once ≡ false
 
--- in each world with this store, sending the message is done, and leaves what the plan leaves
-abbrev pub IsPlanOf : Wiring → Store → ℕ → Message → SendPlan → Type 0
-IsPlanOf W s t m plan = (w : World) →
-    call_send W (with_store w s) t m ≡ Ok (with_store w (sent s plan), Done)
+-- in each world with this store in which t is of class `own`, sending the message is done, and
+-- leaves what the plan leaves
+abbrev pub IsPlanOf : Wiring → Store → ℕ → ℕ → Message → SendPlan → Type 0
+IsPlanOf W s own t m plan = (w : World) → task_class w t ≡ own
+    → call_send W (with_store w s) t m ≡ Ok (with_store w (sent s plan), Done)
 
 -- the sending is refused so; memory runs out only where it is not refused
 abbrev pub IsSendAnswer : {A : Type 0} → OrMemory SendFault → Try A → Type 0
 IsSendAnswer (Fault fault) m = m ≡ Err (fault_reply fault)
 IsSendAnswer Memory m = IsOk m
 
--- so it is in each world with this store
-abbrev pub IsNotSent : OrMemory SendFault → Wiring → Store → ℕ → Message → Type 0
-IsNotSent fault W s t m = (w : World) → IsSendAnswer fault (call_send W (with_store w s) t m)
+-- so it is in each world with this store in which t is of class `own`
+abbrev pub IsNotSent : OrMemory SendFault → Wiring → Store → ℕ → ℕ → Message → Type 0
+IsNotSent fault W s own t m = (w : World) → task_class w t ≡ own
+    → IsSendAnswer fault (call_send W (with_store w s) t m)
 
--- the same before it is judged once more: of want of memory nothing is said
-abbrev pub IsNotPlanned : OrMemory SendFault → Wiring → Store → ℕ → Message → Type 0
-IsNotPlanned fault W s t m = (w : World) → IsSendRefusal fault (call_send W (with_store w s) t m)
+-- the same before it is judged again: nothing is said of out of memory
+abbrev pub IsNotPlanned : OrMemory SendFault → Wiring → Store → ℕ → ℕ → Message → Type 0
+IsNotPlanned fault W s own t m = (w : World) → task_class w t ≡ own
+    → IsSendRefusal fault (call_send W (with_store w s) t m)
 
 -- a disposition but that which moves a receive right
 abbrev pub but_receive : Disp → Option Disp

@@ -11,7 +11,7 @@ ghost use Rattle.mrc_transit.specs.Sending.{take_admitted, IsSendRefusal};
 
 use crate::sending::{SendFault, Slot, admit, refused_by};
 use crate::taking::Taking;
-use mrc_base::{Disp, OrMemory, give};
+use mrc_base::{Disp, OrMemory, TaskId, give};
 use mrc_desc::Argument;
 use mrc_filter::Form;
 use mrc_model::{Code, Item};
@@ -19,21 +19,23 @@ use mrc_ports::{Items, QueuedArgument, Store};
 use mrc_wiring::Wired;
 
 impl<'a> Taking<'a> {
-    /// What a message carries for one name of an argument, where the slot's type admits it.
+    /// What a message carries for one name of an argument, if the slot's type admits it and the
+    /// sender is trusted to send it.
     pub(crate) fn take_admitted(
         &mut self,
         wired: &Wired,
         store: &Store,
-        slot: Slot,
+        slot: &Slot,
         disp: Disp,
         name: u32,
     ) -> Result<Item, OrMemory<SendFault>>
         ensures taken { IfOk result (λ item. (t : ℕ)
-            → take_admitted (wiring_of wired.now) t disp slot.sort slot.argument
-            (staged store.now t self.old) name ≡ Ok (staged store.now t self.new, item)) }
+            → take_admitted (wiring_of wired.now) slot.now.own t disp slot.now.sort
+            slot.now.argument (staged store.now t self.old) name
+            ≡ Ok (staged store.now t self.new, item)) }
         ensures refused { IfErr result (λ fault. (t : ℕ)
-            → IsSendRefusal fault (take_admitted (wiring_of wired.now) t disp slot.sort
-            slot.argument (staged store.now t self.old) name)) }
+            → IsSendRefusal fault (take_admitted (wiring_of wired.now) slot.now.own t disp
+            slot.now.sort slot.now.argument (staged store.now t self.old) name)) }
         ensures base { self.new.base ≡ self.old.base }
     {
         let item = match self.take_item(name, disp) {
@@ -51,17 +53,17 @@ impl<'a> Taking<'a> {
         &mut self,
         wired: &Wired,
         store: &Store,
-        slot: Slot,
+        slot: &Slot,
         disp: Disp,
         names: &[u32],
     ) -> Result<Vec<Item>, OrMemory<SendFault>>
         ensures taken { IfOk result (λ items. (t : ℕ)
-            → take_items (wiring_of wired.now) t disp slot.sort slot.argument
+            → take_items (wiring_of wired.now) slot.now.own t disp slot.now.sort slot.now.argument
             (staged store.now t self.old) names.now
             ≡ Ok (staged store.now t self.new, items.items)) }
         ensures refused { IfErr result (λ fault. (t : ℕ)
-            → IsSendRefusal fault (take_items (wiring_of wired.now) t disp slot.sort slot.argument
-            (staged store.now t self.old) names.now)) }
+            → IsSendRefusal fault (take_items (wiring_of wired.now) slot.now.own t disp
+            slot.now.sort slot.now.argument (staged store.now t self.old) names.now)) }
         ensures base { self.new.base ≡ self.old.base }
     {
         let mut items = Vec::with_capacity(self.alloc, names.len())?;
@@ -77,16 +79,16 @@ impl<'a> Taking<'a> {
         &mut self,
         wired: &Wired,
         store: &Store,
-        slot: Slot,
+        slot: &Slot,
         argument: &Argument,
     ) -> Result<QueuedArgument, OrMemory<SendFault>>
         ensures taken { IfOk result (λ queued. (t : ℕ)
-            → take_arg (wiring_of wired.now) t slot.sort slot.argument
+            → take_arg (wiring_of wired.now) slot.now.own t slot.now.sort slot.now.argument
             (staged store.now t self.old) (argument_of argument.now)
             ≡ Ok (staged store.now t self.new, queued_of queued)) }
         ensures refused { IfErr result (λ fault. (t : ℕ)
-            → IsSendRefusal fault (take_arg (wiring_of wired.now) t slot.sort slot.argument
-            (staged store.now t self.old) (argument_of argument.now))) }
+            → IsSendRefusal fault (take_arg (wiring_of wired.now) slot.now.own t slot.now.sort
+            slot.now.argument (staged store.now t self.old) (argument_of argument.now))) }
         ensures base { self.new.base ≡ self.old.base }
     {
         match argument {
@@ -110,16 +112,17 @@ impl<'a> Taking<'a> {
         &mut self,
         wired: &Wired,
         store: &Store,
+        own: TaskId,
         form: &Form<'_>,
         arguments: &[Argument],
     ) -> Result<Vec<QueuedArgument>, OrMemory<SendFault>>
         requires { length arguments.now < 2 ^ 32 }
         ensures taken { IfOk result (λ queued. (t : ℕ)
-            → take_args (wiring_of wired.now) t 0 (form_shapes form.now.found.now)
+            → take_args (wiring_of wired.now) own t 0 (form_shapes form.now.found.now)
             (staged store.now t self.old) (arguments_of arguments.now)
             ≡ Ok (staged store.now t self.new, map queued_of queued.items)) }
         ensures refused { IfErr result (λ fault. (t : ℕ)
-            → IsSendRefusal fault (take_args (wiring_of wired.now) t 0
+            → IsSendRefusal fault (take_args (wiring_of wired.now) own t 0
             (form_shapes form.now.found.now) (staged store.now t self.old)
             (arguments_of arguments.now))) }
         ensures base { self.new.base ≡ self.old.base }
@@ -127,10 +130,11 @@ impl<'a> Taking<'a> {
         let mut queued = Vec::with_capacity(self.alloc, arguments.len())?;
         for (i, argument) in arguments.iter().enumerate() {
             let slot = Slot {
+                own,
                 sort: form.found.sort(i),
                 argument: i as u32,
             };
-            let next = self.take_arg(wired, store, slot, argument)?;
+            let next = self.take_arg(wired, store, &slot, argument)?;
             queued.push(next)?;
         }
         Ok(queued)

@@ -5,7 +5,7 @@
 ghost use Rattle.std.specs.Prelude.{◌≡◌, ◌<◌, ◌^◌, ℕ, length, Some, Err};
 ghost use Rattle.std.specs.Prelude.{IfSome, IfErr, OnOk, IsOk};
 ghost use Rattle.mrc_model.specs.Map.{get};
-ghost use Rattle.mrc_model.specs.World.{Space as TSpace, World};
+ghost use Rattle.mrc_model.specs.World.{Space as TSpace, World, task_class};
 ghost use Rattle.mrc_model.specs.Space.{put_entry};
 ghost use Rattle.mrc_model.specs.Target.{with_store};
 ghost use Rattle.mrc_model.specs.CallSend.{take_items, take_arg, take_args, call_send};
@@ -19,7 +19,7 @@ ghost use Rattle.mrc_transit.specs.Judging.{after_name, after_names, after_arg, 
 ghost use Rattle.mrc_transit.specs.Judging.{after_reply};
 
 use crate::send_plan::{destination_disp, is_at_limit, is_once};
-use crate::sending::{SendFault, Slot, admit};
+use crate::sending::{SendFault, Slot, admit, judge_reply};
 use mrc_base::{Disp, TaskId, give};
 use mrc_desc::{Argument, Message};
 use mrc_filter::{Form, judge};
@@ -189,7 +189,7 @@ impl<'a, 'b, 'c> Before<'a, 'b, 'c> {
         &self,
         wired: &Wired,
         store: &Store,
-        slot: Slot,
+        slot: &Slot,
         disp: Disp,
         others: &[u32],
         name: u32,
@@ -197,12 +197,12 @@ impl<'a, 'b, 'c> Before<'a, 'b, 'c> {
         ensures ok { OnOk result ((t : ℕ) (g : TTaking)
             → g.space ≡ after_names disp others.now self.now
             → Leaves store.now t (after_name disp (after_names disp others.now self.now) name)
-            (take_admitted (wiring_of wired.now) t disp slot.sort slot.argument
+            (take_admitted (wiring_of wired.now) slot.now.own t disp slot.now.sort slot.now.argument
             (staged store.now t g) name)) }
         ensures refused { IfErr result (λ fault. (t : ℕ) (g : TTaking)
             → g.space ≡ after_names disp others.now self.now
-            → take_admitted (wiring_of wired.now) t disp slot.sort slot.argument
-            (staged store.now t g) name ≡ Err (fault_reply fault)) }
+            → take_admitted (wiring_of wired.now) slot.now.own t disp slot.now.sort
+            slot.now.argument (staged store.now t g) name ≡ Err (fault_reply fault)) }
     {
         let held = after_names(self.get(name), name, disp, others);
         let Some(item) = item_of(held, name, disp) else {
@@ -216,16 +216,16 @@ impl<'a, 'b, 'c> Before<'a, 'b, 'c> {
         &self,
         wired: &Wired,
         store: &Store,
-        slot: Slot,
+        slot: &Slot,
         disp: Disp,
         names: &[u32],
     ) -> Result<(), SendFault>
         ensures ok { OnOk result ((t : ℕ) (g : TTaking) → g.space ≡ self.now
             → Leaves store.now t (after_names disp names.now self.now)
-            (take_items (wiring_of wired.now) t disp slot.sort slot.argument
+            (take_items (wiring_of wired.now) slot.now.own t disp slot.now.sort slot.now.argument
             (staged store.now t g) names.now)) }
         ensures refused { IfErr result (λ fault. (t : ℕ) (g : TTaking) → g.space ≡ self.now
-            → take_items (wiring_of wired.now) t disp slot.sort slot.argument
+            → take_items (wiring_of wired.now) slot.now.own t disp slot.now.sort slot.now.argument
             (staged store.now t g) names.now ≡ Err (fault_reply fault)) }
     {
         for (i, name) in names.iter().enumerate() {
@@ -239,15 +239,15 @@ impl<'a, 'b, 'c> Before<'a, 'b, 'c> {
         &self,
         wired: &Wired,
         store: &Store,
-        slot: Slot,
+        slot: &Slot,
         argument: &Argument,
     ) -> Result<(), SendFault>
         ensures ok { OnOk result ((t : ℕ) (g : TTaking) → g.space ≡ self.now
             → Leaves store.now t (after_arg argument.now self.now)
-            (take_arg (wiring_of wired.now) t slot.sort slot.argument
+            (take_arg (wiring_of wired.now) slot.now.own t slot.now.sort slot.now.argument
             (staged store.now t g) (argument_of argument.now))) }
         ensures refused { IfErr result (λ fault. (t : ℕ) (g : TTaking) → g.space ≡ self.now
-            → take_arg (wiring_of wired.now) t slot.sort slot.argument
+            → take_arg (wiring_of wired.now) slot.now.own t slot.now.sort slot.now.argument
             (staged store.now t g) (argument_of argument.now) ≡ Err (fault_reply fault)) }
     {
         match argument {
@@ -276,20 +276,22 @@ impl<'a> Head<'a> {
         &self,
         wired: &Wired,
         store: &Store,
+        own: TaskId,
         form: &Form<'_>,
         arguments: &[Argument],
     ) -> Result<(), SendFault>
         requires { length arguments.now < 2 ^ 32 }
         ensures ok { OnOk result ((t : ℕ) (g : TTaking) → g.space ≡ self.now
             → Leaves store.now t (after_args arguments.now self.now)
-            (take_args (wiring_of wired.now) t 0 (form_shapes form.now.found.now)
+            (take_args (wiring_of wired.now) own t 0 (form_shapes form.now.found.now)
             (staged store.now t g) (arguments_of arguments.now))) }
         ensures refused { IfErr result (λ fault. (t : ℕ) (g : TTaking) → g.space ≡ self.now
-            → take_args (wiring_of wired.now) t 0 (form_shapes form.now.found.now)
+            → take_args (wiring_of wired.now) own t 0 (form_shapes form.now.found.now)
             (staged store.now t g) (arguments_of arguments.now) ≡ Err (fault_reply fault)) }
     {
         for (i, argument) in arguments.iter().enumerate() {
             let slot = Slot {
+                own,
                 sort: form.found.sort(i),
                 argument: i as u32,
             };
@@ -297,22 +299,23 @@ impl<'a> Head<'a> {
                 head: self,
                 arguments: &arguments[..i],
             };
-            before.judge_arg(wired, store, slot, argument)?;
+            before.judge_arg(wired, store, &slot, argument)?;
         }
         Ok(())
     }
 }
 
-/// Judges a message as it is sent, and takes no memory.
+/// Judges a message as a sender of class `own` sends it, and takes no memory.
 pub(crate) fn judge_again(
     store: &Store,
     wired: &Wired,
+    own: TaskId,
     sender: TaskId,
     message: &Message,
 ) -> Result<(), SendFault>
-    ensures ok { OnOk result ((w : World) → IsOk
+    ensures ok { OnOk result ((w : World) → task_class w sender ≡ own → IsOk
         (call_send (wiring_of wired.now) (with_store w store.now) sender message.now)) }
-    ensures refused { IfErr result (λ fault. (w : World)
+    ensures refused { IfErr result (λ fault. (w : World) → task_class w sender ≡ own
         → call_send (wiring_of wired.now) (with_store w store.now) sender message.now
         ≡ Err (fault_reply fault)) }
 {
@@ -338,9 +341,10 @@ pub(crate) fn judge_again(
     let reply = header.local_port;
     let reply_disp = Disp::of_number(u16::from(header.local_disp));
     let held = after_put(space.get(reply), reply, header.remote_port, left);
-    let Some(_item) = reply_of(held, reply, reply_disp) else {
+    let Some(item) = reply_of(held, reply, reply_disp) else {
         return Err(SendFault::Refused(Code::MachSendInvalidReply));
     };
+    judge_reply(wired, store, own, port.class(), header.id, &item)?;
     let head = Head {
         space,
         destination: header.remote_port,
@@ -348,7 +352,7 @@ pub(crate) fn judge_again(
         reply,
         reply_disp,
     };
-    head.judge_args(wired, store, &form, message.args())?;
+    head.judge_args(wired, store, own, &form, message.args())?;
     if is_at_limit(port, is_once(give(disp))) {
         return Err(SendFault::Refused(Code::MachSendTimedOut));
     }

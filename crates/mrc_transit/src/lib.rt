@@ -17,6 +17,6 @@ pub use giving::give_item;
 pub use laws::taken_is_carried;
 pub use receiving::{ReceiveFault, receive};
 pub use send_plan::{SendPlan, copy_in};
-pub use sending::{SendFault, Slot, admit};
+pub use sending::{SendFault, Slot, admit, may_item};
 pub use taking::{NotHeld, Taking};
 pub use written::{Written, WrittenRoom};

@@ -2,6 +2,7 @@
 
 ghost use Rattle.std.specs.Prelude.{◌≡◌, false, not, ◌&&◌, nat_le, length};
 ghost use Rattle.std.specs.Prelude.{IfOk, IfErr, OnOk, IsSome};
+ghost use Rattle.mrc_base.specs.Disposition.{disp_of_number};
 ghost use Rattle.mrc_model.specs.Map.{get};
 ghost use Rattle.mrc_model.specs.Rights.{is_once};
 ghost use Rattle.mrc_model.specs.World.{space, set_space};
@@ -13,7 +14,7 @@ ghost use Rattle.mrc_transit.specs.SendPlans.{destination_disp, sent, IsReady, I
 ghost use Rattle.mrc_transit.specs.SendPlans.{IsNotSent, IsNotPlanned, IsNoRoom};
 
 use crate::judging::judge_again;
-use crate::sending::{SendFault, refused_by};
+use crate::sending::{SendFault, judge_reply, refused_by};
 use crate::taking::Taking;
 use mrc_base::{Disp, OrMemory, PortId, PortRight, TaskId, give};
 use mrc_desc::Message;
@@ -62,6 +63,13 @@ pub(crate) fn destination_disp(number: u8) -> Option<Disp>
     }
 }
 
+/// How a reply port's right is taken, if the number is that of a disposition.
+fn local_disp(number: u8) -> Option<Disp>
+    ensures { result ≡ disp_of_number number }
+{
+    Disp::of_number(u16::from(number))
+}
+
 /// Whether the right is a send-once right.
 pub(crate) fn is_once(right: PortRight) -> bool
     ensures { result ≡ is_once right }
@@ -91,20 +99,21 @@ fn ask_room(port: &Port, by_once: bool) -> Result<(), OrMemory<SendFault>>
     Ok(())
 }
 
-/// The plan of a message, as `copy_in` makes it. Where memory runs out, it isn't known yet whether
-/// the message is refused for what comes later.
+/// The plan of a message, as `copy_in` makes it. If memory runs out, it isn't known yet whether the
+/// message is refused for what comes later.
 fn planned(
     alloc: Global,
     store: &Store,
     wired: &Wired,
+    own: TaskId,
     sender: TaskId,
     message: &Message,
 ) -> Result<SendPlan, OrMemory<SendFault>>
     ensures ok { IfOk result (λ plan.
-        IsPlanOf (wiring_of wired.now) store.now sender message.now plan) }
+        IsPlanOf (wiring_of wired.now) store.now own sender message.now plan) }
     ensures ready { IfOk result (λ plan. IsReady store.now plan) }
     ensures refused { IfErr result (λ fault.
-        IsNotPlanned fault (wiring_of wired.now) store.now sender message.now) }
+        IsNotPlanned fault (wiring_of wired.now) store.now own sender message.now) }
 {
     let header = message.header();
     let Some(disp) = destination_disp(header.remote_disp) else {
@@ -125,12 +134,15 @@ fn planned(
         Ok(form) => form,
         Err(denied) => return Err(OrMemory::Fault(SendFault::Denied(denied))),
     };
-    let local_disp = Disp::of_number(u16::from(header.local_disp));
-    let reply = match taking.take_reply(header.local_port, local_disp) {
+    let reply = match taking.take_reply(header.local_port, local_disp(header.local_disp)) {
         Ok(reply) => reply,
         Err(fault) => return Err(refused_by(Code::MachSendInvalidReply, fault)),
     };
-    let arguments = taking.take_args(wired, store, &form, message.args())?;
+    match judge_reply(wired, store, own, port.class(), header.id, &reply) {
+        Ok(()) => (),
+        Err(fault) => return Err(OrMemory::Fault(fault)),
+    }
+    let arguments = taking.take_args(wired, store, own, &form, message.args())?;
     let by_once = is_once(give(disp));
     ask_room(port, by_once)?;
     let ready = store.ready(Parcel::new(by_once, header.id, reply, arguments))?;
@@ -145,32 +157,36 @@ fn planned(
     })
 }
 
-/// The plan of a message that the task sends: nothing changes before the plan is applied. Refused,
-/// in order: a destination's name that gives no such right on a live port (MACH_SEND_INVALID_DEST);
-/// a message that the destination's class does not accept (`Denied`, by the filter); a reply port's
-/// name that gives no such right (MACH_SEND_INVALID_REPLY); name by name of the arguments, one that
-/// gives no such right (MACH_SEND_INVALID_RIGHT) or a port that its slot does not admit
-/// (`NotAdmitted`, with the argument's number); a queue that is at or above its limit, but for a
-/// message through a send-once right (MACH_SEND_TIMED_OUT). Each takes what the ones before it
-/// left. Where memory runs out, the message is judged once more, without memory: want of memory is
-/// told only for a message that is not refused.
+/// The plan of a message that the task sends, which is of class `own`: nothing changes before the
+/// plan is applied. Refused, in order: a destination's name that gives no such right on a live port
+/// (MACH_SEND_INVALID_DEST); a message that the destination's class does not accept (`Denied`, by
+/// the filter); a reply port's name that gives no such right (MACH_SEND_INVALID_REPLY); a reply
+/// right that does not fit (`ReplySlot`), or that the sender is not trusted to name
+/// (`NotForReply`); name by name of the arguments, one that gives no such right
+/// (MACH_SEND_INVALID_RIGHT), a port that its slot does not admit (`NotAdmitted`, with the
+/// argument's number) or a right that the sender is not trusted to send (`NotSent`, with the same
+/// number); a queue that is at or above its limit, except for a message through a send-once right
+/// (MACH_SEND_TIMED_OUT). Each takes what the ones before it left. If memory runs out, the message
+/// is judged again, without memory: out of memory is returned only for a message that is not
+/// refused.
 pub fn copy_in(
     alloc: Global,
     store: &Store,
     wired: &Wired,
+    own: TaskId,
     sender: TaskId,
     message: &Message,
 ) -> Result<SendPlan, OrMemory<SendFault>>
     ensures ok { IfOk result (λ plan.
-        IsPlanOf (wiring_of wired.now) store.now sender message.now plan) }
+        IsPlanOf (wiring_of wired.now) store.now own sender message.now plan) }
     ensures ready { IfOk result (λ plan. IsReady store.now plan) }
     ensures refused { IfErr result (λ fault.
-        IsNotSent fault (wiring_of wired.now) store.now sender message.now) }
+        IsNotSent fault (wiring_of wired.now) store.now own sender message.now) }
 {
-    match planned(alloc, store, wired, sender, message) {
+    match planned(alloc, store, wired, own, sender, message) {
         Ok(plan) => Ok(plan),
         Err(OrMemory::Fault(fault)) => Err(OrMemory::Fault(fault)),
-        Err(OrMemory::Memory) => match judge_again(store, wired, sender, message) {
+        Err(OrMemory::Memory) => match judge_again(store, wired, own, sender, message) {
             Ok(()) => Err(OrMemory::Memory),
             Err(fault) => Err(OrMemory::Fault(fault)),
         },

@@ -9,13 +9,13 @@ use Rattle.mrc_why.specs.declared.origins.SlotNames.{SlotNames}
 use Rattle.mrc_why.specs.Sources.{IsItemSlot, IsSlot, IsRoutineItem, AcceptsRoutine}
 use Rattle.mrc_why.proofs.Members.{in_at}
 
-pub routine_at : (table : Table) (d : ℕ) (name : List ℕ) (items : List LabelItem) (i : ℕ)
+pub routine_at : (table : Table) (d c : ℕ) (name : List ℕ) (items : List LabelItem) (i : ℕ)
     (x : LabelItem)
     → items ≡ label (wiring_of table) d
     → i < length items
-    → IsRoutineItem table (get_or items i x) name
-    → AcceptsRoutine table d name
-routine_at table d name items i x all less routine = record {
+    → IsRoutineItem table (get_or items i x) c name
+    → AcceptsRoutine table d c name
+routine_at table d c name items i x all less routine = record {
   item = get_or items i x;
   in_label = subst (IsIn (get_or items i x)) all (in_at items i x less);
   routine = routine;

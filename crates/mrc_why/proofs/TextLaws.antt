@@ -1,7 +1,7 @@
 -- Texts that are told line by line.
 use Rattle.std.proofs.Common.{◌≡◌, ℕ, suc, ◌+◌, ◌<◌, List, [], ◌∷◌, ◌++◌, length, take}
 use Rattle.std.proofs.Common.{refl, sym, ap, subst, ◌∙◌, add-zero, slice_index_or, arith, Option}
-use Rattle.std.proofs.Common.{append_assoc}
+use Rattle.std.proofs.Common.{None, append_assoc}
 use Rattle.std.specs.Prelude.{codes}
 use Rattle.std.proofs.lemmas.List.{take_more, length-take-le, append-nil, get_or_default}
 use Rattle.mrc_wiring.specs.Table.{Table}
@@ -180,13 +180,13 @@ told_more layout x broken i b text one text_then low at are is then_is =
 pub verdict_of : (layout : Layout) (x : Numbered) (broken : List BrokenLine) (text : List ℕ)
     → 0 < length broken
     → AreToldBy layout x broken text
-    → IsVerdictText layout x broken text
+    → IsVerdictText layout x None broken text
 verdict_of layout x [] text some are = absurd (omega arith)
 verdict_of layout x (b ∷ broken) text some are = are
 
 pub verdict_none : (layout : Layout) (x : Numbered) (broken : List BrokenLine) (text : List ℕ)
     → length broken ≡ 0
     → text ≡ codes "YES\n"
-    → IsVerdictText layout x broken text
+    → IsVerdictText layout x None broken text
 verdict_none layout x [] text none is = is
 verdict_none layout x (b ∷ broken) text none is = absurd (omega arith)

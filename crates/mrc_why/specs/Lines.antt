@@ -24,6 +24,8 @@ is_first (says.Births task kind accepts) = false
 is_first (says.HoldPort holder right port) = true
 is_first (says.HoldTask holder task) = true
 is_first (says.Admit subsystem type_name class) = false
+is_first (says.Trust task verb right) = false
+is_first says.RepliesFit = false
 
 -- the numbers of those of the lines that make the first state, in order
 abbrev pub first_numbers : List (Line WiringSays) → List ℕ

@@ -103,20 +103,24 @@ pub record HasRoutine (interface : Interface) : Type 0 where
   pub request : row.request ≡ Some form
   pub routine : form.kind ≡ kinds.Request Routine
 
--- the item stands for the requests of the subsystem of this name, which has a routine
-pub record IsRoutineItem (table : Table) (item : LabelItem) (name : List ℕ) : Type 0 where
+-- The item stands for the requests of the subsystem of this name, which has a routine. If reply
+-- ports have to fit, class c accepts the replies of the subsystem.
+pub record IsRoutineItem (table : Table) (item : LabelItem) (c : ℕ) (name : List ℕ) : Type 0 where
   pub number : ℕ
   pub is : item ≡ label.Request number
   pub interface : Interface
   pub there : slice_get table.interfaces number ≡ Some interface
   pub routine : HasRoutine interface
+  pub fits : (wiring_of table).replies_fit ≡ true
+      → IsIn (label.Reply number) (label_of (wiring_of table) c)
   pub named : name ≡ interface.name
 
--- class d accepts requests of the subsystem of this name, which has a routine
-pub record AcceptsRoutine (table : Table) (d : ℕ) (name : List ℕ) : Type 0 where
+-- class d accepts requests of the subsystem of this name, which has a routine, and if reply ports
+-- have to fit, class c accepts its replies
+pub record AcceptsRoutine (table : Table) (d c : ℕ) (name : List ℕ) : Type 0 where
   pub item : LabelItem
   pub in_label : IsIn item (label_of (wiring_of table) d)
-  pub routine : IsRoutineItem table item name
+  pub routine : IsRoutineItem table item c name
 
 -- a step of rule K1, and the line that gives what it concludes
 pub record IsLineSource (numbered : Numbered) (s : Step) (n : ℕ) : Type 0 where
@@ -149,14 +153,15 @@ pub record IsSlotSource (table : Table) (steps : List Step) (s : Step) (names : 
   pub sender : IsHeldBySecond steps s.premises class held
   pub slot : IsSlot table to class held right names
 
--- a step of rule K5, and the subsystem whose request brings the reply right
+-- a step of rule K5, and the subsystem whose request brings the reply right, on a port of the class
+-- that the step carries
 pub record IsSubsystemSource (table : Table) (s : Step) (name : List ℕ) : Type 0 where
   pub rule : s.rule ≡ rules.Reply
   pub to : ℕ
   pub class : ℕ
   pub right : PortRight
   pub fact : s.fact ≡ Carry to class right
-  pub routine : AcceptsRoutine table to name
+  pub routine : AcceptsRoutine table to class name
 
 -- a step of rule K7, and the task whose kernel port is held by its first premise
 pub record IsKernelSource (table : Table) (steps : List Step) (s : Step) (name : List ℕ)

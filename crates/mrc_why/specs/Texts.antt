@@ -1,5 +1,6 @@
--- What is told of a policy: the lines that are broken, each with its chain, flat or as a tree, and
--- where each step comes from. This profile's own choice.
+-- What is printed of a policy: the trusted task that another could rewrite and the lines that are
+-- broken, each with its chain, flat or as a tree, and where each step comes from. This profile's
+-- own choice.
 use Rattle.std.specs.Prelude.{◌≡◌, ℕ, zero, suc, ◌+◌, ◌==◌, List, [], ◌∷◌, ◌++◌, Option, Some}
 use Rattle.std.specs.Prelude.{None, codes, decimal, slice_get, option_and_then, if◌then◌else◌}
 use Rattle.mrc_wiring.specs.declared.claim.ForbiddenLine.{ForbiddenLine}
@@ -15,7 +16,7 @@ use Rattle.mrc_why.specs.declared.origins.Source.TheVariants.{Line, Slot, Subsys
 use Rattle.mrc_why.specs.declared.printing.Layout.{Layout}
 use Rattle.mrc_why.specs.declared.printing.Layout.TheVariants.{Flat, Tree}
 use Rattle.mrc_why.specs.declared.trees.TreeLine.{TreeLine}
-use Rattle.mrc_why.specs.Broken.{BrokenLine, forbidden_fact}
+use Rattle.mrc_why.specs.Broken.{BrokenLine, ExposedTask, forbidden_fact}
 use Rattle.mrc_why.specs.Lines.{Numbered}
 use Rattle.mrc_why.specs.Sources.{AreSources}
 use Rattle.mrc_why.specs.Trees.{tree_lines}
@@ -131,8 +132,31 @@ AreToldBy layout numbered (broken ∷ more) text =
     (one : List ℕ) × (rest : List ℕ) × IsBrokenText layout numbered broken one
     × AreToldBy layout numbered more rest × (text ≡ one ++ rest)
 
--- the text tells a yes where no line is broken, and else the lines that are
-abbrev pub IsVerdictText : Layout → Numbered → List BrokenLine → List ℕ → Type 0
-IsVerdictText layout numbered [] text = text ≡ codes "YES\n"
-IsVerdictText layout numbered (broken ∷ more) text =
+-- that another task could rewrite a trusted one
+abbrev pub exposed_line : Table → ExposedTask → List ℕ
+exposed_line table x =
+    codes "NO trusted line " ++ (decimal x.line ␣ (fact_text table x.fact ++ codes "\n"))
+
+-- the text reports the trusted task, and under it, behind two blanks, the chain
+pub record IsExposedText (layout : Layout) (numbered : Numbered) (x : ExposedTask)
+    (text : List ℕ) : Type 0 where
+  pub chain : List ℕ
+  pub tells : IsChainText layout (codes "  ") numbered x.steps chain
+  pub is : text ≡ exposed_line numbered.table x ++ chain
+
+-- the text reports the trusted task, and then the broken lines
+pub record IsNoText (layout : Layout) (numbered : Numbered) (x : ExposedTask)
+    (broken : List BrokenLine) (text : List ℕ) : Type 0 where
+  pub one : List ℕ
+  pub rest : List ℕ
+  pub first : IsExposedText layout numbered x one
+  pub lines : AreToldBy layout numbered broken rest
+  pub is : text ≡ one ++ rest
+
+-- the text is a yes if there is no such task and no line is broken; else it reports what there is
+abbrev pub IsVerdictText : Layout → Numbered → Option ExposedTask → List BrokenLine → List ℕ
+    → Type 0
+IsVerdictText layout numbered (Some x) broken text = IsNoText layout numbered x broken text
+IsVerdictText layout numbered None [] text = text ≡ codes "YES\n"
+IsVerdictText layout numbered None (broken ∷ more) text =
     AreToldBy layout numbered (broken ∷ more) text

@@ -31,7 +31,10 @@ fn is_first(says: &WiringSays) -> bool
         | WiringSays::Port { .. }
         | WiringSays::HoldPort { .. }
         | WiringSays::HoldTask { .. } => true,
-        WiringSays::Births { .. } | WiringSays::Admit { .. } => false,
+        WiringSays::Births { .. }
+        | WiringSays::Admit { .. }
+        | WiringSays::Trust { .. }
+        | WiringSays::RepliesFit => false,
     }
 }
 

@@ -15,7 +15,7 @@ mod sources;
 mod trees;
 
 pub use derivation::Derivations;
-pub use judging::{Broken, forbidden_fact, verify};
+pub use judging::{Broken, Exposed, Verdict, forbidden_fact, verify};
 pub use mrc_closure::{Places, Step};
 pub use origins::{SlotNames, Source};
 pub use printing::{Layout, chain_text, source_text, verify_text};

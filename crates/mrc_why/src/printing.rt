@@ -1,12 +1,13 @@
 //! The texts in which chains and broken lines are told.
 
-ghost use Rattle.std.specs.Prelude.{◌≡◌, codes, IfOk, string_bytes};
+ghost use Rattle.std.specs.Prelude.{◌≡◌, None, codes, IfOk, string_bytes};
 ghost use Rattle.mrc_why.specs.Texts.{slot_text, source_text, places_text, source_at, rule_text};
 ghost use Rattle.mrc_why.specs.Texts.{step_line, lines_from, deeper, told_text, tree_line};
 ghost use Rattle.mrc_why.specs.Texts.{tree_from, chain_lines, IsChainText, broken_line};
-ghost use Rattle.mrc_why.specs.Texts.{IsBrokenText, AreToldBy, IsVerdictText};
+ghost use Rattle.mrc_why.specs.Texts.{IsBrokenText, AreToldBy, exposed_line, IsExposedText};
+ghost use Rattle.mrc_why.specs.Texts.{IsNoText, IsVerdictText};
 
-use crate::judging::{Broken, forbidden_fact};
+use crate::judging::{Broken, Exposed, Verdict, forbidden_fact};
 use crate::origins::{SlotNames, Source};
 use crate::sources::Sources;
 use crate::trees::{TreeLine, tree_lines};
@@ -296,16 +297,57 @@ fn all_broken(
     Ok(text)
 }
 
-/// What is told of a policy: `YES`, or each broken line with its chain, which stands behind two
-/// blanks.
-pub fn verify_text(
+/// That another task could rewrite a trusted one.
+fn exposed_line(alloc: Global, wired: &Wired, exposed: &Exposed) -> Result<String, AllocError>
+    ensures { IfOk result (λ text. string_bytes text ≡ exposed_line wired.now exposed.now) }
+{
+    let number = exposed.line();
+    let fact = fact_text(alloc, wired, exposed.fact())?;
+    format!(in alloc; "NO trusted line {number} {fact}\n")
+}
+
+/// A trusted task that another could rewrite, and under it, behind two blanks, its chain.
+fn exposed_text(
+    alloc: Global,
+    sources: &Sources<'_>,
+    exposed: &Exposed,
+    layout: Layout,
+) -> Result<String, AllocError>
+    ensures { IfOk result (λ text.
+        IsExposedText layout sources.now exposed.now (string_bytes text)) }
+{
+    let head = exposed_line(alloc, sources.wired(), exposed)?;
+    let chain = chain_told(alloc, layout, "  ", sources, exposed.steps())?;
+    let text = format!(in alloc; "{head}{chain}")?;
+    Ok(text)
+}
+
+/// The same, and then the broken lines.
+fn no_text(
+    alloc: Global,
+    sources: &Sources<'_>,
+    exposed: &Exposed,
+    broken: &[Broken],
+    layout: Layout,
+) -> Result<String, AllocError>
+    ensures { IfOk result (λ text.
+        IsNoText layout sources.now exposed.now broken.now (string_bytes text)) }
+{
+    let first = exposed_text(alloc, sources, exposed, layout)?;
+    let lines = all_broken(alloc, sources, broken, layout)?;
+    let text = format!(in alloc; "{first}{lines}")?;
+    Ok(text)
+}
+
+/// `YES`, or each broken line with its chain.
+fn lines_or_yes(
     alloc: Global,
     sources: &Sources<'_>,
     broken: &[Broken],
     layout: Layout,
 ) -> Result<String, AllocError>
     ensures { IfOk result (λ text.
-        IsVerdictText layout sources.now broken.now (string_bytes text)) }
+        IsVerdictText layout sources.now None broken.now (string_bytes text)) }
 {
     if broken.is_empty() {
         let text = String::from_str(alloc, "YES\n")?;
@@ -313,4 +355,22 @@ pub fn verify_text(
     }
     let text = all_broken(alloc, sources, broken, layout)?;
     Ok(text)
+}
+
+/// What is printed of a policy: `YES`, or the trusted task that another could rewrite, and each
+/// broken line. The task and each line have their chains below them, behind two blanks.
+pub fn verify_text(
+    alloc: Global,
+    sources: &Sources<'_>,
+    verdict: &Verdict,
+    layout: Layout,
+) -> Result<String, AllocError>
+    ensures { IfOk result (λ text. IsVerdictText layout sources.now verdict.now.exposed
+        verdict.now.broken.items (string_bytes text)) }
+{
+    let broken = verdict.broken.as_slice();
+    match &verdict.exposed {
+        Some(exposed) => no_text(alloc, sources, exposed, broken, layout),
+        None => lines_or_yes(alloc, sources, broken, layout),
+    }
 }

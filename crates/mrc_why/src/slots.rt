@@ -1,10 +1,11 @@
 //! The slot of a form through which a right passes, and the subsystem whose requests bring reply
 //! rights.
 
-ghost use Rattle.std.specs.Prelude.{◌≡◌, IsTrue, IfSome, Some, find, slice_get};
+ghost use Rattle.std.specs.Prelude.{◌≡◌, true, IsTrue, IfSome, Some, find, slice_get};
 ghost use Rattle.std.specs.Option.{option_map};
 ghost use Rattle.mrc_model.specs.IsIn.{IsIn};
 ghost use Rattle.mrc_model.specs.declared.LabelItem.TheVariants as label;
+ghost use Rattle.mrc_model.specs.Wiring.{label as label_of};
 ghost use Rattle.mrc_wiring.specs.ModelForms.{is_at};
 ghost use Rattle.mrc_wiring.specs.Table.{wiring_of};
 ghost use Rattle.mrc_why.specs.Sources.{item_of, IsPassing, IsItemSlot, IsSlot};
@@ -176,34 +177,69 @@ fn has_routine(interface: &Interface) -> bool
     false
 }
 
-/// The name of the interface of this number, where it has a routine.
-fn routine_of_interface(wired: &Wired, number: usize) -> Option<&str>
-    ensures { IfSome result (λ name. IsRoutineItem wired.now (label.Request number) name.now) }
+/// Whether the item stands for the replies of the interface of this number.
+fn is_reply(item: &LabelItem, number: usize) -> bool
+    ensures { IsTrue result → item.now ≡ label.Reply number }
+{
+    match item {
+        LabelItem::Reply(other) => *other == number,
+        LabelItem::Request(_) | LabelItem::Destroyed => false,
+    }
+}
+
+/// Whether one of the items does so.
+fn has_reply(items: &[LabelItem], number: usize) -> bool
+    ensures { IsTrue result → IsIn (label.Reply number) items.now }
+{
+    for item in items {
+        if is_reply(item, number) {
+            return true;
+        }
+    }
+    false
+}
+
+/// Whether the class accepts the replies of the interface of this number, or reply ports need not
+/// fit.
+fn fits(wired: &Wired, class: ClassId, number: usize) -> bool
+    ensures { IsTrue result → (wiring_of wired.now).replies_fit ≡ true
+        → IsIn (label.Reply number) (label_of (wiring_of wired.now) class) }
+{
+    !wired.replies_fit() || has_reply(wired.label(class), number)
+}
+
+/// The name of the interface of this number, if it has a routine whose replies the class may
+/// accept.
+fn routine_of_interface(wired: &Wired, class: ClassId, number: usize) -> Option<&str>
+    ensures { IfSome result (λ name.
+        IsRoutineItem wired.now (label.Request number) class name.now) }
 {
     let interface = wired.interface(number)?;
-    if has_routine(interface) {
+    if has_routine(interface) && fits(wired, class, number) {
         Some(interface.name())
     } else {
         None
     }
 }
 
-/// The name of the subsystem whose requests the item stands for, where it has a routine.
-fn routine_of_item(wired: &Wired, item: LabelItem) -> Option<&str>
-    ensures { IfSome result (λ name. IsRoutineItem wired.now item name.now) }
+/// The name of the subsystem whose requests the item stands for, if it has a routine whose replies
+/// the class may accept.
+fn routine_of_item(wired: &Wired, class: ClassId, item: LabelItem) -> Option<&str>
+    ensures { IfSome result (λ name. IsRoutineItem wired.now item class name.now) }
 {
     match item {
-        LabelItem::Request(number) => routine_of_interface(wired, number),
+        LabelItem::Request(number) => routine_of_interface(wired, class, number),
         LabelItem::Reply(_) | LabelItem::Destroyed => None,
     }
 }
 
-/// The first subsystem with a routine whose requests the class accepts.
-pub(crate) fn routine_of(wired: &Wired, to: ClassId) -> Option<&str>
-    ensures { IfSome result (λ name. AcceptsRoutine wired.now to name.now) }
+/// The first subsystem with a routine whose requests the class `to` accepts. If reply ports have to
+/// fit, `class` accepts the replies of the subsystem.
+pub(crate) fn routine_of(wired: &Wired, to: ClassId, class: ClassId) -> Option<&str>
+    ensures { IfSome result (λ name. AcceptsRoutine wired.now to class name.now) }
 {
     for item in wired.label(to) {
-        if let Some(name) = routine_of_item(wired, *item) {
+        if let Some(name) = routine_of_item(wired, class, *item) {
             return Some(name);
         }
     }

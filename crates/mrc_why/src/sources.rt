@@ -169,7 +169,11 @@ impl<'a> Sources<'a> {
         ensures { IfSome result (λ name. IsSubsystemSource self.now.table step.now name.now) }
     {
         match step.fact {
-            Fact::Carry { destination, .. } => routine_of(self.wired, destination),
+            Fact::Carry {
+                destination,
+                class,
+                ..
+            } => routine_of(self.wired, destination, class),
             Fact::Hold { .. } | Fact::Backup { .. } => None,
         }
     }

@@ -1,5 +1,6 @@
 pub mod Lines
 pub mod MarkLaws
+pub mod TrustLaws
 pub mod GivenLemmas
 pub mod NameLemmas
 pub mod BirthLaws

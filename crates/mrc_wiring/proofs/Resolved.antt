@@ -22,6 +22,9 @@ use Rattle.mrc_wiring_text.specs.declared.wiring.HeldRight.TheVariants as held
 use Rattle.mrc_wiring_text.specs.declared.wiring.WiringSays.{WiringSays}
 use Rattle.mrc_wiring_text.specs.declared.wiring.WiringSays.TheVariants.{Task, Port, Births}
 use Rattle.mrc_wiring_text.specs.declared.wiring.WiringSays.TheVariants.{HoldPort, HoldTask, Admit}
+use Rattle.mrc_wiring_text.specs.declared.wiring.WiringSays.TheVariants.{Trust, RepliesFit}
+use Rattle.mrc_wiring_text.specs.declared.trust.TrustVerb.{TrustVerb}
+use Rattle.mrc_wiring_text.specs.declared.trust.TrustedRight.{TrustedRight}
 use Rattle.mrc_wiring.specs.declared.faults.ResolveFault.TheVariants.{UnknownName, TwiceNamed}
 use Rattle.mrc_wiring.specs.declared.faults.ResolveFault.TheVariants.{TooMany, TooManyNames}
 use Rattle.mrc_wiring.specs.declared.faults.ResolveFault.TheVariants.{IdClash}
@@ -35,12 +38,13 @@ use Rattle.mrc_wiring.specs.Resolving.{add_task, place_port, add_port, place_bir
 use Rattle.mrc_wiring.specs.Resolving.{add_births, place_hold, right_held, port_birth, kernel_birth}
 use Rattle.mrc_wiring.specs.Resolving.{add_hold_port, add_hold_task, admitted_said, add_admit}
 use Rattle.mrc_wiring.specs.Resolving.{add_line, add_lines, empty_table, has_twice, started}
-use Rattle.mrc_wiring.specs.Resolving.{resolved}
+use Rattle.mrc_wiring.specs.Resolving.{resolved, trusted_said, add_trust, add_fit}
 use Rattle.mrc_wiring.specs.State.{next_birth}
 use Rattle.mrc_wiring.proofs.Lines.{holdings_port, holdings_hold, kernel_below, wired_below}
 use Rattle.mrc_wiring.proofs.NameLemmas.{named_at, read_within}
 use Rattle.mrc_wiring.proofs.TableLemmas.{next_is, and_then_is, task_table, port_table, hold_table}
-use Rattle.mrc_wiring.proofs.TableLemmas.{births_table, admit_table, empty_is_table}
+use Rattle.mrc_wiring.proofs.TableLemmas.{births_table, admit_table, trust_table, fit_table}
+use Rattle.mrc_wiring.proofs.TableLemmas.{empty_is_table}
 
 -- a name's number is that of one of the names
 number_within : (names : List (List ℕ)) (name : List ℕ) (t : ℕ)
@@ -178,6 +182,23 @@ admit_kept table u n subsystem type_name class is e =
     let admitted = bind_ok (admitted_said table n class) _ u sort.2 in
     subst IsTable (ok_is _ u admitted.2) (admit_table table _ is)
 
+trust_kept : (table u : Table) (n : ℕ) (task : List ℕ) (verb : TrustVerb)
+    (right : Option TrustedRight)
+    → IsTable table
+    → add_trust table n task verb right ≡ Ok u
+    → IsTable u
+unfolding add_trust
+trust_kept table u n task verb right is e =
+    let t = bind_ok (ok_or (number_of table.names task) (UnknownName n)) _ u e in
+    let on = bind_ok (trusted_said table n right) _ u t.2 in
+    subst IsTable (ok_is _ u on.2) (trust_table table _ is)
+
+fit_kept : (table u : Table) (n : ℕ) → IsTable table → add_fit table n ≡ Ok u → IsTable u
+unfolding add_fit
+fit_kept table u n is e =
+    let once = not_stopped table.fits (TwiceNamed n) _ u e in
+    subst IsTable (ok_is _ u once.1) (fit_table table is)
+
 line_kept : (table u : Table) (n : ℕ) (says : WiringSays)
     → IsTable table
     → add_line table n says ≡ Ok u
@@ -189,6 +210,8 @@ line_kept table u n (HoldPort holder right port) = hold_port_kept table u n hold
 line_kept table u n (HoldTask holder task) = hold_task_kept table u n holder task
 line_kept table u n (Admit subsystem type_name class) =
     admit_kept table u n subsystem type_name class
+line_kept table u n (Trust task verb right) = trust_kept table u n task verb right
+line_kept table u n RepliesFit = fit_kept table u n
 
 lines_kept : (table u : Table) (lines : List (Line WiringSays))
     → IsTable table

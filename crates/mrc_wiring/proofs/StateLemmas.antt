@@ -15,6 +15,9 @@ use Rattle.mrc_model.specs.Rights.{is_receive}
 use Rattle.mrc_model.specs.FirstHoldings.{line_holdings, names_given}
 use Rattle.mrc_wiring_text.specs.Names.{is_name}
 use Rattle.mrc_wiring.specs.declared.table.AdmitLine.{AdmitLine}
+use Rattle.mrc_wiring.specs.declared.table.TrustedLine.{TrustedLine}
+use Rattle.mrc_wiring.specs.Resolving.{with_trust, with_fit}
+use Rattle.mrc_wiring.proofs.TableLemmas.{trust_table, fit_table}
 use Rattle.mrc_wiring.specs.declared.faults.ResolveFault.TheVariants.{TwiceNamed, TooMany}
 use Rattle.mrc_wiring.specs.declared.faults.ResolveFault.TheVariants.{TooManyNames, IdClash}
 use Rattle.mrc_wiring.specs.Labels.{clash_among}
@@ -170,6 +173,32 @@ pub admit_kept : (s : State) (line : AdmitLine)
     → IsState (record s { table = with_admit s.table line })
 admit_kept s line is = record {
   is_table = admit_table s.table line is.is_table;
+  sorts = is.sorts;
+  kernels = is.kernels;
+  wired = is.wired;
+  given = is.given;
+  kinds = is.kinds;
+  names = is.names;
+  ports = is.ports;
+}
+
+pub trust_kept : (s : State) (line : TrustedLine)
+    → IsState s
+    → IsState (record s { table = with_trust s.table line })
+trust_kept s line is = record {
+  is_table = trust_table s.table line is.is_table;
+  sorts = is.sorts;
+  kernels = is.kernels;
+  wired = is.wired;
+  given = is.given;
+  kinds = is.kinds;
+  names = is.names;
+  ports = is.ports;
+}
+
+pub fit_kept : (s : State) → IsState s → IsState (record s { table = with_fit s.table })
+fit_kept s is = record {
+  is_table = fit_table s.table is.is_table;
   sorts = is.sorts;
   kernels = is.kernels;
   wired = is.wired;

@@ -15,6 +15,8 @@ use Rattle.mrc_model.specs.FirstHoldings.{line_holdings, line_births, names_give
 use Rattle.mrc_model.specs.FirstHoldings.{is_named}
 use Rattle.mrc_forms.specs.Tables.{Table as Interface}
 use Rattle.mrc_wiring.specs.declared.table.AdmitLine.{AdmitLine}
+use Rattle.mrc_wiring.specs.declared.table.TrustedLine.{TrustedLine}
+use Rattle.mrc_wiring.specs.Resolving.{with_trust, with_fit}
 use Rattle.mrc_wiring.specs.Births.{AreBirths, new_row}
 use Rattle.mrc_wiring.specs.Table.{Table, IsTable}
 use Rattle.mrc_wiring.specs.Resolving.{with_task, with_births, with_admit, empty_table}
@@ -204,6 +206,34 @@ pub admit_table : (table : Table) (line : AdmitLine)
     → IsTable table
     → IsTable (with_admit table line)
 admit_table table line is = record {
+  few_tasks = is.few_tasks;
+  few_ports = is.few_ports;
+  births = is.births;
+  accepts = is.accepts;
+  tasks = is.tasks;
+  ports = is.ports;
+  earlier = is.earlier;
+  few_names = is.few_names;
+}
+
+-- one more line about a trusted task
+pub trust_table : (table : Table) (line : TrustedLine)
+    → IsTable table
+    → IsTable (with_trust table line)
+trust_table table line is = record {
+  few_tasks = is.few_tasks;
+  few_ports = is.few_ports;
+  births = is.births;
+  accepts = is.accepts;
+  tasks = is.tasks;
+  ports = is.ports;
+  earlier = is.earlier;
+  few_names = is.few_names;
+}
+
+-- reply ports have to fit
+pub fit_table : (table : Table) → IsTable table → IsTable (with_fit table)
+fit_table table is = record {
   few_tasks = is.few_tasks;
   few_ports = is.few_ports;
   births = is.births;

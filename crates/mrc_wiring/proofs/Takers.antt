@@ -9,8 +9,8 @@ use Rattle.mrc_base.specs.declared.Disp.TheVariants.{MoveReceive, MoveSend, Move
 use Rattle.mrc_base.specs.declared.Disp.TheVariants.{MakeSend, MakeSendOnce}
 use Rattle.mrc_base.specs.Disposition.{disp_number, disp_of_number}
 use Rattle.mrc_model.specs.IsIn.{IsIn, here, later}
-use Rattle.mrc_model.specs.Wiring.{Wiring, Shape, Form, form_shapes, forms, admits}
-use Rattle.mrc_wiring.specs.Slots.{shape_takes, form_takes, takes}
+use Rattle.mrc_model.specs.Wiring.{Wiring, Shape, Form, form_shapes, forms, admits, type_numbers}
+use Rattle.mrc_wiring.specs.Slots.{is_type_of, shape_takes, form_takes, takes}
 
 -- one that passes a test is there exactly where the test finds one
 
@@ -46,15 +46,18 @@ pub record IsTaker (W : Wiring) (d : ℕ) (x : Disp) (c : ℕ) : Type 0 where
   pub slot : Shape
   pub labelled : IsIn form (forms W d)
   pub among : IsIn slot (form_shapes form)
-  pub disposition : disp_of_number slot.name ≡ Some x
+  pub number : ℕ
+  pub typed : IsIn number (type_numbers slot.types)
+  pub disposition : disp_of_number number ≡ Some x
   pub admitted : admits W slot.sort c ≡ true
 
 pub taken : (W : Wiring) (d : ℕ) (x : Disp) (c : ℕ) → IsTaker W d x c → takes W d x c ≡ true
 unfolding takes
 taken W d x c t =
-    let number : (t.slot.name == disp_number x) ≡ true = eq-eqb t.slot.name (disp_number x)
-    (number_of_disp t.slot.name x t.disposition) in
-    let one : shape_takes W x c t.slot ≡ true = and_from (t.slot.name == disp_number x)
+    let number : is_type_of t.slot (disp_number x) ≡ true =
+    found (λ m. m == disp_number x) t.number (type_numbers t.slot.types) t.typed
+    (eq-eqb t.number (disp_number x) (number_of_disp t.number x t.disposition)) in
+    let one : shape_takes W x c t.slot ≡ true = and_from (is_type_of t.slot (disp_number x))
     (admits W t.slot.sort c) number t.admitted in
     found (form_takes W x c) t.form (forms W d) t.labelled
     (found (shape_takes W x c) t.slot (form_shapes t.form) t.among one)
@@ -64,13 +67,16 @@ unfolding takes
 taker W d x c e =
     let form = finds (form_takes W x c) (forms W d) e in
     let slot = finds (shape_takes W x c) (form_shapes form.0) form.2 in
-    let parts = and_parts (slot.0.name == disp_number x) (admits W slot.0.sort c) slot.2 in
+    let parts = and_parts (is_type_of slot.0 (disp_number x)) (admits W slot.0.sort c) slot.2 in
+    let number = finds (λ m. m == disp_number x) (type_numbers slot.0.types) parts.0 in
     record {
       form = form.0;
       slot = slot.0;
       labelled = form.1;
       among = slot.1;
-      disposition = ap disp_of_number (eqb-true slot.0.name (disp_number x) parts.0)
+      number = number.0;
+      typed = number.1;
+      disposition = ap disp_of_number (eqb-true number.0 (disp_number x) number.2)
           ∙ disp_of_its_number x;
       admitted = parts.1;
     }

@@ -1,8 +1,9 @@
 -- Worked. A wiring of a file server and its client, over one interface.
-use Rattle.std.specs.Prelude.{◌≡◌, ℕ, false, List, [], ◌∷◌, Option, Some, None, Result, Ok, Err}
+use Rattle.std.specs.Prelude.{◌≡◌, ℕ, Bool, true, false, List, [], ◌∷◌, Option, Some, None}
+use Rattle.std.specs.Prelude.{Result, Ok, Err}
 use Rattle.std.specs.Prelude.{refl, codes, length}
 use Rattle.mrc_base.specs.declared.Disp.TheVariants.{CopySend}
-use Rattle.mrc_base.specs.declared.PortRight.TheVariants.{Send}
+use Rattle.mrc_base.specs.declared.PortRight.TheVariants.{Send, SendOnce}
 use Rattle.mrc_forms.specs.declared.form.FormKind.TheVariants as kind
 use Rattle.mrc_forms.specs.Forms.{Argument, return_code}
 use Rattle.mrc_forms.specs.Tables.{Table as Interface}
@@ -10,7 +11,7 @@ use Rattle.mrc_model.specs.declared.RequestKind.TheVariants as requests
 use Rattle.mrc_model.specs.declared.LabelItem.TheVariants as label
 use Rattle.mrc_model.specs.declared.FirstLine.TheVariants.{Task as TaskLine, Port as PortLine}
 use Rattle.mrc_model.specs.declared.FirstLine.TheVariants.{Hold as HoldLine}
-use Rattle.mrc_model.specs.Wiring.{Wiring}
+use Rattle.mrc_model.specs.Wiring.{Wiring, TrustLine, OneOf, Shape}
 use Rattle.mrc_wiring_text.specs.declared.reading.Line.{Line}
 use Rattle.mrc_wiring_text.specs.declared.policy.ClassName.TheVariants as class
 use Rattle.mrc_wiring_text.specs.declared.items.Item.TheVariants as item
@@ -22,9 +23,12 @@ use Rattle.mrc_wiring.specs.declared.faults.ResolveFault.TheVariants.{UnknownNam
 use Rattle.mrc_wiring.specs.declared.faults.ResolveFault.TheVariants.{IdClash}
 use Rattle.mrc_wiring.specs.Births.{put_row}
 use Rattle.mrc_wiring.specs.Table.{Table, wiring_of, admitted_of}
+use Rattle.mrc_wiring.specs.Trusting.{right_place, trust_row}
+use Rattle.mrc_model.specs.declared.Verb.TheVariants as verbs
+use Rattle.mrc_wiring_text.specs.declared.trust.TrustVerb.TheVariants as trust
 use Rattle.mrc_wiring.specs.Resolving.{resolved, add_task, add_port, place_port, add_births}
 use Rattle.mrc_wiring.specs.Resolving.{place_births, add_hold_port, place_hold}
-use Rattle.mrc_wiring.specs.Resolving.{add_admit}
+use Rattle.mrc_wiring.specs.Resolving.{add_admit, add_trust, add_fit}
 
 -- an argument of this name: `count` items of the type of this number, of so many bits each
 abbrev argument : List ℕ → ℕ → ℕ → ℕ → Argument
@@ -77,6 +81,16 @@ abbrev wiring_said : Result Table ResolveFault → Option Wiring
 wiring_said (Ok table) = Some (wiring_of table)
 wiring_said (Err fault) = None
 
+-- an argument of one type, by its number: so many items of so many bits, and the number of its sort
+abbrev shape : ℕ → ℕ → ℕ → ℕ → Shape
+shape number size count sort = record {
+  types = OneOf (number ∷ []);
+  size = size;
+  number = count;
+  is_bound = false;
+  sort = sort;
+}
+
 -- Two tasks and a port; class 0 is the port, 1 and 2 are kernel ports, 3 and 4 births. A file is
 -- the one type of a port argument, number 0, and admits class 4.
 pub files_are_wired : wiring_said (resolved (fsys ∷ []) filing) ≡ Some record {
@@ -88,16 +102,17 @@ pub files_are_wired : wiring_said (resolved (fsys ∷ []) filing) ≡ Some recor
     requests = record {
       id = 3000;
       kind = requests.Routine;
-      shapes = record { name = 12; size = 8; number = 64; is_bound = false; sort = 1 } ∷ [];
+      shapes = shape 12 8 64 1 ∷ [];
     } ∷ [];
     replies = record {
       id = 3100;
-      shapes = record { name = 2; size = 32; number = 1; is_bound = false; sort = 1 }
-          ∷ record { name = 19; size = 32; number = 1; is_bound = false; sort = 0 } ∷ [];
+      shapes = shape 2 32 1 1 ∷ shape 19 32 1 0 ∷ [];
     } ∷ [];
   } ∷ [];
   labels = (label.Request 0 ∷ []) ∷ [] ∷ [] ∷ (label.Reply 0 ∷ []) ∷ [] ∷ [];
   admitted = (0, Some 4) ∷ [];
+  trusted = [];
+  replies_fit = false;
 }
 unfolding add_task add_port place_port add_births place_births put_row add_hold_port place_hold
     add_admit
@@ -139,6 +154,8 @@ pub kinds_are_wired : wiring_said (resolved [] kinds) ≡ Some record {
   interfaces = [];
   labels = [] ∷ [] ∷ [] ∷ [] ∷ (label.Destroyed ∷ []) ∷ [] ∷ [] ∷ [];
   admitted = [];
+  trusted = [];
+  replies_fit = false;
 }
 unfolding add_task add_births place_births put_row
 kinds_are_wired = refl
@@ -178,3 +195,70 @@ pub later_kind_is_unknown :
     ≡ Err (UnknownName 3)
 unfolding add_task add_admit
 later_kind_is_unknown = refl
+
+-- what b may do is limited; a's births of kind 2 are class 4 once those of kind 1 are there
+abbrev trusting : List (Line WiringSays)
+trusting =
+    line 2 (says.Task (codes "a"))
+    ∷ line 3 (says.Task (codes "b"))
+    ∷ line 4 (says.Births (codes "a") 2 [])
+    ∷ line 5 (says.Trust (codes "b") trust.Takes (Some record {
+      right = Send;
+      class = class.Births (codes "a") 2;
+    }))
+    ∷ line 6 (says.Trust (codes "b") trust.Replies None)
+    ∷ line 7 says.RepliesFit
+    ∷ line 8 (says.Births (codes "a") 1 []) ∷ []
+
+-- which tasks are trusted, and whether reply ports have to fit, if lines have a meaning
+abbrev trusted_lines : Result Table ResolveFault → Option (List TrustLine × Bool)
+trusted_lines (Ok table) = Some ((wiring_of table).trusted, (wiring_of table).replies_fit)
+trusted_lines (Err fault) = None
+
+pub trusted_tasks_are_wired : trusted_lines (resolved [] trusting) ≡ Some (
+  record { verb = verbs.Takes; task = 1; right = Some (Send, 4) }
+      ∷ record { verb = verbs.Replies; task = 1; right = None } ∷ [],
+  true,
+)
+unfolding add_task add_births place_births put_row add_trust add_fit
+trusted_tasks_are_wired = refl
+
+-- b's send right on that class: place 4 of the row of its verb; a send-once right is placed behind
+-- the parts of the two other rights, of 1,344 classes each
+pub row_of_the_verb : trust_row verbs.Takes 1 ≡ 4
+row_of_the_verb = refl
+
+pub send_is_placed : right_place Send 4 ≡ 4
+send_is_placed = refl
+
+pub once_is_placed : right_place SendOnce 4 ≡ 2692
+once_is_placed = refl
+
+-- a task, and a class, of a later line
+pub later_task_is_unknown :
+    resolved [] (line 2 (says.Task (codes "a"))
+    ∷ line 3 (says.Trust (codes "b") trust.Gives None)
+    ∷ line 4 (says.Task (codes "b")) ∷ [])
+    ≡ Err (UnknownName 3)
+unfolding add_task add_trust
+later_task_is_unknown = refl
+
+pub later_class_is_unknown :
+    resolved [] (line 2 (says.Task (codes "a"))
+    ∷ line 3 (says.Trust (codes "a") trust.Gives (Some record {
+      right = SendOnce;
+      class = class.Births (codes "a") 1;
+    })) ∷ [])
+    ≡ Err (UnknownName 3)
+unfolding add_task add_trust
+later_class_is_unknown = refl
+
+-- that reply ports fit is said once; that a task may do nothing by a verb may be said twice
+pub fit_twice :
+    resolved [] (line 2 (says.Task (codes "a"))
+    ∷ line 3 (says.Trust (codes "a") trust.Gives None)
+    ∷ line 4 (says.Trust (codes "a") trust.Gives None)
+    ∷ line 5 says.RepliesFit ∷ line 6 says.RepliesFit ∷ [])
+    ≡ Err (TwiceNamed 6)
+unfolding add_task add_trust add_fit
+fit_twice = refl

@@ -5,6 +5,7 @@ use Rattle.std.specs.Prelude.{Some, None, option_and_then, unwrap_or}
 use Rattle.mrc_model.specs.CallSend.{first_sort}
 use Rattle.mrc_model.specs.Wiring.{Wiring, Shape, Form, OfRequest, OfReply}
 use Rattle.mrc_model.specs.Wiring.{form_id, interface, item_forms, label, is_routine}
+use Rattle.mrc_model.specs.Wiring.{is_routine_of}
 use Rattle.mrc_forms.specs.Tables.{Table as Interface}
 use Rattle.mrc_forms.specs.declared.form.MessageKind.{MessageKind}
 use Rattle.mrc_forms.specs.declared.form.MessageKind.TheVariants as messages
@@ -45,6 +46,16 @@ is_of_routine (OfReply form) = false
 abbrev pub is_there_of_routine : Option Form → Bool
 is_there_of_routine None = false
 is_there_of_routine (Some form) = is_of_routine form
+
+-- the form is that of a routine's request with this id
+abbrev pub is_of_id : ℕ → Form → Bool
+is_of_id id (OfRequest form) = is_routine_of id form
+is_of_id id (OfReply form) = false
+
+-- there is a form, and it is that of a routine's request with this id
+abbrev pub is_there_of_id : ℕ → Option Form → Bool
+is_there_of_id id None = false
+is_there_of_id id (Some form) = is_of_id id form
 
 -- the first form that has the id, of those that the item at this place of the class's label
 -- stands for

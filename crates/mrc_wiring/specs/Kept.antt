@@ -7,19 +7,21 @@ use Rattle.mrc_model.specs.FirstHoldings.{given_classes}
 use Rattle.mrc_model.specs.Wiring.{Form}
 use Rattle.mrc_wiring.specs.Admitting.{IsAdmitting}
 use Rattle.mrc_wiring.specs.Births.{AreKinds}
+use Rattle.mrc_wiring.specs.Trusting.{IsTrusting}
 use Rattle.mrc_wiring.specs.Names.{AreNames}
 use Rattle.mrc_wiring.specs.Sorts.{sorts_of}
 use Rattle.mrc_wiring.specs.ModelForms.{typed_from}
 use Rattle.mrc_wiring.specs.Table.{Table, IsTable, wiring_of}
 
 -- the table is one that lines can mean; requests and replies are the forms of the interfaces, with
--- the numbers of types; the rows are those of what types admit; and the classes are those of the
--- ports of the first state
+-- the numbers of types; the rows are those of what types admit, and of what trusted tasks may do;
+-- and the classes are those of the ports of the first state
 abbrev pub IsKept : Table → List (List (Option Form)) → List (List (Option Form))
-    → List (Vec ℕ Global) → List ℕ → List ℕ → Type 0
-IsKept table requests replies rows every classes =
+    → List (Vec ℕ Global) → List ℕ → List (Vec ℕ Global) → List ℕ → Type 0
+IsKept table requests replies rows every trusting classes =
     IsTable table × AreNames table.names × AreNames table.ports × AreKinds table.births
     × (requests ≡ typed_from Request (sorts_of table.interfaces) 0 table.interfaces)
     × (replies ≡ typed_from Reply (sorts_of table.interfaces) 0 table.interfaces)
     × IsAdmitting (length table.ports) (length table.names) table.births table.admits rows every
+    × IsTrusting (length table.ports) (length table.names) table.births table.trusts trusting
     × (classes ≡ given_classes (wiring_of table))

@@ -6,6 +6,7 @@ pub mod Births
 pub mod RowPlaces
 pub mod Table
 pub mod Admitting
+pub mod Trusting
 pub mod FirstState
 pub mod Names
 pub mod Labels

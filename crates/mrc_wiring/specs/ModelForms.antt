@@ -11,7 +11,7 @@ use Rattle.mrc_forms.specs.Forms.{Argument, Slot, Form}
 use Rattle.mrc_forms.specs.Tables.{Row, Table, form_in, forms_by}
 use Rattle.mrc_model.specs.declared.RequestKind.{RequestKind}
 use Rattle.mrc_model.specs.declared.RequestKind.TheVariants.{Simple}
-use Rattle.mrc_model.specs.Wiring.{Shape, RequestForm, ReplyForm, Interface}
+use Rattle.mrc_model.specs.Wiring.{OneOf, Shape, RequestForm, ReplyForm, Interface}
 use Rattle.mrc_model.specs.Wiring.{Form as ModelForm, OfRequest, OfReply}
 use Rattle.mrc_wiring.specs.Sorts.{Sort, sort_number}
 
@@ -27,7 +27,7 @@ is_at i slot = slot.argument == i
 -- the argument of this number in a body that has these slots
 abbrev pub shape_of : List Sort → ℕ → List Slot → ℕ → Argument → Shape
 shape_of sorts s slots i argument = record {
-  name = argument.shape.name;
+  types = OneOf (argument.shape.name ∷ []);
   size = argument.shape.size;
   number = argument.shape.number;
   is_bound = argument.shape.is_bound;

@@ -1,7 +1,8 @@
 -- Believe. The table that the lines of a wiring mean over interfaces, or the first fault. Lines are
 -- taken in their order; the list of interfaces comes before them, as line 0. This profile's own
 -- choice.
-use Rattle.std.specs.Prelude.{◌≡◌, ℕ, ◌++◌, ◌||◌, Bool, false, List, [], ◌∷◌, length, bytes_eq}
+use Rattle.std.specs.Prelude.{◌≡◌, ℕ, ◌++◌, ◌||◌, Bool, true, false, List, []}
+use Rattle.std.specs.Prelude.{◌∷◌, length, bytes_eq}
 use Rattle.std.specs.Prelude.{Option, Some, None, Result, Ok, Err, nat_le, nat_lt, is_some}
 use Rattle.std.specs.Prelude.{position}
 use Rattle.std.specs.Prelude.{if◌then◌else◌, slice_get, option_and_then}
@@ -14,6 +15,8 @@ use Rattle.mrc_base.specs.declared.memory.OrMemory.{OrMemory}
 use Rattle.mrc_base.specs.declared.PortRight.{PortRight}
 use Rattle.mrc_base.specs.declared.PortRight.TheVariants.{Send, SendOnce}
 use Rattle.mrc_model.specs.declared.LabelItem.{LabelItem}
+use Rattle.mrc_model.specs.declared.Verb.{Verb}
+use Rattle.mrc_model.specs.declared.Verb.TheVariants as verbs
 use Rattle.mrc_model.specs.declared.FirstLine.{FirstLine}
 use Rattle.mrc_model.specs.declared.FirstLine.TheVariants.{Task as TaskLine, Port as PortLine}
 use Rattle.mrc_model.specs.declared.FirstLine.TheVariants.{Hold as HoldLine}
@@ -27,12 +30,18 @@ use Rattle.mrc_wiring_text.specs.declared.wiring.HeldRight.TheVariants as held
 use Rattle.mrc_wiring_text.specs.declared.wiring.WiringSays.{WiringSays}
 use Rattle.mrc_wiring_text.specs.declared.wiring.WiringSays.TheVariants.{Task, Port, Births}
 use Rattle.mrc_wiring_text.specs.declared.wiring.WiringSays.TheVariants.{HoldPort, HoldTask, Admit}
+use Rattle.mrc_wiring_text.specs.declared.wiring.WiringSays.TheVariants.{Trust, RepliesFit}
+use Rattle.mrc_wiring_text.specs.declared.trust.TrustVerb.{TrustVerb}
+use Rattle.mrc_wiring_text.specs.declared.trust.TrustVerb.TheVariants as trust
+use Rattle.mrc_wiring_text.specs.declared.trust.TrustedRight.{TrustedRight}
 use Rattle.mrc_wiring.specs.declared.faults.ResolveFault.{ResolveFault}
 use Rattle.mrc_wiring.specs.declared.faults.ResolveFault.TheVariants.{UnknownName, TwiceNamed}
 use Rattle.mrc_wiring.specs.declared.faults.ResolveFault.TheVariants.{TooMany, TooManyNames}
 use Rattle.mrc_wiring.specs.declared.faults.ResolveFault.TheVariants.{IdClash}
 use Rattle.mrc_wiring.specs.declared.names.NumberedClass.{NumberedClass}
 use Rattle.mrc_wiring.specs.declared.table.AdmitLine.{AdmitLine}
+use Rattle.mrc_wiring.specs.declared.table.NumberedRight.{NumberedRight}
+use Rattle.mrc_wiring.specs.declared.table.TrustedLine.{TrustedLine}
 use Rattle.mrc_wiring.specs.Births.{new_row, has_said, put_row}
 use Rattle.mrc_wiring.specs.Sorts.{is_sort, sorts_of}
 use Rattle.mrc_wiring.specs.Table.{Table, wiring_of, kernel_births, port_births}
@@ -66,6 +75,14 @@ with_births table t kind label = record table { births = put_row table.births t 
 -- one more admit line
 abbrev pub with_admit : Table → AdmitLine → Table
 with_admit table line = record table { admits = table.admits ++ line ∷ [] }
+
+-- one more line about a trusted task
+abbrev pub with_trust : Table → TrustedLine → Table
+with_trust table line = record table { trusts = table.trusts ++ line ∷ [] }
+
+-- reply ports have to fit
+abbrev pub with_fit : Table → Table
+with_fit table = record table { fits = true }
 
 -- the lines give task t more names than it may have
 abbrev pub is_over : Table → ℕ → Bool
@@ -162,6 +179,33 @@ add_admit table n subsystem type_name class = do
   admitted ← admitted_said table n class
   Ok (with_admit table record { sort = sort; class = admitted })
 
+-- the verb that a line names
+abbrev pub verb_said : TrustVerb → Verb
+verb_said trust.Takes = verbs.Takes
+verb_said trust.Gives = verbs.Gives
+verb_said trust.Sends = verbs.Sends
+verb_said trust.Replies = verbs.Replies
+
+-- the right on a class of a line about a trusted task, or none
+abbrev pub trusted_said : Table → ℕ → Option TrustedRight
+    → Result (Option NumberedRight) ResolveFault
+trusted_said table n None = Ok None
+trusted_said table n (Some on) =
+    ok_or (class_said table.names table.ports table.births on.class) (UnknownName n)
+    >>= λ class. Ok (Some (record { right = on.right; class = class }))
+
+-- what a trusted task may do by a verb: the task and the class have names that are there
+unfoldable pub add_trust : Table → ℕ → List ℕ → TrustVerb → Option TrustedRight
+    → Result Table ResolveFault
+add_trust table n task verb right = do
+  t ← ok_or (number_of table.names task) (UnknownName n)
+  on ← trusted_said table n right
+  Ok (with_trust table record { line = n; verb = verb_said verb; task = t; right = on })
+
+-- reply ports have to fit, which is said once
+unfoldable pub add_fit : Table → ℕ → Result Table ResolveFault
+add_fit table n = if table.fits then Err (TwiceNamed n) else Ok (with_fit table)
+
 -- what a line adds
 abbrev pub add_line : Table → ℕ → WiringSays → Result Table ResolveFault
 add_line table n (Task name) = add_task table n name
@@ -171,6 +215,8 @@ add_line table n (HoldPort holder right port) = add_hold_port table n holder rig
 add_line table n (HoldTask holder task) = add_hold_task table n holder task
 add_line table n (Admit subsystem type_name class) =
     add_admit table n subsystem type_name class
+add_line table n (Trust task verb right) = add_trust table n task verb right
+add_line table n RepliesFit = add_fit table n
 
 -- what the lines add, in order
 abbrev pub add_lines : Table → List (Line WiringSays) → Result Table ResolveFault
@@ -187,6 +233,8 @@ empty_table interfaces = record {
   accepts = [];
   lines = [];
   admits = [];
+  trusts = [];
+  fits = false;
   interfaces = interfaces;
 }
 

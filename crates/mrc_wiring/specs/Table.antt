@@ -1,20 +1,24 @@
 -- Believe. The table that the lines of a wiring mean, and the model's wiring of it. This profile's
 -- own choice.
-use Rattle.std.specs.Prelude.{◌≡◌, ℕ, ◌+◌, ◌<◌, ◌≤◌, ◌++◌, false, List, [], ◌∷◌, length, map}
-use Rattle.std.specs.Prelude.{Option, Some, option_and_then}
+use Rattle.std.specs.Prelude.{◌≡◌, ℕ, ◌+◌, ◌<◌, ◌≤◌, ◌++◌, Bool, false, List, [], ◌∷◌, length}
+use Rattle.std.specs.Prelude.{map, nat_lt, if◌then◌else◌, Option, Some, None, option_and_then}
+use Rattle.std.specs.Option.{option_map}
+use Rattle.mrc_base.specs.declared.PortRight.{PortRight}
 use Rattle.mrc_base.specs.Limits.{limit_of_tasks, limit_of_wired_ports, limit_of_names}
 use Rattle.mrc_model.specs.declared.LabelItem.{LabelItem}
 use Rattle.mrc_model.specs.declared.FirstLine.{FirstLine}
 use Rattle.mrc_model.specs.declared.FirstLine.TheVariants.{Task as TaskLine, Port as PortLine}
 use Rattle.mrc_model.specs.declared.FirstLine.TheVariants.{Hold as HoldLine}
 use Rattle.mrc_model.specs.Rights.{is_receive}
-use Rattle.mrc_model.specs.Wiring.{Wiring, births_from}
+use Rattle.mrc_model.specs.Wiring.{Wiring, TrustLine, births_from}
 use Rattle.mrc_model.specs.FirstHoldings.{first_names}
 use Rattle.mrc_forms.specs.Tables.{Table as Interface}
 use Rattle.mrc_wiring.specs.declared.names.ClassKind.{ClassKind}
 use Rattle.mrc_wiring.specs.declared.names.ClassKind.TheVariants as kinds
 use Rattle.mrc_wiring.specs.declared.names.NumberedClass.{NumberedClass}
 use Rattle.mrc_wiring.specs.declared.table.AdmitLine.{AdmitLine}
+use Rattle.mrc_wiring.specs.declared.table.NumberedRight.{NumberedRight}
+use Rattle.mrc_wiring.specs.declared.table.TrustedLine.{TrustedLine}
 use Rattle.mrc_wiring.specs.declared.births.BirthRow.{BirthRow}
 use Rattle.mrc_wiring.specs.Births.{AreBirths, pair_of, of_row}
 use Rattle.mrc_wiring.specs.Sorts.{sorts_of}
@@ -22,7 +26,8 @@ use Rattle.mrc_wiring.specs.ModelForms.{interfaces_from}
 
 -- The tasks' names in the order of their lines; the births of each task by their kinds, and what
 -- they accept, if a line says it; the wired ports' names in the order of their lines, and what each
--- accepts; what makes the first state, line by line; the admit lines; and the interfaces.
+-- accepts; what makes the first state, line by line; the admit lines; the lines about trusted
+-- tasks; that reply ports have to fit, if a line says it; and the interfaces.
 pub record Table : Type 0 where
   pub names : List (List ℕ)
   pub births : List BirthRow
@@ -30,6 +35,8 @@ pub record Table : Type 0 where
   pub accepts : List (List LabelItem)
   pub lines : List FirstLine
   pub admits : List AdmitLine
+  pub trusts : List TrustedLine
+  pub fits : Bool
   pub interfaces : List Interface
 
 -- the class of a wired port, of a kernel port or of births, by its number: wired ports come first,
@@ -57,6 +64,29 @@ admitted_by ports tasks births line = (
 abbrev pub admitted_of : ℕ → ℕ → List BirthRow → List AdmitLine → List (ℕ × Option ℕ)
 admitted_of ports tasks births lines = map (admitted_by ports tasks births) lines
 
+-- a class of so many; what is no class is named by no line
+abbrev pub class_within : ℕ → Option ℕ → Option ℕ
+class_within n None = None
+class_within n (Some c) = if nat_lt c n then Some c else None
+
+-- the right on a class that a line about a trusted task names
+abbrev pub right_by : ℕ → ℕ → List BirthRow → NumberedRight → Option (PortRight × ℕ)
+right_by ports tasks births on =
+    option_map (λ (c : ℕ). (on.right, c)) (class_within (ports + tasks + length births)
+    (kind_class ports tasks births on.class.kind on.class.number))
+
+-- a line about a trusted task: its verb, the number of the task, and the right on a class, or none
+abbrev pub trusted_by : ℕ → ℕ → List BirthRow → TrustedLine → TrustLine
+trusted_by ports tasks births line = record {
+  verb = line.verb;
+  task = line.task;
+  right = option_and_then (right_by ports tasks births) line.right;
+}
+
+-- all of them
+abbrev pub trusted_of : ℕ → ℕ → List BirthRow → List TrustedLine → List TrustLine
+trusted_of ports tasks births lines = map (trusted_by ports tasks births) lines
+
 -- what a kernel port accepts: nothing
 abbrev pub of_kernel : List ℕ → List LabelItem
 of_kernel name = []
@@ -75,6 +105,8 @@ wiring_of table = record {
   interfaces = interfaces_from (sorts_of table.interfaces) 0 table.interfaces;
   labels = labels_of table;
   admitted = admitted_of (length table.ports) (length table.names) table.births table.admits;
+  trusted = trusted_of (length table.ports) (length table.names) table.births table.trusts;
+  replies_fit = table.fits;
 }
 
 -- how many task lines there are

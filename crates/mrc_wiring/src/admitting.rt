@@ -14,7 +14,7 @@ use mrc_bits::set_bit;
 use std::alloc::{AllocError, Global};
 
 /// Words of a row of classes: enough for as many classes as a wiring can have.
-const CLASS_WORDS: usize = 21;
+pub(crate) const CLASS_WORDS: usize = 21;
 
 /// The classes that types admit. `rows` has a row for each type by its number, without words if no
 /// admit line is for the type. `every` is the row of every class.
@@ -25,7 +25,7 @@ pub(crate) struct Admitting {
 }
 
 /// The words of the row of this number; none if there is no such row.
-fn words_at(rows: &[Vec<u64>], number: usize) -> &[u64]
+pub(crate) fn words_at(rows: &[Vec<u64>], number: usize) -> &[u64]
     ensures { result.now ≡ words_at rows.now number }
 {
     match rows.get(number) {

@@ -17,6 +17,7 @@ mod resolving;
 mod slots;
 mod sorts;
 mod table;
+mod trusting;
 mod typed;
 mod wired;
 
@@ -25,5 +26,6 @@ pub use faults::{ClaimFault, ResolveFault};
 pub use laws::{births_are_numbered, clashes_are_two_items, sorts_are_types};
 pub use names::{ClassKind, ClassLabel, kind_word};
 pub use resolving::NotResolved;
+pub use table::TrustedLine;
 pub use typed::{TypedArgument, TypedForm};
 pub use wired::Wired;

@@ -20,6 +20,7 @@ ghost use Rattle.mrc_wiring.specs.Resolving.{place_port, add_births, place_birth
 ghost use Rattle.mrc_wiring.specs.Resolving.{add_hold_port, add_hold_task, add_admit, right_held};
 ghost use Rattle.mrc_wiring.specs.Resolving.{port_birth, kernel_birth, admitted_said};
 ghost use Rattle.mrc_wiring.specs.Resolving.{has_twice, is_named};
+ghost use Rattle.mrc_wiring.specs.Resolving.{verb_said, trusted_said, add_trust, add_fit};
 ghost use Rattle.mrc_wiring.specs.Told.{StateTold, FaultOrStarts};
 
 use crate::births::{BirthRow, has_said, put_row};
@@ -28,12 +29,14 @@ use crate::first_names::NamesGiven;
 use crate::labels::{Label, has_clash, interface_number, label_said};
 use crate::names::{NumberedClass, class_said, number_of};
 use crate::sorts::{Sorts, sorts_of};
-use crate::table::AdmitLine;
+use crate::table::{AdmitLine, NumberedRight, TrustedLine};
 use mrc_base::limits::{INTERFACES, NAMES, TASKS, WIRED_PORTS};
 use mrc_base::{OrMemory, PortId, PortRight, TaskId};
 use mrc_forms::Interface;
-use mrc_model::FirstLine;
-use mrc_wiring_text::{ClassName, HeldRight, Items, Kind, Name, WiringLine, WiringSays};
+use mrc_model::{FirstLine, Verb};
+use mrc_wiring_text::{
+    ClassName, HeldRight, Items, Kind, Name, TrustVerb, TrustedRight, WiringLine, WiringSays,
+};
 use std::alloc::{AllocError, Global};
 use std::marker::Model;
 
@@ -46,6 +49,8 @@ pub(crate) struct Resolving {
     pub(crate) accepts: Vec<Label>,
     pub(crate) lines: Vec<FirstLine>,
     pub(crate) admits: Vec<AdmitLine>,
+    pub(crate) trusts: Vec<TrustedLine>,
+    pub(crate) fits: bool,
     pub(crate) interfaces: Vec<Interface>,
     pub(crate) sorts: Sorts,
     pub(crate) kernels: Vec<PortId>,
@@ -66,6 +71,8 @@ impl Model for Resolving {
         accepts = r.accepts.items;
         lines = r.lines.items;
         admits = r.admits.items;
+        trusts = r.trusts.items;
+        fits = r.fits;
         interfaces = r.interfaces.items;
       };
       sorts = r.sorts;
@@ -81,6 +88,17 @@ fn right_held(right: HeldRight) -> PortRight
     match right {
         HeldRight::Send => PortRight::Send,
         HeldRight::SendOnce => PortRight::SendOnce,
+    }
+}
+
+fn verb_said(verb: TrustVerb) -> Verb
+    ensures { result ≡ verb_said verb }
+{
+    match verb {
+        TrustVerb::Takes => Verb::Takes,
+        TrustVerb::Gives => Verb::Gives,
+        TrustVerb::Sends => Verb::Sends,
+        TrustVerb::Replies => Verb::Replies,
     }
 }
 
@@ -459,6 +477,67 @@ impl Resolving {
         Ok(())
     }
 
+    /// The right on a class of a line about a trusted task.
+    fn trusted_said(
+        &self,
+        line: u32,
+        right: &Option<TrustedRight>,
+    ) -> Result<Option<NumberedRight>, OrMemory<ResolveFault>>
+        requires { IsState self.now }
+        ensures { Gives (λ right. right) result
+            (trusted_said self.now.table line right.now) }
+    {
+        let Some(on) = right else {
+            return Ok(None);
+        };
+        let class = class_said(&self.names, &self.ports, self.births(), &on.class).ok_or(
+            OrMemory::Fault(ResolveFault::UnknownName(line)),
+        )?;
+        Ok(Some(NumberedRight {
+            right: on.right,
+            class,
+        }))
+    }
+
+    #[tactic(auto, unfolding(crate::specs::Resolving::add_trust))]
+    fn add_trust(
+        &mut self,
+        line: u32,
+        task: &Name,
+        verb: TrustVerb,
+        right: &Option<TrustedRight>,
+    ) -> Result<(), OrMemory<ResolveFault>>
+        requires { IsState self.old }
+        ensures exact { Adds result self.new.table
+            (add_trust self.old.table line task.now verb right.now) }
+        ensures kept { OnOk result (IsState self.new) }
+        ensures same { self.new.table.interfaces ≡ self.old.table.interfaces }
+    {
+        let task = self.task_said(line, task)?;
+        let right = self.trusted_said(line, right)?;
+        self.trusts.push(TrustedLine {
+            line,
+            verb: verb_said(verb),
+            task: task as u16,
+            right,
+        })?;
+        Ok(())
+    }
+
+    #[tactic(auto, unfolding(crate::specs::Resolving::add_fit))]
+    fn add_fit(&mut self, line: u32) -> Result<(), OrMemory<ResolveFault>>
+        requires { IsState self.old }
+        ensures exact { Adds result self.new.table (add_fit self.old.table line) }
+        ensures kept { OnOk result (IsState self.new) }
+        ensures same { self.new.table.interfaces ≡ self.old.table.interfaces }
+    {
+        if self.fits {
+            return Err(OrMemory::Fault(ResolveFault::TwiceNamed(line)));
+        }
+        self.fits = true;
+        Ok(())
+    }
+
     /// Adds what a line says.
     fn add_line(&mut self, alloc: Global, line: &WiringLine) -> Result<(), OrMemory<ResolveFault>>
         requires { IsState self.old }
@@ -491,6 +570,8 @@ impl Resolving {
                 type_name,
                 class,
             } => self.add_admit(number, subsystem, type_name, class),
+            WiringSays::Trust { task, verb, right } => self.add_trust(number, task, *verb, right),
+            WiringSays::RepliesFit => self.add_fit(number),
         }
     }
 }
@@ -566,6 +647,8 @@ fn started(alloc: Global, interfaces: Vec<Interface>) -> Result<Resolving, NotRe
             accepts: Vec::new(alloc),
             lines: Vec::new(alloc),
             admits: Vec::new(alloc),
+            trusts: Vec::new(alloc),
+            fits: false,
             interfaces,
             sorts,
             kernels: Vec::new(alloc),

@@ -8,7 +8,9 @@ ghost use Rattle.mrc_bits.specs.Bits.{is_set};
 ghost use Rattle.mrc_wiring.specs.Admitting.{class_words};
 ghost use Rattle.mrc_wiring.specs.Table.{wiring_of};
 ghost use Rattle.mrc_wiring.specs.Slots.{takes, shape_takes, form_takes, is_taker};
-ghost use Rattle.mrc_wiring.specs.Finding.{is_of_routine, is_there_of_routine};
+ghost use Rattle.mrc_model.specs.Wiring.{label, interface, is_reply_of, accepts_reply, is_answered};
+ghost use Rattle.mrc_model.specs.Wiring.{accepts_replier, is_routine_of, is_answered_at, fits_at};
+ghost use Rattle.mrc_wiring.specs.Finding.{is_of_routine, is_there_of_routine, is_there_of_id};
 
 use crate::typed::{TypedArgument, TypedForm};
 use crate::wired::Wired;
@@ -152,6 +154,103 @@ impl Wired {
         false
     }
 
+    /// Whether the class accepts the replies of the interface of this number.
+    #[tactic(auto, unfolding(mrc_model::specs::Wiring::accepts_reply))]
+    fn accepts_reply(&self, class: ClassId, number: usize) -> bool
+        ensures { result ≡ accepts_reply (wiring_of self.now) class number }
+    {
+        for item in self.label(class) {
+            if is_reply_of(number, *item) {
+                return true;
+            }
+        }
+        false
+    }
+
+    /// Whether the item stands for requests of an interface that has a routine, whose replies the
+    /// class accepts.
+    fn is_answered(&self, item: LabelItem, class: ClassId) -> bool
+        ensures { result ≡ is_answered (wiring_of self.now) class item }
+    {
+        match item {
+            LabelItem::Request(number) => {
+                self.has_routine(item) && self.accepts_reply(class, number)
+            }
+            LabelItem::Reply(_) => false,
+            LabelItem::Destroyed => false,
+        }
+    }
+
+    /// Whether an item of the class's label is so answered.
+    fn has_answered(&self, to: ClassId, class: ClassId) -> bool
+        ensures { result ≡ list_any (is_answered (wiring_of self.now) class)
+            (label (wiring_of self.now) to) }
+    {
+        for item in self.label(to) {
+            if self.is_answered(*item, class) {
+                return true;
+            }
+        }
+        false
+    }
+
+    /// Whether a reply right on a port of the class can come with some request to class `to`: with
+    /// one of an interface that has a routine, whose replies the class accepts if reply ports have
+    /// to fit.
+    #[tactic(auto, unfolding(mrc_model::specs::Wiring::accepts_replier))]
+    pub fn accepts_replier(&self, to: ClassId, class: ClassId) -> bool
+        ensures { result ≡ accepts_replier (wiring_of self.now) to class }
+    {
+        if self.replies_fit() {
+            self.has_answered(to, class)
+        } else {
+            self.accepts_routine(to)
+        }
+    }
+
+    /// Whether the interface of this number has a routine of the id.
+    fn has_routine_at(&self, number: usize, id: u32) -> bool
+        ensures { result ≡ list_any (is_routine_of id)
+            (interface (wiring_of self.now) number).requests }
+    {
+        has_form_of_id(self.item_forms(LabelItem::Request(number)), id)
+    }
+
+    /// Whether the item stands for requests of an interface that has a routine of the id, whose
+    /// replies the class accepts.
+    fn is_answered_at(&self, item: LabelItem, id: u32, class: ClassId) -> bool
+        ensures { result ≡ is_answered_at (wiring_of self.now) id class item }
+    {
+        match item {
+            LabelItem::Request(number) => {
+                self.has_routine_at(number, id) && self.accepts_reply(class, number)
+            }
+            LabelItem::Reply(_) => false,
+            LabelItem::Destroyed => false,
+        }
+    }
+
+    /// Whether an item of the class's label is so answered.
+    fn has_answered_at(&self, to: ClassId, id: u32, class: ClassId) -> bool
+        ensures { result ≡ list_any (is_answered_at (wiring_of self.now) id class)
+            (label (wiring_of self.now) to) }
+    {
+        for item in self.label(to) {
+            if self.is_answered_at(*item, id, class) {
+                return true;
+            }
+        }
+        false
+    }
+
+    /// Whether a reply right on a port of the class fits the request of this id to class `to`.
+    #[tactic(auto, unfolding(mrc_model::specs::Wiring::fits_at))]
+    pub fn fits_at(&self, to: ClassId, id: u32, class: ClassId) -> bool
+        ensures { result ≡ fits_at (wiring_of self.now) to id class }
+    {
+        !self.replies_fit() || self.has_answered_at(to, id, class)
+    }
+
     /// Whether a port of the class may be named in a port-destroyed request.
     #[tactic(auto, unfolding(mrc_model::specs::Wiring::accepts_destroyed))]
     pub fn accepts_destroyed(&self, class: ClassId) -> bool
@@ -164,6 +263,33 @@ impl Wired {
         }
         false
     }
+}
+
+fn is_reply_of(number: usize, item: LabelItem) -> bool
+    ensures { result ≡ is_reply_of number item }
+{
+    match item {
+        LabelItem::Request(_) => false,
+        LabelItem::Reply(other) => other == number,
+        LabelItem::Destroyed => false,
+    }
+}
+
+/// Whether there is a form, and it is that of a routine's request with the id.
+fn is_there_of_id(form: &Option<TypedForm>, id: u32) -> bool
+    ensures { result ≡ is_there_of_id id form.now }
+{
+    match form {
+        Some(form) => form.is_of_routine() && form.id() == id,
+        None => false,
+    }
+}
+
+/// Whether one of the forms that are there is that of a routine's request with the id.
+fn has_form_of_id(forms: &[Option<TypedForm>], id: u32) -> bool
+    ensures { result ≡ list_any (is_there_of_id id) forms.now }
+{
+    forms.iter().any(|form| is_there_of_id(form, id))
 }
 
 fn is_destroyed_item(item: LabelItem) -> bool

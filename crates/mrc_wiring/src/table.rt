@@ -7,7 +7,8 @@ ghost use Rattle.mrc_wiring.specs.Table.{kind_class, admitted_by, admitted_of};
 
 use crate::births::{BirthRow, row_of};
 use crate::names::{ClassKind, NumberedClass};
-use mrc_base::Copies;
+use mrc_base::{Copies, PortRight};
+use mrc_model::Verb;
 use std::alloc::{AllocError, Global};
 
 /// An admit line: the number of its type, and its class, or none.
@@ -15,6 +16,36 @@ use std::alloc::{AllocError, Global};
 pub(crate) struct AdmitLine {
     pub(crate) sort: usize,
     pub(crate) class: Option<NumberedClass>,
+}
+
+/// The right that a line about a trusted task names, and its class by its number.
+#[derive(Clone, Copy, Debug, PartialEq, Eq)]
+pub(crate) struct NumberedRight {
+    pub(crate) right: PortRight,
+    pub(crate) class: NumberedClass,
+}
+
+/// A line about a trusted task.
+#[derive(Clone, Copy, Debug, PartialEq, Eq)]
+pub struct TrustedLine {
+    /// The line's number in the text.
+    pub line: u32,
+    /// What the line limits.
+    pub verb: Verb,
+    /// The number of the task.
+    pub task: u16,
+    /// The right on a class, or none.
+    pub(crate) right: Option<NumberedRight>,
+}
+
+impl Copies for TrustedLine {
+    fn copy(&self, _: Global) -> Result<TrustedLine, AllocError> {
+        Ok(*self)
+    }
+
+    fn same(&self, other: &TrustedLine) -> bool {
+        *self == *other
+    }
 }
 
 impl Copies for AdmitLine {

@@ -23,12 +23,13 @@ pub struct TypedArgument {
 }
 
 impl Model for TypedArgument {
+    ghost use Rattle.std.specs.Prelude.{[], ◌∷◌};
     ghost use Rattle.mrc_model.specs.Wiring as model;
 
     ghost Value = { model.Shape };
 
     ghost view = { λ a. record {
-      name = a.shape.name;
+      types = model.OneOf (a.shape.name ∷ []);
       size = a.shape.size;
       number = a.shape.number;
       is_bound = a.shape.is_bound;

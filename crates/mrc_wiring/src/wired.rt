@@ -8,7 +8,13 @@ ghost use Rattle.mrc_model.specs.First.{is_sound};
 ghost use Rattle.mrc_model.specs.FirstHoldings.{given_classes};
 ghost use Rattle.mrc_model.specs.Wiring.{classes, births_class, label, admits};
 ghost use Rattle.mrc_bits.specs.Bits.{is_set};
+ghost use Rattle.mrc_base.specs.declared.PortRight.{PortRight};
+ghost use Rattle.std.specs.Prelude.{true, false, nat_lt, ◌&&◌};
+ghost use Rattle.std.specs.List.{list_any};
+ghost use Rattle.mrc_model.specs.Wiring.{is_limited, may, trusts_by};
+ghost use Rattle.mrc_wiring.specs.Trusting.{right_words, right_place, limit_of_classes};
 ghost use Rattle.mrc_wiring.specs.Admitting.{IsAdmitting, class_words};
+ghost use Rattle.mrc_wiring.specs.Trusting.{IsTrusting};
 ghost use Rattle.mrc_wiring.specs.Births.{AreAscending, AreKinds, of_row};
 ghost use Rattle.mrc_wiring.specs.Table.{IsTable, wiring_of};
 ghost use Rattle.mrc_wiring.specs.Sorts.{sorts_of};
@@ -22,18 +28,19 @@ ghost use Rattle.mrc_wiring.specs.Names.{AreNames, number_of, class_label, shown
 ghost use Rattle.mrc_wiring.specs.Names.{class_named, births_named};
 ghost use Rattle.mrc_wiring.specs.Claims.{class_number};
 
-use crate::admitting::Admitting;
+use crate::admitting::{Admitting, words_at};
 use crate::births::{BirthRow, row_of};
 use crate::holdings::first_classes;
 use crate::labels::Label;
 use crate::names::{ClassKind, ClassLabel, class_said, kind_named, number_of};
 use crate::resolving::{NotResolved, Resolving, resolved};
-use crate::table::{AdmitLine, class_of};
+use crate::table::{AdmitLine, TrustedLine, class_of};
+use crate::trusting::{right_part, trust_row, trusting};
 use crate::typed::{TypedForm, TypedForms, forms_at, typed_of};
-use mrc_base::{ClassId, OrMemory, TaskId, copy_all, same_all};
+use mrc_base::{ClassId, OrMemory, PortRight, TaskId, copy_all, same_all};
 use mrc_bits::has_bit;
 use mrc_forms::{Interface, MessageKind};
-use mrc_model::{FirstLine, LabelItem};
+use mrc_model::{FirstLine, LabelItem, Verb};
 use mrc_wiring_text::{ClassName, Name, WiringLine};
 use std::alloc::{AllocError, Global};
 use std::marker::Model;
@@ -44,6 +51,7 @@ struct ByNumbers {
     requests: Vec<TypedForms>,
     replies: Vec<TypedForms>,
     admitting: Admitting,
+    trusting: Vec<Vec<u64>>,
     first_classes: Vec<ClassId>,
 }
 
@@ -60,6 +68,9 @@ fn numbered(alloc: Global, table: &Resolving) -> Result<ByNumbers, AllocError>
     ensures admitting { IfOk result (λ numbered. IsAdmitting (length table.now.table.ports)
         (length table.now.table.names) table.now.table.births table.now.table.admits
         numbered.admitting.rows.items numbered.admitting.every.items) }
+    ensures trusting { IfOk result (λ numbered. IsTrusting (length table.now.table.ports)
+        (length table.now.table.names) table.now.table.births table.now.table.trusts
+        numbered.trusting.items) }
     ensures classes { IfOk result (λ numbered. numbered.first_classes.items
         ≡ given_classes (wiring_of table.now.table)) }
 {
@@ -75,6 +86,13 @@ fn numbered(alloc: Global, table: &Resolving) -> Result<ByNumbers, AllocError>
             &table.births,
             &table.admits,
         )?,
+        trusting: trusting(
+            alloc,
+            table.ports.len(),
+            table.names.len(),
+            &table.births,
+            &table.trusts,
+        )?,
         first_classes: first_classes(alloc, table)?,
     })
 }
@@ -89,10 +107,13 @@ pub struct Wired {
     accepts: Vec<Label>,
     pub(crate) lines: Vec<FirstLine>,
     admits: Vec<AdmitLine>,
+    trusts: Vec<TrustedLine>,
+    fits: bool,
     interfaces: Vec<Interface>,
     requests: Vec<TypedForms>,
     replies: Vec<TypedForms>,
     admitting: Admitting,
+    trusting: Vec<Vec<u64>>,
     first_classes: Vec<ClassId>,
 }
 
@@ -109,6 +130,8 @@ impl Model for Wired {
       accepts = w.accepts.items;
       lines = w.lines.items;
       admits = w.admits.items;
+      trusts = w.trusts.items;
+      fits = w.fits;
       interfaces = w.interfaces.items;
     } };
 
@@ -119,9 +142,11 @@ impl Model for Wired {
       accepts = w.accepts.items;
       lines = w.lines.items;
       admits = w.admits.items;
+      trusts = w.trusts.items;
+      fits = w.fits;
       interfaces = w.interfaces.items;
     } w.requests.items w.replies.items w.admitting.rows.items w.admitting.every.items
-        w.first_classes.items };
+        w.trusting.items w.first_classes.items };
 }
 
 impl Wired {
@@ -143,10 +168,13 @@ impl Wired {
                 accepts: table.accepts,
                 lines: table.lines,
                 admits: table.admits,
+                trusts: table.trusts,
+                fits: table.fits,
                 interfaces: table.interfaces,
                 requests: by_numbers.requests,
                 replies: by_numbers.replies,
                 admitting: by_numbers.admitting,
+                trusting: by_numbers.trusting,
                 first_classes: by_numbers.first_classes,
             }),
             Err(error) => Err(NotResolved {
@@ -290,6 +318,69 @@ impl Wired {
         has_bit(self.admitting(sort), class.0 as usize)
     }
 
+    /// The row of what lines of the verb name for tasks of this class, a part for each right. It
+    /// has no words if there is no such line.
+    fn trusting_row(&self, verb: Verb, task: TaskId) -> &[u64]
+        ensures limited { nat_lt 0 (length result.now)
+            ≡ is_limited (wiring_of self.now) verb task }
+        ensures wide { 0 < length result.now → length result.now ≡ right_words }
+        ensures named { (right : PortRight) (c : ℕ) →
+            (nat_lt c limit_of_classes && is_set result.now (right_place right c))
+            ≡ list_any (trusts_by verb task right c) (wiring_of self.now).trusted }
+    {
+        words_at(self.trusting.as_slice(), trust_row(verb, task.0))
+    }
+
+    /// The classes on whose ports tasks of this class may use the verb with the right, as a row of
+    /// bits; none if no line limits them in the verb.
+    #[tactic(auto, unfolding(mrc_model::specs::Wiring::may))]
+    pub fn trusted(&self, verb: Verb, task: TaskId, right: PortRight) -> Option<&[u64]>
+        ensures none { IfNone result (is_limited (wiring_of self.now) verb task ≡ false) }
+        ensures limited { IfSome result (λ row.
+            is_limited (wiring_of self.now) verb task ≡ true) }
+        ensures some { IfSome result (λ row. (c : ℕ) →
+            is_set row.now c ≡ may (wiring_of self.now) verb task right c) }
+        ensures few { IfSome result (λ row. length row.now ≤ class_words) }
+    {
+        let row = self.trusting_row(verb, task);
+        if row.is_empty() {
+            return None;
+        }
+        Some(right_part(row, right))
+    }
+
+    /// Whether a line limits what tasks of this class may do by the verb.
+    pub fn is_limited(&self, verb: Verb, task: TaskId) -> bool
+        ensures { result ≡ is_limited (wiring_of self.now) verb task }
+    {
+        !self.trusting_row(verb, task).is_empty()
+    }
+
+    /// Whether tasks of this class may use the verb with the right on ports of a class.
+    #[tactic(auto, unfolding(mrc_model::specs::Wiring::may))]
+    pub fn may(&self, verb: Verb, task: TaskId, right: PortRight, class: ClassId) -> bool
+        ensures { result ≡ may (wiring_of self.now) verb task right class }
+    {
+        match self.trusted(verb, task, right) {
+            Some(row) => has_bit(row, class.0 as usize),
+            None => true,
+        }
+    }
+
+    /// The lines about trusted tasks, in their order.
+    pub fn trusts(&self) -> &[TrustedLine]
+        ensures { result.now ≡ self.now.trusts }
+    {
+        self.trusts.as_slice()
+    }
+
+    /// Whether reply ports have to fit.
+    pub fn replies_fit(&self) -> bool
+        ensures { result ≡ (wiring_of self.now).replies_fit }
+    {
+        self.fits
+    }
+
     /// The interfaces, in the order of their numbers.
     pub fn interfaces(&self) -> &[Interface]
         ensures { result.now ≡ self.now.interfaces }
@@ -425,6 +516,8 @@ impl Wired {
             accepts: copy_all(alloc, &self.accepts)?,
             lines: copy_all(alloc, &self.lines)?,
             admits: copy_all(alloc, &self.admits)?,
+            trusts: copy_all(alloc, &self.trusts)?,
+            fits: self.fits,
             interfaces: copy_all(alloc, &self.interfaces)?,
             requests: copy_all(alloc, &self.requests)?,
             replies: copy_all(alloc, &self.replies)?,
@@ -434,6 +527,13 @@ impl Wired {
                 self.names.len(),
                 self.births(),
                 &self.admits,
+            )?,
+            trusting: trusting(
+                alloc,
+                self.ports.len(),
+                self.names.len(),
+                self.births(),
+                &self.trusts,
             )?,
             first_classes: self.first_classes().to_vec(alloc)?,
         })
@@ -449,6 +549,8 @@ impl Wired {
             && same_all(&self.accepts, &other.accepts)
             && same_all(&self.lines, &other.lines)
             && same_all(&self.admits, &other.admits)
+            && same_all(&self.trusts, &other.trusts)
+            && self.fits == other.fits
             && same_all(&self.interfaces, &other.interfaces)
     }
 }

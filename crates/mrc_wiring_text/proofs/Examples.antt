@@ -61,7 +61,7 @@ unfolding text_of utf8_text is_utf8 chars heading after_heading version_of body 
 comments_and_zeros = refl
 
 -- the version is told before a bad line behind it
-another_version : wiring_of (text (codes "wiring 3" ∷ codes "task" ∷ [])) ≡ Err Version
+another_version : wiring_of (text (codes "wiring 4" ∷ codes "task" ∷ [])) ≡ Err Version
 unfolding text_of utf8_text is_utf8 chars heading after_heading version_of body line_of words
     between_blanks is_blank wiring_says task_line hold_line held is_name lib.Utf8.encode
 another_version = refl
@@ -79,7 +79,7 @@ unfolding text_of utf8_text is_utf8 chars heading after_heading version_of body 
 no_words = refl
 
 -- bytes that are no text
-no_text : wiring_of (codes "wiring 3 " ++ 255 ∷ []) ≡ Err NotUtf8
+no_text : wiring_of (codes "wiring 4 " ++ 255 ∷ []) ≡ Err NotUtf8
 unfolding text_of utf8_text is_utf8 chars heading after_heading version_of body line_of words
     between_blanks is_blank wiring_says task_line hold_line held is_name lib.Utf8.encode
 no_text = refl

@@ -10,6 +10,7 @@ use Rattle.mrc_base.proofs.Steps.{refuses_then, refuses_same}
 use Rattle.mrc_wiring_text.specs.declared.faults.TextFault.{TextFault}
 use Rattle.mrc_wiring_text.specs.declared.faults.TextFault.TheVariants.{BadLine}
 use Rattle.mrc_wiring_text.specs.declared.reading.Edition.{Edition}
+use Rattle.mrc_wiring_text.specs.declared.reading.TextKind.{TextKind}
 use Rattle.mrc_wiring_text.specs.Lexis.{is_hash, spaced, between_blanks, words}
 use Rattle.mrc_wiring_text.specs.Reading.{after_heading, heading}
 
@@ -36,13 +37,13 @@ pub is_nil : {X : Type 0} (xs : List X) (test : Bool)
     → xs ≡ []
 is_nil xs test is said = nil_from_length xs (eqb-true _ _ (sym is ∙ said))
 
-heading_at : (kind : List ℕ) (n : ℕ) (line : List ℕ) (rest : List (List ℕ))
+heading_at : (kind : TextKind) (n : ℕ) (line : List ℕ) (rest : List (List ℕ))
     → eqb (length (words line)) 0 ≡ false
     → heading kind n (line ∷ rest) ≡ (after_heading kind n (words line) >>= λ next. Ok (next, rest))
 unfolding heading
 heading_at kind n line rest e = rw e refl
 
-pub heading_passes : (kind : List ℕ) (n : ℕ) (text : List (List ℕ)) (line : List ℕ)
+pub heading_passes : (kind : TextKind) (n : ℕ) (text : List (List ℕ)) (line : List ℕ)
     (rest : List (List ℕ)) (total : Result ((Edition × ℕ) × List (List ℕ)) TextFault)
     → heading kind n text ≡ total
     → text ≡ line ∷ rest
@@ -53,7 +54,7 @@ heading_passes kind n text line rest total same cut e =
     let one : heading kind n (line ∷ rest) ≡ heading kind (n + 1) rest = rw e refl in
     sym one ∙ ap (heading kind n) (sym cut) ∙ same
 
-pub heading_starts : (kind : List ℕ) (n : ℕ) (text : List (List ℕ)) (line : List ℕ)
+pub heading_starts : (kind : TextKind) (n : ℕ) (text : List (List ℕ)) (line : List ℕ)
     (rest : List (List ℕ)) (total : Result ((Edition × ℕ) × List (List ℕ)) TextFault)
     (next : Edition × ℕ)
     → heading kind n text ≡ total
@@ -65,7 +66,7 @@ heading_starts kind n text line rest total next same cut e is =
     sym same ∙ ap (heading kind n) cut ∙ heading_at kind n line rest e
     ∙ ap (λ r. r >>= λ next. Ok (next, rest)) is
 
-pub heading_fails : (e : OrMemory TextFault) (kind : List ℕ) (n : ℕ) (text : List (List ℕ))
+pub heading_fails : (e : OrMemory TextFault) (kind : TextKind) (n : ℕ) (text : List (List ℕ))
     (line : List ℕ) (rest : List (List ℕ)) (total : Result ((Edition × ℕ) × List (List ℕ))
     TextFault)
     → heading kind n text ≡ total
@@ -77,7 +78,7 @@ heading_fails e kind n text line rest total same cut filled is =
     refuses_same e _ _ (sym (heading_at kind n line rest filled) ∙ ap (heading kind n) (sym cut)
     ∙ same) (refuses_then e (after_heading kind n (words line)) (λ next. Ok (next, rest)) is)
 
-pub heading_ends : (kind : List ℕ) (n : ℕ) (total : Result ((Edition × ℕ) × List (List ℕ))
+pub heading_ends : (kind : TextKind) (n : ℕ) (total : Result ((Edition × ℕ) × List (List ℕ))
     TextFault)
     → heading kind n [] ≡ total
     → total ≡ Err (BadLine 1)

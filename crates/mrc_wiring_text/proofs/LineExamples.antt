@@ -7,7 +7,12 @@ use Rattle.mrc_wiring_text.specs.declared.wiring.HeldRight.TheVariants.{Send, Se
 use Rattle.mrc_wiring_text.specs.declared.wiring.WiringSays.{WiringSays}
 use Rattle.mrc_wiring_text.specs.declared.wiring.WiringSays.TheVariants.{Task, Port, Births}
 use Rattle.mrc_wiring_text.specs.declared.wiring.WiringSays.TheVariants.{HoldPort, HoldTask, Admit}
-use Rattle.mrc_wiring_text.specs.declared.reading.Edition.TheVariants.{First, Second}
+use Rattle.mrc_wiring_text.specs.declared.reading.Edition.TheVariants.{First, Second, Third}
+use Rattle.mrc_base.specs.declared.PortRight.TheVariants as rights
+use Rattle.mrc_wiring_text.specs.declared.trust.TrustVerb.TheVariants as trust
+use Rattle.mrc_wiring_text.specs.declared.wiring.WiringSays.TheVariants.{Trust, RepliesFit}
+use Rattle.mrc_wiring_text.specs.Policy.{right_of}
+use Rattle.mrc_wiring_text.specs.Wiring.{verb_of, trusted_right, trust_line, fit_line}
 use Rattle.mrc_wiring_text.specs.Kinds.{kind_of}
 use Rattle.mrc_wiring_text.specs.Names.{is_name}
 use Rattle.mrc_wiring_text.specs.Lexis.{is_blank, between_blanks, words}
@@ -108,3 +113,48 @@ admit_by_kind = refl
 no_kind_in_version_1 : says (codes "admit fsys.file_t births fs 1") ≡ None
 unfolding words between_blanks is_blank wiring_says admit_line admitted class_of is_name
 no_kind_in_version_1 = refl
+
+-- what version 3 adds
+abbrev third : List ℕ → Option WiringSays
+third line = wiring_says Third (words line)
+
+trust_right : third (codes "trust l takes once births f 2")
+    ≡ Some (Trust (codes "l") trust.Takes (Some record {
+      right = rights.SendOnce;
+      class = class.Births (codes "f") 2;
+    }))
+unfolding words between_blanks is_blank wiring_says trust_line verb_of trusted_right right_of
+    class_of
+    births_with_kind kind_of is_name
+trust_right = refl
+
+trust_none : third (codes "trust l sends none") ≡ Some (Trust (codes "l") trust.Sends None)
+unfolding words between_blanks is_blank wiring_says trust_line verb_of trusted_right is_name
+trust_none = refl
+
+trust_replies : third (codes "trust l replies port p")
+    ≡ Some (Trust (codes "l") trust.Replies (Some record {
+      right = rights.SendOnce;
+      class = class.Port (codes "p");
+    }))
+unfolding words between_blanks is_blank wiring_says trust_line verb_of admitted class_of plain_class
+    is_name
+trust_replies = refl
+
+replies_name_no_right : third (codes "trust l replies once port p") ≡ None
+unfolding words between_blanks is_blank wiring_says trust_line verb_of admitted class_of plain_class
+    births_with_kind kind_of is_name
+replies_name_no_right = refl
+
+replies_fit : third (codes "replies fit") ≡ Some RepliesFit
+unfolding words between_blanks is_blank wiring_says fit_line
+replies_fit = refl
+
+-- in version 2 they say nothing
+no_trust : wiring_says Second (words (codes "trust l takes none")) ≡ None
+unfolding words between_blanks is_blank wiring_says
+no_trust = refl
+
+no_fit : wiring_says Second (words (codes "replies fit")) ≡ None
+unfolding words between_blanks is_blank wiring_says
+no_fit = refl

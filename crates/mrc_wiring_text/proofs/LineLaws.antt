@@ -4,7 +4,7 @@ use Rattle.std.proofs.Common.{None, refl, sym, ap, ◌∙◌, subst, inl, inr}
 use Rattle.std.specs.Prelude.{bytes_eq, codes, IsTrue, nat_lt}
 use Rattle.std.specs.List.{AllByRecursion, before_first, after_first}
 use Rattle.std.specs.Option.{option_map}
-use Rattle.std.proofs.lemmas.Bool.{and_parts, ltb-true, lt-ltb}
+use Rattle.std.proofs.lemmas.Bool.{and_parts, ltb-true, lt-ltb, false≢true}
 use Rattle.std.proofs.lemmas.Option.{none-some, same_Some}
 use Rattle.mrc_base.specs.declared.PortRight.{PortRight}
 use Rattle.mrc_base.specs.declared.PortRight.TheVariants as rights
@@ -19,6 +19,10 @@ use Rattle.mrc_wiring_text.specs.declared.wiring.HeldRight.TheVariants.{Send, Se
 use Rattle.mrc_wiring_text.specs.declared.wiring.WiringSays.{WiringSays}
 use Rattle.mrc_wiring_text.specs.declared.wiring.WiringSays.TheVariants.{Task, Port, Births}
 use Rattle.mrc_wiring_text.specs.declared.wiring.WiringSays.TheVariants.{HoldPort, HoldTask, Admit}
+use Rattle.mrc_wiring_text.specs.declared.wiring.WiringSays.TheVariants.{Trust, RepliesFit}
+use Rattle.mrc_wiring_text.specs.declared.trust.TrustVerb.{TrustVerb}
+use Rattle.mrc_wiring_text.specs.declared.trust.TrustVerb.TheVariants.{Takes, Gives, Sends, Replies}
+use Rattle.mrc_wiring_text.specs.declared.trust.TrustedRight.{TrustedRight}
 use Rattle.mrc_wiring_text.specs.Lexis.{is_dot, decimal}
 use Rattle.mrc_wiring_text.specs.Names.{is_name, name_of}
 use Rattle.mrc_base.specs.Limits.{limit_of_kinds}
@@ -30,9 +34,13 @@ use Rattle.mrc_wiring_text.specs.Wiring.{task_line, port_named, port_line, birth
 use Rattle.mrc_wiring_text.specs.Wiring.{plain_births, kind_births, births_line}
 use Rattle.mrc_wiring_text.specs.Wiring.{held_right, hold_port_named, hold_task_named, held}
 use Rattle.mrc_wiring_text.specs.Wiring.{hold_line, admitted, admit_named, admit_line, wiring_says}
+use Rattle.mrc_wiring_text.specs.Wiring.{verb_of, right_on, trusted_right, once_on, trusted}
+use Rattle.mrc_wiring_text.specs.Wiring.{trust_named, trust_by, trust_line, fit_line, third_says}
 use Rattle.mrc_wiring_text.specs.Grammar.{HasName, items_words, right_word, port_right_word}
 use Rattle.mrc_wiring_text.specs.Grammar.{IsKindWord, AreBirthsWords, AreClassWords}
 use Rattle.mrc_wiring_text.specs.Grammar.{AreAdmittedWords, AreKindWords, AreWordsOf}
+use Rattle.mrc_wiring_text.specs.Grammar.{has_kinds, verb_word, AreNamedWords, AreOnceWords}
+use Rattle.mrc_wiring_text.specs.Grammar.{AreTrustedWords}
 use Rattle.mrc_wiring_text.specs.Grammar.{AreForbidWords, EachLineIsSpelled}
 use Rattle.mrc_wiring_text.specs.Grammar.{EachPolicyLineIsSpelled}
 use Rattle.mrc_wiring_text.proofs.ItemLaws.{chosen, either, mapped, word_is, name_found}
@@ -138,14 +146,20 @@ unfolding kind_of
 kind_again word kind is =
     rw (is.0, is.1, lt-ltb kind limit_of_kinds is.2) refl
 
-kind_births_found : (words : List (List ℕ)) (says : WiringSays)
+-- in an edition where kinds have words
+abbrev KindsAreSpelled : Edition → Type 0
+KindsAreSpelled d = (word task : List ℕ) (kind : ℕ) → IsKindWord word kind
+    → AreKindWords d (task ∷ word ∷ []) task kind
+
+kind_births_found : (d : Edition) → KindsAreSpelled d
+    → (words : List (List ℕ)) (says : WiringSays)
     → kind_births words ≡ Some says
-    → AreWordsOf editions.Second (codes "births" ∷ words) says
+    → AreWordsOf d (codes "births" ∷ words) says
 unfolding kind_births
-kind_births_found [] says e = absurd (none-some says e)
-kind_births_found (a ∷ []) says e = absurd (none-some says e)
-kind_births_found (a ∷ b ∷ []) says e = absurd (none-some says e)
-kind_births_found (task ∷ kind ∷ accepts ∷ items) says e =
+kind_births_found d spelled [] says e = absurd (none-some says e)
+kind_births_found d spelled (a ∷ []) says e = absurd (none-some says e)
+kind_births_found d spelled (a ∷ b ∷ []) says e = absurd (none-some says e)
+kind_births_found d spelled (task ∷ kind ∷ accepts ∷ items) says e =
     let c = chosen (bytes_eq accepts (codes "accepts"))
     (births_named (name_of task) (kind_of kind) (items_of items)) says e in
     let f = births_parts (name_of task) (kind_of kind) (items_of items) says c.1 in
@@ -156,14 +170,17 @@ kind_births_found (task ∷ kind ∷ accepts ∷ items) says e =
     ap (λ x. codes "births" ∷ x ∷ kind ∷ accepts ∷ items) t.0
     ∙ ap (λ x. codes "births" ∷ f.0 ∷ kind ∷ x ∷ items) (word_is accepts (codes "accepts") c.0)
     ∙ ap (λ x. codes "births" ∷ f.0 ∷ kind ∷ codes "accepts" ∷ x) i.0 in
-    subst (AreWordsOf editions.Second (codes "births" ∷ task ∷ kind ∷ accepts ∷ items)) f.6
-    ((f.0 ∷ kind ∷ [], (kind, kind_found kind f.1 f.4, refl), same), t.1, i.1)
+    subst (AreWordsOf d (codes "births" ∷ task ∷ kind ∷ accepts ∷ items)) f.6
+    ((f.0 ∷ kind ∷ [], spelled kind f.0 f.1 (kind_found kind f.1 f.4), same), t.1, i.1)
 
 births_found : (d : Edition) (words : List (List ℕ)) (says : WiringSays)
     → births_line d words ≡ Some says
     → AreWordsOf d (codes "births" ∷ words) says
 births_found editions.First words says e = plain_births_found words says e
-births_found editions.Second words says e = kind_births_found words says e
+births_found editions.Second words says e =
+    kind_births_found editions.Second (λ word task kind is. (word, is, refl)) words says e
+births_found editions.Third words says e =
+    kind_births_found editions.Third (λ word task kind is. (word, is, refl)) words says e
 
 -- ---- `hold`
 
@@ -328,11 +345,12 @@ plain_class_found d word name found e =
           ]
     ]
 
-births_with_kind_found : (word name kind : List ℕ) (found : ClassName)
+births_with_kind_found : (d : Edition) → IsTrue (has_kinds d)
+    → (word name kind : List ℕ) (found : ClassName)
     → births_with_kind word name kind ≡ Some found
-    → AreClassWords editions.Second (word ∷ name ∷ kind ∷ []) found
+    → AreClassWords d (word ∷ name ∷ kind ∷ []) found
 unfolding births_with_kind
-births_with_kind_found word name kind found e =
+births_with_kind_found d has word name kind found e =
     let c = chosen (bytes_eq word (codes "births")) (births_of (name_of name) (kind_of kind)) found
     e in
     let f = births_of_found (name_of name) (kind_of kind) found c.1 in
@@ -340,8 +358,8 @@ births_with_kind_found word name kind found e =
     let same : word ∷ name ∷ kind ∷ [] ≡ codes "births" ∷ f.0 ∷ kind ∷ [] =
     ap (λ w. w ∷ name ∷ kind ∷ []) (word_is word (codes "births") c.0)
     ∙ ap (λ x. codes "births" ∷ x ∷ kind ∷ []) n.0 in
-    subst (AreClassWords editions.Second (word ∷ name ∷ kind ∷ [])) f.4
-    (inr (refl, (kind, kind_found kind f.1 f.3, same)), n.1)
+    subst (AreClassWords d (word ∷ name ∷ kind ∷ [])) f.4
+    (inr (has, (kind, kind_found kind f.1 f.3, same)), n.1)
 
 pub class_found : (d : Edition) (words : List (List ℕ)) (found : ClassName)
     → class_of d words ≡ Some found
@@ -352,9 +370,12 @@ class_found d (a ∷ []) found e = absurd (none-some found e)
 class_found d (word ∷ name ∷ []) found e = plain_class_found d word name found e
 class_found editions.First (a ∷ b ∷ c ∷ []) found e = absurd (none-some found e)
 class_found editions.Second (word ∷ name ∷ kind ∷ []) found e =
-    births_with_kind_found word name kind found e
+    births_with_kind_found editions.Second refl word name kind found e
+class_found editions.Third (word ∷ name ∷ kind ∷ []) found e =
+    births_with_kind_found editions.Third refl word name kind found e
 class_found editions.First (a ∷ b ∷ c ∷ x ∷ rest) found e = absurd (none-some found e)
 class_found editions.Second (a ∷ b ∷ c ∷ x ∷ rest) found e = absurd (none-some found e)
+class_found editions.Third (a ∷ b ∷ c ∷ x ∷ rest) found e = absurd (none-some found e)
 
 births_again : (d : Edition) (words : List (List ℕ)) (task : List ℕ) (kind : ℕ)
     → AreBirthsWords d words task kind
@@ -363,8 +384,11 @@ births_again : (d : Edition) (words : List (List ℕ)) (task : List ℕ) (kind :
 unfolding class_of plain_class births_with_kind
 births_again d words task kind (inl (same, zeroth)) h =
     rw (same, zeroth) (rw h refl)
-births_again d words task kind (inr (second, (word, is, same))) h =
-    rw (second, same) (rw (h, kind_again word kind is) refl)
+births_again editions.First words task kind (inr (has, spelled)) h = absurd (false≢true has)
+births_again editions.Second words task kind (inr (has, (word, is, same))) h =
+    rw same (rw (h, kind_again word kind is) refl)
+births_again editions.Third words task kind (inr (has, (word, is, same))) h =
+    rw same (rw (h, kind_again word kind is) refl)
 
 pub class_again : (d : Edition) (words : List (List ℕ)) (class : ClassName)
     → AreClassWords d words class
@@ -436,6 +460,205 @@ admit_found d (slot ∷ words) says e =
     subst (AreWordsOf d (codes "admit" ∷ slot ∷ words)) f.6
     ((words, c, same), s.1, s.2)
 
+-- ---- `trust` and `replies`
+
+right_found : (word : List ℕ) (right : PortRight)
+    → right_of word ≡ Some right
+    → word ≡ port_right_word right
+unfolding right_of
+right_found word right e =
+    let once = cond (bytes_eq word (codes "once")) (Some rights.SendOnce) None in
+    let receive = cond (bytes_eq word (codes "receive")) (Some rights.Receive) once in
+    elim (either (bytes_eq word (codes "send")) (Some rights.Send) receive right e) [
+      | inl c ↦ word_is word (codes "send") c.0 ∙ ap port_right_word (same_Some _ _ c.1)
+      | inr c ↦
+          elim (either (bytes_eq word (codes "receive")) (Some rights.Receive) once right c.1) [
+            | inl r ↦ word_is word (codes "receive") r.0 ∙ ap port_right_word (same_Some _ _ r.1)
+            | inr r ↦
+                let o = chosen (bytes_eq word (codes "once")) (Some rights.SendOnce) right r.1 in
+                word_is word (codes "once") o.0 ∙ ap port_right_word (same_Some _ _ o.1)
+          ]
+    ]
+
+right_again : (right : PortRight) → right_of (port_right_word right) ≡ Some right
+unfolding right_of
+right_again rights.Send = refl
+right_again rights.Receive = refl
+right_again rights.SendOnce = refl
+
+right_on_found : (r : Option PortRight) (c : Option ClassName) (found : Option TrustedRight)
+    → right_on r c ≡ Some found
+    → (right : PortRight) × (class : ClassName) × (r ≡ Some right) × (c ≡ Some class)
+    × (Some (record { right = right; class = class }) ≡ found)
+right_on_found (Some r) (Some c) found e = (r, c, refl, refl, same_Some _ _ e)
+right_on_found (Some r) None found e = absurd (none-some found e)
+right_on_found None c found e = absurd (none-some found e)
+
+trusted_right_found : (d : Edition) (words : List (List ℕ)) (right : Option TrustedRight)
+    → trusted_right d words ≡ Some right
+    → AreNamedWords d words right
+unfolding trusted_right
+trusted_right_found d [] right e = absurd (none-some right e)
+trusted_right_found d (word ∷ []) right e =
+    let c = chosen (bytes_eq word (codes "none")) (Some None) right e in
+    subst (AreNamedWords d (word ∷ [])) (same_Some _ _ c.1)
+    (ap (λ w. w ∷ []) (word_is word (codes "none") c.0))
+trusted_right_found d (word ∷ w ∷ rest) right e =
+    let f = right_on_found (right_of word) (class_of d (w ∷ rest)) right e in
+    subst (AreNamedWords d (word ∷ w ∷ rest)) f.4 (
+      w ∷ rest,
+      class_found d (w ∷ rest) f.1 f.3,
+      ap (λ x. x ∷ w ∷ rest) (right_found word f.0 f.2),
+    )
+
+once_words : (d : Edition) (words : List (List ℕ)) (class : Option ClassName)
+    → AreAdmittedWords d words class
+    → AreOnceWords d words (once_on class)
+once_words d words None is = is
+once_words d words (Some class) is = (is, refl)
+
+once_found : (d : Edition) (words : List (List ℕ)) (right : Option TrustedRight)
+    → option_map once_on (admitted d words) ≡ Some right
+    → AreOnceWords d words right
+once_found d words right e =
+    let m = mapped once_on (admitted d words) right e in
+    subst (AreOnceWords d words) m.2 (once_words d words m.0 (admitted_found d words m.0 m.1))
+
+trusted_found : (d : Edition) (verb : TrustVerb) (words : List (List ℕ))
+    (right : Option TrustedRight)
+    → trusted d verb words ≡ Some right
+    → AreTrustedWords d verb words right
+trusted_found d Takes words right e = trusted_right_found d words right e
+trusted_found d Gives words right e = trusted_right_found d words right e
+trusted_found d Sends words right e = trusted_right_found d words right e
+trusted_found d Replies words right e = once_found d words right e
+
+verb_found : (word : List ℕ) (verb : TrustVerb) → verb_of word ≡ Some verb → word ≡ verb_word verb
+unfolding verb_of
+verb_found word verb e =
+    let replies = cond (bytes_eq word (codes "replies")) (Some Replies) None in
+    let sends = cond (bytes_eq word (codes "sends")) (Some Sends) replies in
+    let gives = cond (bytes_eq word (codes "gives")) (Some Gives) sends in
+    elim (either (bytes_eq word (codes "takes")) (Some Takes) gives verb e) [
+      | inl c ↦ word_is word (codes "takes") c.0 ∙ ap verb_word (same_Some _ _ c.1)
+      | inr c ↦
+          elim (either (bytes_eq word (codes "gives")) (Some Gives) sends verb c.1) [
+            | inl g ↦ word_is word (codes "gives") g.0 ∙ ap verb_word (same_Some _ _ g.1)
+            | inr g ↦
+                elim (either (bytes_eq word (codes "sends")) (Some Sends) replies verb g.1) [
+                  | inl t ↦ word_is word (codes "sends") t.0 ∙ ap verb_word (same_Some _ _ t.1)
+                  | inr t ↦
+                      let r = chosen (bytes_eq word (codes "replies")) (Some Replies) verb t.1 in
+                      word_is word (codes "replies") r.0 ∙ ap verb_word (same_Some _ _ r.1)
+                ]
+          ]
+    ]
+
+verb_again : (verb : TrustVerb) → verb_of (verb_word verb) ≡ Some verb
+unfolding verb_of
+verb_again Takes = refl
+verb_again Gives = refl
+verb_again Sends = refl
+verb_again Replies = refl
+
+by_found : (d : Edition) (task : List ℕ) (v : Option TrustVerb) (words : List (List ℕ))
+    (says : WiringSays)
+    → trust_by d task v words ≡ Some says
+    → (verb : TrustVerb) × (v ≡ Some verb)
+    × (trust_named (name_of task) verb (trusted d verb words) ≡ Some says)
+by_found d task (Some verb) words says e = (verb, refl, e)
+by_found d task None words says e = absurd (none-some says e)
+
+trust_parts : (t : Option (List ℕ)) (verb : TrustVerb) (r : Option (Option TrustedRight))
+    (says : WiringSays)
+    → trust_named t verb r ≡ Some says
+    → (task : List ℕ) × (right : Option TrustedRight) × (t ≡ Some task) × (r ≡ Some right)
+    × (Trust task verb right ≡ says)
+trust_parts (Some t) verb (Some r) says e = (t, r, refl, refl, same_Some _ _ e)
+trust_parts (Some t) verb None says e = absurd (none-some says e)
+trust_parts None verb r says e = absurd (none-some says e)
+
+trust_found : (words : List (List ℕ)) (says : WiringSays)
+    → trust_line editions.Third words ≡ Some says
+    → AreWordsOf editions.Third (codes "trust" ∷ words) says
+unfolding trust_line
+trust_found [] says e = absurd (none-some says e)
+trust_found (a ∷ []) says e = absurd (none-some says e)
+trust_found (task ∷ verb ∷ words) says e =
+    let b = by_found editions.Third task (verb_of verb) words says e in
+    let f = trust_parts (name_of task) b.0 (trusted editions.Third b.0 words) says b.2 in
+    let t = name_found task f.0 f.2 in
+    let same : codes "trust" ∷ task ∷ verb ∷ words
+    ≡ codes "trust" ∷ f.0 ∷ verb_word b.0 ∷ words =
+    ap (λ x. codes "trust" ∷ x ∷ verb ∷ words) t.0
+    ∙ ap (λ x. codes "trust" ∷ f.0 ∷ x ∷ words) (verb_found verb b.0 b.1) in
+    subst (AreWordsOf editions.Third (codes "trust" ∷ task ∷ verb ∷ words)) f.4
+    (refl, (words, trusted_found editions.Third b.0 words f.1 f.3, same), t.1)
+
+fit_found : (words : List (List ℕ)) (says : WiringSays)
+    → fit_line words ≡ Some says
+    → AreWordsOf editions.Third (codes "replies" ∷ words) says
+unfolding fit_line
+fit_found [] says e = absurd (none-some says e)
+fit_found (word ∷ []) says e =
+    let c = chosen (bytes_eq word (codes "fit")) (Some RepliesFit) says e in
+    subst (AreWordsOf editions.Third (codes "replies" ∷ word ∷ [])) (same_Some _ _ c.1)
+    (refl, ap (λ w. codes "replies" ∷ w ∷ []) (word_is word (codes "fit") c.0))
+fit_found (a ∷ b ∷ rest) says e = absurd (none-some says e)
+
+-- no words are no class
+no_words : (d : Edition) (class : ClassName) → class_of d [] ≡ Some class → ⊥
+unfolding class_of
+no_words d class e = none-some class e
+
+right_named_again : (d : Edition) (word : List ℕ) (named : List (List ℕ)) (right : PortRight)
+    (class : ClassName)
+    → right_of word ≡ Some right
+    → class_of d named ≡ Some class
+    → trusted_right d (word ∷ named) ≡ Some (Some (record { right = right; class = class }))
+unfolding trusted_right
+right_named_again d word [] right class r c = absurd (no_words d class c)
+right_named_again d word (w ∷ rest) right class r c = rw (r, c) refl
+
+named_again : (d : Edition) (words : List (List ℕ)) (right : Option TrustedRight)
+    → AreNamedWords d words right
+    → trusted_right d words ≡ Some right
+unfolding trusted_right
+named_again d words None is = rw is refl
+named_again d words (Some on) is =
+    ap (trusted_right d) is.2
+    ∙ right_named_again d (port_right_word on.right) is.0 on.right on.class (right_again on.right)
+    (class_again d is.0 on.class is.1)
+
+once_again : (d : Edition) (words : List (List ℕ)) (right : Option TrustedRight)
+    → AreOnceWords d words right
+    → option_map once_on (admitted d words) ≡ Some right
+once_again d words None is = ap (option_map once_on) (admitted_again d words None is)
+once_again d words (Some on) is =
+    ap (option_map once_on) (admitted_again d words (Some on.class) is.0)
+    ∙ ap (λ (r : PortRight). Some (Some (record { right = r; class = on.class }))) (sym is.1)
+
+trusted_again : (d : Edition) (verb : TrustVerb) (words : List (List ℕ))
+    (right : Option TrustedRight)
+    → AreTrustedWords d verb words right
+    → trusted d verb words ≡ Some right
+trusted_again d Takes words right is = named_again d words right is
+trusted_again d Gives words right is = named_again d words right is
+trusted_again d Sends words right is = named_again d words right is
+trusted_again d Replies words right is = once_again d words right is
+
+trust_again : (task : List ℕ) (verb : TrustVerb) (right : Option TrustedRight)
+    (named : List (List ℕ))
+    → AreTrustedWords editions.Third verb named right
+    → IsTrue (is_name task)
+    → trust_line editions.Third (task ∷ verb_word verb ∷ named) ≡ Some (Trust task verb right)
+unfolding trust_line
+trust_again task verb right named is h =
+    ap (λ v. trust_by editions.Third task v named) (verb_again verb)
+    ∙ (ap (λ r. trust_named (name_of task) verb r)
+    (trusted_again editions.Third verb named right is)
+    ∙ rw h refl)
+
 -- ---- any line
 
 at_key : (d : Edition) (key wanted : List ℕ) (words : List (List ℕ)) (says : WiringSays)
@@ -447,7 +670,8 @@ at_key d key wanted words says is h =
 
 -- what words say behind a key, if it is this one or a later one
 abbrev from_admit : Edition → List ℕ → List (List ℕ) → Option WiringSays
-from_admit d key words = cond (bytes_eq key (codes "admit")) (admit_line d words) None
+from_admit d key words =
+    cond (bytes_eq key (codes "admit")) (admit_line d words) (third_says d key words)
 
 abbrev from_hold : Edition → List ℕ → List (List ℕ) → Option WiringSays
 from_hold d key words =
@@ -461,12 +685,30 @@ abbrev from_port : Edition → List ℕ → List (List ℕ) → Option WiringSay
 from_port d key words =
     cond (bytes_eq key (codes "port")) (port_line words) (from_births d key words)
 
+in_third : (d : Edition) (key : List ℕ) (words : List (List ℕ)) (says : WiringSays)
+    → third_says d key words ≡ Some says
+    → AreWordsOf d (key ∷ words) says
+in_third editions.First key words says e = absurd (none-some says e)
+in_third editions.Second key words says e = absurd (none-some says e)
+in_third editions.Third key words says e =
+    let fit = cond (bytes_eq key (codes "replies")) (fit_line words) None in
+    elim (either (bytes_eq key (codes "trust")) (trust_line editions.Third words) fit says e) [
+      | inl c ↦
+          at_key editions.Third key (codes "trust") words says c.0 (trust_found words says c.1)
+      | inr c ↦
+          let f = chosen (bytes_eq key (codes "replies")) (fit_line words) says c.1 in
+          at_key editions.Third key (codes "replies") words says f.0 (fit_found words says f.1)
+    ]
+
 in_admit : (d : Edition) (key : List ℕ) (words : List (List ℕ)) (says : WiringSays)
     → from_admit d key words ≡ Some says
     → AreWordsOf d (key ∷ words) says
 in_admit d key words says e =
-    let c = chosen (bytes_eq key (codes "admit")) (admit_line d words) says e in
-    at_key d key (codes "admit") words says c.0 (admit_found d words says c.1)
+    elim (either (bytes_eq key (codes "admit")) (admit_line d words) (third_says d key words) says
+    e) [
+      | inl c ↦ at_key d key (codes "admit") words says c.0 (admit_found d words says c.1)
+      | inr c ↦ in_third d key words says c.1
+    ]
 
 in_hold : (d : Edition) (key : List ℕ) (words : List (List ℕ)) (says : WiringSays)
     → from_hold d key words ≡ Some says
@@ -519,6 +761,8 @@ births_line_again editions.First named task kind accepts is h each =
     rw (is.0, is.1) (rw (h, items_again accepts each) refl)
 births_line_again editions.Second named task kind accepts is h each =
     rw is.2 (rw (h, kind_again is.0 kind is.1, items_again accepts each) refl)
+births_line_again editions.Third named task kind accepts is h each =
+    rw is.2 (rw (h, kind_again is.0 kind is.1, items_again accepts each) refl)
 
 admit_line_again : (d : Edition) (named : List (List ℕ)) (s t : List ℕ) (class : Option ClassName)
     → AreAdmittedWords d named class
@@ -536,7 +780,7 @@ admit_line_again d named s t class is hs ht =
 line_again : (d : Edition) (words : List (List ℕ)) (says : WiringSays)
     → AreWordsOf d words says
     → wiring_says d words ≡ Some says
-unfolding wiring_says task_line port_line hold_line held held_right
+unfolding wiring_says task_line port_line hold_line held held_right fit_line
 line_again d words (Task t) h = rw h.0 (rw h.1 refl)
 line_again d words (Port p r a) h = rw h.0 (rw (h.1, h.2, items_again a h.3) refl)
 line_again d words (Births t k a) h =
@@ -546,6 +790,14 @@ line_again d words (HoldPort t SendOnce p) h = rw h.0 (rw (h.1, h.2) refl)
 line_again d words (HoldTask t u) h = rw h.0 (rw (h.1, h.2) refl)
 line_again d words (Admit s t c) h =
     ap (wiring_says d) h.0.2 ∙ admit_line_again d h.0.0 s t c h.0.1 h.1 h.2
+line_again d words (Trust t v r) h =
+    let named = h.1.0 in
+    let third : AreTrustedWords editions.Third v named r =
+    subst (λ e. AreTrustedWords e v named r) h.0 h.1.1 in
+    ap (wiring_says d) h.1.2
+    ∙ (ap (λ e. wiring_says e (codes "trust" ∷ t ∷ verb_word v ∷ named)) h.0
+    ∙ trust_again t v r named third h.2)
+line_again d words RepliesFit h = rw (h.0, h.1) refl
 
 pub each_line_is_spelled : EachLineIsSpelled
 each_line_is_spelled = λ d words says. (line_found d words says, line_again d words says)
@@ -564,30 +816,6 @@ forbid_parts (Some t) (Some r) (Some c) says e =
 forbid_parts (Some t) (Some r) None says e = absurd (none-some says e)
 forbid_parts (Some t) None c says e = absurd (none-some says e)
 forbid_parts None r c says e = absurd (none-some says e)
-
-right_found : (word : List ℕ) (right : PortRight)
-    → right_of word ≡ Some right
-    → word ≡ port_right_word right
-unfolding right_of
-right_found word right e =
-    let once = cond (bytes_eq word (codes "once")) (Some rights.SendOnce) None in
-    let receive = cond (bytes_eq word (codes "receive")) (Some rights.Receive) once in
-    elim (either (bytes_eq word (codes "send")) (Some rights.Send) receive right e) [
-      | inl c ↦ word_is word (codes "send") c.0 ∙ ap port_right_word (same_Some _ _ c.1)
-      | inr c ↦
-          elim (either (bytes_eq word (codes "receive")) (Some rights.Receive) once right c.1) [
-            | inl r ↦ word_is word (codes "receive") r.0 ∙ ap port_right_word (same_Some _ _ r.1)
-            | inr r ↦
-                let o = chosen (bytes_eq word (codes "once")) (Some rights.SendOnce) right r.1 in
-                word_is word (codes "once") o.0 ∙ ap port_right_word (same_Some _ _ o.1)
-          ]
-    ]
-
-right_again : (right : PortRight) → right_of (port_right_word right) ≡ Some right
-unfolding right_of
-right_again rights.Send = refl
-right_again rights.Receive = refl
-right_again rights.SendOnce = refl
 
 forbid_found : (d : Edition) (words : List (List ℕ)) (says : Forbid)
     → policy_says d words ≡ Some says

@@ -12,6 +12,7 @@ use Rattle.mrc_base.specs.Limits.{limit_of_lines}
 use Rattle.mrc_wiring_text.specs.declared.reading.Line.{Line}
 use Rattle.mrc_wiring_text.specs.Lexis.{lines, words}
 use Rattle.mrc_wiring_text.specs.declared.reading.Edition.{Edition}
+use Rattle.mrc_wiring_text.specs.declared.reading.TextKind.{TextKind}
 use Rattle.mrc_wiring_text.specs.Reading.{too_far, edition_of, behind, version_of, after_version}
 use Rattle.mrc_wiring_text.specs.Reading.{after_heading}
 use Rattle.mrc_wiring_text.specs.Reading.{heading, or_bad, line_of, onto, body, utf8_text, text_of}
@@ -45,18 +46,18 @@ behind_other : (n : ℕ) (o : Option Edition) → IsOther (behind n o)
 behind_other n None = version_other
 behind_other n (Some edition) = ok_other (edition, n + 1)
 
-after_version_other : (n : ℕ) (v : Option ℕ) → IsOther (after_version n v)
-after_version_other n None = bad_other n
-after_version_other n (Some v) = behind_other n (edition_of v)
+after_version_other : (kind : TextKind) (n : ℕ) (v : Option ℕ) → IsOther (after_version kind n v)
+after_version_other kind n None = bad_other n
+after_version_other kind n (Some v) = behind_other n (edition_of kind v)
 
-after_heading_other : (kind : List ℕ) (n : ℕ) (ws : List (List ℕ))
+after_heading_other : (kind : TextKind) (n : ℕ) (ws : List (List ℕ))
     → IsOther (after_heading kind n ws)
 unfolding after_heading
 after_heading_other kind n ws =
-    cond_other (ltb limit_of_lines n) (Err too_far) (after_version n (version_of kind ws))
-    (bad_other (limit_of_lines + 1)) (after_version_other n (version_of kind ws))
+    cond_other (ltb limit_of_lines n) (Err too_far) (after_version kind n (version_of kind ws))
+    (bad_other (limit_of_lines + 1)) (after_version_other kind n (version_of kind ws))
 
-heading_other : (kind : List ℕ) (n : ℕ) (ls : List (List ℕ)) → IsOther (heading kind n ls)
+heading_other : (kind : TextKind) (n : ℕ) (ls : List (List ℕ)) → IsOther (heading kind n ls)
 unfolding heading
 heading_other kind n [] = bad_other 1
 heading_other kind n (line ∷ ls) =
@@ -91,7 +92,7 @@ body_other meaning n (line ∷ ls) =
     (body_other meaning (n + 1) ls) (λ others. ok_other (onto n says others)))
 
 -- what a text means is no NotUtf8
-text_other : {S : Type 0} (kind : List ℕ) (meaning : Edition → List (List ℕ) → Option S)
+text_other : {S : Type 0} (kind : TextKind) (meaning : Edition → List (List ℕ) → Option S)
     (bytes : List ℕ)
     → IsUtf8 bytes → IsOther (text_of kind meaning bytes)
 unfolding text_of utf8_text
@@ -102,7 +103,7 @@ text_other kind meaning bytes is =
     (λ start. body_other (meaning start.0.0) start.0.1 start.1))
 
 -- so a reader tells it of no text
-pub not_told : {S X : Type 0} (kind : List ℕ) (meaning : Edition → List (List ℕ) → Option S)
+pub not_told : {S X : Type 0} (kind : TextKind) (meaning : Edition → List (List ℕ) → Option S)
     (bytes : List ℕ)
     (view : X → List (Line S)) (r : Result X (OrMemory TextFault))
     → Gives view r (text_of kind meaning bytes)

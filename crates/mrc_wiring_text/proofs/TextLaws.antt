@@ -14,6 +14,7 @@ use Rattle.mrc_wiring_text.specs.declared.faults.TextFault.{TextFault}
 use Rattle.mrc_wiring_text.specs.declared.faults.TextFault.TheVariants.{NotUtf8, BadLine}
 use Rattle.mrc_base.specs.Limits.{limit_of_lines}
 use Rattle.mrc_wiring_text.specs.declared.reading.Edition.{Edition}
+use Rattle.mrc_wiring_text.specs.declared.reading.TextKind.{TextKind}
 use Rattle.mrc_wiring_text.specs.declared.reading.Line.{Line}
 use Rattle.mrc_wiring_text.specs.Lexis.{lines, words}
 use Rattle.mrc_wiring_text.specs.Reading.{too_far, or_bad, line_of, onto, body, utf8_text, heading}
@@ -131,7 +132,7 @@ utf8_is bytes text e =
     ]
 
 -- what was read is a text that says so
-pub text_found : {S : Type 0} (kind : List ℕ) (meaning : Edition → List (List ℕ) → Option S)
+pub text_found : {S : Type 0} (kind : TextKind) (meaning : Edition → List (List ℕ) → Option S)
     (bytes : List ℕ) (says : List (Line S))
     → text_of kind meaning bytes ≡ Ok says
     → IsText kind meaning bytes says
@@ -170,7 +171,7 @@ text_found kind meaning bytes says e =
     }
 
 -- what a text says is read
-pub text_read : {S : Type 0} (kind : List ℕ) (meaning : Edition → List (List ℕ) → Option S)
+pub text_read : {S : Type 0} (kind : TextKind) (meaning : Edition → List (List ℕ) → Option S)
     (bytes : List ℕ)
     (says : List (Line S))
     → IsText kind meaning bytes says
@@ -192,7 +193,7 @@ text_read kind meaning bytes says is =
 
 -- ---- what a reader returned
 
-pub found_in : {S X : Type 0} (kind : List ℕ) (meaning : Edition → List (List ℕ) → Option S)
+pub found_in : {S X : Type 0} (kind : TextKind) (meaning : Edition → List (List ℕ) → Option S)
     (bytes : List ℕ)
     (view : X → List (Line S)) (r : Result X (OrMemory TextFault))
     → Gives view r (text_of kind meaning bytes)
@@ -200,7 +201,7 @@ pub found_in : {S X : Type 0} (kind : List ℕ) (meaning : Edition → List (Lis
 found_in kind meaning bytes view r gives =
     gives_ok (IsText kind meaning bytes) view r _ (text_found kind meaning bytes) gives
 
-pub read_by : {S X : Type 0} (kind : List ℕ) (meaning : Edition → List (List ℕ) → Option S)
+pub read_by : {S X : Type 0} (kind : TextKind) (meaning : Edition → List (List ℕ) → Option S)
     (bytes : List ℕ)
     (view : X → List (Line S)) (r : Result X (OrMemory TextFault)) (says : List (Line S))
     → Gives view r (text_of kind meaning bytes)

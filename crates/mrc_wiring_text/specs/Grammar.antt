@@ -1,7 +1,7 @@
 -- The grammar of the lines of a wiring and of a policy: the words that say each thing, apart from
 -- how words are read. This profile's own choice.
 use Rattle.std.specs.Prelude.{◌≡◌, ◌<◌, ◌↔◌, ◌⊎◌, ⊤, ℕ, codes, IsTrue, List, [], ◌∷◌, ◌++◌}
-use Rattle.std.specs.Prelude.{Option, Some, None}
+use Rattle.std.specs.Prelude.{Option, Some, None, Bool, true, false}
 use Rattle.std.specs.List.{AllByRecursion, flat_map}
 use Rattle.mrc_base.specs.Limits.{limit_of_kinds}
 use Rattle.mrc_base.specs.declared.PortRight.{PortRight}
@@ -18,6 +18,10 @@ use Rattle.mrc_wiring_text.specs.declared.wiring.HeldRight.TheVariants.{Send, Se
 use Rattle.mrc_wiring_text.specs.declared.wiring.WiringSays.{WiringSays}
 use Rattle.mrc_wiring_text.specs.declared.wiring.WiringSays.TheVariants.{Task, Port, Births}
 use Rattle.mrc_wiring_text.specs.declared.wiring.WiringSays.TheVariants.{HoldPort, HoldTask, Admit}
+use Rattle.mrc_wiring_text.specs.declared.wiring.WiringSays.TheVariants.{Trust, RepliesFit}
+use Rattle.mrc_wiring_text.specs.declared.trust.TrustVerb.{TrustVerb}
+use Rattle.mrc_wiring_text.specs.declared.trust.TrustVerb.TheVariants.{Takes, Gives, Sends, Replies}
+use Rattle.mrc_wiring_text.specs.declared.trust.TrustedRight.{TrustedRight}
 use Rattle.mrc_wiring_text.specs.Lexis.{decimal}
 use Rattle.mrc_wiring_text.specs.Names.{is_name}
 use Rattle.mrc_wiring_text.specs.Kinds.{is_number}
@@ -46,17 +50,23 @@ port_right_word rights.Send = codes "send"
 port_right_word rights.Receive = codes "receive"
 port_right_word rights.SendOnce = codes "once"
 
--- K: decimal digits, leading zeros or not, that spell the kind of births
+-- K: decimal digits, leading zeros or not, that encode the kind of births
 abbrev pub IsKindWord : List ℕ → ℕ → Type 0
 IsKindWord word kind =
     IsTrue (is_number word) × (decimal word ≡ kind) × (kind < limit_of_kinds)
 
--- the words of births in CLASS: `births U` are those of kind 0, in either edition, and `births U K`
--- those of kind K, in version 2
+-- kinds have words in the edition
+abbrev pub has_kinds : Edition → Bool
+has_kinds editions.First = false
+has_kinds editions.Second = true
+has_kinds editions.Third = true
+
+-- the words of births in CLASS: `births U` are those of kind 0, in each edition, and `births U K`
+-- those of kind K, from version 2 on
 abbrev pub AreBirthsWords : Edition → List (List ℕ) → List ℕ → ℕ → Type 0
 AreBirthsWords edition words task kind =
     ((words ≡ codes "births" ∷ task ∷ []) × (kind ≡ 0))
-    ⊎ ((edition ≡ editions.Second)
+    ⊎ (IsTrue (has_kinds edition)
     × ((word : List ℕ) × IsKindWord word kind × (words ≡ codes "births" ∷ task ∷ word ∷ [])))
 
 -- the words are those of CLASS
@@ -73,11 +83,44 @@ abbrev pub AreAdmittedWords : Edition → List (List ℕ) → Option ClassName �
 AreAdmittedWords edition words (Some class) = AreClassWords edition words class
 AreAdmittedWords edition words None = words ≡ codes "none" ∷ []
 
--- the words between `births` and `accepts`: T, and in version 2 its kind, else 0
+-- the words between `births` and `accepts`: T, and from version 2 on its kind, else 0
 abbrev pub AreKindWords : Edition → List (List ℕ) → List ℕ → ℕ → Type 0
 AreKindWords editions.First words task kind = (words ≡ task ∷ []) × (kind ≡ 0)
 AreKindWords editions.Second words task kind =
     (word : List ℕ) × IsKindWord word kind × (words ≡ task ∷ word ∷ [])
+AreKindWords editions.Third words task kind =
+    (word : List ℕ) × IsKindWord word kind × (words ≡ task ∷ word ∷ [])
+
+-- the word of a verb
+abbrev pub verb_word : TrustVerb → List ℕ
+verb_word Takes = codes "takes"
+verb_word Gives = codes "gives"
+verb_word Sends = codes "sends"
+verb_word Replies = codes "replies"
+
+-- RIGHT CLASS
+abbrev pub AreRightWords : Edition → List (List ℕ) → TrustedRight → Type 0
+AreRightWords edition words on =
+    (named : List (List ℕ)) × AreClassWords edition named on.class
+    × (words ≡ port_right_word on.right ∷ named)
+
+-- RIGHT CLASS, or `none`
+abbrev pub AreNamedWords : Edition → List (List ℕ) → Option TrustedRight → Type 0
+AreNamedWords edition words None = words ≡ codes "none" ∷ []
+AreNamedWords edition words (Some on) = AreRightWords edition words on
+
+-- CLASS, which names the send-once right on it, or `none`
+abbrev pub AreOnceWords : Edition → List (List ℕ) → Option TrustedRight → Type 0
+AreOnceWords edition words None = words ≡ codes "none" ∷ []
+AreOnceWords edition words (Some on) =
+    AreClassWords edition words on.class × (on.right ≡ rights.SendOnce)
+
+-- the words after the verb
+abbrev pub AreTrustedWords : Edition → TrustVerb → List (List ℕ) → Option TrustedRight → Type 0
+AreTrustedWords edition Takes words right = AreNamedWords edition words right
+AreTrustedWords edition Gives words right = AreNamedWords edition words right
+AreTrustedWords edition Sends words right = AreNamedWords edition words right
+AreTrustedWords edition Replies words right = AreOnceWords edition words right
 
 -- the name in an item is one
 abbrev pub HasName : Item → Type 0
@@ -107,8 +150,15 @@ AreWordsOf edition words (Admit subsystem type class) =
     ((named : List (List ℕ)) × AreAdmittedWords edition named class
     × (words ≡ codes "admit" ∷ (subsystem ++ (codes "." ++ type)) ∷ named))
     × IsTrue (is_name subsystem) × IsTrue (is_name type)
+AreWordsOf edition words (Trust task verb right) =
+    (edition ≡ editions.Third)
+    × ((named : List (List ℕ)) × AreTrustedWords edition verb named right
+    × (words ≡ codes "trust" ∷ task ∷ verb_word verb ∷ named))
+    × IsTrue (is_name task)
+AreWordsOf edition words RepliesFit =
+    (edition ≡ editions.Third) × (words ≡ codes "replies" ∷ codes "fit" ∷ [])
 
--- words say something exactly where they are words of it
+-- words say something if and only if they are words of it
 abbrev pub EachLineIsSpelled : Type 0
 EachLineIsSpelled =
     (edition : Edition) (words : List (List ℕ)) (says : WiringSays)

@@ -8,6 +8,7 @@ use Rattle.mrc_wiring_text.specs.declared.faults.TextFault.{TextFault}
 use Rattle.mrc_wiring_text.specs.declared.reading.Edition.{Edition}
 use Rattle.mrc_wiring_text.specs.declared.reading.Edition.TheVariants as editions
 use Rattle.mrc_wiring_text.specs.declared.reading.Line.{Line}
+use Rattle.mrc_wiring_text.specs.declared.reading.TextKind.TheVariants as kinds
 use Rattle.mrc_wiring_text.specs.declared.policy.ClassName.{ClassName}
 use Rattle.mrc_wiring_text.specs.declared.policy.ClassName.TheVariants.{Port, Task, Births}
 use Rattle.mrc_wiring_text.specs.declared.policy.Forbid.{Forbid}
@@ -22,12 +23,12 @@ right_of word =
     else (if bytes_eq word (codes "receive") then Some Receive
     else (if bytes_eq word (codes "once") then Some SendOnce else None))
 
--- the class of a kind, where there is a name
+-- the class of a kind, if there is a name
 abbrev pub named : (List ℕ → ClassName) → Option (List ℕ) → Option ClassName
 named kind (Some name) = Some (kind name)
 named kind None = None
 
--- the births of a task by their kind, where there are both
+-- the births of a task by their kind, if both are there
 abbrev pub births_of : Option (List ℕ) → Option ℕ → Option ClassName
 births_of (Some task) (Some kind) = Some (Births task kind)
 births_of _ _ = None
@@ -44,10 +45,11 @@ unfoldable pub births_with_kind : List ℕ → List ℕ → List ℕ → Option 
 births_with_kind key name kind =
     if bytes_eq key (codes "births") then births_of (name_of name) (kind_of kind) else None
 
--- the class that words name: kinds have words in version 2 alone
+-- the class that words name: kinds have words from version 2 on
 unfoldable pub class_of : Edition → List (List ℕ) → Option ClassName
 class_of edition (key ∷ name ∷ []) = plain_class key name
 class_of editions.Second (key ∷ name ∷ kind ∷ []) = births_with_kind key name kind
+class_of editions.Third (key ∷ name ∷ kind ∷ []) = births_with_kind key name kind
 class_of edition words = None
 
 -- `forbid T RIGHT CLASS`
@@ -65,4 +67,4 @@ policy_says edition words = None
 
 -- what a policy says
 abbrev pub policy_of : List ℕ → Result (List (Line Forbid)) TextFault
-policy_of bytes = text_of (codes "policy") policy_says bytes
+policy_of bytes = text_of kinds.Policy policy_says bytes

@@ -1,7 +1,7 @@
 -- What a text is, apart from how it is read: lines without words, a heading, and lines that each
 -- say something or have no words. This grammar is this profile's own choice.
 use Rattle.std.specs.Prelude.{◌≡◌, ◌≢◌, ℕ, ◌+◌, ◌≤◌, ◌⊎◌, IsTrue, List, [], ◌∷◌, ◌++◌, length}
-use Rattle.std.specs.Prelude.{codes, Option, Some}
+use Rattle.std.specs.Prelude.{Option, Some}
 use Rattle.std.specs.List.{AllByRecursion}
 use Rattle.std.specs.Str.{IsUtf8}
 use Rattle.mrc_base.specs.Limits.{limit_of_lines}
@@ -11,7 +11,9 @@ use Rattle.mrc_wiring_text.specs.declared.wiring.WiringSays.{WiringSays}
 use Rattle.mrc_wiring_text.specs.declared.policy.Forbid.{Forbid}
 use Rattle.mrc_wiring_text.specs.Lexis.{lines, words, decimal}
 use Rattle.mrc_wiring_text.specs.Kinds.{is_number}
-use Rattle.mrc_wiring_text.specs.Reading.{edition_number}
+use Rattle.mrc_wiring_text.specs.declared.reading.TextKind.{TextKind}
+use Rattle.mrc_wiring_text.specs.declared.reading.TextKind.TheVariants.{Wiring, Policy}
+use Rattle.mrc_wiring_text.specs.Reading.{edition_number, text_word, has_edition}
 use Rattle.mrc_wiring_text.specs.Wiring.{wiring_says}
 use Rattle.mrc_wiring_text.specs.Policy.{policy_says}
 
@@ -19,12 +21,14 @@ use Rattle.mrc_wiring_text.specs.Policy.{policy_says}
 abbrev pub IsWordless : List ℕ → Type 0
 IsWordless line = words line ≡ []
 
--- a line of two words: the kind of the text, and decimal digits that spell the edition's version
-pub record IsHeading (kind : List ℕ) (edition : Edition) (line : List ℕ) : Type 0 where
+-- a line of two words: that of the kind of the text, which has the edition, and decimal digits that
+-- encode the edition's version
+pub record IsHeading (kind : TextKind) (edition : Edition) (line : List ℕ) : Type 0 where
   pub number : List ℕ
-  pub said : words line ≡ kind ∷ number ∷ []
+  pub said : words line ≡ text_word kind ∷ number ∷ []
   pub digits : IsTrue (is_number number)
   pub value : decimal number ≡ edition_number edition
+  pub has : IsTrue (has_edition kind edition)
 
 -- lines, the first of which has number n, and what those with words say
 abbrev pub Say : {S : Type 0} → (List (List ℕ) → Option S) → ℕ → List (List ℕ) → List (Line S)
@@ -36,7 +40,7 @@ Say {S} meaning n (line ∷ rest) says =
     × (says ≡ record { number = n; says = s } ∷ others) × Say meaning (n + 1) rest others)
 
 -- bytes that are a text of a kind, and what it says
-pub record IsText {S : Type 0} (kind : List ℕ) (meaning : Edition → List (List ℕ) → Option S)
+pub record IsText {S : Type 0} (kind : TextKind) (meaning : Edition → List (List ℕ) → Option S)
     (bytes : List ℕ) (says : List (Line S)) : Type 0 where
   pub edition : Edition
   pub utf8 : IsUtf8 bytes
@@ -51,8 +55,8 @@ pub record IsText {S : Type 0} (kind : List ℕ) (meaning : Edition → List (Li
 
 -- bytes that are a wiring
 abbrev pub IsWiring : List ℕ → List (Line WiringSays) → Type 0
-IsWiring bytes says = IsText (codes "wiring") wiring_says bytes says
+IsWiring bytes says = IsText Wiring wiring_says bytes says
 
 -- bytes that are a policy
 abbrev pub IsPolicy : List ℕ → List (Line Forbid) → Type 0
-IsPolicy bytes says = IsText (codes "policy") policy_says bytes says
+IsPolicy bytes says = IsText Policy policy_says bytes says

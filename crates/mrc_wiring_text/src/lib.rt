@@ -10,6 +10,7 @@ mod lexis;
 mod names;
 mod policy;
 mod reading;
+mod trust;
 mod wiring;
 
 pub use faults::TextFault;
@@ -19,4 +20,5 @@ pub use lexis::{between_blanks, first_line, is_word, spaced};
 pub use names::Name;
 pub use policy::{ClassName, Forbid, PolicyLine, read_policy};
 pub use reading::{Edition, Line};
+pub use trust::{TrustVerb, TrustedRight};
 pub use wiring::{HeldRight, WiringLine, WiringSays, read_wiring};

@@ -13,7 +13,7 @@ use crate::faults::TextFault;
 use crate::kinds::{Kind, kind_of};
 use crate::lexis::is_word;
 use crate::names::Name;
-use crate::reading::{Edition, Line, Statement, text_of};
+use crate::reading::{Edition, Line, Statement, TextKind, text_of};
 use mrc_base::{OrMemory, PortRight};
 use std::alloc::{AllocError, Global};
 
@@ -50,7 +50,7 @@ pub struct Forbid {
 pub type PolicyLine = Line<Forbid>;
 
 #[tactic(auto, unfolding(crate::specs::Policy::right_of))]
-fn right_of(word: &[u8]) -> Option<PortRight>
+pub(crate) fn right_of(word: &[u8]) -> Option<PortRight>
     ensures { result ≡ right_of word.now }
 {
     if is_word(word, "send") {
@@ -119,7 +119,7 @@ pub(crate) fn class_of(
         [key, name] => plain_class(alloc, key, name),
         [key, name, kind] => match edition {
             Edition::First => Ok(None),
-            Edition::Second => births_with_kind(alloc, key, name, kind),
+            Edition::Second | Edition::Third => births_with_kind(alloc, key, name, kind),
         },
         _ => Ok(None),
     }
@@ -162,7 +162,7 @@ fn policy_of(alloc: Global, bytes: &[u8]) -> Result<Vec<PolicyLine>, OrMemory<Te
     ensures fault { Gives (λ lines. lines.items) result (policy_of bytes.now) }
     ensures no_text { ¬ (IsUtf8 bytes.now) → result ≡ Err (OrMemory.Fault TextFault.NotUtf8) }
 {
-    text_of(alloc, "policy", bytes)
+    text_of(alloc, TextKind::Policy, bytes)
 }
 
 /// Reads a policy: its lines that say something, in order, or the first fault.

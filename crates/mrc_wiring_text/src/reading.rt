@@ -7,6 +7,7 @@ ghost use Rattle.mrc_base.specs.Limits.{limit_of_lines};
 ghost use Rattle.mrc_base.specs.Reading.{Gives};
 ghost use Rattle.mrc_wiring_text.specs.Lexis.{lines, decimal};
 ghost use Rattle.mrc_wiring_text.specs.Reading.{edition_of, version_of, after_heading, heading};
+ghost use Rattle.mrc_wiring_text.specs.Reading.{text_word, third_of};
 ghost use Rattle.mrc_wiring_text.specs.Reading.{line_of, body, utf8_text, text_of};
 
 use crate::faults::TextFault;
@@ -33,6 +34,39 @@ pub enum Edition {
     First,
     /// Version 2: births are named by their task and their kind.
     Second,
+    /// Version 3: lines say what trusted tasks may do, and that reply ports have to fit.
+    Third,
+}
+
+/// The kinds of texts.
+#[derive(Clone, Copy, Debug, PartialEq, Eq)]
+pub(crate) enum TextKind {
+    /// Wirings, in each edition.
+    Wiring,
+    /// Policies, in the first and the second.
+    Policy,
+}
+
+impl TextKind {
+    /// The word that names the kind in a first line.
+    fn word(self) -> &'static str
+        ensures { result.now ≡ text_word self }
+    {
+        match self {
+            TextKind::Wiring => "wiring",
+            TextKind::Policy => "policy",
+        }
+    }
+
+    /// The third edition, if there are texts of the kind in it.
+    fn third(self) -> Option<Edition>
+        ensures { result ≡ third_of self }
+    {
+        match self {
+            TextKind::Wiring => Some(Edition::Third),
+            TextKind::Policy => None,
+        }
+    }
 }
 
 /// What a line of one kind of text can say.
@@ -42,32 +76,35 @@ pub(crate) trait Statement: Drop {
     /// What words say in each edition.
     ghost meaning: { Edition → List (List ℕ) → Option Self };
 
-    /// Reads the words of a line: `None` where they say nothing of this kind.
+    /// Reads the words of a line: `None` if they say nothing of this kind.
     fn read(alloc: Global, edition: Edition, words: &[&[u8]]) -> Result<Option<Self>, AllocError>
         ensures { IfOk result (λ says. says ≡ meaning edition
             (map (λ word. word.now) words.now)) };
 }
 
-/// The edition of the version that decimal digits spell.
-fn edition_of(digits: &[u8]) -> Option<Edition>
-    ensures { result ≡ edition_of (decimal digits.now) }
+/// The edition of the version that decimal digits encode.
+fn edition_of(kind: TextKind, digits: &[u8]) -> Option<Edition>
+    ensures { result ≡ edition_of kind (decimal digits.now) }
 {
-    match capped(digits, 3) {
+    match capped(digits, 4) {
         1 => Some(Edition::First),
         2 => Some(Edition::Second),
+        3 => kind.third(),
         _ => None,
     }
 }
 
-/// The edition that the words of a first line name, if they name one: `None` where they name no
+/// The edition that the words of a first line name, if they name one: `None` if they name no
 /// version at all.
 #[tactic(auto, unfolding(crate::specs::Reading::version_of))]
-fn edition_named(kind: &str, words: &[&[u8]]) -> Option<Option<Edition>>
-    ensures { result ≡ option_map edition_of
-        (version_of kind.now (map (λ word. word.now) words.now)) }
+fn edition_named(kind: TextKind, words: &[&[u8]]) -> Option<Option<Edition>>
+    ensures { result ≡ option_map (edition_of kind)
+        (version_of kind (map (λ word. word.now) words.now)) }
 {
     match *words {
-        [word, number] if is_word(word, kind) && is_number(number) => Some(edition_of(number)),
+        [word, number] if is_word(word, kind.word()) && is_number(number) => {
+            Some(edition_of(kind, number))
+        }
         _ => None,
     }
 }
@@ -75,12 +112,12 @@ fn edition_named(kind: &str, words: &[&[u8]]) -> Option<Option<Edition>>
 /// The edition of a text whose first line has these words, and the number of the line after it.
 #[tactic(auto, unfolding(crate::specs::Reading::after_heading))]
 fn after_heading(
-    kind: &str,
+    kind: TextKind,
     number: usize,
     words: &[&[u8]],
 ) -> Result<(Edition, u32), OrMemory<TextFault>>
     ensures fault { Gives (λ next. next) result
-        (after_heading kind.now number (map (λ word. word.now) words.now)) }
+        (after_heading kind number (map (λ word. word.now) words.now)) }
     ensures within { IfOk result (λ next. next.1 ≤ limit_of_lines + 1) }
 {
     if number > LINES as usize {
@@ -97,11 +134,11 @@ fn after_heading(
 /// from there on.
 fn heading<'a>(
     alloc: Global,
-    kind: &str,
+    kind: TextKind,
     text: &'a [u8],
 ) -> Result<((Edition, u32), &'a [u8]), OrMemory<TextFault>>
     ensures fault { Gives (λ start. (start.0, lines start.1.now)) result
-        (heading kind.now 1 (lines text.now)) }
+        (heading kind 1 (lines text.now)) }
     ensures within { IfOk result (λ start. start.0.1 ≤ limit_of_lines + 1) }
 {
     let mut rest = text;
@@ -185,10 +222,10 @@ fn utf8_text(bytes: &[u8]) -> Result<&[u8], OrMemory<TextFault>>
 #[tactic(auto, unfolding(crate::specs::Reading::text_of))]
 pub(crate) fn text_of<S: Statement>(
     alloc: Global,
-    kind: &str,
+    kind: TextKind,
     bytes: &[u8],
 ) -> Result<Vec<Line<S>>, OrMemory<TextFault>>
-    ensures fault { Gives (λ said. said.items) result (text_of kind.now S.meaning bytes.now) }
+    ensures fault { Gives (λ said. said.items) result (text_of kind S.meaning bytes.now) }
     ensures no_text { ¬ (IsUtf8 bytes.now) → result ≡ Err (OrMemory.Fault TextFault.NotUtf8) }
 {
     let text = utf8_text(bytes)?;

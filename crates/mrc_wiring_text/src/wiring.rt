@@ -11,6 +11,7 @@ ghost use Rattle.mrc_wiring_text.specs.Wiring.{plain_births, kind_births, births
 ghost use Rattle.mrc_wiring_text.specs.Wiring.{hold_port_named, held};
 ghost use Rattle.mrc_wiring_text.specs.Wiring.{hold_task_named, hold_line, admitted, admit_named};
 ghost use Rattle.mrc_wiring_text.specs.Wiring.{admit_line, wiring_says, wiring_of};
+ghost use Rattle.mrc_wiring_text.specs.Wiring.{trust_named, trust_line, fit_line, third_says};
 
 use crate::faults::TextFault;
 use crate::items::{Items, items_of};
@@ -18,7 +19,8 @@ use crate::kinds::{Kind, kind_of};
 use crate::lexis::{around_dot, is_word};
 use crate::names::Name;
 use crate::policy::{ClassName, class_of};
-use crate::reading::{Edition, Line, Statement, text_of};
+use crate::reading::{Edition, Line, Statement, TextKind, text_of};
+use crate::trust::{TrustVerb, TrustedRight, trusted, verb_of};
 use mrc_base::OrMemory;
 use std::alloc::{AllocError, Global};
 
@@ -82,6 +84,19 @@ pub enum WiringSays {
         /// The class, or none of this line.
         class: Option<ClassName>,
     },
+    /// `trust T VERB RIGHT CLASS`, `trust T replies CLASS` or `trust T VERB none`: by the verb,
+    /// tasks of T's class may do only what such lines name. In version 3 alone.
+    Trust {
+        /// T.
+        task: Name,
+        /// The verb.
+        verb: TrustVerb,
+        /// The right on a class, or none of this line.
+        right: Option<TrustedRight>,
+    },
+    /// `replies fit`: a request's reply port has to accept the replies of the request's interface.
+    /// In version 3 alone.
+    RepliesFit,
 }
 
 /// A line of a wiring that says something.
@@ -195,7 +210,7 @@ fn births_line(
 {
     match edition {
         Edition::First => plain_births(alloc, words),
-        Edition::Second => kind_births(alloc, words),
+        Edition::Second | Edition::Third => kind_births(alloc, words),
     }
 }
 
@@ -275,7 +290,7 @@ fn hold_line(alloc: Global, words: &[&[u8]]) -> Result<Option<WiringSays>, Alloc
 
 /// What words say that a slot admits.
 #[tactic(auto, unfolding(crate::specs::Wiring::admitted))]
-fn admitted(
+pub(crate) fn admitted(
     alloc: Global,
     edition: Edition,
     words: &[&[u8]],
@@ -336,6 +351,78 @@ fn admit_line(
     }
 }
 
+fn trust_named(
+    task: Option<Name>,
+    verb: TrustVerb,
+    right: Option<Option<TrustedRight>>,
+) -> Option<WiringSays>
+    ensures { result ≡ trust_named task verb right }
+{
+    match (task, right) {
+        (Some(task), Some(right)) => Some(WiringSays::Trust { task, verb, right }),
+        _ => None,
+    }
+}
+
+/// What a trusted task may do by a verb: `trust T VERB RIGHT CLASS`, `trust T replies CLASS` or
+/// `trust T VERB none`, after the first word.
+#[tactic(auto, unfolding(crate::specs::Wiring::trust_line))]
+fn trust_line(
+    alloc: Global,
+    edition: Edition,
+    words: &[&[u8]],
+) -> Result<Option<WiringSays>, AllocError>
+    ensures { IfOk result (λ says. says ≡ trust_line edition
+        (map (λ word. word.now) words.now)) }
+{
+    match words {
+        [task, verb, words @ ..] => match verb_of(verb) {
+            Some(verb) => {
+                let task = Name::new(alloc, task)?;
+                let right = trusted(alloc, edition, verb, words)?;
+                Ok(trust_named(task, verb, right))
+            }
+            None => Ok(None),
+        },
+        _ => Ok(None),
+    }
+}
+
+/// `replies fit`, after the first word.
+#[tactic(auto, unfolding(crate::specs::Wiring::fit_line))]
+fn fit_line(words: &[&[u8]]) -> Option<WiringSays>
+    ensures { result ≡ fit_line (map (λ word. word.now) words.now) }
+{
+    match *words {
+        [word] if is_word(word, "fit") => Some(WiringSays::RepliesFit),
+        _ => None,
+    }
+}
+
+/// What words of version 3 alone say, by the first of them.
+fn third_says(
+    alloc: Global,
+    edition: Edition,
+    key: &[u8],
+    words: &[&[u8]],
+) -> Result<Option<WiringSays>, AllocError>
+    ensures { IfOk result (λ says. says ≡ third_says edition key.now
+        (map (λ word. word.now) words.now)) }
+{
+    match edition {
+        Edition::First | Edition::Second => Ok(None),
+        Edition::Third => {
+            if is_word(key, "trust") {
+                trust_line(alloc, edition, words)
+            } else if is_word(key, "replies") {
+                Ok(fit_line(words))
+            } else {
+                Ok(None)
+            }
+        }
+    }
+}
+
 impl Statement for WiringSays {
     ghost meaning = { wiring_says };
 
@@ -351,6 +438,7 @@ impl Statement for WiringSays {
             [key, words @ ..] if is_word(key, "births") => births_line(alloc, edition, words),
             [key, words @ ..] if is_word(key, "hold") => hold_line(alloc, words),
             [key, words @ ..] if is_word(key, "admit") => admit_line(alloc, edition, words),
+            [key, words @ ..] => third_says(alloc, edition, key, words),
             _ => Ok(None),
         }
     }
@@ -360,7 +448,7 @@ fn wiring_of(alloc: Global, bytes: &[u8]) -> Result<Vec<WiringLine>, OrMemory<Te
     ensures fault { Gives (λ lines. lines.items) result (wiring_of bytes.now) }
     ensures no_text { ¬ (IsUtf8 bytes.now) → result ≡ Err (OrMemory.Fault TextFault.NotUtf8) }
 {
-    text_of(alloc, "wiring", bytes)
+    text_of(alloc, TextKind::Wiring, bytes)
 }
 
 /// Reads a wiring: its lines that say something, in order, or the first fault.

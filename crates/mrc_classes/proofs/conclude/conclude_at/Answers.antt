@@ -1,8 +1,10 @@
 use Rattle.std.proofs.Common.{arith, refl}
 use Rattle.mrc_wiring.specs.Table.{wiring_of}
 use Rattle.mrc_facts.specs.Sets.{has}
-use Rattle.mrc_classes.specs.declared.rule_names.RuleName.TheVariants.{Weaker, Slot, Reply, Received}
-use Rattle.mrc_classes.specs.declared.rule_names.RuleName.TheVariants.{KernelPort, Request, Notice, Returned}
+use Rattle.mrc_classes.specs.declared.rule_names.RuleName.TheVariants.{Weaker, Slot, Reply}
+use Rattle.mrc_classes.specs.declared.rule_names.RuleName.TheVariants.{Received}
+use Rattle.mrc_classes.specs.declared.rule_names.RuleName.TheVariants.{KernelPort, Request, Notice}
+use Rattle.mrc_classes.specs.declared.rule_names.RuleName.TheVariants.{Returned}
 use Rattle.mrc_classes.specs.Growing.{Added}
 use Rattle.mrc_classes.specs.Places.{ByRule, RulesBelow}
 use Rattle.mrc_classes.proofs.Putting.{no_rules, next_rule}

@@ -1,6 +1,5 @@
-use Rattle.std.proofs.Common.{◌≡◌, ◌+◌, length, drop, Some, None, ap, sym, ◌∙◌, arith}
+use Rattle.std.proofs.Common.{◌≡◌, length, Some, None, ap, sym, ◌∙◌, arith}
 use Rattle.std.proofs.lemmas.Bool.{ltb-true, ltb-false}
-use Rattle.mrc_desc.specs.View.{arguments_of}
 use Rattle.mrc_filter.proofs.Shapes.{differs_from, place_turn, extra, missing, all_met}
 use Rattle.mrc_filter.proofs.meeting.first_difference.Goals as goal
 
@@ -21,8 +20,7 @@ returns-in-Some-difference c =
     sym (place_turn i shapes args c.in-Some.says.now c.index-args-i.result
     (Some c.in-Some-difference.denied) _ c.loop-i-test.true c.index-args-i.is
     (ltb-true i (length shapes) (sym c.in-Some.ensures.lookup.0)) c.in-Some.ensures.lookup.1
-    (c.in-Some-difference.ensures
-    (drop (i + 1) shapes) (arguments_of (drop (i + 1) args)))
+    c.in-Some-difference.ensures
     c.loop-i.invariant)
 
 pub loop-i-preserved : goal.loop-i-preserved
@@ -33,8 +31,7 @@ loop-i-preserved c =
     place_turn i shapes args c.in-Some.says.now c.index-args-i.result
     None _ c.loop-i-test.true c.index-args-i.is
     (ltb-true i (length shapes) (sym c.in-Some.ensures.lookup.0)) c.in-Some.ensures.lookup.1
-    (c.in_default-difference.ensures
-    (drop (i + 1) shapes) (arguments_of (drop (i + 1) args)))
+    c.in_default-difference.ensures
     c.loop-i.invariant
 
 -- an argument that is missing

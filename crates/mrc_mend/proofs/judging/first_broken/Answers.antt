@@ -7,10 +7,11 @@ use Rattle.mrc_mend.proofs.judging.first_broken.Goals as goal
 
 pub returns-clause-yes : goal.returns-clause-yes
 returns-clause-yes c =
-    yes_of c.args.claim.now c.args.facts.now c.broken_of.result c.requires
+    yes_of c.args.claim.now c.args.facts.now c.broken_of.result c.requires.least
+    c.requires.secure
     (c.broken_of.ensures ∙ ap (find (is_broken (has c.args.facts.now))) c.lines.ensures)
 
 pub returns-clause-no : goal.returns-clause-no
 returns-clause-no c =
-    no_of c.args.claim.now c.args.facts.now c.broken_of.result c.requires
+    no_of c.args.claim.now c.args.facts.now c.broken_of.result c.requires.least
     (c.broken_of.ensures ∙ ap (find (is_broken (has c.args.facts.now))) c.lines.ensures)

@@ -1,4 +1,3 @@
-use Rattle.std.proofs.Common.{◌≡◌}
 use Rattle.std.proofs.lemmas.List.Elements.{All-same, All-push}
 use Rattle.mrc_mend.specs.declared.answers.Mend.{Mend}
 use Rattle.mrc_mend.specs.Judging.{MendOver}

@@ -1,12 +1,13 @@
 use Rattle.std.proofs.Common.{List, ap, ◌∙◌}
+use Rattle.mrc_facts.specs.Sets.{has}
 use Rattle.mrc_wiring.specs.Table.{Table}
 use Rattle.mrc_notices.specs.Kinds.{PlainLine, plain_lines}
-use Rattle.mrc_notices.specs.Others.{LeakyLine}
+use Rattle.mrc_notices.specs.Others.{LeakyLine, leaky_lines}
 use Rattle.mrc_program.specs.PolicyNotices.{notices_of}
 use Rattle.mrc_program.proofs.policy_notices.policy_notices.Goals as goal
 
 pub returns : goal.returns
-returns c = λ set least.
+returns c =
     let policy = c.args.policy.now in
     let text = c.args.text.now in
     let claim = c.args.claim.now in
@@ -15,4 +16,5 @@ returns c = λ set least.
     (c.as_slice.ensures.value ∙ c.in_ok-plain.ensures
     ∙ ap (λ (t : Table). plain_lines t text) c.wired.ensures)
     ∙ ap (λ (l : List LeakyLine). notices_of policy claim (plain_lines claim.table text) l)
-    (c.as_slice-2.ensures.value ∙ c.in_ok-leaky.ensures set least)
+    (c.as_slice-2.ensures.value ∙ c.in_ok-leaky.ensures
+    ∙ ap (leaky_lines (has c.args.facts.now)) c.lines.ensures)

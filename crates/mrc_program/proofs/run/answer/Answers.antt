@@ -85,6 +85,11 @@ returns-in-Graph-clause-fault g c =
     of_command (g.F.Folder.held c.args.folder.now) c.graph_files.result c.args.command.now _
     c.in-Graph.is c.graph_files.ensures.fault
 
+pub returns-in-Promises-clause-fault : goal.returns-in-Promises-clause-fault
+returns-in-Promises-clause-fault g c =
+    of_command (g.F.Folder.held c.args.folder.now) c.promises_files.result c.args.command.now _
+    c.in-Promises.is c.promises_files.ensures.fault
+
 pub returns-in-Verify-clause-silent : goal.returns-in-Verify-clause-silent
 returns-in-Verify-clause-silent g c =
     silent_of (g.F.Folder.held c.args.folder.now) c.verify_files.result c.args.command.now _
@@ -104,6 +109,11 @@ pub returns-in-Graph-clause-silent : goal.returns-in-Graph-clause-silent
 returns-in-Graph-clause-silent g c =
     silent_of (g.F.Folder.held c.args.folder.now) c.graph_files.result c.args.command.now _
     c.in-Graph.is c.graph_files.ensures.fault
+
+pub returns-in-Promises-clause-silent : goal.returns-in-Promises-clause-silent
+returns-in-Promises-clause-silent g c =
+    silent_of (g.F.Folder.held c.args.folder.now) c.promises_files.result c.args.command.now _
+    c.in-Promises.is c.promises_files.ensures.fault
 
 pub returns-in-Mig-clause-fault : goal.returns-in-Mig-clause-fault
 returns-in-Mig-clause-fault g c =

@@ -12,7 +12,8 @@ pub returns-clause-yes : goal.returns-clause-yes
 returns-clause-yes g c =
     let v = c.verdict.ensures in
     subst (λ (n : List ℕ). IfOk c.verdict.result
-    (λ told. told.status ≡ 0 → ToldYes n c.args.bytes.now told)) c.in_ok-notices.ensures
+    (λ told. told.status ≡ 0 → ToldYes c.args.files.now.system n c.args.bytes.now told))
+    c.in_ok-notices.ensures
     (yes_told (string_bytes c.in_ok-notices.notices) c.args.verbose c.args.files.now
     c.args.bytes.now c.answer_of-answer.result c.verdict.result
     (record { status = v.status; out = v.out; err = v.err }) c.answer_of-answer.ensures.yes)

@@ -1,25 +1,30 @@
-use Rattle.std.proofs.Common.{sym, ◌∙◌, subst, length, ◌<◌, refl}
+use Rattle.std.proofs.Common.{subst, refl}
 use Rattle.mrc_wiring_text.specs.Texts.{IsWiring}
-use Rattle.mrc_program.proofs.VerifyLaws.{allowed, lines_told}
+use Rattle.mrc_program.proofs.VerifyLaws.{allowed, lines_told, noted_no, noted_yes}
 use Rattle.mrc_program.proofs.verify.claim_told.Goals as goal
 
 pub returns-clause-yes : goal.returns-clause-yes
 returns-clause-yes c = λ zero.
-    let none = sym c.as_slice-3.ensures.value
-    ∙ c.status_of.ensures.none zero in
-    allowed _ _ _ c.args.files.now c.args.bytes.now c.args.claim.now _ _
-    (c.as_slice-2.ensures.value ∙ none) c.in_ok-text.ensures refl c.in_ok-notices.ensures
-    (c.in_ok-broken.ensures.yes none)
+    let verdict = c.in_ok-verdict.verdict in
+    let none = c.status_of-status.ensures.none zero in
+    allowed c.layout_of.result c.in_ok-sources.sources verdict.exposed verdict.broken.items
+    c.args.files.now c.args.bytes.now c.args.claim.now _ _ none c.in_ok-text.ensures refl
+    (noted_yes c.args.files.now c.args.bytes.now c.args.claim.now _ _ _ c.in_ok-notices.ensures
+    c.wired-2.ensures (c.in_ok-err.ensures.yes zero))
+    (c.in_ok-verdict.ensures.yes none)
 
 pub returns-clause-no : goal.returns-clause-no
 returns-clause-no c = λ one.
-    let some = subst (λ bs. 0 < length bs) c.as_slice-3.ensures.value
-    (c.status_of.ensures.some one) in
+    let verdict = c.in_ok-verdict.verdict in
+    let some = c.status_of-status.ensures.some one in
     lines_told c.args.files.now c.layout_of.result c.args.bytes.now c.args.claim.now _
     c.in_ok-lines.lines.items c.as_slice.result.now c.wired.result.now c.in_ok-sources.sources
-    c.in_ok-broken.broken.items c.as_slice-2.result.now _
+    verdict.exposed verdict.broken.items _
     (subst (λ w. IsWiring w c.in_ok-lines.lines.items) c.wiring_text.ensures
     c.in_ok-lines.ensures)
-    c.in_ok-sources.ensures c.wired.ensures c.as_slice.ensures.value c.as_slice-2.ensures.value
-    c.in_ok-text.ensures c.layout_of.ensures refl c.in_ok-notices.ensures
-    c.in_ok-broken.ensures.lines c.in_ok-broken.ensures.chains (c.in_ok-broken.ensures.no some)
+    c.in_ok-sources.ensures c.wired.ensures c.as_slice.ensures.value c.in_ok-text.ensures
+    c.layout_of.ensures refl
+    (noted_no c.args.files.now c.args.bytes.now c.args.claim.now _ _ c.in_ok-notices.ensures
+    (c.in_ok-err.ensures.no one))
+    c.in_ok-verdict.ensures.exposed c.in_ok-verdict.ensures.chain c.in_ok-verdict.ensures.lines
+    c.in_ok-verdict.ensures.chains (c.in_ok-verdict.ensures.no some)

@@ -8,10 +8,12 @@ use Rattle.mrc_program.proofs.writing.make_room.Goals as goal
 pub loop-writing-preserved : goal.loop-writing-preserved
 loop-writing-preserved c =
     let ok = c.in_ok-reserve.ensures.ok in
-    let long : length (shown c.writing-item.result.path) ≡ length c.as_str-in-loop-writing.result.now =
+    let long : length (shown c.writing-item.result.path)
+    ≡ length c.as_str-in-loop-writing.result.now =
     ap (λ (w : Writing). length (shown w.path)) (sym c.writing.view_is)
     ∙ ap (λ path. length (shown path)) (sym c.as_str.ensures.value)
-    ∙ ap length (sym c.in_ok-name.ensures) ∙ ap length (sym c.as_str-in-loop-writing.ensures.value) in
+    ∙ ap length (sym c.in_ok-name.ensures)
+    ∙ ap length (sym c.as_str-in-loop-writing.ensures.value) in
     let one : HasRoom (string_len c.reserve.new.self) (string_capacity c.reserve.new.self)
     c.writing-item.result = omega arith in
     record {

@@ -6,7 +6,9 @@ use Rattle.mrc_slots.proofs.Marked.{no_rows}
 use Rattle.mrc_slots.proofs.masks.taken_rows.Goals as goal
 
 pub loop-class-init : goal.loop-class-init
-loop-class-init c = no_rows (wiring_of c.args.wired.now) _ c.new-rows.ensures.items
+loop-class-init c =
+    let W = wiring_of c.args.wired.now in
+    no_rows (is_taken W) (classes W) _ c.new-rows.ensures.items
 
 pub returns : goal.returns
 returns c =

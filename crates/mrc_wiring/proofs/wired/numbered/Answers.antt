@@ -14,3 +14,13 @@ of-requires-clause-births c =
     let rows = ap (λ (rs : List BirthRow). length rs) c.deref.ensures.value in
     let seen = ap (λ (s : State). length s.table.births) c.table.view_is in
     omega arith
+
+pub trusting-requires-clause-births : goal.trusting-requires-clause-births
+trusting-requires-clause-births c =
+    let table = c.args.table.now.table in
+    let few = few_births (length table.names) table.births c.requires.is_table.births
+    c.requires.kinds in
+    let tasks = c.requires.is_table.few_tasks in
+    let rows = ap (λ (rs : List BirthRow). length rs) c.deref-3.ensures.value in
+    let seen = ap (λ (s : State). length s.table.births) c.table.view_is in
+    omega arith

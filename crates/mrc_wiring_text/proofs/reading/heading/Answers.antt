@@ -14,7 +14,7 @@ returns-in_err-next-clause-fault c =
     let p = err_from_is_err_and c.from_residual-in_err-next.result
     c.from_residual-in_err-next.ensures.1 in
     let line = c.first_line.result.0.now in
-    let kind = c.args.kind.now in
+    let kind = c.args.kind in
     let n = c.loop-rest.before + 1 in
     let e = c.in_err-next.field-0.0 in
     let same = said_words line _ _ c.deref.ensures.value c.in_ok-text.ensures in
@@ -32,7 +32,7 @@ returns-in_err-next-clause-fault c =
 pub returns-then-not-is_empty-clause-fault : goal.returns-then-not-is_empty-clause-fault
 returns-then-not-is_empty-clause-fault c =
     let line = c.first_line.result.0.now in
-    let kind = c.args.kind.now in
+    let kind = c.args.kind in
     let n = c.loop-rest.before + 1 in
     let same = said_words line _ _ c.deref.ensures.value c.in_ok-text.ensures in
     let passed = c.deref-then-not-is_empty in
@@ -59,6 +59,6 @@ loop-rest-preserved c =
 pub returns-clause-fault : goal.returns-clause-fault
 returns-clause-fault c =
     let none = is_nil c.loop-rest.rest.now _ c.is_empty.ensures c.loop-rest-test.false in
-    heading_ends c.args.kind.now (c.loop-rest.before + 1) _
-    (subst (λ bs. heading c.args.kind.now (c.loop-rest.before + 1) (lines bs) ≡ heading
-    c.args.kind.now 1 (lines c.args.text.now)) none c.loop-rest.invariant.same)
+    heading_ends c.args.kind (c.loop-rest.before + 1) _
+    (subst (λ bs. heading c.args.kind (c.loop-rest.before + 1) (lines bs) ≡ heading
+    c.args.kind 1 (lines c.args.text.now)) none c.loop-rest.invariant.same)

@@ -15,15 +15,17 @@ returns-in-Data-clause-ok c t g at = (
   g,
   QueuedData c.in-Data.desc.name c.in-Data.desc.size c.in-Data.desc.number c.in-Data.bytes,
   at ∙ ap (λ a. after_arg a c.args.self.now) (sym c.in-Data.is),
-  ap (λ a. take_arg (wiring_of c.args.wired.now) t c.args.slot.sort c.args.slot.argument
+  ap (λ a. take_arg (wiring_of c.args.wired.now) c.args.slot.now.own t c.args.slot.now.sort
+      c.args.slot.now.argument
       (staged c.args.store.now t g) (argument_of a)) c.in-Data.is,
 )
 
 pub returns-in-Ports-clause-ok : goal.returns-in-Ports-clause-ok
 returns-in-Ports-clause-ok c =
     on_ok_weaker c.judge_names.result (λ ok t g at.
-    arg_leaves (wiring_of c.args.wired.now) c.args.store.now t c.args.slot.sort
-    c.args.slot.argument c.args.self.now c.args.argument.now c.in-Ports.disp
+    arg_leaves (wiring_of c.args.wired.now) c.args.slot.now.own c.args.store.now t
+    c.args.slot.now.sort
+    c.args.slot.now.argument c.args.self.now c.args.argument.now c.in-Ports.disp
     c.as_slice.result.now
     (c.in-Ports.is ∙ ap (Ports c.in-Ports.disp) (sym c.as_slice.ensures)) g (ok t g at))
     c.judge_names.ensures.ok
@@ -31,8 +33,9 @@ returns-in-Ports-clause-ok c =
 pub returns-in-Ports-clause-refused : goal.returns-in-Ports-clause-refused
 returns-in-Ports-clause-refused c =
     IfErr-weaker c.judge_names.result _ _ (λ fault fails t g at.
-    arg_stops (wiring_of c.args.wired.now) c.args.store.now t c.args.slot.sort
-    c.args.slot.argument c.args.self.now c.args.argument.now c.in-Ports.disp
+    arg_stops (wiring_of c.args.wired.now) c.args.slot.now.own c.args.store.now t
+    c.args.slot.now.sort
+    c.args.slot.now.argument c.args.self.now c.args.argument.now c.in-Ports.disp
     c.as_slice.result.now
     (c.in-Ports.is ∙ ap (Ports c.in-Ports.disp) (sym c.as_slice.ensures)) g fault
     (fails t g at)) c.judge_names.ensures.refused

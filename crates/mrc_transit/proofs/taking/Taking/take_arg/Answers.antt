@@ -21,9 +21,11 @@ returns-in_err-items-in-Ports-clause-refused c =
     rw (p.1, p.2) (λ t.
     let s = staged c.args.store.now t c.args.self.now in
     subst (λ a. IsSendRefusal c.in_err-items-in-Ports.field-0.0
-    (take_arg (wiring_of c.args.wired.now) t c.args.slot.sort c.args.slot.argument s a))
+    (take_arg (wiring_of c.args.wired.now) c.args.slot.now.own t c.args.slot.now.sort
+    c.args.slot.now.argument s a))
     (sym argument)
-    (arg_refused (wiring_of c.args.wired.now) t c.args.slot.sort c.args.slot.argument s
+    (arg_refused (wiring_of c.args.wired.now) c.args.slot.now.own t c.args.slot.now.sort
+    c.args.slot.now.argument s
     c.in-Ports.disp c.as_slice.result.now c.in_err-items-in-Ports.field-0.0
     (c.in_err-items-in-Ports.ensures.refused t)))
 
@@ -32,8 +34,10 @@ returns-in_ok-items-in-Ports-clause-taken c = λ t.
     let s = staged c.args.store.now t c.args.self.now in
     let argument = ap argument_of c.in-Ports.is
     ∙ ap (Ports (disp_number c.in-Ports.disp)) (sym c.as_slice.ensures) in
-    ap (take_arg (wiring_of c.args.wired.now) t c.args.slot.sort c.args.slot.argument s) argument
-    ∙ arg_taken (wiring_of c.args.wired.now) t c.args.slot.sort c.args.slot.argument s
+    ap (take_arg (wiring_of c.args.wired.now) c.args.slot.now.own t c.args.slot.now.sort
+    c.args.slot.now.argument s) argument
+    ∙ arg_taken (wiring_of c.args.wired.now) c.args.slot.now.own t c.args.slot.now.sort
+    c.args.slot.now.argument s
     (staged c.args.store.now t c.take_items.new.self) c.in-Ports.disp c.as_slice.result.now
     c.in_ok-items-in-Ports.items.items c.give.result (c.in_ok-items-in-Ports.ensures.taken t)
     c.give.ensures

@@ -11,7 +11,7 @@ returns-in_err-next-clause-refused c =
     let p = err_from_is_err_and c.from_residual-in_err-next.result
     c.from_residual-in_err-next.ensures.1 in
     let W = wiring_of c.args.wired.now in
-    rw (p.1, p.2) (λ t. args_refused W t (form_shapes c.args.form.now.found.now)
+    rw (p.1, p.2) (λ t. args_refused W c.args.own t (form_shapes c.args.form.now.found.now)
     (staged c.args.store.now t c.args.self.now) (staged c.args.store.now t c.loop-i.self)
     c.loop-i.queued.items c.loop-i.i c.sort.result c.index-arguments-i.result
     c.args.arguments.now (c.loop-i.invariant.0 t) c.loop-i-test.true c.index-arguments-i.is
@@ -21,10 +21,10 @@ pub loop-i-preserved : goal.loop-i-preserved
 loop-i-preserved c = (
   λ t.
       let W = wiring_of c.args.wired.now in
-      subst (λ queued. ArgsSoFar W t (form_shapes c.args.form.now.found.now)
+      subst (λ queued. ArgsSoFar W c.args.own t (form_shapes c.args.form.now.found.now)
       (staged c.args.store.now t c.args.self.now) (staged c.args.store.now t c.take_arg.new.self)
       queued (c.loop-i.i + 1) c.args.arguments.now) (sym c.in_ok-push.ensures.items)
-      (args_turn W t (form_shapes c.args.form.now.found.now)
+      (args_turn W c.args.own t (form_shapes c.args.form.now.found.now)
       (staged c.args.store.now t c.args.self.now) (staged c.args.store.now t c.loop-i.self)
       c.loop-i.queued.items c.loop-i.i c.sort.result c.index-arguments-i.result
       c.args.arguments.now (c.loop-i.invariant.0 t) c.loop-i-test.true c.index-arguments-i.is

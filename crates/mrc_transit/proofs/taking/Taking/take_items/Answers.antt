@@ -12,8 +12,9 @@ returns-in_err-item-clause-refused c =
     c.from_residual-in_err-item.ensures.1 in
     let names = c.args.names.now in
     let k = c.loop-name.name-index in
-    rw (p.1, p.2) (λ t. items_refused (wiring_of c.args.wired.now) t c.args.disp c.args.slot.sort
-    c.args.slot.argument (staged c.args.store.now t c.args.self.now)
+    rw (p.1, p.2) (λ t. items_refused (wiring_of c.args.wired.now) c.args.slot.now.own t c.args.disp
+    c.args.slot.now.sort
+    c.args.slot.now.argument (staged c.args.store.now t c.args.self.now)
     (staged c.args.store.now t c.loop-name.self) c.loop-name.items.items k (get_or names k 0) names
     (c.loop-name.invariant.0 t) c.loop-name-test.true
     (get_or_default names k 0 (get_or names k 0) c.loop-name-test.true)
@@ -25,12 +26,13 @@ loop-name-preserved c = (
       let W = wiring_of c.args.wired.now in
       let names = c.args.names.now in
       let k = c.loop-name.name-index in
-      subst (λ items. ItemsSoFar W t c.args.disp c.args.slot.sort c.args.slot.argument
+      subst (λ items. ItemsSoFar W c.args.slot.now.own t c.args.disp c.args.slot.now.sort
+      c.args.slot.now.argument
       (staged c.args.store.now t c.args.self.now)
       (staged c.args.store.now t c.take_admitted.new.self) items (k + 1) names)
       (sym c.in_ok-push.ensures.items)
-      (items_turn W t c.args.disp c.args.slot.sort
-      c.args.slot.argument (staged c.args.store.now t c.args.self.now)
+      (items_turn W c.args.slot.now.own t c.args.disp c.args.slot.now.sort
+      c.args.slot.now.argument (staged c.args.store.now t c.args.self.now)
       (staged c.args.store.now t c.loop-name.self) c.loop-name.items.items k (get_or names k 0)
       names
       (c.loop-name.invariant.0 t) c.loop-name-test.true

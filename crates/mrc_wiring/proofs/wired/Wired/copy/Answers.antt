@@ -14,3 +14,13 @@ of-requires-clause-births c =
     let rows = ap (λ (rs : List BirthRow). length rs) c.births.ensures.exact in
     let seen = ap (λ (t : Table). length t.births) c.self.view_is in
     omega arith
+
+pub trusting-requires-clause-births : goal.trusting-requires-clause-births
+trusting-requires-clause-births c =
+    let wired = c.self.inside in
+    let few = few_births (length wired.names.items) wired.births.items c.self.invariant.0.births
+    c.self.invariant.3 in
+    let tasks = c.self.invariant.0.few_tasks in
+    let rows = ap (λ (rs : List BirthRow). length rs) c.births-2.ensures.exact in
+    let seen = ap (λ (t : Table). length t.births) c.self.view_is in
+    omega arith
