@@ -15,6 +15,8 @@ SPACE, REFERENCES, PORTS = 4096, 65535, 65536
 NEEDS = {16: "receive", 17: "send", 18: "once", 19: "send", 20: "receive", 21: "receive"}
 GIVES = {16: "receive", 17: "send", 18: "once", 19: "send", 20: "send", 21: "once"}
 MOVES = {"receive": 16, "send": 17, "once": 18}
+# What lines about trusted tasks limit.
+VERBS = ["takes", "gives", "sends", "replies"]
 MASKS = {"send": 0x10000, "receive": 0x20000, "once": 0x40000, "set": 0x80000, "dead": 0x100000}
 
 # The forms of the interfaces in tests/replays: for each id its kind and its arguments, which are a port's disposition
@@ -174,15 +176,26 @@ def births_of(task, kind="0"):
     return f"births {task} {int(kind)}" if int(kind) else f"births {task}"
 
 
-class Machine:
-    """The machine of a wiring."""
+def class_named(words):
+    """The class of these words of a line."""
+    return births_of(*words[1:]) if words[0] == "births" else " ".join(words)
 
-    def __init__(self, wiring):
+
+def lines_of(text):
+    """The words of each line that has some."""
+    lines = [line.split("#")[0].split() for line in text.splitlines()]
+    return [words for words in lines if words]
+
+
+class Machine:
+    """The machine of a wiring over the forms of interfaces."""
+
+    def __init__(self, wiring, interfaces=INTERFACES):
         self.tasks, self.ports, self.births = [], {}, 0
         self.labels, self.admits, self.kinds = {}, {}, set()
-        self.numbers, ports = {}, {}
-        for line in wiring.splitlines()[1:]:
-            word, *rest = line.split()
+        self.limits, self.replies_fit = {verb: {} for verb in VERBS}, False
+        self.interfaces, self.numbers, ports = interfaces, {}, {}
+        for word, *rest in lines_of(wiring)[1:]:
             if word == "task":
                 self.numbers[rest[0]] = len(self.tasks)
                 task = Task(rest[0], self.birth("task " + rest[0]), rest[0])
@@ -204,7 +217,18 @@ class Machine:
             elif word == "admit":
                 admitted = self.admits.setdefault(rest[0], set())
                 if rest[1] != "none":
-                    admitted.add(births_of(*rest[2:]) if rest[1] == "births" else " ".join(rest[1:]))
+                    admitted.add(class_named(rest[1:]))
+            elif word == "trust":
+                self.limit(*rest)
+            elif word == "replies":
+                self.replies_fit = True
+
+    def limit(self, task, verb, *words):
+        """Limits a task, and each that is made like it, to what its lines of a verb name."""
+        left = self.limits[verb].setdefault(task, set())
+        if words != ("none",):
+            right, *cls = ("once", *words) if verb == "replies" else words
+            left.add((right, class_named(cls)))
 
     def birth(self, cls):
         self.ports[self.births] = Port(cls)
@@ -215,6 +239,18 @@ class Machine:
         """What a class accepts."""
         label = self.labels.get(cls, "none")
         return [] if label == "none" else [item.strip() for item in label.split(",")]
+
+    # Trusted tasks
+
+    def may(self, verb, task, right, port):
+        """Whether a task may do so with a right on a live port: no line of the verb names its class, or one of those
+        names the right on the port's class."""
+        left = self.limits[verb].get(task.like)
+        return left is None or (right, self.ports[port].cls) in left
+
+    def may_on(self, verb, caller, target, right, port):
+        """The same of what is done to a task: always to one of the caller's own class."""
+        return caller.like == target.like or self.may(verb, caller, right, port)
 
     # Spaces
 
@@ -366,6 +402,8 @@ class Machine:
             code("KERN_INVALID_CAPABILITY")
         port = self.take(caller.space, right, disp)
         given, space = GIVES[disp], target.space
+        if not self.may_on("gives", caller, target, given, port):
+            deny("NotGiven")
         if given != "once" and name_of(space, port) not in (None, name):
             code("KERN_RIGHT_EXISTS")
         if name not in space:
@@ -382,7 +420,10 @@ class Machine:
             space[name].refs += 1
 
     def extract_right(self, caller, task, name, disp):
-        port = self.take(self.target(caller, task).space, name, disp)
+        target = self.target(caller, task)
+        port = self.take(target.space, name, disp)
+        if not self.may_on("takes", caller, target, GIVES[disp], port):
+            deny("NotTaken")
         if len(caller.space) >= SPACE:
             code("KERN_NO_SPACE")
         return f"name {self.give(caller.space, port, GIVES[disp])}"
@@ -411,7 +452,11 @@ class Machine:
             backup = self.take(caller.space, notify, disp)
             if "destroyed" not in self.items_of(self.ports[backup].cls):
                 deny("NotDestroyed")
+            if not self.may_on("gives", caller, target, "once", backup):
+                deny("NotGiven")
         before, port.backup = port.backup, backup
+        if isinstance(before, int) and not self.may_on("takes", caller, target, "once", before):
+            deny("NotTaken")
         if before is None:
             return f"name {NULL}"
         if before == "dead":
@@ -519,18 +564,18 @@ class Machine:
     # Messages
 
     def form(self, cls, id):
-        """The form of an id that a class accepts."""
+        """The form of an id that a class accepts, and its interface."""
         for item in self.items_of(cls):
             if item != "destroyed":
                 word, subsystem = item.split()
-                kind, args = INTERFACES[subsystem].get(id, (None, None))
+                kind, args = self.interfaces[subsystem].get(id, (None, None))
                 if kind and (kind == "reply") == (word == "reply"):
-                    return kind, args
+                    return subsystem, kind, args
         deny("NoSuchId")
 
     def judge(self, cls, id, given, local):
-        """The form that a message meets."""
-        kind, args = self.form(cls, id)
+        """The form that a message meets, and its interface."""
+        subsystem, kind, args = self.form(cls, id)
         if kind == "reply":
             if not (given and fits(args[0], given[0])):
                 deny("WrongShape 0")
@@ -543,31 +588,46 @@ class Machine:
                 deny(f"WrongDisposition {place}")
         if local != 0 and not (kind == "request" and local in (18, 21)):
             deny("ReplySlot")
-        return args
+        return subsystem, args
+
+    def judge_reply(self, caller, reply, subsystem):
+        """Refuses a reply right on a live port that does not fit a request, or that its sender may not name."""
+        if isinstance(reply, tuple):
+            port, right = reply
+            if self.replies_fit and f"reply {subsystem}" not in self.items_of(self.ports[port].cls):
+                deny("ReplySlot")
+            if not self.may("replies", caller, right, port):
+                deny("NotForReply")
 
     def send(self, caller, digits):
         remote_disp, local_disp, remote, local, id, args = parse_message(bytes.fromhex(digits))
         no_destination = "MACH_SEND_INVALID_DEST"
         space = caller.space
         destination = self.take(space, remote, remote_disp, no_destination, no_destination)
-        form = self.judge(self.ports[destination].cls, id, args, local_disp)
+        subsystem, form = self.judge(self.ports[destination].cls, id, args, local_disp)
         no_reply = "MACH_SEND_INVALID_REPLY"
         if local_disp == 0 and local not in (NULL, DEAD):
             code(no_reply)
         reply = self.take_item(space, local, local_disp, no_reply)
+        self.judge_reply(caller, reply, subsystem)
         for place, arg in enumerate(args):
             if arg.is_port:
                 names = struct.unpack(f"<{arg.number}I", arg.data)
-                arg.items = [self.take_admitted(space, name, arg.name, form[place][1], place) for name in names]
+                arg.items = [self.take_admitted(caller, name, arg.name, form[place][1], place) for name in names]
         port, by_once = self.ports[destination], remote_disp in (18, 21)
         if len(port.queue) >= port.limit and not by_once:
             code("MACH_SEND_TIMED_OUT")
         port.queue.append(Queued(by_once, id, reply, args))
 
-    def take_admitted(self, space, name, disp, slot, place):
-        item = self.take_item(space, name, disp, "MACH_SEND_INVALID_RIGHT")
-        if isinstance(item, tuple) and slot in self.admits and self.ports[item[0]].cls not in self.admits[slot]:
-            deny(f"NotAdmitted {place}")
+    def take_admitted(self, caller, name, disp, slot, place):
+        """What a slot carries for a name. The slot's type has to admit it, and then the sender may send it."""
+        item = self.take_item(caller.space, name, disp, "MACH_SEND_INVALID_RIGHT")
+        if isinstance(item, tuple):
+            port, right = item
+            if slot in self.admits and self.ports[port].cls not in self.admits[slot]:
+                deny(f"NotAdmitted {place}")
+            if not self.may("sends", caller, right, port):
+                deny(f"NotSent {place}")
         return item
 
     def source(self, space, name):
@@ -655,11 +715,10 @@ def fits(form, arg):
     return arg.name == name and arg.size == size and (bounded or arg.number == count)
 
 
-def replay(wiring, script):
+def replay(wiring, script, interfaces=INTERFACES):
     """What `machcheck replay` prints of a script, where `@N` has no leading zero."""
-    machine, lines = Machine(wiring), []
-    for line in script.splitlines():
-        task, call, *rest = line.split()
+    machine, lines = Machine(wiring, interfaces), []
+    for task, call, *rest in lines_of(script):
         if call == "send":
             rest = ["".join(rest)]
         else:

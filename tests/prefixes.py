@@ -247,7 +247,7 @@ def words_of(text, kind):
     number, heading = lines[0]
     if len(heading) != 2 or heading[0] != kind or not re.fullmatch("[0-9]+", heading[1]):
         raise Fault(f"BadLine {number}")
-    if int(heading[1]) not in (1, 2):
+    if int(heading[1]) not in {"wiring": (1, 2, 3), "policy": (1, 2)}[kind]:
         raise Fault("Version")
     return int(heading[1]), lines[1:]
 
@@ -284,7 +284,7 @@ def class_of(words, version):
     """A class as its word, its name and its kind, or None where it is none."""
     if len(words) == 2 and words[0] in ("port", "task", "births") and is_name(words[1]):
         return words[0], words[1], 0
-    is_of_kind = version == 2 and len(words) == 3 and words[0] == "births" and is_name(words[1]) and is_kind(words[2])
+    is_of_kind = version > 1 and len(words) == 3 and words[0] == "births" and is_name(words[1]) and is_kind(words[2])
     return ("births", words[1], int(words[2])) if is_of_kind else None
 
 
@@ -298,7 +298,7 @@ def wiring_line(words, version):
         is_good = is_name(words[1]) and is_name(words[3]) and items is not None
         return ("port", words[1], words[3], items) if is_good else None
     if word == "births":
-        has_kind = version == 2
+        has_kind = version > 1
         if count < 4 + has_kind or words[2 + has_kind] != "accepts" or not is_name(words[1]):
             return None
         items = items_of(words[3 + has_kind :])
@@ -314,7 +314,25 @@ def wiring_line(words, version):
         to = None if words[2:] == ["none"] else class_of(words[2:], version)
         is_good = len(parts) == 2 and all(map(is_name, parts)) and (to or words[2:] == ["none"])
         return ("admit", parts[0], parts[1], to) if is_good else None
+    if version == 3 and words == ["replies", "fit"]:
+        return ("replies fit",)
+    if version == 3 and word == "trust" and count > 3 and is_name(words[1]):
+        return trust_line(words[1], words[2], words[3:])
     return None
+
+
+def trust_line(task, verb, words):
+    """What a line about a trusted task says, or None if it says nothing."""
+    if verb not in ("takes", "gives", "sends", "replies"):
+        return None
+    if words == ["none"]:
+        return "trust", task, None
+    if verb != "replies":
+        if words[0] not in ("send", "receive", "once"):
+            return None
+        words = words[1:]
+    to = class_of(words, 3)
+    return ("trust", task, to) if to else None
 
 
 def wiring_text(text):
@@ -334,6 +352,7 @@ class Names:
 
     def __init__(self, subsystems):
         self.subsystems, self.tasks, self.ports, self.kinds = subsystems, [], [], set()
+        self.fits = False
 
     def need(self, number, *known):
         if not all(known):
@@ -365,6 +384,11 @@ class Names:
             self.kinds.add(line[1:3])
         elif word == "hold":
             self.need(number, line[1] in self.tasks, line[3] in (self.ports if line[2][1] == "port" else self.tasks))
+        elif word == "trust":
+            self.need(number, line[1] in self.tasks, line[2] is None or self.has_class(line[2]))
+        elif word == "replies fit":
+            self.once(number, self.fits)
+            self.fits = True
         else:
             self.need(number, line[2] in self.subsystems.get(line[1], ()), line[3] is None or self.has_class(line[3]))
 
@@ -586,6 +610,18 @@ hold fs send task app
 admit fsys.file_t births fs 1
 admit fsys.file_t port root
 """
+TRUSTED = """wiring 3
+task app
+task fs
+births fs 1 accepts reply fsys
+hold app send task fs
+replies fit
+trust app takes send births fs 1 # files
+trust app gives none
+trust fs sends once births app
+trust fs replies births fs 1
+trust fs replies none
+"""
 FORBIDDEN = "policy 1\nforbid app send task fs\n\nforbid fs receive port root # never\nforbid app once births app"
 FORBIDDEN_KINDS = "policy 2\nforbid app send births fs\nforbid app receive births fs 1\n"
 
@@ -619,7 +655,7 @@ def cases():
     for text in (FSYS, TWO, PING, XFER, LOOK):
         yield "forms", "", text, "", mig
     all_defs = "&".join((FSYS, TWO, PING, XFER, LOOK))
-    for text in (LOADER, FILES, PINGED, HANDED, INBOX, KINDS):
+    for text in (LOADER, FILES, PINGED, HANDED, INBOX, KINDS, TRUSTED):
         yield "wiring", "", text, "", wiring_text
         yield "resolved", f"classes|{all_defs}|", text, "", lambda text: names_of(text, SLOTS)
     for wiring, text in ((FILES, FORBIDDEN), (KINDS, FORBIDDEN_KINDS)):

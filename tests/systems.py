@@ -16,6 +16,10 @@ SEND, RECEIVE, ONCE = 0, 1, 2
 RIGHTS = ["send", "receive", "once"]
 HOLD, CARRY, BACKUP = 1, 2, 3
 
+# What lines about trusted tasks limit: what a task takes from others, gives to them, sends in slots, and names as the
+# ports of its replies.
+VERBS = ["takes", "gives", "sends", "replies"]
+
 # A fact is a tuple of numbers, which sort as its bytes in a certificate do: (HOLD, task, class, right), (CARRY,
 # destination, class, right), (BACKUP, class, destination, 0).
 
@@ -245,6 +249,7 @@ class System:
         self.read_holdings()
         self.read_admits()
         self.read_slots()
+        self.read_trust()
 
     def kernel(self, task):
         """The class of a task's kernel port."""
@@ -292,11 +297,33 @@ class System:
             sorted({(slot.disposition, (name, slot.type)) for name, form in self.forms(c) for slot in form.slots})
             for c in every
         ]
-        self.takes_routines = [
-            any(word == "request" and self.interfaces[name].has_routine() for word, name in self.labels[c])
-            for c in every
-        ]
         self.takes_notices = [("destroyed", None) in self.labels[c] for c in every]
+
+    def read_trust(self):
+        """The rights on classes that lines of each verb leave a task, and the first line about each task."""
+        self.limits, self.trusted = {verb: {} for verb in VERBS}, {}
+        self.replies_fit = any(words == ["replies", "fit"] for _, words in self.lines)
+        for line, words in self.lines:
+            if words[0] == "trust":
+                task, verb, rest = self.tasks.index(words[1]), words[2], words[3:]
+                self.trusted.setdefault(task, line)
+                left = self.limits[verb].setdefault(task, set())
+                if rest != ["none"]:
+                    right, *named = ["once", *rest] if verb == "replies" else rest
+                    left.add((self.number[class_of(named)], RIGHTS.index(right)))
+
+    def may(self, verb, task, c, right):
+        """Whether the lines of a verb let a task do so with a right on a class: no line of the verb names the task, or
+        one of those names the right on the class."""
+        return task not in self.limits[verb] or (c, right) in self.limits[verb][task]
+
+    def answered(self, d, c):
+        """The interfaces whose requests to class d carry a right to reply at a port of class c: they have a routine
+        and, if replies have to fit, c accepts their replies."""
+        for word, name in self.labels[d]:
+            if word == "request" and self.interfaces[name].has_routine():
+                if not self.replies_fit or ("reply", name) in self.labels[c]:
+                    yield name
 
     def types(self):
         """The types of slots, each with its interface."""
@@ -348,16 +375,19 @@ class System:
         own = HOLD, t, d, right
         for c, r in held:
             for disposition, of in self.slots[d]:
-                if NEEDS[disposition] == r and self.admits(of, c):
-                    yield 4, (own, (HOLD, t, c, r)), (CARRY, d, c, GIVES[disposition])
-            if r == ONCE and self.takes_routines[d]:
+                given = GIVES[disposition]
+                if NEEDS[disposition] == r and self.admits(of, c) and self.may("sends", t, c, given):
+                    yield 4, (own, (HOLD, t, c, r)), (CARRY, d, c, given)
+            if r == ONCE and self.may("replies", t, c, ONCE) and any(self.answered(d, c)):
                 yield 5, (own, (HOLD, t, c, ONCE)), (CARRY, d, c, ONCE)
 
     def by_kernel(self, t, u, held, other):
-        """Those of a task that may hold the kernel port of u."""
+        """Those of a task that may hold the kernel port of u: it takes from u and gives to u what it may."""
         own = HOLD, t, self.kernel(u), SEND
-        yield from ((7, (own, (HOLD, u, c, r)), (HOLD, t, c, r)) for c, r in other)
-        yield from ((7, (own, (HOLD, t, c, r)), (HOLD, u, c, r)) for c, r in held)
+        taken = [(c, r) for c, r in other if self.may("takes", t, c, r)]
+        given = [(c, r) for c, r in held if self.may("gives", t, c, r)]
+        yield from ((7, (own, (HOLD, u, c, r)), (HOLD, t, c, r)) for c, r in taken)
+        yield from ((7, (own, (HOLD, t, c, r)), (HOLD, u, c, r)) for c, r in given)
 
     def least(self):
         """The least set of facts: instances are added until nothing is new."""
@@ -398,8 +428,7 @@ class System:
         if rule == 4:
             return source == next(self.slots_for(premises, fact))
         if rule == 5:
-            items = self.labels[fact[1]]
-            return source == next(n for word, n in items if word == "request" and self.interfaces[n].has_routine())
+            return source == next(self.answered(fact[1], fact[2]))
         if rule == 7:
             return source == f"task:{self.tasks[premises[0][2] - self.ports]}"
         return source is None
@@ -503,6 +532,15 @@ def forbidden(system, policy):
 def broken(system, policy, facts):
     """The lines that are broken in a set of facts, with what each forbids."""
     return [(line, fact) for line, fact in forbidden(system, policy) if fact in facts]
+
+
+def exposed(system, facts):
+    """What may void a promise: the first line about a trusted task and the hold of its kernel port by another task
+    that may take or give without limit. Of several the one with the least line, then the least fact; or None."""
+    limits = system.limits
+    free = [u for u in range(len(system.tasks)) if u not in limits["takes"] or u not in limits["gives"]]
+    found = [(line, (HOLD, u, system.kernel(t), SEND)) for t, line in system.trusted.items() for u in free if u != t]
+    return min((pair for pair in found if pair[1] in facts), default=None)
 
 
 # The shortest chain
@@ -639,13 +677,16 @@ class Judge:
         self.system = System(defs, wiring)
         self.facts = self.system.least()
         self.broken = broken(self.system, policy, self.facts)
+        self.exposed = exposed(self.system, self.facts)
 
     def lost(self, removed, added):
         """How many facts are lost by these changes, or None where the answer is still NO. Changes leave the classes
         as they are, so facts keep their numbers."""
         changed = System(self.defs, mended(self.wiring, removed, added))
         facts = changed.least()
-        return None if broken(changed, self.policy, facts) else len(self.facts - facts)
+        if exposed(changed, facts) or broken(changed, self.policy, facts):
+            return None
+        return len(self.facts - facts)
 
     def mends_of_one(self):
         """Every change of one thing after which the answer is YES, with what it loses. `admit S.T none` is one of them
