@@ -15,8 +15,8 @@ _machcheck() {
     done
     COMPREPLY=()
     case $command in
-    '') kind=words options='verify mend check make explain facts graph replay live mig help --help --version' ;;
-    help) kind=words options='verify mend check make explain facts graph replay live mig ' ;;
+    '') kind=words options='verify mend check make explain facts graph promises replay live mig help --help --version' ;;
+    help) kind=words options='verify mend check make explain facts graph promises replay live mig ' ;;
     verify)
         options='--wiring --policy --tree --help'
         case $before in
@@ -72,6 +72,12 @@ _machcheck() {
         --cert) kind=file ;;
         --policy) kind=file ;;
         --fact) kind=nothing ;;
+        esac
+        ;;
+    promises)
+        options='--wiring --help'
+        case $before in
+        --wiring) kind=file ;;
         esac
         ;;
     replay)

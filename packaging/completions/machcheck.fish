@@ -56,6 +56,11 @@ complete -c machcheck -n '__fish_seen_subcommand_from graph' -l policy -r -F -d 
 complete -c machcheck -n '__fish_seen_subcommand_from graph' -l fact -x -d 'Draws the steps to this fact alone'
 complete -c machcheck -n '__fish_seen_subcommand_from graph' -s h -l help -d 'Print help'
 complete -c machcheck -n '__fish_seen_subcommand_from graph' -k -a '(__fish_complete_suffix .defs)'
+complete -c machcheck -n __fish_use_subcommand -a promises -d 'Prints what has to be found in the code of trusted tasks'
+complete -c machcheck -n '__fish_seen_subcommand_from help' -a promises
+complete -c machcheck -n '__fish_seen_subcommand_from promises' -l wiring -r -F -d 'Tasks, ports and their first rights'
+complete -c machcheck -n '__fish_seen_subcommand_from promises' -s h -l help -d 'Print help'
+complete -c machcheck -n '__fish_seen_subcommand_from promises' -k -a '(__fish_complete_suffix .defs)'
 complete -c machcheck -n __fish_use_subcommand -a replay -d 'Runs a script of calls, and prints the reply to each'
 complete -c machcheck -n '__fish_seen_subcommand_from help' -a replay
 complete -c machcheck -n '__fish_seen_subcommand_from replay' -l wiring -r -F -d 'Tasks, ports and their first rights'

@@ -12,6 +12,7 @@ _machcheck() {
         'explain:Shows how a fact comes to be in the least certificate of a wiring'
         'facts:Prints the facts of a certificate, or of the least one of a wiring'
         'graph:Draws the facts of a certificate, or of the least one of a wiring'
+        'promises:Prints what has to be found in the code of trusted tasks'
         'replay:Runs a script of calls, and prints the reply to each'
         'live:Checks, and runs a script of calls by tasks as threads'
         'mig:Cuts MIG files of a system to files that can be read'
@@ -81,6 +82,12 @@ _machcheck() {
                 '--cert=[The certificate\: the least one where it is not given]:FILE:_files' \
                 '--policy=[The forbidden holdings, which are drawn red]:FILE:_files' \
                 '--fact=[Draws the steps to this fact alone]:FACT:' \
+                '(- *)'{-h,--help}'[Print help]' \
+                '*:MIG file:_files -g "*.defs"'
+            ;;
+        promises)
+            _arguments -s \
+                '--wiring=[Tasks, ports and their first rights]:FILE:_files' \
                 '(- *)'{-h,--help}'[Print help]' \
                 '*:MIG file:_files -g "*.defs"'
             ;;
