@@ -1,11 +1,12 @@
 -- Believe. The names of tasks, wired ports and classes. The printed form of a class is this
 -- profile's own choice.
 use Rattle.std.specs.Prelude.{◌≡◌, ℕ, ◌+◌, ◌-◌, ◌==◌, Bool, bytes_eq, nat_lt, codes, List, [], ◌∷◌}
-use Rattle.std.specs.Prelude.{length, Option, Some, None, IsTrue, if◌then◌else◌, position}
+use Rattle.std.specs.Prelude.{length, Option, Some, None, IsTrue, if◌then◌else◌}
 use Rattle.std.specs.Prelude.{slice_get}
 use Rattle.std.specs.Prelude.{drop, nat_eq, option_and_then, find, unwrap_or}
 use Rattle.std.specs.List.{starts_with, position_or_len, before_first, after_first}
 use Rattle.std.specs.Option.{option_map}
+pub use Rattle.mrc_name_table.specs.Names.{number_of}
 use Rattle.mrc_wiring_text.specs.Names.{is_name}
 use Rattle.mrc_wiring_text.specs.declared.policy.ClassName.{ClassName}
 use Rattle.mrc_wiring_text.specs.declared.policy.ClassName.TheVariants as said
@@ -16,10 +17,6 @@ use Rattle.mrc_wiring.specs.declared.names.ClassKind.TheVariants.{Port, Task, Bi
 use Rattle.mrc_wiring.specs.declared.births.BirthRow.{BirthRow}
 use Rattle.mrc_wiring.specs.Births.{has_row}
 use Rattle.mrc_wiring.specs.Table.{Table, kind_class}
-
--- the number of the task, or of the wired port, of a name
-abbrev pub number_of : List (List ℕ) → List ℕ → Option ℕ
-number_of names name = position (bytes_eq name) names
 
 -- each has a name, and no two have the same
 pub record AreNames (names : List (List ℕ)) : Type 0 where

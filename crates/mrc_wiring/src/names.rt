@@ -3,10 +3,11 @@
 ghost use Rattle.std.specs.Prelude.{◌≡◌, ◌<◌, ◌≤◌, length, IfSome};
 ghost use Rattle.mrc_base.specs.Limits.{limit_of_tasks, limit_of_wired_ports};
 ghost use Rattle.mrc_wiring.specs.Births.{AreAscending};
-ghost use Rattle.mrc_wiring.specs.Names.{number_of, class_said, kind_word, kind_named, births_said};
+ghost use Rattle.mrc_wiring.specs.Names.{class_said, kind_word, kind_named, births_said};
 
 use crate::births::{BirthRow, has_row};
-use mrc_wiring_text::{ClassName, Name};
+use mrc_name_table::NameTable;
+use mrc_wiring_text::ClassName;
 
 /// The kinds of classes of ports. Each wired port is a class of its own, each task has one class
 /// for its kernel port, and one for each kind of its births.
@@ -34,14 +35,6 @@ pub struct ClassLabel<'a> {
 pub(crate) struct NumberedClass {
     pub(crate) kind: ClassKind,
     pub(crate) number: u16,
-}
-
-/// The number of the task, or of the wired port, of a name.
-pub(crate) fn number_of(names: &[Name], name: &str) -> Option<usize>
-    ensures exact { result ≡ number_of names.now name.now }
-    ensures within { IfSome result (λ i. i < length names.now) }
-{
-    names.iter().position(|known| name == known.as_str())
 }
 
 /// The word of a kind of births.
@@ -112,8 +105,8 @@ fn births_said(births: &[BirthRow], task: u16, kind: u8) -> Option<NumberedClass
 /// The class that a line names, by the names of tasks and wired ports and by the births that are
 /// there.
 pub(crate) fn class_said(
-    tasks: &[Name],
-    ports: &[Name],
+    tasks: &NameTable,
+    ports: &NameTable,
     births: &[BirthRow],
     class: &ClassName,
 ) -> Option<NumberedClass>
@@ -125,21 +118,21 @@ pub(crate) fn class_said(
 {
     match class {
         ClassName::Port(name) => {
-            let number = number_of(ports, name.as_str())?;
+            let number = ports.number_of(name.as_str())?;
             Some(NumberedClass {
                 kind: ClassKind::Port,
                 number: number as u16,
             })
         }
         ClassName::Task(name) => {
-            let number = number_of(tasks, name.as_str())?;
+            let number = tasks.number_of(name.as_str())?;
             Some(NumberedClass {
                 kind: ClassKind::Task,
                 number: number as u16,
             })
         }
         ClassName::Births { task, kind } => {
-            let number = number_of(tasks, task.as_str())?;
+            let number = tasks.number_of(task.as_str())?;
             births_said(births, number as u16, kind.number())
         }
     }

@@ -1,7 +1,7 @@
 //! From the lines of a wiring to its table.
 
-ghost use Rattle.std.specs.Prelude.{◌≡◌, ◌<◌, ◌≤◌, [], false, length, slice_index, IfOk};
-ghost use Rattle.std.specs.Prelude.{OnOk};
+ghost use Rattle.std.specs.Prelude.{◌≡◌, ◌<◌, ◌≤◌, [], false, is_some, length, slice_index};
+ghost use Rattle.std.specs.Prelude.{IfOk, OnOk};
 ghost use Rattle.std.specs.List.{list_any};
 ghost use Rattle.std.specs.Option.{ok_or};
 ghost use Rattle.mrc_base.specs.Limits.{limit_of_tasks, limit_of_wired_ports, limit_of_names};
@@ -27,13 +27,14 @@ use crate::births::{BirthRow, has_said, put_row};
 use crate::faults::ResolveFault;
 use crate::first_names::NamesGiven;
 use crate::labels::{Label, has_clash, interface_number, label_said};
-use crate::names::{NumberedClass, class_said, number_of};
+use crate::names::{NumberedClass, class_said};
 use crate::sorts::{Sorts, sorts_of};
 use crate::table::{AdmitLine, NumberedRight, TrustedLine};
 use mrc_base::limits::{INTERFACES, NAMES, TASKS, WIRED_PORTS};
 use mrc_base::{OrMemory, PortId, PortRight, TaskId};
 use mrc_forms::Interface;
 use mrc_model::{FirstLine, Verb};
+use mrc_name_table::NameTable;
 use mrc_wiring_text::{
     ClassName, HeldRight, Items, Kind, Name, TrustVerb, TrustedRight, WiringLine, WiringSays,
 };
@@ -43,9 +44,9 @@ use std::marker::Model;
 /// The table of the lines so far, and what is kept next to it.
 #[derive(Drop)]
 pub(crate) struct Resolving {
-    pub(crate) names: Vec<Name>,
+    pub(crate) names: NameTable,
     pub(crate) births: Vec<BirthRow>,
-    pub(crate) ports: Vec<Name>,
+    pub(crate) ports: NameTable,
     pub(crate) accepts: Vec<Label>,
     pub(crate) lines: Vec<FirstLine>,
     pub(crate) admits: Vec<AdmitLine>,
@@ -65,9 +66,9 @@ impl Model for Resolving {
 
     ghost view = { λ r. record {
       table = record {
-        names = r.names.items;
+        names = r.names;
         births = r.births.items;
-        ports = r.ports.items;
+        ports = r.ports;
         accepts = r.accepts.items;
         lines = r.lines.items;
         admits = r.admits.items;
@@ -134,15 +135,16 @@ impl Resolving {
         ensures few { IfOk result (λ task.
             slice_index self.now.given.counts task ≤ limit_of_names) }
     {
-        number_of(self.names.as_slice(), name.as_str()).ok_or(OrMemory::Fault(
-            ResolveFault::UnknownName(line),
-        ))
+        self.names
+            .number_of(name.as_str())
+            .ok_or(OrMemory::Fault(ResolveFault::UnknownName(line)))
     }
 
     /// Adds a task.
     fn put_task(&mut self, alloc: Global, name: &Name) -> Result<(), AllocError>
         requires state { IsState self.old }
         requires room { length self.old.table.names < limit_of_tasks }
+        requires new { is_some (number_of self.old.table.names name.now) ≡ false }
         requires few { slice_index self.old.given.counts (length self.old.table.names)
             ≤ limit_of_names }
         ensures exact { OnOk result
@@ -154,7 +156,7 @@ impl Resolving {
     {
         let task = self.names.len();
         let port = self.next();
-        self.names.push(name.copy(alloc)?)?;
+        self.names.add(alloc, name.as_str())?;
         self.births.push(BirthRow {
             task: task as u16,
             kind: 0,
@@ -178,7 +180,7 @@ impl Resolving {
         ensures kept { OnOk result (IsState self.new) }
         ensures same { self.new.table.interfaces ≡ self.old.table.interfaces }
     {
-        if number_of(self.names.as_slice(), name.as_str()).is_some() {
+        if self.names.number_of(name.as_str()).is_some() {
             return Err(OrMemory::Fault(ResolveFault::TwiceNamed(line)));
         }
         if self.names.len() >= TASKS {
@@ -198,6 +200,7 @@ impl Resolving {
     ) -> Result<(), AllocError>
         requires state { IsState self.old }
         requires room { length self.old.table.ports < limit_of_wired_ports }
+        requires new { is_some (number_of self.old.table.ports name.now) ≡ false }
         requires there { receiver < limit_of_tasks }
         requires few { slice_index self.old.given.counts receiver ≤ limit_of_names }
         ensures exact { OnOk result
@@ -208,7 +211,7 @@ impl Resolving {
         ensures same { self.new.table.interfaces ≡ self.old.table.interfaces }
     {
         let port = self.next();
-        self.ports.push(name.copy(alloc)?)?;
+        self.ports.add(alloc, name.as_str())?;
         self.accepts.push(label)?;
         self.lines.push(FirstLine::Port {
             receiver: TaskId(receiver as u32),
@@ -236,7 +239,7 @@ impl Resolving {
         ensures kept { OnOk result (IsState self.new) }
         ensures same { self.new.table.interfaces ≡ self.old.table.interfaces }
     {
-        if number_of(self.ports.as_slice(), name.as_str()).is_some() {
+        if self.ports.number_of(name.as_str()).is_some() {
             return Err(OrMemory::Fault(ResolveFault::TwiceNamed(line)));
         }
         if self.ports.len() >= WIRED_PORTS {
@@ -376,7 +379,7 @@ impl Resolving {
         requires { IsState self.now }
         ensures { result ≡ port_birth self.now.table name.now }
     {
-        let number = number_of(self.ports.as_slice(), name)?;
+        let number = self.ports.number_of(name)?;
         self.wired.get(number).copied()
     }
 
@@ -385,7 +388,7 @@ impl Resolving {
         requires { IsState self.now }
         ensures { result ≡ kernel_birth self.now.table name.now }
     {
-        let number = number_of(self.names.as_slice(), name)?;
+        let number = self.names.number_of(name)?;
         self.kernels.get(number).copied()
     }
 
@@ -641,9 +644,9 @@ fn started(alloc: Global, interfaces: Vec<Interface>) -> Result<Resolving, NotRe
     }
     match kept_beside(alloc, interfaces.as_slice()) {
         Ok((sorts, given)) => Ok(Resolving {
-            names: Vec::new(alloc),
+            names: NameTable::new(alloc),
             births: Vec::new(alloc),
-            ports: Vec::new(alloc),
+            ports: NameTable::new(alloc),
             accepts: Vec::new(alloc),
             lines: Vec::new(alloc),
             admits: Vec::new(alloc),

@@ -32,16 +32,17 @@ use crate::admitting::{Admitting, words_at};
 use crate::births::{BirthRow, row_of};
 use crate::holdings::first_classes;
 use crate::labels::Label;
-use crate::names::{ClassKind, ClassLabel, class_said, kind_named, number_of};
+use crate::names::{ClassKind, ClassLabel, class_said, kind_named};
 use crate::resolving::{NotResolved, Resolving, resolved};
 use crate::table::{AdmitLine, TrustedLine, class_of};
 use crate::trusting::{right_part, trust_row, trusting};
 use crate::typed::{TypedForm, TypedForms, forms_at, typed_of};
-use mrc_base::{ClassId, OrMemory, PortRight, TaskId, copy_all, same_all};
+use mrc_base::{ClassId, Copies, OrMemory, PortRight, TaskId, copy_all, same_all};
 use mrc_bits::has_bit;
 use mrc_forms::{Interface, MessageKind};
 use mrc_model::{FirstLine, LabelItem, Verb};
-use mrc_wiring_text::{ClassName, Name, WiringLine};
+use mrc_name_table::NameTable;
+use mrc_wiring_text::{ClassName, WiringLine};
 use std::alloc::{AllocError, Global};
 use std::marker::Model;
 
@@ -101,9 +102,9 @@ fn numbered(alloc: Global, table: &Resolving) -> Result<ByNumbers, AllocError>
 /// admit, and what makes its first state. It keeps the names and the interfaces.
 #[derive(Debug, Drop)]
 pub struct Wired {
-    names: Vec<Name>,
+    names: NameTable,
     births: Vec<BirthRow>,
-    ports: Vec<Name>,
+    ports: NameTable,
     accepts: Vec<Label>,
     pub(crate) lines: Vec<FirstLine>,
     admits: Vec<AdmitLine>,
@@ -124,9 +125,9 @@ impl Model for Wired {
     ghost Value = { Table };
 
     ghost view = { λ w. record {
-      names = w.names.items;
+      names = w.names;
       births = w.births.items;
-      ports = w.ports.items;
+      ports = w.ports;
       accepts = w.accepts.items;
       lines = w.lines.items;
       admits = w.admits.items;
@@ -136,9 +137,9 @@ impl Model for Wired {
     } };
 
     ghost invariant = { λ w. IsKept record {
-      names = w.names.items;
+      names = w.names;
       births = w.births.items;
-      ports = w.ports.items;
+      ports = w.ports;
       accepts = w.accepts.items;
       lines = w.lines.items;
       admits = w.admits.items;
@@ -420,8 +421,7 @@ impl Wired {
     pub fn task_name(&self, task: TaskId) -> Option<&str>
         ensures { option_map (λ name. name.now) result ≡ slice_get self.now.names task }
     {
-        let name = self.names.get(task.0 as usize)?;
-        Some(name.as_str())
+        self.names.name(task.0 as usize)
     }
 
     /// The task of a name.
@@ -430,7 +430,7 @@ impl Wired {
         ensures within { IfSome result (λ task. task < length self.now.names) }
         ensures kept { IsTable self.now }
     {
-        let number = number_of(self.names.as_slice(), name)?;
+        let number = self.names.number_of(name)?;
         Some(TaskId(number as u32))
     }
 
@@ -441,23 +441,23 @@ impl Wired {
         let ports = self.ports();
         let births = ports + self.tasks();
         if class.0 < ports {
-            let name = self.ports.get(class.0 as usize)?;
+            let name = self.ports.name(class.0 as usize)?;
             Some(ClassLabel {
                 kind: ClassKind::Port,
-                name: name.as_str(),
+                name,
             })
         } else if class.0 < births {
-            let name = self.names.get((class.0 - ports) as usize)?;
+            let name = self.names.name((class.0 - ports) as usize)?;
             Some(ClassLabel {
                 kind: ClassKind::Task,
-                name: name.as_str(),
+                name,
             })
         } else {
             let row = self.births().get((class.0 - births) as usize)?;
-            let name = self.names.get(row.task as usize)?;
+            let name = self.names.name(row.task as usize)?;
             Some(ClassLabel {
                 kind: ClassKind::Births(row.kind),
-                name: name.as_str(),
+                name,
             })
         }
     }
@@ -470,7 +470,7 @@ impl Wired {
             Some((name, kind)) => (name, kind_named(kind)?),
             None => (text, 0),
         };
-        let task = number_of(self.names.as_slice(), name)?;
+        let task = self.names.number_of(name)?;
         self.births_class(TaskId(task as u32), u32::from(kind))
     }
 
@@ -481,10 +481,10 @@ impl Wired {
         ensures { result ≡ class_named self.now text.now }
     {
         if let Some(name) = text.strip_prefix("port:") {
-            let number = number_of(self.ports.as_slice(), name)?;
+            let number = self.ports.number_of(name)?;
             Some(ClassId(number as u16))
         } else if let Some(name) = text.strip_prefix("task:") {
-            let number = number_of(self.names.as_slice(), name)?;
+            let number = self.names.number_of(name)?;
             Some(ClassId(self.ports() + number as u16))
         } else if let Some(name) = text.strip_prefix("births:") {
             self.births_named(name)
@@ -510,9 +510,9 @@ impl Wired {
         ensures { IfOk result (λ copy. copy ≡ self.now) }
     {
         Ok(Wired {
-            names: copy_all(alloc, &self.names)?,
+            names: self.names.copy(alloc)?,
             births: copy_all(alloc, &self.births)?,
-            ports: copy_all(alloc, &self.ports)?,
+            ports: self.ports.copy(alloc)?,
             accepts: copy_all(alloc, &self.accepts)?,
             lines: copy_all(alloc, &self.lines)?,
             admits: copy_all(alloc, &self.admits)?,
@@ -543,9 +543,9 @@ impl Wired {
     pub fn same(&self, other: &Wired) -> bool
         ensures { IsTrue result ↔ (self.now ≡ other.now) }
     {
-        same_all(&self.names, &other.names)
+        self.names.same(&other.names)
             && same_all(&self.births, &other.births)
-            && same_all(&self.ports, &other.ports)
+            && self.ports.same(&other.ports)
             && same_all(&self.accepts, &other.accepts)
             && same_all(&self.lines, &other.lines)
             && same_all(&self.admits, &other.admits)

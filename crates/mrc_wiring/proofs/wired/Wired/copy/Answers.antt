@@ -8,7 +8,7 @@ use Rattle.mrc_wiring.proofs.wired.Wired.copy.Goals as goal
 pub of-requires-clause-births : goal.of-requires-clause-births
 of-requires-clause-births c =
     let wired = c.self.inside in
-    let few = few_births (length wired.names.items) wired.births.items c.self.invariant.0.births
+    let few = few_births (length wired.names) wired.births.items c.self.invariant.0.births
     c.self.invariant.3 in
     let tasks = c.self.invariant.0.few_tasks in
     let rows = ap (λ (rs : List BirthRow). length rs) c.births.ensures.exact in
@@ -18,7 +18,7 @@ of-requires-clause-births c =
 pub trusting-requires-clause-births : goal.trusting-requires-clause-births
 trusting-requires-clause-births c =
     let wired = c.self.inside in
-    let few = few_births (length wired.names.items) wired.births.items c.self.invariant.0.births
+    let few = few_births (length wired.names) wired.births.items c.self.invariant.0.births
     c.self.invariant.3 in
     let tasks = c.self.invariant.0.few_tasks in
     let rows = ap (λ (rs : List BirthRow). length rs) c.births-2.ensures.exact in

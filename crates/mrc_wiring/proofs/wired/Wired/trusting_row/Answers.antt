@@ -20,12 +20,12 @@ read c =
     (c.trust_row.ensures ∙ ap (trust_row c.args.verb) c.task.view_is))
 
 -- there are no more classes than the part of a right has room for
-few : (c : goal.After-words_at) → length c.self.inside.ports.items
-    + length c.self.inside.names.items + length c.self.inside.births.items ≤ limit_of_classes
+few : (c : goal.After-words_at) → length c.self.inside.ports
+    + length c.self.inside.names + length c.self.inside.births.items ≤ limit_of_classes
 few c =
     let w = c.self.inside in
     let table = c.self.invariant.0 in
-    let births = few_births (length w.names.items) w.births.items table.births c.self.invariant.3 in
+    let births = few_births (length w.names) w.births.items table.births c.self.invariant.3 in
     let tasks = table.few_tasks in
     let ports = table.few_ports in
     omega (arith, births, tasks, ports)
@@ -34,7 +34,7 @@ pub returns-clause-limited : goal.returns-clause-limited
 returns-clause-limited c =
     let w = c.self.inside in
     ap (λ words. nat_lt 0 (length words)) (read c)
-    ∙ (row_limits (length w.ports.items) (length w.names.items) w.births.items (few c)
+    ∙ (row_limits (length w.ports) (length w.names) w.births.items (few c)
     w.trusts.items w.trusting.items c.self.invariant.7 c.args.verb c.args.task
     ∙ ap (λ (T : Table). list_any (is_trust_of c.args.verb c.args.task) (wiring_of T).trusted)
     c.self.view_is)
@@ -43,7 +43,7 @@ pub returns-clause-named : goal.returns-clause-named
 returns-clause-named c = λ right class.
     let w = c.self.inside in
     ap (λ words. nat_lt class limit_of_classes && is_set words (right_place right class)) (read c)
-    ∙ (row_names (length w.ports.items) (length w.names.items) w.births.items (few c)
+    ∙ (row_names (length w.ports) (length w.names) w.births.items (few c)
     w.trusts.items w.trusting.items c.self.invariant.7 c.args.verb c.args.task class right
     ∙ ap (λ (T : Table). list_any (trusts_by c.args.verb c.args.task right class)
     (wiring_of T).trusted) c.self.view_is)
