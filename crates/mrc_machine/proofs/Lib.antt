@@ -18,3 +18,4 @@ pub mod MoveLaws
 pub mod BadTaskLaws
 pub mod StepLaws
 pub mod StartLaws
+pub mod BreachLaws

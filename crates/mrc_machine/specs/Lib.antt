@@ -1,3 +1,4 @@
+pub mod Breaching
 pub mod Calls
 pub mod Drops
 pub mod Endings

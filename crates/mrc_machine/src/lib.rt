@@ -2,6 +2,7 @@
 #![tactic(auto)]
 
 mod allocate;
+mod breach;
 mod call;
 mod copies;
 mod create_task;

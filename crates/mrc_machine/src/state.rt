@@ -26,6 +26,7 @@ ghost use Rattle.mrc_names.specs.Refusals.{IsRefusal};
 ghost use Rattle.mrc_machine.specs.Moves.{limited};
 ghost use Rattle.mrc_machine.specs.Requests.{with_backup};
 ghost use Rattle.mrc_machine.specs.Endings.{with_end};
+ghost use Rattle.mrc_machine.specs.Breaching.{is_reached};
 ghost use Rattle.mrc_model.specs.Destroyed.{destroyed};
 ghost use Rattle.mrc_death.specs.Taking.{destroyed_of};
 ghost use Rattle.mrc_machine.specs.Starts.{with_right};
@@ -38,7 +39,7 @@ use crate::holding::{Holding, spaces_holdings};
 use crate::task::Task;
 use mrc_base::{ClassId, OrMemory, PortId, PortRight, TaskId};
 use mrc_death::{Destroyed, dying};
-use mrc_map::Map;
+use mrc_map::{Map, Ports};
 use mrc_model::{Backup, Code, Entry, Item, Verb};
 use mrc_names::{Listing, Space};
 use mrc_ports::Store;
@@ -145,6 +146,16 @@ impl State {
         ensures exact { result ≡ is_some (get self.now.tasks task) }
     {
         self.tasks.get(u64::from(task.0)).is_some()
+    }
+
+    /// Whether a task is alive and its kernel port one of these.
+    pub(crate) fn is_reached(&self, ports: &Ports, task: TaskId) -> bool
+        ensures { result ≡ is_reached ports.now (get self.now.tasks task) }
+    {
+        match self.tasks.get(u64::from(task.0)) {
+            Some(found) => found.is_alive() && ports.has(found.kernel()),
+            None => false,
+        }
     }
 
     /// The wired task whose class a task has.

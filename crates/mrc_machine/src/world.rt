@@ -1,11 +1,12 @@
 //! The machine as its users see it: its first state, its steps, and what it shows.
 
-ghost use Rattle.std.specs.Prelude.{◌≡◌, IfOk, OnErr, is_some};
+ghost use Rattle.std.specs.Prelude.{◌≡◌, ◌↔◌, [], ◌∷◌, IfOk, IsTrue, OnErr, is_some};
 ghost use Rattle.mrc_model.specs.Map.{get, len};
 ghost use Rattle.mrc_model.specs.First.{first};
 ghost use Rattle.mrc_model.specs.Step.{step};
 ghost use Rattle.mrc_wiring.specs.Table.{wiring_of};
-ghost use Rattle.mrc_model.specs.Breach.{holdings};
+ghost use Rattle.mrc_wiring.specs.Claims.{holding_of as forbidden_of};
+ghost use Rattle.mrc_model.specs.Breach.{Breach, holdings};
 ghost use Rattle.mrc_machine.specs.Holdings.{holdings_of};
 ghost use Rattle.mrc_machine.specs.Calls.{call_of, reply_of, IsRefused, IsGranted};
 
@@ -15,7 +16,7 @@ use crate::holding::Holding;
 use crate::reply::Reply;
 use crate::state::State;
 use mrc_base::{OrMemory, TaskId};
-use mrc_wiring::Wired;
+use mrc_wiring::{ForbiddenLine, Wired};
 use std::alloc::{AllocError, Global};
 use std::marker::Model;
 
@@ -87,6 +88,15 @@ impl World {
         ensures { IfOk result (λ list. holdings_of list.items ≡ holdings self.now) }
     {
         self.state.holdings()
+    }
+
+    /// Whether the line of a policy is broken: a task of the line's class counts as one that holds
+    /// the right on a port of the line's class.
+    pub fn breach(&self, wired: &Wired, line: &ForbiddenLine) -> Result<bool, AllocError>
+        ensures exact { IfOk result (λ broken. IsTrue broken
+            ↔ Breach (wiring_of wired.now) self.now (forbidden_of line.now ∷ [])) }
+    {
+        self.state.breach(wired, line)
     }
 
     /// How many live ports there are.
