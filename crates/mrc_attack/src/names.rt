@@ -1,0 +1,118 @@
+//! The names that tasks have for rights, as the machine shows them.
+
+use mrc_base::{PortRight, TaskId};
+use mrc_machine::{Call, Holding, Reply, World};
+use mrc_names::{Listing, NamedType};
+use mrc_reach::{System, task_id};
+use std::alloc::{AllocError, Global};
+
+/// The name that a task has for its kernel port.
+const OWN_KERNEL: u32 = 1;
+
+/// The bits of a name's rights, as `mach_port_type` gives them.
+const SEND: u32 = 0x1_0000;
+
+const RECEIVE: u32 = 0x2_0000;
+
+const ONCE: u32 = 0x4_0000;
+
+/// A right of a task, the number of its port and its name.
+#[derive(Clone, Copy)]
+pub(crate) struct Named {
+    pub(crate) task: usize,
+    pub(crate) name: u32,
+    pub(crate) port: u64,
+    pub(crate) right: PortRight,
+}
+
+/// What the names of one task and what tasks hold say together, as far as they are read.
+#[derive(Drop)]
+struct Reading {
+    names: Vec<Named>,
+    holdings: Vec<Holding>,
+    at: usize,
+}
+
+impl Reading {
+    /// Takes the next of what is held, which has the name.
+    fn take(&mut self, name: u32) -> Result<(), AllocError> {
+        if let Some(held) = self.holdings.get(self.at) {
+            let named = Named {
+                task: held.task.0 as usize,
+                name,
+                port: held.port.0,
+                right: held.right,
+            };
+            self.names.push(named)?;
+            self.at = self.at.saturating_add(1);
+        }
+        Ok(())
+    }
+
+    /// Takes what an entry shows.
+    fn take_entry(&mut self, named: &NamedType) -> Result<(), AllocError> {
+        let bits = named.rights.mask();
+        if bits & RECEIVE != 0 {
+            self.take(named.name)?;
+        }
+        if bits & SEND != 0 {
+            self.take(named.name)?;
+        }
+        if bits & ONCE != 0 {
+            self.take(named.name)?;
+        }
+        Ok(())
+    }
+
+    /// Takes what the names of a task show.
+    fn take_task(&mut self, listing: &Listing) -> Result<(), AllocError> {
+        for named in listing.as_slice() {
+            self.take_entry(named)?;
+        }
+        Ok(())
+    }
+
+    /// Skips what tasks before this one hold.
+    fn skip_to(&mut self, task: TaskId) {
+        for _ in 0..self.holdings.len() {
+            match self.holdings.get(self.at) {
+                Some(held) if held.task.0 < task.0 => self.at = self.at.saturating_add(1),
+                _ => return,
+            }
+        }
+    }
+}
+
+/// The names of a task; none if it has lost its kernel port.
+fn listed(
+    system: &System<'_>,
+    world: &mut World,
+    task: TaskId,
+) -> Result<Option<Listing>, AllocError> {
+    let call = Call::Names { task: OWN_KERNEL };
+    match world.step(system.wired, task, &call)? {
+        Reply::Names(names) => Ok(Some(names)),
+        _ => Ok(None),
+    }
+}
+
+/// All rights of tasks with their names, by task and name.
+pub(crate) fn names_of(
+    alloc: Global,
+    system: &System<'_>,
+    world: &mut World,
+) -> Result<Vec<Named>, AllocError> {
+    let mut reading = Reading {
+        names: Vec::new(alloc),
+        holdings: world.holdings()?,
+        at: 0,
+    };
+    for task in 0..system.tasks {
+        let task = task_id(task);
+        reading.skip_to(task);
+        if let Some(listing) = listed(system, world, task)? {
+            reading.take_task(&listing)?;
+        }
+    }
+    Ok(reading.names)
+}
