@@ -15,8 +15,8 @@ _machcheck() {
     done
     COMPREPLY=()
     case $command in
-    '') kind=words options='verify mend check make explain facts graph promises replay live mig help --help --version' ;;
-    help) kind=words options='verify mend check make explain facts graph promises replay live mig ' ;;
+    '') kind=words options='verify mend attack check make explain facts graph promises replay live mig help --help --version' ;;
+    help) kind=words options='verify mend attack check make explain facts graph promises replay live mig ' ;;
     verify)
         options='--wiring --policy --tree --help'
         case $before in
@@ -29,6 +29,15 @@ _machcheck() {
         case $before in
         --wiring) kind=file ;;
         --policy) kind=file ;;
+        --most) kind=nothing ;;
+        esac
+        ;;
+    attack)
+        options='--wiring --policy --line --most --help'
+        case $before in
+        --wiring) kind=file ;;
+        --policy) kind=file ;;
+        --line) kind=nothing ;;
         --most) kind=nothing ;;
         esac
         ;;

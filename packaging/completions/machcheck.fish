@@ -14,9 +14,17 @@ complete -c machcheck -n __fish_use_subcommand -a mend -d 'Looks for changes of 
 complete -c machcheck -n '__fish_seen_subcommand_from help' -a mend
 complete -c machcheck -n '__fish_seen_subcommand_from mend' -l wiring -r -F -d 'Tasks, ports and their first rights'
 complete -c machcheck -n '__fish_seen_subcommand_from mend' -l policy -r -F -d 'The forbidden holdings'
-complete -c machcheck -n '__fish_seen_subcommand_from mend' -l most -x -d 'How many mends are told, 1 to 1000000: 10 where it is not given'
+complete -c machcheck -n '__fish_seen_subcommand_from mend' -l most -x -d 'How many mends are printed, 1 to 1000000: 10 if it is not given'
 complete -c machcheck -n '__fish_seen_subcommand_from mend' -s h -l help -d 'Print help'
 complete -c machcheck -n '__fish_seen_subcommand_from mend' -k -a '(__fish_complete_suffix .defs)'
+complete -c machcheck -n __fish_use_subcommand -a attack -d 'Looks for calls that lead to a forbidden right, and runs them on the machine'
+complete -c machcheck -n '__fish_seen_subcommand_from help' -a attack
+complete -c machcheck -n '__fish_seen_subcommand_from attack' -l wiring -r -F -d 'Tasks, ports and their first rights'
+complete -c machcheck -n '__fish_seen_subcommand_from attack' -l policy -r -F -d 'The forbidden holdings'
+complete -c machcheck -n '__fish_seen_subcommand_from attack' -l line -x -d 'Only this line of the policy: its calls are printed as a script'
+complete -c machcheck -n '__fish_seen_subcommand_from attack' -l most -x -d 'How many states are looked at for a line, 1 to 1000000: 1000 if it is not given'
+complete -c machcheck -n '__fish_seen_subcommand_from attack' -s h -l help -d 'Print help'
+complete -c machcheck -n '__fish_seen_subcommand_from attack' -k -a '(__fish_complete_suffix .defs)'
 complete -c machcheck -n __fish_use_subcommand -a check -d 'Says whether a certificate shows that no forbidden right can be obtained'
 complete -c machcheck -n '__fish_seen_subcommand_from help' -a check
 complete -c machcheck -n '__fish_seen_subcommand_from check' -l wiring -r -F -d 'Tasks, ports and their first rights'

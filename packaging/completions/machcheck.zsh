@@ -7,6 +7,7 @@ _machcheck() {
     commands=(
         'verify:Says whether a forbidden right can be obtained, and how'
         'mend:Looks for changes of a wiring after which no forbidden right can be obtained'
+        'attack:Looks for calls that lead to a forbidden right, and runs them on the machine'
         'check:Says whether a certificate shows that no forbidden right can be obtained'
         'make:Makes the least certificate of a wiring'
         'explain:Shows how a fact comes to be in the least certificate of a wiring'
@@ -37,7 +38,16 @@ _machcheck() {
             _arguments -s \
                 '--wiring=[Tasks, ports and their first rights]:FILE:_files' \
                 '--policy=[The forbidden holdings]:FILE:_files' \
-                '--most=[How many mends are told, 1 to 1000000\: 10 where it is not given]:N:' \
+                '--most=[How many mends are printed, 1 to 1000000\: 10 if it is not given]:N:' \
+                '(- *)'{-h,--help}'[Print help]' \
+                '*:MIG file:_files -g "*.defs"'
+            ;;
+        attack)
+            _arguments -s \
+                '--wiring=[Tasks, ports and their first rights]:FILE:_files' \
+                '--policy=[The forbidden holdings]:FILE:_files' \
+                '--line=[Only this line of the policy\: its calls are printed as a script]:N:' \
+                '--most=[How many states are looked at for a line, 1 to 1000000\: 1000 if it is not given]:N:' \
                 '(- *)'{-h,--help}'[Print help]' \
                 '*:MIG file:_files -g "*.defs"'
             ;;

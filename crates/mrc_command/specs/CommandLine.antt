@@ -97,10 +97,27 @@ mend_options =
 abbrev pub mend_app : App
 mend_app = with_rule (with_rule mend_options (free_rule (codes "most"))) defs_rule
 
+-- `attack` with its first two options
+abbrev pub attack_options : App
+attack_options =
+    with_rule (with_rule (new_app (codes "attack")) (file_rule (codes "wiring")))
+    (file_rule (codes "policy"))
+
+-- `attack --wiring FILE --policy FILE [--line N] [--most N] [DEFS]...`
+abbrev pub attack_app : App
+attack_app =
+    with_rule (with_rule (with_rule attack_options (free_rule (codes "line")))
+    (free_rule (codes "most"))) defs_rule
+
 -- the number that an option has: the usual one where none is given, 0 where the text is no number
 abbrev pub number_of : ℕ → Option Text → ℕ
 number_of usual None = usual
 number_of usual (Some text) = unwrap_or (number_of_word text) 0
+
+-- the number that an option has, if it is given: 0 if the text is no number
+abbrev pub number_if_given : Option Text → Option ℕ
+number_if_given None = None
+number_if_given (Some text) = Some (unwrap_or (number_of_word text) 0)
 
 -- whether an option without a value is given, so far as `clap` says
 pub record IsFlag (found : Found) (name : Text) (given : Bool) : Type 0 where
@@ -216,9 +233,13 @@ bare_app =
 abbrev pub answer_app : App
 answer_app = with_subcommand (with_subcommand bare_app verify_app.top) mend_app.top
 
+-- the same, and what looks for calls
+abbrev pub search_app : App
+search_app = with_subcommand answer_app attack_app.top
+
 -- the same, and what speaks of certificates
 abbrev pub certificate_app : App
-certificate_app = with_subcommand (with_subcommand answer_app check_app.top) make_app.top
+certificate_app = with_subcommand (with_subcommand search_app check_app.top) make_app.top
 
 -- the same, and what speaks of facts
 abbrev pub fact_app : App

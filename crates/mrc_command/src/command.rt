@@ -6,7 +6,8 @@ ghost use Rattle.clap.specs.Words.{kind_of};
 ghost use Rattle.clap.specs.Matches.{found_of, first_value};
 ghost use Rattle.clap.specs.declared.error.kind.ErrorKind.TheVariants.{OutOfMemory};
 ghost use Rattle.mrc_command.specs.CommandLine.{IsNoCommand, TellsError, IsFlag, all_values};
-ghost use Rattle.mrc_command.specs.CommandLine.{number_of, strictness_of, IsStrict};
+ghost use Rattle.mrc_command.specs.CommandLine.{number_of, number_if_given, strictness_of};
+ghost use Rattle.mrc_command.specs.CommandLine.{IsStrict};
 
 use crate::options::whole_command;
 use crate::told::Told;
@@ -22,6 +23,8 @@ pub enum Command<'a> {
     Verify(VerifyFiles<'a>),
     /// Which changes of the wiring lead to a yes?
     Mend(MendFiles<'a>),
+    /// By which calls can what the policy forbids come about?
+    Attack(AttackFiles<'a>),
     /// Is the certificate accepted for the wiring and the policy?
     Check(CheckWords<'a>),
     /// What may the tasks of the wiring come to hold?
@@ -77,6 +80,17 @@ pub struct VerifyFiles<'a> {
 pub struct MendFiles<'a> {
     pub system: SystemFiles<'a>,
     pub policy: &'a str,
+    pub most: usize,
+}
+
+/// The files of an `attack`, and what bounds its search.
+#[derive(Drop)]
+pub struct AttackFiles<'a> {
+    pub system: SystemFiles<'a>,
+    pub policy: &'a str,
+    /// The only line of the policy that is asked for: 0 if the text is no number.
+    pub line: Option<usize>,
+    /// How many states are looked at for each line, at most: 0 if the text is no number.
     pub most: usize,
 }
 
@@ -219,6 +233,19 @@ fn number_given(matches: &ArgMatches<'_>, option: &str, usual: usize) -> usize
     }
 }
 
+/// The number that an option has, if it is given: 0 if it is no number.
+fn number_if_given(matches: &ArgMatches<'_>, option: &str) -> Option<usize>
+    ensures { result ≡ number_if_given (first_value (found_of matches.now) option.now) }
+{
+    match matches.get_str(option) {
+        Some(text) => match number_of_word(text.as_bytes()) {
+            Some(number) => Some(number as usize),
+            None => Some(0),
+        },
+        None => None,
+    }
+}
+
 /// The MIG files that are given.
 fn defs_given<'a>(alloc: Global, matches: &ArgMatches<'a>) -> Result<Vec<&'a str>, AllocError>
     ensures { IfOk result (λ files.
@@ -320,6 +347,31 @@ fn mend_files<'a>(alloc: Global, matches: &ArgMatches<'a>) -> Result<MendFiles<'
     Ok(MendFiles {
         system,
         policy,
+        most,
+    })
+}
+
+fn attack_files<'a>(alloc: Global, matches: &ArgMatches<'a>) -> Result<AttackFiles<'a>, NoCommand>
+    ensures defs { IfOk result (λ files. map (λ file. file.now) files.system.defs.items
+        ≡ all_values (found_of matches.now) (codes "defs")) }
+    ensures wiring { IfOk result (λ files.
+        first_value (found_of matches.now) (codes "wiring") ≡ Some files.system.wiring.now) }
+    ensures policy { IfOk result
+        (λ files. first_value (found_of matches.now) (codes "policy") ≡ Some files.policy.now) }
+    ensures line { IfOk result (λ files. files.line
+        ≡ number_if_given (first_value (found_of matches.now) (codes "line"))) }
+    ensures most { IfOk result (λ files. files.most
+        ≡ number_of 1000 (first_value (found_of matches.now) (codes "most"))) }
+    ensures none { IfErr result (λ none. none ≡ NoCommand.Memory) }
+{
+    let system = system_files(alloc, matches)?;
+    let policy = file_given(matches, "policy")?;
+    let line = number_if_given(matches, "line");
+    let most = number_given(matches, "most", 1000);
+    Ok(AttackFiles {
+        system,
+        policy,
+        line,
         most,
     })
 }
@@ -495,6 +547,9 @@ fn command_of<'a>(alloc: Global, matches: &ArgMatches<'a>) -> Result<Command<'a>
     }
     if let Some(matches) = matches.subcommand_matches("mend") {
         return Ok(Command::Mend(mend_files(alloc, matches)?));
+    }
+    if let Some(matches) = matches.subcommand_matches("attack") {
+        return Ok(Command::Attack(attack_files(alloc, matches)?));
     }
     if let Some(matches) = matches.subcommand_matches("check") {
         return Ok(Command::Check(check_words(alloc, matches)?));

@@ -4,8 +4,8 @@ pub(crate) const PROGRAM_HELP: &str = "Exit status of each command:
   0  YES was printed, or changes that lead to it, a certificate was made, a chain, facts, a
      drawing or promises were printed, a script was replayed or run by threads, MIG files were
      cut, or help or the version was printed
-  1  NO was printed, with a reason, or none: where no chain leads to a fact, or where no
-     change was found that leads to YES
+  1  NO was printed, with a reason, or REAL, with calls, or none: if no chain leads to a fact,
+     or if no change was found that leads to YES
   2  a fault was told on standard error: a file can't be read or has no meaning,
      the command line is wrong, the output was not taken, or memory ran out; or nothing is
      left of MIG files
@@ -144,12 +144,16 @@ pub(crate) const MEND_HELP: &str = "Files, as README.md describes them:
   a wiring has the tasks and ports, what they accept, and the rights that are held at first,
   a policy has who must never hold what.
 
-Where `verify` says NO, changes of the wiring are looked for after which it says YES. Each is
-a line `K remove line N`, with the words of the line, `K add admit S.TYPE CLASS`, or
-`K add trust TASK VERB none`; the lines with the same K are to be made together. The smallest
-changes come first, and of those those that lose the fewest facts. Each one that is printed has
-been judged: with it the answer is YES. At most three changes are made together; --most says how
-many are printed, and is 10 where it is not given.
+If `verify` prints NO, changes of the wiring are looked for after which it prints YES. Each is a
+line: `K remove line N # WORDS` with the words of the line, `K change line N # LINE` with the line
+as it then is, `K add admit S.TYPE CLASS # restricts S.TYPE`, or `K add trust TASK VERB none`. The
+lines with the same K are to be made together. The smallest changes come first, and of one size
+those that lose the fewest facts. Each one that is printed has been judged: with it the answer is
+YES. At most three changes are made together. --most says how many are printed, and is 10 if it
+is not given.
+
+If several lines of the policy are broken, a first line may print a fact that the chains of all
+have in common: `# all N broken lines have FACT in their chains`.
 
 Exit status:
   0  changes were printed, or YES: nothing has to be changed
@@ -157,6 +161,38 @@ Exit status:
   2  a fault on standard error, as `machcheck: FILE: FAULT`: a file can't be read or has
      no meaning, --most is not a number from 1 to 1000000 (BadMost), the command line is wrong,
      the output was not taken, or memory ran out
+
+Read on in README.md, and in docs/ARCHITECTURE.md.";
+
+pub(crate) const ATTACK_HELP: &str = "Files, as README.md describes them:
+  MIG files have the messages of the interfaces that the wiring names,
+  a wiring has the tasks and ports, what they accept, and the rights that are held at first,
+  a policy has who must never hold what.
+
+If `verify` prints NO, the steps below it follow the rules, and the rules allow more than the
+machine does. So for each line that is broken, calls of the tasks are looked for that lead from
+the first state of the wiring to a state in which a task has what the line forbids. If such calls
+are found, `REAL line N FACT` is printed, and below it the calls as a script: a line for each
+call, behind two blanks. The calls were run on the machine, and the last state was judged.
+Otherwise `NO line N FACT not reached` is printed: no such calls were found, and there may be
+none. A trusted task that another could rewrite comes first, as `REAL trusted line N FACT` or
+`NO trusted line N FACT not reached`.
+
+With --line N only line N of the policy is looked at. If calls are found, all that is printed is
+a script, which `replay` runs. Its first line is `# REAL line N FACT`.
+
+--most says how many states are looked at for a line, and is 1000 if it is not given. If this
+ends a search, a line on standard error names the line of the policy:
+`machcheck: attack: line N: not all ways were tried`. All else on standard error is as `verify`
+prints it.
+
+Exit status:
+  0  YES: no list of calls can lead to a holding that the policy forbids
+  1  REAL or NO for each line that is broken
+  2  a fault on standard error, as `machcheck: FILE: FAULT`: a file can't be read or has
+     no meaning, --line is not a number from 1 to 4294967295 (BadLine) or that line is not
+     broken (NotBroken), --most is not a number from 1 to 1000000 (BadMost), the command line
+     is wrong, the output was not taken, or memory ran out
 
 Read on in README.md, and in docs/ARCHITECTURE.md.";
 

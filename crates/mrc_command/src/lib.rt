@@ -9,8 +9,9 @@ mod told;
 mod words;
 
 pub use command::{
-    CheckFiles, CheckWords, Command, ExplainFiles, FactsFiles, GraphFiles, LiveFiles, MakeFiles,
-    MendFiles, MigFiles, NoCommand, ReplayFiles, Strictness, SystemFiles, VerifyFiles, read,
+    AttackFiles, CheckFiles, CheckWords, Command, ExplainFiles, FactsFiles, GraphFiles, LiveFiles,
+    MakeFiles, MendFiles, MigFiles, NoCommand, ReplayFiles, Strictness, SystemFiles, VerifyFiles,
+    read,
 };
 pub use surface::clap_command;
 pub use told::{Told, fault_of, memory, names_are_shown_safely, push_shown, said, shown};

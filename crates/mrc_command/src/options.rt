@@ -4,18 +4,19 @@ ghost use Rattle.std.specs.Prelude.{◌≡◌, codes, false, IfOk};
 ghost use Rattle.clap.specs.Words.{app_of, rule_of};
 ghost use Rattle.mrc_command.specs.CommandLine.{file_rule, free_rule, flag_rule, defs_rule};
 ghost use Rattle.mrc_command.specs.CommandLine.{verify_options, verify_app, mend_options, mend_app};
+ghost use Rattle.mrc_command.specs.CommandLine.{attack_options, attack_app};
 ghost use Rattle.mrc_command.specs.CommandLine.{check_options, check_app, make_options, make_app};
 ghost use Rattle.mrc_command.specs.CommandLine.{explain_options, explain_app, facts_options};
 ghost use Rattle.mrc_command.specs.CommandLine.{facts_app};
 ghost use Rattle.mrc_command.specs.CommandLine.{graph_options, graph_app, promises_app, replay_app};
 ghost use Rattle.mrc_command.specs.CommandLine.{live_options, live_app, HasNoGlobals};
-ghost use Rattle.mrc_command.specs.CommandLine.{answer_app, certificate_app, fact_app};
+ghost use Rattle.mrc_command.specs.CommandLine.{answer_app, search_app, certificate_app, fact_app};
 ghost use Rattle.mrc_command.specs.CommandLine.{drawing_app, trust_app, script_app, machcheck_app};
 ghost use Rattle.mrc_command.specs.CommandLine.{given_defs_rule, mig_options, mig_app};
 
 use crate::help::{
-    CHECK_HELP, EXPLAIN_HELP, FACTS_HELP, GRAPH_HELP, LIVE_HELP, MAKE_HELP, MEND_HELP, MIG_HELP,
-    PROGRAM_HELP, PROMISES_HELP, REPLAY_HELP, VERIFY_HELP,
+    ATTACK_HELP, CHECK_HELP, EXPLAIN_HELP, FACTS_HELP, GRAPH_HELP, LIVE_HELP, MAKE_HELP, MEND_HELP,
+    MIG_HELP, PROGRAM_HELP, PROMISES_HELP, REPLAY_HELP, VERIFY_HELP,
 };
 use clap::{Arg, ArgAction};
 use std::alloc::{AllocError, Global};
@@ -172,7 +173,39 @@ fn mend_command<'a>(alloc: Global) -> Result<clap::Command<'a>, AllocError>
             alloc,
             "most",
             "N",
-            "How many mends are told, 1 to 1000000: 10 where it is not given",
+            "How many mends are printed, 1 to 1000000: 10 if it is not given",
+        ))?
+        .arg(defs_arguments(alloc))
+}
+
+/// The command with its first two options.
+fn attack_options<'a>(alloc: Global) -> Result<clap::Command<'a>, AllocError>
+    ensures app { IfOk result (λ command. app_of command ≡ attack_options) }
+    ensures local { IfOk result HasNoGlobals }
+{
+    clap::Command::new(alloc, "attack")
+        .about("Looks for calls that lead to a forbidden right, and runs them on the machine")
+        .after_help(ATTACK_HELP)
+        .arg(wiring_option(alloc))?
+        .arg(file_option(alloc, "policy", "The forbidden holdings"))
+}
+
+fn attack_command<'a>(alloc: Global) -> Result<clap::Command<'a>, AllocError>
+    ensures app { IfOk result (λ command. app_of command ≡ attack_app) }
+    ensures local { IfOk result HasNoGlobals }
+{
+    attack_options(alloc)?
+        .arg(free_option(
+            alloc,
+            "line",
+            "N",
+            "Only this line of the policy: its calls are printed as a script",
+        ))?
+        .arg(free_option(
+            alloc,
+            "most",
+            "N",
+            "How many states are looked at for a line, 1 to 1000000: 1000 if it is not given",
         ))?
         .arg(defs_arguments(alloc))
 }
@@ -378,11 +411,20 @@ fn answer_commands<'a>(alloc: Global) -> Result<clap::Command<'a>, AllocError>
         .subcommand(mend)
 }
 
+/// The same with the command that looks for calls.
+fn search_commands<'a>(alloc: Global) -> Result<clap::Command<'a>, AllocError>
+    ensures { IfOk result (λ command. app_of command ≡ search_app) }
+{
+    let commands = answer_commands(alloc)?;
+    let attack = attack_command(alloc)?;
+    commands.subcommand(attack)
+}
+
 /// The same with the commands that speak of certificates.
 fn certificate_commands<'a>(alloc: Global) -> Result<clap::Command<'a>, AllocError>
     ensures { IfOk result (λ command. app_of command ≡ certificate_app) }
 {
-    let commands = answer_commands(alloc)?;
+    let commands = search_commands(alloc)?;
     let check = check_command(alloc)?;
     let make = make_command(alloc)?;
     commands.subcommand(check)?.subcommand(make)

@@ -1,3 +1,4 @@
 mod Verdicts
 mod Lists
 mod ClaimLaws
+mod CauseLaws

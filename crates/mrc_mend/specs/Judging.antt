@@ -1,6 +1,6 @@
 -- What a wiring and a policy claim over MIG files, all from their bytes, and which changes mend the
 -- wiring. This profile's own choice.
-use Rattle.std.specs.Prelude.{◌≡◌, ℕ, ◌≤◌, List, length, Result, Ok}
+use Rattle.std.specs.Prelude.{◌≡◌, ℕ, ◌≤◌, List, length, Result, Ok, IfSome}
 use Rattle.std.specs.List.{All}
 use Rattle.mrc_base.specs.Reading.{◌>>=◌}
 use Rattle.mrc_forms.specs.Tables.{Table as Interface}
@@ -17,6 +17,7 @@ use Rattle.mrc_mend.specs.declared.judging.Verdict.{Verdict}
 use Rattle.mrc_mend.specs.declared.judging.Verdict.TheVariants as verdict
 use Rattle.mrc_mend.specs.declared.claims.MendFault.{MendFault}
 use Rattle.mrc_mend.specs.declared.claims.MendFault.TheVariants as faults
+use Rattle.mrc_mend.specs.Causes.{IsCause}
 use Rattle.mrc_mend.specs.Mending.{mended}
 
 -- the claim of a wiring and a policy over interfaces, or the first text that has no meaning
@@ -78,8 +79,14 @@ abbrev pub IsNeeded : Claimed → Answer → Type 0
 IsNeeded claim Nothing = HasYes claim
 IsNeeded claim (Found mends) = HasNoYes claim
 
--- the files make a claim, of which this is needed
+-- what is told of a claim that its broken lines have in common is so
+abbrev pub HasCause : Claimed → Answer → Type 0
+HasCause claim Nothing = Unit {0}
+HasCause claim (Found mends) = IfSome mends.cause (IsCause claim)
+
+-- the files make a claim, of which this is needed, and so is what its broken lines have in common
 pub record IsNeededOf (made : Result Claimed Meaningless) (answer : Answer) : Type 0 where
   pub claim : Claimed
   pub is : made ≡ Ok claim
   pub needed : IsNeeded claim answer
+  pub cause : HasCause claim answer

@@ -1,3 +1,4 @@
 pub mod Mending
+pub mod Causes
 pub mod Judging
 pub mod Texts

@@ -1,8 +1,7 @@
--- A wiring's text with lines left out and lines added: what a file says that is edited by the lines
--- that are printed of a mend. This profile's own choice.
-use Rattle.std.specs.Prelude.{ℕ, ◌+◌, ◌==◌, Bool, false, List, [], ◌∷◌, ◌++◌, map, flat_map}
+-- A wiring's text with lines left out, changed and added: what a file says that is edited by the
+-- lines that are printed of a mend. This profile's own choice.
+use Rattle.std.specs.Prelude.{ℕ, ◌+◌, ◌==◌, List, [], ◌∷◌, ◌++◌, map, flat_map, fold}
 use Rattle.std.specs.Prelude.{codes, string_bytes, if◌then◌else◌}
-use Rattle.std.specs.List.{list_any}
 use Rattle.mrc_model.specs.declared.Verb.{Verb}
 use Rattle.mrc_model.specs.declared.Verb.TheVariants.{Takes, Gives, Sends, Replies}
 use Rattle.mrc_wiring_text.specs.Lexis.{lines}
@@ -10,7 +9,7 @@ use Rattle.mrc_wiring.specs.declared.names.ClassKind.{ClassKind}
 use Rattle.mrc_wiring.specs.declared.names.ClassKind.TheVariants.{Port, Task, Births}
 use Rattle.mrc_wiring.specs.Names.{kind_word}
 use Rattle.mrc_mend.specs.declared.changes.Change.{Change}
-use Rattle.mrc_mend.specs.declared.changes.Change.TheVariants.{Remove, Restrict, Limit}
+use Rattle.mrc_mend.specs.declared.changes.Change.TheVariants.{Remove, Narrow, Restrict, Limit}
 use Rattle.mrc_mend.specs.declared.changes.Limitation.{Limitation}
 use Rattle.mrc_mend.specs.declared.changes.NamedClass.{NamedClass}
 use Rattle.mrc_mend.specs.declared.changes.Restriction.{Restriction}
@@ -29,11 +28,13 @@ kind_words (Births kind) name = codes "births " ++ (name ++ behind_task kind)
 abbrev pub class_words : NamedClass → List ℕ
 class_words class = kind_words class.kind (string_bytes class.name)
 
+-- a type of port arguments in the words of a wiring: `S.type`
+abbrev pub type_word : Restriction → List ℕ
+type_word r = string_bytes r.subsystem ++ (codes "." ++ string_bytes r.type_name)
+
 -- a line that says of the type what it admits
 abbrev pub admit_line : Restriction → List ℕ → List ℕ
-admit_line r admitted =
-    codes "admit " ++ (string_bytes r.subsystem
-    ++ (codes "." ++ (string_bytes r.type_name ++ (codes " " ++ admitted))))
+admit_line r admitted = codes "admit " ++ (type_word r ++ (codes " " ++ admitted))
 
 -- a line that says of the type that it admits the class
 abbrev pub class_line : Restriction → NamedClass → List ℕ
@@ -61,6 +62,7 @@ trust_line l =
 -- the lines that a change adds
 abbrev pub added_lines : Change → List (List ℕ)
 added_lines (Remove line) = []
+added_lines (Narrow line) = []
 added_lines (Restrict r) = admit_lines r r.classes.items
 added_lines (Limit l) = trust_line l ∷ []
 
@@ -68,17 +70,19 @@ added_lines (Limit l) = trust_line l ∷ []
 abbrev pub ended : List ℕ → List ℕ
 ended line = line ++ codes "\n"
 
--- whether the change leaves out the line of this number
-abbrev pub leaves_out : ℕ → Change → Bool
-leaves_out n (Remove line) = line == n
-leaves_out n (Restrict r) = false
-leaves_out n (Limit l) = false
+-- what a change leaves of the line of this number: nothing if it leaves the line out, and the new
+-- text if it narrows the line
+abbrev pub changed_line : ℕ → List ℕ → Change → List ℕ
+changed_line n line (Remove number) = if number == n then [] else line
+changed_line n line (Narrow c) = if c.number == n then string_bytes c.text else line
+changed_line n line (Restrict r) = line
+changed_line n line (Limit l) = line
 
--- the line of this number: nothing where a change leaves it out
+-- what changes leave of the line of this number
 abbrev pub line_left : List Change → ℕ → List ℕ → List ℕ
-line_left changes n line = if list_any (leaves_out n) changes then [] else line
+line_left changes n line = fold (changed_line n) line changes
 
--- lines, of which the first has this number, without those that are left out: their numbers stay
+-- what changes leave of lines, of which the first has this number: all keep their numbers
 abbrev pub lines_left : List Change → ℕ → List (List ℕ) → List ℕ
 lines_left changes n [] = []
 lines_left changes n (line ∷ rest) =

@@ -3,15 +3,16 @@
 ghost use Rattle.std.specs.Prelude.{◌≡◌, IfOk, IfErr, Err, map};
 ghost use Rattle.mrc_base.specs.Reading.{UnlessMemory};
 ghost use Rattle.mrc_mend.specs.Judging.{claimed_of, no_claim_of, MendOver, IsMend, AreAnswered};
-ghost use Rattle.mrc_mend.specs.Judging.{AreAtMost, IsNeeded, IsNeededOf};
+ghost use Rattle.mrc_mend.specs.Judging.{AreAtMost, IsNeeded, IsNeededOf, HasCause};
 
+use crate::causes::{Cause, cause_of};
 use crate::changes::Change;
 use crate::claims::{MendFault, Said, said_by};
 use crate::cutting::children;
+use crate::heading::edition;
 use crate::judging::{System, first_objection};
 use crate::losing::First;
-use crate::searching::search;
-use crate::trusting::can_trust;
+use crate::searching::{Searched, search};
 use mrc_base::{OrMemory, copy_all};
 use mrc_check::SystemFault;
 use mrc_closure::make_alone;
@@ -34,6 +35,8 @@ pub struct Mends {
     pub mends: Vec<Mend>,
     /// Whether the search ended at its bound, so that there may be more.
     pub cut_off: bool,
+    /// What all broken lines have in common, if they are two or more.
+    pub cause: Option<Cause>,
 }
 
 /// What there is to mend.
@@ -63,6 +66,7 @@ fn answered<P: Progress>(
         system.now.wiring.now system.now.policy.now)) }
     ensures within { IfOk result (AreAtMost most) }
     ensures needed { IfOk result (IsNeeded first.now.claim) }
+    ensures cause { IfOk result (HasCause first.now.claim) }
 {
     let wired = first.claim.wired();
     let made = make_alone(alloc, wired)?;
@@ -73,10 +77,17 @@ fn answered<P: Progress>(
     let before = First {
         wired,
         facts,
-        can_trust: can_trust(alloc, system.wiring)?,
+        lines: first.claim.lines(),
+        edition: edition(alloc, system.wiring)?,
     };
     let next = children(alloc, &before, first, facts, &[], &fact)?;
-    Ok(Answer::Found(search(alloc, system, &before, next, most, progress)?))
+    let cause = cause_of(alloc, &first.claim)?;
+    let Searched { mends, cut_off } = search(alloc, system, &before, next, most, progress)?;
+    Ok(Answer::Found(Mends {
+        mends,
+        cut_off,
+        cause,
+    }))
 }
 
 /// The mends of a wiring for a policy over MIG files, all from their bytes: `most` of them at most,
@@ -94,7 +105,8 @@ pub fn find_mends<P: Progress>(
         (IsMend (map (λ bytes. bytes.items) defs.now) wiring.now policy.now)) }
     // There are no more than that.
     ensures within { IfOk result (AreAtMost most) }
-    // Nothing is to be mended if and only if the least set is a yes; else no set is.
+    // Nothing is to be mended if and only if the least set is a yes; else no set is, and what the
+    // broken lines are said to have in common is in the chain of each.
     ensures needed { IfOk result (IsNeededOf
         (claimed_of (map (λ bytes. bytes.items) defs.now) wiring.now policy.now)) }
     // Which fault it is: that of the first file.

@@ -1,12 +1,11 @@
 //! Changes of a wiring's text.
 
-ghost use Rattle.std.specs.Prelude.{◌≡◌, ◌++◌, IfOk, OnOk, map, flat_map, string_bytes};
-ghost use Rattle.std.specs.List.{list_any};
+ghost use Rattle.std.specs.Prelude.{◌≡◌, ◌++◌, [], ◌∷◌, IfOk, OnOk, map, flat_map, string_bytes};
 ghost use Rattle.mrc_wiring_text.specs.Lexis.{lines};
 ghost use Rattle.mrc_mend.specs.Mending as definitions;
-ghost use Rattle.mrc_mend.specs.Mending.{behind_task, class_words, admit_line, class_line};
-ghost use Rattle.mrc_mend.specs.Mending.{admit_lines, verb_word, trust_line, added_lines, ended};
-ghost use Rattle.mrc_mend.specs.Mending.{leaves_out, line_left, lines_left};
+ghost use Rattle.mrc_mend.specs.Mending.{behind_task, class_words, type_word, admit_line};
+ghost use Rattle.mrc_mend.specs.Mending.{class_line, admit_lines, verb_word, trust_line};
+ghost use Rattle.mrc_mend.specs.Mending.{added_lines, ended, changed_line, line_left, lines_left};
 
 use mrc_model::Verb;
 use mrc_wiring::{ClassKind, kind_word};
@@ -20,6 +19,17 @@ pub struct NamedClass {
     pub kind: ClassKind,
     /// The name of the wired port, or of the task.
     pub name: String,
+}
+
+/// A line whose class is to accept less.
+#[derive(Clone, Debug, Drop)]
+pub struct Narrowing {
+    /// The number of the line, counted from 1.
+    pub number: u32,
+    /// The line as it then stands.
+    pub text: String,
+    /// The items that its class accepts no more, in the words of the line.
+    pub dropped: Vec<String>,
 }
 
 /// A type of port arguments, and the classes that its slots are to admit.
@@ -47,6 +57,8 @@ pub struct Limitation {
 pub enum Change {
     /// The line of this number, counted from 1, is left out.
     Remove(u32),
+    /// Items are left out of what the class of a line accepts.
+    Narrow(Narrowing),
     /// Lines are added that restrict a type.
     Restrict(Restriction),
     /// A line is added that trusts a task to do something with no right.
@@ -79,6 +91,15 @@ fn class_words(alloc: Global, class: &NamedClass) -> Result<String, AllocError>
     }
 }
 
+/// A type in the words of a wiring.
+pub(crate) fn type_word(alloc: Global, restriction: &Restriction) -> Result<String, AllocError>
+    ensures { IfOk result (λ text. string_bytes text ≡ type_word restriction.now) }
+{
+    let subsystem = restriction.subsystem.as_str();
+    let type_name = restriction.type_name.as_str();
+    format!(in alloc; "{subsystem}.{type_name}")
+}
+
 /// A line that says of the type what it admits.
 fn admit_line(
     alloc: Global,
@@ -88,9 +109,8 @@ fn admit_line(
     ensures { IfOk result (λ text. string_bytes text
         ≡ admit_line restriction.now admitted.now) }
 {
-    let subsystem = restriction.subsystem.as_str();
-    let type_name = restriction.type_name.as_str();
-    format!(in alloc; "admit {subsystem}.{type_name} {admitted}")
+    let restricted = type_word(alloc, restriction)?;
+    format!(in alloc; "admit {restricted} {admitted}")
 }
 
 /// Adds a line for each class that a type is to admit.
@@ -109,20 +129,21 @@ fn add_class_lines(
     Ok(())
 }
 
-/// Adds the lines that restrict a type.
-fn add_admit_lines(
+/// The lines that restrict a type.
+pub(crate) fn admit_lines(
     alloc: Global,
-    added: &mut Vec<String>,
     restriction: &Restriction,
-) -> Result<(), AllocError>
-    ensures { OnOk result (map string_bytes added.new.items ≡ map string_bytes added.old.items
-        ++ admit_lines restriction.now restriction.now.classes.items) }
+) -> Result<Vec<String>, AllocError>
+    ensures { IfOk result (λ lines. map string_bytes lines.items
+        ≡ admit_lines restriction.now restriction.now.classes.items) }
 {
+    let mut lines = Vec::new(alloc);
     if restriction.classes.is_empty() {
-        added.push(admit_line(alloc, restriction, "none")?)?;
-        return Ok(());
+        lines.push(admit_line(alloc, restriction, "none")?)?;
+        return Ok(lines);
     }
-    add_class_lines(alloc, added, restriction)
+    add_class_lines(alloc, &mut lines, restriction)?;
+    Ok(lines)
 }
 
 /// The word of a verb.
@@ -138,7 +159,7 @@ fn verb_word(verb: Verb) -> &'static str
 }
 
 /// A line that trusts a task to do something with no right.
-fn trust_line(alloc: Global, limitation: &Limitation) -> Result<String, AllocError>
+pub(crate) fn trust_line(alloc: Global, limitation: &Limitation) -> Result<String, AllocError>
     ensures { IfOk result (λ text. string_bytes text ≡ trust_line limitation.now) }
 {
     let task = limitation.task.as_str();
@@ -146,47 +167,54 @@ fn trust_line(alloc: Global, limitation: &Limitation) -> Result<String, AllocErr
     format!(in alloc; "trust {task} {verb} none")
 }
 
+/// The one line that trusts a task.
+fn trust_lines(alloc: Global, limitation: &Limitation) -> Result<Vec<String>, AllocError>
+    ensures { IfOk result (λ lines. map string_bytes lines.items
+        ≡ trust_line limitation.now ∷ []) }
+{
+    let mut lines = Vec::new(alloc);
+    lines.push(trust_line(alloc, limitation)?)?;
+    Ok(lines)
+}
+
 /// The lines that a change adds.
 pub(crate) fn added_lines(alloc: Global, change: &Change) -> Result<Vec<String>, AllocError>
     ensures { IfOk result (λ added. map string_bytes added.items ≡ added_lines change.now) }
 {
-    let mut added = Vec::new(alloc);
     match change {
-        Change::Remove(_) => {}
-        Change::Restrict(restriction) => add_admit_lines(alloc, &mut added, restriction)?,
-        Change::Limit(limitation) => {
-            added.push(trust_line(alloc, limitation)?)?;
+        Change::Remove(_) | Change::Narrow(_) => Ok(Vec::new(alloc)),
+        Change::Restrict(restriction) => admit_lines(alloc, restriction),
+        Change::Limit(limitation) => trust_lines(alloc, limitation),
+    }
+}
+
+/// What a change leaves of the line of this number: nothing if it leaves the line out, and the new
+/// text if it narrows the line.
+fn changed_line<'a>(number: usize, line: &'a [u8], change: &'a Change) -> &'a [u8]
+    ensures { result.now ≡ changed_line number line.now change.now }
+{
+    match change {
+        Change::Remove(known) => { if *known as usize == number { &[] } else { line } }
+        Change::Narrow(narrowing) => {
+            if narrowing.number as usize == number {
+                narrowing.text.as_bytes()
+            } else {
+                line
+            }
         }
-    }
-    Ok(added)
-}
-
-/// Whether the change leaves out the line of this number.
-fn leaves_out(number: usize, change: &Change) -> bool
-    ensures { result ≡ leaves_out number change.now }
-{
-    match change {
-        Change::Remove(line) => *line as usize == number,
-        Change::Restrict(_) | Change::Limit(_) => false,
+        Change::Restrict(_) | Change::Limit(_) => line,
     }
 }
 
-/// Whether a change leaves out the line of this number.
-fn is_left_out(changes: &[Change], number: usize) -> bool
-    ensures { result ≡ list_any (leaves_out number) changes.now }
-{
-    changes.iter().any(|change| leaves_out(number, change))
-}
-
-/// The line of this number: nothing where a change leaves it out.
-fn line_left<'a>(changes: &[Change], number: usize, line: &'a [u8]) -> &'a [u8]
+/// What changes leave of the line of this number.
+fn line_left<'a>(changes: &'a [Change], number: usize, line: &'a [u8]) -> &'a [u8]
     ensures { result.now ≡ line_left changes.now number line.now }
 {
-    if is_left_out(changes, number) {
-        &[]
-    } else {
-        line
+    let mut left = line;
+    for change in changes {
+        left = changed_line(number, left, change);
     }
+    left
 }
 
 /// Adds a line with its end.
@@ -198,7 +226,7 @@ fn add_line(text: &mut Vec<u8>, line: &[u8]) -> Result<(), AllocError>
     Ok(())
 }
 
-/// The lines of a text without those that are left out.
+/// What changes leave of the lines of a text.
 fn lines_left(alloc: Global, wiring: &[u8], changes: &[Change]) -> Result<Vec<u8>, AllocError>
     ensures { IfOk result (λ text. text.items ≡ lines_left changes.now 1 (lines wiring.now)) }
 {
@@ -226,8 +254,8 @@ fn add_lines(alloc: Global, text: &mut Vec<u8>, change: &Change) -> Result<(), A
 }
 
 /// The text of a wiring with the changes, as they are printed: the lines that are left out are
-/// blank, so that the others keep their numbers, and the lines that are added stand behind the
-/// last.
+/// blank, so that the others keep their numbers, those that are narrowed have their new text, and
+/// the lines that are added stand behind the last.
 pub fn mended(alloc: Global, wiring: &[u8], changes: &[Change]) -> Result<Vec<u8>, AllocError>
     ensures { IfOk result (λ text. text.items ≡ definitions.mended wiring.now changes.now) }
 {

@@ -1,28 +1,28 @@
 //! The changes that cut a chain: what each leaves out, the chain needs.
 
 use crate::carrying::{TypeNames, carried};
-use crate::changes::{Change, NamedClass, Restriction};
+use crate::changes::{Change, NamedClass, Narrowing, Restriction};
 use crate::claims::Said;
-use crate::extending::{DEEPEST, extended, restriction_of};
+use crate::extending::{DEEPEST, extended, narrowing_of, restriction_of};
 use crate::losing::First;
+use crate::narrowing::{Accepted, items_of_step, narrowed};
 use crate::trusting::{limitation_of, names_actor};
 use mrc_base::{ClassId, Fact};
 use mrc_classes::Facts;
 use mrc_closure::{Step, explain};
 use mrc_why::{Source, Sources};
 use mrc_wiring::{ClassKind, ClassLabel, Wired};
-use mrc_wiring_text::{ClassName, WiringLine, WiringSays};
+use mrc_wiring_text::{ClassName, Edition, WiringLine, WiringSays};
 use std::alloc::{AllocError, Global};
 
 /// What was said and derived after some changes, and the fact that is not to be derived.
 #[derive(Clone, Copy)]
 struct Node<'a> {
+    first: First<'a>,
     said: &'a Said,
     facts: &'a Facts,
-    first: &'a Facts,
     changes: &'a [Change],
     goal: Fact,
-    can_trust: bool,
 }
 
 /// The admit lines of a type.
@@ -262,13 +262,58 @@ fn limit_step(
     steps: &[Step],
     step: &Step,
 ) -> Result<(), AllocError> {
-    let lines = node.said.claim.lines();
-    if !node.can_trust || names_actor(lines, node.first, steps, step) {
+    let first = &node.first;
+    let can_trust = first.edition == Edition::Third;
+    if !can_trust || names_actor(first.lines, first.facts, steps, step) {
         return Ok(());
     }
     let wired = node.said.claim.wired();
     if let Some(limitation) = limitation_of(alloc, wired, steps, step, &node.goal)? {
         next.push(extended(alloc, node.changes, Change::Limit(limitation))?)?;
+    }
+    Ok(())
+}
+
+/// Adds the items that the changes have dropped already from the line.
+fn add_dropped(changes: &[Change], narrowing: &mut Narrowing) -> Result<(), AllocError> {
+    if let Some(known) = narrowing_of(changes, narrowing.number) {
+        for item in &known.dropped {
+            narrowing.dropped.push(item.clone()?)?;
+        }
+    }
+    Ok(())
+}
+
+/// Adds the changes by which the class accepts the item no more.
+fn cut_item(
+    alloc: Global,
+    next: &mut Vec<Vec<Change>>,
+    node: &Node<'_>,
+    accepted: &Accepted,
+) -> Result<(), AllocError> {
+    let wired = node.said.claim.wired();
+    let Some(label) = wired.class_name(accepted.class) else {
+        return Ok(());
+    };
+    let lines = node.said.lines.as_slice();
+    let item = accepted.item.as_str();
+    if let Some(mut narrowing) = narrowed(alloc, node.first.edition, lines, &label, item)? {
+        add_dropped(node.changes, &mut narrowing)?;
+        next.push(extended(alloc, node.changes, Change::Narrow(narrowing))?)?;
+    }
+    Ok(())
+}
+
+/// Adds the changes by which the step's message or request is accepted no more.
+fn narrow_step(
+    alloc: Global,
+    next: &mut Vec<Vec<Change>>,
+    node: &Node<'_>,
+    step: &Step,
+    source: Option<Source<'_>>,
+) -> Result<(), AllocError> {
+    for accepted in &items_of_step(alloc, node.said.claim.wired(), step, source)? {
+        cut_item(alloc, next, node, accepted)?;
     }
     Ok(())
 }
@@ -279,7 +324,9 @@ fn cuts(alloc: Global, node: &Node<'_>, steps: &[Step]) -> Result<Vec<Vec<Change
     let sources = Sources::new(alloc, said.claim.wired(), said.lines.as_slice())?;
     let mut next = Vec::new(alloc);
     for step in steps {
-        cut_step(alloc, &mut next, node, step, sources.source(steps, step))?;
+        let source = sources.source(steps, step);
+        cut_step(alloc, &mut next, node, step, source)?;
+        narrow_step(alloc, &mut next, node, step, source)?;
         limit_step(alloc, &mut next, node, steps, step)?;
     }
     Ok(next)
@@ -299,12 +346,11 @@ pub(crate) fn children(
         return Ok(Vec::new(alloc));
     }
     let node = Node {
+        first: *first,
         said,
         facts,
-        first: first.facts,
         changes,
         goal: *goal,
-        can_trust: first.can_trust,
     };
     match explain(alloc, said.claim.wired(), *goal)? {
         Some(chain) => cuts(alloc, &node, chain.steps()),

@@ -1,7 +1,7 @@
 //! Lists of changes, and larger ones.
 
 use crate::carrying::TypeNames;
-use crate::changes::{Change, Limitation, NamedClass, Restriction, added_lines};
+use crate::changes::{Change, Limitation, NamedClass, Narrowing, Restriction, added_lines};
 use mrc_model::Verb;
 use std::alloc::{AllocError, Global};
 
@@ -29,6 +29,18 @@ pub(crate) fn restriction_of<'a>(
     None
 }
 
+/// The narrowing of the line of this number, where the changes have one.
+pub(crate) fn narrowing_of(changes: &[Change], number: u32) -> Option<&Narrowing> {
+    for change in changes {
+        if let Change::Narrow(narrowing) = change {
+            if narrowing.number == number {
+                return Some(narrowing);
+            }
+        }
+    }
+    None
+}
+
 /// A number for each verb.
 fn verb_number(verb: Verb) -> u8 {
     match verb {
@@ -46,27 +58,37 @@ fn is_lower(limitation: &Limitation, other: &Limitation) -> bool {
     (task, verb) < (other.task.as_str(), verb_number(other.verb))
 }
 
-/// Whether the change is printed before the other: removed lines come first, lines about trusted
-/// tasks last.
-fn is_before(change: &Change, other: &Change) -> bool {
-    match (change, other) {
-        (Change::Remove(line), Change::Remove(known)) => line < known,
-        (Change::Remove(_), Change::Restrict(_) | Change::Limit(_)) => true,
-        (Change::Restrict(_), Change::Limit(_)) => true,
-        (Change::Restrict(_) | Change::Limit(_), Change::Remove(_)) => false,
-        (Change::Limit(_), Change::Restrict(_)) => false,
-        (Change::Limit(limitation), Change::Limit(known)) => is_lower(limitation, known),
-        (Change::Restrict(restriction), Change::Restrict(known)) => {
-            let subsystem = restriction.subsystem.as_str();
-            let type_name = restriction.type_name.as_str();
-            (subsystem, type_name) < (known.subsystem.as_str(), known.type_name.as_str())
-        }
+/// Whether the restriction is printed before the other.
+fn is_earlier(restriction: &Restriction, other: &Restriction) -> bool {
+    let subsystem = restriction.subsystem.as_str();
+    let type_name = restriction.type_name.as_str();
+    (subsystem, type_name) < (other.subsystem.as_str(), other.type_name.as_str())
+}
+
+/// Where a change is printed: lines that change come first, by their numbers, then types, and then
+/// lines about trusted tasks.
+fn place_of(change: &Change) -> (u8, u32) {
+    match change {
+        Change::Remove(number) => (0, *number),
+        Change::Narrow(narrowing) => (0, narrowing.number),
+        Change::Restrict(_) => (1, 0),
+        Change::Limit(_) => (2, 0),
     }
 }
 
-/// Whether the change stands in the place of the other: both restrict one type.
+/// Whether the change is printed before the other.
+fn is_before(change: &Change, other: &Change) -> bool {
+    match (change, other) {
+        (Change::Restrict(restriction), Change::Restrict(known)) => is_earlier(restriction, known),
+        (Change::Limit(limitation), Change::Limit(known)) => is_lower(limitation, known),
+        _ => place_of(change) < place_of(other),
+    }
+}
+
+/// Whether the change stands in the place of the other: both restrict one type, or narrow one line.
 fn is_instead(change: &Change, other: &Change) -> bool {
     match (change, other) {
+        (Change::Narrow(narrowing), Change::Narrow(known)) => narrowing.number == known.number,
         (Change::Restrict(restriction), Change::Restrict(known)) => is_of(
             known,
             TypeNames {
@@ -78,7 +100,8 @@ fn is_instead(change: &Change, other: &Change) -> bool {
     }
 }
 
-/// The changes with one more. A restriction takes the place of one of the same type.
+/// The changes with one more. A restriction takes the place of one of the same type, and a narrowed
+/// line that of the same line.
 pub(crate) fn extended(
     alloc: Global,
     changes: &[Change],
@@ -113,11 +136,22 @@ fn is_wider(restriction: &Restriction, other: &Restriction) -> bool {
     true
 }
 
-/// Whether the changes have this one, or one that restricts the same type more.
+/// Whether the line of the narrowing loses each item that it loses by the other.
+fn is_narrower(narrowing: &Narrowing, other: &Narrowing) -> bool {
+    for item in &other.dropped {
+        if !narrowing.dropped.iter().any(|known| *known == *item) {
+            return false;
+        }
+    }
+    narrowing.number == other.number
+}
+
+/// Whether the changes have this one, or one that restricts the same type or line more.
 fn includes(changes: &[Change], change: &Change) -> bool {
     for other in changes {
         let same = match (change, other) {
             (Change::Remove(line), Change::Remove(known)) => line == known,
+            (Change::Narrow(narrowing), Change::Narrow(known)) => is_narrower(known, narrowing),
             (Change::Restrict(restriction), Change::Restrict(known)) => {
                 is_instead(change, other) && is_wider(restriction, known)
             }
@@ -143,12 +177,19 @@ pub(crate) fn includes_all(larger: &[Change], changes: &[Change]) -> bool {
     true
 }
 
+/// Which line a change leaves out or narrows, and to what; nothing if it does neither.
+fn line_key(alloc: Global, change: &Change) -> Result<String, AllocError> {
+    match change {
+        Change::Remove(number) => format!(in alloc; "{number}\n"),
+        Change::Narrow(Narrowing { number, text, .. }) => format!(in alloc; "{number} {text}\n"),
+        Change::Restrict(_) | Change::Limit(_) => Ok(String::new(alloc)),
+    }
+}
+
 /// Adds a line for each line of a change.
 fn add_key(alloc: Global, key: &mut String, change: &Change) -> Result<(), AllocError> {
-    if let Change::Remove(line) = change {
-        let text = format!(in alloc; "{line}\n")?;
-        key.push_str(text.as_str())?;
-    }
+    let text = line_key(alloc, change)?;
+    key.push_str(text.as_str())?;
     for line in &added_lines(alloc, change)? {
         key.push_str(line.as_str())?;
         key.push_str("\n")?;

@@ -4,12 +4,15 @@
 
 mod answers;
 mod carrying;
+mod causes;
 mod changes;
 mod claims;
 mod cutting;
 mod extending;
+mod heading;
 mod judging;
 mod losing;
+mod narrowing;
 mod printing;
 mod searching;
 #[cfg(test)]
@@ -17,6 +20,7 @@ mod tests;
 mod trusting;
 
 pub use answers::{Answer, Mend, Mends, Progress, find_mends};
-pub use changes::{Change, Limitation, NamedClass, Restriction, mended};
+pub use causes::Cause;
+pub use changes::{Change, Limitation, NamedClass, Narrowing, Restriction, mended};
 pub use claims::{MendFault, claim_of};
 pub use printing::mends_text;

@@ -2,7 +2,8 @@
 
 use mrc_base::Fact;
 use mrc_classes::Facts;
-use mrc_wiring::Wired;
+use mrc_wiring::{ForbiddenLine, Wired};
+use mrc_wiring_text::Edition;
 use mrc_words::{fact_named, fact_text};
 use std::alloc::{AllocError, Global};
 
@@ -11,8 +12,10 @@ use std::alloc::{AllocError, Global};
 pub(crate) struct First<'a> {
     pub(crate) wired: &'a Wired,
     pub(crate) facts: &'a Facts,
-    /// Whether its text may have trust lines.
-    pub(crate) can_trust: bool,
+    /// What the policy forbids.
+    pub(crate) lines: &'a [ForbiddenLine],
+    /// The edition of its text.
+    pub(crate) edition: Edition,
 }
 
 /// Whether the fact, by its names, is among the facts of the other wiring.

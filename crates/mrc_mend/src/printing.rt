@@ -4,13 +4,17 @@ ghost use Rattle.std.specs.Prelude.{◌≡◌, ◌++◌, [], flat_map, slice_get
 ghost use Rattle.std.specs.Prelude.{string_bytes};
 ghost use Rattle.mrc_wiring_text.specs.Lexis.{lines, words};
 ghost use Rattle.mrc_mend.specs.Texts as definitions;
-ghost use Rattle.mrc_mend.specs.Texts.{behind_blank, if_text, line_words, removed_line, added_line};
-ghost use Rattle.mrc_mend.specs.Texts.{change_lines, numbered_line, numbered, mend_text};
-ghost use Rattle.mrc_mend.specs.Texts.{mends_from};
-ghost use Rattle.mrc_mend.specs.Mending.{added_lines};
+ghost use Rattle.mrc_mend.specs.Texts.{behind_blank, if_text, line_words, removed_line};
+ghost use Rattle.mrc_mend.specs.Texts.{narrowed_line, added_line, restricting_line, change_lines};
+ghost use Rattle.mrc_mend.specs.Texts.{loses_sign, loses, numbered_line, numbered, mend_text};
+ghost use Rattle.mrc_mend.specs.Texts.{mends_from, found_text, broken_count, shared_line, cause_line};
+ghost use Rattle.mrc_mend.specs.Mending.{admit_lines, trust_line};
 
 use crate::answers::{Answer, Mend};
-use crate::changes::{Change, added_lines};
+use crate::causes::Cause;
+use crate::changes::{
+    Change, Limitation, Narrowing, Restriction, admit_lines, trust_line, type_word,
+};
 use mrc_wiring_text::{between_blanks, first_line, spaced};
 use std::alloc::{AllocError, Global};
 use std::str;
@@ -73,18 +77,62 @@ fn removed_line(alloc: Global, wiring: &[u8], number: u32) -> Result<String, All
     format!(in alloc; "remove line {number} #{words}")
 }
 
-/// Adds the lines that a change adds.
-fn add_added(alloc: Global, told: &mut Vec<String>, change: &Change) -> Result<(), AllocError>
-    ensures { OnOk result (map string_bytes told.new.items ≡ map string_bytes told.old.items
-        ++ map added_line (added_lines change.now)) }
+/// A line that is narrowed: its number, and the line as it then stands.
+fn narrowed_line(alloc: Global, narrowing: &Narrowing) -> Result<String, AllocError>
+    ensures { IfOk result (λ text. string_bytes text ≡ narrowed_line narrowing.now) }
 {
-    for line in &added_lines(alloc, change)? {
-        told.push(format!(in alloc; "add {line}")?)?;
+    let number = narrowing.number;
+    let text = narrowing.text.as_str();
+    format!(in alloc; "change line {number} # {text}")
+}
+
+/// A line that is added.
+fn added_line(alloc: Global, line: &str) -> Result<String, AllocError>
+    ensures { IfOk result (λ text. string_bytes text ≡ added_line line.now) }
+{
+    format!(in alloc; "add {line}")
+}
+
+/// A line that is added, and the type that it restricts.
+fn restricting_line(
+    alloc: Global,
+    restriction: &Restriction,
+    line: &str,
+) -> Result<String, AllocError>
+    ensures { IfOk result (λ text. string_bytes text
+        ≡ restricting_line restriction.now line.now) }
+{
+    let added = added_line(alloc, line)?;
+    let restricted = type_word(alloc, restriction)?;
+    format!(in alloc; "{added} # restricts {restricted}")
+}
+
+/// Adds the lines that restrict a type.
+fn add_restricting(
+    alloc: Global,
+    told: &mut Vec<String>,
+    restriction: &Restriction,
+) -> Result<(), AllocError>
+    ensures { OnOk result (map string_bytes told.new.items ≡ map string_bytes told.old.items
+        ++ map (restricting_line restriction.now)
+        (admit_lines restriction.now restriction.now.classes.items)) }
+{
+    for line in &admit_lines(alloc, restriction)? {
+        told.push(restricting_line(alloc, restriction, line.as_str())?)?;
     }
     Ok(())
 }
 
-/// Adds what is told of a change: a line that is left out, or those that are added.
+/// A line that trusts a task.
+fn trusting_line(alloc: Global, limitation: &Limitation) -> Result<String, AllocError>
+    ensures { IfOk result (λ text. string_bytes text
+        ≡ added_line (trust_line limitation.now)) }
+{
+    let line = trust_line(alloc, limitation)?;
+    added_line(alloc, line.as_str())
+}
+
+/// Adds what is told of a change: a line that is left out or narrowed, or those that are added.
 fn add_change(
     alloc: Global,
     told: &mut Vec<String>,
@@ -99,7 +147,15 @@ fn add_change(
             told.push(removed_line(alloc, wiring, *number)?)?;
             Ok(())
         }
-        Change::Restrict(_) | Change::Limit(_) => add_added(alloc, told, change),
+        Change::Narrow(narrowing) => {
+            told.push(narrowed_line(alloc, narrowing)?)?;
+            Ok(())
+        }
+        Change::Restrict(restriction) => add_restricting(alloc, told, restriction),
+        Change::Limit(limitation) => {
+            told.push(trusting_line(alloc, limitation)?)?;
+            Ok(())
+        }
     }
 }
 
@@ -165,18 +221,36 @@ fn numbered(
     }
 }
 
+/// What comes before the words of what a mend loses.
+fn loses_sign(changes: &[Change]) -> &'static str
+    ensures { result.now ≡ loses_sign changes.now }
+{
+    match changes {
+        [Change::Restrict(_), ..] => ",",
+        _ => " #",
+    }
+}
+
+/// What a mend loses, as it stands behind its first line.
+fn loses(alloc: Global, mend: &Mend) -> Result<String, AllocError>
+    ensures { IfOk result (λ text. string_bytes text ≡ loses mend.now) }
+{
+    let sign = loses_sign(&mend.changes);
+    let lost = mend.lost;
+    format!(in alloc; "{sign} loses {lost} facts")
+}
+
 /// A mend of this number.
 fn mend_text(alloc: Global, wiring: &[u8], number: usize, mend: &Mend) -> Result<String, AllocError>
     ensures { IfOk result (λ text. string_bytes text ≡ mend_text wiring.now number mend.now) }
 {
-    let lost = mend.lost;
-    let loses = format!(in alloc; " # loses {lost} facts")?;
+    let loses = loses(alloc, mend)?;
     let lines = changes_told(alloc, wiring, &mend.changes)?;
     numbered(alloc, number, loses.as_str(), &lines)
 }
 
-/// The mends that were found.
-fn found_text(alloc: Global, wiring: &[u8], mends: &[Mend]) -> Result<String, AllocError>
+/// The mends, the first of number 1.
+fn mends_from(alloc: Global, wiring: &[u8], mends: &[Mend]) -> Result<String, AllocError>
     ensures { IfOk result (λ text. string_bytes text ≡ mends_from wiring.now 1 mends.now) }
 {
     let mut text = String::new(alloc);
@@ -187,8 +261,46 @@ fn found_text(alloc: Global, wiring: &[u8], mends: &[Mend]) -> Result<String, Al
     Ok(text)
 }
 
-/// What is told of mends: `YES` where there is nothing to mend, a line for each changed line of
-/// each mend, or `none`. The words of lines that are left out are those of the wiring's text.
+/// The mends that were found, or that there are none.
+fn found_text(alloc: Global, wiring: &[u8], mends: &[Mend]) -> Result<String, AllocError>
+    ensures { IfOk result (λ text. string_bytes text ≡ found_text wiring.now mends.now) }
+{
+    if mends.is_empty() {
+        String::from_str(alloc, "none\n")
+    } else {
+        mends_from(alloc, wiring, mends)
+    }
+}
+
+/// How many lines are broken.
+fn broken_count(alloc: Global, lines: usize) -> Result<String, AllocError>
+    ensures { IfOk result (λ text. string_bytes text ≡ broken_count lines) }
+{
+    format!(in alloc; "# all {lines} broken lines have ")
+}
+
+/// A line that tells of a cause.
+fn shared_line(alloc: Global, cause: &Cause) -> Result<String, AllocError>
+    ensures { IfOk result (λ text. string_bytes text ≡ shared_line cause.now) }
+{
+    let count = broken_count(alloc, cause.lines)?;
+    let fact = cause.fact.as_str();
+    format!(in alloc; "{count}{fact} in their chains\n")
+}
+
+/// The line that tells what all broken lines have in common, if that is known.
+fn cause_line(alloc: Global, cause: &Option<Cause>) -> Result<String, AllocError>
+    ensures { IfOk result (λ text. string_bytes text ≡ cause_line cause.now) }
+{
+    match cause {
+        Some(cause) => shared_line(alloc, cause),
+        None => Ok(String::new(alloc)),
+    }
+}
+
+/// What is told of mends: `YES` if there is nothing to mend; else a line that tells what all broken
+/// lines have in common, if that is known, and a line for each changed line of each mend, or
+/// `none`. The words of lines that are left out are those of the wiring's text.
 pub fn mends_text(alloc: Global, wiring: &[u8], answer: &Answer) -> Result<String, AllocError>
     ensures { IfOk result (λ text.
         string_bytes text ≡ definitions.mends_text wiring.now answer.now) }
@@ -196,11 +308,9 @@ pub fn mends_text(alloc: Global, wiring: &[u8], answer: &Answer) -> Result<Strin
     match answer {
         Answer::Nothing => String::from_str(alloc, "YES\n"),
         Answer::Found(found) => {
-            if found.mends.is_empty() {
-                String::from_str(alloc, "none\n")
-            } else {
-                found_text(alloc, wiring, &found.mends)
-            }
+            let cause = cause_line(alloc, &found.cause)?;
+            let mends = found_text(alloc, wiring, &found.mends)?;
+            format!(in alloc; "{cause}{mends}")
         }
     }
 }

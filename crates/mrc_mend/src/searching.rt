@@ -3,7 +3,7 @@
 ghost use Rattle.std.specs.Prelude.{◌≤◌, length, IfOk, OnOk};
 ghost use Rattle.mrc_mend.specs.Judging.{MendOver, AllAre};
 
-use crate::answers::{Mend, Mends, Progress};
+use crate::answers::{Mend, Progress};
 use crate::changes::Change;
 use crate::extending::{DEEPEST, includes_all, key_of};
 use crate::judging::{System, Verdict, judged};
@@ -149,6 +149,14 @@ fn best(system: &System<'_>, mut found: Vec<Mend>, most: usize) -> Result<Vec<Me
     Ok(found)
 }
 
+/// What a search has found.
+#[derive(Drop)]
+pub(crate) struct Searched {
+    pub(crate) mends: Vec<Mend>,
+    /// Whether it ended at its bound.
+    pub(crate) cut_off: bool,
+}
+
 /// The mends that are found from these changes on.
 pub(crate) fn search<P: Progress>(
     alloc: Global,
@@ -157,7 +165,7 @@ pub(crate) fn search<P: Progress>(
     next: Vec<Vec<Change>>,
     most: usize,
     progress: &mut P,
-) -> Result<Mends, AllocError>
+) -> Result<Searched, AllocError>
     ensures mends { IfOk result (λ mends. AllAre (MendOver system.now.interfaces.items
         system.now.wiring.now system.now.policy.now) mends.mends.items) }
     ensures few { IfOk result (λ mends. length mends.mends.items ≤ most) }
@@ -168,7 +176,7 @@ pub(crate) fn search<P: Progress>(
     for tries in 0..tries_for(first) {
         let Some(changes) = next_of(&mut queue, found.as_slice(), most) else {
             let mends = best(system, found, most)?;
-            return Ok(Mends {
+            return Ok(Searched {
                 mends,
                 cut_off: false,
             });
@@ -178,5 +186,5 @@ pub(crate) fn search<P: Progress>(
     }
     let cut_off = next_of(&mut queue, found.as_slice(), most).is_some();
     let mends = best(system, found, most)?;
-    Ok(Mends { mends, cut_off })
+    Ok(Searched { mends, cut_off })
 }

@@ -65,14 +65,16 @@ fn a_line_is_left_out_or_a_type_is_restricted(rt: HostRuntime) -> Result<(), Fai
         "hold  client send\tport root # it asks for files\n",
         "forbid client send task server",
     )?;
-    // Of 30 facts 21 are left, or 15.
+    // Of 30 facts 21 are left, or 16, or 15.
     assert_eq!(rt;
         mends.as_str(),
-        "1 add admit files.file_t port root # loses 9 facts\n\
-         1 add admit files.file_t task client\n\
-         1 add admit files.file_t births client\n\
-         1 add admit files.file_t births server\n\
-         2 remove line 6 # hold client send port root # loses 15 facts\n"
+        "1 add admit files.file_t port root # restricts files.file_t, loses 9 facts\n\
+         1 add admit files.file_t task client # restricts files.file_t\n\
+         1 add admit files.file_t births client # restricts files.file_t\n\
+         1 add admit files.file_t births server # restricts files.file_t\n\
+         2 change line 5 # births client accepts none # loses 14 facts\n\
+         3 remove line 6 # hold client send port root # loses 15 facts\n\
+         4 change line 4 # port root receiver server accepts none # loses 15 facts\n"
     );
     Ok(())
 }
@@ -84,12 +86,14 @@ fn the_only_line_of_a_type_is_replaced(rt: HostRuntime) -> Result<(), Fail> {
         "hold client send port root\nadmit files.file_t births server",
         "forbid client send births server",
     )?;
-    // Of 18 facts 13 are left, or 16.
+    // Of 18 facts 16 are left, or 13, or 12.
     assert_eq!(rt;
         mends.as_str(),
-        "1 remove line 6 # hold client send port root # loses 5 facts\n\
-         2 remove line 7 # admit files.file_t births server # loses 2 facts\n\
-         2 add admit files.file_t none\n"
+        "1 change line 5 # births client accepts none # loses 2 facts\n\
+         2 remove line 6 # hold client send port root # loses 5 facts\n\
+         3 change line 4 # port root receiver server accepts none # loses 6 facts\n\
+         4 remove line 7 # admit files.file_t births server # loses 2 facts\n\
+         4 add admit files.file_t none # restricts files.file_t\n"
     );
     Ok(())
 }

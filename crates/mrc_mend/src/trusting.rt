@@ -7,42 +7,7 @@ use mrc_closure::{Places, Step};
 use mrc_model::Verb;
 use mrc_why::forbidden_fact;
 use mrc_wiring::{ForbiddenLine, Wired};
-use mrc_wiring_text::{between_blanks, first_line, spaced};
 use std::alloc::{AllocError, Global};
-
-/// Whether the digits encode 3; there may be zeros before it.
-fn is_three(digits: &[u8]) -> bool {
-    match digits {
-        [zeros @ .., last] => *last == b'3' && zeros.iter().all(|digit| *digit == b'0'),
-        [] => false,
-    }
-}
-
-/// Whether the words of a heading name the version whose texts may have trust lines.
-fn is_third(words: &[&[u8]]) -> bool {
-    match *words {
-        [_, version] => is_three(version),
-        _ => false,
-    }
-}
-
-/// Whether a wiring of this text may have trust lines: whether it is of version 3.
-pub(crate) fn can_trust(alloc: Global, wiring: &[u8]) -> Result<bool, AllocError> {
-    let mut rest = wiring;
-    for _ in 0..wiring.len() {
-        if rest.is_empty() {
-            break;
-        }
-        let (line, after) = first_line(rest);
-        let text = spaced(alloc, line)?;
-        let words = between_blanks(alloc, &text)?;
-        if !words.is_empty() {
-            return Ok(is_third(&words));
-        }
-        rest = after;
-    }
-    Ok(false)
-}
 
 /// The task that holds something.
 fn holder(fact: &Fact) -> Option<u16> {

@@ -8,7 +8,8 @@ use Rattle.mrc_report.specs.declared.script.TaskCall.{TaskCall}
 use Rattle.mrc_command.specs.Lines.{fault_line}
 use Rattle.mrc_command.specs.declared.told.Told.{Told}
 use Rattle.mrc_command.specs.declared.command.Command.{Command}
-use Rattle.mrc_command.specs.declared.command.Command.TheVariants.{Verify, Mend, Check, Make}
+use Rattle.mrc_command.specs.declared.command.Command.TheVariants.{Verify, Mend, Attack}
+use Rattle.mrc_command.specs.declared.command.Command.TheVariants.{Check, Make}
 use Rattle.mrc_command.specs.declared.command.Command.TheVariants.{Explain, Facts, Graph, Replay}
 use Rattle.mrc_command.specs.declared.command.Command.TheVariants.{Promises, Live, Mig}
 use Rattle.mrc_command.specs.declared.command.SystemFiles.{SystemFiles}
@@ -67,6 +68,12 @@ silent held (Verify files) told fault =
 silent held (Mend files) told fault = inl (elim fault [
   | inl claim ↦ claim_silent held files.system files.policy.now told claim
   | inr most ↦ most.out
+])
+silent held (Attack files) told fault = inl (elim fault [
+  | inl claim ↦ claim_silent held files.system files.policy.now told claim
+  | inr (inl most) ↦ most.out
+  | inr (inr (inl line)) ↦ line.out
+  | inr (inr (inr texts)) ↦ texts.tells.tells.out
 ])
 silent held (Facts files) told fault = inl (elim fault [
   | inl memory ↦ memory.out

@@ -8,6 +8,7 @@ pub mod HaltLaws
 mod GraphLaws
 mod VerifiedSafe
 mod VerifyLaws
+mod AttackLaws
 mod NoticeExamples
 mod PolicyExamples
 mod LeftLaws

@@ -17,7 +17,10 @@ use Rattle.mrc_confine.specs.Safety.{IsLeastYes, MeanClaim}
 use Rattle.mrc_confine.proofs.Meaning.{no_has_no_yes}
 use Rattle.mrc_confine.proofs.Safe.{verified_safe}
 use Rattle.mrc_mend.specs.Judging.{claimed_of}
-use Rattle.mrc_program.specs.VerifiedLaws.{AllowedIsSafe, BrokenHasNoYes}
+use Rattle.mrc_why.specs.Broken.{HasYes, HasNoYes}
+use Rattle.mrc_program.specs.Texts.{PolicyTexts}
+use Rattle.mrc_program.specs.VerifiedLaws.{AllowedIsSafe, BrokenHasNoYes, AreSafe, HaveNoYes}
+use Rattle.mrc_program.specs.VerifiedLaws.{UnattackedIsSafe, AttackedHasNoYes}
 
 step_ok : {A E F : Type 0} (place : E → F) (r : Result A E) (x : A) → step place r ≡ Ok x → r ≡ Ok x
 step_ok place (Ok y) x e = cc
@@ -53,36 +56,60 @@ claim_meant defs wiring policy claim e =
     } in
     subst (MeanClaim defs wiring policy) same mean
 
-pub allowed_safe : AllowedIsSafe
-allowed_safe held files told allowed =
-    let texts = allowed.texts in
-    let claim = allowed.tells.claim in
-    let mean = claim_meant texts.system.defs texts.system.wiring texts.policy claim
-    allowed.tells.says in
-    let found = allowed.tells.tells.yes in
+-- texts of which a claim is read that has a yes are safe
+safe_texts : (texts : PolicyTexts) (claim : Claimed)
+    → claimed_of texts.system.defs texts.system.wiring texts.policy ≡ Ok claim
+    → HasYes claim
+    → AreSafe texts
+safe_texts texts claim says found =
+    let mean = claim_meant texts.system.defs texts.system.wiring texts.policy claim says in
     let least : IsLeastYes claim (has found.0) =
     record { least = found.1.least; says = found.1.says } in
     record {
-      texts = texts;
-      are_held = allowed.are_held;
-      tells = record {
-        claim = claim;
-        mean = mean;
-        set = has found.0;
-        safe = verified_safe texts.system.defs texts.system.wiring texts.policy claim (has found.0)
-            mean least;
-      };
+      claim = claim;
+      mean = mean;
+      set = has found.0;
+      safe = verified_safe texts.system.defs texts.system.wiring texts.policy claim (has found.0)
+          mean least;
     }
 
+-- and no certificate is accepted for those that have none
+no_texts : (texts : PolicyTexts) (claim : Claimed)
+    → claimed_of texts.system.defs texts.system.wiring texts.policy ≡ Ok claim
+    → HasNoYes claim
+    → HaveNoYes texts
+no_texts texts claim says none =
+    no_has_no_yes texts.system.defs texts.system.wiring texts.policy claim
+    (claim_meant texts.system.defs texts.system.wiring texts.policy claim says) none
+
+pub allowed_safe : AllowedIsSafe
+allowed_safe held files told allowed = record {
+  texts = allowed.texts;
+  are_held = allowed.are_held;
+  tells = safe_texts allowed.texts allowed.tells.claim allowed.tells.says allowed.tells.tells.yes;
+}
+
 pub broken_no : BrokenHasNoYes
-broken_no held files told broken =
-    let texts = broken.texts in
-    let claim = broken.tells.claim in
-    let mean = claim_meant texts.system.defs texts.system.wiring texts.policy claim
-    broken.tells.says in
+broken_no held files told broken = record {
+  texts = broken.texts;
+  are_held = broken.are_held;
+  tells = no_texts broken.texts broken.tells.claim broken.tells.says broken.tells.tells.no;
+}
+
+pub unattacked_safe : UnattackedIsSafe
+unattacked_safe held files told none =
+    let allowed = none.allowed in
     record {
-      texts = texts;
-      are_held = broken.are_held;
-      tells = no_has_no_yes texts.system.defs texts.system.wiring texts.policy claim mean
-          broken.tells.tells.no;
+      texts = allowed.texts;
+      are_held = allowed.are_held;
+      tells = safe_texts allowed.texts allowed.tells.claim allowed.tells.says
+          allowed.tells.tells.yes;
     }
+
+pub attacked_no : AttackedHasNoYes
+attacked_no held files told attacked = record {
+  texts = attacked.texts;
+  are_held = attacked.are_held;
+  tells = no_texts attacked.texts attacked.tells.claim attacked.tells.says
+      attacked.tells.tells.no;
+}

@@ -39,54 +39,55 @@ use Rattle.mrc_program.specs.Verified.{layout_of, AreNotices, AreNoticesOfYes, I
 use Rattle.mrc_program.specs.Verified.{ToldUnclaimed, claim_file, notices as shown_notices}
 
 -- the notices are those of their three parts, the last of which is by the least set
-pub all_notices : (files : VerifyFiles) (texts : PolicyTexts) (claim : Claimed) (table : Table)
-    (left asked policy text l a p : List ℕ) (defs : List (List ℕ)) (shown : List Interface)
-    (facts : List Fact)
-    → left ≡ left_notices files.system defs
+pub all_notices : (files : SystemFiles) (named : List ℕ) (texts : PolicyTexts) (claim : Claimed)
+    (table : Table) (left asked policy text l a p : List ℕ) (defs : List (List ℕ))
+    (shown : List Interface) (facts : List Fact)
+    → left ≡ left_notices files defs
     → defs ≡ texts.system.defs
-    → asked ≡ notice files.system shown
+    → asked ≡ notice files shown
     → shown ≡ table.interfaces
     → table ≡ claim.table
     → IsLeast (wiring_of claim.table) (has facts)
-    → policy ≡ policy_notices files.policy.now texts.policy claim (has facts)
+    → policy ≡ policy_notices named texts.policy claim (has facts)
     → l ≡ left
     → a ≡ asked
     → p ≡ policy
     → text ≡ l ++ (a ++ p)
-    → AreNotices files texts claim text
-all_notices files texts claim table left asked policy text l a p defs shown facts of_left are_defs
-    of_asked are is_table its_least of_policy is_left is_asked is_policy made set least =
-    let first : l ≡ left_notices files.system texts.system.defs = is_left ∙ of_left
-    ∙ ap (left_notices files.system) are_defs in
-    let second : a ≡ notice files.system claim.table.interfaces = is_asked ∙ of_asked
-    ∙ ap (notice files.system) (are ∙ ap (λ (t : Table). t.interfaces) is_table) in
-    let third : p ≡ policy_notices files.policy.now texts.policy claim set = is_policy
+    → AreNotices files named texts claim text
+all_notices files named texts claim table left asked policy text l a p defs shown facts of_left
+    are_defs of_asked are is_table its_least of_policy is_left is_asked is_policy made set least =
+    let first : l ≡ left_notices files texts.system.defs = is_left ∙ of_left
+    ∙ ap (left_notices files) are_defs in
+    let second : a ≡ notice files claim.table.interfaces = is_asked ∙ of_asked
+    ∙ ap (notice files) (are ∙ ap (λ (t : Table). t.interfaces) is_table) in
+    let third : p ≡ policy_notices named texts.policy claim set = is_policy
     ∙ (of_policy
-    ∙ ap (λ (s : Fact → Bool). policy_notices files.policy.now texts.policy claim s)
+    ∙ ap (λ (s : Fact → Bool). policy_notices named texts.policy claim s)
     (least_one (wiring_of claim.table) (has facts) set its_least least)) in
     made ∙ ap (λ x. x ++ (a ++ p)) first
-    ∙ ap (λ y. left_notices files.system texts.system.defs ++ (y ++ p)) second
-    ∙ ap (λ z. left_notices files.system texts.system.defs
-    ++ (notice files.system claim.table.interfaces ++ z)) third
+    ∙ ap (λ y. left_notices files texts.system.defs ++ (y ++ p)) second
+    ∙ ap (λ z. left_notices files texts.system.defs
+    ++ (notice files claim.table.interfaces ++ z)) third
 
 -- notices, and then those of a yes
-pub noted_yes : (files : VerifyFiles) (texts : PolicyTexts) (claim : Claimed) (table : Table)
-    (notices text : List ℕ)
-    → AreNotices files texts claim notices
+pub noted_yes : (files : SystemFiles) (policy : List ℕ) (texts : PolicyTexts) (claim : Claimed)
+    (table : Table) (notices text : List ℕ)
+    → AreNotices files policy texts claim notices
     → table ≡ claim.table
-    → text ≡ notices ++ trusted_notice files.system table
-    → AreNoticesOfYes files texts claim text
-noted_yes files texts claim table notices text are is made set least =
+    → text ≡ notices ++ trusted_notice files table
+    → AreNoticesOfYes files policy texts claim text
+noted_yes files policy texts claim table notices text are is made set least =
     made
-    ∙ (ap (λ n. n ++ trusted_notice files.system table) (are set least)
-    ∙ ap (λ (t : Table). shown_notices files texts claim set ++ trusted_notice files.system t) is)
+    ∙ (ap (λ n. n ++ trusted_notice files table) (are set least)
+    ∙ ap (λ (t : Table). shown_notices files policy texts claim set ++ trusted_notice files t) is)
 
 -- notices that are not followed by others
-pub noted_no : (files : VerifyFiles) (texts : PolicyTexts) (claim : Claimed) (notices text : List ℕ)
-    → AreNotices files texts claim notices
+pub noted_no : (files : SystemFiles) (policy : List ℕ) (texts : PolicyTexts) (claim : Claimed)
+    (notices text : List ℕ)
+    → AreNotices files policy texts claim notices
     → text ≡ notices
-    → AreNotices files texts claim text
-noted_no files texts claim notices text are same set least = same ∙ are set least
+    → AreNotices files policy texts claim text
+noted_no files policy texts claim notices text are same set least = same ∙ are set least
 
 -- the text of a verdict that is a yes
 yes_text : (layout : Layout) (numbered : Numbered) (exposed : Option ExposedTask)
@@ -100,15 +101,15 @@ yes_text layout numbered (Some x) broken text is tells = absurd (false≢true is
 
 -- a verdict that is a yes is printed so
 pub allowed : (layout : Layout) (numbered : Numbered) (exposed : Option ExposedTask)
-    (broken : List BrokenLine) (files : VerifyFiles) (texts : PolicyTexts) (claim : Claimed)
-    (told : Told) (text : List ℕ)
+    (broken : List BrokenLine) (files : SystemFiles) (policy : List ℕ) (texts : PolicyTexts)
+    (claim : Claimed) (told : Told) (text : List ℕ)
     → is_yes exposed broken ≡ true
     → IsVerdictText layout numbered exposed broken text
     → string_bytes told.out ≡ text
-    → AreNoticesOfYes files texts claim (string_bytes told.err)
+    → AreNoticesOfYes files policy texts claim (string_bytes told.err)
     → HasYes claim
-    → IsAllowed files texts claim told
-allowed layout numbered exposed broken files texts claim told text is tells out err has_yes =
+    → IsAllowed files policy texts claim told
+allowed layout numbered exposed broken files policy texts claim told text is tells out err has_yes =
     record {
       yes = has_yes;
       out = out ∙ yes_text layout numbered exposed broken text is tells;
@@ -127,7 +128,7 @@ pub lines_told : (files : VerifyFiles) (by : Layout) (texts : PolicyTexts) (clai
     → IsVerdictText by numbered exposed broken text
     → by ≡ layout_of files.tree
     → string_bytes told.out ≡ text
-    → AreNotices files texts claim (string_bytes told.err)
+    → AreNotices files.system files.policy.now texts claim (string_bytes told.err)
     → IsExposedOf claim exposed
     → IfSome exposed (IsReached claim.table)
     → AreBroken claim broken

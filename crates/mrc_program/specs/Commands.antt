@@ -4,7 +4,8 @@ use Rattle.std.specs.Prelude.{List, ℕ, Option, string_bytes}
 use Rattle.std.specs.Io.KnownBytes.{Appends}
 use Rattle.mrc_command.specs.declared.told.Told.{Told}
 use Rattle.mrc_command.specs.declared.command.Command.{Command}
-use Rattle.mrc_command.specs.declared.command.Command.TheVariants.{Verify, Mend, Check, Make}
+use Rattle.mrc_command.specs.declared.command.Command.TheVariants.{Verify, Mend, Attack}
+use Rattle.mrc_command.specs.declared.command.Command.TheVariants.{Check, Make}
 use Rattle.mrc_command.specs.declared.command.Command.TheVariants.{Explain, Facts, Graph, Replay}
 use Rattle.mrc_command.specs.declared.command.Command.TheVariants.{Promises, Live, Mig}
 use Rattle.mrc_files.specs.Files.{Held}
@@ -18,6 +19,7 @@ use Rattle.mrc_program.specs.Listed.{GraphOfFiles, UndrawnOfFiles, FaultOfGraph}
 use Rattle.mrc_program.specs.Promised.{PromisesOfFiles, FaultOfPromises}
 use Rattle.mrc_program.specs.Verified.{AllowedOfFiles, BrokenOfFiles, FaultOfVerify}
 use Rattle.mrc_program.specs.Verified.{MendsOfFiles, FaultOfMend}
+use Rattle.mrc_program.specs.Attacked.{UnattackedOfFiles, AttacksOfFiles, FaultOfAttack}
 use Rattle.mrc_program.specs.Cutting.{CutsOfFiles, RefusedOfFiles, FaultOfMig}
 
 -- with status 0: a yes, mends, the making of a certificate, a chain, facts, a drawing, what has to
@@ -25,6 +27,7 @@ use Rattle.mrc_program.specs.Cutting.{CutsOfFiles, RefusedOfFiles, FaultOfMig}
 abbrev pub DoneOf : Held → Held → Command → Told → Type 0
 DoneOf before after (Verify files) told = AllowedOfFiles before files told
 DoneOf before after (Mend files) told = MendsOfFiles before files told
+DoneOf before after (Attack files) told = UnattackedOfFiles before files told
 DoneOf before after (Check words) told = YesOfFiles before words.files told
 DoneOf before after (Make files) told = MadeOfFiles before after files told
 DoneOf before after (Explain files) told = ChainOfFiles before files told
@@ -35,11 +38,12 @@ DoneOf before after (Replay files) told = ReplayOfFiles before files told
 DoneOf before after (Live files) told = LiveOfFiles before files told
 DoneOf before after (Mig files) told = CutsOfFiles before after files told
 
--- with status 1: a no, that no chain leads to a fact, or that no mend was found; never of a `make`,
--- a `promises`, a `replay` or a `mig`
+-- with status 1: a no, attacks, that no chain leads to a fact, or that no mend was found; never of a
+-- `make`, a `promises`, a `replay` or a `mig`
 abbrev pub NoOf : Held → Command → Told → Type 0
 NoOf held (Verify files) told = BrokenOfFiles held files told
 NoOf held (Mend files) told = MendsOfFiles held files told
+NoOf held (Attack files) told = AttacksOfFiles held files told
 NoOf held (Check words) told = NoOfFiles held words told
 NoOf held (Make files) told = ⊥
 NoOf held (Explain files) told = NoneOfFiles held files told
@@ -54,6 +58,7 @@ NoOf held (Mig files) told = ⊥
 abbrev pub FaultOf : Held → Command → Told → Type 0
 FaultOf held (Verify files) told = FaultOfVerify held files told
 FaultOf held (Mend files) told = FaultOfMend held files told
+FaultOf held (Attack files) told = FaultOfAttack held files told
 FaultOf held (Check words) told = FaultOfFiles held words.files told
 FaultOf held (Make files) told = FaultOfMake held files told
 FaultOf held (Explain files) told = FaultOfExplain held files told
@@ -69,6 +74,7 @@ FaultOf held (Mig files) told = FaultOfMig held files told
 abbrev pub CutOf : Held → Held → Command → Told → Type 0
 CutOf before after (Verify files) told = ⊥
 CutOf before after (Mend files) told = ⊥
+CutOf before after (Attack files) told = ⊥
 CutOf before after (Check words) told = ⊥
 CutOf before after (Make files) told = CutOfFiles before after files told
 CutOf before after (Explain files) told = ⊥
@@ -83,6 +89,7 @@ CutOf before after (Mig files) told = RefusedOfFiles before after files told
 abbrev pub HaltedOf : Held → Command → Told → Type 0
 HaltedOf held (Verify files) told = ⊥
 HaltedOf held (Mend files) told = ⊥
+HaltedOf held (Attack files) told = ⊥
 HaltedOf held (Check words) told = ⊥
 HaltedOf held (Make files) told = ⊥
 HaltedOf held (Explain files) told = ⊥
@@ -97,6 +104,7 @@ HaltedOf held (Mig files) told = ⊥
 abbrev pub HasOut : Command → Type 0
 HasOut (Verify files) = ⊥
 HasOut (Mend files) = ⊥
+HasOut (Attack files) = ⊥
 HasOut (Check words) = ⊥
 HasOut (Make files) = Unit {0}
 HasOut (Explain files) = ⊥

@@ -9,6 +9,7 @@ pub mod Explained
 pub mod Listed
 pub mod Promised
 pub mod Verified
+pub mod Attacked
 pub mod VerifiedLaws
 pub mod Cutting
 pub mod Commands

@@ -18,7 +18,7 @@ use Rattle.mrc_why.specs.Broken.{ExposedTask, IsExposedOf, IsReached}
 use Rattle.mrc_why.specs.Texts.{IsVerdictText}
 use Rattle.mrc_mend.specs.declared.answers.Answer.{Answer}
 use Rattle.mrc_mend.specs.declared.answers.Answer.TheVariants.{Nothing, Found}
-use Rattle.mrc_mend.specs.Judging.{IsNeeded, IsMend, AreAnswered}
+use Rattle.mrc_mend.specs.Judging.{IsNeeded, IsMend, AreAnswered, HasCause}
 use Rattle.mrc_mend.specs.Texts.{mends_text}
 use Rattle.mrc_command.specs.Lines.{fault_line}
 use Rattle.mrc_command.specs.declared.told.Told.{Told}
@@ -40,39 +40,44 @@ abbrev pub layout_of : Bool → Layout
 layout_of true = Tree
 layout_of false = Flat
 
--- what goes to standard error of texts and their claim, by a set of facts: of routines that carry
--- rights and are left out of the MIG files, of routines of notifications, and of the policy
-abbrev pub notices : VerifyFiles → PolicyTexts → Claimed → (Fact → Bool) → List ℕ
-notices files texts claim set =
-    left_notices files.system texts.system.defs
-    ++ (notice files.system claim.table.interfaces
-    ++ policy_notices files.policy.now texts.policy claim set)
+-- what goes to standard error of texts and their claim, by the files of a system and of a policy and
+-- by a set of facts: of routines that carry rights and are left out of the MIG files, of routines of
+-- notifications, and of the policy
+abbrev pub notices : SystemFiles → (policy : List ℕ) → PolicyTexts → Claimed → (Fact → Bool)
+    → List ℕ
+notices files policy texts claim set =
+    left_notices files texts.system.defs
+    ++ (notice files claim.table.interfaces
+    ++ policy_notices policy texts.policy claim set)
 
 -- the text is that by the least set
-abbrev pub AreNotices : VerifyFiles → PolicyTexts → Claimed → List ℕ → Type 0
-AreNotices files texts claim text = (set : Fact → Bool) → IsLeast (wiring_of claim.table) set
-    → text ≡ notices files texts claim set
+abbrev pub AreNotices : SystemFiles → (policy : List ℕ) → PolicyTexts → Claimed → List ℕ → Type 0
+AreNotices files policy texts claim text =
+    (set : Fact → Bool) → IsLeast (wiring_of claim.table) set
+    → text ≡ notices files policy texts claim set
 
 -- the same, and then which tasks are trusted
-abbrev pub AreNoticesOfYes : VerifyFiles → PolicyTexts → Claimed → List ℕ → Type 0
-AreNoticesOfYes files texts claim text =
+abbrev pub AreNoticesOfYes : SystemFiles → (policy : List ℕ) → PolicyTexts → Claimed → List ℕ
+    → Type 0
+AreNoticesOfYes files policy texts claim text =
     (set : Fact → Bool) → IsLeast (wiring_of claim.table) set
-    → text ≡ notices files texts claim set ++ trusted_notice files.system claim.table
+    → text ≡ notices files policy texts claim set ++ trusted_notice files claim.table
 
 -- `YES` is printed for texts that make this claim: its least set is a yes; and their notices, and
 -- which tasks are trusted
-pub record IsAllowed (files : VerifyFiles) (texts : PolicyTexts) (claim : Claimed) (told : Told)
-    : Type 0 where
+pub record IsAllowed (files : SystemFiles) (policy : List ℕ) (texts : PolicyTexts)
+    (claim : Claimed) (told : Told) : Type 0 where
   pub yes : HasYes claim
   pub out : string_bytes told.out ≡ codes "YES\n"
-  pub err : AreNoticesOfYes files texts claim (string_bytes told.err)
+  pub err : AreNoticesOfYes files policy texts claim (string_bytes told.err)
 
 -- `YES` is printed for texts, and it is right: the least set of their wiring is a yes to their
 -- policy
-pub record ToldAllowed (files : VerifyFiles) (texts : PolicyTexts) (told : Told) : Type 0 where
+pub record ToldAllowed (files : SystemFiles) (policy : List ℕ) (texts : PolicyTexts)
+    (told : Told) : Type 0 where
   pub claim : Claimed
   pub says : claimed texts ≡ Ok claim
-  pub tells : IsAllowed files texts claim told
+  pub tells : IsAllowed files policy texts claim told
 
 -- What is printed of texts that make this claim: the first trusted task that another could rewrite,
 -- with a chain that derives the hold by which it could; the lines that are broken, with chains that
@@ -91,7 +96,7 @@ pub record ToldLines (files : VerifyFiles) (texts : PolicyTexts) (claim : Claime
   pub no : HasNoYes claim
   pub out : IsVerdictText (layout_of files.tree) (numbered_by claim.table lines) exposed broken
       (string_bytes told.out)
-  pub err : AreNotices files texts claim (string_bytes told.err)
+  pub err : AreNotices files.system files.policy.now texts claim (string_bytes told.err)
 
 -- a no is printed of texts, with what is exposed and broken
 pub record ToldBroken (files : VerifyFiles) (texts : PolicyTexts) (told : Told) : Type 0 where
@@ -119,10 +124,14 @@ abbrev pub OfPolicy : (PolicyTexts → Told → Type 0) → Held → SystemFiles
 OfPolicy Tells held files policy told =
     OfFiles policy_list Tells held (policy_names files policy) told
 
--- `YES` is printed for what the files hold
+-- `YES` is printed for what the files of a system and of a policy hold
+abbrev pub AllowedOfPolicy : Held → SystemFiles → (policy : List ℕ) → Told → Type 0
+AllowedOfPolicy held files policy told =
+    OfPolicy (ToldAllowed files policy) held files policy told
+
+-- the same of a `verify`
 abbrev pub AllowedOfFiles : Held → VerifyFiles → Told → Type 0
-AllowedOfFiles held files told =
-    OfPolicy (ToldAllowed files) held files.system files.policy.now told
+AllowedOfFiles held files told = AllowedOfPolicy held files.system files.policy.now told
 
 -- a no is printed of what the files hold, with what is exposed and broken
 abbrev pub BrokenOfFiles : Held → VerifyFiles → Told → Type 0
@@ -161,13 +170,15 @@ abbrev pub mend_status : Answer → ℕ
 mend_status Nothing = 0
 mend_status (Found mends) = status_by mends.mends.items
 
--- Mends are told of texts, and they are right: with each of them, as it is printed, the least set
--- of the wiring is a yes to the policy; and `YES` is told exactly where there is nothing to mend.
+-- Mends are printed for texts, and they are right: with each of them, as it is printed, the least
+-- set of the wiring is a yes to the policy; `YES` is printed if and only if there is nothing to mend;
+-- and what the broken lines are said to have in common is in the chain of each.
 pub record ToldMends (texts : PolicyTexts) (told : Told) : Type 0 where
   pub claim : Claimed
   pub says : claimed texts ≡ Ok claim
   pub answer : Answer
   pub needed : IsNeeded claim answer
+  pub cause : HasCause claim answer
   pub right : AreAnswered (IsMend texts.system.defs texts.system.wiring texts.policy) answer
   pub status : told.status ≡ mend_status answer
   pub out : string_bytes told.out ≡ mends_text texts.system.wiring answer
@@ -177,13 +188,17 @@ pub record ToldMends (texts : PolicyTexts) (told : Told) : Type 0 where
 abbrev pub MendsOfFiles : Held → MendFiles → Told → Type 0
 MendsOfFiles held files told = OfPolicy ToldMends held files.system files.policy.now told
 
--- it is told that there can't be so many mends
-pub record ToldMost (files : MendFiles) (told : Told) : Type 0 where
-  pub count : (files.most ≡ 0) ⊎ (1000000 < files.most)
+-- no such number can be asked for: one at least can, and 1,000,000 at most
+abbrev pub IsBadMost : ℕ → Type 0
+IsBadMost most = (most ≡ 0) ⊎ (1000000 < most)
+
+-- it is printed that no such number can be asked for
+pub record ToldMost (most : ℕ) (told : Told) : Type 0 where
+  pub count : IsBadMost most
   pub out : string_bytes told.out ≡ []
   pub err : string_bytes told.err ≡ fault_line (codes "--most") (codes "BadMost")
 
 -- why status 2 is told of a `mend`
 abbrev pub FaultOfMend : Held → MendFiles → Told → Type 0
 FaultOfMend held files told =
-    FaultOfClaim held files.system files.policy.now told ⊎ ToldMost files told
+    FaultOfClaim held files.system files.policy.now told ⊎ ToldMost files.most told

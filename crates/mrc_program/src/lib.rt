@@ -2,6 +2,7 @@
 //! pass a forbidden port right to a task.
 #![tactic(auto)]
 
+mod attack;
 mod cuts;
 mod explain;
 mod facts;

@@ -1,13 +1,13 @@
 //! What the program tells of mends: changes of a wiring after which a policy holds.
 
-ghost use Rattle.std.specs.Prelude.{◌≡◌, ◌<◌, ◌≤◌, ◌⊎◌, Err, IfOk, IfErr, string_bytes};
+ghost use Rattle.std.specs.Prelude.{◌≡◌, ◌≤◌, ◌⊎◌, Err, IfOk, IfErr, string_bytes};
 ghost use Rattle.mrc_base.specs.Reading.{UnlessMemory};
 ghost use Rattle.mrc_mend.specs.Judging.{no_claim_of, IsMend, AreAnswered, IsNeededOf};
 ghost use Rattle.mrc_mend.specs.Texts.{mends_text};
 ghost use Rattle.mrc_program.specs.Texts.{claimed};
 ghost use Rattle.mrc_program.specs.Told.{ToldMemory};
 ghost use Rattle.mrc_program.specs.Verified.{mend_status, notes_of, ToldMends, ToldUnclaimed};
-ghost use Rattle.mrc_program.specs.Verified.{ToldMost, MendsOfFiles, FaultOfMend};
+ghost use Rattle.mrc_program.specs.Verified.{IsBadMost, ToldMost, MendsOfFiles, FaultOfMend};
 
 use crate::policy::{PolicyBytes, claim_fault_told, policy_bytes};
 use crate::told::unread_told;
@@ -121,8 +121,7 @@ pub fn mend_files<F: Folder, P: Progress>(
     ensures fault { IfOk result (λ told. told.status ≡ 2
         → FaultOfMend (F.held folder.now) files.now told) }
     // No more than 1,000,000 can be asked for, and one at least.
-    ensures most { (files.now.most ≡ 0) ⊎ (1000000 < files.now.most)
-        → IfOk result (ToldMost files.now) }
+    ensures most { IsBadMost files.now.most → IfOk result (ToldMost files.now.most) }
 {
     if files.most == 0 || files.most > MOST {
         return fault_of(alloc, "--most", "BadMost");

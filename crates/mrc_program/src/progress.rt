@@ -1,27 +1,43 @@
-//! How far a search for mends has come, for a person who looks on.
+//! How far a search for mends or for calls has come, for a person who looks on.
 
 use mrc_files::write_text;
-use mrc_mend::Progress;
 use std::io::Write;
 
-/// How many wirings are judged before the first line.
+/// How many wirings are judged, or states looked at, before the first line.
 const FIRST: usize = 16;
 
-/// Tells on standard error how many wirings were judged, where that is a terminal: after the first
-/// 16, and then each time their number has doubled.
+/// Prints on standard error how many wirings were judged, or how many states were looked at for all
+/// lines of a policy, if that is a terminal: after the first 16, and then each time their number has
+/// doubled.
 #[derive(Drop)]
 pub(crate) struct Counter<'a, E: Write> {
     pub(crate) err: &'a mut E,
     pub(crate) watched: bool,
+    /// How many states were looked at.
+    pub(crate) looked: usize,
 }
 
-impl<'a, E: Write> Progress for Counter<'a, E> {
-    fn tried(&mut self, tries: usize) {
-        if self.watched && tries >= FIRST && tries.is_power_of_two() {
+impl<'a, E: Write> Counter<'a, E> {
+    /// A line of these words and the number, if a line is due.
+    fn count(&mut self, words: &[u8], number: usize) {
+        if self.watched && number >= FIRST && number.is_power_of_two() {
             let mut digits = itoa::Buffer::new();
-            let _ = write_text(self.err, b"machcheck: mend: wirings tried: ");
-            let _ = write_text(self.err, digits.format(tries).as_bytes());
+            let _ = write_text(self.err, words);
+            let _ = write_text(self.err, digits.format(number).as_bytes());
             let _ = write_text(self.err, b"\n");
         }
+    }
+}
+
+impl<'a, E: Write> mrc_mend::Progress for Counter<'a, E> {
+    fn tried(&mut self, tries: usize) {
+        self.count(b"machcheck: mend: wirings tried: ", tries);
+    }
+}
+
+impl<'a, E: Write> mrc_attack::Progress for Counter<'a, E> {
+    fn looked(&mut self, _states: usize) {
+        self.looked = self.looked.saturating_add(1);
+        self.count(b"machcheck: attack: states looked at: ", self.looked);
     }
 }

@@ -16,6 +16,7 @@ ghost use Rattle.mrc_program.specs.Commands.{SomeCommand};
 ghost use Rattle.mrc_program.specs.Commands.{WentOut};
 ghost use Rattle.mrc_command.specs.CommandLine.{AsksHelp};
 
+use crate::attack::attack_files;
 use crate::explain::explain_files;
 use crate::facts::facts_files;
 use crate::graph::graph_files;
@@ -37,7 +38,6 @@ use mrc_command::{
     CheckFiles, CheckWords, Command, NoCommand, Told, WordsFault, memory, read, words_line,
 };
 use mrc_files::{Folder, ReadFault, Unread, bytes_of, write_text};
-use mrc_mend::Progress;
 use std::alloc::{AllocError, Global};
 use std::io::Write;
 use std::marker::Model;
@@ -180,7 +180,7 @@ fn check_files<F: Folder, R: Threads + Sync>(
 }
 
 /// What is told of a command. It is right of what the files held, so far as that is known.
-fn answer<F: Folder, R: Threads + Wait + Sync, P: Progress>(
+fn answer<F: Folder, R: Threads + Wait + Sync, P: mrc_mend::Progress + mrc_attack::Progress>(
     rt: &R,
     folder: &mut F,
     alloc: Global,
@@ -208,6 +208,7 @@ fn answer<F: Folder, R: Threads + Wait + Sync, P: Progress>(
     match command {
         Command::Verify(files) => verify_files(folder, alloc, files),
         Command::Mend(files) => mend_files(folder, alloc, files, progress),
+        Command::Attack(files) => attack_files(folder, alloc, files, progress),
         Command::Check(words) => check_files(rt, folder, alloc, words),
         Command::Make(files) => make_files(rt, folder, alloc, files),
         Command::Explain(files) => explain_files(folder, alloc, files),
@@ -221,7 +222,7 @@ fn answer<F: Folder, R: Threads + Wait + Sync, P: Progress>(
 }
 
 /// What is told of the words of a command line.
-fn told<F: Folder, R: Threads + Wait + Sync, P: Progress>(
+fn told<F: Folder, R: Threads + Wait + Sync, P: mrc_mend::Progress + mrc_attack::Progress>(
     rt: &R,
     folder: &mut F,
     alloc: Global,
@@ -271,11 +272,11 @@ fn write_told<O: Write, E: Write>(alloc: Global, told: &Told, out: &mut O, err: 
 }
 
 /// Runs the program on the words of a command line, its own name first, and on the files of a
-/// folder. Where a person looks on, it tells on `err` how far a long search has come. The status is
-/// 0 for `YES`, for mends, for a certificate that is made, for a chain, for facts, for a drawing,
-/// for promises, for a replay, for a journal, for MIG files that are cut and for help and the
-/// version, 1 for `NO` and for `none`, and 2 for a fault, if too little is read of MIG files, and
-/// if all tasks of a `live` that have lines left wait for messages.
+/// folder. If a person looks on, it prints on `err` how far a long search has come. The status is 0
+/// for `YES`, for mends, for a certificate that is made, for a chain, for facts, for a drawing, for
+/// promises, for a replay, for a journal, for MIG files that are cut and for help and the version,
+/// 1 for `NO`, for attacks and for `none`, and 2 for a fault, if too little is read of MIG files,
+/// and if all tasks of a `live` that have lines left wait for messages.
 pub fn run<F: Folder, R: Threads + Wait + Sync, O: Write, E: Write>(
     rt: &R,
     folder: &mut F,
@@ -293,12 +294,22 @@ pub fn run<F: Folder, R: Threads + Wait + Sync, O: Write, E: Write>(
         → WentOut (DoneOf (F.held folder.old) (F.held folder.new))
         (O.contents out.old) (O.contents out.new)
         ⊎ AsksHelp (map string_bytes words.now) }
-    // With status 1 a no went out, that no chain leads to a fact, or that no mend was found, that
-    // is right of what the files hold.
+    // With status 1 a no went out, attacks, that no chain leads to a fact, or that no mend was
+    // found, that is right of what the files hold.
     ensures no { result ≡ 1
         → WentOut (NoOf (F.held folder.old)) (O.contents out.old) (O.contents out.new) }
 {
-    let told = told(rt, folder, alloc, words, &mut Counter { err, watched });
+    let told = told(
+        rt,
+        folder,
+        alloc,
+        words,
+        &mut Counter {
+            err,
+            watched,
+            looked: 0,
+        },
+    );
     match told {
         Ok(told) => write_told(alloc, &told, out, err),
         Err(AllocError) => {
@@ -328,8 +339,8 @@ pub fn start<F: Folder, R: Threads + Wait + Sync, O: Write, E: Write>(
         → WentOut (DoneOf (F.held folder.old) (F.held folder.new))
         (O.contents out.old) (O.contents out.new)
         ⊎ IsOkAnd words (λ given. AsksHelp (map string_bytes given.items)) }
-    // With status 1 a no went out, that no chain leads to a fact, or that no mend was found, that
-    // is right of what the files hold.
+    // With status 1 a no went out, attacks, that no chain leads to a fact, or that no mend was
+    // found, that is right of what the files hold.
     ensures no { result ≡ 1
         → WentOut (NoOf (F.held folder.old)) (O.contents out.old) (O.contents out.new) }
 {

@@ -129,7 +129,7 @@ pub fn with_trusted(
 }
 
 /// What is told of a yes over a wiring, with these notices.
-fn yes(
+pub fn yes(
     alloc: Global,
     files: &SystemFiles<'_>,
     notices: String,

@@ -77,25 +77,27 @@ fn joined(alloc: Global, left: &str, asked: &str, policy: &str) -> Result<String
 }
 
 /// What goes to standard error of texts and their claim, by the least set of its wiring.
-fn notices(
+pub fn notices(
     alloc: Global,
-    files: &VerifyFiles<'_>,
+    files: &SystemFiles<'_>,
+    policy: &str,
     bytes: &PolicyBytes,
     claim: &Claim,
     facts: &Facts,
 ) -> Result<String, AllocError>
     requires { IsLeast (tables.wiring_of claim.now.table) (has facts.now) }
-    ensures { IfOk result (λ text. AreNotices files.now bytes.now claim.now (string_bytes text)) }
+    ensures { IfOk result (λ text.
+        AreNotices files.now policy.now bytes.now claim.now (string_bytes text)) }
 {
-    let left = left_notices(alloc, &files.system, defs_texts(bytes))?;
-    let asked = notice(alloc, &files.system, claim.wired().interfaces())?;
-    let of_policy = policy_notices(alloc, files.policy, policy_text(bytes), claim, facts)?;
+    let left = left_notices(alloc, files, defs_texts(bytes))?;
+    let asked = notice(alloc, files, claim.wired().interfaces())?;
+    let of_policy = policy_notices(alloc, policy, policy_text(bytes), claim, facts)?;
     let text = joined(alloc, left.as_str(), asked.as_str(), of_policy.as_str())?;
     Ok(text)
 }
 
 /// Notices, and then, with the status of a yes, which tasks the wiring trusts.
-fn noted(
+pub fn noted(
     alloc: Global,
     files: &SystemFiles<'_>,
     notices: String,
@@ -123,7 +125,7 @@ fn claim_told(
     requires { IsOk (wiring_of bytes.now.system.wiring) }
     ensures status { IfOk result (λ told. (told.status ≡ 0) ⊎ (told.status ≡ 1)) }
     ensures yes { IfOk result (λ told. told.status ≡ 0
-        → IsAllowed files.now bytes.now claim.now told) }
+        → IsAllowed files.now.system files.now.policy.now bytes.now claim.now told) }
     ensures no { IfOk result (λ told. told.status ≡ 1
         → ToldLines files.now bytes.now claim.now told) }
 {
@@ -131,7 +133,14 @@ fn claim_told(
     let sources = Sources::new(alloc, claim.wired(), lines.as_slice())?;
     let verdict = verify(alloc, claim)?;
     let text = verify_text(alloc, &sources, &verdict, layout_of(files.tree))?;
-    let notices = notices(alloc, files, bytes, claim, &verdict.facts)?;
+    let notices = notices(
+        alloc,
+        &files.system,
+        files.policy,
+        bytes,
+        claim,
+        &verdict.facts,
+    )?;
     let status = status_of(&verdict);
     let err = noted(alloc, &files.system, notices, claim.wired(), status)?;
     Ok(Told {
@@ -149,7 +158,7 @@ fn verify_told(
 ) -> Result<Told, AllocError>
     ensures status { IfOk result (λ told. told.status ≤ 2) }
     ensures yes { IfOk result (λ told. told.status ≡ 0
-        → ToldAllowed files.now bytes.now told) }
+        → ToldAllowed files.now.system files.now.policy.now bytes.now told) }
     // If the least set is a yes, that is printed, unless memory runs out.
     ensures only { (claim : Claimed) → claimed bytes.now ≡ Ok claim → HasYes claim
         → IfOk result (λ told. (told.status ≡ 0) ⊎ ToldMemory told) }

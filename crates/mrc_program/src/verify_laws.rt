@@ -1,6 +1,7 @@
-//! What `verify` prints means for the machine, proved of the definitions alone.
+//! What `verify` and `attack` print means for the machine, proved of the definitions alone.
 
 ghost use Rattle.mrc_program.specs.VerifiedLaws.{AllowedIsSafe, BrokenHasNoYes};
+ghost use Rattle.mrc_program.specs.VerifiedLaws.{UnattackedIsSafe, AttackedHasNoYes};
 
 /// Where `verify` prints `YES` of files, the texts that they hold mean a claim, and no list of
 /// calls from the first state of their wiring ends in a breach of their policy. Where it prints the
@@ -8,4 +9,10 @@ ghost use Rattle.mrc_program.specs.VerifiedLaws.{AllowedIsSafe, BrokenHasNoYes};
 pub fn verified_files_are_so()
     ensures safe { AllowedIsSafe }
     ensures no { BrokenHasNoYes }
+{}
+
+/// The same of what `attack` prints: `YES`, or what is exposed and broken.
+pub fn attacked_files_are_so()
+    ensures safe { UnattackedIsSafe }
+    ensures no { AttackedHasNoYes }
 {}

@@ -15,4 +15,5 @@ returns-clause-needed g c =
           (sym (c.in_ok-copy_all.ensures ∙ c.as_slice.ensures.value))
           ∙ c.in_ok-first.ensures);
       needed = c.in_ok-answered.ensures.needed;
+      cause = c.in_ok-answered.ensures.cause;
     }

@@ -75,6 +75,11 @@ returns-in-Mend-clause-fault g c =
     of_command (g.F.Folder.held c.args.folder.now) c.mend_files.result c.args.command.now _
     c.in-Mend.is c.mend_files.ensures.fault
 
+pub returns-in-Attack-clause-fault : goal.returns-in-Attack-clause-fault
+returns-in-Attack-clause-fault g c =
+    of_command (g.F.Folder.held c.args.folder.now) c.attack_files.result c.args.command.now _
+    c.in-Attack.is c.attack_files.ensures.fault
+
 pub returns-in-Facts-clause-fault : goal.returns-in-Facts-clause-fault
 returns-in-Facts-clause-fault g c =
     of_command (g.F.Folder.held c.args.folder.now) c.facts_files.result c.args.command.now _
@@ -99,6 +104,11 @@ pub returns-in-Mend-clause-silent : goal.returns-in-Mend-clause-silent
 returns-in-Mend-clause-silent g c =
     silent_of (g.F.Folder.held c.args.folder.now) c.mend_files.result c.args.command.now _
     c.in-Mend.is c.mend_files.ensures.fault
+
+pub returns-in-Attack-clause-silent : goal.returns-in-Attack-clause-silent
+returns-in-Attack-clause-silent g c =
+    silent_of (g.F.Folder.held c.args.folder.now) c.attack_files.result c.args.command.now _
+    c.in-Attack.is c.attack_files.ensures.fault
 
 pub returns-in-Facts-clause-silent : goal.returns-in-Facts-clause-silent
 returns-in-Facts-clause-silent g c =

@@ -2,7 +2,7 @@
 use Rattle.std.proofs.Common.{◌≡◌, ◌+◌, ◌++◌, drop}
 use Rattle.std.specs.Prelude.{string_bytes}
 use Rattle.mrc_mend.specs.Texts.{mends_from}
-use Rattle.mrc_mend.proofs.printing.found_text.Given as goal
+use Rattle.mrc_mend.proofs.printing.mends_from.Given as goal
 
 abbrev pub invariant-loop-place : goal.invariant-loop-place
 invariant-loop-place l =
