@@ -19,8 +19,9 @@ MOVES = {"receive": 16, "send": 17, "once": 18}
 VERBS = ["takes", "gives", "sends", "replies"]
 MASKS = {"send": 0x10000, "receive": 0x20000, "once": 0x40000, "set": 0x80000, "dead": 0x100000}
 
-# The forms of the interfaces in tests/replays: for each id its kind and its arguments, which are a port's disposition
-# and type, or a type's number, size and count, where a pair says at most so many.
+# The forms of the interfaces in tests/replays: for each id its kind and its arguments. An argument of ports is a
+# disposition, a type and a count, which is 1 if it is not there; one of data is a type's number, its size and a count.
+# A count that is a pair means at most so many.
 INTERFACES = {
     "ping": {500: ("simple", [])},
     "xfer": {2000: ("simple", [(16, "xfer.box_t")])},
@@ -251,6 +252,29 @@ class Machine:
     def may_on(self, verb, caller, target, right, port):
         """The same of what is done to a task: always to one of the caller's own class."""
         return caller.like == target.like or self.may(verb, caller, right, port)
+
+    # Who counts as whom
+
+    def counted(self, task):
+        """The tasks that a task counts as: those to whose kernel ports it holds send rights, and so on from each that
+        no line limits in what it takes."""
+        living = {other.kernel: other for other in self.tasks if other.is_alive}
+        found, left = [task], [task]
+        while left:
+            one = left.pop()
+            if one.like not in self.limits["takes"]:
+                ports = [entry.port for entry in one.space.values() if entry.has("send")]
+                new = [living[port] for port in dict.fromkeys(ports) if port in living]
+                new = [other for other in new if all(other is not known for known in found)]
+                found, left = found + new, left + new
+        return found
+
+    def breaks(self, like, right, cls):
+        """Whether a task of the class of this wired task, or a task that it counts as, holds the right on a port of the
+        class."""
+        holders = [one for task in self.tasks if task.like == like for one in self.counted(task)]
+        held = [pair for one in holders for entry in one.space.values() for pair in entry.rights()]
+        return any(which == right and port in self.ports and self.ports[port].cls == cls for which, port in held)
 
     # Spaces
 
@@ -584,7 +608,7 @@ class Machine:
         for place in range(max(len(args), len(given))):
             if place >= min(len(args), len(given)) or not fits(args[place], given[place]):
                 deny(f"WrongShape {place}")
-            if len(args[place]) == 2 and args[place][0] != given[place].name:
+            if given[place].is_port and args[place][0] != given[place].name:
                 deny(f"WrongDisposition {place}")
         if local != 0 and not (kind == "request" and local in (18, 21)):
             deny("ReplySlot")
@@ -707,12 +731,14 @@ def turn_port(port, dying):
 
 
 def fits(form, arg):
-    """Whether an argument has the form's type and count."""
-    if len(form) == 2 or arg.is_port:
-        return len(form) == 2 and arg.is_port and arg.number == 1
-    name, size, count = form
+    """Whether an argument has the form's type and count; of ports, whatever their disposition."""
+    name, size, count = form if len(form) == 3 else (*form, 1)
+    if name in NEEDS or arg.is_port:
+        is_alike = name in NEEDS and arg.is_port
+    else:
+        is_alike = (arg.name, arg.size) == (name, size)
     bounded = isinstance(count, tuple) and arg.number <= count[1]
-    return arg.name == name and arg.size == size and (bounded or arg.number == count)
+    return is_alike and (bounded or arg.number == count)
 
 
 def replay(wiring, script, interfaces=INTERFACES):

@@ -630,13 +630,36 @@ class Shortest:
 # Mends
 
 
-def mended(wiring, removed=(), added=()):
-    """The text of a wiring in which the lines of these numbers are empty, with these lines behind it."""
-    lines = wiring.split("\n")
+def mended(wiring, removed=(), added=(), changed=()):
+    """The text of a wiring in which the lines of these numbers are empty, others have new texts, and with these lines
+    behind it."""
+    lines, texts = wiring.split("\n"), dict(changed)
     if lines[-1] == "":
         lines.pop()
-    kept = ["" if number in removed else line for number, line in enumerate(lines, 1)]
+    kept = ["" if number in removed else texts.get(number, line) for number, line in enumerate(lines, 1)]
     return "\n".join([*kept, *added]) + "\n"
+
+
+def accepting(words):
+    """A line that names what a class accepts: its words before the items, and the items, each once."""
+    if words[0] == "port":
+        return " ".join(words[:5]), list(dict.fromkeys(items_of(words[5:])))
+    kind = [] if words[2] == "accepts" else [str(int(words[2]))]
+    return " ".join([*words[:2], *kind, "accepts"]), list(dict.fromkeys(items_of(words[3 + len(kind) :])))
+
+
+def items_text(items):
+    """Items as a wiring has them."""
+    return ", ".join(" ".join(filter(None, item)) for item in items) or "none"
+
+
+def narrowed(system):
+    """Each line that names what a class accepts without one of the items: its number and its text."""
+    for line, words in system.lines:
+        if words[0] in ("port", "births"):
+            start, items = accepting(words)
+            for dropped in items:
+                yield line, f"{start} {items_text(item for item in items if item != dropped)}"
 
 
 def carried_by_types(system, facts):
@@ -659,14 +682,16 @@ def restricted(system, of, classes):
 
 
 def changes(system, facts):
-    """Each change of one thing: the lines that are left out, and those that are added."""
+    """Each change of one thing: the lines that are left out, those that are added, and those that accept less."""
     for line in system.holds:
-        yield (line,), ()
+        yield (line,), (), ()
     for lines in system.admitted.values():
-        yield from (((line,), ()) for line in lines)
+        yield from (((line,), (), ()) for line in lines)
+    for changed in narrowed(system):
+        yield (), (), (changed,)
     for of, classes in carried_by_types(system, facts).items():
         if of not in system.admitted:
-            yield from (((), tuple(restricted(system, of, classes - {c}))) for c in sorted(classes))
+            yield from (((), tuple(restricted(system, of, classes - {c})), ()) for c in sorted(classes))
 
 
 class Judge:
@@ -679,12 +704,12 @@ class Judge:
         self.broken = broken(self.system, policy, self.facts)
         self.exposed = exposed(self.system, self.facts)
 
-    def lost(self, removed, added):
+    def lost(self, removed, added, changed=()):
         """How many facts are lost by these changes, or None where the answer is still NO. Changes leave the classes
         as they are, so facts keep their numbers."""
-        changed = System(self.defs, mended(self.wiring, removed, added))
-        facts = changed.least()
-        if exposed(changed, facts) or broken(changed, self.policy, facts):
+        other = System(self.defs, mended(self.wiring, removed, added, changed))
+        facts = other.least()
+        if exposed(other, facts) or broken(other, self.policy, facts):
             return None
         return len(self.facts - facts)
 
@@ -693,10 +718,10 @@ class Judge:
         where no list of all classes but one is enough."""
         found = {change: self.lost(*change) for change in dict.fromkeys(changes(self.system, self.facts))}
         found = {change: lost for change, lost in found.items() if lost is not None}
-        enough = {added[0].split()[1] for _, added in found if added}
+        enough = {added[0].split()[1] for _, added, _ in found if added}
         for of in carried_by_types(self.system, self.facts):
             if of not in self.system.admitted and ".".join(of) not in enough:
-                change = (), tuple(restricted(self.system, of, ()))
+                change = (), tuple(restricted(self.system, of, ())), ()
                 lost = self.lost(*change)
                 if lost is not None:
                     found[change] = lost
