@@ -2,3 +2,4 @@ pub mod Disposition
 pub mod NameRight
 pub mod Limits
 pub mod Reading
+pub mod Faults

@@ -1,6 +1,7 @@
 //! Want of memory, beside a call's own refusals.
 
 ghost use Rattle.std.specs.Prelude.{◌≡◌};
+ghost use Rattle.mrc_base.specs.Faults.{IfFault, MapsFault};
 
 use std::alloc::{AllocError, AllocFailed};
 use std::error::Error;
@@ -14,6 +15,19 @@ pub enum OrMemory<F> {
     Fault(F),
     /// Memory ran out.
     Memory,
+}
+
+impl<F> OrMemory<F> {
+    /// The same with another fault: the one that `map` makes of its own.
+    pub fn map_fault<G, M: FnOnce(F) -> G>(self, map: M) -> OrMemory<G>
+        requires { IfFault self (M.pre map) }
+        ensures { MapsFault (M.post map) self result }
+    {
+        match self {
+            OrMemory::Fault(fault) => OrMemory::Fault(map(fault)),
+            OrMemory::Memory => OrMemory::Memory,
+        }
+    }
 }
 
 impl<F: fmt::Display> fmt::Display for OrMemory<F> {

@@ -1,6 +1,6 @@
 //! What a certificate claims.
 
-ghost use Rattle.std.specs.Prelude.{◌≡◌, ◌^◌, ◌<◌, ◌≤◌, ◌↔◌, length, IsSome, IfSome, IfOk, IsTrue};
+ghost use Rattle.std.specs.Prelude.{◌≡◌, ◌^◌, ◌<◌, ◌≤◌, ◌↔◌, length, IsOk, IfOk, IfErr, IsTrue};
 ghost use Rattle.std.specs.List.{list_all};
 ghost use Rattle.mrc_facts.specs.Sets.{IsAscending};
 ghost use Rattle.mrc_certificate.specs.Drafts.{is_within, AreWithin};
@@ -57,25 +57,27 @@ fn are_within(tasks: u16, classes: u16, facts: &Facts) -> bool
 impl Draft {
     ghost use Rattle.mrc_certificate.specs.Spelling.{content};
 
-    /// The draft of these counts and facts. There is none if there are fewer classes of births
-    /// than tasks, if a fact is not of those tasks and classes, or if there are 2^32 facts or
-    /// more.
-    pub fn new(tasks: u16, classes: u16, births: u16, facts: Facts) -> Option<Draft>
+    /// The draft of these counts and facts. The facts come back if there are fewer classes of
+    /// births than tasks, if a fact is not of those tasks and classes, or if there are 2^32 facts
+    /// or more.
+    pub fn new(tasks: u16, classes: u16, births: u16, facts: Facts) -> Result<Draft, Facts>
         // The draft is made if and only if there are enough births, and the facts are within the
         // counts, and few enough.
-        ensures some { IsSome result
+        ensures made { IsOk result
             ↔ ((tasks ≤ births) × AreWithin tasks classes facts × (length facts < 2 ^ 32)) }
         // What it says.
-        ensures exact { IfSome result (λ d. content d
+        ensures exact { IfOk result (λ d. content d
             ≡ record { tasks = tasks; classes = classes; births = births; facts = facts }) }
+        // Facts of which no draft is made come back.
+        ensures back { IfErr result (λ given. given ≡ facts) }
     {
         if births < tasks || !are_within(tasks, classes, &facts) {
-            return None;
+            return Err(facts);
         }
         if facts.len() > u32::MAX as usize {
-            return None;
+            return Err(facts);
         }
-        Some(Draft {
+        Ok(Draft {
             tasks,
             classes,
             births,

@@ -9,7 +9,7 @@ use Rattle.mrc_model.specs.Breach.{Holding}
 use Rattle.mrc_model.specs.Wiring.{Wiring}
 use Rattle.mrc_model.specs.FirstHoldings.{facts_by, fact_at, first_facts, given_classes}
 use Rattle.mrc_model.specs.FirstHoldings.{given_holdings, HasGiven}
-use Rattle.mrc_wiring.specs.FirstState.{IsFirstHold, HasFirstHolds}
+use Rattle.mrc_wiring.specs.FirstState.{IsFirstHold, HasFirstHolds, AreHolds}
 use Rattle.mrc_wiring.proofs.Lines.{held}
 
 in_left : {X : Type 0} (x : X) (xs ys : List X) → IsIn x xs → IsIn x (xs ++ ys)
@@ -78,6 +78,19 @@ to_facts cs (h ∷ hs) t p c r here e =
 to_facts cs (h ∷ hs) t p c r (later at) e =
     in_right (Hold t c r) (fact_at h (slice_get cs h.port)) (facts_by cs hs)
     (to_facts cs hs t p c r at e)
+
+of_hold : (h : Holding) (o : Option ℕ) → AreHolds (fact_at h o)
+of_hold h None fact at = elim at [ ]
+of_hold h (Some c) fact here = refl
+of_hold h (Some c) fact (later at) = elim at [ ]
+
+pub facts_are_holds : (cs : List ℕ) (hs : List Holding) → AreHolds (facts_by cs hs)
+facts_are_holds cs [] fact at = elim at [ ]
+facts_are_holds cs (h ∷ hs) fact at =
+    elim (in_either fact (fact_at h (slice_get cs h.port)) (facts_by cs hs) at) [
+      | inl one ↦ of_hold h (slice_get cs h.port) fact one
+      | inr rest ↦ facts_are_holds cs hs fact rest
+    ]
 
 pub facts_are_held : (W : Wiring) → HasGiven W → HasFirstHolds W (first_facts W)
 facts_are_held W given t c r = (to, from)

@@ -68,7 +68,6 @@ task_kept s name new is named fresh room more =
     (next_birth table) (omega arith) (omega arith) in
     record {
       is_table = task_table table name is.is_table room;
-      sorts = is.sorts;
       kernels = ap (λ ks. ks ++ next_birth table ∷ []) is.kernels
           ∙ sym (kernels_more lines 0 (next_birth table) TaskLine (omega arith));
       wired = is.wired ∙ sym (append-nil _) ∙ sym (wired_more lines 0 (next_birth table) TaskLine
@@ -100,7 +99,6 @@ port_kept s name t label new is named fresh room there own more =
     ≡ held_more (line_holdings 0 0 lines) t p Receive = holdings_port lines 0 0 t p (omega arith) in
     record {
       is_table = port_table table name t label is.is_table room there own;
-      sorts = is.sorts;
       kernels = is.kernels ∙ sym (append-nil _)
           ∙ sym (kernels_more lines 0 p (PortLine t) (omega arith));
       wired = ap (λ ks. ks ++ p ∷ []) is.wired
@@ -129,7 +127,6 @@ hold_kept s t p right new is there below plain own more =
     ≡ held_more (line_holdings 0 0 lines) t p right = holdings_hold lines 0 0 t p right in
     record {
       is_table = hold_table table t p right is.is_table there below plain own;
-      sorts = is.sorts;
       kernels = is.kernels ∙ sym (append-nil _)
           ∙ sym (kernels_more lines 0 b (HoldLine t p right) (omega arith));
       wired = is.wired ∙ sym (append-nil _)
@@ -147,7 +144,6 @@ pub births_kept : (s : State) (t kind : ℕ) (label : List LabelItem)
     → IsState (record s { table = with_births s.table t kind label })
 births_kept s t kind label is there small = record {
   is_table = births_table s.table t kind label is.is_table there;
-  sorts = is.sorts;
   kernels = is.kernels;
   wired = is.wired;
   given = is.given;
@@ -173,7 +169,6 @@ pub admit_kept : (s : State) (line : AdmitLine)
     → IsState (record s { table = with_admit s.table line })
 admit_kept s line is = record {
   is_table = admit_table s.table line is.is_table;
-  sorts = is.sorts;
   kernels = is.kernels;
   wired = is.wired;
   given = is.given;
@@ -187,7 +182,6 @@ pub trust_kept : (s : State) (line : TrustedLine)
     → IsState (record s { table = with_trust s.table line })
 trust_kept s line is = record {
   is_table = trust_table s.table line is.is_table;
-  sorts = is.sorts;
   kernels = is.kernels;
   wired = is.wired;
   given = is.given;
@@ -199,7 +193,6 @@ trust_kept s line is = record {
 pub fit_kept : (s : State) → IsState s → IsState (record s { table = with_fit s.table })
 fit_kept s is = record {
   is_table = fit_table s.table is.is_table;
-  sorts = is.sorts;
   kernels = is.kernels;
   wired = is.wired;
   given = is.given;

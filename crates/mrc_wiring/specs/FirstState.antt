@@ -1,7 +1,7 @@
 -- Believe. What is held in the first state of a wiring, by classes. This profile's own choice.
-use Rattle.std.specs.Prelude.{◌≡◌, ◌↔◌, ℕ, List, Some}
+use Rattle.std.specs.Prelude.{◌≡◌, ◌↔◌, ℕ, List, Some, Bool, true, false, IsTrue}
 use Rattle.mrc_base.specs.declared.Fact.{Fact}
-use Rattle.mrc_base.specs.declared.Fact.TheVariants.{Hold}
+use Rattle.mrc_base.specs.declared.Fact.TheVariants.{Hold, Carry, Backup}
 use Rattle.mrc_base.specs.declared.PortRight.{PortRight}
 use Rattle.mrc_model.specs.IsIn.{IsIn}
 use Rattle.mrc_model.specs.Wiring.{Wiring}
@@ -20,3 +20,13 @@ pub record IsFirstHold (W : Wiring) (t c : ℕ) (r : PortRight) : Type 0 where
 -- the list has the holds of the first state, and no other holds
 abbrev pub HasFirstHolds : Wiring → List Fact → Type 0
 HasFirstHolds W holds = (t c : ℕ) (r : PortRight) → IsIn (Hold t c r) holds ↔ IsFirstHold W t c r
+
+-- the fact is a hold
+abbrev pub is_hold : Fact → Bool
+is_hold (Hold t c r) = true
+is_hold (Carry d c r) = false
+is_hold (Backup c n) = false
+
+-- the list has holds, and no other facts
+abbrev pub AreHolds : List Fact → Type 0
+AreHolds facts = (fact : Fact) → IsIn fact facts → IsTrue (is_hold fact)

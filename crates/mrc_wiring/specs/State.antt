@@ -10,7 +10,6 @@ use Rattle.mrc_model.specs.declared.LabelItem.{LabelItem}
 use Rattle.mrc_model.specs.declared.FirstLine.TheVariants.{Hold as HoldLine}
 use Rattle.mrc_model.specs.Breach.{Holding}
 use Rattle.mrc_model.specs.FirstHoldings.{names_given, is_named, line_holdings}
-use Rattle.mrc_wiring.specs.Sorts.{Sort, sorts_of}
 use Rattle.mrc_wiring.specs.Births.{AreKinds}
 use Rattle.mrc_wiring.specs.Table.{Table, IsTable, kernel_births, port_births}
 use Rattle.mrc_wiring.specs.Names.{AreNames}
@@ -58,11 +57,10 @@ abbrev pub GivesMore : Given → ℕ → ℕ → PortRight → Given → Type 0
 GivesMore old t p right new =
     (held : List Holding) → IsGiven held old → IsGiven (held_more held t p right) new
 
--- the table so far, the types of all port arguments, the birth numbers of kernel ports and of wired
--- ports, and the names that tasks have
+-- the table so far, the birth numbers of kernel ports and of wired ports, and the names that tasks
+-- have
 pub record State : Type 0 where
   pub table : Table
-  pub sorts : List Sort
   pub kernels : List ℕ
   pub wired : List ℕ
   pub given : Given
@@ -70,7 +68,6 @@ pub record State : Type 0 where
 -- it is what the table's lines say, and the table is one that lines can mean
 pub record IsState (state : State) : Type 0 where
   pub is_table : IsTable state.table
-  pub sorts : state.sorts ≡ sorts_of state.table.interfaces
   pub kernels : state.kernels ≡ kernel_births 0 state.table.lines
   pub wired : state.wired ≡ port_births 0 state.table.lines
   pub given : IsGiven (line_holdings 0 0 state.table.lines) state.given
@@ -86,7 +83,6 @@ next_birth table = length table.names + length table.ports
 abbrev pub state_with_task : State → List ℕ → Given → State
 state_with_task state name given = record {
   table = with_task state.table name;
-  sorts = state.sorts;
   kernels = state.kernels ++ next_birth state.table ∷ [];
   wired = state.wired;
   given = given;
@@ -96,7 +92,6 @@ state_with_task state name given = record {
 abbrev pub state_with_port : State → List ℕ → ℕ → List LabelItem → Given → State
 state_with_port state name t label given = record {
   table = with_port state.table name t label;
-  sorts = state.sorts;
   kernels = state.kernels;
   wired = state.wired ++ next_birth state.table ∷ [];
   given = given;
@@ -106,7 +101,6 @@ state_with_port state name t label given = record {
 abbrev pub state_with_hold : State → ℕ → ℕ → PortRight → Given → State
 state_with_hold state t p right given = record {
   table = with_line state.table (HoldLine t p right);
-  sorts = state.sorts;
   kernels = state.kernels;
   wired = state.wired;
   given = given;

@@ -1,6 +1,7 @@
--- Believe. What a caller of `Wired::resolve` sees. This profile's own choice.
+-- Believe. What a caller of `Wired::resolve` and of `Wired::over` sees. This profile's own choice.
 use Rattle.std.specs.Prelude.{◌≡◌, List, Option, Some, None, Result, Ok, Err}
 use Rattle.mrc_base.specs.Reading.{Refuses}
+use Rattle.mrc_base.specs.declared.memory.OrMemory.{OrMemory}
 use Rattle.mrc_forms.specs.Tables.{Table as Interface}
 use Rattle.mrc_wiring.specs.declared.faults.ResolveFault.{ResolveFault}
 use Rattle.mrc_wiring.specs.declared.resolving.NotResolved.{NotResolved}
@@ -16,12 +17,17 @@ ResolveTold interfaces (Ok table) said = said ≡ Ok table
 ResolveTold interfaces (Err refused) said =
     Refuses refused.why said × (refused.interfaces.items ≡ interfaces)
 
+-- the same over interfaces with the numbers of types
+abbrev pub OverTold : List Interface → Result Table (List Interface × OrMemory ResolveFault)
+    → Result Table ResolveFault → Type 0
+OverTold interfaces (Ok table) said = said ≡ Ok table
+OverTold interfaces (Err refused) said = Refuses refused.1 said × (refused.0 ≡ interfaces)
+
 -- the same for a table with what is kept next to it
-abbrev pub StateTold : List Interface → Result State NotResolved → Result Table ResolveFault
-    → Type 0
+abbrev pub StateTold : List Interface → Result State (List Interface × OrMemory ResolveFault)
+    → Result Table ResolveFault → Type 0
 StateTold interfaces (Ok state) said = said ≡ Ok state.table
-StateTold interfaces (Err refused) said =
-    Refuses refused.why said × (refused.interfaces.items ≡ interfaces)
+StateTold interfaces (Err refused) said = Refuses refused.1 said × (refused.0 ≡ interfaces)
 
 -- the fault of a list of interfaces, or none if a wiring can have them
 abbrev pub FaultOrStarts : Option ResolveFault → List Interface → Type 0

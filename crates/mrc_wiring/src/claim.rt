@@ -107,6 +107,14 @@ impl Claim {
         &self.wired
     }
 
+    /// The wiring by itself.
+    pub fn into_wired(self) -> Wired
+        ensures { result ≡ self.table }
+    {
+        let Claim { wired, lines: _ } = self;
+        wired
+    }
+
     /// What the policy forbids, in the order of its lines.
     pub fn lines(&self) -> &[ForbiddenLine]
         ensures { result.now ≡ self.now.lines }

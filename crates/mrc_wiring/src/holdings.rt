@@ -3,7 +3,7 @@
 ghost use Rattle.std.specs.Prelude.{◌≡◌, ◌++◌, IfOk, OnOk, slice_get};
 ghost use Rattle.mrc_model.specs.FirstHoldings.{given_classes, given_holdings, facts_by, fact_at};
 ghost use Rattle.mrc_wiring.specs.Table.{wiring_of};
-ghost use Rattle.mrc_wiring.specs.FirstState.{HasFirstHolds};
+ghost use Rattle.mrc_wiring.specs.FirstState.{HasFirstHolds, AreHolds};
 ghost use Rattle.mrc_wiring.specs.State.{IsState};
 
 use crate::resolving::Resolving;
@@ -96,8 +96,10 @@ impl Wired {
     }
 
     /// What tasks hold in the first state, by class: in any order, and perhaps more than once.
+    /// There are holds and nothing else.
     pub fn first_holdings(&self, alloc: Global) -> Result<Vec<Fact>, AllocError>
-        ensures { IfOk result (λ holds. HasFirstHolds (wiring_of self.now) holds.items) }
+        ensures held { IfOk result (λ holds. HasFirstHolds (wiring_of self.now) holds.items) }
+        ensures only { IfOk result (λ holds. AreHolds holds.items) }
     {
         let _kept = self.tasks();
         self.line_holds(alloc, self.first_classes())

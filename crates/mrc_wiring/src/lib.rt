@@ -9,6 +9,7 @@ mod faults;
 mod finding;
 mod first_names;
 mod holdings;
+mod interfaces;
 mod labels;
 mod laws;
 mod marks;
@@ -23,6 +24,7 @@ mod wired;
 
 pub use claim::{Claim, ForbiddenLine};
 pub use faults::{ClaimFault, ResolveFault};
+pub use interfaces::Interfaces;
 pub use laws::{births_are_numbered, clashes_are_two_items, sorts_are_types};
 pub use names::{ClassKind, ClassLabel, kind_word};
 pub use resolving::NotResolved;

@@ -10,7 +10,6 @@ ghost use Rattle.mrc_base.specs.Reading.{Gives};
 ghost use Rattle.mrc_model.specs.Rights.{is_receive};
 ghost use Rattle.mrc_wiring.specs.declared.faults.ResolveFault.TheVariants.{UnknownName};
 ghost use Rattle.mrc_wiring.specs.Births.{AreAscending};
-ghost use Rattle.mrc_wiring.specs.Sorts.{sorts_of};
 ghost use Rattle.mrc_wiring.specs.Names.{number_of};
 ghost use Rattle.mrc_wiring.specs.State.{IsState, IsGiven, GivesMore, limit_of_first_ports};
 ghost use Rattle.mrc_wiring.specs.State.{next_birth, state_with_task, state_with_port};
@@ -26,9 +25,9 @@ ghost use Rattle.mrc_wiring.specs.Told.{StateTold, FaultOrStarts};
 use crate::births::{BirthRow, has_said, put_row};
 use crate::faults::ResolveFault;
 use crate::first_names::NamesGiven;
+use crate::interfaces::Interfaces;
 use crate::labels::{Label, has_clash, interface_number, label_said};
 use crate::names::{NumberedClass, class_said};
-use crate::sorts::{Sorts, sorts_of};
 use crate::table::{AdmitLine, NumberedRight, TrustedLine};
 use mrc_base::limits::{INTERFACES, NAMES, TASKS, WIRED_PORTS};
 use mrc_base::{OrMemory, PortId, PortRight, TaskId};
@@ -52,8 +51,7 @@ pub(crate) struct Resolving {
     pub(crate) admits: Vec<AdmitLine>,
     pub(crate) trusts: Vec<TrustedLine>,
     pub(crate) fits: bool,
-    pub(crate) interfaces: Vec<Interface>,
-    pub(crate) sorts: Sorts,
+    pub(crate) interfaces: Interfaces,
     pub(crate) kernels: Vec<PortId>,
     pub(crate) wired: Vec<PortId>,
     pub(crate) given: NamesGiven,
@@ -74,9 +72,8 @@ impl Model for Resolving {
         admits = r.admits.items;
         trusts = r.trusts.items;
         fits = r.fits;
-        interfaces = r.interfaces.items;
+        interfaces = r.interfaces;
       };
-      sorts = r.sorts;
       kernels = r.kernels.items;
       wired = r.wired.items;
       given = r.given;
@@ -472,8 +469,8 @@ impl Resolving {
             OrMemory::Fault(ResolveFault::UnknownName(line)),
         )?;
         let sort = self
-            .sorts
-            .place(interface, type_name.as_str())
+            .interfaces
+            .sort(interface, type_name.as_str())
             .ok_or(OrMemory::Fault(ResolveFault::UnknownName(line)))?;
         let class = self.admitted_said(line, class)?;
         self.admits.push(AdmitLine { sort, class })?;
@@ -620,30 +617,20 @@ pub struct NotResolved {
     pub why: OrMemory<ResolveFault>,
 }
 
-/// What is kept next to a table of no line.
-fn kept_beside(alloc: Global, interfaces: &[Interface]) -> Result<(Sorts, NamesGiven), AllocError>
-    ensures sorts { IfOk result (λ kept. kept.0 ≡ sorts_of interfaces.now) }
-    ensures given { IfOk result (λ kept. IsGiven [] kept.1) }
-{
-    let sorts = sorts_of(alloc, interfaces)?;
-    let given = NamesGiven::new(alloc)?;
-    Ok((sorts, given))
-}
-
 /// No line yet.
-fn started(alloc: Global, interfaces: Vec<Interface>) -> Result<Resolving, NotResolved>
-    ensures exact { StateTold interfaces.items result (started interfaces.items) }
+fn started(
+    alloc: Global,
+    interfaces: Interfaces,
+) -> Result<Resolving, (Interfaces, OrMemory<ResolveFault>)>
+    ensures exact { StateTold interfaces result (started interfaces) }
     ensures kept { IfOk result (λ state. IsState state) }
-    ensures same { IfOk result (λ state. state.table.interfaces ≡ interfaces.items) }
+    ensures same { IfOk result (λ state. state.table.interfaces ≡ interfaces) }
 {
     if let Some(fault) = fault_of_interfaces(interfaces.as_slice()) {
-        return Err(NotResolved {
-            interfaces,
-            why: OrMemory::Fault(fault),
-        });
+        return Err((interfaces, OrMemory::Fault(fault)));
     }
-    match kept_beside(alloc, interfaces.as_slice()) {
-        Ok((sorts, given)) => Ok(Resolving {
+    match NamesGiven::new(alloc) {
+        Ok(given) => Ok(Resolving {
             names: NameTable::new(alloc),
             births: Vec::new(alloc),
             ports: NameTable::new(alloc),
@@ -653,15 +640,11 @@ fn started(alloc: Global, interfaces: Vec<Interface>) -> Result<Resolving, NotRe
             trusts: Vec::new(alloc),
             fits: false,
             interfaces,
-            sorts,
             kernels: Vec::new(alloc),
             wired: Vec::new(alloc),
             given,
         }),
-        Err(error) => Err(NotResolved {
-            interfaces,
-            why: OrMemory::from(error),
-        }),
+        Err(error) => Err((interfaces, OrMemory::from(error))),
     }
 }
 
@@ -669,19 +652,16 @@ fn started(alloc: Global, interfaces: Vec<Interface>) -> Result<Resolving, NotRe
 pub(crate) fn resolved(
     alloc: Global,
     lines: &[WiringLine],
-    interfaces: Vec<Interface>,
-) -> Result<Resolving, NotResolved>
-    ensures exact { StateTold interfaces.items result (resolved interfaces.items lines.now) }
+    interfaces: Interfaces,
+) -> Result<Resolving, (Interfaces, OrMemory<ResolveFault>)>
+    ensures exact { StateTold interfaces result (resolved interfaces lines.now) }
     ensures kept { IfOk result (λ state. IsState state) }
-    ensures same { IfOk result (λ state. state.table.interfaces ≡ interfaces.items) }
+    ensures same { IfOk result (λ state. state.table.interfaces ≡ interfaces) }
 {
     let mut resolving = started(alloc, interfaces)?;
     for line in lines {
         if let Err(why) = resolving.add_line(alloc, line) {
-            return Err(NotResolved {
-                interfaces: resolving.interfaces,
-                why,
-            });
+            return Err((resolving.interfaces, why));
         }
     }
     Ok(resolving)

@@ -32,7 +32,7 @@ impl Model for Sort {
 
 /// The types of all port arguments, in order, one for each argument. The first place of a type is
 /// found by its name in a map of its interface.
-#[derive(Drop)]
+#[derive(Debug, Drop)]
 pub(crate) struct Sorts {
     sorts: Vec<Sort>,
     firsts: Vec<BTreeMap<String, usize>>,

@@ -17,26 +17,25 @@ ghost use Rattle.mrc_wiring.specs.Admitting.{IsAdmitting, class_words};
 ghost use Rattle.mrc_wiring.specs.Trusting.{IsTrusting};
 ghost use Rattle.mrc_wiring.specs.Births.{AreAscending, AreKinds, of_row};
 ghost use Rattle.mrc_wiring.specs.Table.{IsTable, wiring_of};
-ghost use Rattle.mrc_wiring.specs.Sorts.{sorts_of};
-ghost use Rattle.mrc_wiring.specs.ModelForms.{typed_from};
 ghost use Rattle.mrc_wiring.specs.Finding.{message_forms, typed_at};
 ghost use Rattle.mrc_wiring.specs.State.{IsState};
-ghost use Rattle.mrc_forms.specs.declared.form.MessageKind.TheVariants as messages;
 ghost use Rattle.mrc_wiring.specs.Resolving.{resolved};
-ghost use Rattle.mrc_wiring.specs.Told.{ResolveTold};
+ghost use Rattle.mrc_wiring.specs.Told.{OverTold, ResolveTold};
 ghost use Rattle.mrc_wiring.specs.Names.{AreNames, number_of, class_label, shown_label};
 ghost use Rattle.mrc_wiring.specs.Names.{class_named, births_named};
 ghost use Rattle.mrc_wiring.specs.Claims.{class_number};
 
 use crate::admitting::{Admitting, words_at};
 use crate::births::{BirthRow, row_of};
+use crate::faults::ResolveFault;
 use crate::holdings::first_classes;
+use crate::interfaces::Interfaces;
 use crate::labels::Label;
 use crate::names::{ClassKind, ClassLabel, class_said, kind_named};
 use crate::resolving::{NotResolved, Resolving, resolved};
 use crate::table::{AdmitLine, TrustedLine, class_of};
 use crate::trusting::{right_part, trust_row, trusting};
-use crate::typed::{TypedForm, TypedForms, forms_at, typed_of};
+use crate::typed::{TypedForm, forms_at};
 use mrc_base::{ClassId, Copies, OrMemory, PortRight, TaskId, copy_all, same_all};
 use mrc_bits::has_bit;
 use mrc_forms::{Interface, MessageKind};
@@ -49,23 +48,15 @@ use std::marker::Model;
 /// What the lines of a wiring mean by the numbers of types and classes, once all are read.
 #[derive(Drop)]
 struct ByNumbers {
-    requests: Vec<TypedForms>,
-    replies: Vec<TypedForms>,
     admitting: Admitting,
     trusting: Vec<Vec<u64>>,
     first_classes: Vec<ClassId>,
 }
 
-/// The forms of the interfaces with the numbers of types, what the admit lines admit, and the
-/// classes of the ports of the first state.
+/// What the admit lines admit, what trusted tasks may do, and the classes of the ports of the first
+/// state.
 fn numbered(alloc: Global, table: &Resolving) -> Result<ByNumbers, AllocError>
     requires { IsState table.now }
-    ensures requests { IfOk result (λ numbered. numbered.requests.items
-        ≡ typed_from messages.Request (sorts_of table.now.table.interfaces) 0
-        table.now.table.interfaces) }
-    ensures replies { IfOk result (λ numbered. numbered.replies.items
-        ≡ typed_from messages.Reply (sorts_of table.now.table.interfaces) 0
-        table.now.table.interfaces) }
     ensures admitting { IfOk result (λ numbered. IsAdmitting (length table.now.table.ports)
         (length table.now.table.names) table.now.table.births table.now.table.admits
         numbered.admitting.rows.items numbered.admitting.every.items) }
@@ -75,11 +66,7 @@ fn numbered(alloc: Global, table: &Resolving) -> Result<ByNumbers, AllocError>
     ensures classes { IfOk result (λ numbered. numbered.first_classes.items
         ≡ given_classes (wiring_of table.now.table)) }
 {
-    let interfaces = table.interfaces.as_slice();
-    let sorts = &table.sorts;
     Ok(ByNumbers {
-        requests: typed_of(alloc, MessageKind::Request, sorts, interfaces)?,
-        replies: typed_of(alloc, MessageKind::Reply, sorts, interfaces)?,
         admitting: Admitting::of(
             alloc,
             table.ports.len(),
@@ -110,9 +97,7 @@ pub struct Wired {
     admits: Vec<AdmitLine>,
     trusts: Vec<TrustedLine>,
     fits: bool,
-    interfaces: Vec<Interface>,
-    requests: Vec<TypedForms>,
-    replies: Vec<TypedForms>,
+    interfaces: Interfaces,
     admitting: Admitting,
     trusting: Vec<Vec<u64>>,
     first_classes: Vec<ClassId>,
@@ -133,7 +118,7 @@ impl Model for Wired {
       admits = w.admits.items;
       trusts = w.trusts.items;
       fits = w.fits;
-      interfaces = w.interfaces.items;
+      interfaces = w.interfaces;
     } };
 
     ghost invariant = { λ w. IsKept record {
@@ -145,9 +130,8 @@ impl Model for Wired {
       admits = w.admits.items;
       trusts = w.trusts.items;
       fits = w.fits;
-      interfaces = w.interfaces.items;
-    } w.requests.items w.replies.items w.admitting.rows.items w.admitting.every.items
-        w.trusting.items w.first_classes.items };
+      interfaces = w.interfaces;
+    } w.admitting.rows.items w.admitting.every.items w.trusting.items w.first_classes.items };
 }
 
 impl Wired {
@@ -159,6 +143,31 @@ impl Wired {
         interfaces: Vec<Interface>,
     ) -> Result<Wired, NotResolved>
         ensures { ResolveTold interfaces.items result (resolved interfaces.items lines.now) }
+    {
+        match Interfaces::new(alloc, interfaces) {
+            Ok(typed) => match Wired::over(alloc, lines, typed) {
+                Ok(wired) => Ok(wired),
+                Err((interfaces, why)) => Err(NotResolved {
+                    interfaces: interfaces.into_vec(),
+                    why,
+                }),
+            },
+            Err((interfaces, error)) => Err(NotResolved {
+                interfaces,
+                why: OrMemory::from(error),
+            }),
+        }
+    }
+
+    /// The same over interfaces with the numbers of types. With a refusal the interfaces come back
+    /// unchanged.
+    pub fn over(
+        alloc: Global,
+        lines: &[WiringLine],
+        interfaces: Interfaces,
+    ) -> Result<Wired, (Interfaces, OrMemory<ResolveFault>)>
+        ensures exact { OverTold interfaces result (resolved interfaces lines.now) }
+        ensures kept { IfOk result (λ wired. wired.interfaces ≡ interfaces) }
     {
         let table = resolved(alloc, lines, interfaces)?;
         match numbered(alloc, &table) {
@@ -172,16 +181,11 @@ impl Wired {
                 trusts: table.trusts,
                 fits: table.fits,
                 interfaces: table.interfaces,
-                requests: by_numbers.requests,
-                replies: by_numbers.replies,
                 admitting: by_numbers.admitting,
                 trusting: by_numbers.trusting,
                 first_classes: by_numbers.first_classes,
             }),
-            Err(error) => Err(NotResolved {
-                interfaces: table.interfaces,
-                why: OrMemory::from(error),
-            }),
+            Err(error) => Err((table.interfaces, OrMemory::from(error))),
         }
     }
 
@@ -394,18 +398,7 @@ impl Wired {
         ensures { option_map (λ interface. interface.now) result
             ≡ slice_get self.now.interfaces number }
     {
-        self.interfaces.get(number)
-    }
-
-    /// The forms of this message, by the numbers of the interfaces.
-    fn typed(&self, kind: MessageKind) -> &[TypedForms]
-        ensures { result.now
-            ≡ typed_from kind (sorts_of self.now.interfaces) 0 self.now.interfaces }
-    {
-        match kind {
-            MessageKind::Request => self.requests.as_slice(),
-            MessageKind::Reply => self.replies.as_slice(),
-        }
+        self.interfaces().get(number)
     }
 
     /// The form of this message at each id of the interface of this number.
@@ -414,7 +407,15 @@ impl Wired {
         ensures those { flat_map option_to_list result.now
             ≡ message_forms kind (wiring_of self.now) number }
     {
-        forms_at(self.typed(kind), number)
+        forms_at(self.interfaces.typed(kind), number)
+    }
+
+    /// The interfaces by themselves, with the numbers of types.
+    pub fn into_interfaces(self) -> Interfaces
+        ensures { result ≡ self.interfaces }
+    {
+        let Wired { interfaces, .. } = self;
+        interfaces
     }
 
     /// The name of a task.
@@ -518,9 +519,7 @@ impl Wired {
             admits: copy_all(alloc, &self.admits)?,
             trusts: copy_all(alloc, &self.trusts)?,
             fits: self.fits,
-            interfaces: copy_all(alloc, &self.interfaces)?,
-            requests: copy_all(alloc, &self.requests)?,
-            replies: copy_all(alloc, &self.replies)?,
+            interfaces: self.interfaces.copy(alloc)?,
             admitting: Admitting::of(
                 alloc,
                 self.ports.len(),
@@ -551,6 +550,6 @@ impl Wired {
             && same_all(&self.admits, &other.admits)
             && same_all(&self.trusts, &other.trusts)
             && self.fits == other.fits
-            && same_all(&self.interfaces, &other.interfaces)
+            && self.interfaces.same(&other.interfaces)
     }
 }

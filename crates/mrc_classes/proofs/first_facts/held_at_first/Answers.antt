@@ -14,7 +14,7 @@ returns c =
     let W = wiring_of c.args.wired.now in
     let holds : HasFirstHolds W c.as_slice.result.now = subst
     (λ (fs : List Fact). HasFirstHolds W fs) (sym c.as_slice.ensures.value)
-    c.in_ok-holdings.ensures in
+    c.in_ok-holdings.ensures.held in
     held_listed W c.as_slice.result.now holds c.put_holds.new.facts
     (subst (λ (fs : List Fact). Added (has fs) (has c.put_holds.new.facts)
     (IsListedHold W c.as_slice.result.now)) c.new-facts.ensures c.in_ok-put_holds.ensures)

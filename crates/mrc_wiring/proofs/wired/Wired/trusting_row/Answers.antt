@@ -35,7 +35,7 @@ returns-clause-limited c =
     let w = c.self.inside in
     ap (λ words. nat_lt 0 (length words)) (read c)
     ∙ (row_limits (length w.ports) (length w.names) w.births.items (few c)
-    w.trusts.items w.trusting.items c.self.invariant.7 c.args.verb c.args.task
+    w.trusts.items w.trusting.items c.self.invariant.5 c.args.verb c.args.task
     ∙ ap (λ (T : Table). list_any (is_trust_of c.args.verb c.args.task) (wiring_of T).trusted)
     c.self.view_is)
 
@@ -44,6 +44,6 @@ returns-clause-named c = λ right class.
     let w = c.self.inside in
     ap (λ words. nat_lt class limit_of_classes && is_set words (right_place right class)) (read c)
     ∙ (row_names (length w.ports) (length w.names) w.births.items (few c)
-    w.trusts.items w.trusting.items c.self.invariant.7 c.args.verb c.args.task class right
+    w.trusts.items w.trusting.items c.self.invariant.5 c.args.verb c.args.task class right
     ∙ ap (λ (T : Table). list_any (trusts_by c.args.verb c.args.task right class)
     (wiring_of T).trusted) c.self.view_is)
