@@ -21,3 +21,7 @@ pub mod Takers
 pub mod Findings
 pub mod LabelForms
 pub mod ClashLaws
+pub mod GivenRows
+pub mod GivenLines
+pub mod GivenSteps
+pub mod GivenOnes

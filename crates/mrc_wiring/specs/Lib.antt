@@ -13,6 +13,7 @@ pub mod Labels
 pub mod ClashLaw
 pub mod ClassNumbers
 pub mod Resolving
+pub mod GivenLines
 pub mod State
 pub mod Kept
 pub mod Slots
@@ -20,3 +21,4 @@ pub mod Finding
 pub mod Told
 pub mod Claims
 pub mod Examples
+pub mod GivenExamples

@@ -1,7 +1,9 @@
-//! What holds of the numbers of types and of classes, and of labels that clash.
+//! What holds of the numbers of types and of classes, of labels that clash, and of births and admit
+//! lines.
 
 ghost use Rattle.mrc_wiring.specs.ClashLaw.{ClashesAreTwoItems};
 ghost use Rattle.mrc_wiring.specs.ClassNumbers.{BirthsAreNumbered};
+ghost use Rattle.mrc_wiring.specs.GivenLines.{TablesAreOfLines, TablesOfLinesAreOne};
 ghost use Rattle.mrc_wiring.specs.Sorts.{SortsAreNumbered, SortsAreTypes};
 
 /// Two types of port arguments have one number if and only if they are of one interface and have
@@ -21,4 +23,12 @@ pub fn clashes_are_two_items()
 /// by task and then by kind; and each task has births of kind 0.
 pub fn births_are_numbered()
     ensures births { BirthsAreNumbered }
+{}
+
+/// What lines mean has a row of births for kind 0 of each task, and for each `births` line, with
+/// what the line's items mean; and one admit line for each `admit` line, in their order. Two tables
+/// of the same lines have the same rows and the same admit lines.
+pub fn tables_are_of_lines()
+    ensures lines { TablesAreOfLines }
+    ensures only { TablesOfLinesAreOne }
 {}

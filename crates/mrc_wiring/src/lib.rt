@@ -25,7 +25,7 @@ mod wired;
 pub use claim::{Claim, ForbiddenLine};
 pub use faults::{ClaimFault, ResolveFault};
 pub use interfaces::Interfaces;
-pub use laws::{births_are_numbered, clashes_are_two_items, sorts_are_types};
+pub use laws::{births_are_numbered, clashes_are_two_items, sorts_are_types, tables_are_of_lines};
 pub use names::{ClassKind, ClassLabel, kind_word};
 pub use resolving::NotResolved;
 pub use table::TrustedLine;
