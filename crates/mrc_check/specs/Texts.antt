@@ -1,77 +1,112 @@
--- What MIG files, a wiring, a policy and a certificate say together, from their bytes, and the
--- first reason where they say no. This profile's own choice.
-use Rattle.std.specs.Prelude.{◌≡◌, ℕ, List, Result, Ok, Err}
+-- What MIG files, a wiring, a policy and a certificate mean together, stage by stage, from their
+-- bytes; of which the first has no meaning; and the first reason if the answer is no. This
+-- profile's own choice.
+use Rattle.std.specs.Prelude.{◌≡◌, ℕ, List, Result, Ok, Err, Option, Some, None, slice_get}
 use Rattle.mrc_base.specs.declared.memory.OrMemory.{OrMemory}
 use Rattle.mrc_base.specs.Reading.{◌>>=◌, UnlessMemory}
 use Rattle.mrc_forms.specs.Tables.{Table as Interface}
 use Rattle.mrc_interface.specs.Reading.{AreInterfaces, Refused as RefusedFile, refused_of}
 use Rattle.mrc_interface.specs.Reading.{interfaces_of, step}
 use Rattle.mrc_wiring_text.specs.declared.reading.Line.{Line}
+use Rattle.mrc_wiring_text.specs.declared.faults.TextFault.{TextFault}
 use Rattle.mrc_wiring_text.specs.declared.wiring.WiringSays.{WiringSays}
 use Rattle.mrc_wiring_text.specs.declared.policy.Forbid.{Forbid}
 use Rattle.mrc_wiring_text.specs.Wiring.{wiring_of}
 use Rattle.mrc_wiring_text.specs.Policy.{policy_of}
 use Rattle.mrc_wiring_text.specs.Texts.{IsWiring, IsPolicy}
 use Rattle.mrc_wiring.specs.Table.{Table}
+use Rattle.mrc_wiring.specs.declared.faults.ResolveFault.{ResolveFault}
+use Rattle.mrc_wiring.specs.declared.faults.ResolveFault.TheVariants.{TooManyNames}
+use Rattle.mrc_wiring.specs.GivenLines.{task_names}
 use Rattle.mrc_wiring.specs.Resolving.{resolved}
 use Rattle.mrc_wiring.specs.Claims.{Claimed, forbidden_lines}
 use Rattle.mrc_certificate.specs.declared.fault.DraftFault.{DraftFault}
 use Rattle.mrc_certificate.specs.Spelling.{Spells, content}
 use Rattle.mrc_certificate.specs.Reading.{draft_from}
-use Rattle.mrc_check.specs.declared.texts.WiringFault.{WiringFault}
-use Rattle.mrc_check.specs.declared.texts.WiringFault.TheVariants as wiring_fault
-use Rattle.mrc_check.specs.declared.texts.PolicyFault.{PolicyFault}
-use Rattle.mrc_check.specs.declared.texts.PolicyFault.TheVariants as policy_fault
-use Rattle.mrc_check.specs.declared.texts.SystemFault.{SystemFault}
-use Rattle.mrc_check.specs.declared.texts.SystemFault.TheVariants as system_fault
+use Rattle.mrc_check.specs.declared.faults.WiringFault.{WiringFault}
+use Rattle.mrc_check.specs.declared.faults.WiringFault.TheVariants as wiring_fault
+use Rattle.mrc_check.specs.declared.faults.PolicyFault.{PolicyFault}
+use Rattle.mrc_check.specs.declared.faults.PolicyFault.TheVariants as policy_fault
+use Rattle.mrc_check.specs.declared.faults.CaseFault.{CaseFault}
+use Rattle.mrc_check.specs.declared.faults.CaseFault.TheVariants as fault
 use Rattle.mrc_check.specs.declared.texts.TextsFault.{TextsFault}
-use Rattle.mrc_check.specs.declared.texts.TextsFault.TheVariants.{Defs, Wiring, Policy}
-use Rattle.mrc_check.specs.declared.texts.TextsFault.TheVariants.{Certificate, Check}
+use Rattle.mrc_check.specs.declared.texts.TextsFault.TheVariants.{Meaning, Check}
 use Rattle.mrc_check.specs.Verdict.{Case, IsAccepted, IsWhy}
 
--- The checker's yes: the definitions are MIG files, the wiring over their interfaces and the policy
--- have meanings, the certificate spells a draft, and the draft is accepted.
-pub record SayYes (defs : List (List ℕ)) (wiring policy certificate : List ℕ) (case : Case)
-    : Type 0 where
+-- a system: the lines of its wiring, and the table that they mean over its interfaces
+pub record Meant : Type 0 where
+  pub lines : List (Line WiringSays)
+  pub table : Table
+
+-- The bytes mean a system: the definitions are MIG files, and the wiring has lines that have a table
+-- over their interfaces.
+pub record MeanSystem (defs : List (List ℕ)) (wiring : List ℕ) (system : Meant) : Type 0 where
   pub interfaces : List Interface
   pub are_interfaces : AreInterfaces defs interfaces
-  pub wiring_lines : List (Line WiringSays)
-  pub is_wiring : IsWiring wiring wiring_lines
-  pub is_table : resolved interfaces wiring_lines ≡ Ok case.claim.table
+  pub is_wiring : IsWiring wiring system.lines
+  pub is_table : resolved interfaces system.lines ≡ Ok system.table
+
+-- The bytes mean a claim: MIG files and wiring mean a system, and the policy forbids these lines in
+-- its table.
+pub record MeanClaim (defs : List (List ℕ)) (wiring policy : List ℕ) (claim : Claimed)
+    : Type 0 where
+  pub lines : List (Line WiringSays)
+  pub system : MeanSystem defs wiring record { lines = lines; table = claim.table }
   pub policy_lines : List (Line Forbid)
   pub is_policy : IsPolicy policy policy_lines
-  pub is_claim : forbidden_lines case.claim.table policy_lines ≡ Ok case.claim.lines
+  pub is_claim : forbidden_lines claim.table policy_lines ≡ Ok claim.lines
+
+-- The checker's yes: MIG files, wiring and policy mean a claim, the certificate encodes a draft, and
+-- the draft is accepted for the claim.
+pub record SayYes (defs : List (List ℕ)) (wiring policy certificate : List ℕ) (case : Case)
+    : Type 0 where
+  pub means : MeanClaim defs wiring policy case.claim
   pub spells : Spells certificate case.draft
   pub accepted : IsAccepted case.claim case.draft
 
--- which of the MIG files, or that the wiring, has no meaning, and its first fault; of a MIG file at
--- which step it is refused
-pub data NoSystem : Type 0 where
-  InDefs : RefusedFile → NoSystem
-  InWiring : WiringFault → NoSystem
-
--- the file that has no meaning, and its first fault
+-- the text that has no meaning, by its role, and its first fault; of a MIG file at which step it is
+-- refused
 pub data Meaningless : Type 0 where
-  InSystem : NoSystem → Meaningless
+  InDefs : RefusedFile → Meaningless
+  InWiring : WiringFault → Meaningless
   InPolicy : PolicyFault → Meaningless
   InCertificate : DraftFault → Meaningless
+  InScript : TextFault → Meaningless
 
--- the table that a wiring's bytes mean over interfaces
-abbrev pub table_over : List Interface → List ℕ → Result Table WiringFault
-table_over interfaces wiring = do
+-- what a fault of code means
+abbrev pub meaningless : CaseFault → Meaningless
+meaningless (fault.Defs f) = InDefs (refused_of f)
+meaningless (fault.Wiring f) = InWiring f
+meaningless (fault.Policy f) = InPolicy f
+meaningless (fault.Certificate f) = InCertificate f
+meaningless (fault.Script f) = InScript f
+
+-- a system, and what a policy forbids in it
+pub record Stated : Type 0 where
+  pub lines : List (Line WiringSays)
+  pub claim : Claimed
+
+-- a fault of lines as it is reported: a task with too many names is named
+abbrev pub lines_fault : List (Line WiringSays) → ResolveFault → WiringFault
+lines_fault lines (TooManyNames t) = named t (slice_get (task_names lines) t)
+  where
+    named : ℕ → Option (List ℕ) → WiringFault
+    named t (Some name) = wiring_fault.TooManyNames name
+    named t None = wiring_fault.Lines (TooManyNames t)
+lines_fault lines fault = wiring_fault.Lines fault
+
+-- the system that a wiring's bytes mean over interfaces
+abbrev pub system_over : List Interface → List ℕ → Result Meant WiringFault
+system_over interfaces wiring = do
   lines ← step wiring_fault.Text (wiring_of wiring)
-  step wiring_fault.Lines (resolved interfaces lines)
+  table ← step (lines_fault lines) (resolved interfaces lines)
+  Ok (record { lines = lines; table = table })
 
--- the table that MIG files and a wiring mean
-abbrev pub table_of : List (List ℕ) → List ℕ → Result Table NoSystem
-table_of defs wiring = do
+-- the system that MIG files and a wiring mean
+abbrev pub system_of : List (List ℕ) → List ℕ → Result Meant Meaningless
+system_of defs wiring = do
   interfaces ← step InDefs (interfaces_of defs)
-  step InWiring (table_over interfaces wiring)
-
--- what a fault of MIG files or a wiring tells
-abbrev pub no_table_of : SystemFault → NoSystem
-no_table_of (system_fault.Defs fault) = InDefs (refused_of fault)
-no_table_of (system_fault.Wiring fault) = InWiring fault
+  step InWiring (system_over interfaces wiring)
 
 -- a wiring with what a policy's bytes forbid in it
 abbrev pub claim_of : Table → List ℕ → Result Claimed PolicyFault
@@ -80,31 +115,48 @@ claim_of table policy = do
   lines ← step policy_fault.Lines (forbidden_lines table says)
   Ok (record { table = table; lines = lines })
 
--- a claim with what a certificate's bytes say to it
+-- a system with what a policy's bytes forbid in it
+abbrev pub stated_by : Meant → List ℕ → Result Stated Meaningless
+stated_by system policy = do
+  claim ← step InPolicy (claim_of system.table policy)
+  Ok (record { lines = system.lines; claim = claim })
+
+-- what a wiring and a policy mean over interfaces
+abbrev pub stated_over : List Interface → (wiring policy : List ℕ) → Result Stated Meaningless
+stated_over interfaces wiring policy = do
+  system ← step InWiring (system_over interfaces wiring)
+  stated_by system policy
+
+-- what MIG files, a wiring and a policy mean
+abbrev pub stated_of : List (List ℕ) → (wiring policy : List ℕ) → Result Stated Meaningless
+stated_of defs wiring policy = do
+  system ← system_of defs wiring
+  stated_by system policy
+
+-- a claim with what a certificate's bytes answer to it
 abbrev pub answered_by : Claimed → List ℕ → Result Case Meaningless
 answered_by claim certificate = do
   draft ← step InCertificate (draft_from certificate)
   Ok (record { claim = claim; draft = draft })
 
--- what a policy and a certificate say over a wiring
-abbrev pub case_over : Table → (policy certificate : List ℕ) → Result Case Meaningless
-case_over table policy certificate = do
-  claim ← step InPolicy (claim_of table policy)
-  answered_by claim certificate
-
--- what the files say, or the first that has no meaning
+-- what the files mean, or the first that has no meaning
 abbrev pub case_of : List (List ℕ) → (wiring policy certificate : List ℕ)
     → Result Case Meaningless
 case_of defs wiring policy certificate = do
-  table ← step InSystem (table_of defs wiring)
-  case_over table policy certificate
+  stated ← stated_of defs wiring policy
+  answered_by stated.claim certificate
+
+-- what a call answers that takes a value, seen by view, is what the definition gives; with a fault,
+-- which means what it gives instead, or if memory ran out, the value comes back
+abbrev pub GivesOrReturns : {A B C E F : Type 0} → (A → B) → (F → E) → C
+    → Result A (C × OrMemory F) → Result B E → Type 0
+GivesOrReturns view told taken (Ok x) given = given ≡ Ok (view x)
+GivesOrReturns view told taken (Err back) given =
+    (back.0 ≡ taken) × UnlessMemory (λ fault. given ≡ Err (told fault)) back.1
 
 -- the fault is the first that the texts have; a certificate that is refused has the first reason
 abbrev pub IsTold : TextsFault → Result Case Meaningless → Type 0
-IsTold (Defs fault) said = said ≡ Err (InSystem (InDefs (refused_of fault)))
-IsTold (Wiring fault) said = said ≡ Err (InSystem (InWiring fault))
-IsTold (Policy fault) said = said ≡ Err (InPolicy fault)
-IsTold (Certificate fault) said = said ≡ Err (InCertificate fault)
+IsTold (Meaning fault) said = said ≡ Err (meaningless fault)
 IsTold (Check r) said =
     (said ≡ Ok (record { claim = r.claim; draft = content r.draft }))
     × IsWhy r.claim (content r.draft) r.why

@@ -2,12 +2,14 @@
 #![tactic(auto)]
 
 mod confined;
+mod faults;
 mod texts;
 mod trusted;
 mod verdict;
 
 pub use confined::{Confined, Refused, check};
+pub use faults::{CaseFault, PolicyFault, WiringFault};
 pub use mrc_classes::RuleName;
-pub use texts::{PolicyFault, SystemFault, TextsFault, WiringFault, check_texts, table_of};
+pub use texts::{Stated, System, TextsFault, check_texts};
 pub use trusted::first_exposed;
 pub use verdict::Why;

@@ -1,126 +1,219 @@
-//! From the bytes of the files to the verdict.
+//! From the bytes of the files to the verdict, stage by stage.
 
-ghost use Rattle.std.specs.Prelude.{◌≡◌, IfOk, IfErr, map};
-ghost use Rattle.mrc_base.specs.Reading.{Gives};
-ghost use Rattle.mrc_interface.specs.Reading.{GivesAs};
+ghost use Rattle.std.specs.Prelude.{◌≡◌, IfOk, IfErr, map, slice_get};
+ghost use Rattle.std.specs.Option.{option_map};
+ghost use Rattle.mrc_base.specs.Reading.{UnlessMemory};
+ghost use Rattle.mrc_interface.specs.Reading.{GivesAs, step};
+ghost use Rattle.mrc_wiring.specs.declared.faults.ResolveFault.{ResolveFault};
+ghost use Rattle.mrc_wiring.specs.GivenLines.{task_names};
 ghost use Rattle.mrc_check.specs.Verdict.{Case};
-ghost use Rattle.mrc_check.specs.Texts.{SayYes, table_over, table_of, no_table_of, claim_of};
-ghost use Rattle.mrc_check.specs.Texts.{answered_by, case_over, case_of, Tells};
+ghost use Rattle.mrc_check.specs.Texts.{SayYes, GivesOrReturns, meaningless};
+ghost use Rattle.mrc_check.specs.Texts.{InWiring, lines_fault, system_over, system_of, stated_by};
+ghost use Rattle.mrc_check.specs.Texts.{stated_of, answered_by, case_of, Tells};
 
 use crate::confined::{Confined, Refused, check};
+use crate::faults::{CaseFault, PolicyFault, WiringFault};
 use crate::verdict::Why;
-use mrc_base::OrMemory;
-use mrc_certificate::{DraftFault, read_draft};
-use mrc_forms::Interface;
-use mrc_interface::{FileFault, read_interfaces};
-use mrc_wiring::{Claim, ClaimFault, ResolveFault, Wired};
-use mrc_wiring_text::{TextFault, read_policy, read_wiring};
-use std::alloc::Global;
+use mrc_base::{Copies, OrMemory};
+use mrc_certificate::read_draft;
+use mrc_interface::read_interfaces;
+use mrc_wiring::{Claim, Interfaces, ResolveFault, Wired};
+use mrc_wiring_text::{Name, WiringLine, WiringSays, read_policy, read_wiring};
+use std::alloc::{AllocError, Global};
+use std::marker::Model;
 use std::thread::Threads;
-use thiserror::Error;
 
-/// Why a wiring's bytes mean no wiring.
-#[derive(Clone, Copy, Debug, PartialEq, Eq, Error)]
-pub enum WiringFault {
-    /// The text is not one of the grammar.
-    #[error("{0}")]
-    Text(TextFault),
-    /// Its lines have no meaning together.
-    #[error("{0}")]
-    Lines(ResolveFault),
+/// What MIG files and a wiring mean.
+#[derive(Drop)]
+pub struct System {
+    /// The lines of the wiring.
+    pub lines: Vec<WiringLine>,
+    /// What they mean over the interfaces of the MIG files.
+    pub wired: Wired,
 }
 
-/// Why a policy's bytes mean no policy over the wiring.
-#[derive(Clone, Copy, Debug, PartialEq, Eq, Error)]
-pub enum PolicyFault {
-    /// The text is not one of the grammar.
-    #[error("{0}")]
-    Text(TextFault),
-    /// A line names what the wiring lacks.
-    #[error("{0}")]
-    Lines(ClaimFault),
+impl Model for System {
+    ghost use Rattle.mrc_check.specs.Texts.{Meant};
+
+    ghost Value = { Meant };
+
+    ghost view = { λ s. record { lines = s.lines.items; table = s.wired } };
 }
 
-/// Why the bytes of MIG files and a wiring mean no wiring: the first that is refused.
-#[derive(Clone, Copy, Debug, PartialEq, Eq)]
-pub enum SystemFault {
-    /// A MIG file has no meaning.
-    Defs(FileFault),
-    /// The wiring has no meaning over the files' interfaces.
-    Wiring(WiringFault),
+/// What MIG files, a wiring and a policy mean.
+#[derive(Drop)]
+pub struct Stated {
+    /// The lines of the wiring.
+    pub lines: Vec<WiringLine>,
+    /// What they mean, and what the policy forbids.
+    pub claim: Claim,
 }
 
-/// The first step at which MIG files and three texts are refused.
+impl Model for Stated {
+    ghost use Rattle.mrc_check.specs.Texts as definitions;
+
+    ghost Value = { definitions.Stated };
+
+    ghost view = { λ s. record { lines = s.lines.items; claim = s.claim } };
+}
+
+/// Why texts are not accepted.
 #[derive(Debug, Drop)]
 pub enum TextsFault {
-    /// A MIG file has no meaning.
-    Defs(FileFault),
-    /// The wiring has no meaning.
-    Wiring(WiringFault),
-    /// The policy has no meaning.
-    Policy(PolicyFault),
-    /// The certificate spells no draft.
-    Certificate(DraftFault),
+    /// One of them has no meaning.
+    Meaning(CaseFault),
     /// All have a meaning, and the certificate is refused.
     Check(Refused<Why>),
 }
 
-/// The wiring that bytes mean over interfaces.
-fn table_over(
+/// The name of a task by its number: the place of its line among those that name tasks.
+fn task_named(lines: &[WiringLine], number: u32) -> Option<&Name>
+    ensures { option_map (λ name. name.now) result ≡ slice_get (task_names lines.now) number }
+{
+    let mut left = number;
+    for line in lines {
+        if let WiringSays::Task(name) = &line.says {
+            if left == 0 {
+                return Some(name);
+            }
+            left -= 1;
+        }
+    }
+    None
+}
+
+/// A fault of lines as it is reported: a task with too many names is named.
+fn lines_fault(
     alloc: Global,
-    interfaces: Vec<Interface>,
-    wiring: &[u8],
-) -> Result<Wired, OrMemory<WiringFault>>
-    ensures { Gives (λ table. table) result (table_over interfaces.items wiring.now) }
+    lines: &[WiringLine],
+    fault: ResolveFault,
+) -> Result<WiringFault, AllocError>
+    ensures { IfOk result (λ told. told ≡ lines_fault lines.now fault) }
 {
-    match read_wiring(alloc, wiring) {
-        Ok(lines) => match Wired::resolve(alloc, lines.as_slice(), interfaces) {
-            Ok(wired) => Ok(wired),
-            Err(refused) => match refused.why {
-                OrMemory::Fault(fault) => Err(OrMemory::Fault(WiringFault::Lines(fault))),
-                OrMemory::Memory => Err(OrMemory::Memory),
-            },
-        },
-        Err(OrMemory::Fault(fault)) => Err(OrMemory::Fault(WiringFault::Text(fault))),
-        Err(OrMemory::Memory) => Err(OrMemory::Memory),
+    if let ResolveFault::TooManyNames(task) = fault {
+        if let Some(name) = task_named(lines, task) {
+            return Ok(WiringFault::TooManyNames(name.copy(alloc)?));
+        }
     }
+    Ok(WiringFault::Lines(fault))
 }
 
-/// The wiring that the bytes of MIG files and of a wiring mean together; or the first file that is
-/// refused, else why the wiring is.
-pub fn table_of(
+/// Why lines have no meaning together.
+fn lines_refusal(
     alloc: Global,
-    defs: &[Vec<u8>],
-    wiring: &[u8],
-) -> Result<Wired, OrMemory<SystemFault>>
-    ensures { GivesAs (λ table. table) no_table_of result
-        (table_of (map (λ bytes. bytes.items) defs.now) wiring.now) }
+    lines: &[WiringLine],
+    refusal: OrMemory<ResolveFault>,
+) -> OrMemory<CaseFault>
+    ensures { UnlessMemory (λ told. (fault : ResolveFault) × (refusal ≡ OrMemory.Fault fault)
+        × (meaningless told ≡ InWiring (lines_fault lines.now fault))) result }
 {
-    match read_interfaces(alloc, defs) {
-        Ok(interfaces) => match table_over(alloc, interfaces, wiring) {
-            Ok(wired) => Ok(wired),
-            Err(OrMemory::Fault(fault)) => Err(OrMemory::Fault(SystemFault::Wiring(fault))),
-            Err(OrMemory::Memory) => Err(OrMemory::Memory),
+    match refusal {
+        OrMemory::Fault(fault) => match lines_fault(alloc, lines, fault) {
+            Ok(fault) => OrMemory::Fault(CaseFault::Wiring(fault)),
+            Err(AllocError) => OrMemory::Memory,
         },
-        Err(OrMemory::Fault(fault)) => Err(OrMemory::Fault(SystemFault::Defs(fault))),
-        Err(OrMemory::Memory) => Err(OrMemory::Memory),
+        OrMemory::Memory => OrMemory::Memory,
     }
 }
 
-fn claim_of(alloc: Global, wired: Wired, policy: &[u8]) -> Result<Claim, OrMemory<PolicyFault>>
-    ensures { Gives (λ claim. claim) result (claim_of wired policy.now) }
-{
-    match read_policy(alloc, policy) {
-        Ok(lines) => match Claim::new(alloc, wired, lines.as_slice()) {
-            Ok(claim) => Ok(claim),
-            Err((_, OrMemory::Fault(fault))) => Err(OrMemory::Fault(PolicyFault::Lines(fault))),
-            Err((_, OrMemory::Memory)) => Err(OrMemory::Memory),
-        },
-        Err(OrMemory::Fault(fault)) => Err(OrMemory::Fault(PolicyFault::Text(fault))),
-        Err(OrMemory::Memory) => Err(OrMemory::Memory),
+impl System {
+    /// The system that the bytes of a wiring mean over interfaces, which the wiring keeps. With a
+    /// refusal they come back.
+    pub fn over(
+        alloc: Global,
+        interfaces: Interfaces,
+        wiring: &[u8],
+    ) -> Result<System, (Interfaces, OrMemory<CaseFault>)>
+        ensures exact { GivesOrReturns (λ system. system) meaningless interfaces result
+            (step InWiring (system_over interfaces wiring.now)) }
+        ensures kept { IfOk result (λ system. system.table.interfaces ≡ interfaces) }
+    {
+        let lines = match read_wiring(alloc, wiring) {
+            Ok(lines) => lines,
+            Err(refusal) => {
+                let fault = refusal.map_fault(|fault| CaseFault::Wiring(WiringFault::Text(fault)));
+                return Err((interfaces, fault));
+            }
+        };
+        match Wired::over(alloc, lines.as_slice(), interfaces) {
+            Ok(wired) => Ok(System { lines, wired }),
+            Err((interfaces, why)) => {
+                Err((interfaces, lines_refusal(alloc, lines.as_slice(), why)))
+            }
+        }
+    }
+
+    /// The system that the bytes of MIG files and of a wiring mean together; or the first of them
+    /// that has no meaning.
+    pub fn read(
+        alloc: Global,
+        defs: &[Vec<u8>],
+        wiring: &[u8],
+    ) -> Result<System, OrMemory<CaseFault>>
+        ensures { GivesAs (λ system. system) meaningless result
+            (system_of (map (λ bytes. bytes.items) defs.now) wiring.now) }
+    {
+        let interfaces = match read_interfaces(alloc, defs) {
+            Ok(interfaces) => interfaces,
+            Err(refusal) => return Err(refusal.map_fault(CaseFault::Defs)),
+        };
+        let Ok(interfaces) = Interfaces::new(alloc, interfaces) else {
+            return Err(OrMemory::Memory);
+        };
+        match System::over(alloc, interfaces, wiring) {
+            Ok(system) => Ok(system),
+            Err((_, refusal)) => Err(refusal),
+        }
+    }
+
+    /// The system with what the bytes of a policy forbid in it. With a refusal the system comes
+    /// back.
+    pub fn claim(
+        self,
+        alloc: Global,
+        policy: &[u8],
+    ) -> Result<Stated, (System, OrMemory<CaseFault>)>
+        ensures { GivesOrReturns (λ stated. stated) meaningless self result
+            (stated_by self policy.now) }
+    {
+        let forbidden = match read_policy(alloc, policy) {
+            Ok(forbidden) => forbidden,
+            Err(refusal) => {
+                let fault = refusal.map_fault(|fault| CaseFault::Policy(PolicyFault::Text(fault)));
+                return Err((self, fault));
+            }
+        };
+        let System { lines, wired } = self;
+        match Claim::new(alloc, wired, forbidden.as_slice()) {
+            Ok(claim) => Ok(Stated { lines, claim }),
+            Err((wired, refusal)) => {
+                let fault = refusal.map_fault(|fault| CaseFault::Policy(PolicyFault::Lines(fault)));
+                Err((System { lines, wired }, fault))
+            }
+        }
     }
 }
 
+impl Stated {
+    /// What the bytes of MIG files, of a wiring and of a policy mean together; or the first of them
+    /// that has no meaning.
+    pub fn read(
+        alloc: Global,
+        defs: &[Vec<u8>],
+        wiring: &[u8],
+        policy: &[u8],
+    ) -> Result<Stated, OrMemory<CaseFault>>
+        ensures { GivesAs (λ stated. stated) meaningless result
+            (stated_of (map (λ bytes. bytes.items) defs.now) wiring.now policy.now) }
+    {
+        match System::read(alloc, defs, wiring)?.claim(alloc, policy) {
+            Ok(stated) => Ok(stated),
+            Err((_, refusal)) => Err(refusal),
+        }
+    }
+}
+
+/// What a certificate answers to a claim.
 fn answered_by(
     rt: &(impl Threads + Sync),
     alloc: Global,
@@ -129,41 +222,26 @@ fn answered_by(
 ) -> Result<Confined, OrMemory<TextsFault>>
     ensures { Tells result (answered_by claim certificate.now) }
 {
-    match read_draft(alloc, certificate) {
-        Ok(draft) => match check(rt, alloc, claim, draft) {
-            Ok(confined) => Ok(confined),
-            Err(Refused { claim, draft, why }) => match why {
-                OrMemory::Fault(why) => Err(OrMemory::Fault(TextsFault::Check(Refused {
-                    claim,
-                    draft,
-                    why,
-                }))),
-                OrMemory::Memory => Err(OrMemory::Memory),
-            },
+    let draft = match read_draft(alloc, certificate) {
+        Ok(draft) => draft,
+        Err(refusal) => {
+            return Err(refusal.map_fault(|f| TextsFault::Meaning(CaseFault::Certificate(f))));
+        }
+    };
+    match check(rt, alloc, claim, draft) {
+        Ok(confined) => Ok(confined),
+        Err(Refused { claim, draft, why }) => match why {
+            OrMemory::Fault(why) => Err(OrMemory::Fault(TextsFault::Check(Refused {
+                claim,
+                draft,
+                why,
+            }))),
+            OrMemory::Memory => Err(OrMemory::Memory),
         },
-        Err(OrMemory::Fault(fault)) => Err(OrMemory::Fault(TextsFault::Certificate(fault))),
-        Err(OrMemory::Memory) => Err(OrMemory::Memory),
     }
 }
 
-/// What a wiring's policy and certificate say, step by step.
-fn checked_over(
-    rt: &(impl Threads + Sync),
-    alloc: Global,
-    wired: Wired,
-    policy: &[u8],
-    certificate: &[u8],
-) -> Result<Confined, OrMemory<TextsFault>>
-    ensures { Tells result (case_over wired policy.now certificate.now) }
-{
-    match claim_of(alloc, wired, policy) {
-        Ok(claim) => answered_by(rt, alloc, claim, certificate),
-        Err(OrMemory::Fault(fault)) => Err(OrMemory::Fault(TextsFault::Policy(fault))),
-        Err(OrMemory::Memory) => Err(OrMemory::Memory),
-    }
-}
-
-/// What the files say, step by step.
+/// What the files say, stage by stage.
 fn checked(
     rt: &(impl Threads + Sync),
     alloc: Global,
@@ -175,15 +253,9 @@ fn checked(
     ensures { Tells result (case_of (map (λ bytes. bytes.items) defs.now) wiring.now policy.now
         certificate.now) }
 {
-    match table_of(alloc, defs, wiring) {
-        Ok(wired) => checked_over(rt, alloc, wired, policy, certificate),
-        Err(OrMemory::Fault(SystemFault::Defs(fault))) => {
-            Err(OrMemory::Fault(TextsFault::Defs(fault)))
-        }
-        Err(OrMemory::Fault(SystemFault::Wiring(fault))) => {
-            Err(OrMemory::Fault(TextsFault::Wiring(fault)))
-        }
-        Err(OrMemory::Memory) => Err(OrMemory::Memory),
+    match Stated::read(alloc, defs, wiring, policy) {
+        Ok(stated) => answered_by(rt, alloc, stated.claim, certificate),
+        Err(refusal) => Err(refusal.map_fault(TextsFault::Meaning)),
     }
 }
 

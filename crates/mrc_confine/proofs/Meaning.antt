@@ -8,10 +8,9 @@ use Rattle.mrc_base.specs.declared.Fact.{Fact}
 use Rattle.mrc_base.specs.declared.Fact.TheVariants.{Hold}
 use Rattle.mrc_base.specs.declared.PortRight.TheVariants.{Send}
 use Rattle.mrc_base.proofs.Steps.{ok_is}
-use Rattle.mrc_check.specs.Texts.{SayYes}
+use Rattle.mrc_check.specs.Texts.{MeanClaim}
 use Rattle.mrc_check.specs.Trusted.{is_bound, may_rewrite}
-use Rattle.mrc_check.specs.Verdict.{Case}
-use Rattle.mrc_confine.specs.Safety.{HasRewriter, HaveNoYes, IsBroken, IsNo, MeanClaim}
+use Rattle.mrc_confine.specs.Safety.{HasRewriter, HaveNoYes, IsBroken, IsNo}
 use Rattle.mrc_facts.specs.Sets.{has}
 use Rattle.mrc_interface.proofs.ReadingLaws.{interfaces_read}
 use Rattle.mrc_model.specs.Wiring.{Wiring, kernel_class}
@@ -23,33 +22,19 @@ use Rattle.mrc_wiring_text.proofs.TextLaws.{text_read}
 use Rattle.mrc_wiring_text.specs.Policy.{policy_says}
 use Rattle.mrc_wiring_text.specs.Wiring.{wiring_says}
 
--- a yes of the checker has a claim that its bytes mean
-meant : (defs : List (List ℕ)) (wiring policy certificate : List ℕ) (case : Case)
-    → SayYes defs wiring policy certificate case → MeanClaim defs wiring policy case.claim
-meant defs wiring policy certificate case says = record {
-  interfaces = says.interfaces;
-  are_interfaces = says.are_interfaces;
-  wiring_lines = says.wiring_lines;
-  is_wiring = says.is_wiring;
-  is_table = says.is_table;
-  policy_lines = says.policy_lines;
-  is_policy = says.is_policy;
-  is_claim = says.is_claim;
-}
-
 -- two claims that the same bytes mean are one
 same_claim : (defs : List (List ℕ)) (wiring policy : List ℕ) (a b : Claimed)
     → MeanClaim defs wiring policy a → MeanClaim defs wiring policy b → a ≡ b
 same_claim defs wiring policy a b m n =
-    let interfaces : m.interfaces ≡ n.interfaces = ok_is m.interfaces n.interfaces
-    (sym (interfaces_read defs m.interfaces m.are_interfaces)
-    ∙ interfaces_read defs n.interfaces n.are_interfaces) in
-    let lines : m.wiring_lines ≡ n.wiring_lines = ok_is m.wiring_lines n.wiring_lines
-    (sym (text_read _ wiring_says wiring m.wiring_lines m.is_wiring)
-    ∙ text_read _ wiring_says wiring n.wiring_lines n.is_wiring) in
+    let interfaces : m.system.interfaces ≡ n.system.interfaces = ok_is m.system.interfaces n.system.interfaces
+    (sym (interfaces_read defs m.system.interfaces m.system.are_interfaces)
+    ∙ interfaces_read defs n.system.interfaces n.system.are_interfaces) in
+    let lines : m.lines ≡ n.lines = ok_is m.lines n.lines
+    (sym (text_read _ wiring_says wiring m.lines m.system.is_wiring)
+    ∙ text_read _ wiring_says wiring n.lines n.system.is_wiring) in
     let table : a.table ≡ b.table = ok_is a.table b.table
-    (sym m.is_table ∙ ap (λ i. resolved i m.wiring_lines) interfaces
-    ∙ ap (λ l. resolved n.interfaces l) lines ∙ n.is_table) in
+    (sym m.system.is_table ∙ ap (λ i. resolved i m.lines) interfaces
+    ∙ ap (λ l. resolved n.system.interfaces l) lines ∙ n.system.is_table) in
     let says : m.policy_lines ≡ n.policy_lines = ok_is m.policy_lines n.policy_lines
     (sym (text_read _ policy_says policy m.policy_lines m.is_policy)
     ∙ text_read _ policy_says policy n.policy_lines n.is_policy) in
@@ -85,8 +70,7 @@ may_by W set t u low other free held =
 -- no set of facts is a yes, so no draft is accepted
 pub no_has_no_yes : HaveNoYes IsNo
 no_has_no_yes defs wiring policy claim mean refused certificate case says =
-    let same = same_claim defs wiring policy claim case.claim mean
-    (meant defs wiring policy certificate case says) in
+    let same = same_claim defs wiring policy claim case.claim mean says.means in
     subst (λ (c : Claimed). IsNo c) same refused (has case.draft.facts) says.accepted.yes
     says.accepted.secure
 

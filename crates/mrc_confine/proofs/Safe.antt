@@ -1,9 +1,12 @@
 -- The checker's yes is the premise of the headline, and so is that of a least set.
+use Rattle.std.proofs.Common.{ℕ, List, IsTrue}
+use Rattle.mrc_check.specs.Texts.{MeanClaim}
 use Rattle.mrc_cover.proofs.Laws.{runs_are_safe}
 use Rattle.mrc_facts.specs.Sets.{has}
+use Rattle.mrc_model.specs.First.{is_sound}
 use Rattle.mrc_wiring.proofs.Resolved.{resolved_is_table}
 use Rattle.mrc_wiring.proofs.Sound.{table_is_sound}
-use Rattle.mrc_wiring.specs.Claims.{policy_of}
+use Rattle.mrc_wiring.specs.Claims.{Claimed, policy_of}
 use Rattle.mrc_wiring.specs.Table.{wiring_of}
 use Rattle.mrc_confine.specs.Safety.{AcceptedIsSafe, VerifiedIsSafe, YesIsSafe}
 
@@ -14,17 +17,20 @@ accepted_safe claim draft sound accepted events w run =
     (has draft.facts) sound accepted.yes events w run
 
 -- a wiring that its text means has a first state
+pub sound_of : (defs : List (List ℕ)) (wiring policy : List ℕ) (claim : Claimed)
+    → MeanClaim defs wiring policy claim → IsTrue (is_sound (wiring_of claim.table))
+sound_of defs wiring policy claim mean =
+    let system = mean.system in
+    table_is_sound claim.table
+    (resolved_is_table system.interfaces mean.lines claim.table system.is_table)
+
 pub yes_safe : YesIsSafe
 yes_safe defs wiring policy certificate case says =
-    let table = case.claim.table in
-    let is = resolved_is_table says.interfaces says.wiring_lines table says.is_table in
-    let sound = table_is_sound table is in
-    accepted_safe case.claim case.draft sound says.accepted
+    accepted_safe case.claim case.draft (sound_of defs wiring policy case.claim says.means)
+    says.accepted
 
 -- the least set needs no certificate
 pub verified_safe : VerifiedIsSafe
 verified_safe defs wiring policy claim set mean least events w run =
-    let table = claim.table in
-    let is = resolved_is_table mean.interfaces mean.wiring_lines table mean.is_table in
-    let sound = table_is_sound table is in
-    runs_are_safe (wiring_of table) (policy_of claim) set sound least.says events w run
+    runs_are_safe (wiring_of claim.table) (policy_of claim) set
+    (sound_of defs wiring policy claim mean) least.says events w run

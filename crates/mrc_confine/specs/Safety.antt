@@ -1,16 +1,14 @@
 -- What a yes means for every run of the machine: that of the checker to a certificate, and that of
 -- the least set of facts; and what a no means for certificates. This profile's own choice.
-use Rattle.std.specs.Prelude.{◌≡◌, ◌≢◌, ◌<◌, ℕ, Bool, false, List, Ok, IsTrue}
+use Rattle.std.specs.Prelude.{◌≡◌, ◌≢◌, ◌<◌, ℕ, Bool, false, List, IsTrue}
 use Rattle.mrc_base.specs.declared.Fact.{Fact}
 use Rattle.mrc_base.specs.declared.Fact.TheVariants.{Hold}
 use Rattle.mrc_base.specs.declared.PortRight.TheVariants.{Send}
 use Rattle.mrc_certificate.specs.Drafts.{Content}
-use Rattle.mrc_check.specs.Texts.{SayYes}
+use Rattle.mrc_check.specs.Texts.{MeanClaim, SayYes}
 use Rattle.mrc_check.specs.Trusted.{AreSecure, is_bound}
 use Rattle.mrc_check.specs.Verdict.{Case, IsAccepted}
 use Rattle.mrc_facts.specs.Sets.{has}
-use Rattle.mrc_forms.specs.Tables.{Table as Interface}
-use Rattle.mrc_interface.specs.Reading.{AreInterfaces}
 use Rattle.mrc_model.specs.Breach.{Breach, Forbid}
 use Rattle.mrc_model.specs.Covers.{Covers}
 use Rattle.mrc_model.specs.First.{first, is_sound}
@@ -20,13 +18,8 @@ use Rattle.mrc_model.specs.Runs.{Event, Run}
 use Rattle.mrc_model.specs.Wiring.{kernel_class}
 use Rattle.mrc_model.specs.World.{World}
 use Rattle.mrc_wiring.specs.declared.table.TrustedLine.{TrustedLine}
-use Rattle.mrc_wiring.specs.Claims.{Claimed, forbidden_lines, policy_of}
-use Rattle.mrc_wiring.specs.Resolving.{resolved}
+use Rattle.mrc_wiring.specs.Claims.{Claimed, policy_of}
 use Rattle.mrc_wiring.specs.Table.{wiring_of}
-use Rattle.mrc_wiring_text.specs.declared.policy.Forbid.{Forbid as ForbidText}
-use Rattle.mrc_wiring_text.specs.declared.reading.Line.{Line}
-use Rattle.mrc_wiring_text.specs.declared.wiring.WiringSays.{WiringSays}
-use Rattle.mrc_wiring_text.specs.Texts.{IsPolicy, IsWiring}
 
 -- The events lead from the first state of the claim's wiring to the world.
 abbrev pub LeadsTo : Claimed → List Event → World → Type 0
@@ -56,19 +49,6 @@ YesIsSafe =
     → SayYes defs wiring policy certificate case → IsSafe case
 
 -- Without a certificate.
-
--- The bytes mean a claim: the definitions are MIG files, the wiring over their interfaces has a
--- table, and the policy forbids these lines in it.
-pub record MeanClaim (defs : List (List ℕ)) (wiring policy : List ℕ) (claim : Claimed)
-    : Type 0 where
-  pub interfaces : List Interface
-  pub are_interfaces : AreInterfaces defs interfaces
-  pub wiring_lines : List (Line WiringSays)
-  pub is_wiring : IsWiring wiring wiring_lines
-  pub is_table : resolved interfaces wiring_lines ≡ Ok claim.table
-  pub policy_lines : List (Line ForbidText)
-  pub is_policy : IsPolicy policy policy_lines
-  pub is_claim : forbidden_lines claim.table policy_lines ≡ Ok claim.lines
 
 -- the set is the least of the claim's wiring, and the checker says yes to it
 pub record IsLeastYes (claim : Claimed) (set : Fact → Bool) : Type 0 where

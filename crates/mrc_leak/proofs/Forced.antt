@@ -6,8 +6,8 @@ use Rattle.std.proofs.lemmas.Bool.{false≢true}
 use Rattle.mrc_base.specs.declared.Fact.{Fact}
 use Rattle.mrc_base.specs.declared.Fact.TheVariants.{Hold}
 use Rattle.mrc_cover.proofs.Laws.{runs_are_safe}
-use Rattle.mrc_confine.specs.Safety.{MeanClaim}
 use Rattle.mrc_confine.proofs.Meaning.{broken_has_none}
+use Rattle.mrc_confine.proofs.Safe.{sound_of}
 use Rattle.mrc_model.specs.Breach.{Breach, Forbid}
 use Rattle.mrc_model.specs.First.{first, is_sound}
 use Rattle.mrc_model.specs.IsIn.{IsIn, here, later}
@@ -15,8 +15,6 @@ use Rattle.mrc_model.specs.Rules.{Closed, ForbidsNone, Has}
 use Rattle.mrc_model.specs.Runs.{Event, Run}
 use Rattle.mrc_model.specs.Wiring.{Wiring}
 use Rattle.mrc_model.specs.World.{World}
-use Rattle.mrc_wiring.proofs.Resolved.{resolved_is_table}
-use Rattle.mrc_wiring.proofs.Sound.{table_is_sound}
 use Rattle.mrc_wiring.specs.Claims.{Claimed, holding_of}
 use Rattle.mrc_wiring.specs.declared.claim.ForbiddenLine.{ForbiddenLine}
 use Rattle.mrc_wiring.specs.Table.{Table, wiring_of}
@@ -55,13 +53,6 @@ leaks_forced table sound line text leak =
     let end = leak.breaking.end in
     breaches_forced (wiring_of table) line end.events leak.breaking.world sound end.run
     leak.breaking.breach
-
--- a wiring that its text means has a first state
-sound_of : (defs : List (List ℕ)) (wiring policy : List ℕ) (claim : Claimed)
-    → MeanClaim defs wiring policy claim → IsTrue (is_sound (wiring_of claim.table))
-sound_of defs wiring policy claim mean =
-    table_is_sound claim.table
-    (resolved_is_table mean.interfaces mean.wiring_lines claim.table mean.is_table)
 
 pub breaches_have_no_yes : BreachesHaveNoYes
 breaches_have_no_yes defs wiring policy claim mean x =

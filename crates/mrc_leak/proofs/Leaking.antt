@@ -5,14 +5,14 @@ use Rattle.std.specs.Prelude.{◌↔◌, IfOk, IsTrue}
 use Rattle.std.proofs.lemmas.Bool.{false≢true}
 use Rattle.mrc_base.specs.declared.memory.OrMemory.{OrMemory}
 use Rattle.mrc_base.specs.declared.memory.OrMemory.TheVariants.{Fault}
+use Rattle.mrc_base.specs.Reading.{Gives}
 use Rattle.mrc_model.specs.Breach.{Breach, Forbid}
 use Rattle.mrc_model.specs.World.{World}
 use Rattle.mrc_wiring.specs.Table.{Table, wiring_of}
+use Rattle.mrc_wiring_text.specs.declared.faults.TextFault.{TextFault}
 use Rattle.mrc_wiring_text.specs.declared.reading.Line.{Line}
-use Rattle.mrc_report.specs.declared.script.ScriptFault.{ScriptFault}
-use Rattle.mrc_report.specs.declared.script.ScriptFault.TheVariants.{BadLine}
 use Rattle.mrc_report.specs.declared.script.TaskCall.{TaskCall}
-use Rattle.mrc_report.specs.Scripts.{IsScript, Reads}
+use Rattle.mrc_report.specs.Scripts.{IsScript}
 use Rattle.mrc_leak.specs.Leaks.{IsEnd, IsBreaking, IsLeak}
 use Rattle.mrc_leak.proofs.Ends.{end_same}
 
@@ -31,13 +31,13 @@ breaking_told table line says w (Err e) end told = tt
 
 -- what every script of the text says was read
 abbrev pub IsReadAs : (tasks : List (List ℕ)) (text : List ℕ)
-    → Result (List (Line TaskCall)) (OrMemory ScriptFault) → Type 0
+    → Result (List (Line TaskCall)) (OrMemory TextFault) → Type 0
 IsReadAs tasks text read =
     (says : List (Line TaskCall)) → IsScript false tasks text says
-    → Reads (λ script. script) read (Ok says)
+    → Gives (λ script. script) read (Ok says)
 
 one_script : (says other : List (Line TaskCall))
-    → Reads (λ script. script) (Ok says) (Ok other) → other ≡ says
+    → Gives {F = TextFault} (λ script. script) (Ok says) (Ok other) → other ≡ says
 one_script says other same = cc
 
 -- the script that was read breaks the line
@@ -55,17 +55,17 @@ leak_told table line text says (Ok b) script only told = (
 leak_told table line text says (Err e) script only told = tt
 
 -- a text that is refused leaks for no line
-pub no_leak : (table : Table) (line : Forbid) (text : List ℕ) (fault : ScriptFault)
+pub no_leak : (table : Table) (line : Forbid) (text : List ℕ) (fault : TextFault)
     → IsReadAs table.names text (Err (Fault fault)) → IsLeak table line text → ⊥
-no_leak table line text (BadLine n) only leak =
+no_leak table line text fault only leak =
     let read = only leak.says leak.is_script in
     cc
 
 pub refused_told : (table : Table) (line : Forbid) (text : List ℕ)
-    (refusal : OrMemory ScriptFault) (fault : ScriptFault) → refusal ≡ Fault fault
+    (refusal : OrMemory TextFault) (fault : TextFault) → refusal ≡ Fault fault
     → IsReadAs table.names text (Err refusal) → IsTrue false ↔ IsLeak table line text
 refused_told table line text refusal fault is only =
-    let read = subst (λ (r : OrMemory ScriptFault). IsReadAs table.names text (Err r)) is only in (
+    let read = subst (λ (r : OrMemory TextFault). IsReadAs table.names text (Err r)) is only in (
       λ held. absurd (false≢true held),
       λ leak. absurd (no_leak table line text fault read leak),
     )

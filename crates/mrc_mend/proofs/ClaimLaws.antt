@@ -1,26 +1,73 @@
--- The claim of files, by the interfaces of the MIG files.
-use Rattle.std.proofs.Common.{◌≡◌, ◌∙◌, ℕ, List, Result, Ok, Err, refl, ap}
+-- What texts mean over the interfaces of MIG files, and what they mean with the files.
+use Rattle.std.proofs.Common.{◌≡◌, ◌∙◌, ℕ, List, Result, Ok, Err, refl, ap, subst}
+use Rattle.std.specs.Prelude.{IfOk}
+use Rattle.std.proofs.lemmas.List.Elements.{All-weaker}
 use Rattle.mrc_base.specs.Reading.{◌>>=◌}
 use Rattle.mrc_forms.specs.Tables.{Table as Interface}
 use Rattle.mrc_interface.specs.Reading.{step, interfaces_of}
+use Rattle.mrc_wiring_text.specs.Policy.{policy_of}
 use Rattle.mrc_wiring.specs.Table.{Table}
-use Rattle.mrc_check.specs.declared.texts.WiringFault.{WiringFault}
-use Rattle.mrc_check.specs.Texts.{table_over, claim_of, InSystem, InPolicy}
-use Rattle.mrc_check.specs.Texts.{InDefs, InWiring}
-use Rattle.mrc_mend.specs.Judging.{claimed_over, claimed_of}
+use Rattle.mrc_wiring.specs.Claims.{Claimed, forbidden_lines}
+use Rattle.mrc_check.specs.declared.faults.PolicyFault.{PolicyFault}
+use Rattle.mrc_check.specs.declared.faults.PolicyFault.TheVariants.{Text, Lines}
+use Rattle.mrc_check.specs.Texts.{InDefs, InWiring, InPolicy, Meant, Stated, system_over, claim_of}
+use Rattle.mrc_check.specs.Texts.{stated_by, stated_of, stated_over}
+use Rattle.mrc_mend.specs.declared.answers.Answer.{Answer}
+use Rattle.mrc_mend.specs.declared.answers.Answer.TheVariants.{Nothing, Found}
+use Rattle.mrc_mend.specs.declared.answers.Mend.{Mend}
+use Rattle.mrc_mend.specs.Mending.{mended}
+use Rattle.mrc_mend.specs.Judging.{Texts, MendOver, IsMend, AreAnswered}
 
--- two steps that tell of a fault are one
-one_step : (policy : List ℕ) (table : Result Table WiringFault)
-    → (step InSystem (step InWiring table) >>= λ t. step InPolicy (claim_of t policy))
-    ≡ (step (λ fault. InSystem (InWiring fault)) table >>= λ t. step InPolicy (claim_of t policy))
-one_step policy (Ok table) = refl
-one_step policy (Err fault) = refl
+-- what holds of what the later step gives holds of what both give
+after_step : {A B E F : Type 0} (P : B → Type 0) (place : E → F) (r : Result A E)
+    (f : A → Result B F)
+    → ((x : A) → IfOk (f x) P) → IfOk (step place r >>= f) P
+after_step P place (Ok x) f holds = holds x
+after_step P place (Err fault) f holds = tt
 
--- where the files have these interfaces, the claim of the files is that over them
-pub claimed_same : (defs : List (List ℕ)) (wiring policy : List ℕ) (interfaces : List Interface)
+-- a claim has the table that it is made of
+claim_kept : (table : Table) (policy : List ℕ)
+    → IfOk (claim_of table policy) (λ claim. claim.table ≡ table)
+claim_kept table policy =
+    after_step _ Text (policy_of policy) _
+    (λ says. after_step _ Lines (forbidden_lines table says) _ (λ lines. refl))
+
+stated_kept : (system : Meant) (claim : Result Claimed PolicyFault)
+    → IfOk claim (λ claim. claim.table ≡ system.table)
+    → IfOk (step InPolicy claim >>= λ claim. Ok record { lines = system.lines; claim = claim })
+    (λ (stated : Stated). stated.claim.table ≡ system.table)
+stated_kept system (Ok claim) kept = kept
+stated_kept system (Err fault) kept = tt
+
+-- a policy leaves the table of a system unchanged
+pub table_kept : (system : Meant) (policy : List ℕ) (stated : Stated)
+    → stated_by system policy ≡ Ok stated
+    → stated.claim.table ≡ system.table
+table_kept system policy stated e =
+    subst (λ r. IfOk r (λ (stated : Stated). stated.claim.table ≡ system.table)) e
+    (stated_kept system (claim_of system.table policy) (claim_kept system.table policy))
+
+-- if the files have these interfaces, what the files mean is what is meant over them
+pub stated_same : (defs : List (List ℕ)) (wiring policy : List ℕ) (interfaces : List Interface)
     → interfaces_of defs ≡ Ok interfaces
-    → claimed_of defs wiring policy ≡ claimed_over interfaces wiring policy
-claimed_same defs wiring policy interfaces e =
-    ap (λ r. step InSystem (step InDefs r >>= λ is. step InWiring (table_over is wiring))
-    >>= λ t. step InPolicy (claim_of t policy)) e
-    ∙ one_step policy (table_over interfaces wiring)
+    → stated_of defs wiring policy ≡ stated_over interfaces wiring policy
+stated_same defs wiring policy interfaces e =
+    ap (λ r. (step InDefs r >>= λ is. step InWiring (system_over is wiring))
+    >>= λ system. stated_by system policy) e
+
+-- and what mends over them mends the wiring of the files
+pub mends_of : (defs : List (List ℕ)) (interfaces : List Interface) (texts : Texts)
+    (answer : Answer)
+    → interfaces_of defs ≡ Ok interfaces
+    → AreAnswered (MendOver interfaces texts) answer
+    → AreAnswered (IsMend defs texts.wiring texts.policy) answer
+mends_of defs interfaces texts Nothing e all = tt
+mends_of defs interfaces texts (Found mends) e all =
+    All-weaker (λ (m : Mend). MendOver interfaces texts m.changes.items)
+    (λ (m : Mend). IsMend defs texts.wiring texts.policy m.changes.items)
+    (λ m mend. record {
+      stated = mend.stated;
+      means = stated_same defs (mended texts.wiring m.changes.items) texts.policy interfaces e
+          ∙ mend.means;
+      yes = mend.yes;
+    }) mends.mends.items all

@@ -1,13 +1,9 @@
--- What a wiring and a policy claim over MIG files, all from their bytes, and which changes mend the
--- wiring. This profile's own choice.
+-- Which changes mend a wiring, and what there is to mend of a system. This profile's own choice.
 use Rattle.std.specs.Prelude.{◌≡◌, ℕ, ◌≤◌, List, length, Result, Ok, IfSome}
 use Rattle.std.specs.List.{All}
-use Rattle.mrc_base.specs.Reading.{◌>>=◌}
 use Rattle.mrc_forms.specs.Tables.{Table as Interface}
-use Rattle.mrc_interface.specs.Reading.{step}
 use Rattle.mrc_wiring.specs.Claims.{Claimed}
-use Rattle.mrc_check.specs.Texts.{table_over, table_of, claim_of, Meaningless, InSystem, InPolicy}
-use Rattle.mrc_check.specs.Texts.{InWiring, no_table_of}
+use Rattle.mrc_check.specs.Texts.{Meaningless, Stated, stated_over, stated_of}
 use Rattle.mrc_why.specs.Broken.{HasYes, HasNoYes}
 use Rattle.mrc_mend.specs.declared.changes.Change.{Change}
 use Rattle.mrc_mend.specs.declared.answers.Answer.{Answer}
@@ -15,43 +11,34 @@ use Rattle.mrc_mend.specs.declared.answers.Answer.TheVariants.{Nothing, Found}
 use Rattle.mrc_mend.specs.declared.answers.Mend.{Mend}
 use Rattle.mrc_mend.specs.declared.judging.Verdict.{Verdict}
 use Rattle.mrc_mend.specs.declared.judging.Verdict.TheVariants as verdict
-use Rattle.mrc_mend.specs.declared.claims.MendFault.{MendFault}
-use Rattle.mrc_mend.specs.declared.claims.MendFault.TheVariants as faults
 use Rattle.mrc_mend.specs.Causes.{IsCause}
 use Rattle.mrc_mend.specs.Mending.{mended}
 
--- the claim of a wiring and a policy over interfaces, or the first text that has no meaning
-abbrev pub claimed_over : List Interface → (wiring policy : List ℕ) → Result Claimed Meaningless
-claimed_over interfaces wiring policy = do
-  table ← step (λ fault. InSystem (InWiring fault)) (table_over interfaces wiring)
-  step InPolicy (claim_of table policy)
+-- the bytes of a wiring that is to be mended, and of a policy
+pub record Texts : Type 0 where
+  pub wiring : List ℕ
+  pub policy : List ℕ
 
--- the claim of a wiring and a policy over MIG files, or the first file that has no meaning
-abbrev pub claimed_of : List (List ℕ) → (wiring policy : List ℕ) → Result Claimed Meaningless
-claimed_of defs wiring policy = do
-  table ← step InSystem (table_of defs wiring)
-  step InPolicy (claim_of table policy)
+-- what the wiring with the changes and the policy mean over interfaces
+abbrev pub stated_with : List Interface → Texts → List Change → Result Stated Meaningless
+stated_with interfaces texts changes =
+    stated_over interfaces (mended texts.wiring changes) texts.policy
 
--- what a fault tells
-abbrev pub no_claim_of : MendFault → Meaningless
-no_claim_of (faults.System fault) = InSystem (no_table_of fault)
-no_claim_of (faults.Policy fault) = InPolicy fault
-
--- the text with the changes has a claim over interfaces, and its least set is a yes by which no
--- task could rewrite a trusted one
-pub record MendOver (interfaces : List Interface) (wiring policy : List ℕ) (changes : List Change)
+-- the wiring with the changes has a meaning, and its least set is a yes by which no task could
+-- rewrite a trusted one
+pub record MendOver (interfaces : List Interface) (texts : Texts) (changes : List Change)
     : Type 0 where
-  pub claim : Claimed
-  pub means : claimed_over interfaces (mended wiring changes) policy ≡ Ok claim
-  pub yes : HasYes claim
+  pub stated : Stated
+  pub means : stated_with interfaces texts changes ≡ Ok stated
+  pub yes : HasYes stated.claim
 
--- the changes mend the wiring: its text, changed as it is printed, has a claim with the policy over
--- the MIG files, and its least set is a yes by which no task could rewrite a trusted one
+-- the changes mend the wiring: its text, changed as it is printed, has a meaning with the policy
+-- over the MIG files, and its least set is a yes by which no task could rewrite a trusted one
 pub record IsMend (defs : List (List ℕ)) (wiring policy : List ℕ) (changes : List Change)
     : Type 0 where
-  pub claim : Claimed
-  pub means : claimed_of defs (mended wiring changes) policy ≡ Ok claim
-  pub yes : HasYes claim
+  pub stated : Stated
+  pub means : stated_of defs (mended wiring changes) policy ≡ Ok stated
+  pub yes : HasYes stated.claim
 
 -- where the changes are said to mend a wiring, this holds
 abbrev pub IfMending : Type 0 → Verdict → Type 0
@@ -84,9 +71,10 @@ abbrev pub HasCause : Claimed → Answer → Type 0
 HasCause claim Nothing = Unit {0}
 HasCause claim (Found mends) = IfSome mends.cause (IsCause claim)
 
--- the files make a claim, of which this is needed, and so is what its broken lines have in common
-pub record IsNeededOf (made : Result Claimed Meaningless) (answer : Answer) : Type 0 where
-  pub claim : Claimed
-  pub is : made ≡ Ok claim
-  pub needed : IsNeeded claim answer
-  pub cause : HasCause claim answer
+-- the files have a meaning, of whose claim this is needed, and so is what its broken lines have in
+-- common
+pub record IsNeededOf (made : Result Stated Meaningless) (answer : Answer) : Type 0 where
+  pub stated : Stated
+  pub is : made ≡ Ok stated
+  pub needed : IsNeeded stated.claim answer
+  pub cause : HasCause stated.claim answer

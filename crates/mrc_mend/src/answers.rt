@@ -2,21 +2,23 @@
 
 ghost use Rattle.std.specs.Prelude.{◌≡◌, IfOk, IfErr, Err, map};
 ghost use Rattle.mrc_base.specs.Reading.{UnlessMemory};
-ghost use Rattle.mrc_mend.specs.Judging.{claimed_of, no_claim_of, MendOver, IsMend, AreAnswered};
-ghost use Rattle.mrc_mend.specs.Judging.{AreAtMost, IsNeeded, IsNeededOf, HasCause};
+ghost use Rattle.mrc_interface.specs.Reading.{GivesAs, interfaces_of, step};
+ghost use Rattle.mrc_check.specs.Texts.{InDefs, meaningless, stated_of};
+ghost use Rattle.mrc_mend.specs.Judging.{MendOver, IsMend, AreAnswered, AreAtMost};
+ghost use Rattle.mrc_mend.specs.Judging.{IsNeeded, IsNeededOf, HasCause};
 
 use crate::causes::{Cause, cause_of};
 use crate::changes::Change;
-use crate::claims::{MendFault, Said, said_by};
 use crate::cutting::children;
 use crate::heading::edition;
-use crate::judging::{System, first_objection};
+use crate::judging::{Texts, first_objection, stated_over};
 use crate::losing::First;
 use crate::searching::{Searched, search};
-use mrc_base::{OrMemory, copy_all};
-use mrc_check::SystemFault;
+use mrc_base::{Copies, OrMemory};
+use mrc_check::{CaseFault, Stated};
 use mrc_closure::make_alone;
 use mrc_interface::read_interfaces;
+use mrc_wiring::Interfaces;
 use std::alloc::{AllocError, Global};
 
 /// Changes after which the answer is yes.
@@ -54,16 +56,16 @@ pub trait Progress {
     fn tried(&mut self, tries: usize);
 }
 
-/// What there is to mend of a claim over interfaces.
+/// What there is to mend of texts that have this meaning.
 fn answered<P: Progress>(
     alloc: Global,
-    system: &System<'_>,
-    first: &Said,
+    interfaces: Interfaces,
+    texts: &Texts<'_>,
+    first: &Stated,
     most: usize,
     progress: &mut P,
 ) -> Result<Answer, AllocError>
-    ensures mends { IfOk result (AreAnswered (MendOver system.now.interfaces.items
-        system.now.wiring.now system.now.policy.now)) }
+    ensures mends { IfOk result (AreAnswered (MendOver interfaces texts.now)) }
     ensures within { IfOk result (AreAtMost most) }
     ensures needed { IfOk result (IsNeeded first.now.claim) }
     ensures cause { IfOk result (HasCause first.now.claim) }
@@ -78,16 +80,33 @@ fn answered<P: Progress>(
         wired,
         facts,
         lines: first.claim.lines(),
-        edition: edition(alloc, system.wiring)?,
+        edition: edition(alloc, texts.wiring)?,
     };
     let next = children(alloc, &before, first, facts, &[], &fact)?;
     let cause = cause_of(alloc, &first.claim)?;
-    let Searched { mends, cut_off } = search(alloc, system, &before, next, most, progress)?;
+    let Searched { mends, cut_off } = search(
+        alloc, interfaces, texts, &before, next, most, progress,
+    )?;
     Ok(Answer::Found(Mends {
         mends,
         cut_off,
         cause,
     }))
+}
+
+/// The interfaces of MIG files, typed once for all wirings.
+fn interfaces_of(alloc: Global, defs: &[Vec<u8>]) -> Result<Interfaces, OrMemory<CaseFault>>
+    ensures { GivesAs (λ interfaces. interfaces) meaningless result
+        (step InDefs (interfaces_of (map (λ bytes. bytes.items) defs.now))) }
+{
+    let interfaces = match read_interfaces(alloc, defs) {
+        Ok(interfaces) => interfaces,
+        Err(refusal) => return Err(refusal.map_fault(CaseFault::Defs)),
+    };
+    match Interfaces::new(alloc, interfaces) {
+        Ok(interfaces) => Ok(interfaces),
+        Err((_, AllocError)) => Err(OrMemory::Memory),
+    }
 }
 
 /// The mends of a wiring for a policy over MIG files, all from their bytes: `most` of them at most,
@@ -99,7 +118,7 @@ pub fn find_mends<P: Progress>(
     policy: &[u8],
     most: usize,
     progress: &mut P,
-) -> Result<Answer, OrMemory<MendFault>>
+) -> Result<Answer, OrMemory<CaseFault>>
     // Each mend that is answered was judged yes, applied as it is printed.
     ensures found { IfOk result (AreAnswered
         (IsMend (map (λ bytes. bytes.items) defs.now) wiring.now policy.now)) }
@@ -108,29 +127,17 @@ pub fn find_mends<P: Progress>(
     // Nothing is to be mended if and only if the least set is a yes; else no set is, and what the
     // broken lines are said to have in common is in the chain of each.
     ensures needed { IfOk result (IsNeededOf
-        (claimed_of (map (λ bytes. bytes.items) defs.now) wiring.now policy.now)) }
+        (stated_of (map (λ bytes. bytes.items) defs.now) wiring.now policy.now)) }
     // Which fault it is: that of the first file.
     ensures fault { IfErr result (UnlessMemory (λ fault.
-        claimed_of (map (λ bytes. bytes.items) defs.now) wiring.now policy.now
-        ≡ Err (no_claim_of fault))) }
+        stated_of (map (λ bytes. bytes.items) defs.now) wiring.now policy.now
+        ≡ Err (meaningless fault))) }
 {
-    let interfaces = match read_interfaces(alloc, defs) {
-        Ok(interfaces) => interfaces,
-        Err(OrMemory::Fault(fault)) => {
-            return Err(OrMemory::Fault(MendFault::System(SystemFault::Defs(fault))));
-        }
-        Err(OrMemory::Memory) => return Err(OrMemory::Memory),
+    let interfaces = interfaces_of(alloc, defs)?;
+    let first = match stated_over(alloc, interfaces.copy(alloc)?, wiring, policy) {
+        Ok(stated) => stated,
+        Err((_, refusal)) => return Err(refusal),
     };
-    let first = said_by(
-        alloc,
-        copy_all(alloc, interfaces.as_slice())?,
-        wiring,
-        policy,
-    )?;
-    let system = System {
-        interfaces,
-        wiring,
-        policy,
-    };
-    Ok(answered(alloc, &system, &first, most, progress)?)
+    let texts = Texts { wiring, policy };
+    Ok(answered(alloc, interfaces, &texts, &first, most, progress)?)
 }

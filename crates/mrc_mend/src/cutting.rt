@@ -2,12 +2,12 @@
 
 use crate::carrying::{TypeNames, carried};
 use crate::changes::{Change, NamedClass, Narrowing, Restriction};
-use crate::claims::Said;
 use crate::extending::{DEEPEST, extended, narrowing_of, restriction_of};
 use crate::losing::First;
 use crate::narrowing::{Accepted, items_of_step, narrowed};
 use crate::trusting::{limitation_of, names_actor};
 use mrc_base::{ClassId, Fact};
+use mrc_check::Stated;
 use mrc_classes::Facts;
 use mrc_closure::{Step, explain};
 use mrc_why::{Source, Sources};
@@ -15,11 +15,12 @@ use mrc_wiring::{ClassKind, ClassLabel, Wired};
 use mrc_wiring_text::{ClassName, Edition, WiringLine, WiringSays};
 use std::alloc::{AllocError, Global};
 
-/// What was said and derived after some changes, and the fact that is not to be derived.
+/// What texts mean after some changes, what is derived, and the fact that is not to be derived.
 #[derive(Clone, Copy)]
 struct Node<'a> {
     first: First<'a>,
-    said: &'a Said,
+    wired: &'a Wired,
+    lines: &'a [WiringLine],
     facts: &'a Facts,
     changes: &'a [Change],
     goal: Fact,
@@ -127,7 +128,7 @@ fn to_others(
     names: TypeNames<'_>,
     class: ClassId,
 ) -> Result<Restriction, AllocError> {
-    let wired = node.said.claim.wired();
+    let wired = node.wired;
     let mut restriction = to_none(alloc, names)?;
     for other in &carried(alloc, wired, node.facts, names)? {
         if *other != class {
@@ -200,7 +201,7 @@ fn cut_type(
     names: TypeNames<'_>,
     class: ClassId,
 ) -> Result<(), AllocError> {
-    let wired = node.said.claim.wired();
+    let wired = node.wired;
     let Some(label) = wired.class_name(class) else {
         return Ok(());
     };
@@ -208,7 +209,7 @@ fn cut_type(
         let less = without(alloc, known, &label)?;
         return add_restricted(alloc, next, node.changes, names, less);
     }
-    let lines = admit_lines(node.said.lines.as_slice(), names, &label);
+    let lines = admit_lines(node.lines, names, &label);
     if lines.count > 0 {
         return add_unadmitted(alloc, next, node.changes, names, lines);
     }
@@ -234,7 +235,7 @@ fn cut_step(
 ) -> Result<(), AllocError> {
     match source {
         Some(Source::Line(number)) => {
-            if is_hold_line(node.said.lines.as_slice(), number) {
+            if is_hold_line(node.lines, number) {
                 next.push(extended(alloc, node.changes, Change::Remove(number))?)?;
             }
             Ok(())
@@ -267,7 +268,7 @@ fn limit_step(
     if !can_trust || names_actor(first.lines, first.facts, steps, step) {
         return Ok(());
     }
-    let wired = node.said.claim.wired();
+    let wired = node.wired;
     if let Some(limitation) = limitation_of(alloc, wired, steps, step, &node.goal)? {
         next.push(extended(alloc, node.changes, Change::Limit(limitation))?)?;
     }
@@ -291,13 +292,12 @@ fn cut_item(
     node: &Node<'_>,
     accepted: &Accepted,
 ) -> Result<(), AllocError> {
-    let wired = node.said.claim.wired();
+    let wired = node.wired;
     let Some(label) = wired.class_name(accepted.class) else {
         return Ok(());
     };
-    let lines = node.said.lines.as_slice();
     let item = accepted.item.as_str();
-    if let Some(mut narrowing) = narrowed(alloc, node.first.edition, lines, &label, item)? {
+    if let Some(mut narrowing) = narrowed(alloc, node.first.edition, node.lines, &label, item)? {
         add_dropped(node.changes, &mut narrowing)?;
         next.push(extended(alloc, node.changes, Change::Narrow(narrowing))?)?;
     }
@@ -312,7 +312,7 @@ fn narrow_step(
     step: &Step,
     source: Option<Source<'_>>,
 ) -> Result<(), AllocError> {
-    for accepted in &items_of_step(alloc, node.said.claim.wired(), step, source)? {
+    for accepted in &items_of_step(alloc, node.wired, step, source)? {
         cut_item(alloc, next, node, accepted)?;
     }
     Ok(())
@@ -320,8 +320,7 @@ fn narrow_step(
 
 /// The changes that cut one of the steps, in addition to those that were made.
 fn cuts(alloc: Global, node: &Node<'_>, steps: &[Step]) -> Result<Vec<Vec<Change>>, AllocError> {
-    let said = node.said;
-    let sources = Sources::new(alloc, said.claim.wired(), said.lines.as_slice())?;
+    let sources = Sources::new(alloc, node.wired, node.lines)?;
     let mut next = Vec::new(alloc);
     for step in steps {
         let source = sources.source(steps, step);
@@ -337,7 +336,7 @@ fn cuts(alloc: Global, node: &Node<'_>, steps: &[Step]) -> Result<Vec<Vec<Change
 pub(crate) fn children(
     alloc: Global,
     first: &First<'_>,
-    said: &Said,
+    stated: &Stated,
     facts: &Facts,
     changes: &[Change],
     goal: &Fact,
@@ -347,12 +346,13 @@ pub(crate) fn children(
     }
     let node = Node {
         first: *first,
-        said,
+        wired: stated.claim.wired(),
+        lines: stated.lines.as_slice(),
         facts,
         changes,
         goal: *goal,
     };
-    match explain(alloc, said.claim.wired(), *goal)? {
+    match explain(alloc, node.wired, *goal)? {
         Some(chain) => cuts(alloc, &node, chain.steps()),
         None => Ok(Vec::new(alloc)),
     }

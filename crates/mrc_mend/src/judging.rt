@@ -6,27 +6,34 @@ ghost use Rattle.mrc_model.specs.Rules.{IsLeast};
 ghost use Rattle.mrc_wiring.specs.Table.{wiring_of};
 ghost use Rattle.mrc_check.specs.Trusted.{AreSecure};
 ghost use Rattle.mrc_why.specs.Broken.{is_broken, HasYes, HasNoYes};
+ghost use Rattle.mrc_check.specs.Texts.{GivesOrReturns, meaningless, stated_over};
 ghost use Rattle.mrc_mend.specs.Judging.{MendOver, IfMending};
 
 use crate::changes::{Change, mended};
-use crate::claims::{Said, said_by};
 use crate::cutting::children;
 use crate::losing::{First, lost};
-use mrc_base::{Fact, OrMemory, copy_all};
-use mrc_check::first_exposed;
+use mrc_base::{Fact, OrMemory};
+use mrc_check::{CaseFault, Stated, System, first_exposed};
 use mrc_classes::Facts;
 use mrc_closure::make_alone;
-use mrc_forms::Interface;
 use mrc_why::forbidden_fact;
-use mrc_wiring::{Claim, ForbiddenLine};
+use mrc_wiring::{Claim, ForbiddenLine, Interfaces};
 use std::alloc::{AllocError, Global};
+use std::marker::Model;
 
-/// The files of a system, the MIG files as interfaces.
+/// The bytes of a wiring that is to be mended, and of a policy.
 #[derive(Drop)]
-pub(crate) struct System<'a> {
-    pub(crate) interfaces: Vec<Interface>,
+pub(crate) struct Texts<'a> {
     pub(crate) wiring: &'a [u8],
     pub(crate) policy: &'a [u8],
+}
+
+impl<'a> Model for Texts<'a> {
+    ghost use Rattle.mrc_mend.specs.Judging as definitions;
+
+    ghost Value = { definitions.Texts };
+
+    ghost view = { λ t. record { wiring = t.wiring.now; policy = t.policy.now } };
 }
 
 /// What changes do.
@@ -81,42 +88,66 @@ pub(crate) fn first_objection(claim: &Claim, facts: &Facts) -> Option<Fact>
     }
 }
 
-/// What the changes do that say this.
+/// What the bytes of a wiring and of a policy mean over interfaces. With a refusal the interfaces
+/// come back.
+#[tactic(auto, using(crate::proofs::ClaimLaws::table_kept))]
+pub(crate) fn stated_over(
+    alloc: Global,
+    interfaces: Interfaces,
+    wiring: &[u8],
+    policy: &[u8],
+) -> Result<Stated, (Interfaces, OrMemory<CaseFault>)>
+    ensures told { GivesOrReturns (λ stated. stated) meaningless interfaces result
+        (stated_over interfaces wiring.now policy.now) }
+    ensures kept { IfOk result (λ stated. stated.claim.table.interfaces ≡ interfaces) }
+{
+    match System::over(alloc, interfaces, wiring)?.claim(alloc, policy) {
+        Ok(stated) => Ok(stated),
+        Err((system, refusal)) => Err((system.wired.into_interfaces(), refusal)),
+    }
+}
+
+/// What the changes do that have this meaning.
 fn verdict_of(
     alloc: Global,
     first: &First<'_>,
-    said: &Said,
+    stated: &Stated,
     changes: &[Change],
 ) -> Result<Verdict, AllocError>
-    ensures { IfOk result (IfMending (HasYes said.now.claim)) }
+    ensures { IfOk result (IfMending (HasYes stated.now.claim)) }
 {
-    let wired = said.claim.wired();
+    let wired = stated.claim.wired();
     let made = make_alone(alloc, wired)?;
-    match first_objection(&said.claim, &made.facts) {
+    match first_objection(&stated.claim, &made.facts) {
         None => Ok(Verdict::Mends(lost(alloc, first, wired, &made.facts)?)),
         Some(fact) => {
-            let next = children(alloc, first, said, &made.facts, changes, &fact)?;
+            let next = children(alloc, first, stated, &made.facts, changes, &fact)?;
             Ok(Verdict::Fails(next))
         }
     }
 }
 
-/// What the changes do.
+/// What the changes do. The interfaces come back, unless memory runs out.
 pub(crate) fn judged(
     alloc: Global,
-    system: &System<'_>,
+    interfaces: Interfaces,
+    texts: &Texts<'_>,
     first: &First<'_>,
     changes: &[Change],
-) -> Result<Verdict, AllocError>
-    ensures { IfOk result (IfMending
-        (MendOver system.now.interfaces.items system.now.wiring.now system.now.policy.now
-        changes.now)) }
+) -> Result<(Interfaces, Verdict), AllocError>
+    ensures kept { IfOk result (λ judged. judged.0 ≡ interfaces) }
+    ensures mends { IfOk result (λ judged.
+        IfMending (MendOver interfaces texts.now changes.now) judged.1) }
 {
-    let text = mended(alloc, system.wiring, changes)?;
-    let interfaces = copy_all(alloc, system.interfaces.as_slice())?;
-    match said_by(alloc, interfaces, text.as_slice(), system.policy) {
-        Ok(said) => verdict_of(alloc, first, &said, changes),
-        Err(OrMemory::Fault(_)) => Ok(Verdict::Senseless),
-        Err(OrMemory::Memory) => Err(AllocError),
+    let text = mended(alloc, texts.wiring, changes)?;
+    match stated_over(alloc, interfaces, &text, texts.policy) {
+        Ok(stated) => {
+            let verdict = verdict_of(alloc, first, &stated, changes)?;
+            Ok((stated.claim.into_wired().into_interfaces(), verdict))
+        }
+        Err((interfaces, refusal)) => match refusal {
+            OrMemory::Fault(_) => Ok((interfaces, Verdict::Senseless)),
+            OrMemory::Memory => Err(AllocError),
+        },
     }
 }

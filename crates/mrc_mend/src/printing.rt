@@ -7,7 +7,8 @@ ghost use Rattle.mrc_mend.specs.Texts as definitions;
 ghost use Rattle.mrc_mend.specs.Texts.{behind_blank, if_text, line_words, removed_line};
 ghost use Rattle.mrc_mend.specs.Texts.{narrowed_line, added_line, restricting_line, change_lines};
 ghost use Rattle.mrc_mend.specs.Texts.{loses_sign, loses, numbered_line, numbered, mend_text};
-ghost use Rattle.mrc_mend.specs.Texts.{mends_from, found_text, broken_count, shared_line, cause_line};
+ghost use Rattle.mrc_mend.specs.Texts.{mends_from, found_text, broken_count, shared_line};
+ghost use Rattle.mrc_mend.specs.Texts.{cause_line};
 ghost use Rattle.mrc_mend.specs.Mending.{admit_lines, trust_line};
 
 use crate::answers::{Answer, Mend};

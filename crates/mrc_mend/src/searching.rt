@@ -1,13 +1,14 @@
 //! The search for mends: fewer changes first.
 
-ghost use Rattle.std.specs.Prelude.{◌≤◌, length, IfOk, OnOk};
+ghost use Rattle.std.specs.Prelude.{◌≡◌, ◌≤◌, length, IfOk, OnOk};
 ghost use Rattle.mrc_mend.specs.Judging.{MendOver, AllAre};
 
 use crate::answers::{Mend, Progress};
 use crate::changes::Change;
 use crate::extending::{DEEPEST, includes_all, key_of};
-use crate::judging::{System, Verdict, judged};
+use crate::judging::{Texts, Verdict, judged};
 use crate::losing::First;
+use mrc_wiring::Interfaces;
 use std::alloc::{AllocError, Global};
 use std::collections::BTreeMap;
 
@@ -95,38 +96,42 @@ fn next_of(queue: &mut Queue, found: &[Mend], most: usize) -> Option<Vec<Change>
 }
 
 /// Adds a mend, and drops those of which it is a part.
-fn add_mend(system: &System<'_>, found: &mut Vec<Mend>, mend: Mend) -> Result<(), AllocError>
-    requires one { MendOver system.now.interfaces.items system.now.wiring.now
-        system.now.policy.now mend.changes.items }
-    requires all { AllAre (MendOver system.now.interfaces.items system.now.wiring.now
-        system.now.policy.now) found.old.items }
-    ensures { OnOk result (AllAre (MendOver system.now.interfaces.items system.now.wiring.now
-        system.now.policy.now) found.new.items) }
+fn add_mend(
+    interfaces: &Interfaces,
+    texts: &Texts<'_>,
+    found: &mut Vec<Mend>,
+    mend: Mend,
+) -> Result<(), AllocError>
+    requires one { MendOver interfaces.now texts.now mend.changes.items }
+    requires all { AllAre (MendOver interfaces.now texts.now) found.old.items }
+    ensures { OnOk result (AllAre (MendOver interfaces.now texts.now) found.new.items) }
 {
     found.retain(|known| !includes_all(known.changes.as_slice(), mend.changes.as_slice()));
     found.push(mend)?;
     Ok(())
 }
 
-/// Tries the changes.
+/// Tries the changes. The interfaces come back, unless memory runs out.
 fn try_one(
     alloc: Global,
-    system: &System<'_>,
+    interfaces: Interfaces,
+    texts: &Texts<'_>,
     first: &First<'_>,
     changes: Vec<Change>,
     queue: &mut Queue,
     found: &mut Vec<Mend>,
-) -> Result<(), AllocError>
-    requires { AllAre (MendOver system.now.interfaces.items system.now.wiring.now
-        system.now.policy.now) found.old.items }
-    ensures { OnOk result (AllAre (MendOver system.now.interfaces.items system.now.wiring.now
-        system.now.policy.now) found.new.items) }
+) -> Result<Interfaces, AllocError>
+    requires { AllAre (MendOver interfaces texts.now) found.old.items }
+    ensures kept { IfOk result (λ tried. tried ≡ interfaces) }
+    ensures mends { OnOk result (AllAre (MendOver interfaces texts.now) found.new.items) }
 {
-    match judged(alloc, system, first, changes.as_slice())? {
-        Verdict::Mends(lost) => add_mend(system, found, Mend { changes, lost }),
-        Verdict::Fails(next) => queue.add_all(alloc, next),
-        Verdict::Senseless => Ok(()),
+    let (interfaces, verdict) = judged(alloc, interfaces, texts, first, changes.as_slice())?;
+    match verdict {
+        Verdict::Mends(lost) => add_mend(&interfaces, texts, found, Mend { changes, lost })?,
+        Verdict::Fails(next) => queue.add_all(alloc, next)?,
+        Verdict::Senseless => {}
     }
+    Ok(interfaces)
 }
 
 /// How many wirings are judged at most, where this is the first.
@@ -137,11 +142,15 @@ fn tries_for(first: &First<'_>) -> usize {
 }
 
 /// The best of the mends, so many at most.
-fn best(system: &System<'_>, mut found: Vec<Mend>, most: usize) -> Result<Vec<Mend>, AllocError>
-    requires { AllAre (MendOver system.now.interfaces.items system.now.wiring.now
-        system.now.policy.now) found.items }
-    ensures mends { IfOk result (λ best. AllAre (MendOver system.now.interfaces.items
-        system.now.wiring.now system.now.policy.now) best.items) }
+fn best(
+    interfaces: &Interfaces,
+    texts: &Texts<'_>,
+    mut found: Vec<Mend>,
+    most: usize,
+) -> Result<Vec<Mend>, AllocError>
+    requires { AllAre (MendOver interfaces.now texts.now) found.items }
+    ensures mends { IfOk result (λ best.
+        AllAre (MendOver interfaces.now texts.now) best.items) }
     ensures few { IfOk result (λ best. length best.items ≤ most) }
 {
     found.sort_by_key(|mend| (mend.changes.len(), mend.lost))?;
@@ -160,14 +169,15 @@ pub(crate) struct Searched {
 /// The mends that are found from these changes on.
 pub(crate) fn search<P: Progress>(
     alloc: Global,
-    system: &System<'_>,
+    mut interfaces: Interfaces,
+    texts: &Texts<'_>,
     first: &First<'_>,
     next: Vec<Vec<Change>>,
     most: usize,
     progress: &mut P,
 ) -> Result<Searched, AllocError>
-    ensures mends { IfOk result (λ mends. AllAre (MendOver system.now.interfaces.items
-        system.now.wiring.now system.now.policy.now) mends.mends.items) }
+    ensures mends { IfOk result (λ mends.
+        AllAre (MendOver interfaces texts.now) mends.mends.items) }
     ensures few { IfOk result (λ mends. length mends.mends.items ≤ most) }
 {
     let mut queue = Queue::new(alloc);
@@ -175,16 +185,18 @@ pub(crate) fn search<P: Progress>(
     queue.add_all(alloc, next)?;
     for tries in 0..tries_for(first) {
         let Some(changes) = next_of(&mut queue, found.as_slice(), most) else {
-            let mends = best(system, found, most)?;
+            let mends = best(&interfaces, texts, found, most)?;
             return Ok(Searched {
                 mends,
                 cut_off: false,
             });
         };
-        try_one(alloc, system, first, changes, &mut queue, &mut found)?;
+        interfaces = try_one(
+            alloc, interfaces, texts, first, changes, &mut queue, &mut found,
+        )?;
         progress.tried(tries + 1);
     }
     let cut_off = next_of(&mut queue, found.as_slice(), most).is_some();
-    let mends = best(system, found, most)?;
+    let mends = best(&interfaces, texts, found, most)?;
     Ok(Searched { mends, cut_off })
 }

@@ -1,16 +1,16 @@
 -- What was read is a script that says so, and what a script says is read.
-use Rattle.std.proofs.Common.{◌≡◌, ℕ, Bool, List, Result, Ok, Err, sym, ◌∙◌, arith}
+use Rattle.std.proofs.Common.{◌≡◌, ℕ, Bool, List, Result, Ok, arith}
 use Rattle.std.specs.Prelude.{IfOk}
 use Rattle.mrc_base.specs.declared.memory.OrMemory.{OrMemory}
-use Rattle.mrc_base.proofs.Steps.{refuses_same}
+use Rattle.mrc_base.specs.Reading.{Gives}
+use Rattle.mrc_base.proofs.Steps.{gives_ok, gives_same}
 use Rattle.mrc_wiring_text.specs.declared.faults.TextFault.{TextFault}
 use Rattle.mrc_wiring_text.specs.declared.reading.Line.{Line}
 use Rattle.mrc_wiring_text.specs.Lexis.{lines}
 use Rattle.mrc_wiring_text.proofs.TextLaws.{body_says, says_body}
-use Rattle.mrc_report.specs.declared.script.ScriptFault.{ScriptFault}
 use Rattle.mrc_report.specs.declared.script.TaskCall.{TaskCall}
 use Rattle.mrc_report.specs.Waiting.{line_says}
-use Rattle.mrc_report.specs.Scripts.{IsScript, Reads, script_of, text_refusal}
+use Rattle.mrc_report.specs.Scripts.{IsScript, script_of}
 
 -- what was read is said by the text
 script_found : (live : Bool) (tasks : List (List ℕ)) (text : List ℕ) (says : List (Line TaskCall))
@@ -25,25 +25,19 @@ script_read : (live : Bool) (tasks : List (List ℕ)) (text : List ℕ) (says : 
 script_read live tasks text says is =
     says_body (line_says live tasks) 1 (lines text) says (omega (arith, is.few)) is.said
 
-reads_same : {A B : Type 0} (view : A → B) (r : Result A (OrMemory ScriptFault))
-    (given other : Result B TextFault)
-    → given ≡ other → Reads view r given → Reads view r other
-reads_same view (Ok x) given other same reads = sym same ∙ reads
-reads_same view (Err refusal) given other same reads =
-    refuses_same (text_refusal refusal) given other same reads
-
 pub found_in : {A : Type 0} (view : A → List (Line TaskCall)) (live : Bool) (tasks : List (List ℕ))
-    (text : List ℕ) (r : Result A (OrMemory ScriptFault))
-    → Reads view r (script_of live tasks text)
+    (text : List ℕ) (r : Result A (OrMemory TextFault))
+    → Gives view r (script_of live tasks text)
     → IfOk r (λ script. IsScript live tasks text (view script))
-found_in view live tasks text (Ok script) reads = script_found live tasks text (view script) reads
-found_in view live tasks text (Err refusal) reads = tt
+found_in view live tasks text r gives =
+    gives_ok (IsScript live tasks text) view r (script_of live tasks text)
+    (script_found live tasks text) gives
 
 pub read_by : {A : Type 0} (view : A → List (Line TaskCall)) (live : Bool) (tasks : List (List ℕ))
-    (text : List ℕ) (r : Result A (OrMemory ScriptFault)) (says : List (Line TaskCall))
-    → Reads view r (script_of live tasks text)
+    (text : List ℕ) (r : Result A (OrMemory TextFault)) (says : List (Line TaskCall))
+    → Gives view r (script_of live tasks text)
     → IsScript live tasks text says
-    → Reads view r (Ok says)
-read_by view live tasks text r says reads is =
-    reads_same view r (script_of live tasks text) (Ok says)
-    (script_read live tasks text says is) reads
+    → Gives view r (Ok says)
+read_by view live tasks text r says gives is =
+    gives_same view r (script_of live tasks text) (Ok says)
+    (script_read live tasks text says is) gives

@@ -18,5 +18,5 @@ pub use playing::{Gate, LiveFault};
 pub use printing::{code_word, end_line, event_line, reply_text, waits_text};
 pub use replaying::replay;
 pub use running::{Stopped, run_live};
-pub use script::{Script, ScriptFault, TaskCall, read_script};
+pub use script::{Script, TaskCall, read_script};
 pub use serving::{ServeFault, Served, journal_text, serve};

@@ -2,30 +2,22 @@
 
 ghost use Rattle.std.specs.Prelude.{◌≡◌, ◌+◌, ◌≤◌, List, IfOk, OnOk, Ok};
 ghost use Rattle.mrc_base.specs.Limits.{limit_of_lines};
+ghost use Rattle.mrc_base.specs.Reading.{Gives};
 ghost use Rattle.mrc_wiring_text.specs.declared.reading.Line.{Line};
 ghost use Rattle.mrc_wiring_text.specs.Lexis.{lines};
 ghost use Rattle.mrc_wiring_text.specs.Reading.{line_of, body};
 ghost use Rattle.mrc_report.specs.declared.script.TaskCall.{TaskCall};
 ghost use Rattle.mrc_report.specs.Waiting.{line_says};
-ghost use Rattle.mrc_report.specs.Scripts.{IsScript, Reads, script_of};
+ghost use Rattle.mrc_report.specs.Scripts.{IsScript, script_of};
 
 use crate::waiting::line_says;
 use mrc_base::limits::LINES;
 use mrc_base::{OrMemory, TaskId};
 use mrc_machine::Call;
 use mrc_wiring::Wired;
-use mrc_wiring_text::{Line, between_blanks, first_line, spaced};
+use mrc_wiring_text::{Line, TextFault, between_blanks, first_line, spaced};
 use std::alloc::Global;
 use std::marker::Model;
-use thiserror::Error;
-
-/// Why a text is no script: the first fault.
-#[derive(Clone, Copy, Debug, PartialEq, Eq, Error)]
-pub enum ScriptFault {
-    /// The line of this number, counted from 1, is not one of the grammar.
-    #[error("BadLine {0}")]
-    BadLine(u32),
-}
 
 /// What a line of a script says: a task makes a call.
 #[derive(Debug, Drop)]
@@ -71,13 +63,13 @@ fn line_of(
     live: bool,
     number: u32,
     line: &[u8],
-) -> Result<Option<TaskCall>, OrMemory<ScriptFault>>
-    ensures fault { Reads (λ says. says) result
+) -> Result<Option<TaskCall>, OrMemory<TextFault>>
+    ensures fault { Gives (λ says. says) result
         (line_of (line_says live wired.now.names) number line.now) }
     ensures within { OnOk result (number ≤ limit_of_lines) }
 {
     if number > LINES {
-        return Err(OrMemory::Fault(ScriptFault::BadLine(LINES + 1)));
+        return Err(OrMemory::Fault(TextFault::BadLine(LINES + 1)));
     }
     let text = spaced(alloc, line)?;
     let said = between_blanks(alloc, &text)?;
@@ -86,7 +78,7 @@ fn line_of(
     }
     match line_says(alloc, wired, live, &said)? {
         Some(says) => Ok(Some(says)),
-        None => Err(OrMemory::Fault(ScriptFault::BadLine(number))),
+        None => Err(OrMemory::Fault(TextFault::BadLine(number))),
     }
 }
 
@@ -96,8 +88,8 @@ fn lines_of(
     wired: &Wired,
     live: bool,
     text: &[u8],
-) -> Result<Vec<Line<TaskCall>>, OrMemory<ScriptFault>>
-    ensures { Reads (λ said. said.items) result (script_of live wired.now.names text.now) }
+) -> Result<Vec<Line<TaskCall>>, OrMemory<TextFault>>
+    ensures { Gives (λ said. said.items) result (script_of live wired.now.names text.now) }
 {
     let mut said = Vec::new(alloc);
     let mut rest = text;
@@ -118,16 +110,16 @@ fn script_of(
     wired: &Wired,
     text: &str,
     live: bool,
-) -> Result<Script, OrMemory<ScriptFault>>
-    ensures { Reads (λ script. script) result (script_of live wired.now.names text.now) }
+) -> Result<Script, OrMemory<TextFault>>
+    ensures { Gives (λ script. script) result (script_of live wired.now.names text.now) }
 {
     let lines = lines_of(alloc, wired, live, text.as_bytes())?;
     Ok(Script { lines })
 }
 
-/// Reads a script of a wiring's tasks, or tells its first line that is none of the grammar. A line
-/// is the name of a wired task, a call by Mach's name without `mach_port_`, and the call's
-/// parameters in order. In a replay a task that is not wired stands as `@N`, N its number. Where
+/// Reads a script of a wiring's tasks, or reports its first line that is not one of the grammar, as
+/// `BadLine`. A line is the name of a wired task, a call by Mach's name without `mach_port_`, and
+/// the call's parameters in order. In a replay a task that is not wired is `@N`, N its number. If
 /// tasks run as threads (`live`) all are wired, and a line may also be `wait` with the parameters
 /// of a receive.
 pub fn read_script(
@@ -135,14 +127,14 @@ pub fn read_script(
     wired: &Wired,
     text: &str,
     live: bool,
-) -> Result<Script, OrMemory<ScriptFault>>
+) -> Result<Script, OrMemory<TextFault>>
     // What is read is said by a script of the wiring's tasks.
     ensures found { IfOk result (λ script. IsScript live wired.now.names text.now script) }
     // What such a script says is read, unless memory runs out.
     ensures only { (says : List (Line TaskCall)) → IsScript live wired.now.names text.now says →
-        Reads (λ script. script) result (Ok says) }
+        Gives (λ script. script) result (Ok says) }
     // Which fault it is: the first.
-    ensures fault { Reads (λ script. script) result (script_of live wired.now.names text.now) }
+    ensures fault { Gives (λ script. script) result (script_of live wired.now.names text.now) }
 {
     script_of(alloc, wired, text, live)
 }

@@ -1,14 +1,17 @@
 -- Worked examples, by computation: their values were worked out by hand.
-use Rattle.std.specs.Prelude.{◌≡◌, List, [], ◌∷◌, Some, None, codes, refl}
+use Rattle.std.specs.Prelude.{◌≡◌, List, [], ◌∷◌, ◌++◌, Some, None, codes, refl}
+use Rattle.std.specs.Fmt.{digits}
 use Rattle.mrc_base.specs.declared.Fact.TheVariants.{Hold}
 use Rattle.mrc_base.specs.declared.PortRight.TheVariants.{Send, Receive}
 use Rattle.mrc_wiring_text.specs.declared.wiring.WiringSays.TheVariants as says
+use Rattle.mrc_wiring.specs.Table.{Table}
 use Rattle.mrc_classes.specs.declared.rule_names.RuleName.TheVariants.{First, Births, Weaker}
 use Rattle.mrc_closure.specs.declared.chains.Places.TheVariants.{Empty, One, Two}
 use Rattle.mrc_closure.specs.declared.chains.Step.{Step}
+use Rattle.mrc_words.specs.Words.{fact_text}
 use Rattle.mrc_why.specs.declared.trees.TreeLine.{TreeLine}
 use Rattle.mrc_why.specs.Lines.{first_numbers}
-use Rattle.mrc_why.specs.Texts.{source_text, deeper}
+use Rattle.mrc_why.specs.Texts.{source_text, deeper, plain_lines}
 use Rattle.mrc_why.specs.Trees.{tree_lines}
 
 -- three steps, of which the last one needs both others, and the second one the first
@@ -47,3 +50,9 @@ depth_example = refl
 
 none_example : source_text None ≡ []
 none_example = refl
+
+-- the line of a step that has no premises, without where it comes from
+plain_example : (table : Table) → plain_lines table (given ∷ [])
+    ≡ codes "0 K1 " ++ ((fact_text table given.fact ++ codes "\n") ++ [])
+unfolding digits
+plain_example table = refl

@@ -105,6 +105,10 @@ chain_lines Flat blanks table sources steps = lines_from blanks table sources 0 
 chain_lines Tree blanks table sources steps =
     tree_from blanks table steps sources 1 (tree_lines steps)
 
+-- the lines of a chain alone, without where its steps come from
+abbrev pub plain_lines : Table → List Step → List ℕ
+plain_lines table steps = chain_lines Flat [] table [] steps
+
 -- the text tells the chain, and of its steps where they come from
 pub record IsChainText (layout : Layout) (blanks : List ℕ) (numbered : Numbered)
     (steps : List Step) (text : List ℕ) : Type 0 where

@@ -3,9 +3,9 @@
 ghost use Rattle.std.specs.Prelude.{◌≡◌, None, codes, IfOk, string_bytes};
 ghost use Rattle.mrc_why.specs.Texts.{slot_text, source_text, places_text, source_at, rule_text};
 ghost use Rattle.mrc_why.specs.Texts.{step_line, lines_from, deeper, told_text, tree_line};
-ghost use Rattle.mrc_why.specs.Texts.{tree_from, chain_lines, IsChainText, broken_line};
-ghost use Rattle.mrc_why.specs.Texts.{IsBrokenText, AreToldBy, exposed_line, IsExposedText};
-ghost use Rattle.mrc_why.specs.Texts.{IsNoText, IsVerdictText};
+ghost use Rattle.mrc_why.specs.Texts.{tree_from, chain_lines, plain_lines, IsChainText};
+ghost use Rattle.mrc_why.specs.Texts.{broken_line, IsBrokenText, AreToldBy, exposed_line};
+ghost use Rattle.mrc_why.specs.Texts.{IsExposedText, IsNoText, IsVerdictText};
 
 use crate::judging::{Broken, Exposed, Verdict, forbidden_fact};
 use crate::origins::{SlotNames, Source};
@@ -252,6 +252,13 @@ pub fn chain_text(
         IsChainText layout (codes "") sources.now steps.now (string_bytes text)) }
 {
     chain_told(alloc, layout, "", sources, steps)
+}
+
+/// A chain without where its steps come from: `N Kk FACT from A B` for each step.
+pub fn plain_lines(alloc: Global, wired: &Wired, steps: &[Step]) -> Result<String, AllocError>
+    ensures { IfOk result (λ text. string_bytes text ≡ plain_lines wired.now steps.now) }
+{
+    lines_text(alloc, "", wired, &[], steps)
 }
 
 /// That a line is broken.

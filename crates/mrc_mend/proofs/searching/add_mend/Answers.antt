@@ -7,9 +7,7 @@ use Rattle.mrc_mend.proofs.searching.add_mend.Goals as goal
 -- those that stay are mends, and the new one is
 pub returns : goal.returns
 returns c =
-    let s = c.args.system.now in
-    let P : Mend → Type 0 = λ m. MendOver s.interfaces.items s.wiring.now s.policy.now
-    m.changes.items in
+    let P : Mend → Type 0 = λ m. MendOver c.args.interfaces.now c.args.texts.now m.changes.items in
     All-same P _ _ c.in_ok-push.ensures.items
     (All-push P _ c.args.mend (all_kept _ P _ _ _ c.retain.ensures.filtered c.requires.all)
     c.requires.one)

@@ -8,7 +8,7 @@ use Rattle.mrc_wiring_text.proofs.HeadingLemmas.{is_nil}
 use Rattle.mrc_wiring_text.proofs.BodyLemmas.{with_front, more, body_same, body_goes_on, body_fails}
 use Rattle.mrc_wiring_text.proofs.BodyLemmas.{body_ends}
 use Rattle.mrc_report.specs.Waiting.{line_says}
-use Rattle.mrc_report.specs.Scripts.{script_of, text_refusal}
+use Rattle.mrc_report.specs.Scripts.{script_of}
 use Rattle.mrc_report.proofs.script.lines_of.Goals as goal
 use Rattle.mrc_report.proofs.script.lines_of.Goals.{in-Some+in_ok-push, in_default}
 
@@ -16,7 +16,7 @@ pub returns-in_err-says : goal.returns-in_err-says
 returns-in_err-says c =
     let p = err_from_is_err_and c.from_residual.result c.from_residual.ensures.1 in
     let says = line_says c.args.live c.args.wired.now.names in
-    rw (p.1, p.2) (body_fails (text_refusal c.in_err-says.field-0.0) says _ _ _ _ _ _
+    rw (p.1, p.2) (body_fails c.in_err-says.field-0.0 says _ _ _ _ _ _
     c.loop-rest.invariant.same c.first_line.ensures.cut c.in_err-says.ensures.fault)
 
 pub loop-rest-preserved : goal.loop-rest-preserved
