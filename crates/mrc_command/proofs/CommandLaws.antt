@@ -1,13 +1,22 @@
--- From what clap tells of its errors to what the reader of a command line tells.
-use Rattle.std.proofs.Common.{◌≡◌, ◌⊎◌, List, sym, ◌∙◌, subst, inl, inr}
-use Rattle.clap.specs.Words.{App, Text, fault_of, IsAmong}
+-- From what clap says of its matches and errors to what the reader of a command line says.
+use Rattle.std.proofs.Common.{◌≡◌, ◌⊎◌, List, [], Option, true, sym, ◌∙◌, ap, ap₂, subst, inl, inr}
+use Rattle.std.proofs.Common.{refl}
+use Rattle.std.specs.Prelude.{IsSomeAnd, unwrap_or}
+use Rattle.std.specs.Option.{option_map}
+use Rattle.clap.proofs.WalkLemmas.{raw_values-rows}
+use Rattle.clap.specs.Words.{App, Text, fault_of, IsAmong, HasMatchesOf, is_simple, rows_of}
+use Rattle.clap.specs.Words.{matched_of, raw_values, subcommand_rows_of, with_subcommand}
+use Rattle.clap.specs.declared.parser.matches.ArgMatches.{ArgMatches}
+use Rattle.clap.specs.declared.parser.matches.Found.{Found}
 use Rattle.clap.specs.declared.error.kind.ErrorKind.{ErrorKind as ClapKind}
 use Rattle.clap.specs.declared.error.kind.ErrorKind.TheVariants.{OutOfMemory, DisplayHelp}
 use Rattle.clap.specs.declared.error.kind.ErrorKind.TheVariants.{DisplayVersion}
 use Rattle.mrc_command.specs.declared.command.NoCommand.{NoCommand}
 use Rattle.mrc_command.specs.declared.command.NoCommand.TheVariants.{Told as TextTold}
 use Rattle.mrc_command.specs.declared.command.NoCommand.TheVariants.{Memory as NoMemory}
+use Rattle.mrc_command.specs.declared.command.Command.{Command}
 use Rattle.mrc_command.specs.CommandLine.{machcheck_app, AsksHelp, TellsError, IsNoCommand}
+use Rattle.mrc_command.specs.Meaning.{IsCommandOf, Means, all_values}
 
 -- a kind that is not want of memory is among those of the program's own words
 among : (app : App) (words : List Text) (kind wanted : ClapKind)
@@ -43,3 +52,29 @@ read_told app words kind (TextTold told) same has tells = elim tells [
   | inl asked ↦ inl (asked.0, asked.1, asks_help app words kind same has asked.2)
   | inr fault ↦ inr fault
 ]
+
+-- a program with one more command
+pub one_more : {made program command before new : App} → made ≡ with_subcommand program command.top
+    → program ≡ before → command ≡ new → made ≡ with_subcommand before new.top
+one_more is program command = is ∙ ap₂ (λ (a b : App). with_subcommand a b.top) program command
+
+-- the values that the matches give for an id are those of its rows
+pub values_in_rows : (found : Found) (id : Text) (texts : Option (List Text))
+    → texts ≡ option_map raw_values (matched_of found id)
+    → unwrap_or texts [] ≡ all_values id (rows_of found)
+values_in_rows found id texts is =
+    ap (λ (o : Option (List Text)). unwrap_or o []) (is ∙ raw_values-rows found id)
+
+simple : is_simple machcheck_app ≡ true
+simple = refl
+
+-- the command of the subcommand that clap matched is what the words mean
+pub meaning : (app : App) (words : List Text) (matches : ArgMatches) (command : Command)
+    → app ≡ machcheck_app
+    → HasMatchesOf app words matches
+    → IsSomeAnd (subcommand_rows_of matches) (λ given. IsCommandOf given.0 given.1 command)
+    → Means words command
+meaning app words matches command same has is =
+    let matched = subst (λ (a : App). HasMatchesOf a words matches) same has simple in
+    subst (λ (o : Option _). IsSomeAnd o (λ given. IsCommandOf given.0 given.1 command)) matched.1
+    is

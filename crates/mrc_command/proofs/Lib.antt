@@ -2,3 +2,4 @@ pub mod CommandLaws
 mod Escapes
 mod ShownExamples
 mod ShownLaws
+mod MeaningExamples

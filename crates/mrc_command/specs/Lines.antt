@@ -10,7 +10,7 @@ hex_digits n = digit_char (n / 16) ∷ digit_char (n % 16) ∷ []
 
 -- A character of a name as it is shown: a line feed, a tab, a carriage return and any other control
 -- character (0 to 31 and 127 to 159) by an escape, since such a character could split a line, or
--- colour or erase what stands on it. A backslash is doubled, so that an escape is never what a name
+-- colour or erase what is on it. A backslash is doubled, so that an escape is never what a name
 -- has itself. All others are unchanged.
 abbrev pub shown_char : ℕ → List ℕ
 shown_char c =
@@ -29,11 +29,11 @@ shown_bytes cs = encode_utf8_all (flat_map shown_char cs)
 abbrev pub shown : List ℕ → List ℕ
 shown name = shown_bytes (chars name)
 
--- the line that tells that memory ran out
+-- the line for out of memory
 abbrev pub memory_line : List ℕ
 memory_line = codes "machcheck: Memory\n"
 
--- the line that tells a fault of a file
+-- the line of a fault of a file
 abbrev pub fault_line : List ℕ → List ℕ → List ℕ
 fault_line file fault = codes "machcheck: " ++ (shown file ++ (codes ": " ++ (fault ++ codes "\n")))
 

@@ -1,146 +1,97 @@
 //! The command line, read by `clap`.
 
-ghost use Rattle.std.specs.Prelude.{◌≡◌, codes, Some, map, string_bytes, IfErr, IfOk};
+ghost use Rattle.std.specs.Prelude.{◌≡◌, ◌∷◌, codes, Some, true, map, string_bytes, IfErr, IfOk};
+ghost use Rattle.std.specs.Prelude.{IfSome, IsSomeAnd};
 ghost use Rattle.std.specs.Option.{option_map};
-ghost use Rattle.clap.specs.Words.{kind_of};
-ghost use Rattle.clap.specs.Matches.{found_of, first_value};
+ghost use Rattle.clap.specs.Words.{first_of, kind_of, subcommand_rows_of, takes};
 ghost use Rattle.clap.specs.declared.error.kind.ErrorKind.TheVariants.{OutOfMemory};
-ghost use Rattle.mrc_command.specs.CommandLine.{IsNoCommand, TellsError, IsFlag, all_values};
-ghost use Rattle.mrc_command.specs.CommandLine.{number_of, number_if_given, strictness_of};
-ghost use Rattle.mrc_command.specs.CommandLine.{IsStrict};
+ghost use Rattle.mrc_command.specs.CommandLine.{IsNoCommand, TellsError, machcheck_app};
+ghost use Rattle.mrc_command.specs.Meaning.{all_values, has_flag, number_of, number_if_given};
+ghost use Rattle.mrc_command.specs.Meaning.{strictness_of, rows, NamesFiles, Asks, has_files};
+ghost use Rattle.mrc_command.specs.Meaning.{AsksMig, IsCommandOf, Means};
 
 use crate::options::whole_command;
 use crate::told::Told;
 use clap::error::ErrorKind;
 use clap::{ArgMatches, Error};
 use mrc_words::number_of_word;
-use std::alloc::{AllocError, AllocFailed, Global};
+use std::alloc::{AllocError, Global};
+
+/// The names of the files that a command is about, by their roles.
+#[derive(Drop)]
+pub struct FileNames<'a> {
+    /// The MIG files of the interfaces, in order.
+    pub defs: Vec<&'a str>,
+    /// The wiring.
+    pub wiring: &'a str,
+    /// The policy, if one is named.
+    pub policy: Option<&'a str>,
+    /// The certificate, if one is named.
+    pub certificate: Option<&'a str>,
+    /// The script, if one is named.
+    pub script: Option<&'a str>,
+}
+
+/// What is asked of the files.
+#[derive(Clone, Copy)]
+pub enum Question<'a> {
+    /// Can anything that the policy forbids come about, and how? With `tree` the steps are printed
+    /// from the fact down.
+    Verify {
+        tree: bool,
+    },
+    /// Which changes of the wiring, `most` of them at most, lead to a yes? 0 if the text is no
+    /// number.
+    Mend {
+        most: usize,
+    },
+    /// By which calls can what the policy forbids come about? With `line` only that line is looked
+    /// at. For each line `most` states are looked at, at most. Both are 0 if the text is no number.
+    Attack {
+        line: Option<usize>,
+        most: usize,
+    },
+    /// Is the certificate accepted for the wiring and the policy? With `verbose` more is printed if
+    /// it is of another wiring.
+    Check {
+        verbose: bool,
+    },
+    /// What may the tasks of the wiring come to hold? It is made by `workers` threads, and written
+    /// to the file `out`.
+    Make {
+        out: &'a str,
+        workers: usize,
+    },
+    /// How may the fact of this text come about? With `by` it is printed where steps come from.
+    Explain {
+        fact: &'a str,
+        by: bool,
+    },
+    /// Which facts does a certificate have, of this task, this class and this right, if given?
+    Facts {
+        task: Option<&'a str>,
+        class: Option<&'a str>,
+        right: Option<&'a str>,
+    },
+    /// The same as a drawing, or the chain of the fact of this text alone.
+    Graph {
+        fact: Option<&'a str>,
+    },
+    /// What has to be found in the code of trusted tasks?
+    Promises,
+    /// What do the calls of the script answer?
+    Replay,
+    /// What do they answer if the certificate is accepted and tasks run as threads?
+    Live,
+}
 
 /// What the user asks for.
 #[derive(Drop)]
 pub enum Command<'a> {
-    /// Can anything that the policy forbids come about, and how?
-    Verify(VerifyFiles<'a>),
-    /// Which changes of the wiring lead to a yes?
-    Mend(MendFiles<'a>),
-    /// By which calls can what the policy forbids come about?
-    Attack(AttackFiles<'a>),
-    /// Is the certificate accepted for the wiring and the policy?
-    Check(CheckWords<'a>),
-    /// What may the tasks of the wiring come to hold?
-    Make(MakeFiles<'a>),
-    /// How may a fact come about?
-    Explain(ExplainFiles<'a>),
-    /// Which facts does a certificate have?
-    Facts(FactsFiles<'a>),
-    /// The same as a drawing.
-    Graph(GraphFiles<'a>),
-    /// What has to be found in the code of trusted tasks?
-    Promises(SystemFiles<'a>),
-    /// What do the calls of the script answer?
-    Replay(ReplayFiles<'a>),
-    /// What do they answer where the certificate is accepted and tasks run as threads?
-    Live(LiveFiles<'a>),
+    /// A question about the files of a system.
+    Case(FileNames<'a>, Question<'a>),
     /// What can be read of MIG files of a system?
     Mig(MigFiles<'a>),
-}
-
-/// The files of a system: the MIG files of its interfaces, and its wiring.
-#[derive(Drop)]
-pub struct SystemFiles<'a> {
-    pub defs: Vec<&'a str>,
-    pub wiring: &'a str,
-}
-
-/// The files of a `check`.
-#[derive(Drop)]
-pub struct CheckFiles<'a> {
-    pub system: SystemFiles<'a>,
-    pub policy: &'a str,
-    pub certificate: &'a str,
-}
-
-/// The files of a `check`, and whether more is told where the certificate is of another wiring.
-#[derive(Drop)]
-pub struct CheckWords<'a> {
-    pub files: CheckFiles<'a>,
-    pub verbose: bool,
-}
-
-/// The files of a `verify`, and whether chains are told from their conclusions down.
-#[derive(Drop)]
-pub struct VerifyFiles<'a> {
-    pub system: SystemFiles<'a>,
-    pub policy: &'a str,
-    pub tree: bool,
-}
-
-/// The files of a `mend`, and how many mends are told at most.
-#[derive(Drop)]
-pub struct MendFiles<'a> {
-    pub system: SystemFiles<'a>,
-    pub policy: &'a str,
-    pub most: usize,
-}
-
-/// The files of an `attack`, and what bounds its search.
-#[derive(Drop)]
-pub struct AttackFiles<'a> {
-    pub system: SystemFiles<'a>,
-    pub policy: &'a str,
-    /// The only line of the policy that is asked for: 0 if the text is no number.
-    pub line: Option<usize>,
-    /// How many states are looked at for each line, at most: 0 if the text is no number.
-    pub most: usize,
-}
-
-/// The files of a `facts`, and the words of its filter.
-#[derive(Drop)]
-pub struct FactsFiles<'a> {
-    pub system: SystemFiles<'a>,
-    pub certificate: Option<&'a str>,
-    pub task: Option<&'a str>,
-    pub class: Option<&'a str>,
-    pub right: Option<&'a str>,
-}
-
-/// The files of a `graph`, and the text of the fact whose chain alone is drawn.
-#[derive(Drop)]
-pub struct GraphFiles<'a> {
-    pub system: SystemFiles<'a>,
-    pub certificate: Option<&'a str>,
-    pub policy: Option<&'a str>,
-    pub fact: Option<&'a str>,
-}
-
-/// The files of a `make`, the last of which is written, and by how many workers it is made.
-#[derive(Drop)]
-pub struct MakeFiles<'a> {
-    pub system: SystemFiles<'a>,
-    pub out: &'a str,
-    pub workers: usize,
-}
-
-/// The files of an `explain`, the text of the fact, and whether it is told where steps come from.
-#[derive(Drop)]
-pub struct ExplainFiles<'a> {
-    pub system: SystemFiles<'a>,
-    pub fact: &'a str,
-    pub by: bool,
-}
-
-/// The files of a `replay`.
-#[derive(Drop)]
-pub struct ReplayFiles<'a> {
-    pub system: SystemFiles<'a>,
-    pub script: &'a str,
-}
-
-/// The files of a `live`.
-#[derive(Drop)]
-pub struct LiveFiles<'a> {
-    pub check: CheckFiles<'a>,
-    pub script: &'a str,
 }
 
 /// Which routines may not be left out of MIG files, so that files are written.
@@ -165,9 +116,9 @@ pub struct MigFiles<'a> {
 /// Why there is no command to run.
 #[derive(Drop)]
 pub enum NoCommand {
-    /// What `clap` tells: help, the version, or what is wrong with the words.
+    /// What `clap` prints: help, the version, or what is wrong with the words.
     Told(Told),
-    /// Memory ran out.
+    /// Out of memory.
     Memory,
 }
 
@@ -208,40 +159,49 @@ fn clap_text(alloc: Global, error: Error) -> NoCommand
     })
 }
 
-/// The file that an option names. Each of these options has to be given.
-fn file_given<'a>(matches: &ArgMatches<'a>, option: &str) -> Result<&'a str, NoCommand>
-    ensures given { IfOk result
-        (λ file. first_value (found_of matches.now) option.now ≡ Some file.now) }
-    ensures none { IfErr result (λ none. none ≡ NoCommand.Memory) }
+/// The value of an option, if it is given.
+fn value_given<'a>(matches: &ArgMatches<'a>, option: &str) -> Option<&'a str>
+    ensures { first_of option.now (rows matches.now) ≡ option_map (λ value. value.now) result }
 {
-    match matches.get_str(option) {
-        Some(file) => Ok(file),
-        None => Err(NoCommand::Memory),
+    matches.get_str(option)
+}
+
+/// Whether an option without a value is given.
+fn has_flag(matches: &ArgMatches<'_>, option: &str) -> bool
+    ensures { result ≡ has_flag option.now (rows matches.now) }
+{
+    match value_given(matches, option) {
+        Some(value) => value == "true",
+        None => false,
     }
 }
 
-/// The number that an option has: this one where it is not given, 0 where it is no number.
-fn number_given(matches: &ArgMatches<'_>, option: &str, usual: usize) -> usize
-    ensures { result ≡ number_of usual (first_value (found_of matches.now) option.now) }
+/// The number that a text gives: 0 if it is none.
+fn number_in(text: &str) -> usize
+    ensures { result ≡ number_of 0 (Some text.now) }
 {
-    match matches.get_str(option) {
-        Some(text) => match number_of_word(text.as_bytes()) {
-            Some(number) => number as usize,
-            None => 0,
-        },
+    match number_of_word(text.as_bytes()) {
+        Some(number) => number as usize,
+        None => 0,
+    }
+}
+
+/// The number that an option has: this one if it is not given, 0 if it is no number.
+fn number_given(matches: &ArgMatches<'_>, option: &str, usual: usize) -> usize
+    ensures { result ≡ number_of usual (first_of option.now (rows matches.now)) }
+{
+    match value_given(matches, option) {
+        Some(text) => number_in(text),
         None => usual,
     }
 }
 
 /// The number that an option has, if it is given: 0 if it is no number.
 fn number_if_given(matches: &ArgMatches<'_>, option: &str) -> Option<usize>
-    ensures { result ≡ number_if_given (first_value (found_of matches.now) option.now) }
+    ensures { result ≡ number_if_given (first_of option.now (rows matches.now)) }
 {
-    match matches.get_str(option) {
-        Some(text) => match number_of_word(text.as_bytes()) {
-            Some(number) => Some(number as usize),
-            None => Some(0),
-        },
+    match value_given(matches, option) {
+        Some(text) => Some(number_in(text)),
         None => None,
     }
 }
@@ -249,7 +209,7 @@ fn number_if_given(matches: &ArgMatches<'_>, option: &str) -> Option<usize>
 /// The MIG files that are given.
 fn defs_given<'a>(alloc: Global, matches: &ArgMatches<'a>) -> Result<Vec<&'a str>, AllocError>
     ensures { IfOk result (λ files.
-        map (λ file. file.now) files.items ≡ all_values (found_of matches.now) (codes "defs")) }
+        map (λ file. file.now) files.items ≡ all_values (codes "defs") (rows matches.now)) }
 {
     match matches.get_strs("defs") {
         Some(files) => Vec::from_slice(alloc, files),
@@ -257,247 +217,125 @@ fn defs_given<'a>(alloc: Global, matches: &ArgMatches<'a>) -> Result<Vec<&'a str
     }
 }
 
-fn system_files<'a>(alloc: Global, matches: &ArgMatches<'a>) -> Result<SystemFiles<'a>, NoCommand>
-    ensures defs { IfOk result (λ files. map (λ file. file.now) files.defs.items
-        ≡ all_values (found_of matches.now) (codes "defs")) }
-    ensures wiring { IfOk result
-        (λ files. first_value (found_of matches.now) (codes "wiring") ≡ Some files.wiring.now) }
+/// The files that the options name. A wiring has to be given.
+fn files_named<'a>(alloc: Global, matches: &ArgMatches<'a>) -> Result<FileNames<'a>, NoCommand>
+    ensures named { IfOk result (NamesFiles (rows matches.now)) }
     ensures none { IfErr result (λ none. none ≡ NoCommand.Memory) }
 {
     let defs = defs_given(alloc, matches)?;
-    let wiring = file_given(matches, "wiring")?;
-    Ok(SystemFiles { defs, wiring })
-}
-
-fn check_files<'a>(alloc: Global, matches: &ArgMatches<'a>) -> Result<CheckFiles<'a>, NoCommand>
-    ensures defs { IfOk result (λ files. map (λ file. file.now) files.system.defs.items
-        ≡ all_values (found_of matches.now) (codes "defs")) }
-    ensures wiring { IfOk result (λ files.
-        first_value (found_of matches.now) (codes "wiring") ≡ Some files.system.wiring.now) }
-    ensures policy { IfOk result
-        (λ files. first_value (found_of matches.now) (codes "policy") ≡ Some files.policy.now) }
-    ensures certificate { IfOk result
-        (λ files. first_value (found_of matches.now) (codes "cert") ≡ Some files.certificate.now) }
-    ensures none { IfErr result (λ none. none ≡ NoCommand.Memory) }
-{
-    let system = system_files(alloc, matches)?;
-    let policy = file_given(matches, "policy")?;
-    let certificate = file_given(matches, "cert")?;
-    Ok(CheckFiles {
-        system,
-        policy,
-        certificate,
+    let Some(wiring) = value_given(matches, "wiring") else {
+        return Err(NoCommand::Memory);
+    };
+    Ok(FileNames {
+        defs,
+        wiring,
+        policy: value_given(matches, "policy"),
+        certificate: value_given(matches, "cert"),
+        script: value_given(matches, "script"),
     })
 }
 
-fn check_words<'a>(alloc: Global, matches: &ArgMatches<'a>) -> Result<CheckWords<'a>, NoCommand>
-    ensures defs { IfOk result (λ words. map (λ file. file.now) words.files.system.defs.items
-        ≡ all_values (found_of matches.now) (codes "defs")) }
-    ensures wiring { IfOk result (λ words.
-        first_value (found_of matches.now) (codes "wiring")
-        ≡ Some words.files.system.wiring.now) }
-    ensures policy { IfOk result (λ words.
-        first_value (found_of matches.now) (codes "policy") ≡ Some words.files.policy.now) }
-    ensures certificate { IfOk result (λ words.
-        first_value (found_of matches.now) (codes "cert") ≡ Some words.files.certificate.now) }
-    ensures verbose { IfOk result
-        (λ words. IsFlag (found_of matches.now) (codes "verbose") words.verbose) }
-    ensures none { IfErr result (λ none. none ≡ NoCommand.Memory) }
+fn attack_asked<'a>(matches: &ArgMatches<'_>) -> Question<'a>
+    ensures { Asks (codes "attack") (rows matches.now) result }
 {
-    let files = check_files(alloc, matches)?;
-    let verbose = matches.get_flag("verbose");
-    Ok(CheckWords { files, verbose })
-}
-
-fn verify_files<'a>(alloc: Global, matches: &ArgMatches<'a>) -> Result<VerifyFiles<'a>, NoCommand>
-    ensures defs { IfOk result (λ files. map (λ file. file.now) files.system.defs.items
-        ≡ all_values (found_of matches.now) (codes "defs")) }
-    ensures wiring { IfOk result (λ files.
-        first_value (found_of matches.now) (codes "wiring") ≡ Some files.system.wiring.now) }
-    ensures policy { IfOk result
-        (λ files. first_value (found_of matches.now) (codes "policy") ≡ Some files.policy.now) }
-    ensures tree { IfOk result
-        (λ files. IsFlag (found_of matches.now) (codes "tree") files.tree) }
-    ensures none { IfErr result (λ none. none ≡ NoCommand.Memory) }
-{
-    let system = system_files(alloc, matches)?;
-    let policy = file_given(matches, "policy")?;
-    let tree = matches.get_flag("tree");
-    Ok(VerifyFiles {
-        system,
-        policy,
-        tree,
-    })
-}
-
-fn mend_files<'a>(alloc: Global, matches: &ArgMatches<'a>) -> Result<MendFiles<'a>, NoCommand>
-    ensures defs { IfOk result (λ files. map (λ file. file.now) files.system.defs.items
-        ≡ all_values (found_of matches.now) (codes "defs")) }
-    ensures wiring { IfOk result (λ files.
-        first_value (found_of matches.now) (codes "wiring") ≡ Some files.system.wiring.now) }
-    ensures policy { IfOk result
-        (λ files. first_value (found_of matches.now) (codes "policy") ≡ Some files.policy.now) }
-    ensures most { IfOk result (λ files. files.most
-        ≡ number_of 10 (first_value (found_of matches.now) (codes "most"))) }
-    ensures none { IfErr result (λ none. none ≡ NoCommand.Memory) }
-{
-    let system = system_files(alloc, matches)?;
-    let policy = file_given(matches, "policy")?;
-    let most = number_given(matches, "most", 10);
-    Ok(MendFiles {
-        system,
-        policy,
-        most,
-    })
-}
-
-fn attack_files<'a>(alloc: Global, matches: &ArgMatches<'a>) -> Result<AttackFiles<'a>, NoCommand>
-    ensures defs { IfOk result (λ files. map (λ file. file.now) files.system.defs.items
-        ≡ all_values (found_of matches.now) (codes "defs")) }
-    ensures wiring { IfOk result (λ files.
-        first_value (found_of matches.now) (codes "wiring") ≡ Some files.system.wiring.now) }
-    ensures policy { IfOk result
-        (λ files. first_value (found_of matches.now) (codes "policy") ≡ Some files.policy.now) }
-    ensures line { IfOk result (λ files. files.line
-        ≡ number_if_given (first_value (found_of matches.now) (codes "line"))) }
-    ensures most { IfOk result (λ files. files.most
-        ≡ number_of 1000 (first_value (found_of matches.now) (codes "most"))) }
-    ensures none { IfErr result (λ none. none ≡ NoCommand.Memory) }
-{
-    let system = system_files(alloc, matches)?;
-    let policy = file_given(matches, "policy")?;
     let line = number_if_given(matches, "line");
     let most = number_given(matches, "most", 1000);
-    Ok(AttackFiles {
-        system,
-        policy,
-        line,
-        most,
-    })
+    Question::Attack { line, most }
 }
 
-fn make_files<'a>(alloc: Global, matches: &ArgMatches<'a>) -> Result<MakeFiles<'a>, NoCommand>
-    ensures defs { IfOk result (λ files. map (λ file. file.now) files.system.defs.items
-        ≡ all_values (found_of matches.now) (codes "defs")) }
-    ensures wiring { IfOk result (λ files.
-        first_value (found_of matches.now) (codes "wiring") ≡ Some files.system.wiring.now) }
-    ensures out { IfOk result
-        (λ files. first_value (found_of matches.now) (codes "out") ≡ Some files.out.now) }
-    ensures workers { IfOk result (λ files. files.workers
-        ≡ number_of 4 (first_value (found_of matches.now) (codes "workers"))) }
-    ensures none { IfErr result (λ none. none ≡ NoCommand.Memory) }
+/// The question of a `make`. A file for the certificate has to be given.
+fn make_asked<'a>(matches: &ArgMatches<'a>) -> Option<Question<'a>>
+    ensures { IfSome result (Asks (codes "make") (rows matches.now)) }
 {
-    let system = system_files(alloc, matches)?;
-    let out = file_given(matches, "out")?;
+    let out = value_given(matches, "out")?;
     let workers = number_given(matches, "workers", 4);
-    Ok(MakeFiles {
-        system,
-        out,
-        workers,
-    })
+    Some(Question::Make { out, workers })
 }
 
-fn explain_files<'a>(alloc: Global, matches: &ArgMatches<'a>) -> Result<ExplainFiles<'a>, NoCommand>
-    ensures defs { IfOk result (λ files. map (λ file. file.now) files.system.defs.items
-        ≡ all_values (found_of matches.now) (codes "defs")) }
-    ensures wiring { IfOk result (λ files.
-        first_value (found_of matches.now) (codes "wiring") ≡ Some files.system.wiring.now) }
-    ensures fact { IfOk result
-        (λ files. first_value (found_of matches.now) (codes "fact") ≡ Some files.fact.now) }
-    ensures by { IfOk result (λ files. IsFlag (found_of matches.now) (codes "by") files.by) }
-    ensures none { IfErr result (λ none. none ≡ NoCommand.Memory) }
+/// The question of an `explain`. A fact has to be given.
+fn explain_asked<'a>(matches: &ArgMatches<'a>) -> Option<Question<'a>>
+    ensures { IfSome result (Asks (codes "explain") (rows matches.now)) }
 {
-    let system = system_files(alloc, matches)?;
-    let fact = file_given(matches, "fact")?;
-    let by = matches.get_flag("by");
-    Ok(ExplainFiles { system, fact, by })
+    let fact = value_given(matches, "fact")?;
+    let by = has_flag(matches, "by");
+    Some(Question::Explain { fact, by })
 }
 
-fn facts_files<'a>(alloc: Global, matches: &ArgMatches<'a>) -> Result<FactsFiles<'a>, NoCommand>
-    ensures defs { IfOk result (λ files. map (λ file. file.now) files.system.defs.items
-        ≡ all_values (found_of matches.now) (codes "defs")) }
-    ensures wiring { IfOk result (λ files.
-        first_value (found_of matches.now) (codes "wiring") ≡ Some files.system.wiring.now) }
-    ensures certificate { IfOk result (λ files.
-        option_map (λ file. file.now) files.certificate
-        ≡ first_value (found_of matches.now) (codes "cert")) }
-    ensures task { IfOk result (λ files.
-        option_map (λ word. word.now) files.task
-        ≡ first_value (found_of matches.now) (codes "task")) }
-    ensures class { IfOk result (λ files.
-        option_map (λ word. word.now) files.class
-        ≡ first_value (found_of matches.now) (codes "class")) }
-    ensures right { IfOk result (λ files.
-        option_map (λ word. word.now) files.right
-        ≡ first_value (found_of matches.now) (codes "right")) }
-    ensures none { IfErr result (λ none. none ≡ NoCommand.Memory) }
+fn facts_asked<'a>(matches: &ArgMatches<'a>) -> Question<'a>
+    ensures { Asks (codes "facts") (rows matches.now) result }
 {
-    let system = system_files(alloc, matches)?;
-    Ok(FactsFiles {
-        system,
-        certificate: matches.get_str("cert"),
-        task: matches.get_str("task"),
-        class: matches.get_str("class"),
-        right: matches.get_str("right"),
-    })
+    let task = value_given(matches, "task");
+    let class = value_given(matches, "class");
+    let right = value_given(matches, "right");
+    Question::Facts { task, class, right }
 }
 
-fn graph_files<'a>(alloc: Global, matches: &ArgMatches<'a>) -> Result<GraphFiles<'a>, NoCommand>
-    ensures defs { IfOk result (λ files. map (λ file. file.now) files.system.defs.items
-        ≡ all_values (found_of matches.now) (codes "defs")) }
-    ensures wiring { IfOk result (λ files.
-        first_value (found_of matches.now) (codes "wiring") ≡ Some files.system.wiring.now) }
-    ensures certificate { IfOk result (λ files.
-        option_map (λ file. file.now) files.certificate
-        ≡ first_value (found_of matches.now) (codes "cert")) }
-    ensures policy { IfOk result (λ files.
-        option_map (λ file. file.now) files.policy
-        ≡ first_value (found_of matches.now) (codes "policy")) }
-    ensures fact { IfOk result (λ files.
-        option_map (λ text. text.now) files.fact
-        ≡ first_value (found_of matches.now) (codes "fact")) }
-    ensures none { IfErr result (λ none. none ≡ NoCommand.Memory) }
+/// The question that the command of this name asks, if it is about the files of a system.
+fn question_asked<'a>(name: &str, matches: &ArgMatches<'a>) -> Option<Question<'a>>
+    ensures { IfSome result (Asks name.now (rows matches.now)) }
 {
-    let system = system_files(alloc, matches)?;
-    Ok(GraphFiles {
-        system,
-        certificate: matches.get_str("cert"),
-        policy: matches.get_str("policy"),
-        fact: matches.get_str("fact"),
-    })
+    match name {
+        "verify" => {
+            let tree = has_flag(matches, "tree");
+            Some(Question::Verify { tree })
+        }
+        "mend" => {
+            let most = number_given(matches, "most", 10);
+            Some(Question::Mend { most })
+        }
+        "attack" => Some(attack_asked(matches)),
+        "check" => {
+            let verbose = has_flag(matches, "verbose");
+            Some(Question::Check { verbose })
+        }
+        "make" => make_asked(matches),
+        "explain" => explain_asked(matches),
+        "facts" => Some(facts_asked(matches)),
+        "graph" => {
+            let fact = value_given(matches, "fact");
+            Some(Question::Graph { fact })
+        }
+        "promises" => Some(Question::Promises),
+        "replay" => Some(Question::Replay),
+        "live" => Some(Question::Live),
+        _ => None,
+    }
 }
 
-fn replay_files<'a>(alloc: Global, matches: &ArgMatches<'a>) -> Result<ReplayFiles<'a>, NoCommand>
-    ensures defs { IfOk result (λ files. map (λ file. file.now) files.system.defs.items
-        ≡ all_values (found_of matches.now) (codes "defs")) }
-    ensures wiring { IfOk result (λ files.
-        first_value (found_of matches.now) (codes "wiring") ≡ Some files.system.wiring.now) }
-    ensures script { IfOk result
-        (λ files. first_value (found_of matches.now) (codes "script") ≡ Some files.script.now) }
-    ensures none { IfErr result (λ none. none ≡ NoCommand.Memory) }
+/// Whether the files that a question needs besides the wiring are named.
+fn has_files(question: Question<'_>, files: &FileNames<'_>) -> bool
+    ensures { result ≡ has_files question.entry files.now }
 {
-    let system = system_files(alloc, matches)?;
-    let script = file_given(matches, "script")?;
-    Ok(ReplayFiles { system, script })
+    match question {
+        Question::Verify { .. } | Question::Mend { .. } | Question::Attack { .. } => {
+            files.policy.is_some()
+        }
+        Question::Check { .. } => files.policy.is_some() && files.certificate.is_some(),
+        Question::Replay => files.script.is_some(),
+        Question::Live => {
+            files.policy.is_some() && files.certificate.is_some() && files.script.is_some()
+        }
+        _ => true,
+    }
 }
 
-fn live_files<'a>(alloc: Global, matches: &ArgMatches<'a>) -> Result<LiveFiles<'a>, NoCommand>
-    ensures defs { IfOk result (λ files. map (λ file. file.now) files.check.system.defs.items
-        ≡ all_values (found_of matches.now) (codes "defs")) }
-    ensures wiring { IfOk result (λ files.
-        first_value (found_of matches.now) (codes "wiring")
-        ≡ Some files.check.system.wiring.now) }
-    ensures policy { IfOk result (λ files.
-        first_value (found_of matches.now) (codes "policy") ≡ Some files.check.policy.now) }
-    ensures certificate { IfOk result (λ files.
-        first_value (found_of matches.now) (codes "cert") ≡ Some files.check.certificate.now) }
-    ensures script { IfOk result
-        (λ files. first_value (found_of matches.now) (codes "script") ≡ Some files.script.now) }
+/// The command of this name about the files of a system.
+fn case_asked<'a>(
+    alloc: Global,
+    name: &str,
+    matches: &ArgMatches<'a>,
+) -> Result<Command<'a>, NoCommand>
+    ensures asked { IfOk result (IsCommandOf name.now (rows matches.now)) }
     ensures none { IfErr result (λ none. none ≡ NoCommand.Memory) }
 {
-    let check = check_files(alloc, matches)?;
-    let script = file_given(matches, "script")?;
-    Ok(LiveFiles { check, script })
+    let Some(question) = question_asked(name, matches) else {
+        return Err(NoCommand::Memory);
+    };
+    let files = files_named(alloc, matches)?;
+    if !has_files(question, &files) {
+        return Err(NoCommand::Memory);
+    }
+    Ok(Command::Case(files, question))
 }
 
 /// What may not be left out: nothing, if all are asked for, and else what carries rights, if that
@@ -514,73 +352,40 @@ fn strictness_of(all: bool, rights: bool) -> Strictness
     }
 }
 
-fn mig_files<'a>(alloc: Global, matches: &ArgMatches<'a>) -> Result<MigFiles<'a>, NoCommand>
-    ensures defs { IfOk result (λ files. map (λ file. file.now) files.defs.items
-        ≡ all_values (found_of matches.now) (codes "defs")) }
-    ensures out { IfOk result
-        (λ files. first_value (found_of matches.now) (codes "out") ≡ Some files.out.now) }
-    ensures strict { IfOk result (λ files. IsStrict (found_of matches.now) files.strict) }
+/// What `mig` is asked. A folder has to be given.
+fn mig_asked<'a>(alloc: Global, matches: &ArgMatches<'a>) -> Result<MigFiles<'a>, NoCommand>
+    ensures asked { IfOk result (AsksMig (rows matches.now)) }
     ensures none { IfErr result (λ none. none ≡ NoCommand.Memory) }
 {
     let defs = defs_given(alloc, matches)?;
-    let out = file_given(matches, "out")?;
-    let all = matches.get_flag("strict");
-    let strict = strictness_of(all, matches.get_flag("strict-rights"));
+    let Some(out) = value_given(matches, "out") else {
+        return Err(NoCommand::Memory);
+    };
+    let all = has_flag(matches, "strict");
+    let strict = strictness_of(all, has_flag(matches, "strict-rights"));
     Ok(MigFiles { defs, out, strict })
 }
 
-/// The last of the commands.
-fn last_command<'a>(alloc: Global, matches: &ArgMatches<'a>) -> Result<Command<'a>, NoCommand>
-    ensures none { IfErr result (λ none. none ≡ NoCommand.Memory) }
-{
-    match matches.subcommand_matches("mig") {
-        Some(matches) => Ok(Command::Mig(mig_files(alloc, matches)?)),
-        None => Err(NoCommand::Memory),
-    }
-}
-
 fn command_of<'a>(alloc: Global, matches: &ArgMatches<'a>) -> Result<Command<'a>, NoCommand>
+    ensures command { IfOk result (λ command. IsSomeAnd (subcommand_rows_of matches.now)
+        (λ given. IsCommandOf given.0 given.1 command)) }
     ensures none { IfErr result (λ none. none ≡ NoCommand.Memory) }
 {
-    if let Some(matches) = matches.subcommand_matches("verify") {
-        return Ok(Command::Verify(verify_files(alloc, matches)?));
+    let Some((name, matches)) = matches.subcommand() else {
+        return Err(NoCommand::Memory);
+    };
+    if name == "mig" {
+        return Ok(Command::Mig(mig_asked(alloc, matches)?));
     }
-    if let Some(matches) = matches.subcommand_matches("mend") {
-        return Ok(Command::Mend(mend_files(alloc, matches)?));
-    }
-    if let Some(matches) = matches.subcommand_matches("attack") {
-        return Ok(Command::Attack(attack_files(alloc, matches)?));
-    }
-    if let Some(matches) = matches.subcommand_matches("check") {
-        return Ok(Command::Check(check_words(alloc, matches)?));
-    }
-    if let Some(matches) = matches.subcommand_matches("make") {
-        return Ok(Command::Make(make_files(alloc, matches)?));
-    }
-    if let Some(matches) = matches.subcommand_matches("explain") {
-        return Ok(Command::Explain(explain_files(alloc, matches)?));
-    }
-    if let Some(matches) = matches.subcommand_matches("facts") {
-        return Ok(Command::Facts(facts_files(alloc, matches)?));
-    }
-    if let Some(matches) = matches.subcommand_matches("graph") {
-        return Ok(Command::Graph(graph_files(alloc, matches)?));
-    }
-    if let Some(matches) = matches.subcommand_matches("promises") {
-        return Ok(Command::Promises(system_files(alloc, matches)?));
-    }
-    if let Some(matches) = matches.subcommand_matches("replay") {
-        return Ok(Command::Replay(replay_files(alloc, matches)?));
-    }
-    match matches.subcommand_matches("live") {
-        Some(matches) => Ok(Command::Live(live_files(alloc, matches)?)),
-        None => last_command(alloc, matches),
-    }
+    case_asked(alloc, name, matches)
 }
 
 /// Reads the words of a command line, the program's own name first.
 pub fn read(alloc: Global, words: &[String]) -> Result<Command<'_>, NoCommand>
-    ensures { IfErr result (IsNoCommand (map string_bytes words.now)) }
+    ensures command { IfOk result (Means (map string_bytes words.now)) }
+    ensures none { IfErr result (IsNoCommand (map string_bytes words.now)) }
+    ensures taken { takes machcheck_app (map string_bytes words.now) ≡ true
+        → IfErr result (λ none. none ≡ NoCommand.Memory) }
 {
     let command = whole_command(alloc)?;
     let matches = match command.try_get_matches_from(words) {

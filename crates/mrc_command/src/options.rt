@@ -1,24 +1,20 @@
 //! The commands and their options, as `clap` reads them.
 
 ghost use Rattle.std.specs.Prelude.{◌≡◌, codes, false, IfOk};
-ghost use Rattle.clap.specs.Words.{app_of, rule_of};
+ghost use Rattle.clap.specs.Words.{app_of, rule_of, with_rule, with_subcommand};
 ghost use Rattle.mrc_command.specs.CommandLine.{file_rule, free_rule, flag_rule, defs_rule};
-ghost use Rattle.mrc_command.specs.CommandLine.{verify_options, verify_app, mend_options, mend_app};
-ghost use Rattle.mrc_command.specs.CommandLine.{attack_options, attack_app};
-ghost use Rattle.mrc_command.specs.CommandLine.{check_options, check_app, make_options, make_app};
-ghost use Rattle.mrc_command.specs.CommandLine.{explain_options, explain_app, facts_options};
-ghost use Rattle.mrc_command.specs.CommandLine.{facts_app};
-ghost use Rattle.mrc_command.specs.CommandLine.{graph_options, graph_app, promises_app, replay_app};
-ghost use Rattle.mrc_command.specs.CommandLine.{live_options, live_app, HasNoGlobals};
-ghost use Rattle.mrc_command.specs.CommandLine.{answer_app, search_app, certificate_app, fact_app};
-ghost use Rattle.mrc_command.specs.CommandLine.{drawing_app, trust_app, script_app, machcheck_app};
-ghost use Rattle.mrc_command.specs.CommandLine.{given_defs_rule, mig_options, mig_app};
+ghost use Rattle.mrc_command.specs.CommandLine.{given_defs_rule, workers_rule, HasNoGlobals};
+ghost use Rattle.mrc_command.specs.CommandLine.{wiring_app, policy_app, facts_of_app, verify_app};
+ghost use Rattle.mrc_command.specs.CommandLine.{mend_app, attack_app, check_app, make_app};
+ghost use Rattle.mrc_command.specs.CommandLine.{explain_app, facts_app, graph_app, promises_app};
+ghost use Rattle.mrc_command.specs.CommandLine.{replay_app, live_app, mig_app, bare_app};
+ghost use Rattle.mrc_command.specs.CommandLine.{answer_app, fact_app, machcheck_app};
 
 use crate::help::{
     ATTACK_HELP, CHECK_HELP, EXPLAIN_HELP, FACTS_HELP, GRAPH_HELP, LIVE_HELP, MAKE_HELP, MEND_HELP,
     MIG_HELP, PROGRAM_HELP, PROMISES_HELP, REPLAY_HELP, VERIFY_HELP,
 };
-use clap::{Arg, ArgAction};
+use clap::{Arg, ArgAction, value_parser};
 use std::alloc::{AllocError, Global};
 
 /// An option that has to be given, with one value.
@@ -39,13 +35,6 @@ fn file_option<'a>(alloc: Global, name: &'a str, help: &'a str) -> Arg<'a>
     ensures local { result.global ≡ false }
 {
     value_option(alloc, name, "FILE", help)
-}
-
-fn wiring_option<'a>(alloc: Global) -> Arg<'a>
-    ensures rule { rule_of result ≡ file_rule (codes "wiring") }
-    ensures local { result.global ≡ false }
-{
-    file_option(alloc, "wiring", "Tasks, ports and their first rights")
 }
 
 /// An option that need not be given, with one value.
@@ -72,7 +61,7 @@ fn flag<'a>(alloc: Global, name: &'a str, help: &'a str) -> Arg<'a>
 }
 
 fn workers_option<'a>(alloc: Global) -> Arg<'a>
-    ensures rule { rule_of result ≡ free_rule (codes "workers") }
+    ensures rule { rule_of result ≡ workers_rule }
     ensures local { result.global ≡ false }
 {
     free_option(
@@ -81,18 +70,7 @@ fn workers_option<'a>(alloc: Global) -> Arg<'a>
         "N",
         "How many threads make it, 1 to 64: 4 where it is not given",
     )
-}
-
-fn certificate_option<'a>(alloc: Global) -> Arg<'a>
-    ensures rule { rule_of result ≡ free_rule (codes "cert") }
-    ensures local { result.global ≡ false }
-{
-    free_option(
-        alloc,
-        "cert",
-        "FILE",
-        "The certificate: the least one where it is not given",
-    )
+    .value_parser(value_parser!(usize))
 }
 
 fn defs_arguments<'a>(alloc: Global) -> Arg<'a>
@@ -103,248 +81,6 @@ fn defs_arguments<'a>(alloc: Global) -> Arg<'a>
         .value_name("DEFS")
         .help("The MIG files of the interfaces")
         .action(ArgAction::Append)
-}
-
-/// The command with its first two options.
-fn check_options<'a>(alloc: Global) -> Result<clap::Command<'a>, AllocError>
-    ensures app { IfOk result (λ command. app_of command ≡ check_options) }
-    ensures local { IfOk result HasNoGlobals }
-{
-    clap::Command::new(alloc, "check")
-        .about("Says whether a certificate shows that no forbidden right can be obtained")
-        .after_help(CHECK_HELP)
-        .arg(wiring_option(alloc))?
-        .arg(file_option(alloc, "policy", "The forbidden holdings"))
-}
-
-fn check_command<'a>(alloc: Global) -> Result<clap::Command<'a>, AllocError>
-    ensures app { IfOk result (λ command. app_of command ≡ check_app) }
-    ensures local { IfOk result HasNoGlobals }
-{
-    check_options(alloc)?
-        .arg(file_option(alloc, "cert", "The certificate: who may come to hold what"))?
-        .arg(flag(
-            alloc,
-            "verbose",
-            "Says what to do with a certificate of another wiring",
-        ))?
-        .arg(defs_arguments(alloc))
-}
-
-/// The command with its first two options.
-fn verify_options<'a>(alloc: Global) -> Result<clap::Command<'a>, AllocError>
-    ensures app { IfOk result (λ command. app_of command ≡ verify_options) }
-    ensures local { IfOk result HasNoGlobals }
-{
-    clap::Command::new(alloc, "verify")
-        .about("Says whether a forbidden right can be obtained, and how")
-        .after_help(VERIFY_HELP)
-        .arg(wiring_option(alloc))?
-        .arg(file_option(alloc, "policy", "The forbidden holdings"))
-}
-
-fn verify_command<'a>(alloc: Global) -> Result<clap::Command<'a>, AllocError>
-    ensures app { IfOk result (λ command. app_of command ≡ verify_app) }
-    ensures local { IfOk result HasNoGlobals }
-{
-    verify_options(alloc)?
-        .arg(flag(alloc, "tree", "Prints the steps from the fact down"))?
-        .arg(defs_arguments(alloc))
-}
-
-/// The command with its first two options.
-fn mend_options<'a>(alloc: Global) -> Result<clap::Command<'a>, AllocError>
-    ensures app { IfOk result (λ command. app_of command ≡ mend_options) }
-    ensures local { IfOk result HasNoGlobals }
-{
-    clap::Command::new(alloc, "mend")
-        .about("Looks for changes of a wiring after which no forbidden right can be obtained")
-        .after_help(MEND_HELP)
-        .arg(wiring_option(alloc))?
-        .arg(file_option(alloc, "policy", "The forbidden holdings"))
-}
-
-fn mend_command<'a>(alloc: Global) -> Result<clap::Command<'a>, AllocError>
-    ensures app { IfOk result (λ command. app_of command ≡ mend_app) }
-    ensures local { IfOk result HasNoGlobals }
-{
-    mend_options(alloc)?
-        .arg(free_option(
-            alloc,
-            "most",
-            "N",
-            "How many mends are printed, 1 to 1000000: 10 if it is not given",
-        ))?
-        .arg(defs_arguments(alloc))
-}
-
-/// The command with its first two options.
-fn attack_options<'a>(alloc: Global) -> Result<clap::Command<'a>, AllocError>
-    ensures app { IfOk result (λ command. app_of command ≡ attack_options) }
-    ensures local { IfOk result HasNoGlobals }
-{
-    clap::Command::new(alloc, "attack")
-        .about("Looks for calls that lead to a forbidden right, and runs them on the machine")
-        .after_help(ATTACK_HELP)
-        .arg(wiring_option(alloc))?
-        .arg(file_option(alloc, "policy", "The forbidden holdings"))
-}
-
-fn attack_command<'a>(alloc: Global) -> Result<clap::Command<'a>, AllocError>
-    ensures app { IfOk result (λ command. app_of command ≡ attack_app) }
-    ensures local { IfOk result HasNoGlobals }
-{
-    attack_options(alloc)?
-        .arg(free_option(
-            alloc,
-            "line",
-            "N",
-            "Only this line of the policy: its calls are printed as a script",
-        ))?
-        .arg(free_option(
-            alloc,
-            "most",
-            "N",
-            "How many states are looked at for a line, 1 to 1000000: 1000 if it is not given",
-        ))?
-        .arg(defs_arguments(alloc))
-}
-
-/// The command with its first two options.
-fn make_options<'a>(alloc: Global) -> Result<clap::Command<'a>, AllocError>
-    ensures app { IfOk result (λ command. app_of command ≡ make_options) }
-    ensures local { IfOk result HasNoGlobals }
-{
-    clap::Command::new(alloc, "make")
-        .about("Makes the least certificate of a wiring")
-        .after_help(MAKE_HELP)
-        .arg(wiring_option(alloc))?
-        .arg(file_option(alloc, "out", "The certificate that is written"))
-}
-
-fn make_command<'a>(alloc: Global) -> Result<clap::Command<'a>, AllocError>
-    ensures app { IfOk result (λ command. app_of command ≡ make_app) }
-    ensures local { IfOk result HasNoGlobals }
-{
-    make_options(alloc)?
-        .arg(workers_option(alloc))?
-        .arg(defs_arguments(alloc))
-}
-
-/// The command with its first two options.
-fn explain_options<'a>(alloc: Global) -> Result<clap::Command<'a>, AllocError>
-    ensures app { IfOk result (λ command. app_of command ≡ explain_options) }
-    ensures local { IfOk result HasNoGlobals }
-{
-    clap::Command::new(alloc, "explain")
-        .about("Shows how a fact comes to be in the least certificate of a wiring")
-        .after_help(EXPLAIN_HELP)
-        .arg(wiring_option(alloc))?
-        .arg(value_option(alloc, "fact", "FACT", "The fact, as it is printed in a NO"))
-}
-
-fn explain_command<'a>(alloc: Global) -> Result<clap::Command<'a>, AllocError>
-    ensures app { IfOk result (λ command. app_of command ≡ explain_app) }
-    ensures local { IfOk result HasNoGlobals }
-{
-    explain_options(alloc)?
-        .arg(flag(alloc, "by", "Tells where the steps come from in the files"))?
-        .arg(defs_arguments(alloc))
-}
-
-/// The command with its first two options.
-fn facts_options<'a>(alloc: Global) -> Result<clap::Command<'a>, AllocError>
-    ensures app { IfOk result (λ command. app_of command ≡ facts_options) }
-    ensures local { IfOk result HasNoGlobals }
-{
-    clap::Command::new(alloc, "facts")
-        .about("Prints the facts of a certificate, or of the least one of a wiring")
-        .after_help(FACTS_HELP)
-        .arg(wiring_option(alloc))?
-        .arg(certificate_option(alloc))
-}
-
-fn facts_command<'a>(alloc: Global) -> Result<clap::Command<'a>, AllocError>
-    ensures app { IfOk result (λ command. app_of command ≡ facts_app) }
-    ensures local { IfOk result HasNoGlobals }
-{
-    facts_options(alloc)?
-        .arg(free_option(alloc, "task", "TASK", "Holdings of this task alone"))?
-        .arg(free_option(alloc, "class", "CLASS", "Facts that name this class alone"))?
-        .arg(free_option(alloc, "right", "RIGHT", "Facts of this right alone"))?
-        .arg(defs_arguments(alloc))
-}
-
-/// The command with its first two options.
-fn graph_options<'a>(alloc: Global) -> Result<clap::Command<'a>, AllocError>
-    ensures app { IfOk result (λ command. app_of command ≡ graph_options) }
-    ensures local { IfOk result HasNoGlobals }
-{
-    clap::Command::new(alloc, "graph")
-        .about("Draws the facts of a certificate, or of the least one of a wiring")
-        .after_help(GRAPH_HELP)
-        .arg(wiring_option(alloc))?
-        .arg(certificate_option(alloc))
-}
-
-fn graph_command<'a>(alloc: Global) -> Result<clap::Command<'a>, AllocError>
-    ensures app { IfOk result (λ command. app_of command ≡ graph_app) }
-    ensures local { IfOk result HasNoGlobals }
-{
-    graph_options(alloc)?
-        .arg(free_option(
-            alloc,
-            "policy",
-            "FILE",
-            "The forbidden holdings, which are drawn red",
-        ))?
-        .arg(free_option(alloc, "fact", "FACT", "Draws the steps to this fact alone"))?
-        .arg(defs_arguments(alloc))
-}
-
-fn promises_command<'a>(alloc: Global) -> Result<clap::Command<'a>, AllocError>
-    ensures app { IfOk result (λ command. app_of command ≡ promises_app) }
-    ensures local { IfOk result HasNoGlobals }
-{
-    clap::Command::new(alloc, "promises")
-        .about("Prints what has to be found in the code of trusted tasks")
-        .after_help(PROMISES_HELP)
-        .arg(wiring_option(alloc))?
-        .arg(defs_arguments(alloc))
-}
-
-fn replay_command<'a>(alloc: Global) -> Result<clap::Command<'a>, AllocError>
-    ensures app { IfOk result (λ command. app_of command ≡ replay_app) }
-    ensures local { IfOk result HasNoGlobals }
-{
-    clap::Command::new(alloc, "replay")
-        .about("Runs a script of calls, and prints the reply to each")
-        .after_help(REPLAY_HELP)
-        .arg(wiring_option(alloc))?
-        .arg(file_option(alloc, "script", "The calls, one a line"))?
-        .arg(defs_arguments(alloc))
-}
-
-/// The command with its first two options.
-fn live_options<'a>(alloc: Global) -> Result<clap::Command<'a>, AllocError>
-    ensures app { IfOk result (λ command. app_of command ≡ live_options) }
-    ensures local { IfOk result HasNoGlobals }
-{
-    clap::Command::new(alloc, "live")
-        .about("Checks, and runs a script of calls by tasks as threads")
-        .after_help(LIVE_HELP)
-        .arg(wiring_option(alloc))?
-        .arg(file_option(alloc, "policy", "The forbidden holdings"))
-}
-
-fn live_command<'a>(alloc: Global) -> Result<clap::Command<'a>, AllocError>
-    ensures app { IfOk result (λ command. app_of command ≡ live_app) }
-    ensures local { IfOk result HasNoGlobals }
-{
-    live_options(alloc)?
-        .arg(file_option(alloc, "cert", "The certificate: who may come to hold what"))?
-        .arg(file_option(alloc, "script", "The calls, one a line"))?
-        .arg(defs_arguments(alloc))
 }
 
 /// MIG files of which one at least has to be given.
@@ -359,46 +95,287 @@ fn given_defs<'a>(alloc: Global) -> Arg<'a>
         .action(ArgAction::Append)
 }
 
-/// The command with its first options.
-fn mig_options<'a>(alloc: Global) -> Result<clap::Command<'a>, AllocError>
-    ensures app { IfOk result (λ command. app_of command ≡ mig_options) }
+/// The command with one more option, of its own alone.
+fn with<'a>(command: clap::Command<'a>, option: Arg<'a>) -> Result<clap::Command<'a>, AllocError>
+    requires own { option.global ≡ false }
+    requires local { HasNoGlobals command }
+    ensures app { IfOk result
+        (λ made. app_of made ≡ with_rule (app_of command.entry) (rule_of option.entry)) }
     ensures local { IfOk result HasNoGlobals }
 {
-    clap::Command::new(alloc, "mig")
-        .about("Cuts MIG files of a system to files that can be read")
-        .after_help(MIG_HELP)
-        .arg(value_option(
-            alloc,
-            "out",
-            "FOLDER",
-            "The folder of the files that are written",
-        ))?
-        .arg(flag(
-            alloc,
-            "strict",
-            "Writes nothing where a routine is left out",
-        ))
+    command.arg(option)
+}
+
+/// A command of this name for which a wiring has to be named.
+fn wiring_command<'a>(
+    alloc: Global,
+    name: &'a str,
+    about: &'a str,
+    help: &'a str,
+) -> Result<clap::Command<'a>, AllocError>
+    ensures app { IfOk result (λ command. app_of command ≡ wiring_app name.entry.now) }
+    ensures local { IfOk result HasNoGlobals }
+{
+    let command = clap::Command::new(alloc, name)
+        .about(about)
+        .after_help(help);
+    with(
+        command,
+        file_option(alloc, "wiring", "Tasks, ports and their first rights"),
+    )
+}
+
+/// The same, and a policy.
+fn policy_command<'a>(
+    alloc: Global,
+    name: &'a str,
+    about: &'a str,
+    help: &'a str,
+) -> Result<clap::Command<'a>, AllocError>
+    ensures app { IfOk result (λ command. app_of command ≡ policy_app name.entry.now) }
+    ensures local { IfOk result HasNoGlobals }
+{
+    let command = wiring_command(alloc, name, about, help)?;
+    with(
+        command,
+        file_option(alloc, "policy", "The forbidden holdings"),
+    )
+}
+
+/// A command of this name for which a wiring has to be named, and a certificate may be.
+fn facts_of_command<'a>(
+    alloc: Global,
+    name: &'a str,
+    about: &'a str,
+    help: &'a str,
+) -> Result<clap::Command<'a>, AllocError>
+    ensures app { IfOk result (λ command. app_of command ≡ facts_of_app name.entry.now) }
+    ensures local { IfOk result HasNoGlobals }
+{
+    let command = wiring_command(alloc, name, about, help)?;
+    let certificate = free_option(
+        alloc,
+        "cert",
+        "FILE",
+        "The certificate: the least one where it is not given",
+    );
+    with(command, certificate)
+}
+
+/// A certificate that has to be named.
+fn certificate_option<'a>(alloc: Global) -> Arg<'a>
+    ensures rule { rule_of result ≡ file_rule (codes "cert") }
+    ensures local { result.global ≡ false }
+{
+    file_option(alloc, "cert", "The certificate: who may come to hold what")
+}
+
+fn script_option<'a>(alloc: Global) -> Arg<'a>
+    ensures rule { rule_of result ≡ file_rule (codes "script") }
+    ensures local { result.global ≡ false }
+{
+    file_option(alloc, "script", "The calls, one a line")
+}
+
+fn verify_command<'a>(alloc: Global) -> Result<clap::Command<'a>, AllocError>
+    ensures app { IfOk result (λ command. app_of command ≡ verify_app) }
+    ensures local { IfOk result HasNoGlobals }
+{
+    let about = "Says whether a forbidden right can be obtained, and how";
+    let command = policy_command(alloc, "verify", about, VERIFY_HELP)?;
+    let tree = flag(alloc, "tree", "Prints the steps from the fact down");
+    let command = with(command, tree)?;
+    with(command, defs_arguments(alloc))
+}
+
+fn mend_command<'a>(alloc: Global) -> Result<clap::Command<'a>, AllocError>
+    ensures app { IfOk result (λ command. app_of command ≡ mend_app) }
+    ensures local { IfOk result HasNoGlobals }
+{
+    let about = "Looks for changes of a wiring after which no forbidden right can be obtained";
+    let command = policy_command(alloc, "mend", about, MEND_HELP)?;
+    let most = free_option(
+        alloc,
+        "most",
+        "N",
+        "How many mends are printed, 1 to 1000000: 10 if it is not given",
+    );
+    let command = with(command, most)?;
+    with(command, defs_arguments(alloc))
+}
+
+fn attack_command<'a>(alloc: Global) -> Result<clap::Command<'a>, AllocError>
+    ensures app { IfOk result (λ command. app_of command ≡ attack_app) }
+    ensures local { IfOk result HasNoGlobals }
+{
+    let about = "Looks for calls that lead to a forbidden right, and runs them on the machine";
+    let command = policy_command(alloc, "attack", about, ATTACK_HELP)?;
+    let line = free_option(
+        alloc,
+        "line",
+        "N",
+        "Only this line of the policy: its calls are printed as a script",
+    );
+    let command = with(command, line)?;
+    let most = free_option(
+        alloc,
+        "most",
+        "N",
+        "How many states are looked at for a line, 1 to 1000000: 1000 if it is not given",
+    );
+    let command = with(command, most)?;
+    with(command, defs_arguments(alloc))
+}
+
+fn check_command<'a>(alloc: Global) -> Result<clap::Command<'a>, AllocError>
+    ensures app { IfOk result (λ command. app_of command ≡ check_app) }
+    ensures local { IfOk result HasNoGlobals }
+{
+    let about = "Says whether a certificate shows that no forbidden right can be obtained";
+    let command = policy_command(alloc, "check", about, CHECK_HELP)?;
+    let command = with(command, certificate_option(alloc))?;
+    let verbose = flag(
+        alloc,
+        "verbose",
+        "Says what to do with a certificate of another wiring",
+    );
+    let command = with(command, verbose)?;
+    with(command, defs_arguments(alloc))
+}
+
+fn make_command<'a>(alloc: Global) -> Result<clap::Command<'a>, AllocError>
+    ensures app { IfOk result (λ command. app_of command ≡ make_app) }
+    ensures local { IfOk result HasNoGlobals }
+{
+    let about = "Makes the least certificate of a wiring";
+    let command = wiring_command(alloc, "make", about, MAKE_HELP)?;
+    let out = file_option(alloc, "out", "The certificate that is written");
+    let command = with(command, out)?;
+    let command = with(command, workers_option(alloc))?;
+    with(command, defs_arguments(alloc))
+}
+
+fn explain_command<'a>(alloc: Global) -> Result<clap::Command<'a>, AllocError>
+    ensures app { IfOk result (λ command. app_of command ≡ explain_app) }
+    ensures local { IfOk result HasNoGlobals }
+{
+    let about = "Shows how a fact comes to be in the least certificate of a wiring";
+    let command = wiring_command(alloc, "explain", about, EXPLAIN_HELP)?;
+    let fact = value_option(alloc, "fact", "FACT", "The fact, as it is printed in a NO");
+    let command = with(command, fact)?;
+    let by = flag(alloc, "by", "Tells where the steps come from in the files");
+    let command = with(command, by)?;
+    with(command, defs_arguments(alloc))
+}
+
+fn facts_command<'a>(alloc: Global) -> Result<clap::Command<'a>, AllocError>
+    ensures app { IfOk result (λ command. app_of command ≡ facts_app) }
+    ensures local { IfOk result HasNoGlobals }
+{
+    let about = "Prints the facts of a certificate, or of the least one of a wiring";
+    let command = facts_of_command(alloc, "facts", about, FACTS_HELP)?;
+    let task = free_option(alloc, "task", "TASK", "Holdings of this task alone");
+    let command = with(command, task)?;
+    let class = free_option(alloc, "class", "CLASS", "Facts that name this class alone");
+    let command = with(command, class)?;
+    let right = free_option(alloc, "right", "RIGHT", "Facts of this right alone");
+    let command = with(command, right)?;
+    with(command, defs_arguments(alloc))
+}
+
+fn graph_command<'a>(alloc: Global) -> Result<clap::Command<'a>, AllocError>
+    ensures app { IfOk result (λ command. app_of command ≡ graph_app) }
+    ensures local { IfOk result HasNoGlobals }
+{
+    let about = "Draws the facts of a certificate, or of the least one of a wiring";
+    let command = facts_of_command(alloc, "graph", about, GRAPH_HELP)?;
+    let policy = free_option(
+        alloc,
+        "policy",
+        "FILE",
+        "The forbidden holdings, which are drawn red",
+    );
+    let command = with(command, policy)?;
+    let fact = free_option(alloc, "fact", "FACT", "Draws the steps to this fact alone");
+    let command = with(command, fact)?;
+    with(command, defs_arguments(alloc))
+}
+
+fn promises_command<'a>(alloc: Global) -> Result<clap::Command<'a>, AllocError>
+    ensures app { IfOk result (λ command. app_of command ≡ promises_app) }
+    ensures local { IfOk result HasNoGlobals }
+{
+    let about = "Prints what has to be found in the code of trusted tasks";
+    let command = wiring_command(alloc, "promises", about, PROMISES_HELP)?;
+    with(command, defs_arguments(alloc))
+}
+
+fn replay_command<'a>(alloc: Global) -> Result<clap::Command<'a>, AllocError>
+    ensures app { IfOk result (λ command. app_of command ≡ replay_app) }
+    ensures local { IfOk result HasNoGlobals }
+{
+    let about = "Runs a script of calls, and prints the reply to each";
+    let command = wiring_command(alloc, "replay", about, REPLAY_HELP)?;
+    let command = with(command, script_option(alloc))?;
+    with(command, defs_arguments(alloc))
+}
+
+fn live_command<'a>(alloc: Global) -> Result<clap::Command<'a>, AllocError>
+    ensures app { IfOk result (λ command. app_of command ≡ live_app) }
+    ensures local { IfOk result HasNoGlobals }
+{
+    let about = "Checks, and runs a script of calls by tasks as threads";
+    let command = policy_command(alloc, "live", about, LIVE_HELP)?;
+    let command = with(command, certificate_option(alloc))?;
+    let command = with(command, script_option(alloc))?;
+    with(command, defs_arguments(alloc))
 }
 
 fn mig_command<'a>(alloc: Global) -> Result<clap::Command<'a>, AllocError>
     ensures app { IfOk result (λ command. app_of command ≡ mig_app) }
     ensures local { IfOk result HasNoGlobals }
 {
-    mig_options(alloc)?
-        .arg(flag(
-            alloc,
-            "strict-rights",
-            "The same as --strict=rights: writes nothing if one that carries rights is left out",
-        ))?
-        .arg(given_defs(alloc))
+    let command = clap::Command::new(alloc, "mig")
+        .about("Cuts MIG files of a system to files that can be read")
+        .after_help(MIG_HELP);
+    let out = value_option(
+        alloc,
+        "out",
+        "FOLDER",
+        "The folder of the files that are written",
+    );
+    let command = with(command, out)?;
+    let strict = flag(
+        alloc,
+        "strict",
+        "Writes nothing where a routine is left out",
+    );
+    let command = with(command, strict)?;
+    let strict_rights = flag(
+        alloc,
+        "strict-rights",
+        "The same as --strict=rights: writes nothing if one that carries rights is left out",
+    );
+    let command = with(command, strict_rights)?;
+    with(command, given_defs(alloc))
 }
 
-/// The program with the commands that answer what can come about.
-fn answer_commands<'a>(alloc: Global) -> Result<clap::Command<'a>, AllocError>
-    ensures { IfOk result (λ command. app_of command ≡ answer_app) }
+/// The program with one more command.
+fn with_command<'a>(
+    program: clap::Command<'a>,
+    command: clap::Command<'a>,
+) -> Result<clap::Command<'a>, AllocError>
+    requires local { HasNoGlobals command }
+    ensures { IfOk result
+        (λ made. app_of made ≡ with_subcommand (app_of program.entry) (app_of command.entry).top) }
 {
-    let verify = verify_command(alloc)?;
-    let mend = mend_command(alloc)?;
+    program.subcommand(command)
+}
+
+/// The program without its commands.
+fn bare_command<'a>(alloc: Global) -> clap::Command<'a>
+    ensures { app_of result ≡ bare_app }
+{
     clap::Command::new(alloc, "machcheck")
         .version("0.1.0")
         .about(
@@ -407,72 +384,34 @@ fn answer_commands<'a>(alloc: Global) -> Result<clap::Command<'a>, AllocError>
         .after_help(PROGRAM_HELP)
         .subcommand_required(true)
         .arg_required_else_help(true)
-        .subcommand(verify)?
-        .subcommand(mend)
 }
 
-/// The same with the command that looks for calls.
-fn search_commands<'a>(alloc: Global) -> Result<clap::Command<'a>, AllocError>
-    ensures { IfOk result (λ command. app_of command ≡ search_app) }
+/// The program with the commands that answer what can come about.
+fn answer_commands<'a>(alloc: Global) -> Result<clap::Command<'a>, AllocError>
+    ensures { IfOk result (λ program. app_of program ≡ answer_app) }
 {
-    let commands = answer_commands(alloc)?;
-    let attack = attack_command(alloc)?;
-    commands.subcommand(attack)
-}
-
-/// The same with the commands that speak of certificates.
-fn certificate_commands<'a>(alloc: Global) -> Result<clap::Command<'a>, AllocError>
-    ensures { IfOk result (λ command. app_of command ≡ certificate_app) }
-{
-    let commands = search_commands(alloc)?;
-    let check = check_command(alloc)?;
-    let make = make_command(alloc)?;
-    commands.subcommand(check)?.subcommand(make)
+    let program = with_command(bare_command(alloc), verify_command(alloc)?)?;
+    let program = with_command(program, mend_command(alloc)?)?;
+    let program = with_command(program, attack_command(alloc)?)?;
+    with_command(program, check_command(alloc)?)
 }
 
 /// The same with the commands that speak of facts.
 fn fact_commands<'a>(alloc: Global) -> Result<clap::Command<'a>, AllocError>
-    ensures { IfOk result (λ command. app_of command ≡ fact_app) }
+    ensures { IfOk result (λ program. app_of program ≡ fact_app) }
 {
-    let commands = certificate_commands(alloc)?;
-    let explain = explain_command(alloc)?;
-    let facts = facts_command(alloc)?;
-    commands.subcommand(explain)?.subcommand(facts)
-}
-
-/// The same with the command that draws.
-fn drawing_commands<'a>(alloc: Global) -> Result<clap::Command<'a>, AllocError>
-    ensures { IfOk result (λ command. app_of command ≡ drawing_app) }
-{
-    let commands = fact_commands(alloc)?;
-    let graph = graph_command(alloc)?;
-    commands.subcommand(graph)
-}
-
-/// The same with the command that speaks of trusted tasks.
-fn trust_commands<'a>(alloc: Global) -> Result<clap::Command<'a>, AllocError>
-    ensures { IfOk result (λ command. app_of command ≡ trust_app) }
-{
-    let commands = drawing_commands(alloc)?;
-    let promises = promises_command(alloc)?;
-    commands.subcommand(promises)
-}
-
-/// The same with the commands that run scripts.
-fn script_commands<'a>(alloc: Global) -> Result<clap::Command<'a>, AllocError>
-    ensures { IfOk result (λ command. app_of command ≡ script_app) }
-{
-    let commands = trust_commands(alloc)?;
-    let replay = replay_command(alloc)?;
-    let live = live_command(alloc)?;
-    commands.subcommand(replay)?.subcommand(live)
+    let program = with_command(answer_commands(alloc)?, make_command(alloc)?)?;
+    let program = with_command(program, explain_command(alloc)?)?;
+    let program = with_command(program, facts_command(alloc)?)?;
+    with_command(program, graph_command(alloc)?)
 }
 
 /// The program and its commands.
 pub(crate) fn whole_command<'a>(alloc: Global) -> Result<clap::Command<'a>, AllocError>
-    ensures { IfOk result (λ command. app_of command ≡ machcheck_app) }
+    ensures { IfOk result (λ program. app_of program ≡ machcheck_app) }
 {
-    let commands = script_commands(alloc)?;
-    let mig = mig_command(alloc)?;
-    commands.subcommand(mig)
+    let program = with_command(fact_commands(alloc)?, promises_command(alloc)?)?;
+    let program = with_command(program, replay_command(alloc)?)?;
+    let program = with_command(program, live_command(alloc)?)?;
+    with_command(program, mig_command(alloc)?)
 }

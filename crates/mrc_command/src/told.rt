@@ -1,4 +1,4 @@
-//! What the program tells.
+//! What the program prints.
 
 ghost use Rattle.std.specs.Prelude.{◌≡◌, ◌<◌, ◌≤◌, ◌+◌, [], ◌++◌, IfOk, IsOk, OnOk, length};
 ghost use Rattle.std.specs.Prelude.{◌/◌, ◌%◌, codes, encode_utf8_all};
@@ -59,7 +59,7 @@ fn push_hex(text: &mut String, c: char) -> Result<(), AllocError>
     text.push(low)
 }
 
-/// Adds a character as it is shown. Where there is room it takes no memory.
+/// Adds a character as it is shown. If there is room it takes no memory.
 fn push_char(text: &mut String, c: char) -> Result<(), AllocError>
     ensures ok { OnOk result (string_bytes text.new
         ≡ string_bytes text.old ++ encode_utf8_all (shown_char c)) }
@@ -79,7 +79,7 @@ fn push_char(text: &mut String, c: char) -> Result<(), AllocError>
     }
 }
 
-/// Adds a name as it is shown. Where there is room it takes no memory, and is not refused.
+/// Adds a name as it is shown. If there is room it takes no memory, and is not refused.
 pub fn push_shown(text: &mut String, name: &str) -> Result<(), AllocError>
     ensures ok { OnOk result (string_bytes text.new ≡ string_bytes text.old ++ shown name.now) }
     ensures len { OnOk result
@@ -130,7 +130,7 @@ pub fn memory(alloc: Global) -> Result<Told, AllocError>
     })
 }
 
-/// A name that is shown can't split or colour its line, and is not taken for another one.
+/// A name that is shown can't split or colour its line, and no two names are shown alike.
 pub fn names_are_shown_safely()
     ensures plain { NamesAreShownPlain }
     ensures apart { NamesAreToldApart }

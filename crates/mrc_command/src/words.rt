@@ -27,7 +27,7 @@ fn words_fault(error: &io::Error) -> WordsFault
     }
 }
 
-/// The line for standard error that tells the fault.
+/// The line of the fault for standard error.
 pub fn words_line(fault: WordsFault) -> &'static [u8]
     ensures { result.now ≡ words_line fault }
 {

@@ -1,15 +1,27 @@
-use Rattle.std.proofs.Common.{◌≡◌, true, refl, sym, subst}
-use Rattle.clap.specs.Words.{App, is_simple_and_free}
+use Rattle.std.proofs.Common.{◌≡◌, true, map, string_bytes, refl, sym, subst}
+use Rattle.std.proofs.lemmas.Result.{IfOk-weaker}
+use Rattle.clap.specs.Words.{App, is_simple_and_free, takes}
 use Rattle.mrc_command.specs.CommandLine.{machcheck_app}
-use Rattle.mrc_command.proofs.CommandLaws.{read_told}
+use Rattle.mrc_command.proofs.CommandLaws.{meaning, read_told}
 use Rattle.mrc_command.proofs.command.read.Goals as goal
 
 simple : is_simple_and_free machcheck_app ≡ true
 simple = refl
 
-pub returns-in-Err : goal.returns-in-Err
-returns-in-Err c =
+pub returns-in-Err-clause-none : goal.returns-in-Err-clause-none
+returns-in-Err-clause-none c =
     read_told _ _ _ c.clap_text.result c.in_ok-command.ensures
     (c.in-Err.ensures.kinds (subst (λ (a : App). is_simple_and_free a ≡ true)
     (sym c.in_ok-command.ensures) simple))
     c.clap_text.ensures.told
+
+pub returns-in-Err-clause-taken : goal.returns-in-Err-clause-taken
+returns-in-Err-clause-taken c taken =
+    let words = map string_bytes c.args.words.now in
+    c.clap_text.ensures.memory (c.in-Err.ensures.passes
+    (subst (λ (a : App). takes a words ≡ true) (sym c.in_ok-command.ensures) taken))
+
+pub returns-clause-command : goal.returns-clause-command
+returns-clause-command c = IfOk-weaker c.command_of.result _ _
+    (λ command is. meaning _ _ _ command c.in_ok-command.ensures c.in-Ok.ensures.matches is)
+    c.command_of.ensures.command

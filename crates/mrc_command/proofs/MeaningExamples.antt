@@ -1,0 +1,60 @@
+-- What words of command lines mean, by computation.
+use Rattle.std.proofs.Common.{◌≡◌, true, false, List, [], ◌∷◌, Option, Some, None, codes, map}
+use Rattle.std.proofs.Common.{refl}
+use Rattle.std.specs.Option.{option_map}
+use Rattle.clap.specs.Words.{Row, Text, first_of, subcommand_of}
+use Rattle.clap.proofs.OnLiterals.{clap_on_literals}
+use Rattle.mrc_words.specs.Numbers.{number_of_word}
+use Rattle.mrc_command.specs.CommandLine.{machcheck_app}
+use Rattle.mrc_command.specs.Meaning.{all_values, has_flag, number_of, number_if_given}
+
+-- the name of the subcommand, and what is read of its rows
+abbrev given : {T : Type 0} → (List Row → T) → List Text → Option (Text × T)
+given read words = option_map (λ asked. (asked.0, read asked.1)) (subcommand_of machcheck_app words)
+
+-- options and MIG files in any order, and a flag
+abbrev check_words : List Text
+check_words =
+    codes "machcheck" ∷ codes "check" ∷ codes "--policy" ∷ codes "p" ∷ codes "a" ∷ codes "--verbose"
+    ∷ codes "--cert=c" ∷ codes "b" ∷ codes "--wiring" ∷ codes "w" ∷ []
+
+check_files : given (λ rows. map (λ name. first_of name rows)
+    (codes "wiring" ∷ codes "policy" ∷ codes "cert" ∷ codes "script" ∷ [])) check_words
+    ≡ Some (codes "check", Some (codes "w") ∷ Some (codes "p") ∷ Some (codes "c") ∷ None ∷ [])
+unfolding clap_on_literals
+check_files = refl
+
+check_defs : given (all_values (codes "defs")) check_words
+    ≡ Some (codes "check", codes "a" ∷ codes "b" ∷ [])
+unfolding clap_on_literals
+check_defs = refl
+
+check_verbose : given (has_flag (codes "verbose")) check_words ≡ Some (codes "check", true)
+unfolding clap_on_literals
+check_verbose = refl
+
+-- a flag that is not given
+abbrev explain_words : List Text
+explain_words =
+    codes "machcheck" ∷ codes "explain" ∷ codes "--fact" ∷ codes "f" ∷ codes "--wiring" ∷ codes "w"
+    ∷ []
+
+explain_by : given (has_flag (codes "by")) explain_words ≡ Some (codes "explain", false)
+unfolding clap_on_literals
+explain_by = refl
+
+-- a number that is given, and one that is not
+abbrev attack_words : List Text
+attack_words =
+    codes "machcheck" ∷ codes "attack" ∷ codes "--line" ∷ codes "7" ∷ codes "--wiring" ∷ codes "w"
+    ∷ codes "--policy" ∷ codes "p" ∷ []
+
+attack_line : given (λ rows. number_if_given (first_of (codes "line") rows)) attack_words
+    ≡ Some (codes "attack", Some 7)
+unfolding clap_on_literals number_of_word
+attack_line = refl
+
+attack_most : given (λ rows. number_of 1000 (first_of (codes "most") rows)) attack_words
+    ≡ Some (codes "attack", 1000)
+unfolding clap_on_literals number_of_word
+attack_most = refl

@@ -1,0 +1,113 @@
+-- Believe. Which command the words of a command line ask for.
+-- This profile's own choice. `clap` says which subcommand the words name, and which values they
+-- give to each of its options: a row for each option that has a value.
+use Rattle.std.specs.Prelude.{◌≡◌, ◌&&◌, ℕ, Bool, true, false, List, [], Option, Some, None, map}
+use Rattle.std.specs.Prelude.{codes, bytes_eq, unwrap_or, is_some, IsSomeAnd}
+use Rattle.std.specs.Option.{option_map, option_map_or}
+use Rattle.clap.specs.Words.{Row, Text, all_of, first_of, found_of, rows_of, subcommand_of}
+use Rattle.clap.specs.declared.parser.matches.ArgMatches.{ArgMatches}
+use Rattle.mrc_words.specs.Numbers.{number_of_word}
+use Rattle.mrc_command.specs.CommandLine.{machcheck_app}
+use Rattle.mrc_command.specs.declared.command.Command.{Command}
+use Rattle.mrc_command.specs.declared.command.Command.TheVariants.{Case, Mig}
+use Rattle.mrc_command.specs.declared.command.FileNames.{FileNames}
+use Rattle.mrc_command.specs.declared.command.MigFiles.{MigFiles}
+use Rattle.mrc_command.specs.declared.command.Question.{Question}
+use Rattle.mrc_command.specs.declared.command.Question.TheVariants.{Verify, Mend, Attack, Check}
+use Rattle.mrc_command.specs.declared.command.Question.TheVariants.{Make, Explain, Facts, Graph}
+use Rattle.mrc_command.specs.declared.command.Question.TheVariants.{Promises, Replay, Live}
+use Rattle.mrc_command.specs.declared.command.Strictness.{Strictness}
+use Rattle.mrc_command.specs.declared.command.Strictness.TheVariants.{None as Each, Rights, All}
+
+-- what `clap` found of the options of a command
+abbrev pub rows : ArgMatches → List Row
+rows matches = rows_of (found_of matches)
+
+-- all values of an argument, in their order
+abbrev pub all_values : Text → List Row → List Text
+all_values name rows = unwrap_or (all_of name rows) []
+
+-- whether an option without a value is given: then its value is `true`
+abbrev pub has_flag : Text → List Row → Bool
+has_flag name rows = option_map_or (λ text. bytes_eq text (codes "true")) (first_of name rows) false
+
+-- the number that an option has: the usual one if none is given, 0 if the text is no number
+abbrev pub number_of : ℕ → Option Text → ℕ
+number_of usual None = usual
+number_of usual (Some text) = unwrap_or (number_of_word text) 0
+
+-- the number that an option has, if it is given: 0 if the text is no number
+abbrev pub number_if_given : Option Text → Option ℕ
+number_if_given None = None
+number_if_given (Some text) = Some (unwrap_or (number_of_word text) 0)
+
+-- what may not be left out: nothing, if all are asked for, and else what carries rights, if that is
+-- asked for
+abbrev pub strictness_of : Bool → Bool → Strictness
+strictness_of true rights = All
+strictness_of false true = Rights
+strictness_of false false = Each
+
+-- the files that the options name, by their roles: the first value of each option, and all MIG
+-- files in their order
+pub record NamesFiles (rows : List Row) (files : FileNames) : Type 0 where
+  pub defs : map (λ file. file.now) files.defs.items ≡ all_values (codes "defs") rows
+  pub wiring : first_of (codes "wiring") rows ≡ Some files.wiring.now
+  pub policy : first_of (codes "policy") rows ≡ option_map (λ file. file.now) files.policy
+  pub certificate : first_of (codes "cert") rows ≡ option_map (λ file. file.now) files.certificate
+  pub script : first_of (codes "script") rows ≡ option_map (λ file. file.now) files.script
+
+-- the question that a subcommand of this name asks with these options
+abbrev pub Asks : Text → List Row → Question → Type 0
+Asks name rows (Verify tree) = (name ≡ codes "verify") × (tree ≡ has_flag (codes "tree") rows)
+Asks name rows (Mend most) =
+    (name ≡ codes "mend") × (most ≡ number_of 10 (first_of (codes "most") rows))
+Asks name rows (Attack line most) =
+    (name ≡ codes "attack") × (line ≡ number_if_given (first_of (codes "line") rows))
+    × (most ≡ number_of 1000 (first_of (codes "most") rows))
+Asks name rows (Check verbose) =
+    (name ≡ codes "check") × (verbose ≡ has_flag (codes "verbose") rows)
+Asks name rows (Make out workers) =
+    (name ≡ codes "make") × (first_of (codes "out") rows ≡ Some out.now)
+    × (workers ≡ number_of 4 (first_of (codes "workers") rows))
+Asks name rows (Explain fact by) =
+    (name ≡ codes "explain") × (first_of (codes "fact") rows ≡ Some fact.now)
+    × (by ≡ has_flag (codes "by") rows)
+Asks name rows (Facts task class right) =
+    (name ≡ codes "facts") × (first_of (codes "task") rows ≡ option_map (λ word. word.now) task)
+    × (first_of (codes "class") rows ≡ option_map (λ word. word.now) class)
+    × (first_of (codes "right") rows ≡ option_map (λ word. word.now) right)
+Asks name rows (Graph fact) =
+    (name ≡ codes "graph") × (first_of (codes "fact") rows ≡ option_map (λ text. text.now) fact)
+Asks name rows Promises = name ≡ codes "promises"
+Asks name rows Replay = name ≡ codes "replay"
+Asks name rows Live = name ≡ codes "live"
+
+-- the files that a question needs besides the wiring are named
+abbrev pub has_files : Question → FileNames → Bool
+has_files (Verify tree) files = is_some files.policy
+has_files (Mend most) files = is_some files.policy
+has_files (Attack line most) files = is_some files.policy
+has_files (Check verbose) files = is_some files.policy && is_some files.certificate
+has_files Replay files = is_some files.script
+has_files Live files =
+    is_some files.policy && (is_some files.certificate && is_some files.script)
+has_files question files = true
+
+-- what `mig` is asked
+pub record AsksMig (rows : List Row) (files : MigFiles) : Type 0 where
+  pub defs : map (λ file. file.now) files.defs.items ≡ all_values (codes "defs") rows
+  pub out : first_of (codes "out") rows ≡ Some files.out.now
+  pub strict : files.strict
+      ≡ strictness_of (has_flag (codes "strict") rows) (has_flag (codes "strict-rights") rows)
+
+-- the command that a subcommand of this name is with these options
+abbrev pub IsCommandOf : Text → List Row → Command → Type 0
+IsCommandOf name rows (Case files question) =
+    NamesFiles rows files × Asks name rows question × (has_files question files ≡ true)
+IsCommandOf name rows (Mig files) = (name ≡ codes "mig") × AsksMig rows files
+
+-- the words mean the command: it is that of the subcommand and the options that they give
+abbrev pub Means : List Text → Command → Type 0
+Means words command =
+    IsSomeAnd (subcommand_of machcheck_app words) (λ given. IsCommandOf given.0 given.1 command)
