@@ -6,8 +6,9 @@ use Rattle.std.specs.List.{join_by}
 use Rattle.std.proofs.lemmas.List.{append-nil, drop_all, length-map}
 use Rattle.mrc_mig_cut.specs.Carrying.{carriers}
 use Rattle.mrc_mig_cut.proofs.CarryLemmas.{by_texts}
-use Rattle.mrc_command.specs.declared.command.SystemFiles.{SystemFiles}
-use Rattle.mrc_program.specs.LeftNotices.{file_name, left_notice, left_notices_from}
+use Rattle.mrc_command.specs.declared.command.FileNames.{FileNames}
+use Rattle.mrc_program.specs.Files.{defs_name}
+use Rattle.mrc_program.specs.LeftNotices.{left_notice, left_notices_from}
 use Rattle.mrc_program.proofs.CutLaws.{next_left}
 
 -- names that are joined, by their bytes
@@ -25,10 +26,10 @@ abbrev pub texts_of : List (Vec ℕ Global) → List (List ℕ)
 texts_of defs = map (λ text. text.items) defs
 
 -- one file more is told
-pub notice_more : (files : SystemFiles) (defs : List (Vec ℕ Global)) (i : ℕ) (d : Vec ℕ Global)
+pub notice_more : (files : FileNames) (defs : List (Vec ℕ Global)) (i : ℕ) (d : Vec ℕ Global)
     (text line new total : List ℕ) → i < length defs
     → text ++ left_notices_from files i (texts_of (drop i defs)) ≡ total
-    → line ≡ left_notice (file_name files i) (carriers (get_or defs i d).items)
+    → line ≡ left_notice (defs_name files i) (carriers (get_or defs i d).items)
     → new ≡ text ++ line
     → new ++ left_notices_from files (i + 1) (texts_of (drop (i + 1) defs)) ≡ total
 notice_more files defs i d text line new total less so is added =
@@ -40,7 +41,7 @@ notice_more files defs i d text line new total less so is added =
     ∙ so)))
 
 -- no file is left
-pub notices_end : (files : SystemFiles) (defs : List (Vec ℕ Global)) (i : ℕ) (text total : List ℕ)
+pub notices_end : (files : FileNames) (defs : List (Vec ℕ Global)) (i : ℕ) (text total : List ℕ)
     → length defs ≤ i → text ++ left_notices_from files i (texts_of (drop i defs)) ≡ total
     → text ≡ total
 notices_end files defs i text total all so =

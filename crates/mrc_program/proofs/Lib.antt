@@ -1,10 +1,11 @@
 pub mod ToldLaws
+mod RunLaws
+mod CheckedLaws
 pub mod ScriptLaws
-pub mod ChainLaws
+mod MeaningLaws
 mod MakeLaws
 mod CutLaws
 mod CutExamples
-pub mod HaltLaws
 mod GraphLaws
 mod VerifiedSafe
 mod VerifyLaws

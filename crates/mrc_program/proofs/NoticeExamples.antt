@@ -7,8 +7,8 @@ use Rattle.mrc_model.specs.declared.RequestKind.TheVariants.{Simple}
 use Rattle.mrc_forms.specs.declared.form.FormKind.TheVariants.{Request}
 use Rattle.mrc_forms.specs.Forms.{empty_form}
 use Rattle.mrc_forms.specs.Tables.{Row, Table}
-use Rattle.mrc_command.specs.declared.command.SystemFiles.{SystemFiles}
-use Rattle.mrc_program.specs.Told.{defs_name}
+use Rattle.mrc_command.specs.declared.command.FileNames.{FileNames}
+use Rattle.mrc_program.specs.Files.{defs_name}
 use Rattle.mrc_program.specs.Notices.{notice_line, notice}
 
 -- a simpleroutine of this name and id
@@ -39,14 +39,14 @@ of_notices = record {
 }
 
 -- nothing is told of other names
-none : (files : SystemFiles) → notice files (plain ∷ plain ∷ []) ≡ []
-none files = refl
+none : (names : FileNames) → notice names (plain ∷ plain ∷ []) ≡ []
+none names = refl
 
 -- the first routine of the first file that has one is told, and no other
-first : (files : SystemFiles)
-    → notice files (plain ∷ of_notices ∷ of_notices ∷ [])
-    ≡ notice_line (defs_name files 1) (codes "mach_notify_dead_name")
-first files = refl
+first : (names : FileNames)
+    → notice names (plain ∷ of_notices ∷ of_notices ∷ [])
+    ≡ notice_line (defs_name names 1) (codes "mach_notify_dead_name")
+first names = refl
 
 -- its line
 line : notice_line (codes "notify.defs") (codes "mach_notify_dead_name")

@@ -1,29 +1,18 @@
 -- Which lines of a wiring are further ones of their task and verb.
-use Rattle.std.proofs.Common.{◌≡◌, ◌⊎◌, ◌∙◌, ℕ, Bool, true, false, List, [], ◌∷◌, ◌++◌, Result, Err}
-use Rattle.std.proofs.Common.{inl, inr, ap, map, refl, string_bytes, sym, Bor}
-use Rattle.std.specs.Prelude.{◌||◌, ◌&&◌, IfOk, Option, bytes_eq}
+use Rattle.std.proofs.Common.{◌≡◌, ◌∙◌, ℕ, Bool, true, false, List, [], ◌∷◌, ◌++◌, ap, map, refl}
+use Rattle.std.proofs.Common.{sym, Bor}
+use Rattle.std.specs.Prelude.{◌||◌, ◌&&◌, Option, bytes_eq}
 use Rattle.std.specs.List.{list_any}
 use Rattle.std.proofs.lemmas.Bool.{false≢true}
 use Rattle.std.proofs.lemmas.List.Folds.{list_any-append}
-use Rattle.std.proofs.lemmas.Result.{IfOk-weaker}
 use Rattle.std.proofs.lemmas.Slice.Eq.{bytes_eq-Decides}
-use Rattle.mrc_base.specs.declared.memory.OrMemory.{OrMemory}
-use Rattle.mrc_base.specs.declared.memory.OrMemory.TheVariants.{Fault}
-use Rattle.mrc_base.specs.Reading.{UnlessMemory}
 use Rattle.mrc_wiring_text.specs.declared.reading.Line.{Line}
 use Rattle.mrc_wiring_text.specs.declared.trust.TrustVerb.{TrustVerb}
 use Rattle.mrc_wiring_text.specs.declared.trust.TrustVerb.TheVariants.{Takes, Gives, Sends, Replies}
 use Rattle.mrc_wiring_text.specs.declared.trust.TrustedRight.{TrustedRight}
 use Rattle.mrc_wiring_text.specs.declared.wiring.WiringSays.{WiringSays}
 use Rattle.mrc_wiring_text.specs.declared.wiring.WiringSays.TheVariants as says
-use Rattle.mrc_check.specs.declared.texts.SystemFault.{SystemFault}
-use Rattle.mrc_check.specs.Texts.{no_table_of}
-use Rattle.mrc_command.specs.declared.command.SystemFiles.{SystemFiles}
-use Rattle.mrc_command.specs.declared.told.Told.{Told}
-use Rattle.mrc_program.specs.Texts.{SystemTexts, wired_by}
-use Rattle.mrc_program.specs.Told.{ToldMemory, ToldNoSystem, IsFaultOf, system_file}
 use Rattle.mrc_program.specs.Promised.{limits, is_limited, same_verb}
-use Rattle.mrc_program.proofs.ToldLaws.{no_system_told}
 
 -- lines limit the same
 abbrev pub LimitTheSame : (some others : List (Line WiringSays)) → Type 0
@@ -98,22 +87,3 @@ pub limited_seen : (lines : List (Bor (Line WiringSays))) (task : List ℕ) (ver
 limited_seen [] task verb = refl
 limited_seen (line ∷ lines) task verb =
     ap (λ b. limits task verb line.now.says || b) (limited_seen lines task verb)
-
--- What is printed for texts that mean no wiring.
-
--- that texts mean no wiring, if nothing else may be printed
-pub no_system_alone : {E : Type 0} (files : SystemFiles) (texts : SystemTexts)
-    (refusal : OrMemory SystemFault) (fault shown : SystemFault) (result : Result Told E)
-    → refusal ≡ Fault fault
-    → shown ≡ fault
-    → UnlessMemory (λ f. wired_by texts ≡ Err (no_table_of f)) refusal
-    → IfOk result (λ told. string_bytes told.out ≡ [])
-    → IfOk result (λ told.
-    IsFaultOf (system_file files (no_table_of shown)) (string_bytes told.err))
-    → IfOk result (λ told. told.status ≡ 2 → ToldMemory told ⊎ ToldNoSystem files texts told)
-no_system_alone files texts refusal fault shown result is told_is means out err =
-    IfOk-weaker result _ _ (λ told h two. elim (h two) [
-      | inl memory ↦ inl memory
-      | inr (inl none) ↦ inr none
-      | inr (inr other) ↦ absurd other
-    ]) (no_system_told files texts refusal fault shown result (λ told. ⊥) is told_is means out err)

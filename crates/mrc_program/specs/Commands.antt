@@ -1,128 +1,151 @@
--- What the program tells of a command, by its status: 0 of what was asked for, 1 of a no, 2 of a
+-- What the program prints of a command, by its status: 0 of what was asked for, 1 of a no, 2 of a
 -- fault. This profile's own choice.
-use Rattle.std.specs.Prelude.{List, ℕ, Option, string_bytes}
+use Rattle.std.specs.Prelude.{◌≡◌, ◌⊎◌, List, [], ℕ, Option, false, string_bytes}
 use Rattle.std.specs.Io.KnownBytes.{Appends}
 use Rattle.mrc_command.specs.declared.told.Told.{Told}
 use Rattle.mrc_command.specs.declared.command.Command.{Command}
-use Rattle.mrc_command.specs.declared.command.Command.TheVariants.{Verify, Mend, Attack}
-use Rattle.mrc_command.specs.declared.command.Command.TheVariants.{Check, Make}
-use Rattle.mrc_command.specs.declared.command.Command.TheVariants.{Explain, Facts, Graph, Replay}
-use Rattle.mrc_command.specs.declared.command.Command.TheVariants.{Promises, Live, Mig}
+use Rattle.mrc_command.specs.declared.command.Command.TheVariants.{Case, Mig}
+use Rattle.mrc_command.specs.declared.command.Question.{Question}
+use Rattle.mrc_command.specs.declared.command.Question.TheVariants.{Verify, Mend, Attack, Check}
+use Rattle.mrc_command.specs.declared.command.Question.TheVariants.{Make, Explain, Facts, Graph}
+use Rattle.mrc_command.specs.declared.command.Question.TheVariants.{Promises, Replay, Live}
+use Rattle.mrc_command.specs.Meaning.{Means}
 use Rattle.mrc_files.specs.Files.{Held}
-use Rattle.mrc_program.specs.Told.{YesOfFiles, NoOfFiles, FaultOfFiles, MadeOfFiles, FaultOfMake}
-use Rattle.mrc_program.specs.Told.{CutOfFiles}
-use Rattle.mrc_program.specs.Told.{ReplayOfFiles, FaultOfReplay, LiveOfFiles, NoOfLive, FaultOfLive}
-use Rattle.mrc_program.specs.Told.{HaltedOfFiles}
-use Rattle.mrc_program.specs.Explained.{ChainOfFiles, NoneOfFiles, FaultOfExplain}
-use Rattle.mrc_program.specs.Listed.{FactsOfFiles, OtherOfFiles, FaultOfFacts}
-use Rattle.mrc_program.specs.Listed.{GraphOfFiles, UndrawnOfFiles, FaultOfGraph}
-use Rattle.mrc_program.specs.Promised.{PromisesOfFiles, FaultOfPromises}
-use Rattle.mrc_program.specs.Verified.{AllowedOfFiles, BrokenOfFiles, FaultOfVerify}
-use Rattle.mrc_program.specs.Verified.{MendsOfFiles, FaultOfMend}
-use Rattle.mrc_program.specs.Attacked.{UnattackedOfFiles, AttacksOfFiles, FaultOfAttack}
+use Rattle.mrc_program.specs.Files.{Files, OfFiles, all_names, word_of}
+use Rattle.mrc_program.specs.Texts.{system, stated, case}
+use Rattle.mrc_program.specs.Told.{ToldMemory, ToldUnread, ToldFault}
+use Rattle.mrc_program.specs.Checked.{ToldYes, ToldNo, notices_of}
+use Rattle.mrc_program.specs.Verified.{ToldAllowed, ToldBroken, ToldMends, ToldMost}
+use Rattle.mrc_program.specs.Attacked.{ToldUnattacked, ToldAttacks, ToldNotBroken, ToldLine}
+use Rattle.mrc_program.specs.Made.{ToldMade, ToldUnmade, ToldCut}
+use Rattle.mrc_program.specs.Explained.{ToldChain, ToldNone, ToldBadFact}
+use Rattle.mrc_program.specs.Listed.{ToldFacts, ToldOther, ToldUnlisted}
+use Rattle.mrc_program.specs.Listed.{ToldGraph, ToldUndrawn, ToldNoGraph}
+use Rattle.mrc_program.specs.Promised.{ToldPromises}
+use Rattle.mrc_program.specs.Played.{scripted, ToldReplay, ToldLive, ToldUnserved, ToldHalted}
 use Rattle.mrc_program.specs.Cutting.{CutsOfFiles, RefusedOfFiles, FaultOfMig}
 
--- with status 0: a yes, mends, the making of a certificate, a chain, facts, a drawing, what has to
--- be found in the code of trusted tasks, a replay, a journal, or what MIG files are cut to
+-- with status 0 of files: a yes, mends, the making of a certificate, a chain, facts, a drawing, what
+-- has to be found in the code of trusted tasks, a replay, or a journal
+abbrev pub Done : Held → Question → Files → Told → Type 0
+Done after (Verify tree) files told = ToldAllowed files told
+Done after (Mend most) files told = ToldMends most files told
+Done after (Attack line most) files told = ToldUnattacked line files told
+Done after (Check verbose) files told = ToldYes files told
+Done after (Make out workers) files told = ToldMade out.now after files told
+Done after (Explain fact by) files told = ToldChain fact.now by files told
+Done after (Facts task class right) files told =
+    ToldFacts (word_of task) (word_of class) (word_of right) files told
+Done after (Graph fact) files told = ToldGraph (word_of fact) files told
+Done after Promises files told = ToldPromises files told
+Done after Replay files told = ToldReplay files told
+Done after Live files told = ToldLive files told
+
+-- with status 1 of files: a no, attacks, that no chain leads to a fact, or that no mend was found;
+-- never of a `make`, a `promises` or a `replay`
+abbrev pub No : Question → Files → Told → Type 0
+No (Verify tree) files told = ToldBroken tree files told
+No (Mend most) files told = ToldMends most files told
+No (Attack line most) files told = ToldAttacks line files told
+No (Check verbose) files told = ToldNo (notices_of files) verbose files told
+No (Make out workers) files told = ⊥
+No (Explain fact by) files told = ToldNone fact.now files told
+No (Facts task class right) files told = ToldOther files told
+No (Graph fact) files told = ToldUndrawn (word_of fact) files told
+No Promises files told = ⊥
+No Replay files told = ⊥
+No Live files told = ToldNo [] false files told
+
+-- with status 2 of files that were read, unless memory ran out: a text has no meaning, a word names
+-- nothing, or what was asked for can't be done
+abbrev pub Fault : Question → Files → Told → Type 0
+Fault (Verify tree) files told = ToldFault (stated files.texts) files.names told
+Fault (Mend most) files told = ToldFault (stated files.texts) files.names told
+Fault (Attack line most) files told =
+    ToldFault (stated files.texts) files.names told ⊎ ToldNotBroken line files told
+Fault (Check verbose) files told = ToldFault (case files.texts) files.names told
+Fault (Make out workers) files told =
+    ToldFault (system files.texts) files.names told ⊎ ToldUnmade out.now workers told
+Fault (Explain fact by) files told =
+    ToldFault (system files.texts) files.names told ⊎ ToldBadFact fact.now files told
+Fault (Facts task class right) files told =
+    ToldUnlisted (word_of task) (word_of class) (word_of right) files told
+Fault (Graph fact) files told = ToldNoGraph (word_of fact) files told
+Fault Promises files told = ToldFault (system files.texts) files.names told
+Fault Replay files told = ToldFault (scripted files.texts) files.names told
+Fault Live files told = ToldUnserved files told
+
+-- a word can't be what it is asked to be: that is printed before any file is read
+abbrev pub BadWord : Question → Told → Type 0
+BadWord (Verify tree) told = ⊥
+BadWord (Mend most) told = ToldMost most told
+BadWord (Attack line most) told = ToldMost most told ⊎ ToldLine line told
+BadWord (Check verbose) told = ⊥
+BadWord (Make out workers) told = ⊥
+BadWord (Explain fact by) told = ⊥
+BadWord (Facts task class right) told = ⊥
+BadWord (Graph fact) told = ⊥
+BadWord Promises told = ⊥
+BadWord Replay told = ⊥
+BadWord Live told = ⊥
+
+-- with status 0: what was asked of the files, or what MIG files are cut to
 abbrev pub DoneOf : Held → Held → Command → Told → Type 0
-DoneOf before after (Verify files) told = AllowedOfFiles before files told
-DoneOf before after (Mend files) told = MendsOfFiles before files told
-DoneOf before after (Attack files) told = UnattackedOfFiles before files told
-DoneOf before after (Check words) told = YesOfFiles before words.files told
-DoneOf before after (Make files) told = MadeOfFiles before after files told
-DoneOf before after (Explain files) told = ChainOfFiles before files told
-DoneOf before after (Facts files) told = FactsOfFiles before files told
-DoneOf before after (Graph files) told = GraphOfFiles before files told
-DoneOf before after (Promises files) told = PromisesOfFiles before files told
-DoneOf before after (Replay files) told = ReplayOfFiles before files told
-DoneOf before after (Live files) told = LiveOfFiles before files told
+DoneOf before after (Case names question) told = OfFiles (Done after question) before names told
 DoneOf before after (Mig files) told = CutsOfFiles before after files told
 
--- with status 1: a no, attacks, that no chain leads to a fact, or that no mend was found; never of a
--- `make`, a `promises`, a `replay` or a `mig`
+-- with status 1
 abbrev pub NoOf : Held → Command → Told → Type 0
-NoOf held (Verify files) told = BrokenOfFiles held files told
-NoOf held (Mend files) told = MendsOfFiles held files told
-NoOf held (Attack files) told = AttacksOfFiles held files told
-NoOf held (Check words) told = NoOfFiles held words told
-NoOf held (Make files) told = ⊥
-NoOf held (Explain files) told = NoneOfFiles held files told
-NoOf held (Facts files) told = OtherOfFiles held files told
-NoOf held (Graph files) told = UndrawnOfFiles held files told
-NoOf held (Promises files) told = ⊥
-NoOf held (Replay files) told = ⊥
-NoOf held (Live files) told = NoOfLive held files told
+NoOf held (Case names question) told = OfFiles (No question) held names told
 NoOf held (Mig files) told = ⊥
 
--- with status 2: why it is told
+-- with status 2: memory ran out, a word is none that can be, a file can't be read, or what the files
+-- hold has a fault
 abbrev pub FaultOf : Held → Command → Told → Type 0
-FaultOf held (Verify files) told = FaultOfVerify held files told
-FaultOf held (Mend files) told = FaultOfMend held files told
-FaultOf held (Attack files) told = FaultOfAttack held files told
-FaultOf held (Check words) told = FaultOfFiles held words.files told
-FaultOf held (Make files) told = FaultOfMake held files told
-FaultOf held (Explain files) told = FaultOfExplain held files told
-FaultOf held (Facts files) told = FaultOfFacts held files told
-FaultOf held (Graph files) told = FaultOfGraph held files told
-FaultOf held (Promises files) told = FaultOfPromises held files told
-FaultOf held (Replay files) told = FaultOfReplay held files told
-FaultOf held (Live files) told = FaultOfLive held files told
+FaultOf held (Case names question) told =
+    ToldMemory told ⊎ (BadWord question told
+    ⊎ (ToldUnread held (all_names names) told ⊎ OfFiles (Fault question) held names told))
 FaultOf held (Mig files) told = FaultOfMig held files told
+
+-- what is left of a certificate whose file did not take all bytes
+abbrev pub Cut : Held → Question → Files → Told → Type 0
+Cut after (Make out workers) files told = ToldCut out.now after files told
+Cut after question files told = ⊥
 
 -- with status 2: so many bytes of a certificate were written, and these the file has; or the
 -- writing of a file of a `mig` was refused, and this was left
 abbrev pub CutOf : Held → Held → Command → Told → Type 0
-CutOf before after (Verify files) told = ⊥
-CutOf before after (Mend files) told = ⊥
-CutOf before after (Attack files) told = ⊥
-CutOf before after (Check words) told = ⊥
-CutOf before after (Make files) told = CutOfFiles before after files told
-CutOf before after (Explain files) told = ⊥
-CutOf before after (Facts files) told = ⊥
-CutOf before after (Graph files) told = ⊥
-CutOf before after (Promises files) told = ⊥
-CutOf before after (Replay files) told = ⊥
-CutOf before after (Live files) told = ⊥
+CutOf before after (Case names question) told = OfFiles (Cut after question) before names told
 CutOf before after (Mig files) told = RefusedOfFiles before after files told
 
 -- with status 2 and a text on standard output: that no task of a `live` can go on
+abbrev pub Halted : Question → Files → Told → Type 0
+Halted Live files told = ToldHalted files told
+Halted question files told = ⊥
+
+-- the same of a command
 abbrev pub HaltedOf : Held → Command → Told → Type 0
-HaltedOf held (Verify files) told = ⊥
-HaltedOf held (Mend files) told = ⊥
-HaltedOf held (Attack files) told = ⊥
-HaltedOf held (Check words) told = ⊥
-HaltedOf held (Make files) told = ⊥
-HaltedOf held (Explain files) told = ⊥
-HaltedOf held (Facts files) told = ⊥
-HaltedOf held (Graph files) told = ⊥
-HaltedOf held (Promises files) told = ⊥
-HaltedOf held (Replay files) told = ⊥
-HaltedOf held (Live files) told = HaltedOfFiles held files told
+HaltedOf held (Case names question) told = OfFiles (Halted question) held names told
 HaltedOf held (Mig files) told = ⊥
+
+-- a question whose answer may change a file
+abbrev pub Changes : Question → Type 0
+Changes (Make out workers) = Unit {0}
+Changes question = ⊥
 
 -- a command that may change a file: it has an `--out`
 abbrev pub HasOut : Command → Type 0
-HasOut (Verify files) = ⊥
-HasOut (Mend files) = ⊥
-HasOut (Attack files) = ⊥
-HasOut (Check words) = ⊥
-HasOut (Make files) = Unit {0}
-HasOut (Explain files) = ⊥
-HasOut (Facts files) = ⊥
-HasOut (Graph files) = ⊥
-HasOut (Promises files) = ⊥
-HasOut (Replay files) = ⊥
-HasOut (Live files) = ⊥
+HasOut (Case names question) = Changes question
 HasOut (Mig files) = Unit {0}
 
--- it is told of some command
-abbrev pub SomeCommand : (Command → Told → Type 0) → Told → Type 0
-SomeCommand Tells told = (command : Command) × Tells command told
+-- it is printed of the command that the words ask for
+abbrev pub OfWords : List (List ℕ) → (Command → Told → Type 0) → Told → Type 0
+OfWords words Tells told = (command : Command) × Means words command × Tells command told
 
--- what the program told of a command, and that standard output took all of it: it held `old`, and
--- holds `new`
-pub record WentOut (Tells : Command → Told → Type 0) (old new : Option (List ℕ)) : Type 0 where
-  pub command : Command
+-- what the program printed of the command that the words ask for, and that standard output took all
+-- of it: it held `old`, and holds `new`
+pub record WentOut (words : List (List ℕ)) (Tells : Command → Told → Type 0)
+    (old new : Option (List ℕ)) : Type 0 where
   pub told : Told
-  pub tells : Tells command told
+  pub tells : OfWords words Tells told
   pub out : Appends old new (string_bytes told.out)

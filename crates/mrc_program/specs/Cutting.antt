@@ -15,7 +15,7 @@ use Rattle.mrc_mig_cut.specs.declared.carried.Carried.{Carried}
 use Rattle.mrc_mig_cut.specs.Carrying.{carried_text, carries, carrying, carriers}
 use Rattle.mrc_mig_cut.specs.Cuts.{IsCut}
 use Rattle.mrc_files.specs.declared.streams.WriteFault.{WriteFault}
-use Rattle.mrc_files.specs.Files.{Held, HasBytes, IsLeftBy}
+use Rattle.mrc_files.specs.Files.{Held, HasBytes, AreHeld, IsLeftBy}
 use Rattle.mrc_files.specs.Paths.{name}
 use Rattle.mrc_command.specs.declared.told.Told.{Told}
 use Rattle.mrc_command.specs.declared.command.MigFiles.{MigFiles}
@@ -24,7 +24,7 @@ use Rattle.mrc_command.specs.declared.command.Strictness.TheVariants.{None as Ea
 use Rattle.mrc_command.specs.Lines.{fault_line, memory_line, shown}
 use Rattle.mrc_program.specs.declared.cuts.NamedCut.{NamedCut}
 use Rattle.mrc_program.specs.LeftNotices.{carriers_text}
-use Rattle.mrc_program.specs.Told.{OfFiles, ToldMemory, ToldUnread, IsFaultOf}
+use Rattle.mrc_program.specs.Told.{ToldMemory, ToldUnread, IsFaultOf}
 
 -- the files of a `mig`, in the order in which they are read
 abbrev pub mig_names : MigFiles → List (List ℕ)
@@ -280,9 +280,12 @@ pub record ToldSameName (files : MigFiles) (told : Told) : Type 0 where
   pub out : string_bytes told.out ≡ []
   pub err : string_bytes told.err ≡ fault_line file (codes "SameName")
 
--- what is told of the texts of these files
-abbrev pub OfTexts : (List (List ℕ) → Told → Type 0) → Held → MigFiles → Told → Type 0
-OfTexts Tells held files told = OfFiles (λ texts. texts) Tells held (mig_names files) told
+-- this is printed of the texts of the files, so far as that is known
+pub record OfTexts (Tells : List (List ℕ) → Told → Type 0) (held : Held) (files : MigFiles)
+    (told : Told) : Type 0 where
+  pub texts : List (List ℕ)
+  pub are_held : AreHeld held (mig_names files) texts
+  pub tells : Tells texts told
 
 -- what the files hold is cut, and each file is written
 abbrev pub CutsOfFiles : Held → Held → MigFiles → Told → Type 0

@@ -1,48 +1,69 @@
--- Which files a command reads. This profile's own choice.
-use Rattle.std.specs.Prelude.{ℕ, List, [], ◌∷◌, ◌++◌, map, Option, Some, None}
+-- The files that a command names, by their roles, and the texts that they hold. This profile's own
+-- choice.
+use Rattle.std.specs.Prelude.{ℕ, List, [], ◌∷◌, ◌++◌, map, Option, Some, None, get_or}
+use Rattle.std.specs.Option.{option_map, option_to_list, unwrap_or}
 use Rattle.std.specs.Borrow.{Bor}
-use Rattle.mrc_command.specs.declared.command.SystemFiles.{SystemFiles}
-use Rattle.mrc_command.specs.declared.command.CheckFiles.{CheckFiles}
-use Rattle.mrc_command.specs.declared.command.LiveFiles.{LiveFiles}
-use Rattle.mrc_command.specs.declared.command.ReplayFiles.{ReplayFiles}
-use Rattle.mrc_command.specs.declared.command.FactsFiles.{FactsFiles}
-use Rattle.mrc_command.specs.declared.command.GraphFiles.{GraphFiles}
+use Rattle.mrc_command.specs.declared.command.FileNames.{FileNames}
+use Rattle.mrc_command.specs.declared.told.Told.{Told}
+use Rattle.mrc_files.specs.Files.{Held, HasBytes, AreHeld}
 
--- the MIG files of a system, by their names
-abbrev pub defs_names : SystemFiles → List (List ℕ)
-defs_names files = map (λ file. file.now) files.defs.items
+-- the bytes of files, by their roles
+pub record Texts : Type 0 where
+  pub defs : List (List ℕ)
+  pub wiring : List ℕ
+  pub policy : Option (List ℕ)
+  pub certificate : Option (List ℕ)
+  pub script : Option (List ℕ)
 
--- the files of a system, in the order in which they are read
-abbrev pub system_names : SystemFiles → List (List ℕ)
-system_names files = defs_names files ++ files.wiring.now ∷ []
+-- the names of files, by their roles, and their bytes
+pub record Files : Type 0 where
+  pub names : FileNames
+  pub texts : Texts
 
--- the files of a `check`, in the order in which they are read
-abbrev pub check_names : CheckFiles → List (List ℕ)
-check_names files = system_names files.system ++ files.policy.now ∷ files.certificate.now ∷ []
+-- a text that may be given: an empty one, if it is not
+abbrev pub given : Option (List ℕ) → List ℕ
+given text = unwrap_or text []
 
--- the files of a `replay`, in the order in which they are read
-abbrev pub replay_names : ReplayFiles → List (List ℕ)
-replay_names files = system_names files.system ++ files.script.now ∷ []
+-- a word that may be given
+abbrev pub word_of : Option (Bor (List ℕ)) → Option (List ℕ)
+word_of word = option_map (λ (w : Bor (List ℕ)). w.now) word
 
--- the files of a `live`, in the order in which they are read
-abbrev pub live_names : LiveFiles → List (List ℕ)
-live_names files = check_names files.check ++ files.script.now ∷ []
+-- the MIG files, by their names
+abbrev pub defs_names : FileNames → List (List ℕ)
+defs_names names = map (λ file. file.now) names.defs.items
 
--- the files of a system and that of a policy, in the order in which they are read
-abbrev pub policy_names : SystemFiles → List ℕ → List (List ℕ)
-policy_names files policy = system_names files ++ policy ∷ []
+-- the MIG file of this number, by its name
+abbrev pub defs_name : FileNames → ℕ → List ℕ
+defs_name names n = get_or (defs_names names) n []
 
 -- a file that may be named
 abbrev pub names_if_given : Option (Bor (List ℕ)) → List (List ℕ)
-names_if_given None = []
-names_if_given (Some file) = file.now ∷ []
+names_if_given file = option_to_list (word_of file)
 
--- the files of a `facts`, in the order in which they are read
-abbrev pub facts_names : FactsFiles → List (List ℕ)
-facts_names files = system_names files.system ++ names_if_given files.certificate
+-- all files, in the order in which they are read
+abbrev pub all_names : FileNames → List (List ℕ)
+all_names names =
+    defs_names names ++ (names.wiring.now ∷ (names_if_given names.policy
+    ++ (names_if_given names.certificate ++ names_if_given names.script)))
 
--- the files of a `graph`, in the order in which they are read
-abbrev pub graph_names : GraphFiles → List (List ℕ)
-graph_names files =
-    system_names files.system
-    ++ (names_if_given files.policy ++ names_if_given files.certificate)
+-- the text is that of the file, so far as that is known; there is one if and only if a file is named
+abbrev pub IsHeld : Held → Option (List ℕ) → Option (List ℕ) → Type 0
+IsHeld held None None = Unit {0}
+IsHeld held None (Some text) = ⊥
+IsHeld held (Some file) None = ⊥
+IsHeld held (Some file) (Some text) = HasBytes held file text
+
+-- each text is that of the file of its role, so far as that is known
+pub record AreRead (held : Held) (names : FileNames) (texts : Texts) : Type 0 where
+  pub defs : AreHeld held (defs_names names) texts.defs
+  pub wiring : HasBytes held names.wiring.now texts.wiring
+  pub policy : IsHeld held (word_of names.policy) texts.policy
+  pub certificate : IsHeld held (word_of names.certificate) texts.certificate
+  pub script : IsHeld held (word_of names.script) texts.script
+
+-- this is printed of what the files hold, so far as that is known
+pub record OfFiles (Tells : Files → Told → Type 0) (held : Held) (names : FileNames) (told : Told)
+    : Type 0 where
+  pub texts : Texts
+  pub are_read : AreRead held names texts
+  pub tells : Tells record { names = names; texts = texts } told

@@ -1,12 +1,12 @@
 -- What is told of MIG files out of which routines were left that carry rights: how many, and which.
 -- This profile's own choice.
-use Rattle.std.specs.Prelude.{ℕ, ◌+◌, List, [], ◌∷◌, ◌++◌, ◌==◌, length, codes, decimal, get_or}
+use Rattle.std.specs.Prelude.{ℕ, ◌+◌, List, [], ◌∷◌, ◌++◌, ◌==◌, length, codes, decimal}
 use Rattle.std.specs.Prelude.{if◌then◌else◌}
 use Rattle.std.specs.List.{join_by}
 use Rattle.mrc_mig_cut.specs.Carrying.{carriers}
 use Rattle.mrc_command.specs.Lines.{fault_line}
-use Rattle.mrc_command.specs.declared.command.SystemFiles.{SystemFiles}
-use Rattle.mrc_program.specs.Files.{defs_names}
+use Rattle.mrc_command.specs.declared.command.FileNames.{FileNames}
+use Rattle.mrc_program.specs.Files.{defs_name}
 
 -- the words behind the number of routines
 abbrev pub carriers_words : ℕ → List ℕ
@@ -28,16 +28,12 @@ abbrev pub left_notice : List ℕ → List (List ℕ) → List ℕ
 left_notice file [] = []
 left_notice file (name ∷ names) = fault_line file (carriers_text (name ∷ names))
 
--- the MIG file of this number, by its name
-abbrev pub file_name : SystemFiles → ℕ → List ℕ
-file_name files n = get_or (defs_names files) n []
-
 -- what is told of the MIG files from this number on, which have these texts
-abbrev pub left_notices_from : SystemFiles → ℕ → List (List ℕ) → List ℕ
-left_notices_from files n [] = []
-left_notices_from files n (text ∷ texts) =
-    left_notice (file_name files n) (carriers text) ++ left_notices_from files (n + 1) texts
+abbrev pub left_notices_from : FileNames → ℕ → List (List ℕ) → List ℕ
+left_notices_from names n [] = []
+left_notices_from names n (text ∷ texts) =
+    left_notice (defs_name names n) (carriers text) ++ left_notices_from names (n + 1) texts
 
 -- what is told of the MIG files of a system, which have these texts, in their order
-abbrev pub left_notices : SystemFiles → List (List ℕ) → List ℕ
-left_notices files texts = left_notices_from files 0 texts
+abbrev pub left_notices : FileNames → List (List ℕ) → List ℕ
+left_notices names texts = left_notices_from names 0 texts

@@ -1,6 +1,9 @@
 pub mod Files
 pub mod Texts
 pub mod Told
+pub mod Checked
+pub mod Made
+pub mod Played
 pub mod Notices
 pub mod LeftNotices
 pub mod PolicyNotices

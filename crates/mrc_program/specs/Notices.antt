@@ -6,8 +6,8 @@ use Rattle.mrc_forms.specs.declared.form.MessageKind.TheVariants.{Request}
 use Rattle.mrc_forms.specs.Forms.{Form}
 use Rattle.mrc_forms.specs.Tables.{Table, forms_by}
 use Rattle.mrc_command.specs.Lines.{fault_line}
-use Rattle.mrc_command.specs.declared.command.SystemFiles.{SystemFiles}
-use Rattle.mrc_program.specs.Told.{defs_name}
+use Rattle.mrc_command.specs.declared.command.FileNames.{FileNames}
+use Rattle.mrc_program.specs.Files.{defs_name}
 
 -- whether a routine of this name asks for such a notification, or is one
 abbrev pub is_notification : List ℕ → Bool
@@ -37,11 +37,11 @@ notice_or other file (Some form) = notice_line file form.name
 
 -- what is told of the MIG files from this number on, which have these interfaces: the line of the
 -- first that has such a routine
-abbrev pub notice_from : SystemFiles → ℕ → List Table → List ℕ
-notice_from files n [] = []
-notice_from files n (table ∷ tables) =
-    notice_or (notice_from files (n + 1) tables) (defs_name files n) (notification_in table)
+abbrev pub notice_from : FileNames → ℕ → List Table → List ℕ
+notice_from names n [] = []
+notice_from names n (table ∷ tables) =
+    notice_or (notice_from names (n + 1) tables) (defs_name names n) (notification_in table)
 
 -- what is told of the MIG files, which have these interfaces
-abbrev pub notice : SystemFiles → List Table → List ℕ
-notice files tables = notice_from files 0 tables
+abbrev pub notice : FileNames → List Table → List ℕ
+notice names tables = notice_from names 0 tables

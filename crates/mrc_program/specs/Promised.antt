@@ -1,6 +1,6 @@
 -- Believe. What has to be found in the code of trusted tasks: a text for each line of a wiring that
 -- trusts a task, in words of Mach's calls. This profile's own choice.
-use Rattle.std.specs.Prelude.{◌≡◌, ◌⊎◌, ℕ, ◌==◌, ◌&&◌, Bool, true, false, List, [], ◌∷◌, ◌++◌}
+use Rattle.std.specs.Prelude.{◌≡◌, ℕ, ◌==◌, ◌&&◌, Bool, true, false, List, [], ◌∷◌, ◌++◌}
 use Rattle.std.specs.Prelude.{Option, Some, None, bytes_eq, codes, decimal, string_bytes}
 use Rattle.std.specs.Prelude.{if◌then◌else◌}
 use Rattle.std.specs.List.{list_any}
@@ -14,14 +14,10 @@ use Rattle.mrc_wiring_text.specs.declared.trust.TrustVerb.TheVariants.{Takes, Gi
 use Rattle.mrc_wiring_text.specs.declared.trust.TrustedRight.{TrustedRight}
 use Rattle.mrc_wiring_text.specs.declared.wiring.WiringSays.{WiringSays}
 use Rattle.mrc_wiring_text.specs.declared.wiring.WiringSays.TheVariants as says
-use Rattle.mrc_wiring_text.specs.Texts.{IsWiring}
-use Rattle.mrc_command.specs.declared.command.SystemFiles.{SystemFiles}
 use Rattle.mrc_command.specs.declared.told.Told.{Told}
-use Rattle.mrc_files.specs.Files.{Held}
-use Rattle.mrc_program.specs.Explained.{OfWiring}
-use Rattle.mrc_program.specs.Files.{system_names}
-use Rattle.mrc_program.specs.Texts.{SystemTexts, system_list}
-use Rattle.mrc_program.specs.Told.{OfFiles, ToldMemory, ToldUnread, ToldNoSystem}
+use Rattle.mrc_program.specs.Explained.{OfMeaning}
+use Rattle.mrc_program.specs.Files.{Files}
+use Rattle.mrc_program.specs.Texts.{system}
 
 -- The words.
 
@@ -197,24 +193,12 @@ promises lines = promises_behind [] lines
 
 -- What is printed.
 
--- this is printed for the lines of the wiring of these bytes
-pub record AreToldPromises (wiring : List ℕ) (told : Told) : Type 0 where
-  pub lines : List (Line WiringSays)
-  pub is_wiring : IsWiring wiring lines
+-- this is printed for the lines of a wiring
+pub record ArePromised (lines : List (Line WiringSays)) (told : Told) : Type 0 where
   pub out : string_bytes told.out ≡ promises lines
   pub err : string_bytes told.err ≡ []
 
--- the same of texts that mean a wiring
-abbrev pub ToldPromises : SystemTexts → Told → Type 0
-ToldPromises texts told = OfWiring (λ table. AreToldPromises texts.wiring) texts told
-
--- the same of what the files hold
-abbrev pub PromisesOfFiles : Held → SystemFiles → Told → Type 0
-PromisesOfFiles held files told =
-    OfFiles system_list ToldPromises held (system_names files) told
-
--- why a `promises` has status 2: memory ran out, a file can't be read, or a text has no meaning
-abbrev pub FaultOfPromises : Held → SystemFiles → Told → Type 0
-FaultOfPromises held files told = ToldMemory told
-    ⊎ (ToldUnread held (system_names files) told
-    ⊎ OfFiles system_list (ToldNoSystem files) held (system_names files) told)
+-- the same of the wiring of what the texts mean
+abbrev pub ToldPromises : Files → Told → Type 0
+ToldPromises files told =
+    OfMeaning (system files.texts) (λ meant. ArePromised meant.lines) told

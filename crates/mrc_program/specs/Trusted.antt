@@ -5,7 +5,7 @@ use Rattle.std.specs.List.{join_by, list_any}
 use Rattle.mrc_wiring.specs.declared.table.TrustedLine.{TrustedLine}
 use Rattle.mrc_wiring.specs.Table.{Table}
 use Rattle.mrc_command.specs.Lines.{fault_line}
-use Rattle.mrc_command.specs.declared.command.SystemFiles.{SystemFiles}
+use Rattle.mrc_command.specs.declared.command.FileNames.{FileNames}
 
 -- the line trusts the task of this number
 abbrev pub is_line_of : ℕ → TrustedLine → Bool
@@ -40,5 +40,5 @@ trusted_line file [] = []
 trusted_line file (name ∷ names) = fault_line file (trusted_text (name ∷ names))
 
 -- what is printed with a yes of the tasks that the wiring trusts
-abbrev pub trusted_notice : SystemFiles → Table → List ℕ
-trusted_notice files table = trusted_line files.wiring.now (trusted_names table)
+abbrev pub trusted_notice : FileNames → Table → List ℕ
+trusted_notice names table = trusted_line names.wiring.now (trusted_names table)

@@ -1,48 +1,30 @@
 //! What the program prints of attacks: calls that lead to what a policy forbids.
 
-ghost use Rattle.std.specs.Prelude.{◌≡◌, ◌≤◌, ◌⊎◌, ◌↔◌, ◌++◌, Some, None, Ok, IfOk, IsTrue};
-ghost use Rattle.std.specs.Prelude.{if◌then◌else◌, string_bytes};
-ghost use Rattle.mrc_wiring.specs.Claims.{Claimed};
-ghost use Rattle.mrc_why.specs.Broken.{HasYes};
-ghost use Rattle.mrc_program.specs.Texts.{claimed};
-ghost use Rattle.mrc_program.specs.Told.{ToldMemory};
-ghost use Rattle.mrc_program.specs.Verified.{IsAllowed, IsBadMost, ToldAllowed, ToldMost};
-ghost use Rattle.mrc_program.specs.Verified.{ToldUnclaimed};
-ghost use Rattle.mrc_program.specs.Attacked as definitions;
-ghost use Rattle.mrc_program.specs.Attacked.{form_of, has_line, AreFound, AreAttacks};
-ghost use Rattle.mrc_program.specs.Attacked.{IsNotBroken, IsBadLine, ToldAttacks, ToldNotBroken};
-ghost use Rattle.mrc_program.specs.Attacked.{ToldLine, UnattackedOfFiles, AttacksOfFiles};
-ghost use Rattle.mrc_program.specs.Attacked.{FaultOfAttack};
+ghost use Rattle.std.specs.Prelude.{◌≡◌, ◌≤◌, ◌⊎◌, ◌↔◌, ◌++◌, true, false, None, Ok, IfOk, IfSome};
+ghost use Rattle.std.specs.Prelude.{IsSomeAnd, IsTrue, [], map, string_bytes};
+ghost use Rattle.mrc_check.specs.Texts as meanings;
+ghost use Rattle.mrc_why.specs.Broken.{HasYes, line_of};
+ghost use Rattle.mrc_program.specs.Texts as texts;
+ghost use Rattle.mrc_program.specs.Told.{ToldMemory, ToldFault};
+ghost use Rattle.mrc_program.specs.Verified.{IsBadMost, ToldMost};
+ghost use Rattle.mrc_program.specs.Attacked.{form_of, has_number, AreFound, IsBadLine};
+ghost use Rattle.mrc_program.specs.Attacked.{ToldUnattacked, ToldAttacks, ToldNotBroken, ToldLine};
 
-use crate::policy::{PolicyBytes, claim_fault_told, claimed, policy_bytes};
+use crate::files::Files;
+use crate::mend::most_told;
 use crate::tell::yes;
-use crate::told::unread_told;
+use crate::told::refused;
 use crate::verify::notices;
 use mrc_attack::Progress;
-use mrc_base::OrMemory;
-use mrc_command::{AttackFiles, Told, fault_of, memory};
-use mrc_files::Folder;
+use mrc_check::Stated;
+use mrc_command::{Told, fault_of};
 use mrc_leak::{Form, attacks, attacks_text, cut_text};
 use mrc_why::{Broken, Verdict, verify};
-use mrc_wiring::{Claim, Wired};
+use mrc_wiring::Wired;
 use std::alloc::{AllocError, Global};
-
-/// The most states that may be asked for.
-const MOST: usize = 1_000_000;
 
 /// The last number that a line can have.
 const LAST: usize = 4_294_967_295;
-
-/// What is looked for.
-#[derive(Clone, Copy, Debug, PartialEq, Eq)]
-pub enum Goals {
-    /// Nothing: nothing is exposed or broken, and no line is asked for.
-    Nothing,
-    /// What is exposed and broken, or the line of this number alone, which is broken.
-    Lines(Option<u32>),
-    /// Nothing: the line that is asked for is not broken.
-    NotBroken,
-}
 
 /// A script is printed by itself if one line is asked for.
 fn form_of(only: Option<u32>) -> Form
@@ -64,9 +46,36 @@ fn is_bad_line(line: Option<usize>) -> bool
     }
 }
 
+/// What is printed if such numbers can't be asked for: of states first, and then of a line.
+pub fn bounds_told(
+    alloc: Global,
+    line: Option<usize>,
+    most: usize,
+) -> Result<Option<Told>, AllocError>
+    ensures status { IfOk result (λ bad. IfSome bad (λ told. told.status ≡ 2)) }
+    ensures silent { IfOk result (λ bad. IfSome bad (λ told. string_bytes told.out ≡ [])) }
+    ensures bad { IfOk result (λ bad. IfSome bad (λ told.
+        ToldMost most told ⊎ ToldLine line told)) }
+    // No more than 1,000,000 states can be asked for, and one at least.
+    ensures most { IsBadMost most → IfOk result (λ bad. IsSomeAnd bad (ToldMost most)) }
+    // No line has the number 0, or one above 4,294,967,295.
+    ensures line { IsBadLine line → (IsBadMost most → ⊥)
+        → IfOk result (λ bad. IsSomeAnd bad (ToldLine line)) }
+{
+    if let Some(told) = most_told(alloc, most)? {
+        return Ok(Some(told));
+    }
+    if is_bad_line(line) {
+        return Ok(Some(fault_of(alloc, "--line", "BadLine")?));
+    }
+    Ok(None)
+}
+
 /// The number, if one of the lines has it.
 fn number_in(broken: &[Broken], number: usize) -> Option<u32>
-    ensures { result ≡ if has_line broken.now number then Some number else None }
+    ensures own { IfSome result (λ own. own ≡ number) }
+    ensures some { IfSome result (λ _. has_number (map line_of broken.now) number ≡ true) }
+    ensures none { result ≡ None → has_number (map line_of broken.now) number ≡ false }
 {
     for line in broken {
         let own = line.line().line;
@@ -75,26 +84,6 @@ fn number_in(broken: &[Broken], number: usize) -> Option<u32>
         }
     }
     None
-}
-
-/// What is looked for, by the line that is asked for, if one is.
-fn goals_of(verdict: &Verdict, line: Option<usize>) -> Goals
-    ensures { result
-        ≡ definitions.goals_of verdict.now.exposed verdict.now.broken.items line }
-{
-    match line {
-        None => {
-            if verdict.is_yes() {
-                Goals::Nothing
-            } else {
-                Goals::Lines(None)
-            }
-        }
-        Some(number) => match number_in(verdict.broken.as_slice(), number) {
-            Some(number) => Goals::Lines(Some(number)),
-            None => Goals::NotBroken,
-        },
-    }
 }
 
 /// Notices, and then which lines were not searched to the end.
@@ -132,102 +121,69 @@ fn attacks_told<P: Progress>(
     })
 }
 
-/// What is printed of attacks on a system whose texts make this claim.
-fn claim_attacked<P: Progress>(
+/// What is printed of attacks on files that mean this.
+fn stated_attacked<P: Progress>(
     alloc: Global,
-    files: &AttackFiles<'_>,
-    bytes: &PolicyBytes,
-    claim: &Claim,
+    files: &Files<'_>,
+    stated: &Stated,
+    line: Option<usize>,
+    most: usize,
     progress: &mut P,
 ) -> Result<Told, AllocError>
+    requires { texts.stated files.now.texts ≡ Ok stated.now }
     ensures status { IfOk result (λ told. told.status ≤ 2) }
-    ensures line { IfOk result (λ told. told.status ≡ 0 → files.now.line ≡ None) }
-    ensures yes { IfOk result (λ told. told.status ≡ 0
-        → IsAllowed files.now.system files.now.policy.now bytes.now claim.now told) }
-    ensures attacks { IfOk result (λ told. told.status ≡ 1
-        → AreAttacks files.now bytes.now claim.now told) }
-    ensures not_broken { IfOk result (λ told. told.status ≡ 2
-        → IsNotBroken files.now.line claim.now told) }
+    ensures done { IfOk result (λ told. told.status ≡ 0 → ToldUnattacked line files.now told) }
+    ensures no { IfOk result (λ told. told.status ≡ 1 → ToldAttacks line files.now told) }
+    ensures fault { IfOk result (λ told. told.status ≡ 2 → ToldNotBroken line files.now told) }
 {
-    let verdict = verify(alloc, claim)?;
-    let notices = notices(
-        alloc,
-        &files.system,
-        files.policy,
-        bytes,
-        claim,
-        &verdict.facts,
-    )?;
-    let wired = claim.wired();
-    match goals_of(&verdict, files.line) {
-        Goals::Nothing => yes(alloc, &files.system, notices, wired),
-        Goals::Lines(only) => {
-            attacks_told(alloc, wired, &verdict, only, files.most, notices, progress)
+    let verdict = verify(alloc, &stated.claim)?;
+    let notices = notices(alloc, files, &stated.claim, &verdict.facts)?;
+    let wired = stated.claim.wired();
+    match line {
+        None => {
+            if verdict.is_yes() {
+                yes(alloc, &files.names, notices, wired)
+            } else {
+                attacks_told(alloc, wired, &verdict, None, most, notices, progress)
+            }
         }
-        Goals::NotBroken => fault_of(alloc, "--line", "NotBroken"),
+        Some(number) => match number_in(verdict.broken.as_slice(), number) {
+            Some(own) => {
+                attacks_told(alloc, wired, &verdict, Some(own), most, notices, progress)
+            }
+            None => fault_of(alloc, "--line", "NotBroken"),
+        },
     }
 }
 
-/// What is printed for the bytes of MIG files, a wiring and a policy.
-fn attack_told<P: Progress>(
+/// What is printed of attacks on a system, or on one line of its policy. For each line so many
+/// states are looked at, at most.
+pub fn attack_told<P: Progress>(
     alloc: Global,
-    files: &AttackFiles<'_>,
-    bytes: &PolicyBytes,
+    files: &Files<'_>,
+    line: Option<usize>,
+    most: usize,
     progress: &mut P,
 ) -> Result<Told, AllocError>
     ensures status { IfOk result (λ told. told.status ≤ 2) }
-    ensures line { IfOk result (λ told. told.status ≡ 0 → files.now.line ≡ None) }
-    ensures yes { IfOk result (λ told. told.status ≡ 0
-        → ToldAllowed files.now.system files.now.policy.now bytes.now told) }
+    ensures done { IfOk result (λ told. told.status ≡ 0 → ToldUnattacked line files.now told) }
     // If the least set is a yes, no attacks are printed.
-    ensures only { (claim : Claimed) → claimed bytes.now ≡ Ok claim → HasYes claim
-        → IfOk result (λ told. told.status ≡ 1 → ⊥) }
-    ensures attacks { IfOk result (λ told. told.status ≡ 1
-        → ToldAttacks files.now bytes.now told) }
+    ensures only { (meant : meanings.Stated) → texts.stated files.now.texts ≡ Ok meant
+        → HasYes meant.claim → IfOk result (λ told. told.status ≡ 1 → ⊥) }
+    ensures no { IfOk result (λ told. told.status ≡ 1 → ToldAttacks line files.now told) }
     // A fault is one of the first file that has one, or that the line which is asked for is not
     // broken, unless memory ran out.
     ensures fault { IfOk result (λ told. told.status ≡ 2 → ToldMemory told
-        ⊎ (ToldUnclaimed files.now.system files.now.policy.now bytes.now told
-        ⊎ ToldNotBroken files.now.line bytes.now told)) }
+        ⊎ (ToldFault (texts.stated files.now.texts) files.now.names told
+        ⊎ ToldNotBroken line files.now told)) }
 {
-    match claimed(alloc, bytes) {
-        Ok(claim) => claim_attacked(alloc, files, bytes, &claim, progress),
-        Err(OrMemory::Fault(fault)) => {
-            claim_fault_told(alloc, &files.system, files.policy, bytes, fault)
-        }
-        Err(OrMemory::Memory) => memory(alloc),
-    }
-}
-
-/// What is printed for the files of an `attack`.
-pub fn attack_files<F: Folder, P: Progress>(
-    folder: &F,
-    alloc: Global,
-    files: &AttackFiles<'_>,
-    progress: &mut P,
-) -> Result<Told, AllocError>
-    ensures status { IfOk result (λ told. told.status ≤ 2) }
-    // A yes, or attacks, are right of what the files hold, so far as that is known.
-    ensures yes { IfOk result (λ told. told.status ≡ 0
-        → UnattackedOfFiles (F.held folder.now) files.now told) }
-    ensures attacks { IfOk result (λ told. told.status ≡ 1
-        → AttacksOfFiles (F.held folder.now) files.now told) }
-    ensures fault { IfOk result (λ told. told.status ≡ 2
-        → FaultOfAttack (F.held folder.now) files.now told) }
-    // No more than 1,000,000 states can be asked for, and one at least.
-    ensures most { IsBadMost files.now.most → IfOk result (ToldMost files.now.most) }
-    // No line has the number 0, or one above 4,294,967,295.
-    ensures line { IsBadLine files.now.line → (IsBadMost files.now.most → ⊥)
-        → IfOk result (ToldLine files.now.line) }
-{
-    if files.most == 0 || files.most > MOST {
-        return fault_of(alloc, "--most", "BadMost");
-    }
-    if is_bad_line(files.line) {
-        return fault_of(alloc, "--line", "BadLine");
-    }
-    match policy_bytes(folder, alloc, &files.system, files.policy) {
-        Ok(bytes) => attack_told(alloc, files, &bytes, progress),
-        Err(unread) => unread_told(alloc, &unread),
+    match Stated::read(
+        alloc,
+        files.texts.defs.as_slice(),
+        files.texts.wiring.as_slice(),
+        files.texts.policy(),
+    ) {
+        Ok(stated) => stated_attacked(alloc, files, &stated, line, most, progress),
+        Err(refusal) => refused(alloc, &files.names, &refusal),
     }
 }

@@ -1,68 +1,21 @@
-//! What the program tells of the facts of a certificate, or of those of the least one.
+//! What the program prints of the facts of a certificate, or of those of the least set.
 
-ghost use Rattle.std.specs.Prelude.{◌≡◌, ◌≤◌, ◌⊎◌, [], IfOk, IfErr, string_bytes};
-ghost use Rattle.std.specs.Option.{option_map};
-ghost use Rattle.mrc_files.specs.Files.{AreHeld, Exceeds, IsFirstUnread};
-ghost use Rattle.mrc_program.specs.Files.{facts_names};
-ghost use Rattle.mrc_program.specs.Texts.{facts_list};
-ghost use Rattle.mrc_program.specs.Told.{ToldMemory};
-ghost use Rattle.mrc_program.specs.Listed.{filter_line, ToldFacts, ToldOther, ToldUnlisted};
-ghost use Rattle.mrc_program.specs.Listed.{OfListing, ToldNoFacts, FactsOfFiles, OtherOfFiles};
-ghost use Rattle.mrc_program.specs.Listed.{FaultOfFacts, IsListing, IsOther, ToldBadFilter};
+ghost use Rattle.std.specs.Prelude.{◌≡◌, ◌≤◌, ◌⊎◌, [], IfOk, string_bytes};
+ghost use Rattle.mrc_program.specs.Files.{word_of};
+ghost use Rattle.mrc_program.specs.Told.{ToldMemory, ToldFault};
+ghost use Rattle.mrc_program.specs.Listed.{draft_given, filter_line, TellsFacts, TellsOther};
+ghost use Rattle.mrc_program.specs.Listed.{TellsBadFilter, ToldFacts, ToldOther, ToldUnlisted};
 
-use crate::given::{bytes_if_given, draft_fault_told, facts_given};
-use crate::system::{SystemBytes, system_bytes, system_fault_told, wired_by};
-use crate::told::unread_told;
-use mrc_base::OrMemory;
-use mrc_command::{FactsFiles, Told, fault_of, memory, said};
+use crate::files::Files;
+use crate::given::{facts_given, other_told};
+use crate::told::refused;
+use mrc_check::System;
+use mrc_command::{Told, fault_of, said};
 use mrc_draw::{FilterFault, facts_text, filter_of};
-use mrc_files::{Folder, ReadFault, Unread};
-use mrc_rows::Facts;
 use mrc_wiring::Wired;
 use std::alloc::{AllocError, Global};
-use std::marker::Model;
 
-/// The bytes of the files of a `facts`.
-#[derive(Drop)]
-struct FactsBytes {
-    system: SystemBytes,
-    certificate: Option<Vec<u8>>,
-}
-
-impl Model for FactsBytes {
-    ghost use Rattle.std.specs.Option.{option_map};
-    ghost use Rattle.mrc_program.specs.Texts.{FactsTexts};
-
-    ghost Value = { FactsTexts };
-
-    ghost view = { λ b. record {
-      system = b.system;
-      certificate = option_map (λ bytes. bytes.items) b.certificate;
-    } };
-}
-
-/// All files are read before any is judged, those of the system first.
-fn facts_bytes<'a, F: Folder>(
-    folder: &F,
-    alloc: Global,
-    files: &FactsFiles<'a>,
-) -> Result<FactsBytes, Unread<'a>>
-    ensures held { IfOk result
-        (λ bytes. AreHeld (F.held folder.now) (facts_names files.now) (facts_list bytes)) }
-    ensures first { IfErr result (λ unread.
-        IsFirstUnread (F.held folder.now) (facts_names files.now) unread.file.now) }
-    ensures too_big { IfErr result (λ unread. unread.fault ≡ ReadFault.TooBig
-        → Exceeds (F.held folder.now) unread.file.now) }
-{
-    let system = system_bytes(folder, alloc, &files.system)?;
-    let certificate = bytes_if_given(folder, alloc, files.certificate)?;
-    Ok(FactsBytes {
-        system,
-        certificate,
-    })
-}
-
-/// The word of a filter that names nothing.
+/// The option whose word names nothing.
 fn filter_told(alloc: Global, fault: FilterFault) -> Result<Told, AllocError>
     ensures status { IfOk result (λ told. told.status ≡ 2) }
     ensures out { IfOk result (λ told. string_bytes told.out ≡ []) }
@@ -75,93 +28,63 @@ fn filter_told(alloc: Global, fault: FilterFault) -> Result<Told, AllocError>
     }
 }
 
-/// What is told of facts that are given: those that are asked for.
-fn facts_told(
-    alloc: Global,
-    files: &FactsFiles<'_>,
-    wired: &Wired,
-    given: Option<&Facts>,
-) -> Result<Told, AllocError>
-    ensures status { IfOk result (λ told. told.status ≤ 2) }
-    ensures facts { IfOk result (λ told. told.status ≡ 0
-        → IsListing files.now wired.now (option_map (λ facts. facts.now) given.entry) told) }
-    ensures other { IfOk result (λ told. told.status ≡ 1
-        → IsOther (option_map (λ facts. facts.now) given.entry) told) }
-    ensures fault { IfOk result (λ told. told.status ≡ 2
-        → ToldBadFilter files.now wired.now told) }
-{
-    match filter_of(wired, files.task, files.class, files.right) {
-        Ok(filter) => match given {
-            Some(facts) => Ok(said(alloc, facts_text(alloc, wired, facts, &filter)?, 0)),
-            None => Ok(said(alloc, String::from_str(alloc, "NO counts\n")?, 1)),
-        },
-        Err(fault) => filter_told(alloc, fault),
-    }
-}
-
-/// What is told of a wiring, and of the bytes of a certificate, where one is named.
+/// What is printed of a wiring, and of a certificate, if it is given.
 fn listing_told(
     alloc: Global,
-    files: &FactsFiles<'_>,
-    certificate: Option<&[u8]>,
+    files: &Files<'_>,
+    task: Option<&str>,
+    class: Option<&str>,
+    right: Option<&str>,
     wired: &Wired,
 ) -> Result<Told, AllocError>
     ensures status { IfOk result (λ told. told.status ≤ 2) }
-    ensures facts { IfOk result (λ told. told.status ≡ 0
-        → ToldFacts files.now (option_map (λ bytes. bytes.now) certificate.entry) wired.now told) }
-    ensures other { IfOk result (λ told. told.status ≡ 1
-        → ToldOther (option_map (λ bytes. bytes.now) certificate.entry) wired.now told) }
+    ensures done { IfOk result (λ told. told.status ≡ 0
+        → TellsFacts (word_of task.entry) (word_of class.entry) (word_of right.entry)
+        files.now.texts.certificate wired.now told) }
+    ensures no { IfOk result (λ told. told.status ≡ 1
+        → TellsOther files.now.texts.certificate wired.now told) }
     ensures fault { IfOk result (λ told. told.status ≡ 2 → ToldMemory told
-        ⊎ ToldUnlisted files.now (option_map (λ bytes. bytes.now) certificate.entry)
-        wired.now told) }
+        ⊎ (ToldFault (draft_given files.now.texts.certificate) files.now.names told
+        ⊎ TellsBadFilter (word_of task.entry) (word_of class.entry) (word_of right.entry)
+        wired.now told)) }
 {
-    match facts_given(alloc, wired, certificate) {
-        Ok(facts) => facts_told(alloc, files, wired, facts.as_ref()),
-        Err(OrMemory::Fault(fault)) => draft_fault_told(alloc, files.certificate, fault),
-        Err(OrMemory::Memory) => memory(alloc),
+    match facts_given(alloc, wired, &files.texts) {
+        Ok(facts) => match filter_of(wired, task, class, right) {
+            Ok(filter) => match facts {
+                Some(facts) => {
+                    let _count = facts.len();
+                    Ok(said(alloc, facts_text(alloc, wired, &facts, &filter)?, 0))
+                }
+                None => other_told(alloc),
+            },
+            Err(fault) => filter_told(alloc, fault),
+        },
+        Err(refusal) => refused(alloc, &files.names, &refusal),
     }
 }
 
-/// What is told of the bytes of MIG files, a wiring and a certificate, where one is named.
-fn facts_of_bytes(
+/// What is printed of facts: those of the task, the class and the right that are asked for.
+pub fn facts_told(
     alloc: Global,
-    files: &FactsFiles<'_>,
-    bytes: &FactsBytes,
+    files: &Files<'_>,
+    task: Option<&str>,
+    class: Option<&str>,
+    right: Option<&str>,
 ) -> Result<Told, AllocError>
     ensures status { IfOk result (λ told. told.status ≤ 2) }
-    ensures facts { IfOk result (λ told. told.status ≡ 0
-        → OfListing (ToldFacts files.now) bytes.now told) }
-    ensures other { IfOk result (λ told. told.status ≡ 1 → OfListing ToldOther bytes.now told) }
-    // A fault is one of the first file that has one, or of a word, unless memory ran out.
-    ensures fault { IfOk result (λ told. told.status ≡ 2
-        → ToldMemory told ⊎ ToldNoFacts files.now bytes.now told) }
+    // The facts are those of what the texts mean.
+    ensures done { IfOk result (λ told. told.status ≡ 0
+        → ToldFacts (word_of task.entry) (word_of class.entry) (word_of right.entry) files.now
+        told) }
+    ensures no { IfOk result (λ told. told.status ≡ 1 → ToldOther files.now told) }
+    // A fault is one of the first text that has no meaning, or of a word, unless memory ran out.
+    ensures fault { IfOk result (λ told. told.status ≡ 2 → ToldMemory told
+        ⊎ ToldUnlisted (word_of task.entry) (word_of class.entry) (word_of right.entry) files.now
+        told) }
 {
-    match wired_by(alloc, &bytes.system) {
-        Ok(wired) => listing_told(alloc, files, bytes.certificate.as_deref(), &wired),
-        Err(OrMemory::Fault(fault)) => {
-            system_fault_told(alloc, &files.system, &bytes.system, fault)
-        }
-        Err(OrMemory::Memory) => memory(alloc),
-    }
-}
-
-/// What is told of the files of a `facts`.
-pub fn facts_files<F: Folder>(
-    folder: &F,
-    alloc: Global,
-    files: &FactsFiles<'_>,
-) -> Result<Told, AllocError>
-    ensures status { IfOk result (λ told. told.status ≤ 2) }
-    // The facts are those of what the files hold, so far as that is known.
-    ensures facts { IfOk result (λ told. told.status ≡ 0
-        → FactsOfFiles (F.held folder.now) files.now told) }
-    ensures other { IfOk result (λ told. told.status ≡ 1
-        → OtherOfFiles (F.held folder.now) files.now told) }
-    ensures fault { IfOk result (λ told. told.status ≡ 2
-        → FaultOfFacts (F.held folder.now) files.now told) }
-{
-    match facts_bytes(folder, alloc, files) {
-        Ok(bytes) => facts_of_bytes(alloc, files, &bytes),
-        Err(unread) => unread_told(alloc, &unread),
+    let texts = &files.texts;
+    match System::read(alloc, texts.defs.as_slice(), texts.wiring.as_slice()) {
+        Ok(system) => listing_told(alloc, files, task, class, right, &system.wired),
+        Err(refusal) => refused(alloc, &files.names, &refusal),
     }
 }

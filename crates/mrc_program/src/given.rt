@@ -1,52 +1,33 @@
-//! Files that may be named, and the facts of a certificate that may be.
+//! The facts of a certificate that may be given, or those of the least set.
 
-ghost use Rattle.std.specs.Prelude.{◌≡◌, [], Some, IfOk, IfErr, IfSome, IfNone};
+ghost use Rattle.std.specs.Prelude.{◌≡◌, [], Some, Err, IfOk, IfErr, IfSome, IfNone, codes};
 ghost use Rattle.std.specs.Prelude.{string_bytes};
-ghost use Rattle.std.specs.List.{All};
-ghost use Rattle.std.specs.Option.{option_map};
 ghost use Rattle.mrc_base.specs.Reading.{UnlessMemory};
-ghost use Rattle.mrc_files.specs.Files.{AreHeld, Exceeds, Fits, IsFirstUnread};
-ghost use Rattle.mrc_program.specs.Files.{names_if_given};
-ghost use Rattle.mrc_program.specs.Texts.{text_if_given};
-ghost use Rattle.mrc_program.specs.Told.{IsFaultOf};
-ghost use Rattle.mrc_program.specs.Listed.{word_of, name_if_given};
-ghost use Rattle.mrc_program.specs.Listed.{AreFactsOf, AreOfDraft, IsOtherIfGiven, IsOfAnother};
-ghost use Rattle.mrc_program.specs.Listed.{IsNoDraft, IsOfWiring};
 ghost use Rattle.mrc_certificate.specs.Spelling.{content};
+ghost use Rattle.mrc_check.specs.Texts.{meaningless};
+ghost use Rattle.mrc_program.specs.Listed.{draft_given, IsOfWiring, AreOfDraft, AreFactsOf};
+ghost use Rattle.mrc_program.specs.Listed.{IsOfAnother, IsOtherIfGiven};
 
+use crate::files::Texts;
 use mrc_base::OrMemory;
-use mrc_certificate::{Draft, DraftFault, read_draft};
+use mrc_certificate::{Draft, read_draft};
+use mrc_check::CaseFault;
 use mrc_closure::make_alone;
-use mrc_command::{Told, fault_of};
-use mrc_files::{Folder, ReadFault, Unread, bytes_of};
+use mrc_command::{Told, said};
 use mrc_rows::Facts;
 use mrc_wiring::Wired;
 use std::alloc::{AllocError, Global};
 
-/// The bytes of a file, where one is named.
-pub fn bytes_if_given<'a, F: Folder>(
-    folder: &F,
-    alloc: Global,
-    file: Option<&'a str>,
-) -> Result<Option<Vec<u8>>, Unread<'a>>
-    ensures held { IfOk result (λ bytes. AreHeld (F.held folder.now) (names_if_given file.entry)
-        (text_if_given (option_map (λ text. text.items) bytes))) }
-    ensures fit { IfOk result (λ _. All (Fits (F.held folder.now)) (names_if_given file.entry)) }
-    ensures first { IfErr result (λ unread.
-        IsFirstUnread (F.held folder.now) (names_if_given file.entry) unread.file.now) }
-    ensures too_big { IfErr result (λ unread. unread.fault ≡ ReadFault.TooBig
-        → Exceeds (F.held folder.now) unread.file.now) }
+/// That a certificate has other numbers than the wiring.
+pub fn other_told(alloc: Global) -> Result<Told, AllocError>
+    ensures status { IfOk result (λ told. told.status ≡ 1) }
+    ensures out { IfOk result (λ told. string_bytes told.out ≡ codes "NO counts\n") }
+    ensures err { IfOk result (λ told. string_bytes told.err ≡ []) }
 {
-    match file {
-        None => Ok(None),
-        Some(file) => match bytes_of(folder, alloc, file) {
-            Ok(bytes) => Ok(Some(bytes)),
-            Err(unread) => Err(unread),
-        },
-    }
+    Ok(said(alloc, String::from_str(alloc, "NO counts\n")?, 1))
 }
 
-/// The facts of a draft, where it has the wiring's numbers.
+/// The facts of a draft, if it has the wiring's numbers.
 fn facts_of_draft(wired: &Wired, draft: Draft) -> Option<Facts>
     ensures some { IfSome result (λ facts.
         IsOfWiring wired.now (content draft) × (facts ≡ (content draft).facts)) }
@@ -58,56 +39,43 @@ fn facts_of_draft(wired: &Wired, draft: Draft) -> Option<Facts>
     if counts { Some(draft.facts) } else { None }
 }
 
-/// The facts of the certificate that the bytes spell, or none where it has not the wiring's
-/// numbers.
+/// The facts of the certificate that the bytes encode, or none if it has other numbers than the
+/// wiring.
 fn facts_read(
     alloc: Global,
     wired: &Wired,
     bytes: &[u8],
-) -> Result<Option<Facts>, OrMemory<DraftFault>>
+) -> Result<Option<Facts>, OrMemory<CaseFault>>
     ensures some { IfOk result (λ facts. IfSome facts (AreOfDraft wired.now bytes.now)) }
     ensures none { IfOk result (λ facts. IfNone facts (IsOfAnother wired.now bytes.now)) }
-    ensures fault { IfErr result (UnlessMemory (IsNoDraft (Some bytes.now))) }
+    ensures fault { IfErr result (UnlessMemory
+        (λ fault. draft_given (Some bytes.now) ≡ Err (meaningless fault))) }
 {
-    let draft = read_draft(alloc, bytes)?;
-    Ok(facts_of_draft(wired, draft))
+    match read_draft(alloc, bytes) {
+        Ok(draft) => Ok(facts_of_draft(wired, draft)),
+        Err(refusal) => Err(refusal.map_fault(CaseFault::Certificate)),
+    }
 }
 
-/// The facts of a certificate, where its bytes are given, and else those of the least set; or none
-/// where the certificate has not the wiring's numbers.
+/// The facts of a certificate, if it is given, and else those of the least set; or none if the
+/// certificate has other numbers than the wiring.
 pub fn facts_given(
     alloc: Global,
     wired: &Wired,
-    certificate: Option<&[u8]>,
-) -> Result<Option<Facts>, OrMemory<DraftFault>>
+    texts: &Texts,
+) -> Result<Option<Facts>, OrMemory<CaseFault>>
     ensures some { IfOk result (λ facts.
-        IfSome facts (AreFactsOf wired.now (option_map (λ bytes. bytes.now) certificate.entry))) }
+        IfSome facts (AreFactsOf wired.now texts.now.certificate)) }
     ensures none { IfOk result (λ facts.
-        IfNone facts
-        (IsOtherIfGiven wired.now (option_map (λ bytes. bytes.now) certificate.entry))) }
+        IfNone facts (IsOtherIfGiven wired.now texts.now.certificate)) }
     ensures fault { IfErr result (UnlessMemory
-        (IsNoDraft (option_map (λ bytes. bytes.now) certificate.entry))) }
+        (λ fault. draft_given texts.now.certificate ≡ Err (meaningless fault))) }
 {
-    match certificate {
-        Some(bytes) => facts_read(alloc, wired, bytes),
+    match &texts.certificate {
+        Some(bytes) => facts_read(alloc, wired, bytes.as_slice()),
         None => {
             let draft = make_alone(alloc, wired)?;
             Ok(Some(draft.facts))
         }
     }
-}
-
-/// A fault of a certificate, with its file.
-pub fn draft_fault_told(
-    alloc: Global,
-    file: Option<&str>,
-    fault: DraftFault,
-) -> Result<Told, AllocError>
-    ensures status { IfOk result (λ told. told.status ≡ 2) }
-    ensures out { IfOk result (λ told. string_bytes told.out ≡ []) }
-    ensures err { IfOk result (λ told.
-        IsFaultOf (name_if_given (word_of file.entry)) (string_bytes told.err)) }
-{
-    let text = fault.to_string(alloc)?;
-    fault_of(alloc, file.unwrap_or(""), text.as_str())
 }

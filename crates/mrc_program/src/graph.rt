@@ -1,87 +1,38 @@
-//! What the program draws of the facts of a certificate, of those of the least one, or of a chain.
+//! What the program draws of the facts of a certificate, of those of the least set, or of a chain.
 
-ghost use Rattle.std.specs.Prelude.{◌≡◌, ◌≤◌, ◌⊎◌, [], IfOk, IfErr, IfSome, IfNone, map};
-ghost use Rattle.mrc_closure.specs.Chains.{IsChain};
-ghost use Rattle.mrc_closure.specs.declared.chains.Step.{Step};
+ghost use Rattle.std.specs.Prelude.{◌≡◌, ◌≤◌, ◌⊎◌, [], None, IfOk, IfSome, IfNone, map};
 ghost use Rattle.std.specs.Prelude.{string_bytes};
 ghost use Rattle.std.specs.Option.{option_map};
-ghost use Rattle.mrc_files.specs.Files.{AreHeld, Exceeds, IsFirstUnread};
-ghost use Rattle.mrc_program.specs.Files.{graph_names};
-ghost use Rattle.mrc_program.specs.Texts.{graph_list};
-ghost use Rattle.mrc_program.specs.Told.{ToldMemory, IsFaultOf};
-ghost use Rattle.mrc_program.specs.Listed.{word_of, name_if_given, IsOfChain, AreOfChain, AreDrawn};
-ghost use Rattle.mrc_program.specs.Listed.{AreFactsOf, IsDrawing, ToldGraph, ToldUndrawn};
-ghost use Rattle.mrc_program.specs.Listed.{ToldNoGraph};
-ghost use Rattle.mrc_program.specs.Listed.{OfDrawing, ToldNoDrawing, GraphOfFiles, UndrawnOfFiles};
-ghost use Rattle.mrc_program.specs.Listed.{FaultOfGraph, ToldOther, ToldNoDraft, ToldBadIfGiven};
-ghost use Rattle.mrc_program.specs.Explained.{ToldNone, ToldBadFact};
-ghost use Rattle.mrc_draw.specs.Pictures.{picture_of};
+ghost use Rattle.mrc_closure.specs.Chains.{IsChain};
+ghost use Rattle.mrc_closure.specs.declared.chains.Step.{Step};
+ghost use Rattle.mrc_check.specs.Texts.{meaningless};
 ghost use Rattle.mrc_draw.specs.Dot.{graph_text};
+ghost use Rattle.mrc_draw.specs.Pictures.{picture_of};
+ghost use Rattle.mrc_interface.specs.Reading.{GivesAs};
 ghost use Rattle.mrc_model.specs.Rules.{Least};
+ghost use Rattle.mrc_program.specs.Explained.{TellsNone, TellsBadFact};
+ghost use Rattle.mrc_program.specs.Files.{word_of};
+ghost use Rattle.mrc_program.specs.Listed.{claim_given, claimed, draft_given, draft_drawn};
+ghost use Rattle.mrc_program.specs.Listed.{AreFactsOf, TellsOther, IsOfChain, AreOfChain, AreDrawn};
+ghost use Rattle.mrc_program.specs.Listed.{IsDrawing, TellsUndrawn, TellsBadIfGiven, ToldGraph};
+ghost use Rattle.mrc_program.specs.Listed.{ToldUndrawn, ToldNoGraph};
+ghost use Rattle.mrc_program.specs.Told.{ToldMemory, ToldFault};
 ghost use Rattle.mrc_wiring.specs.Table.{wiring_of};
 
-use crate::given::{bytes_if_given, draft_fault_told, facts_given};
-use crate::system::{SystemBytes, system_bytes, system_fault_told, wired_by};
-use crate::told::unread_told;
+use crate::files::{Files, Texts};
+use crate::given::{facts_given, other_told};
+use crate::told::refused;
 use mrc_base::{Fact, OrMemory};
-use mrc_check::PolicyFault;
-use mrc_command::{GraphFiles, Told, fault_of, memory, said};
+use mrc_check::{CaseFault, PolicyFault, Stated, System};
+use mrc_command::{Told, fault_of, said};
 use mrc_draw::{graph_text, set_of};
-use mrc_files::{Folder, ReadFault, Unread};
-use mrc_mend::claim_of;
 use mrc_rows::Facts;
 use mrc_why::{Derivations, Step};
-use mrc_wiring::{ForbiddenLine, Wired};
+use mrc_wiring::{Claim, ForbiddenLine, Wired};
 use mrc_words::fact_named;
 use std::alloc::{AllocError, Global};
-use std::marker::Model;
 
-/// The bytes of the files of a `graph`.
-#[derive(Drop)]
-struct GraphBytes {
-    system: SystemBytes,
-    policy: Option<Vec<u8>>,
-    certificate: Option<Vec<u8>>,
-}
-
-impl Model for GraphBytes {
-    ghost use Rattle.std.specs.Option.{option_map};
-    ghost use Rattle.mrc_program.specs.Texts.{GraphTexts};
-
-    ghost Value = { GraphTexts };
-
-    ghost view = { λ b. record {
-      system = b.system;
-      policy = option_map (λ bytes. bytes.items) b.policy;
-      certificate = option_map (λ bytes. bytes.items) b.certificate;
-    } };
-}
-
-/// All files are read before any is judged, those of the system first, and then the policy and the
-/// certificate.
-fn graph_bytes<'a, F: Folder>(
-    folder: &F,
-    alloc: Global,
-    files: &GraphFiles<'a>,
-) -> Result<GraphBytes, Unread<'a>>
-    ensures held { IfOk result
-        (λ bytes. AreHeld (F.held folder.now) (graph_names files.now) (graph_list bytes)) }
-    ensures first { IfErr result (λ unread.
-        IsFirstUnread (F.held folder.now) (graph_names files.now) unread.file.now) }
-    ensures too_big { IfErr result (λ unread. unread.fault ≡ ReadFault.TooBig
-        → Exceeds (F.held folder.now) unread.file.now) }
-{
-    let system = system_bytes(folder, alloc, &files.system)?;
-    let policy = bytes_if_given(folder, alloc, files.policy)?;
-    let certificate = bytes_if_given(folder, alloc, files.certificate)?;
-    Ok(GraphBytes {
-        system,
-        policy,
-        certificate,
-    })
-}
-
-/// The drawing of these facts, where a policy has these lines.
+/// The drawing of these facts, of a policy with these lines.
 fn drawn(
     alloc: Global,
     wired: &Wired,
@@ -130,7 +81,7 @@ fn chain_facts(alloc: Global, wired: &Wired, fact: Fact) -> Result<Option<Facts>
     }
 }
 
-/// What is told of the text of a fact: the drawing of a chain, or that there is none.
+/// What is printed of the text of a fact: the drawing of a chain, or that there is none.
 fn chain_drawn(
     alloc: Global,
     wired: &Wired,
@@ -138,10 +89,10 @@ fn chain_drawn(
     lines: &[ForbiddenLine],
 ) -> Result<Told, AllocError>
     ensures status { IfOk result (λ told. told.status ≤ 2) }
-    ensures graph { IfOk result (λ told. told.status ≡ 0
+    ensures done { IfOk result (λ told. told.status ≡ 0
         → IsDrawing (AreOfChain wired.now text.now) wired.now lines.now told) }
-    ensures none { IfOk result (λ told. told.status ≡ 1 → ToldNone text.now wired.now told) }
-    ensures fault { IfOk result (λ told. told.status ≡ 2 → ToldBadFact text.now wired.now told) }
+    ensures no { IfOk result (λ told. told.status ≡ 1 → TellsNone text.now wired.now told) }
+    ensures fault { IfOk result (λ told. told.status ≡ 2 → TellsBadFact text.now wired.now told) }
 {
     let Some(fact) = fact_named(wired, text) else {
         return fault_of(alloc, "--fact", "BadFact");
@@ -152,147 +103,110 @@ fn chain_drawn(
     }
 }
 
-/// What is told of the facts of a certificate, or of those of the least one.
+/// What is printed of the facts of a certificate, or of those of the least set.
 fn facts_drawn(
     alloc: Global,
-    files: &GraphFiles<'_>,
-    certificate: Option<&[u8]>,
+    files: &Files<'_>,
     wired: &Wired,
     lines: &[ForbiddenLine],
 ) -> Result<Told, AllocError>
     ensures status { IfOk result (λ told. told.status ≤ 2) }
-    ensures graph { IfOk result (λ told. told.status ≡ 0
-        → IsDrawing (AreFactsOf wired.now (option_map (λ bytes. bytes.now) certificate.entry))
-        wired.now lines.now told) }
-    ensures other { IfOk result (λ told. told.status ≡ 1
-        → ToldOther (option_map (λ bytes. bytes.now) certificate.entry) wired.now told) }
+    ensures done { IfOk result (λ told. told.status ≡ 0
+        → IsDrawing (AreFactsOf wired.now files.now.texts.certificate) wired.now lines.now told) }
+    ensures no { IfOk result (λ told. told.status ≡ 1
+        → TellsOther files.now.texts.certificate wired.now told) }
     ensures fault { IfOk result (λ told. told.status ≡ 2 → ToldMemory told
-        ⊎ ToldNoDraft (word_of files.now.certificate)
-        (option_map (λ bytes. bytes.now) certificate.entry) told) }
+        ⊎ ToldFault (draft_given files.now.texts.certificate) files.now.names told) }
 {
-    match facts_given(alloc, wired, certificate) {
+    match facts_given(alloc, wired, &files.texts) {
         Ok(Some(facts)) => drawn(alloc, wired, &facts, lines),
-        Ok(None) => Ok(said(alloc, String::from_str(alloc, "NO counts\n")?, 1)),
-        Err(OrMemory::Fault(fault)) => draft_fault_told(alloc, files.certificate, fault),
-        Err(OrMemory::Memory) => memory(alloc),
+        Ok(None) => other_told(alloc),
+        Err(refusal) => refused(alloc, &files.names, &refusal),
     }
 }
 
-/// What is told of a wiring, where a policy has these lines.
+/// What is printed of a wiring, of a policy with these lines.
 fn drawing_told(
     alloc: Global,
-    files: &GraphFiles<'_>,
-    certificate: Option<&[u8]>,
+    files: &Files<'_>,
+    fact: Option<&str>,
     wired: &Wired,
     lines: &[ForbiddenLine],
 ) -> Result<Told, AllocError>
     ensures status { IfOk result (λ told. told.status ≤ 2) }
-    ensures graph { IfOk result (λ told. told.status ≡ 0
-        → IsDrawing (AreDrawn wired.now (option_map (λ bytes. bytes.now) certificate.entry)
-        (word_of files.now.fact)) wired.now lines.now told) }
-    ensures none { IfOk result (λ told. told.status ≡ 1
-        → ToldUndrawn (option_map (λ bytes. bytes.now) certificate.entry) (word_of files.now.fact)
-        wired.now told) }
+    ensures done { IfOk result (λ told. told.status ≡ 0
+        → IsDrawing (AreDrawn wired.now files.now.texts.certificate (word_of fact.entry))
+        wired.now lines.now told) }
+    ensures no { IfOk result (λ told. told.status ≡ 1
+        → TellsUndrawn files.now.texts.certificate (word_of fact.entry) wired.now told) }
     ensures fault { IfOk result (λ told. told.status ≡ 2 → ToldMemory told
-        ⊎ (ToldNoDraft (word_of files.now.certificate)
-        (option_map (λ bytes. bytes.now) certificate.entry) told
-        ⊎ ToldBadIfGiven (word_of files.now.fact) wired.now told)) }
+        ⊎ (ToldFault (draft_drawn (word_of fact.entry) files.now.texts.certificate)
+        files.now.names told
+        ⊎ TellsBadIfGiven (word_of fact.entry) wired.now told)) }
 {
-    match files.fact {
+    match fact {
         Some(text) => chain_drawn(alloc, wired, text, lines),
-        None => facts_drawn(alloc, files, certificate, wired, lines),
+        None => facts_drawn(alloc, files, wired, lines),
     }
 }
 
-/// The fault of a policy, with its file.
-fn policy_fault_told(
-    alloc: Global,
-    file: Option<&str>,
-    fault: PolicyFault,
-) -> Result<Told, AllocError>
-    ensures status { IfOk result (λ told. told.status ≡ 2) }
-    ensures out { IfOk result (λ told. string_bytes told.out ≡ []) }
-    ensures err { IfOk result (λ told.
-        IsFaultOf (name_if_given (word_of file.entry)) (string_bytes told.err)) }
+/// The system with what no policy forbids in it: nothing.
+fn without_policy(alloc: Global, system: System) -> Result<Stated, OrMemory<CaseFault>>
+    ensures { GivesAs (λ stated. stated) meaningless result (claim_given None system) }
 {
-    let text = fault.to_string(alloc)?;
-    fault_of(alloc, file.unwrap_or(""), text.as_str())
+    let System { lines, wired } = system;
+    match Claim::new(alloc, wired, &[]) {
+        Ok(claim) => Ok(Stated { lines, claim }),
+        Err((_, refusal)) => {
+            Err(refusal.map_fault(|fault| CaseFault::Policy(PolicyFault::Lines(fault))))
+        }
+    }
 }
 
-/// What is told of a wiring, and of a policy and a certificate where they are named.
-fn graph_of_wiring(
+/// The system with what a policy forbids in it: nothing, if none is given.
+fn claim_given(
     alloc: Global,
-    files: &GraphFiles<'_>,
-    policy: Option<&[u8]>,
-    certificate: Option<&[u8]>,
-    wired: Wired,
-) -> Result<Told, AllocError>
-    ensures status { IfOk result (λ told. told.status ≤ 2) }
-    ensures graph { IfOk result (λ told. told.status ≡ 0
-        → ToldGraph files.now (option_map (λ bytes. bytes.now) policy.entry)
-        (option_map (λ bytes. bytes.now) certificate.entry) wired told) }
-    ensures none { IfOk result (λ told. told.status ≡ 1
-        → ToldUndrawn (option_map (λ bytes. bytes.now) certificate.entry) (word_of files.now.fact)
-        wired told) }
-    ensures fault { IfOk result (λ told. told.status ≡ 2 → ToldMemory told
-        ⊎ ToldNoGraph files.now (option_map (λ bytes. bytes.now) policy.entry)
-        (option_map (λ bytes. bytes.now) certificate.entry) wired told) }
+    policy: &Option<Vec<u8>>,
+    system: System,
+) -> Result<Stated, OrMemory<CaseFault>>
+    ensures { GivesAs (λ stated. stated) meaningless result
+        (claim_given (option_map (λ bytes. bytes.items) policy.now) system) }
 {
     let Some(policy) = policy else {
-        return drawing_told(alloc, files, certificate, &wired, &[]);
+        return without_policy(alloc, system);
     };
-    match claim_of(alloc, wired, policy) {
-        Ok(claim) => drawing_told(alloc, files, certificate, claim.wired(), claim.lines()),
-        Err(OrMemory::Fault(fault)) => policy_fault_told(alloc, files.policy, fault),
-        Err(OrMemory::Memory) => memory(alloc),
+    match system.claim(alloc, policy.as_slice()) {
+        Ok(stated) => Ok(stated),
+        Err((_, refusal)) => Err(refusal),
     }
 }
 
-/// What is told of the bytes of MIG files and a wiring, and of a policy and a certificate where
-/// they are named.
-fn graph_told(alloc: Global, files: &GraphFiles<'_>, bytes: &GraphBytes) -> Result<Told, AllocError>
-    ensures status { IfOk result (λ told. told.status ≤ 2) }
-    ensures graph { IfOk result (λ told. told.status ≡ 0
-        → OfDrawing (ToldGraph files.now) bytes.now told) }
-    ensures none { IfOk result (λ told. told.status ≡ 1
-        → OfDrawing (λ policy certificate. ToldUndrawn certificate (word_of files.now.fact))
-        bytes.now told) }
-    // A fault is one of the first file that has one, or of the fact, unless memory ran out.
-    ensures fault { IfOk result (λ told. told.status ≡ 2
-        → ToldMemory told ⊎ ToldNoDrawing files.now bytes.now told) }
+/// What MIG files, a wiring and a policy mean, if one is given; or the first of them that has no
+/// meaning.
+fn claimed(alloc: Global, texts: &Texts) -> Result<Stated, OrMemory<CaseFault>>
+    ensures { GivesAs (λ stated. stated) meaningless result (claimed texts.now) }
 {
-    match wired_by(alloc, &bytes.system) {
-        Ok(wired) => graph_of_wiring(
-            alloc,
-            files,
-            bytes.policy.as_deref(),
-            bytes.certificate.as_deref(),
-            wired,
-        ),
-        Err(OrMemory::Fault(fault)) => {
-            system_fault_told(alloc, &files.system, &bytes.system, fault)
+    let system = System::read(alloc, texts.defs.as_slice(), texts.wiring.as_slice())?;
+    claim_given(alloc, &texts.policy, system)
+}
+
+/// The drawing of facts, or of the chain of a fact that is given.
+pub fn graph_told(alloc: Global, files: &Files<'_>, fact: Option<&str>) -> Result<Told, AllocError>
+    ensures status { IfOk result (λ told. told.status ≤ 2) }
+    // The drawing is one of what the texts mean.
+    ensures done { IfOk result (λ told. told.status ≡ 0
+        → ToldGraph (word_of fact.entry) files.now told) }
+    ensures no { IfOk result (λ told. told.status ≡ 1
+        → ToldUndrawn (word_of fact.entry) files.now told) }
+    // A fault is one of the first text that has no meaning, or of the fact, unless memory ran out.
+    ensures fault { IfOk result (λ told. told.status ≡ 2
+        → ToldMemory told ⊎ ToldNoGraph (word_of fact.entry) files.now told) }
+{
+    match claimed(alloc, &files.texts) {
+        Ok(stated) => {
+            let claim = &stated.claim;
+            drawing_told(alloc, files, fact, claim.wired(), claim.lines())
         }
-        Err(OrMemory::Memory) => memory(alloc),
-    }
-}
-
-/// What is told of the files of a `graph`.
-pub fn graph_files<F: Folder>(
-    folder: &F,
-    alloc: Global,
-    files: &GraphFiles<'_>,
-) -> Result<Told, AllocError>
-    ensures status { IfOk result (λ told. told.status ≤ 2) }
-    // The drawing is one of what the files hold, so far as that is known.
-    ensures graph { IfOk result (λ told. told.status ≡ 0
-        → GraphOfFiles (F.held folder.now) files.now told) }
-    ensures none { IfOk result (λ told. told.status ≡ 1
-        → UndrawnOfFiles (F.held folder.now) files.now told) }
-    ensures fault { IfOk result (λ told. told.status ≡ 2
-        → FaultOfGraph (F.held folder.now) files.now told) }
-{
-    match graph_bytes(folder, alloc, files) {
-        Ok(bytes) => graph_told(alloc, files, &bytes),
-        Err(unread) => unread_told(alloc, &unread),
+        Err(refusal) => refused(alloc, &files.names, &refusal),
     }
 }

@@ -6,8 +6,8 @@ ghost use Rattle.mrc_mig_cut.specs.Carrying.{carriers};
 ghost use Rattle.mrc_program.specs.LeftNotices.{carriers_words, carriers_text, left_notice};
 ghost use Rattle.mrc_program.specs.LeftNotices.{counted_text, left_notices};
 
-use crate::system::defs_name;
-use mrc_command::{SystemFiles, shown};
+use crate::told::defs_name;
+use mrc_command::{FileNames, shown};
 use mrc_mig_cut::carriers;
 use std::alloc::{AllocError, Global};
 
@@ -78,15 +78,15 @@ fn left_notice(alloc: Global, file: &str, bytes: &[u8]) -> Result<String, AllocE
 #[tactic(auto, using(crate::proofs::LeftLaws::notice_more, crate::proofs::LeftLaws::notices_end))]
 pub fn left_notices(
     alloc: Global,
-    files: &SystemFiles<'_>,
+    names: &FileNames<'_>,
     defs: &[Vec<u8>],
 ) -> Result<String, AllocError>
     ensures { IfOk result (λ text. string_bytes text
-        ≡ left_notices files.now (map (λ text. text.items) defs.now)) }
+        ≡ left_notices names.now (map (λ text. text.items) defs.now)) }
 {
     let mut text = String::new(alloc);
     for (number, bytes) in defs.iter().enumerate() {
-        let notice = left_notice(alloc, defs_name(files, number), bytes.as_slice())?;
+        let notice = left_notice(alloc, defs_name(names, number), bytes.as_slice())?;
         text.push_str(notice.as_str())?;
     }
     Ok(text)

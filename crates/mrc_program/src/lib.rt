@@ -3,26 +3,25 @@
 #![tactic(auto)]
 
 mod attack;
+mod check;
 mod cuts;
 mod explain;
 mod facts;
+mod files;
 mod given;
 mod graph;
 mod left_notices;
-mod lines;
 mod live;
 mod make;
 mod mend;
 mod mig;
 mod notices;
-mod policy;
 mod policy_notices;
 mod progress;
 mod promises;
 mod replay;
 pub mod run;
 mod script;
-mod system;
 mod tell;
 mod told;
 mod trusted;
@@ -30,5 +29,6 @@ mod verify;
 pub mod verify_laws;
 mod writing;
 
-pub use live::live_files;
+pub use files::{Files, Texts};
+pub use live::live_told;
 pub use run::start;

@@ -5,8 +5,8 @@ ghost use Rattle.std.specs.Option.{option_map};
 ghost use Rattle.mrc_program.specs.Notices.{is_notification, notification_in, notice};
 ghost use Rattle.mrc_program.specs.Notices.{notice_text, notice_line};
 
-use crate::system::defs_name;
-use mrc_command::{SystemFiles, shown};
+use crate::told::defs_name;
+use mrc_command::{FileNames, shown};
 use mrc_forms::{Form, Interface, MessageKind};
 use std::alloc::{AllocError, Global};
 
@@ -54,14 +54,14 @@ fn notice_line(alloc: Global, file: &str, name: &str) -> Result<String, AllocErr
 /// routine.
 pub fn notice(
     alloc: Global,
-    files: &SystemFiles<'_>,
+    names: &FileNames<'_>,
     interfaces: &[Interface],
 ) -> Result<String, AllocError>
-    ensures { IfOk result (λ text. string_bytes text ≡ notice files.now interfaces.now) }
+    ensures { IfOk result (λ text. string_bytes text ≡ notice names.now interfaces.now) }
 {
     for (number, interface) in interfaces.iter().enumerate() {
         if let Some(form) = notification_in(interface) {
-            return notice_line(alloc, defs_name(files, number), form.name());
+            return notice_line(alloc, defs_name(names, number), form.name());
         }
     }
     Ok(String::new(alloc))

@@ -1,24 +1,22 @@
 //! What has to be found in the code of trusted tasks.
 
-ghost use Rattle.std.specs.Prelude.{◌≡◌, ◌⊎◌, ◌++◌, ◌∷◌, [], IfOk, IsOk, OnOk, List, ℕ, map};
+ghost use Rattle.std.specs.Prelude.{◌≡◌, ◌⊎◌, ◌++◌, ◌∷◌, [], IfOk, OnOk, List, ℕ, map};
 ghost use Rattle.std.specs.Prelude.{string_bytes};
-ghost use Rattle.mrc_wiring_text.specs.Wiring.{wiring_of};
 ghost use Rattle.mrc_wiring_text.specs.declared.trust.TrustVerb.{TrustVerb};
 ghost use Rattle.mrc_program.specs.Promised.{behind_task, class_words, right_words, calls};
 ghost use Rattle.mrc_program.specs.Promised.{also_taking, also_giving, also_not, limit_word};
 ghost use Rattle.mrc_program.specs.Promised.{none_word, rights_limit, taking_text, giving_text};
 ghost use Rattle.mrc_program.specs.Promised.{sending_text, replying_text, right_text, none_text};
 ghost use Rattle.mrc_program.specs.Promised.{limit_text, promise_line, promise, same_verb, limits};
-ghost use Rattle.mrc_program.specs.Promised.{is_limited, is_further, promises, AreToldPromises};
-ghost use Rattle.mrc_program.specs.Promised.{ToldPromises, PromisesOfFiles, FaultOfPromises};
-ghost use Rattle.mrc_program.specs.Told.{ToldMemory, ToldNoSystem};
+ghost use Rattle.mrc_program.specs.Promised.{is_limited, is_further, promises, ToldPromises};
+ghost use Rattle.mrc_program.specs.Texts.{system};
+ghost use Rattle.mrc_program.specs.Told.{ToldMemory, ToldFault};
 
-use crate::lines::lines_of;
-use crate::system::{SystemBytes, system_bytes, system_fault_told, wired_by};
-use crate::told::unread_told;
-use mrc_base::{OrMemory, PortRight};
-use mrc_command::{SystemFiles, Told, memory, said};
-use mrc_files::Folder;
+use crate::files::Files;
+use crate::told::refused;
+use mrc_base::PortRight;
+use mrc_check::System;
+use mrc_command::{Told, said};
 use mrc_wiring_text::{ClassName, TrustVerb, TrustedRight, WiringLine, WiringSays};
 use std::alloc::{AllocError, Global};
 
@@ -341,51 +339,18 @@ fn promises(alloc: Global, lines: &[WiringLine]) -> Result<String, AllocError>
     Ok(text)
 }
 
-/// What is printed for the bytes of a wiring that has a meaning.
-fn wiring_told(alloc: Global, wiring: &[u8]) -> Result<Told, AllocError>
-    requires { IsOk (wiring_of wiring.now) }
-    ensures status { IfOk result (λ told. told.status ≡ 0) }
-    ensures promises { IfOk result (AreToldPromises wiring.now) }
-{
-    let lines = lines_of(alloc, wiring)?;
-    let text = promises(alloc, lines.as_slice())?;
-    Ok(said(alloc, text, 0))
-}
-
-/// What is printed for the bytes of MIG files and a wiring.
-fn promises_told(
-    alloc: Global,
-    files: &SystemFiles<'_>,
-    bytes: &SystemBytes,
-) -> Result<Told, AllocError>
+/// What is printed for the wiring of a system.
+pub fn promises_told(alloc: Global, files: &Files<'_>) -> Result<Told, AllocError>
     ensures status { IfOk result (λ told. (told.status ≡ 0) ⊎ (told.status ≡ 2)) }
-    ensures promises { IfOk result (λ told. told.status ≡ 0 → ToldPromises bytes.now told) }
-    // A fault is one of the first file that has one, unless memory ran out.
+    // What is printed is right of what the texts mean.
+    ensures done { IfOk result (λ told. told.status ≡ 0 → ToldPromises files.now told) }
+    // A fault is one of the first text that has no meaning, unless memory ran out.
     ensures fault { IfOk result (λ told. told.status ≡ 2
-        → ToldMemory told ⊎ ToldNoSystem files.now bytes.now told) }
+        → ToldMemory told ⊎ ToldFault (system files.now.texts) files.now.names told) }
 {
-    match wired_by(alloc, bytes) {
-        Ok(_wired) => wiring_told(alloc, bytes.wiring.as_slice()),
-        Err(OrMemory::Fault(fault)) => system_fault_told(alloc, files, bytes, fault),
-        Err(OrMemory::Memory) => memory(alloc),
-    }
-}
-
-/// What is printed for the files of a `promises`.
-pub fn promises_files<F: Folder>(
-    folder: &F,
-    alloc: Global,
-    files: &SystemFiles<'_>,
-) -> Result<Told, AllocError>
-    ensures status { IfOk result (λ told. (told.status ≡ 0) ⊎ (told.status ≡ 2)) }
-    // What is printed is right of what the files hold, so far as that is known.
-    ensures promises { IfOk result (λ told. told.status ≡ 0
-        → PromisesOfFiles (F.held folder.now) files.now told) }
-    ensures fault { IfOk result (λ told. told.status ≡ 2
-        → FaultOfPromises (F.held folder.now) files.now told) }
-{
-    match system_bytes(folder, alloc, files) {
-        Ok(bytes) => promises_told(alloc, files, &bytes),
-        Err(unread) => unread_told(alloc, &unread),
+    let texts = &files.texts;
+    match System::read(alloc, texts.defs.as_slice(), texts.wiring.as_slice()) {
+        Ok(system) => Ok(said(alloc, promises(alloc, system.lines.as_slice())?, 0)),
+        Err(refusal) => refused(alloc, &files.names, &refusal),
     }
 }

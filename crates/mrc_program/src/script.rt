@@ -1,43 +1,32 @@
 //! The text of a script.
 
-ghost use Rattle.mrc_base.specs.Reading.{Gives};
-ghost use Rattle.std.specs.Prelude.{◌≡◌};
-ghost use Rattle.mrc_report.specs.Scripts.{text_refusal};
-ghost use Rattle.mrc_program.specs.Texts.{script_said};
+ghost use Rattle.mrc_check.specs.Texts.{meaningless};
+ghost use Rattle.mrc_interface.specs.Reading.{GivesAs};
+ghost use Rattle.mrc_program.specs.Texts.{script};
 
+use crate::files::Texts;
 use mrc_base::OrMemory;
-use mrc_report::{Script, ScriptFault, read_script};
+use mrc_check::CaseFault;
+use mrc_report::{Script, read_script};
 use mrc_wiring::Wired;
 use mrc_wiring_text::TextFault;
 use std::alloc::Global;
 use std::str;
 
-/// The refusal of a script, among those of texts of lines.
-fn text_refusal(refusal: OrMemory<ScriptFault>) -> OrMemory<TextFault>
-    ensures { result ≡ text_refusal refusal }
-{
-    match refusal {
-        OrMemory::Fault(ScriptFault::BadLine(number)) => {
-            OrMemory::Fault(TextFault::BadLine(number))
-        }
-        OrMemory::Memory => OrMemory::Memory,
-    }
-}
-
-/// What a script's bytes say to the tasks of a wiring, which run as threads (`live`) or do not.
+/// What a script says to the tasks of a wiring, which run as threads (`live`) or do not.
 pub fn script_said(
     alloc: Global,
     wired: &Wired,
     live: bool,
-    bytes: &[u8],
-) -> Result<Script, OrMemory<TextFault>>
-    ensures { Gives (λ script. script) result (script_said live wired.now bytes.now) }
+    texts: &Texts,
+) -> Result<Script, OrMemory<CaseFault>>
+    ensures { GivesAs (λ script. script) meaningless result (script live wired.now texts.now) }
 {
-    match str::from_utf8(bytes) {
+    match str::from_utf8(texts.script()) {
         Ok(text) => match read_script(alloc, wired, text, live) {
             Ok(script) => Ok(script),
-            Err(refusal) => Err(text_refusal(refusal)),
+            Err(refusal) => Err(refusal.map_fault(CaseFault::Script)),
         },
-        Err(_) => Err(OrMemory::Fault(TextFault::NotUtf8)),
+        Err(_) => Err(OrMemory::Fault(CaseFault::Script(TextFault::NotUtf8))),
     }
 }

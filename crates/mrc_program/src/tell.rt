@@ -1,20 +1,24 @@
-//! What the program tells of the checker's answer.
+//! What the program prints of the checker's answer.
 
-ghost use Rattle.std.specs.Prelude.{◌≡◌, ◌++◌, IfOk, codes, string_bytes};
-ghost use Rattle.mrc_base.specs.declared.memory.OrMemory.TheVariants.{Fault};
-ghost use Rattle.mrc_program.specs.Told.{why_line, stale_note, status_of, out_of, IsError};
-ghost use Rattle.mrc_program.specs.Trusted.{trusted_notice};
+ghost use Rattle.std.specs.Prelude.{◌≡◌, ◌⊎◌, ◌++◌, IfOk, string_bytes};
+ghost use Rattle.mrc_base.specs.Reading.{UnlessMemory};
+ghost use Rattle.mrc_check.specs.Texts.{IsTold};
+ghost use Rattle.mrc_program.specs.Texts.{case};
+ghost use Rattle.mrc_program.specs.Told.{ToldMemory, ToldFault};
+ghost use Rattle.mrc_program.specs.Checked.{why_line, stale_note, IsYesWith, ToldNo};
+ghost use Rattle.mrc_program.specs.Checked.{UnacceptedTold};
 
-use crate::system::{defs_fault_told, wiring_fault_told};
+use crate::files::Files;
+use crate::told::refused;
 use crate::trusted::trusted_notice;
 use mrc_base::OrMemory;
-use mrc_check::{Confined, Refused, TextsFault, Why};
-use mrc_command::{CheckFiles, SystemFiles, Told, fault_of, memory};
+use mrc_check::{Refused, TextsFault, Why};
+use mrc_command::{FileNames, Told, memory};
 use mrc_wiring::Wired;
 use mrc_words::fact_text;
 use std::alloc::{AllocError, Global};
 
-/// What is told besides a reason where more is asked for.
+/// What is printed besides a reason if more is asked for.
 fn stale_note(alloc: Global, verbose: bool, why: Why) -> Result<String, AllocError>
     ensures { IfOk result (λ text. string_bytes text ≡ stale_note verbose why) }
 {
@@ -30,7 +34,7 @@ fn stale_note(alloc: Global, verbose: bool, why: Why) -> Result<String, AllocErr
     }
 }
 
-/// Notices, and behind them what is told besides a reason.
+/// Notices, and then what is printed besides a reason.
 fn noted(alloc: Global, notices: String, verbose: bool, why: Why) -> Result<String, AllocError>
     ensures { IfOk result (λ text. string_bytes text
         ≡ string_bytes notices ++ stale_note verbose why) }
@@ -41,134 +45,96 @@ fn noted(alloc: Global, notices: String, verbose: bool, why: Why) -> Result<Stri
     Ok(text)
 }
 
-/// What is told of a refusal: the reason, with these notices.
-fn refusal(
+/// The line of a reason.
+fn why_line(alloc: Global, wired: &Wired, why: Why) -> Result<String, AllocError>
+    ensures { IfOk result (λ line. string_bytes line ≡ why_line wired.now why) }
+{
+    match why {
+        Why::Counts => String::from_str(alloc, "NO counts\n"),
+        Why::MissingFirst(fact) => {
+            let fact = fact_text(alloc, wired, fact)?;
+            format!(in alloc; "NO missing {fact}\n")
+        }
+        Why::NotClosed(rule, fact) => {
+            let rule = rule.number();
+            let fact = fact_text(alloc, wired, fact)?;
+            format!(in alloc; "NO not closed K{rule} {fact}\n")
+        }
+        Why::Trusted(number, fact) => {
+            let fact = fact_text(alloc, wired, fact)?;
+            format!(in alloc; "NO trusted line {number} {fact}\n")
+        }
+        Why::Forbidden(number) => format!(in alloc; "NO forbidden line {number}\n"),
+    }
+}
+
+/// What is printed of a refusal: the reason, and these notices.
+fn reason_told(
     alloc: Global,
     notices: String,
     verbose: bool,
     refused: &Refused<Why>,
 ) -> Result<Told, AllocError>
     ensures status { IfOk result (λ told. told.status ≡ 1) }
-    ensures out { IfOk result
-        (λ told. string_bytes told.out ≡ why_line refused.now.claim.table refused.now.why) }
-    ensures err { IfOk result
-        (λ told. string_bytes told.err
+    ensures out { IfOk result (λ told. string_bytes told.out
+        ≡ why_line refused.now.claim.table refused.now.why) }
+    ensures err { IfOk result (λ told. string_bytes told.err
         ≡ string_bytes notices ++ stale_note verbose refused.now.why) }
 {
-    let wired = refused.claim.wired();
-    let line = match refused.why {
-        Why::Counts => String::from_str(alloc, "NO counts\n")?,
-        Why::MissingFirst(fact) => {
-            let fact = fact_text(alloc, wired, fact)?;
-            format!(in alloc; "NO missing {fact}\n")?
-        }
-        Why::NotClosed(rule, fact) => {
-            let rule = rule.number();
-            let fact = fact_text(alloc, wired, fact)?;
-            format!(in alloc; "NO not closed K{rule} {fact}\n")?
-        }
-        Why::Trusted(number, fact) => {
-            let fact = fact_text(alloc, wired, fact)?;
-            format!(in alloc; "NO trusted line {number} {fact}\n")?
-        }
-        Why::Forbidden(number) => format!(in alloc; "NO forbidden line {number}\n")?,
-    };
+    let out = why_line(alloc, refused.claim.wired(), refused.why)?;
     let err = noted(alloc, notices, verbose, refused.why)?;
     Ok(Told {
-        out: line,
+        out,
         err,
         status: 1,
     })
 }
 
-/// What is told of texts that are not accepted: the file that has no meaning with its fault,
-/// or the reason of a refusal.
-fn fault_told(
+/// What is printed of texts that are not accepted: the file of the first that has no meaning with
+/// its fault, or the reason of a refusal and these notices. If more is asked for, a note also says
+/// what to do with a certificate of another wiring. Out of memory is no file's fault.
+pub fn unaccepted_told(
     alloc: Global,
-    files: &CheckFiles<'_>,
+    files: &Files<'_>,
     notices: String,
     verbose: bool,
-    wiring: &[u8],
-    fault: &TextsFault,
+    refusal: OrMemory<TextsFault>,
 ) -> Result<Told, AllocError>
-    ensures status { IfOk result (λ told. told.status ≡ status_of (Err (Fault fault.now))) }
-    ensures out { IfOk result (λ told. string_bytes told.out ≡ out_of (Err (Fault fault.now))) }
-    ensures err { IfOk result
-        (λ told. IsError (string_bytes notices) verbose files.now (Err (Fault fault.now))
-        (string_bytes told.err)) }
+    requires { UnlessMemory (λ fault. IsTold fault (case files.now.texts)) refusal }
+    ensures status { IfOk result (λ told. (told.status ≡ 1) ⊎ (told.status ≡ 2)) }
+    ensures exact { IfOk result (UnacceptedTold files.now.names refusal) }
+    ensures no { IfOk result (λ told. told.status ≡ 1
+        → ToldNo (string_bytes notices) verbose files.now told) }
+    ensures fault { IfOk result (λ told. told.status ≡ 2
+        → ToldMemory told ⊎ ToldFault (case files.now.texts) files.now.names told) }
 {
-    match fault {
-        TextsFault::Check(refused) => refusal(alloc, notices, verbose, refused),
-        TextsFault::Defs(fault) => defs_fault_told(alloc, &files.system, *fault),
-        TextsFault::Wiring(fault) => wiring_fault_told(alloc, &files.system, wiring, *fault),
-        TextsFault::Policy(fault) => {
-            let text = fault.to_string(alloc)?;
-            fault_of(alloc, files.policy, text.as_str())
+    match refusal {
+        OrMemory::Fault(TextsFault::Check(reason)) => {
+            reason_told(alloc, notices, verbose, &reason)
         }
-        TextsFault::Certificate(fault) => {
-            let text = fault.to_string(alloc)?;
-            fault_of(alloc, files.certificate, text.as_str())
+        OrMemory::Fault(TextsFault::Meaning(fault)) => {
+            refused(alloc, &files.names, &OrMemory::Fault(fault))
         }
+        OrMemory::Memory => memory(alloc),
     }
 }
 
-/// Notices of a yes, and then which tasks the wiring trusts.
-pub fn with_trusted(
-    alloc: Global,
-    files: &SystemFiles<'_>,
-    notices: String,
-    wired: &Wired,
-) -> Result<String, AllocError>
-    ensures { IfOk result (λ text. string_bytes text
-        ≡ string_bytes notices ++ trusted_notice files.now wired.now) }
-{
-    let trusted = trusted_notice(alloc, files, wired)?;
-    let mut text = notices;
-    text.push_str(trusted.as_str())?;
-    Ok(text)
-}
-
-/// What is told of a yes over a wiring, with these notices.
+/// What is printed of a yes over a wiring, with these notices.
 pub fn yes(
     alloc: Global,
-    files: &SystemFiles<'_>,
+    names: &FileNames<'_>,
     notices: String,
     wired: &Wired,
 ) -> Result<Told, AllocError>
     ensures status { IfOk result (λ told. told.status ≡ 0) }
-    ensures out { IfOk result (λ told. string_bytes told.out ≡ codes "YES\n") }
-    ensures err { IfOk result (λ told. string_bytes told.err
-        ≡ string_bytes notices ++ trusted_notice files.now wired.now) }
+    ensures is { IfOk result (IsYesWith names.now (string_bytes notices) wired.now) }
 {
-    let err = with_trusted(alloc, files, notices, wired)?;
+    let trusted = trusted_notice(alloc, names, wired)?;
+    let mut err = notices;
+    err.push_str(trusted.as_str())?;
     Ok(Told {
         out: String::from_str(alloc, "YES\n")?,
         err,
         status: 0,
     })
-}
-
-/// What is told of the checker's answer, over the bytes of a wiring, with these notices of a yes
-/// and of a refusal. If more is asked for, it is told what to do with a certificate of another
-/// wiring. After the notices of a yes it says which tasks are trusted. Out of memory is no file's
-/// fault.
-pub fn verdict(
-    alloc: Global,
-    files: &CheckFiles<'_>,
-    notices: String,
-    verbose: bool,
-    wiring: &[u8],
-    answer: &Result<Confined, OrMemory<TextsFault>>,
-) -> Result<Told, AllocError>
-    ensures status { IfOk result (λ told. told.status ≡ status_of answer.now) }
-    ensures out { IfOk result (λ told. string_bytes told.out ≡ out_of answer.now) }
-    ensures err { IfOk result
-        (λ told. IsError (string_bytes notices) verbose files.now answer.now
-        (string_bytes told.err)) }
-{
-    match answer {
-        Ok(confined) => yes(alloc, &files.system, notices, confined.wired()),
-        Err(OrMemory::Fault(fault)) => fault_told(alloc, files, notices, verbose, wiring, fault),
-        Err(OrMemory::Memory) => memory(alloc),
-    }
 }

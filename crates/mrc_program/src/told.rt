@@ -1,13 +1,18 @@
-//! What is told of files that can't be read, and of those that do not take all bytes.
+//! What is printed of files that can't be read, of texts without a meaning, and of files that do not
+//! take all bytes.
 
 ghost use Rattle.std.specs.Prelude.{◌≡◌, ◌≤◌, ◌+◌, [], ◌++◌, IfOk, codes, decimal, length};
+ghost use Rattle.mrc_check.specs.Texts.{meaningless};
 ghost use Rattle.std.specs.Prelude.{string_bytes, string_capacity, string_len};
 ghost use Rattle.mrc_command.specs.Lines.{fault_line, shown};
-ghost use Rattle.mrc_program.specs.Told.{UnreadTold};
+ghost use Rattle.mrc_program.specs.Files.{defs_name};
+ghost use Rattle.mrc_program.specs.Texts.{file_of};
+ghost use Rattle.mrc_program.specs.Told.{UnreadTold, RefusalTold};
 ghost use Rattle.mrc_program.specs.Cutting.{refusal_line};
 
 use mrc_base::OrMemory;
-use mrc_command::{Told, fault_of, memory, push_shown, shown};
+use mrc_check::CaseFault;
+use mrc_command::{FileNames, Told, fault_of, memory, push_shown, shown};
 use mrc_files::{ReadFault, Unread, WriteFault};
 use std::alloc::{AllocError, Global};
 
@@ -88,7 +93,7 @@ pub fn write_failed(alloc: Global, line: String, file: &str, written: usize) -> 
     }
 }
 
-/// What is told of a file that could not be read. Want of memory is no file's fault.
+/// What is printed of a file that could not be read. Out of memory is no file's fault.
 pub fn unread_told(alloc: Global, unread: &Unread<'_>) -> Result<Told, AllocError>
     ensures status { IfOk result (λ told. told.status ≡ 2) }
     ensures told { IfOk result (UnreadTold unread.now.file.now unread.now.fault) }
@@ -97,5 +102,46 @@ pub fn unread_told(alloc: Global, unread: &Unread<'_>) -> Result<Told, AllocErro
         ReadFault::Memory => memory(alloc),
         ReadFault::TooBig => fault_of(alloc, unread.file, "TooBig"),
         ReadFault::ReadFailed => fault_of(alloc, unread.file, "ReadFailed"),
+    }
+}
+
+/// The name of the MIG file of this number. There is one for each that was read.
+pub fn defs_name<'a>(names: &FileNames<'a>, number: usize) -> &'a str
+    ensures { result.now ≡ defs_name names.now number }
+{
+    match names.defs.get(number) {
+        Some(name) => name,
+        None => "",
+    }
+}
+
+/// The file of a text that has no meaning.
+fn file_of<'a>(names: &FileNames<'a>, fault: &CaseFault) -> &'a str
+    ensures { result.now ≡ file_of names.now (meaningless fault.now) }
+{
+    match fault {
+        CaseFault::Defs(fault) => defs_name(names, fault.file),
+        CaseFault::Wiring(_) => names.wiring,
+        CaseFault::Policy(_) => names.policy.unwrap_or(""),
+        CaseFault::Certificate(_) => names.certificate.unwrap_or(""),
+        CaseFault::Script(_) => names.script.unwrap_or(""),
+    }
+}
+
+/// What is printed of texts of which one has no meaning. Out of memory is no file's fault.
+pub fn refused(
+    alloc: Global,
+    names: &FileNames<'_>,
+    refusal: &OrMemory<CaseFault>,
+) -> Result<Told, AllocError>
+    ensures status { IfOk result (λ told. told.status ≡ 2) }
+    ensures told { IfOk result (RefusalTold names.now refusal.now) }
+{
+    match refusal {
+        OrMemory::Fault(fault) => {
+            let text = fault.to_string(alloc)?;
+            fault_of(alloc, file_of(names, fault), text.as_str())
+        }
+        OrMemory::Memory => memory(alloc),
     }
 }

@@ -7,7 +7,7 @@ ghost use Rattle.mrc_program.specs.Trusted.{trusted_line, trusted_notice};
 
 use crate::left_notices::names_text;
 use mrc_base::TaskId;
-use mrc_command::{SystemFiles, shown};
+use mrc_command::{FileNames, shown};
 use mrc_wiring::{TrustedLine, Wired};
 use mrc_words::task_word;
 use std::alloc::{AllocError, Global};
@@ -72,11 +72,11 @@ fn trusted_line(alloc: Global, file: &str, names: &[String]) -> Result<String, A
 /// What is printed with a yes of the tasks that the wiring trusts.
 pub fn trusted_notice(
     alloc: Global,
-    files: &SystemFiles<'_>,
+    names: &FileNames<'_>,
     wired: &Wired,
 ) -> Result<String, AllocError>
-    ensures { IfOk result (λ line. string_bytes line ≡ trusted_notice files.now wired.now) }
+    ensures { IfOk result (λ line. string_bytes line ≡ trusted_notice names.now wired.now) }
 {
-    let names = trusted_names(alloc, wired)?;
-    trusted_line(alloc, files.wiring, names.as_slice())
+    let trusted = trusted_names(alloc, wired)?;
+    trusted_line(alloc, names.wiring, trusted.as_slice())
 }

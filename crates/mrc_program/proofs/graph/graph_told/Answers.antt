@@ -1,25 +1,47 @@
-use Rattle.mrc_program.specs.Listed.{OfDrawing, ToldNoGraph, word_of}
-use Rattle.std.proofs.Common.{◌≡◌, Err, ap, subst}
-use Rattle.mrc_base.specs.Reading.{UnlessMemory}
-use Rattle.mrc_check.specs.Texts.{no_table_of}
-use Rattle.mrc_program.specs.Texts.{GraphTexts, wired_by}
-use Rattle.mrc_program.proofs.GraphLaws.{undrawn_of_texts}
-use Rattle.mrc_program.proofs.ToldLaws.{no_system_told}
+use Rattle.std.proofs.Common.{◌≡◌, ◌⊎◌, ◌∙◌, List, Ok, ap, subst}
+use Rattle.std.specs.Prelude.{IfOk}
+use Rattle.mrc_wiring.specs.declared.claim.ForbiddenLine.{ForbiddenLine}
+use Rattle.mrc_wiring.specs.Table.{Table}
+use Rattle.mrc_check.specs.Texts.{Stated}
+use Rattle.mrc_program.specs.Files.{Files, word_of}
+use Rattle.mrc_program.specs.Listed.{claimed, draft_drawn, AreDrawn, IsDrawing, TellsBadIfGiven}
+use Rattle.mrc_program.specs.Told.{ToldMemory, ToldFault}
+use Rattle.mrc_program.proofs.MeaningLaws.{told_of, fault_of}
 use Rattle.mrc_program.proofs.graph.graph_told.Goals as goal
 
-pub returns-in-Err-Fault-clause-fault : goal.returns-in-Err-Fault-clause-fault
-returns-in-Err-Fault-clause-fault c =
-    no_system_told c.args.files.now.system c.args.bytes.now.system c.in-Err-Fault.field-0
-    c.in-Err-Fault.fault _ c.system_fault_told.result
-    (OfDrawing (ToldNoGraph c.args.files.now) c.args.bytes.now)
-    c.in-Err-Fault.field-0-is c.in-Err-Fault.fault-is (subst
-    (λ texts. UnlessMemory (λ f. wired_by texts ≡ Err (no_table_of f)) c.in-Err-Fault.field-0)
-    (ap (λ (t : GraphTexts). t.system) c.bytes.view_is) c.in-Err-Fault.ensures)
-    c.system_fault_told.ensures.out
-    c.system_fault_told.ensures.err
+pub returns-in-Ok-clause-done : goal.returns-in-Ok-clause-done
+returns-in-Ok-clause-done c =
+    let texts = c.args.files.now.texts in
+    let fact = word_of c.args.fact in
+    let stated = c.in-Ok.stated in
+    let result = c.drawing_told.result in
+    let says : claimed texts ≡ Ok stated =
+    subst (λ (f : Files). claimed f.texts ≡ Ok stated) c.files.view_is c.in-Ok.ensures in
+    let tables : c.wired.result.now ≡ stated.claim.table =
+    c.wired.ensures ∙ ap (λ (s : Stated). s.claim.table) c.stated.view_is in
+    let lines : c.lines.result.now ≡ stated.claim.lines =
+    c.lines.ensures ∙ ap (λ (s : Stated). s.claim.lines) c.stated.view_is in
+    told_of (claimed texts) stated (λ (s : Stated). IsDrawing
+    (AreDrawn s.claim.table texts.certificate fact) s.claim.table s.claim.lines) 0 result says (subst
+    (λ (t : Table). IfOk result (λ told. told.status ≡ 0
+    → IsDrawing (AreDrawn t texts.certificate fact) t stated.claim.lines told)) tables (subst
+    (λ (ls : List ForbiddenLine). IfOk result (λ told. told.status ≡ 0
+    → IsDrawing (AreDrawn c.wired.result.now texts.certificate fact) c.wired.result.now ls told))
+    lines c.drawing_told.ensures.done))
 
-pub returns-in-Ok-clause-none : goal.returns-in-Ok-clause-none
-returns-in-Ok-clause-none c =
-    undrawn_of_texts _ c.args.bytes.now _ (word_of c.args.files.now.fact) c.in-Ok.wired
-    c.graph_of_wiring.result c.bytes.view_is c.in-Ok.ensures c.as_deref-in-Ok.ensures.value
-    c.graph_of_wiring.ensures.none
+pub returns-in-Ok-clause-fault : goal.returns-in-Ok-clause-fault
+returns-in-Ok-clause-fault c =
+    let texts = c.args.files.now.texts in
+    let names = c.args.files.now.names in
+    let fact = word_of c.args.fact in
+    let stated = c.in-Ok.stated in
+    let result = c.drawing_told.result in
+    let says : claimed texts ≡ Ok stated =
+    subst (λ (f : Files). claimed f.texts ≡ Ok stated) c.files.view_is c.in-Ok.ensures in
+    let tables : c.wired.result.now ≡ stated.claim.table =
+    c.wired.ensures ∙ ap (λ (s : Stated). s.claim.table) c.stated.view_is in
+    fault_of (claimed texts) stated (λ (s : Stated). draft_drawn fact texts.certificate) names
+    (λ (s : Stated). TellsBadIfGiven fact s.claim.table) result says (subst
+    (λ (t : Table). IfOk result (λ told. told.status ≡ 2 → ToldMemory told
+    ⊎ (ToldFault (draft_drawn fact texts.certificate) names told
+    ⊎ TellsBadIfGiven fact t told))) tables c.drawing_told.ensures.fault)

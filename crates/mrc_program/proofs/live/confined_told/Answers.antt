@@ -1,7 +1,10 @@
-use Rattle.mrc_program.proofs.ToldLaws.{of_script}
+use Rattle.std.proofs.Common.{ap}
+use Rattle.mrc_program.specs.Files.{Files}
+use Rattle.mrc_program.proofs.ScriptLaws.{of_script}
 use Rattle.mrc_program.proofs.live.confined_told.Goals as goal
 
-pub returns-in-Err-Fault-clause-fault : goal.returns-in-Err-Fault-clause-fault
-returns-in-Err-Fault-clause-fault g c =
-    of_script c.args.files.now c.args.bytes.now c.args.confined _ c.fault_of.result
-    c.requires.accepted c.fault_of.ensures.out c.fault_of.ensures.err
+pub returns-in-Err-clause-fault : goal.returns-in-Err-clause-fault
+returns-in-Err-clause-fault g c =
+    of_script c.args.files.now c.args.confined _ _ c.in-Err.refusal c.refused.result
+    (ap (λ (f : Files). f.names) c.files.view_is) c.requires.accepted c.in-Err.ensures
+    c.refused.ensures.told

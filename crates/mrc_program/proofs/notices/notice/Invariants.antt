@@ -5,4 +5,4 @@ use Rattle.mrc_program.proofs.notices.notice.Given as goal
 
 abbrev pub invariant-loop-number : goal.invariant-loop-number
 invariant-loop-number l =
-    notice_from l.files l.number (drop l.number l.interfaces) ≡ notice l.files l.interfaces
+    notice_from l.names l.number (drop l.number l.interfaces) ≡ notice l.names l.interfaces
