@@ -2,8 +2,7 @@
 
 use crate::samples::sample;
 use anyhow::Result;
-use mrc_base::OrMemory;
-use mrc_check::{SystemFault, table_of};
+use mrc_check::System;
 use mrc_report::{read_script, replay};
 use std::alloc::{AllocError, Global};
 
@@ -36,11 +35,9 @@ pub fn events(alloc: Global, text: &str) -> Result<String> {
     let (wiring, text) = text.split_once('|').unwrap_or((text, ""));
     let (script, list) = text.split_once('|').unwrap_or((text, ""));
     let files = files_of(alloc, list)?;
-    let wired = match table_of(alloc, files.as_slice(), sample(wiring).as_bytes()) {
-        Ok(wired) => wired,
-        Err(OrMemory::Fault(SystemFault::Defs(fault))) => return Ok(fault.fault.to_string(alloc)?),
-        Err(OrMemory::Fault(SystemFault::Wiring(fault))) => return Ok(fault.to_string(alloc)?),
-        Err(OrMemory::Memory) => return Ok(String::from_str(alloc, "Memory")?),
+    let wired = match System::read(alloc, files.as_slice(), sample(wiring).as_bytes()) {
+        Ok(system) => system.wired,
+        Err(fault) => return Ok(fault.to_string(alloc)?),
     };
     let script = match read_script(alloc, &wired, script, false) {
         Ok(script) => script,

@@ -2,7 +2,7 @@
 //! memory ran out.
 
 use mrc_base::TaskId;
-use mrc_check::table_of;
+use mrc_check::System;
 use mrc_machine::{Call, Holding, Reply, World};
 use mrc_report::{Script, TaskCall, read_script, reply_text};
 use mrc_wiring::Wired;
@@ -35,7 +35,8 @@ fn files(alloc: Global, interface: &str) -> Result<Vec<Vec<u8>>, AllocError> {
 /// The wiring of a text over a MIG file; None where memory ran out.
 fn wired(alloc: Global, interface: &str, text: &str) -> Option<Wired> {
     let files = files(alloc, interface).ok()?;
-    table_of(alloc, files.as_slice(), text.as_bytes()).ok()
+    let system = System::read(alloc, files.as_slice(), text.as_bytes()).ok()?;
+    Some(system.wired)
 }
 
 /// The machine in the first state of a wiring; None where memory ran out.

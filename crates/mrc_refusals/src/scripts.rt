@@ -2,7 +2,7 @@
 
 use crate::starting::machine_of;
 use crate::stop::{Stop, got, say_memory};
-use crate::systems::{COMES_BACK, FILES, HANDED_OVER, INBOX, OPENS, System};
+use crate::systems::{COMES_BACK, FILES, HANDED_OVER, INBOX, OPENS, SystemTexts};
 use mrc_base::TaskId;
 use mrc_confine::Guarded;
 use mrc_machine::{Call, Holding, Reply};
@@ -135,10 +135,10 @@ fn play<R: AllocGlobal + Eprint + Print>(
 /// Makes the calls of a text by the machine of a system.
 fn play_text<R: AllocGlobal + Eprint + Print + Threads + Sync>(
     rt: &R,
-    system: &System,
+    texts: &SystemTexts,
     text: &str,
 ) -> Result<(), Stop> {
-    let mut guarded = machine_of(rt, system)?;
+    let mut guarded = machine_of(rt, texts)?;
     let script = script_of(rt.alloc(), &guarded, text)?;
     play(rt, &mut guarded, &script)
 }

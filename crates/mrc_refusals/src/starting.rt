@@ -5,13 +5,12 @@ ghost use Rattle.mrc_confine.specs.Guards.{wiring_in};
 ghost use Rattle.mrc_model.specs.First.{first};
 
 use crate::stop::{Stop, got, say_memory};
-use crate::systems::System;
+use crate::systems::SystemTexts;
 use mrc_certificate::Draft;
-use mrc_check::{Confined, Refused, check, table_of};
+use mrc_check::{Confined, Refused, System, check};
 use mrc_closure::make_alone;
 use mrc_confine::Guarded;
 use mrc_wiring::{Claim, Wired};
-use mrc_wiring_text::{PolicyLine, read_policy};
 use std::alloc::{AllocError, Global};
 use std::slice;
 use std::thread::Threads;
@@ -23,44 +22,57 @@ struct Case {
     draft: Draft,
 }
 
-fn file_of(alloc: Global, system: &System) -> Result<Vec<u8>, AllocError> {
-    Vec::from_slice(alloc, system.defs.as_bytes())
+fn file_of(alloc: Global, texts: &SystemTexts) -> Result<Vec<u8>, AllocError> {
+    Vec::from_slice(alloc, texts.defs.as_bytes())
 }
 
-fn table(alloc: Global, defs: &[Vec<u8>], system: &System) -> Result<Wired, Stop> {
-    got(table_of(alloc, defs, system.wiring.as_bytes()))
+fn system_over(alloc: Global, defs: &[Vec<u8>], texts: &SystemTexts) -> Result<System, Stop> {
+    got(System::read(alloc, defs, texts.wiring.as_bytes()))
 }
 
-fn wired_of(alloc: Global, system: &System) -> Result<Wired, Stop> {
-    let file = file_of(alloc, system)?;
-    table(alloc, slice::from_ref(&file), system)
+fn system_of(alloc: Global, texts: &SystemTexts) -> Result<System, Stop> {
+    let file = file_of(alloc, texts)?;
+    system_over(alloc, slice::from_ref(&file), texts)
 }
 
 fn draft_of(alloc: Global, wired: &Wired) -> Result<Draft, AllocError> {
     make_alone(alloc, wired)
 }
 
-fn lines_of(alloc: Global, system: &System) -> Result<Vec<PolicyLine>, Stop> {
-    got(read_policy(alloc, system.policy.as_bytes()))
-}
-
-fn claim_over(alloc: Global, wired: Wired, lines: &[PolicyLine]) -> Result<Claim, Stop> {
-    match Claim::new(alloc, wired, lines) {
-        Ok(claim) => Ok(claim),
-        Err(_) => Err(Stop::Memory),
+/// One call of `System::claim`. The system comes back if there is no claim.
+fn claimed(alloc: Global, system: System, policy: &str) -> Result<Claim, System> {
+    match system.claim(alloc, policy.as_bytes()) {
+        Ok(stated) => Ok(stated.claim),
+        Err((system, _)) => Err(system),
     }
 }
 
-fn claim_of(alloc: Global, system: &System, wired: Wired) -> Result<Claim, Stop> {
-    let lines = lines_of(alloc, system)?;
-    claim_over(alloc, wired, lines.as_slice())
+/// The claim of the system that came back.
+fn claimed_again<R: AllocGlobal + Eprint>(
+    rt: &R,
+    back: System,
+    policy: &str,
+) -> Result<Claim, Stop> {
+    say_memory(rt, "System::claim")?;
+    match claimed(rt.alloc(), back, policy) {
+        Ok(claim) => Ok(claim),
+        Err(_) => Err(Stop::Again),
+    }
+}
+
+/// The claim of a system. If `System::claim` was out of memory it is called once more.
+fn claim_of<R: AllocGlobal + Eprint>(rt: &R, system: System, policy: &str) -> Result<Claim, Stop> {
+    match claimed(rt.alloc(), system, policy) {
+        Ok(claim) => Ok(claim),
+        Err(back) => claimed_again(rt, back, policy),
+    }
 }
 
 /// The claim of a system, with the least certificate.
-fn case_of(alloc: Global, system: &System) -> Result<Case, Stop> {
-    let wired = wired_of(alloc, system)?;
-    let draft = draft_of(alloc, &wired)?;
-    let claim = claim_of(alloc, system, wired)?;
+fn case_of<R: AllocGlobal + Eprint>(rt: &R, texts: &SystemTexts) -> Result<Case, Stop> {
+    let system = system_of(rt.alloc(), texts)?;
+    let draft = draft_of(rt.alloc(), &system.wired)?;
+    let claim = claim_of(rt, system, texts.policy)?;
     Ok(Case { claim, draft })
 }
 
@@ -133,11 +145,11 @@ fn started<R: AllocGlobal + Eprint>(rt: &R, confined: Confined) -> Result<Guarde
 /// The machine of a system, in its first state.
 pub fn machine_of<R: AllocGlobal + Eprint + Threads + Sync>(
     rt: &R,
-    system: &System,
+    texts: &SystemTexts,
 ) -> Result<Guarded, Stop>
     ensures { IfOk result (λ g. g.world ≡ first (wiring_in g.confined)) }
 {
-    let case = case_of(rt.alloc(), system)?;
+    let case = case_of(rt, texts)?;
     let confined = confined_of(rt, case)?;
     started(rt, confined)
 }

@@ -1,8 +1,8 @@
 //! The systems whose calls are made, and their scripts.
 
-/// A system of tasks.
+/// The texts of a system of tasks.
 #[derive(Clone, Copy)]
-pub struct System {
+pub struct SystemTexts {
     /// Its MIG file.
     pub defs: &'static str,
     /// Its wiring.
@@ -12,7 +12,7 @@ pub struct System {
 }
 
 /// A task and its file server: the reply of its one routine carries a file.
-pub const FILES: System = System {
+pub const FILES: SystemTexts = SystemTexts {
     defs: "subsystem fsys 3000;
 #include <mach/std_types.defs>
 type file_t = MACH_MSG_TYPE_COPY_SEND;
@@ -47,7 +47,7 @@ app type 1 4
 ";
 
 /// A task that hands receive rights to another.
-pub const INBOX: System = System {
+pub const INBOX: SystemTexts = SystemTexts {
     defs: "subsystem xfer 2000;
 #include <mach/std_types.defs>
 type box_t = MACH_MSG_TYPE_MOVE_RECEIVE;
@@ -83,7 +83,7 @@ b type 1 4
 ";
 
 /// A task alone.
-pub const ALONE: System = System {
+pub const ALONE: SystemTexts = SystemTexts {
     defs: "subsystem ping 500;
 #include <mach/std_types.defs>
 simpleroutine ping(server : mach_port_t);

@@ -25,7 +25,7 @@ fn alone(alloc: Global) -> Result<Option<Draft>, AllocError> {
             hold(0, 1, PortRight::Send),
         ],
     )?;
-    Ok(Draft::new(1, 2, 1, facts))
+    Ok(Draft::new(1, 2, 1, facts).ok())
 }
 
 #[test]

@@ -3,7 +3,9 @@
 use crate::samples::{ALONE, ALONE_WITH_KINDS, KINDS, ONE, TWO, count, hold};
 use mrc_base::{OrMemory, PortRight, TaskId};
 use mrc_certificate::{Draft, read_draft};
-use mrc_check::{Confined, Refused, RuleName, TextsFault, Why, check, check_texts, table_of};
+use mrc_check::{
+    CaseFault, Confined, Refused, RuleName, System, TextsFault, Why, check, check_texts,
+};
 use mrc_wiring::{Claim, Wired};
 use mrc_wiring_text::{PolicyLine, read_policy};
 use std::alloc::{AllocError, Global};
@@ -84,18 +86,26 @@ fn told(
     check_texts(rt, alloc, &[], wiring, policy, certificate)
 }
 
-/// A refusal as one text: the step that refuses, and its fault.
+/// The role of a text, as one word.
+fn role(fault: &CaseFault) -> &'static str {
+    match fault {
+        CaseFault::Defs(_) => "defs",
+        CaseFault::Wiring(_) => "wiring",
+        CaseFault::Policy(_) => "policy",
+        CaseFault::Certificate(_) => "certificate",
+        CaseFault::Script(_) => "script",
+    }
+}
+
+/// A refusal as one text: the text that is refused, by its role, and its fault.
 pub fn refusal(alloc: Global, fault: &TextsFault) -> Result<String, AllocError> {
     match fault {
-        TextsFault::Defs(fault) => format!(in alloc; "defs {}", fault.fault),
-        TextsFault::Wiring(fault) => format!(in alloc; "wiring {fault}"),
-        TextsFault::Policy(fault) => format!(in alloc; "policy {fault}"),
-        TextsFault::Certificate(fault) => format!(in alloc; "certificate {fault}"),
+        TextsFault::Meaning(fault) => format!(in alloc; "{} {fault}", role(fault)),
         TextsFault::Check(_) => String::from_str(alloc, "refused"),
     }
 }
 
-/// The answer as one text: `accepted`, or the step that refuses and its fault.
+/// The answer as one text: `accepted`, or the role of the text that is refused and its fault.
 fn answer(
     rt: &(impl Threads + Sync),
     alloc: Global,
@@ -131,7 +141,7 @@ fn reason_of(
 }
 
 fn table(alloc: Global, wiring: &str) -> Result<Wired, Fail> {
-    Ok(table_of(alloc, &[], wiring.as_bytes())?)
+    Ok(System::read(alloc, &[], wiring.as_bytes())?.wired)
 }
 
 fn lines(alloc: Global, policy: &str) -> Result<Vec<PolicyLine>, Fail> {
@@ -261,8 +271,8 @@ fn the_first_broken_line_is_told(rt: HostRuntime) -> Result<(), Fail> {
     Ok(())
 }
 
-/// Wirings and policies with the step that refuses them and its fault; the certificate beside them
-/// spells nothing, and the first step that refuses is told.
+/// Wirings and policies, each with the role of the text that is refused and its fault. The
+/// certificate encodes nothing, and the first text that is refused is reported.
 const MEANINGLESS: [(&str, &str, &str); 11] = [
     (
         "wiring 1\nhold a send task a\n",

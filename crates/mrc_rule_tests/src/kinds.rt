@@ -5,7 +5,7 @@ use crate::checking::refusal;
 use crate::samples::{FILES, FSYS};
 use mrc_base::OrMemory;
 use mrc_certificate::{Draft, write_draft};
-use mrc_check::{Confined, TextsFault, Why, check_texts, table_of};
+use mrc_check::{Confined, System, TextsFault, Why, check_texts};
 use mrc_closure::make_alone;
 use mrc_wiring::Wired;
 use std::alloc::{AllocError, Global};
@@ -35,7 +35,7 @@ fn definitions(alloc: Global) -> Result<Vec<Vec<u8>>, AllocError> {
 
 fn table(alloc: Global) -> Result<Wired, Fail> {
     let files = definitions(alloc)?;
-    Ok(table_of(alloc, files.as_slice(), FILES.as_bytes())?)
+    Ok(System::read(alloc, files.as_slice(), FILES.as_bytes())?.wired)
 }
 
 fn made(alloc: Global, wired: &Wired) -> Result<Draft, AllocError> {
@@ -71,8 +71,8 @@ fn told(
     )
 }
 
-/// The answer as one text: `accepted`, the number of a forbidden line, or the step that refuses and
-/// its fault.
+/// The answer as one text: `accepted`, the number of a forbidden line, or the role of the text that
+/// is refused and its fault.
 fn answer(
     rt: &(impl Threads + Sync),
     alloc: Global,

@@ -3,9 +3,9 @@
 use crate::file_server::{CAREFUL, FILE_SERVER, NO_KERNEL_PORT, OF_CAREFUL};
 use crate::shelf::{of_shelf, shelf_of};
 use crate::told::{Outcome, wants};
-use mrc_command::{CheckFiles, LiveFiles, SystemFiles, Told};
-use mrc_program::live_files;
-use std::alloc::Global;
+use mrc_command::{FileNames, Told};
+use mrc_program::{Files, Texts, live_told};
+use std::alloc::{AllocError, Global};
 use std::process::Abort;
 use std::sync::Wait;
 use std::test::Fail;
@@ -103,29 +103,51 @@ fn lives_that_halt(rt: HostRuntime) -> Result<(), Fail> {
     lives_as(&rt, NO_KERNEL_PORT, script.as_slice(), out, err, 2)
 }
 
-/// The files of a `live` on the shelf, by their names.
-fn names(alloc: Global) -> Result<LiveFiles<'static>, Fail> {
-    let defs = vec![in alloc; "d"]?;
-    let system = SystemFiles { defs, wiring: "w" };
-    let check = CheckFiles {
-        system,
-        policy: "p",
-        certificate: "c",
-    };
-    Ok(LiveFiles { check, script: "s" })
+/// The names of the files of a `live`.
+fn names(alloc: Global) -> Result<FileNames<'static>, AllocError> {
+    Ok(FileNames {
+        defs: vec![in alloc; "d"]?,
+        wiring: "w",
+        policy: Some("p"),
+        certificate: Some("c"),
+        script: Some("s"),
+    })
 }
 
-/// What is told of a script of the file server, whose journal has one event at most.
-fn once(rt: &(impl AllocGlobal + Threads + Wait + Sync), script: &[u8]) -> Result<Told, Fail> {
-    let files = [
-        Ok(FILE_SERVER.as_bytes()),
-        Ok(CAREFUL.as_bytes()),
-        Ok(NO_KERNEL_PORT.as_bytes()),
-        Ok(OF_CAREFUL.as_slice()),
-        Ok(script),
-    ];
-    let shelf = shelf_of(rt.alloc(), files);
-    Ok(live_files(rt, &shelf, rt.alloc(), &names(rt.alloc())?, 1)?)
+/// The bytes of the files of a script of the file server.
+fn texts(alloc: Global, script: &[u8]) -> Result<Texts, AllocError> {
+    Ok(Texts {
+        defs: vec![in alloc; Vec::from_slice(alloc, FILE_SERVER.as_bytes())?]?,
+        wiring: Vec::from_slice(alloc, CAREFUL.as_bytes())?,
+        policy: Some(Vec::from_slice(alloc, NO_KERNEL_PORT.as_bytes())?),
+        certificate: Some(Vec::from_slice(alloc, &OF_CAREFUL)?),
+        script: Some(Vec::from_slice(alloc, script)?),
+    })
+}
+
+/// The files of a script of the file server.
+fn files(alloc: Global, script: &[u8]) -> Result<Files<'static>, AllocError> {
+    let names = names(alloc)?;
+    let texts = texts(alloc, script)?;
+    Ok(Files { names, texts })
+}
+
+/// What is printed of these files by a `live` whose journal has one event at most.
+fn lived_once(
+    rt: &(impl Threads + Wait + Sync),
+    alloc: Global,
+    files: &Files<'_>,
+) -> Result<Told, AllocError> {
+    live_told(rt, alloc, files, 1)
+}
+
+/// What is printed of a script of the file server, whose journal has one event at most.
+fn once(
+    rt: &(impl AllocGlobal + Threads + Wait + Sync),
+    script: &[u8],
+) -> Result<Told, AllocError> {
+    let files = files(rt.alloc(), script)?;
+    lived_once(rt, rt.alloc(), &files)
 }
 
 // What the client sends is the only event; the server wakes by it.

@@ -1,9 +1,9 @@
 //! Two tasks, of which one holds the kernel port of the other, and their scripts.
 
 use mrc_base::OrMemory;
-use mrc_report::{Script, ScriptFault, read_script};
+use mrc_report::{Script, read_script};
 use mrc_wiring::Wired;
-use mrc_wiring_text::{WiringLine, read_wiring};
+use mrc_wiring_text::{TextFault, WiringLine, read_wiring};
 use std::alloc::Global;
 use std::test::Fail;
 
@@ -29,7 +29,7 @@ pub(crate) fn script(alloc: Global, text: &str) -> Result<Result<Script, u32>, F
 fn script_of(alloc: Global, wired: &Wired, text: &str) -> Result<Result<Script, u32>, Fail> {
     match read_script(alloc, wired, text, false) {
         Ok(script) => Ok(Ok(script)),
-        Err(OrMemory::Fault(ScriptFault::BadLine(number))) => Ok(Err(number)),
-        Err(OrMemory::Memory) => Err(Fail::from("no memory")),
+        Err(OrMemory::Fault(TextFault::BadLine(number))) => Ok(Err(number)),
+        Err(refusal) => Err(refusal.into()),
     }
 }
