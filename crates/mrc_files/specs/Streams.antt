@@ -2,14 +2,26 @@
 use Rattle.std.specs.Prelude.{ℕ, ◌≤◌, List, Option, length}
 use Rattle.std.specs.Io.KnownBytes.{Consumes}
 use Rattle.std.specs.declared.io.ErrorKind.{ErrorKind}
-use Rattle.std.specs.declared.io.ErrorKind.TheVariants.{OutOfMemory}
+use Rattle.std.specs.declared.io.ErrorKind.TheVariants.{OutOfMemory, NotFound, NotADirectory}
+use Rattle.std.specs.declared.io.ErrorKind.TheVariants.{IsADirectory, PermissionDenied}
+use Rattle.mrc_files.specs.declared.streams.ReadFailure.{ReadFailure}
+use Rattle.mrc_files.specs.declared.streams.ReadFailure.TheVariants.{Missing, NotAFolder, IsAFolder}
+use Rattle.mrc_files.specs.declared.streams.ReadFailure.TheVariants.{Denied, Other}
 use Rattle.mrc_files.specs.declared.streams.ReadFault.{ReadFault}
 use Rattle.mrc_files.specs.declared.streams.ReadFault.TheVariants.{ReadFailed, Memory}
 
--- the fault of a read that failed: want of memory is told as such, and all else as a failed read
+-- what the system says of a failed read
+abbrev pub failure : ErrorKind → ReadFailure
+failure NotFound = Missing
+failure NotADirectory = NotAFolder
+failure IsADirectory = IsAFolder
+failure PermissionDenied = Denied
+failure kind = Other
+
+-- the fault of a read that failed: out of memory is reported as such, and all else as a failed read
 abbrev pub read_fault : ErrorKind → ReadFault
 read_fault OutOfMemory = Memory
-read_fault kind = ReadFailed
+read_fault kind = ReadFailed (failure kind)
 
 -- a reader that had these bytes left, where they are known, lost no more than so many of them
 abbrev pub LosesAtMost : Option (List ℕ) → Option (List ℕ) → ℕ → Type 0

@@ -10,5 +10,5 @@ mod system;
 
 pub use folders::{Folder, Unread, bytes_of, bytes_of_all, read_file};
 pub use paths::{linked, part_path};
-pub use streams::{ReadFault, WriteFault, read_all, read_fault, write_text};
+pub use streams::{ReadFailure, ReadFault, WriteFault, read_all, read_fault, write_text};
 pub use system::Disk;

@@ -4,18 +4,38 @@ ghost use Rattle.std.specs.Prelude.{◌≡◌, ◌+◌, ◌≤◌, ◌<◌, ℕ,
 ghost use Rattle.std.specs.Prelude.{IfErr, IfSome, IfNone, OnErr, ◌++◌, List};
 ghost use Rattle.std.specs.IoError.{error_kind};
 ghost use Rattle.std.specs.Io.KnownBytes.{Appends, Keeps, Consumes, IsAtEnd};
-ghost use Rattle.mrc_files.specs.Streams.{read_fault, LosesAtMost};
+ghost use Rattle.mrc_files.specs.Streams.{failure, read_fault, LosesAtMost};
 
 use std::alloc::Global;
 use std::io;
 use std::io::{ErrorKind, Read, Write};
+
+/// What the system says of a file that can't be opened or read.
+#[derive(Clone, Copy, Debug, PartialEq, Eq, thiserror::Error)]
+pub enum ReadFailure {
+    /// Nothing has the name, or a folder of its path is missing.
+    #[error("no such file or folder")]
+    Missing,
+    /// A part of its path is no folder.
+    #[error("a part of its path is not a folder")]
+    NotAFolder,
+    /// It is a folder.
+    #[error("it is a folder")]
+    IsAFolder,
+    /// The user may not read it.
+    #[error("permission denied")]
+    Denied,
+    /// Anything else.
+    #[error("the system could not read it")]
+    Other,
+}
 
 /// Why a file was not read.
 #[derive(Clone, Copy, Debug, PartialEq, Eq, thiserror::Error)]
 pub enum ReadFault {
     /// It can't be opened, or a read failed.
     #[error("ReadFailed")]
-    ReadFailed,
+    ReadFailed(ReadFailure),
     /// It has more bytes than a file may have.
     #[error("TooBig")]
     TooBig,
@@ -32,13 +52,26 @@ pub struct WriteFault {
     pub written: usize,
 }
 
+/// What the system says of a failure of this kind.
+fn failure(kind: ErrorKind) -> ReadFailure
+    ensures { result ≡ failure kind }
+{
+    match kind {
+        ErrorKind::NotFound => ReadFailure::Missing,
+        ErrorKind::NotADirectory => ReadFailure::NotAFolder,
+        ErrorKind::IsADirectory => ReadFailure::IsAFolder,
+        ErrorKind::PermissionDenied => ReadFailure::Denied,
+        _ => ReadFailure::Other,
+    }
+}
+
 /// The fault of a read that failed, or of a file that can't be opened.
 pub fn read_fault(error: &io::Error) -> ReadFault
     ensures { result ≡ read_fault (error_kind error.now) }
 {
     match error.kind() {
         ErrorKind::OutOfMemory => ReadFault::Memory,
-        _ => ReadFault::ReadFailed,
+        kind => ReadFault::ReadFailed(failure(kind)),
     }
 }
 
@@ -98,7 +131,7 @@ pub fn read_all<R: Read>(alloc: Global, reader: &mut R, limit: u32) -> Result<Ve
             return Err(ReadFault::TooBig);
         }
     }
-    Err(ReadFault::ReadFailed)
+    Err(ReadFault::ReadFailed(ReadFailure::Other))
 }
 
 /// Whether the writer was flushed. A flush that is interrupted is tried again.

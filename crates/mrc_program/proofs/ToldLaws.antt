@@ -59,7 +59,7 @@ unread_told held files file TooBig told first h = inr record {
   first = first;
   is = record { out = h.out; err = (codes "TooBig", h.err) };
 }
-unread_told held files file ReadFailed told first h = inr record {
+unread_told held files file (ReadFailed failure) told first h = inr record {
   file = file;
   first = first;
   is = record { out = h.out; err = (codes "ReadFailed", h.err) };

@@ -38,7 +38,7 @@ pub record ToldFile (file : List ℕ) (told : Told) : Type 0 where
 abbrev pub UnreadTold : List ℕ → ReadFault → Told → Type 0
 UnreadTold file NoMemory told = ToldMemory told
 UnreadTold file TooBig told = ToldWord file (codes "TooBig") told
-UnreadTold file ReadFailed told = ToldWord file (codes "ReadFailed") told
+UnreadTold file (ReadFailed failure) told = ToldWord file (codes "ReadFailed") told
 
 -- the first of the files that can't be read is named
 pub record ToldUnread (held : Held) (files : List (List ℕ)) (told : Told) : Type 0 where

@@ -101,7 +101,7 @@ pub fn unread_told(alloc: Global, unread: &Unread<'_>) -> Result<Told, AllocErro
     match unread.fault {
         ReadFault::Memory => memory(alloc),
         ReadFault::TooBig => fault_of(alloc, unread.file, "TooBig"),
-        ReadFault::ReadFailed => fault_of(alloc, unread.file, "ReadFailed"),
+        ReadFault::ReadFailed(_) => fault_of(alloc, unread.file, "ReadFailed"),
     }
 }
 

@@ -1,6 +1,6 @@
 //! Readers and writers that fail.
 
-use mrc_files::{ReadFault, WriteFault, read_all, write_text};
+use mrc_files::{ReadFailure, ReadFault, WriteFault, read_all, write_text};
 use std::alloc::Global;
 use std::io;
 use std::io::{ErrorKind, Read, Write};
@@ -152,7 +152,7 @@ fn reading_to_the_limit(rt: HostRuntime) -> Result<(), Fail> {
         (
             3,
             Some(ErrorKind::BrokenPipe),
-            Err(ReadFault::ReadFailed),
+            Err(ReadFault::ReadFailed(ReadFailure::Other)),
             0,
         ),
         (3, Some(ErrorKind::OutOfMemory), Err(ReadFault::Memory), 0),

@@ -1,6 +1,6 @@
 //! Readers and writers that give or take few bytes a call, and fail at a call of a given number.
 
-use mrc_files::{ReadFault, WriteFault, read_all, write_text};
+use mrc_files::{ReadFailure, ReadFault, WriteFault, read_all, write_text};
 use std::alloc::Global;
 use std::io;
 use std::io::{ErrorKind, Read, Write};
@@ -37,7 +37,7 @@ fn reads_of_two_bytes(rt: HostRuntime) {
     for (reads, limit, want) in [
         (9, 3, Err(ReadFault::TooBig)),
         (9, 4, Ok(4)),
-        (1, 4, Err(ReadFault::ReadFailed)),
+        (1, 4, Err(ReadFault::ReadFailed(ReadFailure::Other))),
     ] {
         assert_eq!(rt; count_read(rt.alloc(), reads, limit), want);
     }
