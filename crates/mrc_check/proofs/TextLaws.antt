@@ -133,12 +133,14 @@ said_from defs wiring policy certificate case says =
     let spelled : draft_from certificate ≡ Ok case.draft =
     ap draft_from says.spells.bytes_are ∙ draft_again case.draft says.spells.draft
     in
-    bind_to (stated_of defs wiring policy) stated (λ (s : Stated). answered_by s.claim certificate) _
+    bind_to (stated_of defs wiring policy) stated
+    (λ (s : Stated). answered_by s.claim certificate) _
     (stated_to defs wiring policy case.claim says.means)
     (goes_on InCertificate case.draft (draft_from certificate) _ spelled)
 
 -- where the texts say yes, only want of memory is told
-pub only_memory_told : (defs : List (List ℕ)) (wiring policy certificate : List ℕ) (r : Result Case (OrMemory TextsFault))
+pub only_memory_told : (defs : List (List ℕ)) (wiring policy certificate : List ℕ)
+    (r : Result Case (OrMemory TextsFault))
     → Tells r (case_of defs wiring policy certificate)
     → (case : Case)
     → SayYes defs wiring policy certificate case
@@ -166,7 +168,8 @@ only_memory_told defs wiring policy certificate r told case says = refused r tol
     refused (Err Memory) h = refl
 
 -- a yes that is told is right
-pub yes_told : (defs : List (List ℕ)) (wiring policy certificate : List ℕ) (r : Result Case (OrMemory TextsFault))
+pub yes_told : (defs : List (List ℕ)) (wiring policy certificate : List ℕ)
+    (r : Result Case (OrMemory TextsFault))
     → IsBytes certificate
     → Tells r (case_of defs wiring policy certificate)
     → IfOk r (SayYes defs wiring policy certificate)

@@ -38,8 +38,8 @@ pub record Meant : Type 0 where
   pub lines : List (Line WiringSays)
   pub table : Table
 
--- The bytes mean a system: the definitions are MIG files, and the wiring has lines that have a table
--- over their interfaces.
+-- The bytes mean a system: the definitions are MIG files, and the wiring has lines that have a
+-- table over their interfaces.
 pub record MeanSystem (defs : List (List ℕ)) (wiring : List ℕ) (system : Meant) : Type 0 where
   pub interfaces : List Interface
   pub are_interfaces : AreInterfaces defs interfaces
@@ -56,8 +56,8 @@ pub record MeanClaim (defs : List (List ℕ)) (wiring policy : List ℕ) (claim 
   pub is_policy : IsPolicy policy policy_lines
   pub is_claim : forbidden_lines claim.table policy_lines ≡ Ok claim.lines
 
--- The checker's yes: MIG files, wiring and policy mean a claim, the certificate encodes a draft, and
--- the draft is accepted for the claim.
+-- The checker's yes: MIG files, wiring and policy mean a claim, the certificate encodes a draft,
+-- and the draft is accepted for the claim.
 pub record SayYes (defs : List (List ℕ)) (wiring policy certificate : List ℕ) (case : Case)
     : Type 0 where
   pub means : MeanClaim defs wiring policy case.claim

@@ -41,7 +41,8 @@ fn conclude_in_turn(
 }
 
 /// What follows from a new fact, with those of the set, and the set lacks, at the places of one of
-/// so many workers: at each task and class whose number leaves the worker's, divided by the number of workers.
+/// so many workers: at each task and class whose number leaves the worker's, divided by the number
+/// of workers.
 pub(crate) fn round(
     alloc: Global,
     rules: &Rules,

@@ -26,8 +26,8 @@ use Rattle.mrc_wiring_text.specs.Wiring.{wiring_says}
 same_claim : (defs : List (List ℕ)) (wiring policy : List ℕ) (a b : Claimed)
     → MeanClaim defs wiring policy a → MeanClaim defs wiring policy b → a ≡ b
 same_claim defs wiring policy a b m n =
-    let interfaces : m.system.interfaces ≡ n.system.interfaces = ok_is m.system.interfaces n.system.interfaces
-    (sym (interfaces_read defs m.system.interfaces m.system.are_interfaces)
+    let interfaces : m.system.interfaces ≡ n.system.interfaces =
+    ok_is m.system.interfaces n.system.interfaces (sym (interfaces_read defs m.system.interfaces m.system.are_interfaces)
     ∙ interfaces_read defs n.system.interfaces n.system.are_interfaces) in
     let lines : m.lines ≡ n.lines = ok_is m.lines n.lines
     (sym (text_read _ wiring_says wiring m.lines m.system.is_wiring)

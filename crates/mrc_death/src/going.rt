@@ -43,7 +43,8 @@ fn add_items(rights: &mut Vec<Held>, items: &[Item]) -> Result<(), AllocError>
 
 /// The rights of an argument.
 fn add_argument(rights: &mut Vec<Held>, argument: &QueuedArgument) -> Result<(), AllocError>
-    ensures { OnOk result (rights.new.items ≡ rights.old.items ++ arg_rights (queued_of argument.now)) }
+    ensures { OnOk result (rights.new.items
+        ≡ rights.old.items ++ arg_rights (queued_of argument.now)) }
 {
     match argument {
         QueuedArgument::Data { .. } => Ok(()),

@@ -1,5 +1,5 @@
--- Law. What a leak means for every certificate: the line is broken by each closed set of facts. This
--- profile's own choice.
+-- Law. What a leak means for every certificate: the line is broken by each closed set of facts.
+-- This profile's own choice.
 use Rattle.std.specs.Prelude.{ℕ, List, [], ◌∷◌, IsTrue}
 use Rattle.mrc_base.specs.declared.Fact.TheVariants.{Hold}
 use Rattle.mrc_confine.specs.Safety.{HaveNoYes, LeadsTo}

@@ -14,9 +14,6 @@ use Rattle.mrc_check.specs.Trusted.{AreSecure}
 use Rattle.mrc_check.specs.Verdict.{line_number}
 use Rattle.mrc_check.proofs.Accepted.{none_forbidden}
 use Rattle.mrc_why.specs.Broken.{is_broken, forbidden_fact, HasYes, HasNoYes}
-use Rattle.mrc_mend.specs.declared.judging.Verdict.{Verdict}
-use Rattle.mrc_mend.specs.declared.judging.Verdict.TheVariants.{Mends, Fails, Senseless}
-use Rattle.mrc_mend.specs.Judging.{IfMending}
 
 -- a line that is found forbids a fact of the set
 found_line : (facts : List Fact) (lines : List ForbiddenLine) (line : ForbiddenLine)
@@ -64,9 +61,3 @@ no_of claim facts (Some line) least e = λ set yes secure.
     let found = found_line facts claim.lines line (sym e) in
     yes.allowed (holding_of line) found.0
     (least.least (forbidden_fact line) found.1 set yes.closed)
-
--- what holds of mending changes may be said in other words
-pub if_mending : (P Q : Type 0) → (P → Q) → (v : Verdict) → IfMending P v → IfMending Q v
-if_mending P Q f (Mends lost) h = f h
-if_mending P Q f (Fails next) h = tt
-if_mending P Q f Senseless h = tt

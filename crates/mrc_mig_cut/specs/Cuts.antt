@@ -29,8 +29,8 @@ pub record IsCut (bytes : List ℕ) (read : ℕ) (left_out : List ℕ) : Type 0 
 abbrev pub most : ℕ
 most = 4294967295
 
--- each of these ids is greater than the one before it, and the first greater than this one, or it is
--- the largest that is told
+-- each of these ids is greater than the one before it, and the first greater than this one, or it
+-- is the largest that is told
 abbrev pub AreBehind : ℕ → List ℕ → Type 0
 AreBehind id [] = Unit {0}
 AreBehind id (next ∷ ids) = ((id < next) ⊎ (next ≡ most)) × AreBehind next ids

@@ -61,7 +61,8 @@ bytes = refl
 
 -- a field of no form is the reason why the struct has none
 pub no_form : struct_of
-    ((Items int, codes "int") ∷ (NoForm (codes "^") Absent, codes "pointer_t") ∷ []) (codes "struct")
+    ((Items int, codes "int") ∷ (NoForm (codes "^") Absent, codes "pointer_t") ∷ [])
+    (codes "struct")
     ≡ NoForm (codes "^") Absent
 no_form = refl
 
