@@ -1,0 +1,107 @@
+//! Parts of lines.
+
+ghost use Rattle.std.specs.Prelude.{◌≡◌, ◌+◌, ◌-◌, ◌≤◌, ◌↔◌, length, take, drop};
+ghost use Rattle.std.specs.Prelude.{IfOk, IfSome, IsSome, string_bytes};
+ghost use Rattle.std.specs.Str.{IsCharBoundary, chars};
+ghost use Rattle.mrc_place.specs.Spots.{HasLine, IsWordSpot, IsByteSpot};
+
+use crate::lines::{after_feed, before_feed, line_after, nth_line};
+use crate::words::word_place;
+use std::alloc::{AllocError, Global};
+
+/// A part of a line of a text: what carets are put under.
+#[derive(Debug, Drop)]
+pub struct Spot {
+    /// The number of the line, from 1.
+    pub line: u32,
+    /// The line before the part.
+    pub before: String,
+    /// The part: empty, if something is missing there.
+    pub word: String,
+    /// The line behind the part, up to its end.
+    pub after: String,
+}
+
+/// What is known of a fault besides its name: where it is, and sentences that help to mend it.
+#[derive(Debug, Drop)]
+pub struct Hint {
+    /// Where it is, if it is in a line.
+    pub spot: Option<Spot>,
+    /// Sentences, each a line.
+    pub notes: Vec<String>,
+}
+
+impl Spot {
+    /// The column in which the part begins: characters count from 1.
+    pub fn column(&self) -> usize
+        ensures { result ≡ 1 + length (chars (string_bytes self.now.before)) }
+    {
+        self.before.as_str().chars().count() + 1
+    }
+}
+
+/// The parts of a line around two places in it.
+fn spot_of(
+    alloc: Global,
+    line: u32,
+    whole: &str,
+    start: usize,
+    end: usize,
+) -> Result<Spot, AllocError>
+    requires order { start ≤ end }
+    requires begins { IsCharBoundary whole.now start }
+    requires ends { IsCharBoundary whole.now end }
+    ensures number { IfOk result (λ spot. spot.line ≡ line) }
+    ensures before { IfOk result (λ spot. string_bytes spot.before ≡ take start whole.now) }
+    ensures word { IfOk result (λ spot.
+        string_bytes spot.word ≡ take (end - start) (drop start whole.now)) }
+    ensures after { IfOk result (λ spot. string_bytes spot.after ≡ drop end whole.now) }
+{
+    Ok(Spot {
+        line,
+        before: String::from_str(alloc, &whole[..start])?,
+        word: String::from_str(alloc, &whole[start..end])?,
+        after: String::from_str(alloc, &whole[end..])?,
+    })
+}
+
+/// The word of this number, from 0, in the line of this number, from 1. If the line has fewer
+/// words, it is the end of its last word. `None` if there is no such line.
+pub fn word_spot(
+    alloc: Global,
+    text: &str,
+    line: u32,
+    word: usize,
+) -> Result<Option<Spot>, AllocError>
+    ensures found { IfOk result (λ spot. IfSome spot (IsWordSpot text.now line word)) }
+    ensures some { IfOk result (λ spot. IsSome spot ↔ HasLine text.now line) }
+{
+    if line == 0 {
+        return Ok(None);
+    }
+    match nth_line(text, line - 1) {
+        None => Ok(None),
+        Some(whole) => {
+            let (start, end) = word_place(whole, word);
+            Ok(Some(spot_of(alloc, line, whole, start, end)?))
+        }
+    }
+}
+
+/// The bytes of a text from `start` to `end`, as far as they are in the line of `start`. A
+/// character is in the part as a whole.
+pub fn byte_spot(alloc: Global, text: &str, start: usize, end: usize) -> Result<Spot, AllocError>
+    ensures { IfOk result (IsByteSpot text.now start end) }
+{
+    let from = text.floor_char_boundary(start);
+    let to = text.ceil_char_boundary(end).max(from);
+    let (front, back) = text.split_at(from);
+    let rest = before_feed(back);
+    let (word, after) = rest.split_at(rest.len().min(to - from));
+    Ok(Spot {
+        line: line_after(front),
+        before: String::from_str(alloc, after_feed(front))?,
+        word: String::from_str(alloc, word)?,
+        after: String::from_str(alloc, after)?,
+    })
+}
