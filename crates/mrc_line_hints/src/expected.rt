@@ -1,0 +1,176 @@
+//! Notes on a word with which a line does not go on: what may be in its place, and which word may
+//! be meant.
+
+ghost use Rattle.std.specs.Prelude.{◌≡◌, ◌++◌, ◌∷◌, [], map, IfOk, string_bytes};
+ghost use Rattle.std.specs.Option.{option_map};
+ghost use Rattle.mrc_line_hints.specs.Ways.{ways, may_end};
+ghost use Rattle.mrc_line_hints.specs.Expected.{phrase, way_phrases, end_phrase, phrases, expected};
+ghost use Rattle.mrc_line_hints.specs.Expected.{proposed, proposals, did_you_mean, IsMeant};
+ghost use Rattle.mrc_line_hints.specs.Expected.{AreNotes};
+
+use crate::parts::{Keyword, Part};
+use crate::ways::{Place, may_end, ways};
+use mrc_place::{alternatives, nearest};
+use mrc_wiring_text::Edition;
+use std::alloc::{AllocError, Global};
+
+impl Part {
+    /// The part in words.
+    fn phrase(self) -> &'static str
+        ensures { result.now ≡ phrase self }
+    {
+        match self {
+            Part::Fixed(keyword) => keyword.text(),
+            Part::TaskName => "the name of a task",
+            Part::PortName => "the name of a port",
+            Part::SubsystemName => "the name of a subsystem",
+            Part::SlotType => "the name of a subsystem, a dot and the name of a type",
+            Part::KindNumber => "a number from 0 to 15",
+            Part::Version => "a number",
+        }
+    }
+
+    /// The word, if it may be one that is meant.
+    fn proposed(self) -> Option<&'static str>
+        ensures { option_map (λ text. text.now) result ≡ proposed self }
+    {
+        match self {
+            Part::Fixed(Keyword::Comma) => None,
+            Part::Fixed(keyword) => Some(keyword.text()),
+            _ => None,
+        }
+    }
+}
+
+/// What ways lead to, in words.
+fn way_phrases(
+    alloc: Global,
+    edition: Edition,
+    place: Place,
+) -> Result<Vec<&'static str>, AllocError>
+    ensures { IfOk result (λ found. map (λ text. text.now) found.items ≡
+        way_phrases (ways edition place)) }
+{
+    let ways = ways(alloc, edition, place)?;
+    let mut found = Vec::new(alloc);
+    for way in &ways {
+        found.push(way.part.phrase())?;
+    }
+    Ok(found)
+}
+
+/// What may be at a place inside a line, in words.
+fn line_phrases(
+    alloc: Global,
+    edition: Edition,
+    place: Place,
+) -> Result<Vec<&'static str>, AllocError>
+    ensures { IfOk result (λ found. map (λ text. text.now) found.items ≡
+        way_phrases (ways edition place) ++ end_phrase (may_end place)) }
+{
+    let mut found = way_phrases(alloc, edition, place)?;
+    if may_end(place) {
+        found.push("the end of the line")?;
+    }
+    Ok(found)
+}
+
+/// What may be at a place, in words.
+fn phrases(alloc: Global, edition: Edition, place: Place) -> Result<Vec<&'static str>, AllocError>
+    ensures { IfOk result (λ found. map (λ text. text.now) found.items ≡ phrases edition place) }
+{
+    match place {
+        Place::WiringHead => Vec::from_slice(alloc, &["wiring 1", "wiring 2", "wiring 3"]),
+        Place::PolicyHead => Vec::from_slice(alloc, &["policy 1", "policy 2"]),
+        Place::WiringVersion => Vec::from_slice(alloc, &["1", "2", "3"]),
+        Place::PolicyVersion => Vec::from_slice(alloc, &["1", "2"]),
+        _ => line_phrases(alloc, edition, place),
+    }
+}
+
+/// The note that says what may be at a place.
+pub(crate) fn expected(alloc: Global, edition: Edition, place: Place) -> Result<String, AllocError>
+    ensures { IfOk result (λ note. string_bytes note ≡ expected edition place) }
+{
+    let phrases = phrases(alloc, edition, place)?;
+    let choice = alternatives(alloc, &phrases)?;
+    format!(in alloc; "expected: {choice}")
+}
+
+/// The words that may be meant at a place.
+fn proposals(alloc: Global, edition: Edition, place: Place) -> Result<Vec<&'static str>, AllocError>
+    ensures { IfOk result (λ known. map (λ text. text.now) known.items ≡
+        proposals (ways edition place)) }
+{
+    let ways = ways(alloc, edition, place)?;
+    let mut known = Vec::new(alloc);
+    for way in &ways {
+        if let Some(text) = way.part.proposed() {
+            known.push(text)?;
+        }
+    }
+    Ok(known)
+}
+
+/// The word that may be meant at a place, if there is one.
+fn meant(
+    alloc: Global,
+    edition: Edition,
+    place: Place,
+    word: &str,
+) -> Result<Option<&'static str>, AllocError>
+    ensures { IfOk result (λ meant.
+        IsMeant word.now (proposals (ways edition place)) (option_map (λ text. text.now) meant)) }
+{
+    if word.is_empty() {
+        return Ok(None);
+    }
+    let known = proposals(alloc, edition, place)?;
+    Ok(nearest(word, &known))
+}
+
+/// The note that says which word may be meant.
+fn did_you_mean(alloc: Global, word: &str) -> Result<String, AllocError>
+    ensures { IfOk result (λ note. string_bytes note ≡ did_you_mean word.now) }
+{
+    format!(in alloc; "did you mean: {word}")
+}
+
+/// One note.
+pub(crate) fn one(alloc: Global, note: String) -> Result<Vec<String>, AllocError>
+    ensures { IfOk result (λ notes. notes.items ≡ note ∷ []) }
+{
+    let mut notes = Vec::new(alloc);
+    notes.push(note)?;
+    Ok(notes)
+}
+
+/// Two notes.
+fn two(alloc: Global, first: String, second: String) -> Result<Vec<String>, AllocError>
+    ensures { IfOk result (λ notes. notes.items ≡ first ∷ second ∷ []) }
+{
+    let mut notes = Vec::new(alloc);
+    notes.push(first)?;
+    notes.push(second)?;
+    Ok(notes)
+}
+
+/// What may be at the place of a word, and which word may be meant.
+pub(crate) fn first_notes(
+    alloc: Global,
+    edition: Edition,
+    place: Place,
+    word: &str,
+) -> Result<Vec<String>, AllocError>
+    ensures { IfOk result (λ notes.
+        AreNotes edition place word.now (map string_bytes notes.items)) }
+{
+    let first = expected(alloc, edition, place)?;
+    match meant(alloc, edition, place, word)? {
+        Some(found) => {
+            let second = did_you_mean(alloc, found)?;
+            two(alloc, first, second)
+        }
+        None => one(alloc, first),
+    }
+}
