@@ -1,0 +1,4 @@
+pub mod Searches
+pub mod Words
+pub mod Lists
+mod Worked

@@ -1,0 +1,13 @@
+//! What helps with a fault of the names of a wiring's or a policy's lines: where the name is that
+//! is meant, and sentences that help to mend it.
+#![tactic(auto)]
+
+mod hints;
+mod known;
+pub mod laws;
+mod mentions;
+mod notes;
+#[cfg(test)]
+mod tests;
+
+pub use hints::{names_hint, policy_name_hint, wiring_name_hint};
