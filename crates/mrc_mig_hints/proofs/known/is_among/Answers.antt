@@ -1,0 +1,12 @@
+use Rattle.std.proofs.Common.{sym, ◌∙◌, rules, tests}
+use Rattle.std.specs.Str.{bytes_eq}
+use Rattle.std.proofs.lemmas.Iterator.{YieldsList-from_slice}
+use Rattle.std.proofs.lemmas.Iterator.Search.{any_from_yields_List}
+use Rattle.mrc_mig_hints.proofs.Lists.{any_map}
+use Rattle.mrc_mig_hints.proofs.known.is_among.Goals as goal
+
+pub returns : goal.returns
+returns c =
+    any_from_yields_List (λ w. bytes_eq w.now c.args.name.now) _ _ _ c.any.ensures.ran
+    (YieldsList-from_slice c.args.names.now cc) (λ x b q k. search (rules, tests))
+    ∙ sym (any_map (λ other. bytes_eq other c.args.name.now) (λ w. w.now) c.args.names.now)

@@ -1,0 +1,6 @@
+pub mod Sights
+pub mod Standing
+pub mod Known
+pub mod Notes
+pub mod Hints
+pub mod Laws

@@ -1,0 +1,412 @@
+//! What is said of a fault of the grammar.
+
+ghost use Rattle.std.specs.Prelude.{◌≡◌, ◌++◌, ◌&&◌, [], ◌∷◌, map, not, take};
+ghost use Rattle.std.specs.Prelude.{IfOk, OnOk, string_bytes};
+ghost use Rattle.mrc_mig_hints.specs.Sights.{sight_of, bytes_of, named, has_subsystem};
+ghost use Rattle.mrc_mig_hints.specs.declared.seen.Naming.TheVariants.{OfType};
+ghost use Rattle.mrc_mig_hints.specs.Standing.{if_so, expected, may_be, a_number};
+ghost use Rattle.mrc_mig_hints.specs.Notes as notes;
+ghost use Rattle.mrc_mig_hints.specs.Notes.{line_number, on_line, expected_note};
+ghost use Rattle.mrc_mig_hints.specs.Notes.{unexpected_notes, feature_word, left_out_note};
+ghost use Rattle.mrc_mig_hints.specs.Notes.{known_note, IsNearNote, IsNoteBy, IsUnknownNote};
+ghost use Rattle.mrc_mig_hints.specs.Notes.{is_left_in_table, known_at, twice_notes, too_many_note};
+ghost use Rattle.mrc_mig_hints.specs.Notes.{grammar_notes};
+
+use crate::known::{declared_at, given_at, is_table_name, known_names};
+use crate::seen::{Naming, Seen, has_include, has_subsystem, is_colon, named};
+use crate::standing::{A_NUMBER, BASIC_NAME, expected, may_be};
+use mrc_base::limits;
+use mrc_mig_symbols::{Feature, ParseFault, Symbol, Word};
+use mrc_place::{alternatives, listed, nearest};
+use std::alloc::{AllocError, Global};
+
+/// What is said of a routine without a request port, or with two.
+const REQUEST_PORT: &str = "a routine has one request port, of a port type: the argument marked \
+    requestport, or else the first, unmarked or in";
+
+/// What helps with a line of the preprocessor.
+const PREPROCESS: &str = "run bin/mig-preprocess first";
+
+/// The number of the line of a place.
+pub(crate) fn line_number(bytes: &[u8], at: usize) -> usize
+    ensures { result ≡ line_number bytes.now at }
+{
+    let front = &bytes[..at.min(bytes.len())];
+    front.iter().filter(|byte| **byte == b'\n').count() + 1
+}
+
+/// Adds a sentence.
+fn push_note(alloc: Global, notes: &mut Vec<String>, sentence: &str) -> Result<(), AllocError>
+    ensures { OnOk result (map string_bytes notes.new.items
+        ≡ map string_bytes notes.old.items ++ sentence.now ∷ []) }
+{
+    notes.push(String::from_str(alloc, sentence)?)?;
+    Ok(())
+}
+
+/// Adds a sentence if the test holds.
+fn push_if(
+    alloc: Global,
+    notes: &mut Vec<String>,
+    test: bool,
+    sentence: &str,
+) -> Result<(), AllocError>
+    ensures { OnOk result (map string_bytes notes.new.items
+        ≡ map string_bytes notes.old.items ++ if_so test sentence.now) }
+{
+    if test {
+        push_note(alloc, notes, sentence)?;
+    }
+    Ok(())
+}
+
+/// One sentence alone.
+fn one_note(alloc: Global, sentence: &str) -> Result<Vec<String>, AllocError>
+    ensures { IfOk result (λ notes. map string_bytes notes.items ≡ sentence.now ∷ []) }
+{
+    let mut notes = Vec::new(alloc);
+    push_note(alloc, &mut notes, sentence)?;
+    Ok(notes)
+}
+
+/// The names of these tokens.
+fn texts<'t>(alloc: Global, seen: &[Seen<'t>]) -> Result<Vec<&'t str>, AllocError>
+    ensures { IfOk result (λ names.
+        map (λ name. name.now) names.items ≡ bytes_of (map sight_of seen.now)) }
+{
+    let mut names = Vec::new(alloc);
+    for token in seen {
+        names.push(token.text)?;
+    }
+    Ok(names)
+}
+
+/// The name of the first type that is declared among these tokens, if there is one.
+fn first_type<'t>(alloc: Global, before: &[Seen<'t>]) -> Result<Vec<&'t str>, AllocError>
+    ensures { IfOk result (λ names. map (λ name. name.now) names.items
+        ≡ take 1 (bytes_of (named OfType (map sight_of before.now)))) }
+{
+    let types = named(alloc, Naming::OfType, before)?;
+    let mut names = texts(alloc, types.as_slice())?;
+    names.truncate(1);
+    Ok(names)
+}
+
+/// Adds that one of these words is expected, if there is one.
+fn push_alternatives(
+    alloc: Global,
+    words: &[&str],
+    notes: &mut Vec<String>,
+) -> Result<(), AllocError>
+    ensures { OnOk result (map string_bytes notes.new.items ≡ map string_bytes notes.old.items
+        ++ expected_note (map (λ word. word.now) words.now)) }
+{
+    if words.is_empty() {
+        return Ok(());
+    }
+    let words = alternatives(alloc, words)?;
+    notes.push(format!(in alloc; "expected: {}", words.as_str())?)?;
+    Ok(())
+}
+
+/// Adds what may be at a place.
+fn push_expected(
+    alloc: Global,
+    text: &str,
+    at: usize,
+    before: &[Seen<'_>],
+    notes: &mut Vec<String>,
+) -> Result<(), AllocError>
+    ensures { OnOk result (map string_bytes notes.new.items ≡ map string_bytes notes.old.items
+        ++ expected_note (expected text.now at
+        (take 1 (bytes_of (named OfType (map sight_of before.now)))))) }
+{
+    let types = first_type(alloc, before)?;
+    let words = expected(alloc, text, at, types.as_slice())?;
+    push_alternatives(alloc, words.as_slice(), notes)
+}
+
+fn is_line(symbol: Symbol) -> bool
+    ensures { result ≡ notes.is_line symbol }
+{
+    matches!(symbol, Symbol::Directive(_))
+}
+
+fn is_number(symbol: Symbol) -> bool
+    ensures { result ≡ notes.is_number symbol }
+{
+    matches!(symbol, Symbol::Number(_))
+}
+
+/// Whether this is a number, and a number may be there.
+fn is_unfit(alloc: Global, text: &str, at: usize, symbol: Symbol) -> Result<bool, AllocError>
+    ensures { IfOk result (λ unfit.
+        unfit ≡ (notes.is_number symbol && may_be text.now at a_number)) }
+{
+    if !is_number(symbol) {
+        return Ok(false);
+    }
+    may_be(alloc, text, at, A_NUMBER)
+}
+
+/// Whether none of these tokens is the word `subsystem`.
+#[tactic(auto, using(crate::proofs::SeenLemmas::subsystem_in_both))]
+fn lacks_subsystem(before: &[Seen<'_>], from: &[Seen<'_>]) -> bool
+    ensures { result
+        ≡ not (has_subsystem (map sight_of before.now ++ map sight_of from.now)) }
+{
+    if has_subsystem(before) {
+        return false;
+    }
+    !has_subsystem(from)
+}
+
+/// What is said of a token that can't be there.
+fn unexpected_notes(
+    alloc: Global,
+    text: &str,
+    at: usize,
+    before: &[Seen<'_>],
+    from: &[Seen<'_>],
+    symbol: Symbol,
+) -> Result<Vec<String>, AllocError>
+    ensures { IfOk result (λ notes. map string_bytes notes.items
+        ≡ unexpected_notes text.now at (map sight_of before.now) symbol
+        (map sight_of before.now ++ map sight_of from.now)) }
+{
+    let mut notes = Vec::new(alloc);
+    push_expected(alloc, text, at, before, &mut notes)?;
+    let is_missing = lacks_subsystem(before, from);
+    push_if(alloc, &mut notes, is_missing, "the file has no subsystem")?;
+    push_if(alloc, &mut notes, is_line(symbol), PREPROCESS)?;
+    let is_unfit = is_unfit(alloc, text, at, symbol)?;
+    let unfit =
+        "its value does not fit: see MIG.md, Grammar, for sizes and the parts of an expression";
+    push_if(alloc, &mut notes, is_unfit, unfit)?;
+    Ok(notes)
+}
+
+/// The word of a form that is left out.
+fn feature_word(feature: Feature) -> &'static str
+    ensures { result.now ≡ feature_word feature }
+{
+    match feature {
+        Feature::OutOfLine => "OutOfLine",
+        Feature::Polymorphic => "Polymorphic",
+        Feature::Pair => "Pair",
+        Feature::Real => "Real",
+        Feature::OldForm => "OldForm",
+        Feature::Option => "Option",
+        Feature::ReplyPort => "ReplyPort",
+        Feature::Nested => "Nested",
+        Feature::Preprocessor => "Preprocessor",
+    }
+}
+
+/// What is said of a form that is left out.
+fn left_out_note(alloc: Global, feature: Feature) -> Result<String, AllocError>
+    ensures { IfOk result (λ note. string_bytes note ≡ left_out_note feature) }
+{
+    if feature == Feature::Preprocessor {
+        return String::from_str(alloc, PREPROCESS);
+    }
+    let word = feature_word(feature);
+    format!(in alloc; "this form of MIG is not read: see MIG.md, What is left out, {word}")
+}
+
+/// The types that are known, or that there is none.
+fn known_note(alloc: Global, known: &[&str]) -> Result<String, AllocError>
+    ensures { IfOk result (λ note.
+        string_bytes note ≡ known_note (map (λ name. name.now) known.now)) }
+{
+    if known.is_empty() {
+        return String::from_str(alloc, "no type is declared above");
+    }
+    let names = listed(alloc, known)?;
+    format!(in alloc; "known types: {}", names.as_str())
+}
+
+/// The nearest of the known names, or else which are known.
+fn near_note(alloc: Global, name: &str, known: &[&str]) -> Result<String, AllocError>
+    ensures { IfOk result (λ note.
+        IsNearNote name.now (map (λ other. other.now) known.now) (string_bytes note)) }
+{
+    match nearest(name, known) {
+        Some(near) => format!(in alloc; "did you mean: {near}"),
+        None => known_note(alloc, known),
+    }
+}
+
+/// What is said of a type that is not known, by where it is declared below, whether it is left in
+/// the table, and the types that are known.
+fn note_by(
+    alloc: Global,
+    text: &str,
+    below: Option<usize>,
+    in_table: bool,
+    name: &str,
+    known: &[&str],
+) -> Result<String, AllocError>
+    ensures { IfOk result (λ note. IsNoteBy text.now below in_table name.now
+        (map (λ other. other.now) known.now) (string_bytes note)) }
+{
+    match below {
+        Some(below) => {
+            let line = line_number(text.as_bytes(), below);
+            format!(in alloc; "declared below, on line {line}")
+        }
+        None => {
+            if in_table {
+                return String::from_str(alloc, "#include <mach/std_types.defs> declares it");
+            }
+            near_note(alloc, name, known)
+        }
+    }
+}
+
+/// Whether this is a type of the include line, which no line before includes.
+fn is_left_in_table(name: &str, before: &[Seen<'_>]) -> bool
+    ensures { result ≡ is_left_in_table name.now (map sight_of before.now) }
+{
+    is_table_name(name) && !has_include(before)
+}
+
+/// The types that are known where this one is not.
+fn known_at<'t>(
+    alloc: Global,
+    text: &str,
+    at: usize,
+    name: &str,
+    before: &[Seen<'t>],
+) -> Result<Vec<&'t str>, AllocError>
+    ensures { IfOk result (λ names. map (λ other. other.now) names.items
+        ≡ known_at text.now at name.now (map sight_of before.now)) }
+{
+    let may_be_basic = may_be(alloc, text, at, BASIC_NAME)?;
+    known_names(alloc, may_be_basic, name, before)
+}
+
+/// What is said of a type that is not known.
+pub(crate) fn unknown_note(
+    alloc: Global,
+    text: &str,
+    at: usize,
+    name: &str,
+    before: &[Seen<'_>],
+    from: &[Seen<'_>],
+) -> Result<String, AllocError>
+    ensures { IfOk result (λ note. IsUnknownNote text.now at name.now (map sight_of before.now)
+        (map sight_of from.now) (string_bytes note)) }
+{
+    let below = declared_at(alloc, name, from)?;
+    let in_table = is_left_in_table(name, before);
+    let known = known_at(alloc, text, at, name, before)?;
+    note_by(alloc, text, below, in_table, name, known.as_slice())
+}
+
+/// `SENTENCE, on line N`, if there is such a place.
+fn on_line(
+    alloc: Global,
+    sentence: &str,
+    text: &str,
+    at: Option<usize>,
+) -> Result<Vec<String>, AllocError>
+    ensures { IfOk result (λ notes. map string_bytes notes.items
+        ≡ on_line sentence.now text.now at) }
+{
+    let mut notes = Vec::new(alloc);
+    if let Some(at) = at {
+        let line = line_number(text.as_bytes(), at);
+        notes.push(format!(in alloc; "{sentence}, on line {line}")?)?;
+    }
+    Ok(notes)
+}
+
+/// What is said of a second one of a name.
+fn twice_notes(
+    alloc: Global,
+    text: &str,
+    symbol: Symbol,
+    name: &str,
+    before: &[Seen<'_>],
+) -> Result<Vec<String>, AllocError>
+    ensures { IfOk result (λ notes. map string_bytes notes.items
+        ≡ twice_notes text.now symbol name.now (map sight_of before.now)) }
+{
+    let at = given_at(alloc, symbol, name, before)?;
+    on_line(alloc, "declared above", text, at)
+}
+
+fn takes_id(symbol: Symbol) -> bool
+    ensures { result ≡ notes.takes_id symbol }
+{
+    matches!(
+        symbol,
+        Symbol::Word(Word::Routine | Word::SimpleRoutine | Word::Skip)
+    )
+}
+
+fn is_direction(symbol: Symbol) -> bool
+    ensures { result ≡ notes.is_direction symbol }
+{
+    matches!(symbol, Symbol::Word(Word::Direction(_)))
+}
+
+fn is_name(symbol: Symbol) -> bool
+    ensures { result ≡ notes.is_name symbol }
+{
+    matches!(symbol, Symbol::Name)
+}
+
+/// Whether a colon comes second.
+fn has_colon(seen: &[Seen<'_>]) -> bool
+    ensures { result ≡ notes.has_colon (map sight_of seen.now) }
+{
+    match seen {
+        [_, second, ..] => is_colon(second.symbol),
+        _ => false,
+    }
+}
+
+/// What is said of what is too long or too many.
+fn too_many_note(symbol: Symbol, word: &str, from: &[Seen<'_>]) -> &'static str
+    ensures { result.now ≡ too_many_note symbol word.now (map sight_of from.now) }
+{
+    if is_name(symbol) && word.len() > limits::NAME {
+        return "a name has at most 64 bytes";
+    }
+    if takes_id(symbol) {
+        return "a subsystem has at most 100 ids";
+    }
+    if is_direction(symbol) || is_name(symbol) && has_colon(from) {
+        return "a routine has at most 32 arguments";
+    }
+    "a count is from 1 to 8192, and counts of nested arrays multiply"
+}
+
+/// What is said of a fault of the grammar, other than a type that is not known.
+pub(crate) fn grammar_notes(
+    alloc: Global,
+    text: &str,
+    before: &[Seen<'_>],
+    from: &[Seen<'_>],
+    symbol: Symbol,
+    word: &str,
+    fault: ParseFault,
+) -> Result<Vec<String>, AllocError>
+    ensures { IfOk result (λ notes. map string_bytes notes.items
+        ≡ grammar_notes text.now (map sight_of before.now) (map sight_of from.now)
+        symbol word.now fault) }
+{
+    match fault {
+        ParseFault::Unexpected(at) => unexpected_notes(alloc, text, at, before, from, symbol),
+        ParseFault::LeftOut(_, feature) => {
+            let note = left_out_note(alloc, feature)?;
+            one_note(alloc, note.as_str())
+        }
+        ParseFault::UnknownType(_) => Ok(Vec::new(alloc)),
+        ParseFault::TwiceNamed(_) => twice_notes(alloc, text, symbol, word, before),
+        ParseFault::NoRequestPort(_) => one_note(alloc, REQUEST_PORT),
+        ParseFault::TooMany(_) => one_note(alloc, too_many_note(symbol, word, from)),
+    }
+}

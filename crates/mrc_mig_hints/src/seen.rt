@@ -1,0 +1,213 @@
+//! The tokens of a file as a hint looks at them.
+
+ghost use Rattle.std.specs.Prelude.{◌≡◌, ◌≤◌, ◌++◌, length, map, nat_lt, IfOk, OnOk};
+ghost use Rattle.std.specs.List.{prefix_len};
+ghost use Rattle.std.specs.Option.{option_map};
+ghost use Rattle.mrc_mig_symbols.specs.Places.{place_of};
+ghost use Rattle.mrc_mig_symbols.specs.Readers.{left};
+ghost use Rattle.mrc_mig_symbols.specs.Symbols.{first_of, text_of};
+ghost use Rattle.mrc_mig_hints.specs.Sights as sights;
+ghost use Rattle.mrc_mig_hints.specs.Sights.{sight, sight_of, count_before, picked, picked_with};
+ghost use Rattle.mrc_mig_hints.specs.Sights.{named, has_include, has_subsystem, first_place};
+ghost use Rattle.mrc_mig_hints.specs.Sights.{has_bytes, last_place};
+ghost use Rattle.mrc_mig_hints.specs.Known.{include_at};
+
+use mrc_mig_lex::Sign;
+use mrc_mig_symbols::{Directive, Rest, Symbol, Tokens, Word, place_of};
+use std::alloc::{AllocError, Global};
+
+/// A token: what the grammar sees of it, the offset of its first byte, and its text.
+#[derive(Clone, Copy, Debug, PartialEq, Eq)]
+pub(crate) struct Seen<'t> {
+    /// What the grammar sees of it.
+    pub(crate) symbol: Symbol,
+    /// The offset of its first byte in the text.
+    pub(crate) at: usize,
+    /// Its text.
+    pub(crate) text: &'t str,
+}
+
+/// What a name is given to.
+#[derive(Clone, Copy, Debug, PartialEq, Eq)]
+pub(crate) enum Naming {
+    /// A type: its name is behind `type`.
+    OfType,
+    /// A routine or a simpleroutine: its name is behind that word.
+    OfRoutine,
+    /// An argument: its name is before a colon.
+    OfArgument,
+}
+
+/// What is seen of the first token that is left.
+fn first_seen<'t>(tokens: &Tokens<'t>, rest: Rest<'t>) -> Seen<'t>
+    ensures symbol { result.symbol ≡ first_of (left rest.entry) }
+    ensures at { result.at ≡ place_of tokens.now (length (left rest.entry)) }
+    ensures bytes { result.text.now ≡ text_of (left rest.entry) }
+{
+    Seen {
+        symbol: rest.first(),
+        at: place_of(tokens, rest.len()),
+        text: rest.text(),
+    }
+}
+
+/// All of the tokens.
+pub(crate) fn all_seen<'t>(
+    alloc: Global,
+    tokens: &'t Tokens<'t>,
+) -> Result<Vec<Seen<'t>>, AllocError>
+    ensures { IfOk result (λ seen. map sight_of seen.items ≡ map sight tokens.now) }
+{
+    let mut seen = Vec::new(alloc);
+    let mut rest = Rest::new(tokens);
+    while !rest.is_empty() {
+        seen.push(first_seen(tokens, rest))?;
+        rest = rest.next();
+    }
+    Ok(seen)
+}
+
+/// How many tokens come first that begin before this place.
+fn count_while(seen: &[Seen<'_>], at: usize) -> usize
+    ensures { result ≡ prefix_len (λ token. nat_lt token.at at) seen.now }
+{
+    seen.iter().take_while(|token| token.at < at).count()
+}
+
+/// How many tokens begin before this place.
+pub(crate) fn count_before(seen: &[Seen<'_>], at: usize) -> usize
+    ensures exact { result ≡ count_before at (map sight_of seen.now) }
+    ensures within { result ≤ length seen.now }
+{
+    count_while(seen, at)
+}
+
+pub(crate) fn is_type(symbol: Symbol) -> bool
+    ensures { result ≡ sights.is_type symbol }
+{
+    matches!(symbol, Symbol::Word(Word::Type))
+}
+
+pub(crate) fn is_routine(symbol: Symbol) -> bool
+    ensures { result ≡ sights.is_routine symbol }
+{
+    matches!(symbol, Symbol::Word(Word::Routine | Word::SimpleRoutine))
+}
+
+pub(crate) fn is_colon(symbol: Symbol) -> bool
+    ensures { result ≡ sights.is_colon symbol }
+{
+    matches!(symbol, Symbol::Sign(Sign::Colon))
+}
+
+fn is_subsystem(symbol: Symbol) -> bool
+    ensures { result ≡ sights.is_subsystem symbol }
+{
+    matches!(symbol, Symbol::Word(Word::Subsystem))
+}
+
+fn is_include(symbol: Symbol) -> bool
+    ensures { result ≡ sights.is_include symbol }
+{
+    matches!(symbol, Symbol::Directive(Directive::Include))
+}
+
+/// Of two tokens that follow each other, the one that is a name of this use.
+fn picked<'t>(naming: Naming, first: &Seen<'t>, second: &Seen<'t>) -> Option<Seen<'t>>
+    ensures { option_map sight_of result
+        ≡ picked naming (sight_of first.now) (sight_of second.now) }
+{
+    match naming {
+        Naming::OfType if is_type(first.symbol) => Some(*second),
+        Naming::OfRoutine if is_routine(first.symbol) => Some(*second),
+        Naming::OfArgument if is_colon(second.symbol) => Some(*first),
+        _ => None,
+    }
+}
+
+/// Adds the one of a token and the first of these that is a name of this use, if there is one.
+fn push_picked<'t>(
+    naming: Naming,
+    first: &Seen<'t>,
+    rest: &[Seen<'t>],
+    names: &mut Vec<Seen<'t>>,
+) -> Result<(), AllocError>
+    ensures { OnOk result (map sight_of names.new.items
+        ≡ map sight_of names.old.items
+        ++ picked_with naming (sight_of first.now) (map sight_of rest.now)) }
+{
+    let [second, ..] = rest else {
+        return Ok(());
+    };
+    if let Some(name) = picked(naming, first, second) {
+        names.push(name)?;
+    }
+    Ok(())
+}
+
+/// The tokens that are names of this use, in order.
+pub(crate) fn named<'t>(
+    alloc: Global,
+    naming: Naming,
+    seen: &[Seen<'t>],
+) -> Result<Vec<Seen<'t>>, AllocError>
+    ensures { IfOk result (λ names.
+        map sight_of names.items ≡ named naming (map sight_of seen.now)) }
+{
+    let mut names = Vec::new(alloc);
+    for index in 0..seen.len() {
+        push_picked(naming, &seen[index], &seen[index + 1..], &mut names)?;
+    }
+    Ok(names)
+}
+
+/// The place of the first token with this text.
+pub(crate) fn first_named(seen: &[Seen<'_>], text: &str) -> Option<usize>
+    ensures { result ≡ first_place (has_bytes text.now) (map sight_of seen.now) }
+{
+    for token in seen {
+        if token.text == text {
+            return Some(token.at);
+        }
+    }
+    None
+}
+
+/// The place of the last token with this text.
+pub(crate) fn last_named(seen: &[Seen<'_>], text: &str) -> Option<usize>
+    ensures { result ≡ last_place (has_bytes text.now) (map sight_of seen.now) }
+{
+    let mut last = None;
+    for token in seen {
+        if token.text == text {
+            last = Some(token.at);
+        }
+    }
+    last
+}
+
+/// Whether one of these lines includes the table of types.
+pub(crate) fn has_include(seen: &[Seen<'_>]) -> bool
+    ensures { result ≡ has_include (map sight_of seen.now) }
+{
+    seen.iter().any(|token| is_include(token.symbol))
+}
+
+/// Whether one of these is the word `subsystem`.
+pub(crate) fn has_subsystem(seen: &[Seen<'_>]) -> bool
+    ensures { result ≡ has_subsystem (map sight_of seen.now) }
+{
+    seen.iter().any(|token| is_subsystem(token.symbol))
+}
+
+/// The place of the first line that includes the table of types.
+pub(crate) fn include_place(seen: &[Seen<'_>]) -> Option<usize>
+    ensures { result ≡ include_at (map sight_of seen.now) }
+{
+    for token in seen {
+        if is_include(token.symbol) {
+            return Some(token.at);
+        }
+    }
+    None
+}
