@@ -15,17 +15,18 @@ _machcheck() {
     done
     COMPREPLY=()
     case $command in
-    '') kind=words options='verify mend attack check make explain facts graph promises replay live mig help --help --version' ;;
-    help) kind=words options='verify mend attack check make explain facts graph promises replay live mig ' ;;
+    '') kind=words options='verify mend attack check make explain facts graph slots promises replay live mig help --help --version' ;;
+    help) kind=words options='verify mend attack check make explain facts graph slots promises replay live mig ' ;;
     verify)
-        options='--wiring --policy --tree --help'
+        options='--wiring --policy --tree --brief --line --verbose --help'
         case $before in
         --wiring) kind=file ;;
         --policy) kind=file ;;
+        --line) kind=nothing ;;
         esac
         ;;
     mend)
-        options='--wiring --policy --most --help'
+        options='--wiring --policy --most --verbose --help'
         case $before in
         --wiring) kind=file ;;
         --policy) kind=file ;;
@@ -33,7 +34,7 @@ _machcheck() {
         esac
         ;;
     attack)
-        options='--wiring --policy --line --most --help'
+        options='--wiring --policy --line --most --verbose --help'
         case $before in
         --wiring) kind=file ;;
         --policy) kind=file ;;
@@ -50,7 +51,7 @@ _machcheck() {
         esac
         ;;
     make)
-        options='--wiring --out --workers --help'
+        options='--wiring --out --workers --verbose --help'
         case $before in
         --wiring) kind=file ;;
         --out) kind=file ;;
@@ -58,14 +59,14 @@ _machcheck() {
         esac
         ;;
     explain)
-        options='--wiring --fact --by --help'
+        options='--wiring --fact --by --verbose --help'
         case $before in
         --wiring) kind=file ;;
         --fact) kind=nothing ;;
         esac
         ;;
     facts)
-        options='--wiring --cert --task --class --right --help'
+        options='--wiring --cert --task --class --right --verbose --help'
         case $before in
         --wiring) kind=file ;;
         --cert) kind=file ;;
@@ -75,29 +76,36 @@ _machcheck() {
         esac
         ;;
     graph)
-        options='--wiring --cert --policy --fact --help'
+        options='--wiring --cert --policy --fact --task --holds --verbose --help'
         case $before in
         --wiring) kind=file ;;
         --cert) kind=file ;;
         --policy) kind=file ;;
         --fact) kind=nothing ;;
+        --task) kind=nothing ;;
+        esac
+        ;;
+    slots)
+        options='--wiring --verbose --help'
+        case $before in
+        --wiring) kind=file ;;
         esac
         ;;
     promises)
-        options='--wiring --help'
+        options='--wiring --verbose --help'
         case $before in
         --wiring) kind=file ;;
         esac
         ;;
     replay)
-        options='--wiring --script --help'
+        options='--wiring --script --verbose --help'
         case $before in
         --wiring) kind=file ;;
         --script) kind=file ;;
         esac
         ;;
     live)
-        options='--wiring --policy --cert --script --help'
+        options='--wiring --policy --cert --script --verbose --help'
         case $before in
         --wiring) kind=file ;;
         --policy) kind=file ;;
@@ -106,7 +114,7 @@ _machcheck() {
         esac
         ;;
     mig)
-        options='--out --strict --strict-rights -I -D -U --help'
+        options='--out --strict --strict-rights --verbose -I -D -U --help'
         case $before in
         --out) kind=folder ;;
         -I) kind=folder ;;

@@ -13,6 +13,7 @@ _machcheck() {
         'explain:Shows how a fact comes to be in the least certificate of a wiring'
         'facts:Prints the facts of a certificate, or of the least one of a wiring'
         'graph:Draws the facts of a certificate, or of the least one of a wiring'
+        'slots:Lists the slots of the messages, and which ports each admits'
         'promises:Prints what has to be found in the code of trusted tasks'
         'replay:Runs a script of calls, and prints the reply to each'
         'live:Checks, and runs a script of calls by tasks as threads'
@@ -31,6 +32,9 @@ _machcheck() {
                 '--wiring=[Tasks, ports and their first rights]:FILE:_files' \
                 '--policy=[The forbidden holdings]:FILE:_files' \
                 '--tree[Prints the steps from the fact down]' \
+                '--brief[Prints the broken lines without their steps]' \
+                '--line=[Only this line of the policy]:N:' \
+                '--verbose[Prints the text of each broken line too, and shows where a fault is]' \
                 '(- *)'{-h,--help}'[Print help]' \
                 '*:MIG file:_files -g "*.defs"'
             ;;
@@ -39,6 +43,7 @@ _machcheck() {
                 '--wiring=[Tasks, ports and their first rights]:FILE:_files' \
                 '--policy=[The forbidden holdings]:FILE:_files' \
                 '--most=[How many mends are printed, 1 to 1000000\: 10 if it is not given]:N:' \
+                '--verbose[Shows where a fault is, and what may help to mend it]' \
                 '(- *)'{-h,--help}'[Print help]' \
                 '*:MIG file:_files -g "*.defs"'
             ;;
@@ -48,6 +53,7 @@ _machcheck() {
                 '--policy=[The forbidden holdings]:FILE:_files' \
                 '--line=[Only this line of the policy\: its calls are printed as a script]:N:' \
                 '--most=[How many states are looked at for a line, 1 to 1000000\: 1000 if it is not given]:N:' \
+                '--verbose[Shows where a fault is, and what may help to mend it]' \
                 '(- *)'{-h,--help}'[Print help]' \
                 '*:MIG file:_files -g "*.defs"'
             ;;
@@ -56,7 +62,7 @@ _machcheck() {
                 '--wiring=[Tasks, ports and their first rights]:FILE:_files' \
                 '--policy=[The forbidden holdings]:FILE:_files' \
                 '--cert=[The certificate\: who may come to hold what]:FILE:_files' \
-                '--verbose[Says what to do with a certificate of another wiring]' \
+                '--verbose[Says what to do with a certificate of another wiring, and shows where a fault is]' \
                 '(- *)'{-h,--help}'[Print help]' \
                 '*:MIG file:_files -g "*.defs"'
             ;;
@@ -65,6 +71,7 @@ _machcheck() {
                 '--wiring=[Tasks, ports and their first rights]:FILE:_files' \
                 '--out=[The certificate that is written]:FILE:_files' \
                 '--workers=[How many threads make it, 1 to 64\: 4 where it is not given]:N:' \
+                '--verbose[Shows where a fault is, and what may help to mend it]' \
                 '(- *)'{-h,--help}'[Print help]' \
                 '*:MIG file:_files -g "*.defs"'
             ;;
@@ -73,6 +80,7 @@ _machcheck() {
                 '--wiring=[Tasks, ports and their first rights]:FILE:_files' \
                 '--fact=[The fact, as it is printed in a NO]:FACT:' \
                 '--by[Tells where the steps come from in the files]' \
+                '--verbose[Shows where a fault is, and what may help to mend it]' \
                 '(- *)'{-h,--help}'[Print help]' \
                 '*:MIG file:_files -g "*.defs"'
             ;;
@@ -83,6 +91,7 @@ _machcheck() {
                 '--task=[Holdings of this task alone]:TASK:' \
                 '--class=[Facts that name this class alone]:CLASS:' \
                 '--right=[Facts of this right alone]:RIGHT:' \
+                '--verbose[Shows where a fault is, and what may help to mend it]' \
                 '(- *)'{-h,--help}'[Print help]' \
                 '*:MIG file:_files -g "*.defs"'
             ;;
@@ -92,12 +101,23 @@ _machcheck() {
                 '--cert=[The certificate\: the least one where it is not given]:FILE:_files' \
                 '--policy=[The forbidden holdings, which are drawn red]:FILE:_files' \
                 '--fact=[Draws the steps to this fact alone]:FACT:' \
+                '--task=[Draws the holdings of this task alone]:TASK:' \
+                '--holds[Draws holdings alone, and not what is carried where]' \
+                '--verbose[Shows where a fault is, and what may help to mend it]' \
+                '(- *)'{-h,--help}'[Print help]' \
+                '*:MIG file:_files -g "*.defs"'
+            ;;
+        slots)
+            _arguments -s \
+                '--wiring=[Tasks, ports and their first rights]:FILE:_files' \
+                '--verbose[Shows where a fault is, and what may help to mend it]' \
                 '(- *)'{-h,--help}'[Print help]' \
                 '*:MIG file:_files -g "*.defs"'
             ;;
         promises)
             _arguments -s \
                 '--wiring=[Tasks, ports and their first rights]:FILE:_files' \
+                '--verbose[Shows where a fault is, and what may help to mend it]' \
                 '(- *)'{-h,--help}'[Print help]' \
                 '*:MIG file:_files -g "*.defs"'
             ;;
@@ -105,6 +125,7 @@ _machcheck() {
             _arguments -s \
                 '--wiring=[Tasks, ports and their first rights]:FILE:_files' \
                 '--script=[The calls, one a line]:FILE:_files' \
+                '--verbose[Shows where a fault is, and what may help to mend it]' \
                 '(- *)'{-h,--help}'[Print help]' \
                 '*:MIG file:_files -g "*.defs"'
             ;;
@@ -114,6 +135,7 @@ _machcheck() {
                 '--policy=[The forbidden holdings]:FILE:_files' \
                 '--cert=[The certificate\: who may come to hold what]:FILE:_files' \
                 '--script=[The calls, one a line]:FILE:_files' \
+                '--verbose[Shows where a fault is, and what may help to mend it]' \
                 '(- *)'{-h,--help}'[Print help]' \
                 '*:MIG file:_files -g "*.defs"'
             ;;
@@ -122,6 +144,7 @@ _machcheck() {
                 '--out=[The folder of the files that are written]:FOLDER:_files -/' \
                 '--strict[Writes nothing where a routine is left out]' \
                 '--strict-rights[The same as --strict=rights\: writes nothing if one that carries rights is left out]' \
+                '--verbose[Shows where a fault is, and what may help to mend it]' \
                 '-I+[A folder in which files that are included are sought]:FOLDER:_files -/' \
                 '-D+[A macro that is defined, as NAME or NAME=TEXT]:MACRO:' \
                 '-U+[A macro that is not defined]:NAME:' \

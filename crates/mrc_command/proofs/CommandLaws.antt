@@ -14,9 +14,9 @@ use Rattle.clap.specs.declared.error.kind.ErrorKind.TheVariants.{DisplayVersion}
 use Rattle.mrc_command.specs.declared.command.NoCommand.{NoCommand}
 use Rattle.mrc_command.specs.declared.command.NoCommand.TheVariants.{Told as TextTold}
 use Rattle.mrc_command.specs.declared.command.NoCommand.TheVariants.{Memory as NoMemory}
-use Rattle.mrc_command.specs.declared.command.Command.{Command}
+use Rattle.mrc_command.specs.declared.command.Request.{Request}
 use Rattle.mrc_command.specs.CommandLine.{machcheck_app, AsksHelp, TellsError, IsNoCommand}
-use Rattle.mrc_command.specs.Meaning.{IsCommandOf, Means, all_values}
+use Rattle.mrc_command.specs.Meaning.{IsRequestOf, Means, all_values}
 
 -- a kind that is not want of memory is among those of the program's own words
 among : (app : App) (words : List Text) (kind wanted : ClapKind)
@@ -68,13 +68,13 @@ values_in_rows found id texts is =
 simple : is_simple machcheck_app ≡ true
 simple = refl
 
--- the command of the subcommand that clap matched is what the words mean
-pub meaning : (app : App) (words : List Text) (matches : ArgMatches) (command : Command)
+-- the request of the subcommand that clap matched is what the words mean
+pub meaning : (app : App) (words : List Text) (matches : ArgMatches) (request : Request)
     → app ≡ machcheck_app
     → HasMatchesOf app words matches
-    → IsSomeAnd (subcommand_rows_of matches) (λ given. IsCommandOf given.0 given.1 command)
-    → Means words command
-meaning app words matches command same has is =
+    → IsSomeAnd (subcommand_rows_of matches) (λ given. IsRequestOf given.0 given.1 request)
+    → Means words request
+meaning app words matches request same has is =
     let matched = subst (λ (a : App). HasMatchesOf a words matches) same has simple in
-    subst (λ (o : Option _). IsSomeAnd o (λ given. IsCommandOf given.0 given.1 command)) matched.1
+    subst (λ (o : Option _). IsSomeAnd o (λ given. IsRequestOf given.0 given.1 request)) matched.1
     is

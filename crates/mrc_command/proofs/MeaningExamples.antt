@@ -58,3 +58,54 @@ attack_most : given (λ rows. number_of 1000 (first_of (codes "most") rows)) att
     ≡ Some (codes "attack", 1000)
 unfolding clap_on_literals number_of_word
 attack_most = refl
+
+-- the options of `verify`
+abbrev verify_words : List Text
+verify_words =
+    codes "machcheck" ∷ codes "verify" ∷ codes "--brief" ∷ codes "--line=3" ∷ codes "--wiring"
+    ∷ codes "w" ∷ codes "--policy" ∷ codes "p" ∷ []
+
+verify_flags : given (λ rows. map (λ name. has_flag name rows)
+    (codes "tree" ∷ codes "brief" ∷ codes "verbose" ∷ [])) verify_words
+    ≡ Some (codes "verify", false ∷ true ∷ false ∷ [])
+unfolding clap_on_literals
+verify_flags = refl
+
+verify_line : given (λ rows. number_if_given (first_of (codes "line") rows)) verify_words
+    ≡ Some (codes "verify", Some 3)
+unfolding clap_on_literals number_of_word
+verify_line = refl
+
+-- those of `graph`
+abbrev graph_words : List Text
+graph_words =
+    codes "machcheck" ∷ codes "graph" ∷ codes "--wiring" ∷ codes "w" ∷ codes "--task" ∷ codes "t"
+    ∷ codes "--holds" ∷ []
+
+graph_flags : given (λ rows. map (λ name. has_flag name rows)
+    (codes "holds" ∷ codes "verbose" ∷ [])) graph_words ≡ Some (codes "graph", true ∷ false ∷ [])
+unfolding clap_on_literals
+graph_flags = refl
+
+graph_task : given (first_of (codes "task")) graph_words ≡ Some (codes "graph", Some (codes "t"))
+unfolding clap_on_literals
+graph_task = refl
+
+-- a place is asked for
+abbrev slots_words : List Text
+slots_words =
+    codes "machcheck" ∷ codes "slots" ∷ codes "--wiring" ∷ codes "w" ∷ codes "a"
+    ∷ codes "--verbose" ∷ []
+
+slots_verbose : given (has_flag (codes "verbose")) slots_words ≡ Some (codes "slots", true)
+unfolding clap_on_literals
+slots_verbose = refl
+
+abbrev mig_words : List Text
+mig_words =
+    codes "machcheck" ∷ codes "mig" ∷ codes "--verbose" ∷ codes "--out" ∷ codes "o" ∷ codes "a"
+    ∷ []
+
+mig_verbose : given (has_flag (codes "verbose")) mig_words ≡ Some (codes "mig", true)
+unfolding clap_on_literals
+mig_verbose = refl

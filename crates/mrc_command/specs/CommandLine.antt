@@ -61,10 +61,18 @@ defs_rule = record (new_rule (codes "defs")) { value_names = 1; action = Some Ap
 abbrev pub given_defs_rule : Rule
 given_defs_rule = record defs_rule { required = true }
 
+-- whether the place of a fault is shown
+abbrev pub verbose_rule : Rule
+verbose_rule = flag_rule (codes "verbose")
+
 -- a command with these options too, in their order
 abbrev pub with_rules : App → List Rule → App
 with_rules app [] = app
 with_rules app (rule ∷ rules) = with_rules (with_rule app rule) rules
+
+-- a command with what is last of each that is about the files of a system
+abbrev pub with_last : App → App
+with_last app = with_rules app (verbose_rule ∷ defs_rule ∷ [])
 
 -- a command of this name for which a wiring has to be named
 abbrev pub wiring_app : Text → App
@@ -78,63 +86,69 @@ policy_app name = with_rule (wiring_app name) (file_rule (codes "policy"))
 abbrev pub facts_of_app : Text → App
 facts_of_app name = with_rule (wiring_app name) (free_rule (codes "cert"))
 
--- `verify --wiring FILE --policy FILE [--tree] [DEFS]...`
+-- `verify --wiring FILE --policy FILE [--tree] [--brief] [--line N] [--verbose] [DEFS]...`
 abbrev pub verify_app : App
-verify_app = with_rules (policy_app (codes "verify")) (flag_rule (codes "tree") ∷ defs_rule ∷ [])
+verify_app = with_last (with_rules (policy_app (codes "verify"))
+    (flag_rule (codes "tree") ∷ flag_rule (codes "brief") ∷ free_rule (codes "line") ∷ []))
 
--- `mend --wiring FILE --policy FILE [--most N] [DEFS]...`
+-- `mend --wiring FILE --policy FILE [--most N] [--verbose] [DEFS]...`
 abbrev pub mend_app : App
-mend_app = with_rules (policy_app (codes "mend")) (free_rule (codes "most") ∷ defs_rule ∷ [])
+mend_app = with_last (with_rule (policy_app (codes "mend")) (free_rule (codes "most")))
 
--- `attack --wiring FILE --policy FILE [--line N] [--most N] [DEFS]...`
+-- `attack --wiring FILE --policy FILE [--line N] [--most N] [--verbose] [DEFS]...`
 abbrev pub attack_app : App
-attack_app = with_rules (policy_app (codes "attack"))
-    (free_rule (codes "line") ∷ free_rule (codes "most") ∷ defs_rule ∷ [])
+attack_app = with_last (with_rules (policy_app (codes "attack"))
+    (free_rule (codes "line") ∷ free_rule (codes "most") ∷ []))
 
 -- `check --wiring FILE --policy FILE --cert FILE [--verbose] [DEFS]...`
 abbrev pub check_app : App
-check_app = with_rules (policy_app (codes "check"))
-    (file_rule (codes "cert") ∷ flag_rule (codes "verbose") ∷ defs_rule ∷ [])
+check_app = with_last (with_rule (policy_app (codes "check")) (file_rule (codes "cert")))
 
--- `make --wiring FILE --out FILE [--workers N] [DEFS]...`
+-- `make --wiring FILE --out FILE [--workers N] [--verbose] [DEFS]...`
 abbrev pub make_app : App
-make_app = with_rules (wiring_app (codes "make"))
-    (file_rule (codes "out") ∷ workers_rule ∷ defs_rule ∷ [])
+make_app = with_last (with_rules (wiring_app (codes "make"))
+    (file_rule (codes "out") ∷ workers_rule ∷ []))
 
--- `explain --wiring FILE --fact FACT [--by] [DEFS]...`
+-- `explain --wiring FILE --fact FACT [--by] [--verbose] [DEFS]...`
 abbrev pub explain_app : App
-explain_app = with_rules (wiring_app (codes "explain"))
-    (file_rule (codes "fact") ∷ flag_rule (codes "by") ∷ defs_rule ∷ [])
+explain_app = with_last (with_rules (wiring_app (codes "explain"))
+    (file_rule (codes "fact") ∷ flag_rule (codes "by") ∷ []))
 
--- `facts --wiring FILE [--cert FILE] [--task TASK] [--class CLASS] [--right RIGHT] [DEFS]...`
+-- `facts --wiring FILE [--cert FILE] [--task TASK] [--class CLASS] [--right RIGHT] [--verbose]
+-- [DEFS]...`
 abbrev pub facts_app : App
-facts_app = with_rules (facts_of_app (codes "facts"))
-    (free_rule (codes "task") ∷ free_rule (codes "class") ∷ free_rule (codes "right") ∷ defs_rule
-    ∷ [])
+facts_app = with_last (with_rules (facts_of_app (codes "facts"))
+    (free_rule (codes "task") ∷ free_rule (codes "class") ∷ free_rule (codes "right") ∷ []))
 
--- `graph --wiring FILE [--cert FILE] [--policy FILE] [--fact FACT] [DEFS]...`
+-- `graph --wiring FILE [--cert FILE] [--policy FILE] [--fact FACT] [--task TASK] [--holds]
+-- [--verbose] [DEFS]...`
 abbrev pub graph_app : App
-graph_app = with_rules (facts_of_app (codes "graph"))
-    (free_rule (codes "policy") ∷ free_rule (codes "fact") ∷ defs_rule ∷ [])
+graph_app = with_last (with_rules (facts_of_app (codes "graph"))
+    (free_rule (codes "policy") ∷ free_rule (codes "fact") ∷ free_rule (codes "task")
+    ∷ flag_rule (codes "holds") ∷ []))
 
--- `promises --wiring FILE [DEFS]...`
+-- `slots --wiring FILE [--verbose] [DEFS]...`
+abbrev pub slots_app : App
+slots_app = with_last (wiring_app (codes "slots"))
+
+-- `promises --wiring FILE [--verbose] [DEFS]...`
 abbrev pub promises_app : App
-promises_app = with_rule (wiring_app (codes "promises")) defs_rule
+promises_app = with_last (wiring_app (codes "promises"))
 
--- `replay --wiring FILE --script FILE [DEFS]...`
+-- `replay --wiring FILE --script FILE [--verbose] [DEFS]...`
 abbrev pub replay_app : App
-replay_app = with_rules (wiring_app (codes "replay")) (file_rule (codes "script") ∷ defs_rule ∷ [])
+replay_app = with_last (with_rule (wiring_app (codes "replay")) (file_rule (codes "script")))
 
--- `live --wiring FILE --policy FILE --cert FILE --script FILE [DEFS]...`
+-- `live --wiring FILE --policy FILE --cert FILE --script FILE [--verbose] [DEFS]...`
 abbrev pub live_app : App
-live_app = with_rules (policy_app (codes "live"))
-    (file_rule (codes "cert") ∷ file_rule (codes "script") ∷ defs_rule ∷ [])
+live_app = with_last (with_rules (policy_app (codes "live"))
+    (file_rule (codes "cert") ∷ file_rule (codes "script") ∷ []))
 
--- `mig --out FOLDER [--strict] [--strict-rights] FILE...`
+-- `mig --out FOLDER [--strict] [--strict-rights] [--verbose] FILE...`
 abbrev pub mig_app : App
 mig_app = with_rules (new_app (codes "mig"))
     (file_rule (codes "out") ∷ flag_rule (codes "strict") ∷ flag_rule (codes "strict-rights")
-    ∷ given_defs_rule ∷ [])
+    ∷ verbose_rule ∷ given_defs_rule ∷ [])
 
 -- no option of the command holds for its subcommands too
 abbrev pub HasNoGlobals : Command → Type 0
@@ -166,7 +180,8 @@ fact_app = with_commands answer_app (make_app ∷ explain_app ∷ facts_app ∷ 
 
 -- the program and its commands
 abbrev pub machcheck_app : App
-machcheck_app = with_commands fact_app (promises_app ∷ replay_app ∷ live_app ∷ mig_app ∷ [])
+machcheck_app =
+    with_commands fact_app (slots_app ∷ promises_app ∷ replay_app ∷ live_app ∷ mig_app ∷ [])
 
 -- the words ask for help or for the version, as `clap` reads them; then they are no command
 abbrev pub AsksHelp : List Text → Type 0

@@ -15,7 +15,9 @@ use Rattle.mrc_command.specs.declared.command.MigFiles.{MigFiles}
 use Rattle.mrc_command.specs.declared.command.Question.{Question}
 use Rattle.mrc_command.specs.declared.command.Question.TheVariants.{Verify, Mend, Attack, Check}
 use Rattle.mrc_command.specs.declared.command.Question.TheVariants.{Make, Explain, Facts, Graph}
-use Rattle.mrc_command.specs.declared.command.Question.TheVariants.{Promises, Replay, Live}
+use Rattle.mrc_command.specs.declared.command.Question.TheVariants.{Slots, Promises, Replay, Live}
+use Rattle.mrc_command.specs.declared.command.Request.{Request}
+use Rattle.mrc_command.specs.declared.command.Showing.{Showing}
 use Rattle.mrc_command.specs.declared.command.Strictness.{Strictness}
 use Rattle.mrc_command.specs.declared.command.Strictness.TheVariants.{None as Each, Rights, All}
 
@@ -57,9 +59,16 @@ pub record NamesFiles (rows : List Row) (files : FileNames) : Type 0 where
   pub certificate : first_of (codes "cert") rows ≡ option_map (λ file. file.now) files.certificate
   pub script : first_of (codes "script") rows ≡ option_map (λ file. file.now) files.script
 
+-- how broken lines are printed by these options
+pub record IsShowing (rows : List Row) (showing : Showing) : Type 0 where
+  pub tree : showing.tree ≡ has_flag (codes "tree") rows
+  pub brief : showing.brief ≡ has_flag (codes "brief") rows
+  pub quotes : showing.quotes ≡ has_flag (codes "verbose") rows
+  pub line : showing.line ≡ number_if_given (first_of (codes "line") rows)
+
 -- the question that a subcommand of this name asks with these options
 abbrev pub Asks : Text → List Row → Question → Type 0
-Asks name rows (Verify tree) = (name ≡ codes "verify") × (tree ≡ has_flag (codes "tree") rows)
+Asks name rows (Verify showing) = (name ≡ codes "verify") × IsShowing rows showing
 Asks name rows (Mend most) =
     (name ≡ codes "mend") × (most ≡ number_of 10 (first_of (codes "most") rows))
 Asks name rows (Attack line most) =
@@ -77,15 +86,18 @@ Asks name rows (Facts task class right) =
     (name ≡ codes "facts") × (first_of (codes "task") rows ≡ option_map (λ word. word.now) task)
     × (first_of (codes "class") rows ≡ option_map (λ word. word.now) class)
     × (first_of (codes "right") rows ≡ option_map (λ word. word.now) right)
-Asks name rows (Graph fact) =
+Asks name rows (Graph fact task holds) =
     (name ≡ codes "graph") × (first_of (codes "fact") rows ≡ option_map (λ text. text.now) fact)
+    × (first_of (codes "task") rows ≡ option_map (λ word. word.now) task)
+    × (holds ≡ has_flag (codes "holds") rows)
+Asks name rows Slots = name ≡ codes "slots"
 Asks name rows Promises = name ≡ codes "promises"
 Asks name rows Replay = name ≡ codes "replay"
 Asks name rows Live = name ≡ codes "live"
 
 -- the files that a question needs besides the wiring are named
 abbrev pub has_files : Question → FileNames → Bool
-has_files (Verify tree) files = is_some files.policy
+has_files (Verify showing) files = is_some files.policy
 has_files (Mend most) files = is_some files.policy
 has_files (Attack line most) files = is_some files.policy
 has_files (Check verbose) files = is_some files.policy && is_some files.certificate
@@ -107,7 +119,13 @@ IsCommandOf name rows (Case files question) =
     NamesFiles rows files × Asks name rows question × (has_files question files ≡ true)
 IsCommandOf name rows (Mig files) = (name ≡ codes "mig") × AsksMig rows files
 
--- the words mean the command: it is that of the subcommand and the options that they give
-abbrev pub Means : List Text → Command → Type 0
-Means words command =
-    IsSomeAnd (subcommand_of machcheck_app words) (λ given. IsCommandOf given.0 given.1 command)
+-- what a subcommand of this name asks for with these options: its command, and whether the place
+-- of a fault is shown
+abbrev pub IsRequestOf : Text → List Row → Request → Type 0
+IsRequestOf name rows request =
+    IsCommandOf name rows request.command × (request.verbose ≡ has_flag (codes "verbose") rows)
+
+-- the words mean the request: it is that of the subcommand and the options that they give
+abbrev pub Means : List Text → Request → Type 0
+Means words request =
+    IsSomeAnd (subcommand_of machcheck_app words) (λ given. IsRequestOf given.0 given.1 request)

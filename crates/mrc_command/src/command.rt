@@ -7,8 +7,8 @@ ghost use Rattle.clap.specs.Words.{first_of, kind_of, subcommand_rows_of, takes}
 ghost use Rattle.clap.specs.declared.error.kind.ErrorKind.TheVariants.{OutOfMemory};
 ghost use Rattle.mrc_command.specs.CommandLine.{IsNoCommand, TellsError, machcheck_app};
 ghost use Rattle.mrc_command.specs.Meaning.{all_values, has_flag, number_of, number_if_given};
-ghost use Rattle.mrc_command.specs.Meaning.{strictness_of, rows, NamesFiles, Asks, has_files};
-ghost use Rattle.mrc_command.specs.Meaning.{AsksMig, IsCommandOf, Means};
+ghost use Rattle.mrc_command.specs.Meaning.{strictness_of, rows, NamesFiles, IsShowing, Asks};
+ghost use Rattle.mrc_command.specs.Meaning.{has_files, AsksMig, IsCommandOf, IsRequestOf, Means};
 
 use crate::options::whole_command;
 use crate::told::Told;
@@ -32,13 +32,26 @@ pub struct FileNames<'a> {
     pub script: Option<&'a str>,
 }
 
+/// How broken lines are printed.
+#[derive(Clone, Copy)]
+pub struct Showing {
+    /// Chains are printed from their conclusions down.
+    pub tree: bool,
+    /// Chains are not printed.
+    pub brief: bool,
+    /// Each broken line is followed by the text of that line.
+    pub quotes: bool,
+    /// Only the broken line of this number is printed. It is 0 if the text is no number.
+    pub line: Option<usize>,
+}
+
 /// What is asked of the files.
 #[derive(Clone, Copy)]
 pub enum Question<'a> {
-    /// Can anything that the policy forbids come about, and how? With `tree` the steps are printed
-    /// from the fact down.
+    /// Can anything that the policy forbids come about, and how? Broken lines are printed by
+    /// `showing`.
     Verify {
-        tree: bool,
+        showing: Showing,
     },
     /// Which changes of the wiring, `most` of them at most, lead to a yes? 0 if the text is no
     /// number.
@@ -73,10 +86,15 @@ pub enum Question<'a> {
         class: Option<&'a str>,
         right: Option<&'a str>,
     },
-    /// The same as a drawing, or the chain of the fact of this text alone.
+    /// The same as a drawing, or the chain of the fact of this text alone. With `task` only what
+    /// this task may hold is drawn, and with `holds` only what tasks may hold.
     Graph {
         fact: Option<&'a str>,
+        task: Option<&'a str>,
+        holds: bool,
     },
+    /// Which slots do messages have, and what does each admit?
+    Slots,
     /// What has to be found in the code of trusted tasks?
     Promises,
     /// What do the calls of the script answer?
@@ -92,6 +110,14 @@ pub enum Command<'a> {
     Case(FileNames<'a>, Question<'a>),
     /// What can be read of MIG files of a system?
     Mig(MigFiles<'a>),
+}
+
+/// What the words ask for.
+#[derive(Drop)]
+pub struct Request<'a> {
+    pub command: Command<'a>,
+    /// Whether the place of a fault is asked for.
+    pub verbose: bool,
 }
 
 /// Which routines may not be left out of MIG files, so that files are written.
@@ -235,6 +261,18 @@ fn files_named<'a>(alloc: Global, matches: &ArgMatches<'a>) -> Result<FileNames<
     })
 }
 
+/// How broken lines are to be printed.
+fn showing_asked(matches: &ArgMatches<'_>) -> Showing
+    ensures { IsShowing (rows matches.now) result }
+{
+    Showing {
+        tree: has_flag(matches, "tree"),
+        brief: has_flag(matches, "brief"),
+        quotes: has_flag(matches, "verbose"),
+        line: number_if_given(matches, "line"),
+    }
+}
+
 fn attack_asked<'a>(matches: &ArgMatches<'_>) -> Question<'a>
     ensures { Asks (codes "attack") (rows matches.now) result }
 {
@@ -270,14 +308,24 @@ fn facts_asked<'a>(matches: &ArgMatches<'a>) -> Question<'a>
     Question::Facts { task, class, right }
 }
 
+fn graph_asked<'a>(matches: &ArgMatches<'a>) -> Question<'a>
+    ensures { Asks (codes "graph") (rows matches.now) result }
+{
+    Question::Graph {
+        fact: value_given(matches, "fact"),
+        task: value_given(matches, "task"),
+        holds: has_flag(matches, "holds"),
+    }
+}
+
 /// The question that the command of this name asks, if it is about the files of a system.
 fn question_asked<'a>(name: &str, matches: &ArgMatches<'a>) -> Option<Question<'a>>
     ensures { IfSome result (Asks name.now (rows matches.now)) }
 {
     match name {
         "verify" => {
-            let tree = has_flag(matches, "tree");
-            Some(Question::Verify { tree })
+            let showing = showing_asked(matches);
+            Some(Question::Verify { showing })
         }
         "mend" => {
             let most = number_given(matches, "most", 10);
@@ -291,10 +339,8 @@ fn question_asked<'a>(name: &str, matches: &ArgMatches<'a>) -> Option<Question<'
         "make" => make_asked(matches),
         "explain" => explain_asked(matches),
         "facts" => Some(facts_asked(matches)),
-        "graph" => {
-            let fact = value_given(matches, "fact");
-            Some(Question::Graph { fact })
-        }
+        "graph" => Some(graph_asked(matches)),
+        "slots" => Some(Question::Slots),
         "promises" => Some(Question::Promises),
         "replay" => Some(Question::Replay),
         "live" => Some(Question::Live),
@@ -366,22 +412,36 @@ fn mig_asked<'a>(alloc: Global, matches: &ArgMatches<'a>) -> Result<MigFiles<'a>
     Ok(MigFiles { defs, out, strict })
 }
 
-fn command_of<'a>(alloc: Global, matches: &ArgMatches<'a>) -> Result<Command<'a>, NoCommand>
-    ensures command { IfOk result (λ command. IsSomeAnd (subcommand_rows_of matches.now)
-        (λ given. IsCommandOf given.0 given.1 command)) }
+/// The command of this name.
+fn command_of<'a>(
+    alloc: Global,
+    name: &str,
+    matches: &ArgMatches<'a>,
+) -> Result<Command<'a>, NoCommand>
+    ensures command { IfOk result (IsCommandOf name.now (rows matches.now)) }
     ensures none { IfErr result (λ none. none ≡ NoCommand.Memory) }
 {
-    let Some((name, matches)) = matches.subcommand() else {
-        return Err(NoCommand::Memory);
-    };
     if name == "mig" {
         return Ok(Command::Mig(mig_asked(alloc, matches)?));
     }
     case_asked(alloc, name, matches)
 }
 
+fn request_of<'a>(alloc: Global, matches: &ArgMatches<'a>) -> Result<Request<'a>, NoCommand>
+    ensures request { IfOk result (λ request. IsSomeAnd (subcommand_rows_of matches.now)
+        (λ given. IsRequestOf given.0 given.1 request)) }
+    ensures none { IfErr result (λ none. none ≡ NoCommand.Memory) }
+{
+    let Some((name, matches)) = matches.subcommand() else {
+        return Err(NoCommand::Memory);
+    };
+    let verbose = has_flag(matches, "verbose");
+    let command = command_of(alloc, name, matches)?;
+    Ok(Request { command, verbose })
+}
+
 /// Reads the words of a command line, the program's own name first.
-pub fn read(alloc: Global, words: &[String]) -> Result<Command<'_>, NoCommand>
+pub fn read(alloc: Global, words: &[String]) -> Result<Request<'_>, NoCommand>
     ensures command { IfOk result (Means (map string_bytes words.now)) }
     ensures none { IfErr result (IsNoCommand (map string_bytes words.now)) }
     ensures taken { takes machcheck_app (map string_bytes words.now) ≡ true
@@ -392,5 +452,5 @@ pub fn read(alloc: Global, words: &[String]) -> Result<Command<'_>, NoCommand>
         Ok(matches) => matches,
         Err(error) => return Err(clap_text(alloc, error)),
     };
-    command_of(alloc, &matches)
+    request_of(alloc, &matches)
 }

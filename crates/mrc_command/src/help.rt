@@ -2,13 +2,16 @@
 
 pub(crate) const PROGRAM_HELP: &str = "Exit status of each command:
   0  YES was printed, or changes that lead to it, a certificate was made, a chain, facts, a
-     drawing or promises were printed, a script was replayed or run by threads, MIG files were
-     cut, or help or the version was printed
+     drawing, slots or promises were printed, a script was replayed or run by threads, MIG files
+     were cut, or help or the version was printed
   1  NO was printed, with a reason, or REAL, with calls, or none: if no chain leads to a fact,
      or if no change was found that leads to YES
   2  a fault was told on standard error: a file can't be read or has no meaning,
      the command line is wrong, the output was not taken, or memory ran out; or nothing is
      left of MIG files
+
+With --verbose a fault is followed by its place: the line of the file with a mark below the word,
+and what may help to mend it. If standard error is a terminal, this is always so.
 
 `machcheck check --help`, and the same of the other commands, tells of the files. Read on
 in README.md, which starts with a worked example, and in docs/ARCHITECTURE.md.";
@@ -20,6 +23,7 @@ pub(crate) const CHECK_HELP: &str = "Files, as README.md describes them:
   a certificate has who may come to hold what. It is not trusted.
 
 --verbose says on standard error what to do where the certificate is not of this wiring.
+It also shows where a fault is, and what may help to mend it.
 
 With YES a line on standard error names the tasks that the wiring trusts, if there are any:
 `machcheck: FILE: trusted: TASK, TASK`. `machcheck promises` prints what they must keep to.
@@ -125,7 +129,12 @@ fact comes about, a line for each step: its number from 0, the rule, what it con
 numbers of the steps that it follows from, and where it comes from in the files: `by line N` of
 the wiring, `by SUBSYSTEM.ROUTINE.ARGUMENT (SUBSYSTEM.TYPE)`, `by SUBSYSTEM` for the reply right
 of a request, `by task:U` for the task whose kernel port is held. --tree prints the steps from
-the fact down instead, each above those that it follows from.
+the fact down instead, each above those that it follows from. --brief prints no steps.
+
+With --line N only line N of the policy is printed, if it is broken. --verbose prints the text of
+line N below each NO, as `  # TEXT`. This is always so if standard output is a terminal. With
+--brief, or with these texts, a first line may name a fact that the steps to K of the N broken
+lines have in common: `# K of N lines by: FACT`.
 
 With YES a line on standard error names the tasks that the wiring trusts, if there are any:
 `machcheck: FILE: trusted: TASK, TASK`. `machcheck promises` prints what they must keep to.
@@ -135,7 +144,8 @@ Exit status:
   1  NO: a trusted task that another could rewrite, and each line that is broken, with the
      steps that lead there
   2  a fault on standard error, as `machcheck: FILE: FAULT`: a file can't be read or has
-     no meaning, the command line is wrong, the output was not taken, or memory ran out
+     no meaning, --line is not a number from 1 to 4294967295 (BadLine) or that line is not
+     broken (NotBroken), the command line is wrong, the output was not taken, or memory ran out
 
 Read on in README.md, and in docs/ARCHITECTURE.md.";
 
@@ -226,15 +236,32 @@ The facts of the certificate are drawn, or those of the least certificate of the
 none is named: tasks, classes of ports, who may hold what, and what may be carried where. The
 drawing is printed in the language of graphviz: `machcheck graph .. | dot -Tsvg` makes a
 picture of it. What is held at first is solid, what comes about is dashed, and what the policy
-forbids is red. With --fact the steps alone are drawn that lead to the fact.
+forbids is red. With --fact the steps alone are drawn that lead to the fact. With --task only
+what this task may hold is drawn, and with --holds only what tasks may hold.
 
 Exit status:
   0  the drawing was printed
   1  `NO counts` was printed, where the certificate is not of this wiring, or `none`, where
      no chain leads to the fact
   2  a fault on standard error, as `machcheck: FILE: FAULT`: a file can't be read or has
-     no meaning, the text of the fact names none of the wiring (BadFact), the command line is
-     wrong, the output was not taken, or memory ran out
+     no meaning, the text of the fact names none of the wiring (BadFact), --task names none of
+     it (BadTask), the command line is wrong, the output was not taken, or memory ran out
+
+Read on in README.md, and in docs/ARCHITECTURE.md.";
+
+pub(crate) const SLOTS_HELP: &str = "Files, as README.md describes them:
+  MIG files have the messages of the interfaces that the wiring names,
+  a wiring has the tasks and ports, what they accept, and the rights that are held at first.
+
+A slot is an argument of a message that carries a port right. Each slot of the MIG files is
+printed as `SUBSYSTEM.ROUTINE.ARGUMENT (SUBSYSTEM.TYPE): CLASS, CLASS`, in the order of the files,
+of ids and of arguments. The classes are those that the `admit` lines of the type name: only their
+ports pass. `any` is printed if no line names the type, and `none` if its lines name no class.
+
+Exit status:
+  0  the slots were printed
+  2  a fault on standard error, as `machcheck: FILE: FAULT`: a file can't be read or has
+     no meaning, the command line is wrong, the output was not taken, or memory ran out
 
 Read on in README.md, and in docs/ARCHITECTURE.md.";
 

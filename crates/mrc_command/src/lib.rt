@@ -8,7 +8,9 @@ mod surface;
 mod told;
 mod words;
 
-pub use command::{Command, FileNames, MigFiles, NoCommand, Question, Strictness, read};
+pub use command::{
+    Command, FileNames, MigFiles, NoCommand, Question, Request, Showing, Strictness, read,
+};
 pub use surface::clap_command;
 pub use told::{Told, fault_of, memory, names_are_shown_safely, push_shown, said, shown};
 pub use words::{WordsFault, words_line, words_of};

@@ -1,21 +1,25 @@
 //! The commands and their options, as `clap` reads them.
 
-ghost use Rattle.std.specs.Prelude.{◌≡◌, codes, false, IfOk};
+ghost use Rattle.std.specs.Prelude.{◌≡◌, ◌∷◌, [], codes, false, IfOk};
 ghost use Rattle.clap.specs.Words.{app_of, rule_of, with_rule, with_subcommand};
 ghost use Rattle.mrc_command.specs.CommandLine.{file_rule, free_rule, flag_rule, defs_rule};
-ghost use Rattle.mrc_command.specs.CommandLine.{given_defs_rule, workers_rule, HasNoGlobals};
-ghost use Rattle.mrc_command.specs.CommandLine.{wiring_app, policy_app, facts_of_app, verify_app};
-ghost use Rattle.mrc_command.specs.CommandLine.{mend_app, attack_app, check_app, make_app};
-ghost use Rattle.mrc_command.specs.CommandLine.{explain_app, facts_app, graph_app, promises_app};
+ghost use Rattle.mrc_command.specs.CommandLine.{given_defs_rule, workers_rule, verbose_rule};
+ghost use Rattle.mrc_command.specs.CommandLine.{HasNoGlobals, with_rules, with_last, wiring_app};
+ghost use Rattle.mrc_command.specs.CommandLine.{policy_app, facts_of_app, verify_app, mend_app};
+ghost use Rattle.mrc_command.specs.CommandLine.{attack_app, check_app, make_app, explain_app};
+ghost use Rattle.mrc_command.specs.CommandLine.{facts_app, graph_app, slots_app, promises_app};
 ghost use Rattle.mrc_command.specs.CommandLine.{replay_app, live_app, mig_app, bare_app};
 ghost use Rattle.mrc_command.specs.CommandLine.{answer_app, fact_app, machcheck_app};
 
 use crate::help::{
     ATTACK_HELP, CHECK_HELP, EXPLAIN_HELP, FACTS_HELP, GRAPH_HELP, LIVE_HELP, MAKE_HELP, MEND_HELP,
-    MIG_HELP, PROGRAM_HELP, PROMISES_HELP, REPLAY_HELP, VERIFY_HELP,
+    MIG_HELP, PROGRAM_HELP, PROMISES_HELP, REPLAY_HELP, SLOTS_HELP, VERIFY_HELP,
 };
 use clap::{Arg, ArgAction, value_parser};
 use std::alloc::{AllocError, Global};
+
+/// The help of `--verbose`, if it means no more.
+const VERBOSE: &str = "Shows where a fault is, and what may help to mend it";
 
 /// An option that has to be given, with one value.
 fn value_option<'a>(alloc: Global, name: &'a str, value: &'a str, help: &'a str) -> Arg<'a>
@@ -58,6 +62,14 @@ fn flag<'a>(alloc: Global, name: &'a str, help: &'a str) -> Arg<'a>
         .long(name)
         .help(help)
         .action(ArgAction::SetTrue)
+}
+
+/// Whether the place of a fault is shown.
+fn verbose_flag<'a>(alloc: Global, help: &'a str) -> Arg<'a>
+    ensures rule { rule_of result ≡ verbose_rule }
+    ensures local { result.global ≡ false }
+{
+    flag(alloc, "verbose", help)
 }
 
 fn workers_option<'a>(alloc: Global) -> Arg<'a>
@@ -104,6 +116,21 @@ fn with<'a>(command: clap::Command<'a>, option: Arg<'a>) -> Result<clap::Command
     ensures local { IfOk result HasNoGlobals }
 {
     command.arg(option)
+}
+
+/// The command with what is last of each that is about the files of a system. This is the help of
+/// `--verbose`.
+fn with_last<'a>(
+    alloc: Global,
+    command: clap::Command<'a>,
+    help: &'a str,
+) -> Result<clap::Command<'a>, AllocError>
+    requires local { HasNoGlobals command }
+    ensures app { IfOk result (λ made. app_of made ≡ with_last (app_of command.entry)) }
+    ensures local { IfOk result HasNoGlobals }
+{
+    let command = with(command, verbose_flag(alloc, help))?;
+    with(command, defs_arguments(alloc))
 }
 
 /// A command of this name for which a wiring has to be named.
@@ -185,7 +212,16 @@ fn verify_command<'a>(alloc: Global) -> Result<clap::Command<'a>, AllocError>
     let command = policy_command(alloc, "verify", about, VERIFY_HELP)?;
     let tree = flag(alloc, "tree", "Prints the steps from the fact down");
     let command = with(command, tree)?;
-    with(command, defs_arguments(alloc))
+    let brief = flag(
+        alloc,
+        "brief",
+        "Prints the broken lines without their steps",
+    );
+    let command = with(command, brief)?;
+    let line = free_option(alloc, "line", "N", "Only this line of the policy");
+    let command = with(command, line)?;
+    let help = "Prints the text of each broken line too, and shows where a fault is";
+    with_last(alloc, command, help)
 }
 
 fn mend_command<'a>(alloc: Global) -> Result<clap::Command<'a>, AllocError>
@@ -201,7 +237,7 @@ fn mend_command<'a>(alloc: Global) -> Result<clap::Command<'a>, AllocError>
         "How many mends are printed, 1 to 1000000: 10 if it is not given",
     );
     let command = with(command, most)?;
-    with(command, defs_arguments(alloc))
+    with_last(alloc, command, VERBOSE)
 }
 
 fn attack_command<'a>(alloc: Global) -> Result<clap::Command<'a>, AllocError>
@@ -224,7 +260,7 @@ fn attack_command<'a>(alloc: Global) -> Result<clap::Command<'a>, AllocError>
         "How many states are looked at for a line, 1 to 1000000: 1000 if it is not given",
     );
     let command = with(command, most)?;
-    with(command, defs_arguments(alloc))
+    with_last(alloc, command, VERBOSE)
 }
 
 fn check_command<'a>(alloc: Global) -> Result<clap::Command<'a>, AllocError>
@@ -234,13 +270,8 @@ fn check_command<'a>(alloc: Global) -> Result<clap::Command<'a>, AllocError>
     let about = "Says whether a certificate shows that no forbidden right can be obtained";
     let command = policy_command(alloc, "check", about, CHECK_HELP)?;
     let command = with(command, certificate_option(alloc))?;
-    let verbose = flag(
-        alloc,
-        "verbose",
-        "Says what to do with a certificate of another wiring",
-    );
-    let command = with(command, verbose)?;
-    with(command, defs_arguments(alloc))
+    let help = "Says what to do with a certificate of another wiring, and shows where a fault is";
+    with_last(alloc, command, help)
 }
 
 fn make_command<'a>(alloc: Global) -> Result<clap::Command<'a>, AllocError>
@@ -252,7 +283,7 @@ fn make_command<'a>(alloc: Global) -> Result<clap::Command<'a>, AllocError>
     let out = file_option(alloc, "out", "The certificate that is written");
     let command = with(command, out)?;
     let command = with(command, workers_option(alloc))?;
-    with(command, defs_arguments(alloc))
+    with_last(alloc, command, VERBOSE)
 }
 
 fn explain_command<'a>(alloc: Global) -> Result<clap::Command<'a>, AllocError>
@@ -265,7 +296,7 @@ fn explain_command<'a>(alloc: Global) -> Result<clap::Command<'a>, AllocError>
     let command = with(command, fact)?;
     let by = flag(alloc, "by", "Tells where the steps come from in the files");
     let command = with(command, by)?;
-    with(command, defs_arguments(alloc))
+    with_last(alloc, command, VERBOSE)
 }
 
 fn facts_command<'a>(alloc: Global) -> Result<clap::Command<'a>, AllocError>
@@ -280,7 +311,32 @@ fn facts_command<'a>(alloc: Global) -> Result<clap::Command<'a>, AllocError>
     let command = with(command, class)?;
     let right = free_option(alloc, "right", "RIGHT", "Facts of this right alone");
     let command = with(command, right)?;
-    with(command, defs_arguments(alloc))
+    with_last(alloc, command, VERBOSE)
+}
+
+/// The command with the options that drop facts from a drawing.
+fn with_filters<'a>(
+    alloc: Global,
+    command: clap::Command<'a>,
+) -> Result<clap::Command<'a>, AllocError>
+    requires local { HasNoGlobals command }
+    ensures app { IfOk result (λ made. app_of made ≡ with_rules (app_of command.entry)
+        (free_rule (codes "task") ∷ flag_rule (codes "holds") ∷ [])) }
+    ensures local { IfOk result HasNoGlobals }
+{
+    let task = free_option(
+        alloc,
+        "task",
+        "TASK",
+        "Draws the holdings of this task alone",
+    );
+    let command = with(command, task)?;
+    let holds = flag(
+        alloc,
+        "holds",
+        "Draws holdings alone, and not what is carried where",
+    );
+    with(command, holds)
 }
 
 fn graph_command<'a>(alloc: Global) -> Result<clap::Command<'a>, AllocError>
@@ -298,7 +354,17 @@ fn graph_command<'a>(alloc: Global) -> Result<clap::Command<'a>, AllocError>
     let command = with(command, policy)?;
     let fact = free_option(alloc, "fact", "FACT", "Draws the steps to this fact alone");
     let command = with(command, fact)?;
-    with(command, defs_arguments(alloc))
+    let command = with_filters(alloc, command)?;
+    with_last(alloc, command, VERBOSE)
+}
+
+fn slots_command<'a>(alloc: Global) -> Result<clap::Command<'a>, AllocError>
+    ensures app { IfOk result (λ command. app_of command ≡ slots_app) }
+    ensures local { IfOk result HasNoGlobals }
+{
+    let about = "Lists the slots of the messages, and which ports each admits";
+    let command = wiring_command(alloc, "slots", about, SLOTS_HELP)?;
+    with_last(alloc, command, VERBOSE)
 }
 
 fn promises_command<'a>(alloc: Global) -> Result<clap::Command<'a>, AllocError>
@@ -307,7 +373,7 @@ fn promises_command<'a>(alloc: Global) -> Result<clap::Command<'a>, AllocError>
 {
     let about = "Prints what has to be found in the code of trusted tasks";
     let command = wiring_command(alloc, "promises", about, PROMISES_HELP)?;
-    with(command, defs_arguments(alloc))
+    with_last(alloc, command, VERBOSE)
 }
 
 fn replay_command<'a>(alloc: Global) -> Result<clap::Command<'a>, AllocError>
@@ -317,7 +383,7 @@ fn replay_command<'a>(alloc: Global) -> Result<clap::Command<'a>, AllocError>
     let about = "Runs a script of calls, and prints the reply to each";
     let command = wiring_command(alloc, "replay", about, REPLAY_HELP)?;
     let command = with(command, script_option(alloc))?;
-    with(command, defs_arguments(alloc))
+    with_last(alloc, command, VERBOSE)
 }
 
 fn live_command<'a>(alloc: Global) -> Result<clap::Command<'a>, AllocError>
@@ -328,7 +394,21 @@ fn live_command<'a>(alloc: Global) -> Result<clap::Command<'a>, AllocError>
     let command = policy_command(alloc, "live", about, LIVE_HELP)?;
     let command = with(command, certificate_option(alloc))?;
     let command = with(command, script_option(alloc))?;
-    with(command, defs_arguments(alloc))
+    with_last(alloc, command, VERBOSE)
+}
+
+/// The command with what is last of `mig`.
+fn with_given<'a>(
+    alloc: Global,
+    command: clap::Command<'a>,
+) -> Result<clap::Command<'a>, AllocError>
+    requires local { HasNoGlobals command }
+    ensures app { IfOk result (λ made.
+        app_of made ≡ with_rules (app_of command.entry) (verbose_rule ∷ given_defs_rule ∷ [])) }
+    ensures local { IfOk result HasNoGlobals }
+{
+    let command = with(command, verbose_flag(alloc, VERBOSE))?;
+    with(command, given_defs(alloc))
 }
 
 fn mig_command<'a>(alloc: Global) -> Result<clap::Command<'a>, AllocError>
@@ -357,7 +437,7 @@ fn mig_command<'a>(alloc: Global) -> Result<clap::Command<'a>, AllocError>
         "The same as --strict=rights: writes nothing if one that carries rights is left out",
     );
     let command = with(command, strict_rights)?;
-    with(command, given_defs(alloc))
+    with_given(alloc, command)
 }
 
 /// The program with one more command.
@@ -410,7 +490,8 @@ fn fact_commands<'a>(alloc: Global) -> Result<clap::Command<'a>, AllocError>
 pub(crate) fn whole_command<'a>(alloc: Global) -> Result<clap::Command<'a>, AllocError>
     ensures { IfOk result (λ program. app_of program ≡ machcheck_app) }
 {
-    let program = with_command(fact_commands(alloc)?, promises_command(alloc)?)?;
+    let program = with_command(fact_commands(alloc)?, slots_command(alloc)?)?;
+    let program = with_command(program, promises_command(alloc)?)?;
     let program = with_command(program, replay_command(alloc)?)?;
     let program = with_command(program, live_command(alloc)?)?;
     with_command(program, mig_command(alloc)?)

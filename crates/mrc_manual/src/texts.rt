@@ -1,7 +1,7 @@
 //! What the man page says in words of its own.
 
 /// The day on which its words were last changed.
-pub const DAY: &str = "2026-11-27";
+pub const DAY: &str = "2026-11-28";
 
 pub const NAME: &str = "decide whether a task of a Mach 3 system can ever obtain a forbidden right";
 

@@ -22,6 +22,6 @@ returns-in-Err-clause-taken c taken =
     (subst (λ (a : App). takes a words ≡ true) (sym c.in_ok-command.ensures) taken))
 
 pub returns-clause-command : goal.returns-clause-command
-returns-clause-command c = IfOk-weaker c.command_of.result _ _
-    (λ command is. meaning _ _ _ command c.in_ok-command.ensures c.in-Ok.ensures.matches is)
-    c.command_of.ensures.command
+returns-clause-command c = IfOk-weaker c.request_of.result _ _
+    (λ request is. meaning _ _ _ request c.in_ok-command.ensures c.in-Ok.ensures.matches is)
+    c.request_of.ensures.request
