@@ -1,15 +1,12 @@
 -- Lists that grow by one at their end.
 use Rattle.std.proofs.Common.{◌≡◌, ℕ, zero, suc, ◌+◌, ◌<◌, ◌≤◌, List, [], ◌∷◌, ◌++◌, length, take}
 use Rattle.std.proofs.Common.{refl, sym, ap, ◌∙◌, add-zero, append_assoc, get_or, arith}
-use Rattle.std.specs.Prelude.{flat_map, codes, if◌then◌else◌}
+use Rattle.std.specs.Prelude.{flat_map, ◌==◌, if◌then◌else◌}
 use Rattle.std.specs.List.{range_with_len, join_by}
 use Rattle.std.proofs.lemmas.Grind.{flat_map-append}
 use Rattle.std.proofs.lemmas.List.{take_more, take_all, length-take-le}
 use Rattle.std.proofs.Math.Dec.{eqb-suc-zero}
-use Rattle.mrc_wiring.specs.Table.{Table}
-use Rattle.mrc_words.specs.Words.{task_word}
 use Rattle.mrc_draw.specs.Pictures.{below}
-use Rattle.mrc_draw.specs.Drawings.{name_piece}
 
 pub no_more : {X : Type 0} (xs : List X) → xs ++ [] ≡ xs
 no_more [] = refl
@@ -79,31 +76,32 @@ text_ends f n m text is low high end =
     let same : n ≡ m = omega (arith, low, high) in
     is ∙ ap (λ x. flat_map f (below x)) (same ∙ end)
 
--- the names of one more task
-pub names_more : (table : Table) (tasks : List ℕ) (i : ℕ) → i < length tasks
+-- words with a gap between each two, and one more of them
+pub joined_more : (word : ℕ → List ℕ) (gap : List ℕ) (xs : List ℕ) (i : ℕ) → i < length xs
     → (text piece grown : List ℕ)
-    → text ≡ join_by (task_word table) (codes "\\n") (take i tasks)
-    → piece ≡ name_piece table i (get_or tasks i 0)
+    → text ≡ join_by word gap (take i xs)
+    → piece ≡ (if i == 0 then word (get_or xs i 0) else gap ++ word (get_or xs i 0))
     → grown ≡ text ++ piece
-    → grown ≡ join_by (task_word table) (codes "\\n") (take (i + 1) tasks)
-names_more table tasks i low text piece grown so_far is told =
-    let t = get_or tasks i 0 in
-    let names = join_by (task_word table) (codes "\\n") in
-    let enough = length-take-le i tasks (omega (arith, low)) in
-    let long : length (take i tasks) ≡ i = omega (arith, enough) in
+    → grown ≡ join_by word gap (take (i + 1) xs)
+joined_more word gap xs i low text piece grown so_far is told =
+    let t = get_or xs i 0 in
+    let enough = length-take-le i xs (omega (arith, low)) in
+    let long : length (take i xs) ≡ i = omega (arith, enough) in
     told ∙ (ap (λ w. w ++ piece) so_far
-    ∙ (ap (λ w. names (take i tasks) ++ w) (is ∙ ap (λ n. name_piece table n t) (sym long))
-    ∙ (joined t (take i tasks) ∙ ap names (sym (take_more tasks i 0 low)))))
+    ∙ (ap (λ w. join_by word gap (take i xs) ++ w) (is ∙ ap (λ n. piece_of n t) (sym long))
+    ∙ (joined t (take i xs) ∙ ap (join_by word gap) (sym (take_more xs i 0 low)))))
   where
+    piece_of : ℕ → ℕ → List ℕ
+    piece_of n t = if n == 0 then word t else gap ++ word t
+
     joined : (t : ℕ) (ts : List ℕ)
-        → join_by (task_word table) (codes "\\n") ts ++ name_piece table (length ts) t
-        ≡ join_by (task_word table) (codes "\\n") (ts ++ t ∷ [])
-    joined t [] = sym (no_more (task_word table t))
+        → join_by word gap ts ++ piece_of (length ts) t ≡ join_by word gap (ts ++ t ∷ [])
+    joined t [] = sym (no_more (word t))
     joined t (u ∷ ts) =
-        let behind : ℕ → List ℕ = λ v. codes "\\n" ++ task_word table v in
-        let last : name_piece table (length (u ∷ ts)) t ≡ behind t =
-        ap (λ b. if b then task_word table t else behind t) (eqb-suc-zero (length ts)) in
-        ap (λ w. (task_word table u ++ flat_map behind ts) ++ w) last
-        ∙ (append_assoc (task_word table u) (flat_map behind ts) (behind t)
-        ∙ ap (λ w. task_word table u ++ w) (ap (λ w. flat_map behind ts ++ w)
+        let behind : ℕ → List ℕ = λ v. gap ++ word v in
+        let last : piece_of (length (u ∷ ts)) t ≡ behind t =
+        ap (λ b. if b then word t else behind t) (eqb-suc-zero (length ts)) in
+        ap (λ w. (word u ++ flat_map behind ts) ++ w) last
+        ∙ (append_assoc (word u) (flat_map behind ts) (behind t)
+        ∙ ap (λ w. word u ++ w) (ap (λ w. flat_map behind ts ++ w)
         (sym (no_more (behind t))) ∙ sym (flat_map-append behind ts (t ∷ []))))

@@ -1,5 +1,6 @@
 -- Which facts are asked for, and how they are told: a line for each. This profile's own choice.
-use Rattle.std.specs.Prelude.{ℕ, ◌==◌, Bool, true, false, ◌&&◌, ◌||◌, List, [], ◌++◌, codes, filter}
+use Rattle.std.specs.Prelude.{ℕ, ◌==◌, Bool, true, false, not, ◌&&◌, ◌||◌, List, [], ◌++◌}
+use Rattle.std.specs.Prelude.{codes, filter}
 use Rattle.std.specs.Prelude.{if◌then◌else◌, flat_map, Option, Some, None, Result, Ok, Err}
 use Rattle.mrc_base.specs.declared.PortRight.{PortRight}
 use Rattle.mrc_base.specs.declared.Fact.{Fact}
@@ -43,6 +44,16 @@ matches_right (Some q) (Backup c d) = false
 abbrev pub matches : Filter → Fact → Bool
 matches asked f =
     matches_task asked.task f && (matches_class asked.class f && matches_right asked.right f)
+
+-- the fact is a hold
+abbrev pub is_hold : Fact → Bool
+is_hold (Hold t c r) = true
+is_hold (Carry d c r) = false
+is_hold (Backup c d) = false
+
+-- the fact is drawn: it is one of those that are asked for, and a hold if only holds are drawn
+abbrev pub is_drawn : Filter → Bool → Fact → Bool
+is_drawn asked holds f = (not holds || is_hold f) && matches asked f
 
 -- the line of a fact
 abbrev pub fact_line : Table → Fact → List ℕ

@@ -3,3 +3,5 @@ pub mod Pictures
 pub mod Dot
 pub mod Laws
 pub mod Drawings
+pub mod SlotLines
+pub mod Restricting

@@ -143,7 +143,7 @@ fn matches_right(asked: Option<PortRight>, fact: &Fact) -> bool
 }
 
 /// Whether the fact is one of those that are asked for.
-fn matches(asked: &Filter, fact: &Fact) -> bool
+pub(crate) fn matches(asked: &Filter, fact: &Fact) -> bool
     ensures { result ≡ matches asked.now fact.now }
 {
     matches_task(asked.task, fact)

@@ -1,16 +1,20 @@
 //! Facts as lists and as drawings: those of a set that are asked for, a line for each, and all of
-//! them as a text of graphviz's language DOT.
+//! them as a text of graphviz's language DOT; and the slots of MIG files, a line for each.
 #![tactic(auto)]
 
+mod choosing;
 mod dot;
 mod drawing;
 mod filter;
 pub mod laws;
 mod nodes;
 mod sets;
+mod slots;
 #[cfg(test)]
 mod tests;
 
+pub use choosing::drawn_facts;
 pub use dot::graph_text;
 pub use filter::{Filter, FilterFault, facts_text, filter_of};
 pub use sets::set_of;
+pub use slots::slots_text;
