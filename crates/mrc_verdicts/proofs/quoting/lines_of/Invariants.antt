@@ -1,0 +1,10 @@
+-- the lines so far, and those of the rest
+use Rattle.std.proofs.Common.{◌≡◌, ◌++◌, map, length}
+use Rattle.mrc_wiring_text.specs.Lexis.{lines}
+use Rattle.mrc_verdicts.proofs.quoting.lines_of.Given as goal
+
+abbrev pub invariant-loop-rest : goal.invariant-loop-rest
+invariant-loop-rest l = map (λ line. line.now) l.found.items ++ lines l.rest ≡ lines l.text
+
+abbrev pub decreases-loop-rest : goal.decreases-loop-rest
+decreases-loop-rest l = length l.rest

@@ -1,0 +1,5 @@
+pub mod Counts
+pub mod Shared
+pub mod Quotes
+pub mod Verdicts
+pub mod Worked
