@@ -4,14 +4,17 @@
 
 use mrc_command::words_of;
 use mrc_files::Disk;
-use mrc_program::start;
+use mrc_program::{Watched, start};
 use std::io::IsTerminal;
 use std::process::ExitCode;
 
 fn main(rt: HostRuntime) -> ExitCode {
     let mut out = rt.stdout();
     let mut err = rt.stderr();
-    let watched = err.is_terminal();
+    let watched = Watched {
+        out: out.is_terminal(),
+        err: err.is_terminal(),
+    };
     let status = start(
         &rt,
         &mut Disk(&rt),

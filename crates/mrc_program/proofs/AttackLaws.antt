@@ -13,8 +13,8 @@ use Rattle.mrc_command.specs.declared.told.Told.{Told}
 use Rattle.mrc_program.specs.Files.{Files}
 use Rattle.mrc_program.specs.Texts.{stated}
 use Rattle.mrc_program.specs.Verified.{AreNotices}
-use Rattle.mrc_program.specs.Attacked.{AreFound, IsBrokenAt, ToldAttacks, ToldNotBroken}
-use Rattle.mrc_program.specs.Attacked.{has_number}
+use Rattle.mrc_program.specs.Asked.{IsBrokenAt, has_number}
+use Rattle.mrc_program.specs.Attacked.{AreFound, ToldAttacks, ToldNotBroken}
 use Rattle.mrc_program.proofs.VerifyLaws.{not_both}
 
 -- whether a line of the number is among those that are broken

@@ -20,10 +20,13 @@ unlisted_silent task class right files told fault = elim fault [
   | inr word ↦ word.tells.out
 ]
 
-pub undrawn_silent : (fact : Option (List ℕ)) (files : Files) (told : Told)
-    → ToldNoGraph fact files told
+pub undrawn_silent : (fact task : Option (List ℕ)) (files : Files) (told : Told)
+    → ToldNoGraph fact task files told
     → string_bytes told.out ≡ []
-undrawn_silent fact files told fault = elim fault [
+undrawn_silent fact task files told fault = elim fault [
   | inl text ↦ text.is.out
-  | inr bad ↦ bad_silent fact bad.meant.claim.table told bad.tells
+  | inr bad ↦ elim bad.tells [
+    | inl no_fact ↦ bad_silent fact bad.meant.claim.table told no_fact
+    | inr no_task ↦ no_task.out
+  ]
 ]

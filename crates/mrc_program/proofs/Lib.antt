@@ -1,5 +1,7 @@
 pub mod ToldLaws
 mod RunLaws
+mod BehindLaws
+mod HintExamples
 mod CheckedLaws
 pub mod ScriptLaws
 mod MeaningLaws

@@ -39,7 +39,7 @@ pub allowed_safe : AllowedIsSafe
 allowed_safe files told allowed = safe_texts files.texts allowed.meant allowed.says allowed.yes
 
 pub broken_no : BrokenHasNoYes
-broken_no by files told broken = no_texts files.texts broken.meant broken.says broken.no
+broken_no showing files told broken = no_texts files.texts broken.meant broken.says broken.no
 
 pub unattacked_safe : UnattackedIsSafe
 unattacked_safe line files told none = allowed_safe files told none.allowed

@@ -1,27 +1,27 @@
 -- What is printed of files that have a meaning: notices, a yes, and what is exposed and broken.
-use Rattle.std.proofs.Common.{◌≡◌, ◌⊎◌, ◌∙◌, ◌++◌, ℕ, List, Result, Ok, Err, ap, subst, sym, Bool}
-use Rattle.std.proofs.Common.{Option, inl, inr, string_bytes}
-use Rattle.std.specs.Prelude.{IfOk}
+use Rattle.std.proofs.Common.{◌≡◌, ◌⊎◌, ◌∙◌, ◌++◌, ℕ, List, Result, Ok, Err, ap, subst, sym}
+use Rattle.std.proofs.Common.{Option, inl, true, string_bytes}
+use Rattle.std.specs.Prelude.{IfOk, IfSome}
+use Rattle.std.specs.List.{All}
 use Rattle.mrc_base.specs.declared.Fact.{Fact}
 use Rattle.mrc_base.proofs.Steps.{ok_is}
 use Rattle.mrc_facts.specs.Sets.{has}
 use Rattle.mrc_model.specs.Rules.{IsLeast}
 use Rattle.mrc_forms.specs.Tables.{Table as Interface}
-use Rattle.mrc_wiring_text.specs.declared.reading.Line.{Line}
-use Rattle.mrc_wiring_text.specs.declared.wiring.WiringSays.{WiringSays}
 use Rattle.mrc_wiring.specs.Table.{Table, wiring_of}
 use Rattle.mrc_wiring.specs.Claims.{Claimed}
 use Rattle.mrc_check.specs.Texts.{Stated, stated_of}
-use Rattle.mrc_why.specs.declared.printing.Layout.{Layout}
-use Rattle.mrc_why.specs.Broken.{BrokenLine, ExposedTask, HasYes, HasNoYes}
-use Rattle.mrc_why.specs.Lines.{Numbered, first_numbers}
-use Rattle.mrc_why.specs.Texts.{IsVerdictText}
+use Rattle.mrc_why.specs.Broken.{BrokenLine, AreBroken, IsDerived, HasYes, HasNoYes}
+use Rattle.mrc_why.specs.Broken.{ExposedTask, IsExposedOf, IsReached}
 use Rattle.mrc_why.proofs.Verdicts.{least_one}
 use Rattle.mrc_mend.specs.declared.answers.Answer.{Answer}
 use Rattle.mrc_mend.specs.Judging.{IsNeededOf, IsMend, AreAnswered, AreAtMost}
 use Rattle.mrc_mend.specs.Texts.{mends_text}
+use Rattle.mrc_verdicts.specs.Verdicts.{IsNoText}
 use Rattle.mrc_command.specs.declared.command.FileNames.{FileNames}
+use Rattle.mrc_command.specs.declared.command.Showing.{Showing}
 use Rattle.mrc_command.specs.declared.told.Told.{Told}
+use Rattle.mrc_program.specs.Asked.{IsBrokenAt}
 use Rattle.mrc_program.specs.Checked.{IsYesWith}
 use Rattle.mrc_program.specs.Explained.{numbered_by}
 use Rattle.mrc_program.specs.Files.{Files, given, word_of}
@@ -30,7 +30,8 @@ use Rattle.mrc_program.specs.LeftNotices.{left_notices}
 use Rattle.mrc_program.specs.PolicyNotices.{policy_notices}
 use Rattle.mrc_program.specs.Texts.{stated}
 use Rattle.mrc_program.specs.Told.{ToldMemory}
-use Rattle.mrc_program.specs.Verified.{AreNotices, ToldAllowed, ToldBroken, ToldMends, layout_of}
+use Rattle.mrc_program.specs.Verified.{AreNotices, ToldAllowed, ToldBroken, ToldMends}
+use Rattle.mrc_program.specs.Verified.{manner_of}
 use Rattle.mrc_program.specs.Verified.{mend_status, notes_of}
 
 -- the notices are those of their three parts, the last of which is by the least set
@@ -96,26 +97,54 @@ allowed_told files names meant notices table (Ok told) says has_yes noted named 
     }
 allowed_told files names meant notices table (Err e) says has_yes noted named is printed = tt
 
--- the text of what is exposed and broken, by what it was made of
-pub broken_text : (deep : Bool) (by : Layout) (meant : Stated) (numbered : Numbered)
-    (table : Table) (lines : List (Line WiringSays)) (exposed : Option ExposedTask)
-    (broken : List BrokenLine) (text : List ℕ)
-    → by ≡ layout_of deep
-    → numbered ≡ record { table = table; numbers = first_numbers lines }
-    → table ≡ meant.claim.table
-    → lines ≡ meant.lines
-    → IsVerdictText by numbered exposed broken text
-    → IsVerdictText (layout_of deep) (numbered_by meant.claim.table meant.lines) exposed broken text
-broken_text deep by meant numbered table lines exposed broken text is_layout made is_table are
-    printed =
-    let is : numbered ≡ numbered_by meant.claim.table meant.lines =
-    made ∙ (ap (λ (t : Table). numbered_by t lines) is_table
-    ∙ ap (numbered_by meant.claim.table) are)
-    in
-    subst (λ n. IsVerdictText (layout_of deep) n exposed broken text) is
-    (subst (λ l. IsVerdictText l numbered exposed broken text) is_layout printed)
+-- what is printed of a no is right, of all or of the line that is asked for
+pub broken_so : {E : Type 0} (showing : Showing) (only : Option ℕ) (files : Files)
+    (meant other : Stated) (exposed : Option ExposedTask) (broken : List BrokenLine)
+    (notices : List ℕ) (result : Result Told E)
+    → stated files.texts ≡ Ok meant
+    → meant ≡ other
+    → IsExposedOf meant.claim exposed
+    → IfSome exposed (IsReached meant.claim.table)
+    → AreBroken meant.claim broken
+    → All (IsDerived meant.claim) broken
+    → HasNoYes meant.claim
+    → IfSome showing.line (λ n. IsBrokenAt meant.claim n true)
+    → AreNotices files meant.claim notices
+    → only ≡ showing.line
+    → IfOk result (λ told. IsNoText (manner_of showing files) only
+    (numbered_by other.claim.table other.lines) exposed broken (string_bytes told.out))
+    → IfOk result (λ told. string_bytes told.err ≡ notices)
+    → IfOk result (λ told. told.status ≡ 1 → ToldBroken showing files told)
+broken_so showing only files meant other exposed broken notices (Ok told) says seen first reached
+    are chains none asked noted same out err = λ one. record {
+      meant = meant;
+      says = says;
+      exposed = exposed;
+      first = first;
+      reached = reached;
+      broken = broken;
+      are = are;
+      chains = chains;
+      no = none;
+      asked = asked;
+      out = subst (λ (m : Stated). IsNoText (manner_of showing files) showing.line
+          (numbered_by m.claim.table m.lines) exposed broken (string_bytes told.out)) (sym seen)
+          (subst (λ o. IsNoText (manner_of showing files) o
+          (numbered_by other.claim.table other.lines) exposed broken (string_bytes told.out))
+          same out);
+      err = subst (AreNotices files meant.claim) (sym err) noted;
+    }
+broken_so showing only files meant other exposed broken notices (Err e) says seen first reached
+    are chains none asked noted same out err = tt
 
 -- a claim does not both have a yes and have none
+pub no_both : {A : Type 0} (one other : Stated) → one ≡ other
+    → HasYes other.claim → HasNoYes one.claim → A
+no_both one other same has_yes none =
+    let also : HasYes one.claim = subst (λ (s : Stated). HasYes s.claim) (sym same) has_yes in
+    absurd (none (has also.0) also.1.says also.1.secure)
+
+-- nor do files that mean one
 pub not_both : {A : Type 0} (files : Files) (one other : Stated)
     → stated files.texts ≡ Ok one
     → stated files.texts ≡ Ok other
@@ -123,22 +152,19 @@ pub not_both : {A : Type 0} (files : Files) (one other : Stated)
     → HasNoYes other.claim
     → A
 not_both files one other is also has_yes none =
-    let same : HasYes other.claim =
-    subst (λ (s : Stated). HasYes s.claim) (ok_is one other (sym is ∙ also)) has_yes in
-    absurd (none (has same.0) same.1.says same.1.secure)
+    no_both other one (ok_is other one (sym also ∙ is)) has_yes none
 
--- of texts whose least set is a yes no no is printed
-pub only_yes : {E : Type 0} (by : Bool) (files : Files) (meant : Stated) (result : Result Told E)
+-- of texts whose least set is a yes that is printed
+pub only_yes : {E : Type 0} (files : Files) (meant other : Stated) (result : Result Told E)
     → stated files.texts ≡ Ok meant
+    → stated files.texts ≡ Ok other
     → HasYes meant.claim
-    → IfOk result (λ told. (told.status ≡ 0) ⊎ (told.status ≡ 1))
-    → IfOk result (λ told. told.status ≡ 1 → ToldBroken by files told)
+    → (HasYes other.claim → IfOk result (λ told. told.status ≡ 0))
     → IfOk result (λ told. (told.status ≡ 0) ⊎ ToldMemory told)
-only_yes by files meant (Ok told) says has_yes status broken = elim status [
-  | inl zero ↦ inl zero
-  | inr one ↦ let b = broken one in not_both files meant b.meant says b.says has_yes b.no
-]
-only_yes by files meant (Err e) says has_yes status broken = tt
+only_yes files meant other (Ok told) says also has_yes printed =
+    inl (printed (subst (λ (s : Stated). HasYes s.claim) (ok_is meant other (sym says ∙ also))
+    has_yes))
+only_yes files meant other (Err e) says also has_yes printed = tt
 
 -- mends that are printed are those that were found
 pub mends_told : {E : Type 0} (most : ℕ) (files : Files) (defs : List (List ℕ))

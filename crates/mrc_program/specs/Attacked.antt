@@ -1,22 +1,18 @@
 -- Believe. What the program prints of attacks on a system: for each line of the policy that is
 -- broken, and for a trusted task that another could rewrite, calls that lead there, or that none
 -- were found. This profile's own choice.
-use Rattle.std.specs.Prelude.{◌≡◌, ◌⊎◌, ◌<◌, ◌==◌, Bool, true, false, ℕ, List, ◌++◌, Ok, map}
+use Rattle.std.specs.Prelude.{◌≡◌, ◌⊎◌, ◌<◌, true, false, ℕ, List, ◌++◌, Ok, map}
 use Rattle.std.specs.Prelude.{All, IfSome, Option, Some, None, codes, string_bytes}
-use Rattle.std.specs.List.{list_any}
-use Rattle.mrc_base.specs.declared.Fact.{Fact}
-use Rattle.mrc_model.specs.Rules.{IsLeast}
-use Rattle.mrc_wiring.specs.declared.claim.ForbiddenLine.{ForbiddenLine}
-use Rattle.mrc_wiring.specs.Claims.{Claimed}
-use Rattle.mrc_wiring.specs.Table.{Table, wiring_of}
+use Rattle.mrc_wiring.specs.Table.{Table}
 use Rattle.mrc_check.specs.Texts.{Stated}
-use Rattle.mrc_why.specs.Broken.{BrokenLine, AreBroken, HasNoYes, broken_lines}
+use Rattle.mrc_why.specs.Broken.{BrokenLine, AreBroken, HasNoYes}
 use Rattle.mrc_why.specs.Broken.{ExposedTask, IsExposedOf}
 use Rattle.mrc_leak.specs.declared.attacking.Attack.{Attack}
 use Rattle.mrc_leak.specs.declared.printing.Form.{Form}
 use Rattle.mrc_leak.specs.declared.printing.Form.TheVariants.{Listed, Script}
 use Rattle.mrc_leak.specs.Attacks.{IsAttack, aim_of, aims, attacks_text, cut_text}
 use Rattle.mrc_command.specs.declared.told.Told.{Told}
+use Rattle.mrc_program.specs.Asked.{IsBrokenAt}
 use Rattle.mrc_program.specs.Files.{Files}
 use Rattle.mrc_program.specs.Texts.{stated}
 use Rattle.mrc_program.specs.Told.{ToldWord}
@@ -26,15 +22,6 @@ use Rattle.mrc_program.specs.Verified.{AreNotices, ToldAllowed}
 abbrev pub form_of : Option ℕ → Form
 form_of None = Listed
 form_of (Some line) = Script
-
--- one of the lines has this number
-abbrev pub has_number : List ForbiddenLine → ℕ → Bool
-has_number lines n = list_any (λ line. line.line == n) lines
-
--- whether a line of this number forbids a fact of the least set
-abbrev pub IsBrokenAt : Claimed → ℕ → Bool → Type 0
-IsBrokenAt claim n answer = (set : Fact → Bool) → IsLeast (wiring_of claim.table) set
-    → has_number (broken_lines set claim.lines) n ≡ answer
 
 -- Attacks are printed for what is exposed and broken: for all of it, or for the line that is asked
 -- for. Each script leads to what its line forbids. Lines on standard error, behind these notices,

@@ -1,6 +1,6 @@
 -- What the program prints of a command, by its status: 0 of what was asked for, 1 of a no, 2 of a
--- fault. This profile's own choice.
-use Rattle.std.specs.Prelude.{◌≡◌, ◌⊎◌, List, [], ℕ, Option, false, string_bytes}
+-- fault; and what it is asked for at a terminal. This profile's own choice.
+use Rattle.std.specs.Prelude.{◌⊎◌, List, [], ℕ, Bool, Option, false, ◌||◌, string_bytes}
 use Rattle.std.specs.Io.KnownBytes.{Appends}
 use Rattle.mrc_command.specs.declared.told.Told.{Told}
 use Rattle.mrc_command.specs.declared.command.Command.{Command}
@@ -8,7 +8,8 @@ use Rattle.mrc_command.specs.declared.command.Command.TheVariants.{Case, Mig}
 use Rattle.mrc_command.specs.declared.command.Question.{Question}
 use Rattle.mrc_command.specs.declared.command.Question.TheVariants.{Verify, Mend, Attack, Check}
 use Rattle.mrc_command.specs.declared.command.Question.TheVariants.{Make, Explain, Facts, Graph}
-use Rattle.mrc_command.specs.declared.command.Question.TheVariants.{Promises, Replay, Live}
+use Rattle.mrc_command.specs.declared.command.Question.TheVariants.{Slots, Promises, Replay, Live}
+use Rattle.mrc_command.specs.declared.command.Request.{Request}
 use Rattle.mrc_command.specs.Meaning.{Means}
 use Rattle.mrc_files.specs.Files.{Held}
 use Rattle.mrc_program.specs.Files.{Files, OfFiles, all_names, word_of}
@@ -21,14 +22,15 @@ use Rattle.mrc_program.specs.Made.{ToldMade, ToldUnmade, ToldCut}
 use Rattle.mrc_program.specs.Explained.{ToldChain, ToldNone, ToldBadFact}
 use Rattle.mrc_program.specs.Listed.{ToldFacts, ToldOther, ToldUnlisted}
 use Rattle.mrc_program.specs.Listed.{ToldGraph, ToldUndrawn, ToldNoGraph}
+use Rattle.mrc_program.specs.SlotLines.{ToldSlots}
 use Rattle.mrc_program.specs.Promised.{ToldPromises}
 use Rattle.mrc_program.specs.Played.{scripted, ToldReplay, ToldLive, ToldUnserved, ToldHalted}
 use Rattle.mrc_program.specs.Cutting.{CutsOfFiles, RefusedOfFiles, FaultOfMig}
 
--- with status 0 of files: a yes, mends, the making of a certificate, a chain, facts, a drawing, what
--- has to be found in the code of trusted tasks, a replay, or a journal
+-- with status 0 of files: a yes, mends, the making of a certificate, a chain, facts, a drawing,
+-- slots, what has to be found in the code of trusted tasks, a replay, or a journal
 abbrev pub Done : Held → Question → Files → Told → Type 0
-Done after (Verify tree) files told = ToldAllowed files told
+Done after (Verify showing) files told = ToldAllowed files told
 Done after (Mend most) files told = ToldMends most files told
 Done after (Attack line most) files told = ToldUnattacked line files told
 Done after (Check verbose) files told = ToldYes files told
@@ -36,22 +38,25 @@ Done after (Make out workers) files told = ToldMade out.now after files told
 Done after (Explain fact by) files told = ToldChain fact.now by files told
 Done after (Facts task class right) files told =
     ToldFacts (word_of task) (word_of class) (word_of right) files told
-Done after (Graph fact) files told = ToldGraph (word_of fact) files told
+Done after (Graph fact task holds) files told =
+    ToldGraph (word_of fact) (word_of task) holds files told
+Done after Slots files told = ToldSlots files told
 Done after Promises files told = ToldPromises files told
 Done after Replay files told = ToldReplay files told
 Done after Live files told = ToldLive files told
 
 -- with status 1 of files: a no, attacks, that no chain leads to a fact, or that no mend was found;
--- never of a `make`, a `promises` or a `replay`
+-- never of a `make`, a `slots`, a `promises` or a `replay`
 abbrev pub No : Question → Files → Told → Type 0
-No (Verify tree) files told = ToldBroken tree files told
+No (Verify showing) files told = ToldBroken showing files told
 No (Mend most) files told = ToldMends most files told
 No (Attack line most) files told = ToldAttacks line files told
 No (Check verbose) files told = ToldNo (notices_of files) verbose files told
 No (Make out workers) files told = ⊥
 No (Explain fact by) files told = ToldNone fact.now files told
 No (Facts task class right) files told = ToldOther files told
-No (Graph fact) files told = ToldUndrawn (word_of fact) files told
+No (Graph fact task holds) files told = ToldUndrawn (word_of fact) files told
+No Slots files told = ⊥
 No Promises files told = ⊥
 No Replay files told = ⊥
 No Live files told = ToldNo [] false files told
@@ -59,7 +64,8 @@ No Live files told = ToldNo [] false files told
 -- with status 2 of files that were read, unless memory ran out: a text has no meaning, a word names
 -- nothing, or what was asked for can't be done
 abbrev pub Fault : Question → Files → Told → Type 0
-Fault (Verify tree) files told = ToldFault (stated files.texts) files.names told
+Fault (Verify showing) files told =
+    ToldFault (stated files.texts) files.names told ⊎ ToldNotBroken showing.line files told
 Fault (Mend most) files told = ToldFault (stated files.texts) files.names told
 Fault (Attack line most) files told =
     ToldFault (stated files.texts) files.names told ⊎ ToldNotBroken line files told
@@ -70,21 +76,23 @@ Fault (Explain fact by) files told =
     ToldFault (system files.texts) files.names told ⊎ ToldBadFact fact.now files told
 Fault (Facts task class right) files told =
     ToldUnlisted (word_of task) (word_of class) (word_of right) files told
-Fault (Graph fact) files told = ToldNoGraph (word_of fact) files told
+Fault (Graph fact task holds) files told = ToldNoGraph (word_of fact) (word_of task) files told
+Fault Slots files told = ToldFault (system files.texts) files.names told
 Fault Promises files told = ToldFault (system files.texts) files.names told
 Fault Replay files told = ToldFault (scripted files.texts) files.names told
 Fault Live files told = ToldUnserved files told
 
 -- a word can't be what it is asked to be: that is printed before any file is read
 abbrev pub BadWord : Question → Told → Type 0
-BadWord (Verify tree) told = ⊥
+BadWord (Verify showing) told = ToldLine showing.line told
 BadWord (Mend most) told = ToldMost most told
 BadWord (Attack line most) told = ToldMost most told ⊎ ToldLine line told
 BadWord (Check verbose) told = ⊥
 BadWord (Make out workers) told = ⊥
 BadWord (Explain fact by) told = ⊥
 BadWord (Facts task class right) told = ⊥
-BadWord (Graph fact) told = ⊥
+BadWord (Graph fact task holds) told = ⊥
+BadWord Slots told = ⊥
 BadWord Promises told = ⊥
 BadWord Replay told = ⊥
 BadWord Live told = ⊥
@@ -138,14 +146,28 @@ abbrev pub HasOut : Command → Type 0
 HasOut (Case names question) = Changes question
 HasOut (Mig files) = Unit {0}
 
--- it is printed of the command that the words ask for
-abbrev pub OfWords : List (List ℕ) → (Command → Told → Type 0) → Told → Type 0
-OfWords words Tells told = (command : Command) × Means words command × Tells command told
+-- The question as it is answered if a person looks at standard output (`watched`): then the lines
+-- that are broken are followed by their texts.
+abbrev pub seen_question : Bool → Question → Question
+seen_question watched (Verify showing) =
+    Verify (record showing { quotes = showing.quotes || watched })
+seen_question watched question = question
+
+-- the same of a command
+abbrev pub seen : Bool → Command → Command
+seen watched (Case names question) = Case names (seen_question watched question)
+seen watched (Mig files) = Mig files
+
+-- It is printed of the command that the words ask for, while a person looks at standard output, or
+-- does not.
+abbrev pub OfWords : Bool → List (List ℕ) → (Command → Told → Type 0) → Told → Type 0
+OfWords watched words Tells told =
+    (request : Request) × Means words request × Tells (seen watched request.command) told
 
 -- what the program printed of the command that the words ask for, and that standard output took all
 -- of it: it held `old`, and holds `new`
-pub record WentOut (words : List (List ℕ)) (Tells : Command → Told → Type 0)
+pub record WentOut (watched : Bool) (words : List (List ℕ)) (Tells : Command → Told → Type 0)
     (old new : Option (List ℕ)) : Type 0 where
   pub told : Told
-  pub tells : OfWords words Tells told
+  pub tells : OfWords watched words Tells told
   pub out : Appends old new (string_bytes told.out)

@@ -1,6 +1,7 @@
 pub mod Files
 pub mod Texts
 pub mod Told
+pub mod Hints
 pub mod Checked
 pub mod Made
 pub mod Played
@@ -10,9 +11,12 @@ pub mod PolicyNotices
 pub mod Trusted
 pub mod Explained
 pub mod Listed
+pub mod SlotLines
 pub mod Promised
 pub mod Verified
+pub mod Asked
 pub mod Attacked
 pub mod VerifiedLaws
 pub mod Cutting
 pub mod Commands
+pub mod Behind

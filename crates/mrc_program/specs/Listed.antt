@@ -1,7 +1,7 @@
 -- What the program prints of the facts of a certificate, or of those of the least set: the facts
 -- that are asked for, and a drawing. This profile's own choice.
 use Rattle.std.specs.Prelude.{◌≡◌, ◌⊎◌, ℕ, List, [], Option, Some, None, Result, Ok, Err, codes}
-use Rattle.std.specs.Prelude.{string_bytes, map}
+use Rattle.std.specs.Prelude.{Bool, filter, string_bytes, map}
 use Rattle.mrc_base.specs.declared.Fact.{Fact}
 use Rattle.mrc_base.specs.Reading.{◌>>=◌}
 use Rattle.mrc_model.specs.Rules.{IsLeast}
@@ -19,7 +19,7 @@ use Rattle.mrc_check.specs.Texts.{Meant, Stated, Meaningless, InCertificate, sta
 use Rattle.mrc_draw.specs.declared.filter.Filter.{Filter}
 use Rattle.mrc_draw.specs.declared.filter.FilterFault.{FilterFault}
 use Rattle.mrc_draw.specs.declared.filter.FilterFault.TheVariants.{Task, Class, Right}
-use Rattle.mrc_draw.specs.Filters.{filter_of, facts_text}
+use Rattle.mrc_draw.specs.Filters.{filter_of, facts_text, is_drawn}
 use Rattle.mrc_draw.specs.Pictures.{picture_of}
 use Rattle.mrc_draw.specs.Dot.{graph_text}
 use Rattle.mrc_command.specs.Lines.{fault_line}
@@ -167,12 +167,16 @@ abbrev pub AreDrawn : Table → (certificate fact : Option (List ℕ)) → List 
 AreDrawn table certificate None facts = AreFactsOf table certificate facts
 AreDrawn table certificate (Some text) facts = AreOfChain table text facts
 
--- the drawing of such facts is printed, of a policy with these lines
-pub record IsDrawing (Are : List Fact → Type 0) (table : Table) (lines : List ForbiddenLine)
-    (told : Told) : Type 0 where
+-- Of such facts, those of a task are drawn, if its name is given, and only the holds, if these are
+-- asked for. The drawing is printed, of a policy with these lines.
+pub record IsDrawing (Are : List Fact → Type 0) (task : Option (List ℕ)) (holds : Bool)
+    (table : Table) (lines : List ForbiddenLine) (told : Told) : Type 0 where
+  pub asked : Filter
+  pub by_name : filter_of table task None None ≡ Ok asked
   pub facts : List Fact
   pub are : Are facts
-  pub out : string_bytes told.out ≡ graph_text (picture_of table facts lines)
+  pub out : string_bytes told.out
+      ≡ graph_text (picture_of table (filter (is_drawn asked holds) facts) lines)
   pub err : string_bytes told.err ≡ []
 
 -- with status 1: that the certificate has other numbers, or that no chain leads to the fact
@@ -185,11 +189,17 @@ abbrev pub TellsBadIfGiven : Option (List ℕ) → Table → Told → Type 0
 TellsBadIfGiven None table told = ⊥
 TellsBadIfGiven (Some text) table told = TellsBadFact text table told
 
+-- it is printed that the text that is given names no fact of the wiring, or that the name that is
+-- given is of no task
+abbrev pub TellsBadDrawing : (fact task : Option (List ℕ)) → Table → Told → Type 0
+TellsBadDrawing fact task table told =
+    TellsBadIfGiven fact table told ⊎ TellsBadFilter task None None table told
+
 -- the drawing is printed of what the texts mean
-abbrev pub ToldGraph : Option (List ℕ) → Files → Told → Type 0
-ToldGraph fact files told =
+abbrev pub ToldGraph : (fact task : Option (List ℕ)) → Bool → Files → Told → Type 0
+ToldGraph fact task holds files told =
     OfMeaning (claimed files.texts)
-    (λ stated. IsDrawing (AreDrawn stated.claim.table files.texts.certificate fact)
+    (λ stated. IsDrawing (AreDrawn stated.claim.table files.texts.certificate fact) task holds
     stated.claim.table stated.claim.lines) told
 
 -- that there is nothing to draw
@@ -198,8 +208,9 @@ ToldUndrawn fact files told =
     OfMeaning (claimed files.texts)
     (λ stated. TellsUndrawn files.texts.certificate fact stated.claim.table) told
 
--- why nothing is drawn: a text has no meaning, or the text of the fact names none
-abbrev pub ToldNoGraph : Option (List ℕ) → Files → Told → Type 0
-ToldNoGraph fact files told =
+-- why nothing is drawn: a text has no meaning, the text of the fact names none, or the name of the
+-- task
+abbrev pub ToldNoGraph : (fact task : Option (List ℕ)) → Files → Told → Type 0
+ToldNoGraph fact task files told =
     ToldFault (drawn fact files.texts) files.names told
-    ⊎ OfMeaning (claimed files.texts) (λ stated. TellsBadIfGiven fact stated.claim.table) told
+    ⊎ OfMeaning (claimed files.texts) (λ stated. TellsBadDrawing fact task stated.claim.table) told

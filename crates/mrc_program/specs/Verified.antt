@@ -1,10 +1,12 @@
 -- What the program prints of a wiring and a policy: a yes, or the trusted task that another could
--- rewrite and each line of the policy that is broken, with their chains; and changes after which
--- the answer is a yes. This profile's own choice.
-use Rattle.std.specs.Prelude.{◌≡◌, ◌⊎◌, ◌<◌, Bool, true, false, ℕ, List, [], ◌∷◌, ◌++◌, Ok}
-use Rattle.std.specs.Prelude.{All, IfSome, Option, codes, string_bytes}
+-- rewrite and each line of the policy that is broken, as is asked for; and changes after which the
+-- answer is a yes. This profile's own choice.
+use Rattle.std.specs.Prelude.{◌≡◌, ◌⊎◌, ◌<◌, ◌||◌, Bool, true, false, ℕ, List, [], ◌∷◌, ◌++◌, Ok}
+use Rattle.std.specs.Prelude.{All, IfSome, Option, Some, None, codes, string_bytes}
+use Rattle.std.specs.Prelude.{if◌then◌else◌}
 use Rattle.mrc_base.specs.declared.Fact.{Fact}
 use Rattle.mrc_model.specs.Rules.{IsLeast}
+use Rattle.mrc_wiring_text.specs.Lexis.{lines}
 use Rattle.mrc_wiring.specs.Claims.{Claimed}
 use Rattle.mrc_wiring.specs.Table.{wiring_of}
 use Rattle.mrc_check.specs.Texts.{Stated}
@@ -12,12 +14,15 @@ use Rattle.mrc_why.specs.declared.printing.Layout.{Layout}
 use Rattle.mrc_why.specs.declared.printing.Layout.TheVariants.{Flat, Tree}
 use Rattle.mrc_why.specs.Broken.{BrokenLine, AreBroken, IsDerived, HasYes, HasNoYes}
 use Rattle.mrc_why.specs.Broken.{ExposedTask, IsExposedOf, IsReached}
-use Rattle.mrc_why.specs.Texts.{IsVerdictText}
 use Rattle.mrc_mend.specs.declared.answers.Answer.{Answer}
 use Rattle.mrc_mend.specs.declared.answers.Answer.TheVariants.{Nothing, Found}
 use Rattle.mrc_mend.specs.Judging.{IsNeededOf, IsMend, AreAnswered, AreAtMost}
 use Rattle.mrc_mend.specs.Texts.{mends_text}
+use Rattle.mrc_verdicts.specs.declared.printing.Manner.{Manner}
+use Rattle.mrc_verdicts.specs.Verdicts.{IsNoText}
+use Rattle.mrc_command.specs.declared.command.Showing.{Showing}
 use Rattle.mrc_command.specs.declared.told.Told.{Told}
+use Rattle.mrc_program.specs.Asked.{IsBrokenAt}
 use Rattle.mrc_program.specs.Explained.{numbered_by}
 use Rattle.mrc_program.specs.Files.{Files, given, word_of}
 use Rattle.mrc_program.specs.Notices.{notice}
@@ -31,6 +36,30 @@ use Rattle.mrc_program.specs.Checked.{IsYesWith}
 abbrev pub layout_of : Bool → Layout
 layout_of true = Tree
 layout_of false = Flat
+
+-- they are printed in this layout, unless the answer is to be brief
+abbrev pub chains_of : Showing → Option Layout
+chains_of showing = if showing.brief then None else Some (layout_of showing.tree)
+
+-- the lines of a text, if they are quoted
+abbrev pub quoted_if : Bool → List ℕ → Option (List (List ℕ))
+quoted_if true text = Some (lines text)
+quoted_if false text = None
+
+-- A first line names what most chains have in common if the answer is brief or lines are quoted,
+-- unless one line is asked for.
+abbrev pub names_common : Showing → Option ℕ → Bool
+names_common showing None = showing.brief || showing.quotes
+names_common showing (Some n) = false
+
+-- how a no of these files is printed
+abbrev pub manner_of : Showing → Files → Manner
+manner_of showing files = record {
+  common = names_common showing showing.line;
+  chains = chains_of showing;
+  wiring = quoted_if showing.quotes files.texts.wiring;
+  policy = quoted_if showing.quotes (given files.texts.policy);
+}
 
 -- what goes to standard error of files and their claim, by a set of facts: of routines that carry
 -- rights and are left out of the MIG files, of routines of notifications, and of the policy
@@ -57,9 +86,9 @@ pub record ToldAllowed (files : Files) (told : Told) : Type 0 where
 
 -- A no is printed: the first trusted task that another could rewrite, with a chain that derives the
 -- hold by which it could; the lines that are broken, with chains that derive what they forbid; the
--- lines and slots of the texts from which the steps come; and the notices. No set of facts is a
--- yes.
-pub record ToldBroken (tree : Bool) (files : Files) (told : Told) : Type 0 where
+-- lines and slots of the texts from which the steps come; and the notices. If a line is asked for,
+-- it is broken, and printed alone. No set of facts is a yes.
+pub record ToldBroken (showing : Showing) (files : Files) (told : Told) : Type 0 where
   pub meant : Stated
   pub says : stated files.texts ≡ Ok meant
   pub exposed : Option ExposedTask
@@ -69,8 +98,9 @@ pub record ToldBroken (tree : Bool) (files : Files) (told : Told) : Type 0 where
   pub are : AreBroken meant.claim broken
   pub chains : All (IsDerived meant.claim) broken
   pub no : HasNoYes meant.claim
-  pub out : IsVerdictText (layout_of tree) (numbered_by meant.claim.table meant.lines) exposed
-      broken (string_bytes told.out)
+  pub asked : IfSome showing.line (λ n. IsBrokenAt meant.claim n true)
+  pub out : IsNoText (manner_of showing files) showing.line
+      (numbered_by meant.claim.table meant.lines) exposed broken (string_bytes told.out)
   pub err : AreNotices files meant.claim (string_bytes told.err)
 
 -- Mends.

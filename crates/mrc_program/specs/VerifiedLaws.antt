@@ -5,6 +5,7 @@ use Rattle.mrc_base.specs.declared.Fact.{Fact}
 use Rattle.mrc_wiring.specs.Claims.{Claimed}
 use Rattle.mrc_check.specs.Texts.{MeanClaim}
 use Rattle.mrc_confine.specs.Safety.{IsSafeBy, NoneIsAccepted}
+use Rattle.mrc_command.specs.declared.command.Showing.{Showing}
 use Rattle.mrc_command.specs.declared.told.Told.{Told}
 use Rattle.mrc_program.specs.Files.{Files, Texts, given}
 use Rattle.mrc_program.specs.Verified.{ToldAllowed, ToldBroken}
@@ -29,7 +30,8 @@ AllowedIsSafe = (files : Files) (told : Told) → ToldAllowed files told → Are
 -- if it prints what is exposed and broken, no certificate is accepted for the texts
 abbrev pub BrokenHasNoYes : Type 0
 BrokenHasNoYes =
-    (tree : Bool) (files : Files) (told : Told) → ToldBroken tree files told → HaveNoYes files.texts
+    (showing : Showing) (files : Files) (told : Told) → ToldBroken showing files told
+    → HaveNoYes files.texts
 
 -- if `attack` prints `YES`, the texts are safe
 abbrev pub UnattackedIsSafe : Type 0

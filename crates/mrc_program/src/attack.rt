@@ -7,7 +7,8 @@ ghost use Rattle.mrc_why.specs.Broken.{HasYes, line_of};
 ghost use Rattle.mrc_program.specs.Texts as texts;
 ghost use Rattle.mrc_program.specs.Told.{ToldMemory, ToldFault};
 ghost use Rattle.mrc_program.specs.Verified.{IsBadMost, ToldMost};
-ghost use Rattle.mrc_program.specs.Attacked.{form_of, has_number, AreFound, IsBadLine};
+ghost use Rattle.mrc_program.specs.Asked.{has_number};
+ghost use Rattle.mrc_program.specs.Attacked.{form_of, AreFound, IsBadLine};
 ghost use Rattle.mrc_program.specs.Attacked.{ToldUnattacked, ToldAttacks, ToldNotBroken, ToldLine};
 
 use crate::files::Files;
@@ -46,6 +47,20 @@ fn is_bad_line(line: Option<usize>) -> bool
     }
 }
 
+/// What is printed if no line can have the number that is asked for.
+pub fn line_told(alloc: Global, line: Option<usize>) -> Result<Option<Told>, AllocError>
+    ensures status { IfOk result (λ bad. IfSome bad (λ told. told.status ≡ 2)) }
+    ensures silent { IfOk result (λ bad. IfSome bad (λ told. string_bytes told.out ≡ [])) }
+    ensures bad { IfOk result (λ bad. IfSome bad (ToldLine line)) }
+    // No line has the number 0, or one above 4,294,967,295.
+    ensures line { IsBadLine line → IfOk result (λ bad. IsSomeAnd bad (ToldLine line)) }
+{
+    if is_bad_line(line) {
+        return Ok(Some(fault_of(alloc, "--line", "BadLine")?));
+    }
+    Ok(None)
+}
+
 /// What is printed if such numbers can't be asked for: of states first, and then of a line.
 pub fn bounds_told(
     alloc: Global,
@@ -65,14 +80,11 @@ pub fn bounds_told(
     if let Some(told) = most_told(alloc, most)? {
         return Ok(Some(told));
     }
-    if is_bad_line(line) {
-        return Ok(Some(fault_of(alloc, "--line", "BadLine")?));
-    }
-    Ok(None)
+    line_told(alloc, line)
 }
 
 /// The number, if one of the lines has it.
-fn number_in(broken: &[Broken], number: usize) -> Option<u32>
+pub fn number_in(broken: &[Broken], number: usize) -> Option<u32>
     ensures own { IfSome result (λ own. own ≡ number) }
     ensures some { IfSome result (λ _. has_number (map line_of broken.now) number ≡ true) }
     ensures none { result ≡ None → has_number (map line_of broken.now) number ≡ false }

@@ -16,7 +16,7 @@ use mrc_wiring::Wired;
 use std::alloc::{AllocError, Global};
 
 /// The option whose word names nothing.
-fn filter_told(alloc: Global, fault: FilterFault) -> Result<Told, AllocError>
+pub fn filter_told(alloc: Global, fault: FilterFault) -> Result<Told, AllocError>
     ensures status { IfOk result (λ told. told.status ≡ 2) }
     ensures out { IfOk result (λ told. string_bytes told.out ≡ []) }
     ensures err { IfOk result (λ told. string_bytes told.err ≡ filter_line fault) }

@@ -1,50 +1,56 @@
 //! What the program draws of the facts of a certificate, of those of the least set, or of a chain.
 
-ghost use Rattle.std.specs.Prelude.{◌≡◌, ◌≤◌, ◌⊎◌, [], None, IfOk, IfSome, IfNone, map};
-ghost use Rattle.std.specs.Prelude.{string_bytes};
+ghost use Rattle.std.specs.Prelude.{◌≡◌, ◌≤◌, ◌⊎◌, [], Some, None, IfOk, IfSome, IfNone, map};
+ghost use Rattle.std.specs.Prelude.{filter, string_bytes};
 ghost use Rattle.std.specs.Option.{option_map};
 ghost use Rattle.mrc_closure.specs.Chains.{IsChain};
 ghost use Rattle.mrc_closure.specs.declared.chains.Step.{Step};
 ghost use Rattle.mrc_check.specs.Texts.{meaningless};
 ghost use Rattle.mrc_draw.specs.Dot.{graph_text};
+ghost use Rattle.mrc_draw.specs.Filters.{is_drawn};
 ghost use Rattle.mrc_draw.specs.Pictures.{picture_of};
 ghost use Rattle.mrc_interface.specs.Reading.{GivesAs};
 ghost use Rattle.mrc_model.specs.Rules.{Least};
-ghost use Rattle.mrc_program.specs.Explained.{TellsNone, TellsBadFact};
+ghost use Rattle.mrc_program.specs.Explained.{TellsNone};
 ghost use Rattle.mrc_program.specs.Files.{word_of};
 ghost use Rattle.mrc_program.specs.Listed.{claim_given, claimed, draft_given, draft_drawn};
 ghost use Rattle.mrc_program.specs.Listed.{AreFactsOf, TellsOther, IsOfChain, AreOfChain, AreDrawn};
-ghost use Rattle.mrc_program.specs.Listed.{IsDrawing, TellsUndrawn, TellsBadIfGiven, ToldGraph};
-ghost use Rattle.mrc_program.specs.Listed.{ToldUndrawn, ToldNoGraph};
+ghost use Rattle.mrc_program.specs.Listed.{IsDrawing, TellsUndrawn, TellsBadFilter};
+ghost use Rattle.mrc_program.specs.Listed.{TellsBadDrawing, ToldGraph, ToldUndrawn, ToldNoGraph};
 ghost use Rattle.mrc_program.specs.Told.{ToldMemory, ToldFault};
 ghost use Rattle.mrc_wiring.specs.Table.{wiring_of};
 
+use crate::facts::filter_told;
 use crate::files::{Files, Texts};
 use crate::given::{facts_given, other_told};
 use crate::told::refused;
 use mrc_base::{Fact, OrMemory};
 use mrc_check::{CaseFault, PolicyFault, Stated, System};
 use mrc_command::{Told, fault_of, said};
-use mrc_draw::{graph_text, set_of};
+use mrc_draw::{Filter, drawn_facts, filter_of, graph_text, set_of};
 use mrc_rows::Facts;
 use mrc_why::{Derivations, Step};
 use mrc_wiring::{Claim, ForbiddenLine, Wired};
 use mrc_words::fact_named;
 use std::alloc::{AllocError, Global};
 
-/// The drawing of these facts, of a policy with these lines.
+/// The drawing of those of the facts that are asked for, or of the holds among them, of a policy
+/// with these lines.
 fn drawn(
     alloc: Global,
     wired: &Wired,
     facts: &Facts,
+    asked: &Filter,
+    holds: bool,
     lines: &[ForbiddenLine],
 ) -> Result<Told, AllocError>
     ensures status { IfOk result (λ told. told.status ≡ 0) }
-    ensures out { IfOk result (λ told.
-        string_bytes told.out ≡ graph_text (picture_of wired.now facts.now lines.now)) }
+    ensures out { IfOk result (λ told. string_bytes told.out ≡ graph_text
+        (picture_of wired.now (filter (is_drawn asked.now holds) facts.now) lines.now)) }
     ensures err { IfOk result (λ told. string_bytes told.err ≡ []) }
 {
-    let text = graph_text(alloc, wired, facts, lines)?;
+    let facts = drawn_facts(alloc, facts, asked, holds)?;
+    let text = graph_text(alloc, wired, &facts, lines)?;
     Ok(said(alloc, text, 0))
 }
 
@@ -81,25 +87,33 @@ fn chain_facts(alloc: Global, wired: &Wired, fact: Fact) -> Result<Option<Facts>
     }
 }
 
-/// What is printed of the text of a fact: the drawing of a chain, or that there is none.
+/// What is printed of the text of a fact: the drawing of a chain, or that there is none; or that
+/// the text names no fact, or the name of a task that is given no task.
 fn chain_drawn(
     alloc: Global,
     wired: &Wired,
     text: &str,
+    task: Option<&str>,
+    holds: bool,
     lines: &[ForbiddenLine],
 ) -> Result<Told, AllocError>
     ensures status { IfOk result (λ told. told.status ≤ 2) }
     ensures done { IfOk result (λ told. told.status ≡ 0
-        → IsDrawing (AreOfChain wired.now text.now) wired.now lines.now told) }
+        → IsDrawing (AreOfChain wired.now text.now) (word_of task.entry) holds wired.now lines.now
+        told) }
     ensures no { IfOk result (λ told. told.status ≡ 1 → TellsNone text.now wired.now told) }
-    ensures fault { IfOk result (λ told. told.status ≡ 2 → TellsBadFact text.now wired.now told) }
+    ensures fault { IfOk result (λ told. told.status ≡ 2
+        → TellsBadDrawing (Some text.now) (word_of task.entry) wired.now told) }
 {
     let Some(fact) = fact_named(wired, text) else {
         return fault_of(alloc, "--fact", "BadFact");
     };
-    match chain_facts(alloc, wired, fact)? {
-        Some(facts) => drawn(alloc, wired, &facts, lines),
-        None => Ok(said(alloc, String::from_str(alloc, "none\n")?, 1)),
+    match filter_of(wired, task, None, None) {
+        Ok(asked) => match chain_facts(alloc, wired, fact)? {
+            Some(facts) => drawn(alloc, wired, &facts, &asked, holds, lines),
+            None => Ok(said(alloc, String::from_str(alloc, "none\n")?, 1)),
+        },
+        Err(fault) => filter_told(alloc, fault),
     }
 }
 
@@ -107,20 +121,29 @@ fn chain_drawn(
 fn facts_drawn(
     alloc: Global,
     files: &Files<'_>,
+    task: Option<&str>,
+    holds: bool,
     wired: &Wired,
     lines: &[ForbiddenLine],
 ) -> Result<Told, AllocError>
     ensures status { IfOk result (λ told. told.status ≤ 2) }
     ensures done { IfOk result (λ told. told.status ≡ 0
-        → IsDrawing (AreFactsOf wired.now files.now.texts.certificate) wired.now lines.now told) }
+        → IsDrawing (AreFactsOf wired.now files.now.texts.certificate) (word_of task.entry) holds
+        wired.now lines.now told) }
     ensures no { IfOk result (λ told. told.status ≡ 1
         → TellsOther files.now.texts.certificate wired.now told) }
     ensures fault { IfOk result (λ told. told.status ≡ 2 → ToldMemory told
-        ⊎ ToldFault (draft_given files.now.texts.certificate) files.now.names told) }
+        ⊎ (ToldFault (draft_given files.now.texts.certificate) files.now.names told
+        ⊎ TellsBadFilter (word_of task.entry) None None wired.now told)) }
 {
     match facts_given(alloc, wired, &files.texts) {
-        Ok(Some(facts)) => drawn(alloc, wired, &facts, lines),
-        Ok(None) => other_told(alloc),
+        Ok(facts) => match filter_of(wired, task, None, None) {
+            Ok(asked) => match facts {
+                Some(facts) => drawn(alloc, wired, &facts, &asked, holds, lines),
+                None => other_told(alloc),
+            },
+            Err(fault) => filter_told(alloc, fault),
+        },
         Err(refusal) => refused(alloc, &files.names, &refusal),
     }
 }
@@ -130,23 +153,25 @@ fn drawing_told(
     alloc: Global,
     files: &Files<'_>,
     fact: Option<&str>,
+    task: Option<&str>,
+    holds: bool,
     wired: &Wired,
     lines: &[ForbiddenLine],
 ) -> Result<Told, AllocError>
     ensures status { IfOk result (λ told. told.status ≤ 2) }
     ensures done { IfOk result (λ told. told.status ≡ 0
         → IsDrawing (AreDrawn wired.now files.now.texts.certificate (word_of fact.entry))
-        wired.now lines.now told) }
+        (word_of task.entry) holds wired.now lines.now told) }
     ensures no { IfOk result (λ told. told.status ≡ 1
         → TellsUndrawn files.now.texts.certificate (word_of fact.entry) wired.now told) }
     ensures fault { IfOk result (λ told. told.status ≡ 2 → ToldMemory told
         ⊎ (ToldFault (draft_drawn (word_of fact.entry) files.now.texts.certificate)
         files.now.names told
-        ⊎ TellsBadIfGiven (word_of fact.entry) wired.now told)) }
+        ⊎ TellsBadDrawing (word_of fact.entry) (word_of task.entry) wired.now told)) }
 {
     match fact {
-        Some(text) => chain_drawn(alloc, wired, text, lines),
-        None => facts_drawn(alloc, files, wired, lines),
+        Some(text) => chain_drawn(alloc, wired, text, task, holds, lines),
+        None => facts_drawn(alloc, files, task, holds, wired, lines),
     }
 }
 
@@ -190,22 +215,38 @@ fn claimed(alloc: Global, texts: &Texts) -> Result<Stated, OrMemory<CaseFault>>
     claim_given(alloc, &texts.policy, system)
 }
 
-/// The drawing of facts, or of the chain of a fact that is given.
-pub fn graph_told(alloc: Global, files: &Files<'_>, fact: Option<&str>) -> Result<Told, AllocError>
+/// The drawing of facts, or of the chain of a fact that is given: of the holds of a task, if its
+/// name is given, and of holds alone, if these are asked for.
+pub fn graph_told(
+    alloc: Global,
+    files: &Files<'_>,
+    fact: Option<&str>,
+    task: Option<&str>,
+    holds: bool,
+) -> Result<Told, AllocError>
     ensures status { IfOk result (λ told. told.status ≤ 2) }
     // The drawing is one of what the texts mean.
     ensures done { IfOk result (λ told. told.status ≡ 0
-        → ToldGraph (word_of fact.entry) files.now told) }
+        → ToldGraph (word_of fact.entry) (word_of task.entry) holds files.now told) }
     ensures no { IfOk result (λ told. told.status ≡ 1
         → ToldUndrawn (word_of fact.entry) files.now told) }
-    // A fault is one of the first text that has no meaning, or of the fact, unless memory ran out.
+    // A fault is one of the first text that has no meaning, of the fact or of the task, unless
+    // memory ran out.
     ensures fault { IfOk result (λ told. told.status ≡ 2
-        → ToldMemory told ⊎ ToldNoGraph (word_of fact.entry) files.now told) }
+        → ToldMemory told ⊎ ToldNoGraph (word_of fact.entry) (word_of task.entry) files.now told) }
 {
     match claimed(alloc, &files.texts) {
         Ok(stated) => {
             let claim = &stated.claim;
-            drawing_told(alloc, files, fact, claim.wired(), claim.lines())
+            drawing_told(
+                alloc,
+                files,
+                fact,
+                task,
+                holds,
+                claim.wired(),
+                claim.lines(),
+            )
         }
         Err(refusal) => refused(alloc, &files.names, &refusal),
     }

@@ -3,6 +3,7 @@
 #![tactic(auto)]
 
 mod attack;
+mod behind;
 mod check;
 mod cuts;
 mod explain;
@@ -10,18 +11,22 @@ mod facts;
 mod files;
 mod given;
 mod graph;
+mod hints;
 mod left_notices;
 mod live;
 mod make;
+mod meaning;
 mod mend;
 mod mig;
 mod notices;
+mod places;
 mod policy_notices;
 mod progress;
 mod promises;
 mod replay;
 pub mod run;
 mod script;
+mod slots;
 mod tell;
 mod told;
 mod trusted;
@@ -31,4 +36,4 @@ mod writing;
 
 pub use files::{Files, Texts};
 pub use live::live_told;
-pub use run::start;
+pub use run::{Watched, start};

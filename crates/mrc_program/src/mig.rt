@@ -2,13 +2,15 @@
 
 ghost use Rattle.std.specs.Prelude.{◌≡◌, ◌⊎◌, ℕ, List, [], Some, IfOk, IsOkAnd, length, map};
 ghost use Rattle.std.specs.Prelude.{string_bytes};
-ghost use Rattle.mrc_program.specs.Told.{ToldMemory, IsFaultOf};
+ghost use Rattle.mrc_command.specs.declared.command.Command.{Command};
+ghost use Rattle.mrc_program.specs.Behind.{IsBehind};
+ghost use Rattle.mrc_program.specs.Told.{ToldMemory};
 ghost use Rattle.mrc_program.specs.Cutting.{mig_names, same_name, CutsWritten, CutsLess};
 ghost use Rattle.mrc_program.specs.Cutting.{CutsRefused, OfCuts, ToldNoCuts, ToldSameName};
 ghost use Rattle.mrc_program.specs.Cutting.{CutsOfFiles, RefusedOfFiles, FaultOfMig};
 
-use crate::cuts::{NamedCut, Uncut, are_written, cuts_of, cuts_text, same_name};
-use crate::told::unread_told;
+use crate::behind::{uncut_helped, unread_helped};
+use crate::cuts::{NamedCut, are_written, cuts_of, cuts_text, same_name};
 use crate::writing::{make_room, writings_of, writings_told};
 use mrc_base::OrMemory;
 use mrc_command::{MigFiles, Told, fault_of, memory};
@@ -27,8 +29,8 @@ fn cuts_told<F: Folder>(
         → CutsWritten files.now (F.held folder.old) (F.held folder.new) cuts.now told) }
     ensures fault { IfOk result (λ told. told.status ≡ 2 → CutsLess files.now cuts.now told
         ⊎ CutsRefused files.now (F.held folder.old) (F.held folder.new) cuts.now told) }
-    // A file is changed where all are told to be cut, or that the writing of one was refused, and
-    // nowhere else.
+    // A file is changed if it is printed that all are cut, or that the writing of one was refused,
+    // and in no other case.
     ensures kept { IsOkAnd result (λ told. told.status ≡ 0)
         ⊎ (IsOkAnd result
         (CutsRefused files.now (F.held folder.old) (F.held folder.new) cuts.now)
@@ -47,72 +49,75 @@ fn cuts_told<F: Folder>(
     Ok(writings_told(folder, alloc, writings.as_slice(), text))
 }
 
-/// A text that can't be cut, by its file.
-fn uncut_told(alloc: Global, uncut: &Uncut<'_>) -> Result<Told, AllocError>
-    ensures status { IfOk result (λ told. told.status ≡ 2) }
-    ensures out { IfOk result (λ told. string_bytes told.out ≡ []) }
-    ensures err { IfOk result (λ told. IsFaultOf uncut.now.file.now (string_bytes told.err)) }
-{
-    let text = uncut.fault.to_string(alloc)?;
-    fault_of(alloc, uncut.file, text.as_str())
-}
-
-/// What is told of the bytes of MIG files.
+/// What is printed of the bytes of MIG files, and behind it what helps with one that can't be cut,
+/// if that is shown (`shows`).
 fn mig_told<F: Folder>(
     folder: &mut F,
     alloc: Global,
     files: &MigFiles<'_>,
     texts: &[Vec<u8>],
+    shows: bool,
+    behind: &mut String,
 ) -> Result<Told, AllocError>
-    requires { length (mig_names files.now) ≡ length texts.now }
+    requires count { length (mig_names files.now) ≡ length texts.now }
+    requires empty { string_bytes behind.old ≡ [] }
     ensures status { IfOk result (λ told. (told.status ≡ 0) ⊎ (told.status ≡ 2)) }
     ensures cuts { IfOk result (λ told. told.status ≡ 0
         → OfCuts (CutsWritten files.now (F.held folder.old) (F.held folder.new)) files.now
         (map (λ text. text.items) texts.now) told) }
     ensures fault { IfOk result (λ told. told.status ≡ 2 → ToldMemory told
         ⊎ ToldNoCuts files.now (F.held folder.old) (map (λ text. text.items) texts.now) told) }
-    // A file is changed where all are told to be cut, or that the writing of one was refused, and
-    // nowhere else.
+    // A file is changed if it is printed that all are cut, or that the writing of one was refused,
+    // and in no other case.
     ensures kept { IsOkAnd result (λ told. told.status ≡ 0)
         ⊎ (IsOkAnd result
         (OfCuts (CutsRefused files.now (F.held folder.old) (F.held folder.new)) files.now
         (map (λ text. text.items) texts.now))
         ⊎ (F.held folder.new ≡ F.held folder.old)) }
+    ensures behind { IfOk result (IsBehind shows (F.held folder.old) (Command.Mig files.now)
+        (string_bytes behind.new)) }
 {
     match cuts_of(alloc, files.defs.as_slice(), texts) {
         Ok(cuts) => cuts_told(folder, alloc, files, cuts.as_slice()),
-        Err(OrMemory::Fault(uncut)) => uncut_told(alloc, &uncut),
+        Err(OrMemory::Fault(uncut)) => {
+            uncut_helped(alloc, files.defs.as_slice(), texts, &uncut, shows, behind)
+        }
         Err(OrMemory::Memory) => memory(alloc),
     }
 }
 
-/// What is told of the files of a `mig`. Want of memory before the first file is written changes no
-/// file.
+/// What is printed of the files of a `mig`, and behind it what helps with one that can't be read or
+/// cut, if that is shown (`shows`). Out of memory before the first file is written changes no file.
 pub fn mig_files<F: Folder>(
     folder: &mut F,
     alloc: Global,
     files: &MigFiles<'_>,
+    shows: bool,
+    behind: &mut String,
 ) -> Result<Told, AllocError>
+    requires empty { string_bytes behind.old ≡ [] }
     ensures status { IfOk result (λ told. (told.status ≡ 0) ⊎ (told.status ≡ 2)) }
-    // What is told is right of what the files held, so far as that is known.
+    // What is printed is right of what the files held, so far as that is known.
     ensures cuts { IfOk result (λ told. told.status ≡ 0
         → CutsOfFiles (F.held folder.old) (F.held folder.new) files.now told) }
     ensures fault { IfOk result (λ told. told.status ≡ 2
         → FaultOfMig (F.held folder.old) files.now told) }
-    // Two files of one name are told, whatever they hold.
+    // That two files have one name is printed, whatever they hold.
     ensures same { (file : List ℕ) → same_name (mig_names files.now) ≡ Some file
         → IfOk result (ToldSameName files.now) }
-    // A file is changed where all are told to be cut, or that the writing of one was refused, and
-    // nowhere else.
+    // A file is changed if it is printed that all are cut, or that the writing of one was refused,
+    // and in no other case.
     ensures kept { IsOkAnd result (λ told. told.status ≡ 0)
         ⊎ (IsOkAnd result (RefusedOfFiles (F.held folder.old) (F.held folder.new) files.now)
         ⊎ (F.held folder.new ≡ F.held folder.old)) }
+    ensures behind { IfOk result (IsBehind shows (F.held folder.old) (Command.Mig files.now)
+        (string_bytes behind.new)) }
 {
     if let Some(file) = same_name(files.defs.as_slice()) {
         return fault_of(alloc, file, "SameName");
     }
     match bytes_of_all(folder, alloc, files.defs.as_slice()) {
-        Ok(texts) => mig_told(folder, alloc, files, texts.as_slice()),
-        Err(unread) => unread_told(alloc, &unread),
+        Ok(texts) => mig_told(folder, alloc, files, texts.as_slice(), shows, behind),
+        Err(unread) => unread_helped(alloc, &unread, shows, behind),
     }
 }

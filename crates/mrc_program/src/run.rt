@@ -1,16 +1,18 @@
 //! The program from its words to its status.
 
-ghost use Rattle.std.specs.Prelude.{◌≡◌, ◌≢◌, ◌≤◌, ◌⊎◌, [], IfOk, IfErr, IfSome, IsOkAnd, map};
-ghost use Rattle.std.specs.Prelude.{string_bytes};
+ghost use Rattle.std.specs.Prelude.{◌≡◌, ◌≢◌, ◌≤◌, ◌⊎◌, [], ◌++◌, ◌||◌, IfOk, IfErr, IfSome, map};
+ghost use Rattle.std.specs.Prelude.{IsOkAnd, string_bytes};
 ghost use Rattle.std.specs.Io.KnownBytes.{Appends};
 ghost use Rattle.mrc_command.specs.CommandLine.{AsksHelp};
+ghost use Rattle.mrc_program.specs.Behind.{IsBehind, IsBehindWords};
 ghost use Rattle.mrc_program.specs.Files.{OfFiles, all_names};
 ghost use Rattle.mrc_program.specs.Told.{ToldMemory, ToldUnread};
 ghost use Rattle.mrc_program.specs.Commands.{Done, No, Fault, BadWord, Cut, Changes, HasOut};
 ghost use Rattle.mrc_program.specs.Commands.{DoneOf, NoOf, FaultOf, CutOf, HaltedOf, OfWords};
-ghost use Rattle.mrc_program.specs.Commands.{WentOut};
+ghost use Rattle.mrc_program.specs.Commands.{WentOut, seen, seen_question};
 
-use crate::attack::{attack_told, bounds_told};
+use crate::attack::{attack_told, bounds_told, line_told};
+use crate::behind::{files_behind, unread_helped};
 use crate::check::check_told;
 use crate::explain::explain_told;
 use crate::facts::facts_told;
@@ -23,10 +25,10 @@ use crate::mig::mig_files;
 use crate::progress::Counter;
 use crate::promises::promises_told;
 use crate::replay::replay_told;
-use crate::told::unread_told;
+use crate::slots::slots_told;
 use crate::verify::verify_told;
 use mrc_command::{
-    Command, FileNames, NoCommand, Question, Told, WordsFault, memory, read, words_line,
+    Command, FileNames, NoCommand, Question, Showing, Told, WordsFault, memory, read, words_line,
 };
 use mrc_files::{Folder, write_text};
 use std::alloc::{AllocError, Global};
@@ -34,12 +36,22 @@ use std::io::Write;
 use std::sync::Wait;
 use std::thread::Threads;
 
+/// Which outputs a person looks at: those that are terminals.
+#[derive(Clone, Copy)]
+pub struct Watched {
+    /// Standard output.
+    pub out: bool,
+    /// Standard error.
+    pub err: bool,
+}
+
 /// What is printed of a word that can't be what it is asked to be.
 fn word_told(alloc: Global, question: Question<'_>) -> Result<Option<Told>, AllocError>
     ensures status { IfOk result (λ told. IfSome told (λ t. t.status ≡ 2)) }
     ensures bad { IfOk result (λ told. IfSome told (BadWord question.entry)) }
 {
     match question {
+        Question::Verify { showing } => line_told(alloc, showing.line),
         Question::Mend { most } => most_told(alloc, most),
         Question::Attack { line, most } => bounds_told(alloc, line, most),
         _ => Ok(None),
@@ -66,30 +78,35 @@ fn question_told<F: Folder, R: Threads + Wait + Sync, P: mrc_mend::Progress + mr
         ⊎ (F.held folder.new ≡ F.held folder.old)) }
 {
     match question {
-        Question::Verify { tree } => verify_told(alloc, files, tree),
+        Question::Verify { showing } => verify_told(alloc, files, showing),
         Question::Mend { most } => mend_told(alloc, files, most, progress),
         Question::Attack { line, most } => attack_told(alloc, files, line, most, progress),
         Question::Check { verbose } => check_told(rt, alloc, files, verbose),
         Question::Make { out, workers } => make_told(rt, folder, alloc, files, out, workers),
         Question::Explain { fact, by } => explain_told(alloc, files, fact, by),
         Question::Facts { task, class, right } => facts_told(alloc, files, task, class, right),
-        Question::Graph { fact } => graph_told(alloc, files, fact),
+        Question::Graph { fact, task, holds } => graph_told(alloc, files, fact, task, holds),
+        Question::Slots => slots_told(alloc, files),
         Question::Promises => promises_told(alloc, files),
         Question::Replay => replay_told(alloc, files),
         Question::Live => live_told(rt, alloc, files, EVENTS),
     }
 }
 
-/// What is printed of a question. All files are read before any is judged, and a word that can't be
-/// what it is asked to be comes before them.
+/// What is printed of a question, and behind it what helps with a fault, if that is shown
+/// (`shows`). All files are read before any is judged, and a word that can't be what it is asked to
+/// be comes before them.
 fn case_told<F: Folder, R: Threads + Wait + Sync, P: mrc_mend::Progress + mrc_attack::Progress>(
     rt: &R,
     folder: &mut F,
     alloc: Global,
     names: FileNames<'_>,
     question: Question<'_>,
+    shows: bool,
+    behind: &mut String,
     progress: &mut P,
 ) -> Result<Told, AllocError>
+    requires empty { string_bytes behind.old ≡ [] }
     ensures status { IfOk result (λ told. told.status ≤ 2) }
     ensures done { IfOk result (λ told. told.status ≡ 0
         → OfFiles (Done (F.held folder.new) question.entry) (F.held folder.old) names.entry told) }
@@ -100,8 +117,11 @@ fn case_told<F: Folder, R: Threads + Wait + Sync, P: mrc_mend::Progress + mrc_at
         ⊎ (ToldUnread (F.held folder.old) (all_names names.entry) told
         ⊎ OfFiles (Fault question.entry) (F.held folder.old) names.entry told))) }
     ensures kept { IsOkAnd result (λ told. (told.status ≡ 0) × Changes question.entry)
-        ⊎ (IsOkAnd result (OfFiles (Cut (F.held folder.new) question.entry) (F.held folder.old) names.entry)
+        ⊎ (IsOkAnd result (OfFiles (Cut (F.held folder.new) question.entry) (F.held folder.old)
+        names.entry)
         ⊎ (F.held folder.new ≡ F.held folder.old)) }
+    ensures behind { IfOk result (IsBehind shows (F.held folder.old)
+        (Command.Case names.entry question.entry) (string_bytes behind.new)) }
 {
     if let Some(told) = word_told(alloc, question)? {
         return Ok(told);
@@ -109,24 +129,31 @@ fn case_told<F: Folder, R: Threads + Wait + Sync, P: mrc_mend::Progress + mrc_at
     match texts_of(folder, alloc, &names) {
         Ok(texts) => {
             let files = Files { names, texts };
-            question_told(rt, folder, alloc, &files, question, progress)
+            let told = question_told(rt, folder, alloc, &files, question, progress)?;
+            *behind = files_behind(alloc, shows, &files, question, &told);
+            Ok(told)
         }
-        Err(unread) => unread_told(alloc, &unread),
+        Err(unread) => unread_helped(alloc, &unread, shows, behind),
     }
 }
 
-/// What is printed of a command. It is right of what the files held, so far as that is known.
+/// What is printed of a command, and behind it what helps with a fault, if that is shown. It is
+/// right of what the files held, so far as that is known.
 fn answer<F: Folder, R: Threads + Wait + Sync, P: mrc_mend::Progress + mrc_attack::Progress>(
     rt: &R,
     folder: &mut F,
     alloc: Global,
     command: Command<'_>,
+    shows: bool,
+    behind: &mut String,
     progress: &mut P,
 ) -> Result<Told, AllocError>
+    requires empty { string_bytes behind.old ≡ [] }
     ensures status { IfOk result (λ told. told.status ≤ 2) }
     ensures done { IfOk result (λ told. told.status ≡ 0
         → DoneOf (F.held folder.old) (F.held folder.new) command.entry told) }
-    ensures no { IfOk result (λ told. told.status ≡ 1 → NoOf (F.held folder.old) command.entry told) }
+    ensures no { IfOk result (λ told. told.status ≡ 1
+        → NoOf (F.held folder.old) command.entry told) }
     ensures fault { IfOk result (λ told. told.status ≡ 2
         → FaultOf (F.held folder.old) command.entry told) }
     // A file is changed only if a certificate is made, or the file took so many of its bytes and
@@ -134,51 +161,119 @@ fn answer<F: Folder, R: Threads + Wait + Sync, P: mrc_mend::Progress + mrc_attac
     ensures kept { IsOkAnd result (λ told. (told.status ≡ 0) × HasOut command.entry)
         ⊎ (IsOkAnd result (CutOf (F.held folder.old) (F.held folder.new) command.entry)
         ⊎ (F.held folder.new ≡ F.held folder.old)) }
+    ensures behind { IfOk result (IsBehind shows (F.held folder.old) command.entry
+        (string_bytes behind.new)) }
 {
     match command {
         Command::Case(names, question) => {
-            case_told(rt, folder, alloc, names, question, progress)
+            case_told(rt, folder, alloc, names, question, shows, behind, progress)
         }
-        Command::Mig(files) => mig_files(folder, alloc, &files),
+        Command::Mig(files) => mig_files(folder, alloc, &files, shows, behind),
     }
 }
 
-/// What is printed for the words of a command line.
+/// The question as it is answered: if a person looks at standard output, the lines that are broken
+/// are followed by their texts.
+fn seen_question(watched: bool, question: Question<'_>) -> Question<'_>
+    ensures { result ≡ seen_question watched question.entry }
+{
+    match question {
+        Question::Verify { showing } => Question::Verify {
+            showing: Showing {
+                quotes: showing.quotes || watched,
+                ..showing
+            },
+        },
+        question => question,
+    }
+}
+
+/// The same of a command.
+fn seen(watched: bool, command: Command<'_>) -> Command<'_>
+    ensures { result ≡ seen watched command.entry }
+{
+    match command {
+        Command::Case(names, question) => Command::Case(names, seen_question(watched, question)),
+        Command::Mig(files) => Command::Mig(files),
+    }
+}
+
+/// Whether what helps with a fault is shown: if it is asked for, or a person looks at standard
+/// error.
+fn is_shown(verbose: bool, watched: bool) -> bool
+    ensures { result ≡ (verbose || watched) }
+{
+    verbose || watched
+}
+
+/// What is printed for the words of a command line, and behind it what helps with a fault, if the
+/// words ask for it or a person looks at standard error.
 fn told<F: Folder, R: Threads + Wait + Sync, P: mrc_mend::Progress + mrc_attack::Progress>(
     rt: &R,
     folder: &mut F,
     alloc: Global,
     words: &[String],
+    watched: Watched,
+    behind: &mut String,
     progress: &mut P,
 ) -> Result<Told, AllocError>
+    requires empty { string_bytes behind.old ≡ [] }
     ensures status { IfOk result (λ told. told.status ≤ 2) }
     // Status 0 is that of what the words ask for, unless they ask for help or the version.
     ensures yes { IfOk result (λ told. told.status ≡ 0
-        → OfWords (map string_bytes words.now) (DoneOf (F.held folder.old) (F.held folder.new)) told
+        → OfWords watched.out (map string_bytes words.now)
+        (DoneOf (F.held folder.old) (F.held folder.new)) told
         ⊎ AsksHelp (map string_bytes words.now)) }
     ensures no { IfOk result (λ told. told.status ≡ 1
-        → OfWords (map string_bytes words.now) (NoOf (F.held folder.old)) told) }
+        → OfWords watched.out (map string_bytes words.now) (NoOf (F.held folder.old)) told) }
     // With status 2 nothing goes to standard output, except the journal of a `live` after which no
     // task can go on.
     ensures fault { IfOk result (λ told. told.status ≡ 2 → (string_bytes told.out ≡ [])
-        ⊎ OfWords (map string_bytes words.now) (HaltedOf (F.held folder.old)) told) }
+        ⊎ OfWords watched.out (map string_bytes words.now) (HaltedOf (F.held folder.old)) told) }
+    ensures behind { IfOk result (IsBehindWords watched.out watched.err (F.held folder.old)
+        (map string_bytes words.now) (string_bytes behind.new)) }
 {
     match read(alloc, words) {
-        Ok(command) => answer(rt, folder, alloc, command, progress),
+        Ok(request) => {
+            let shows = is_shown(request.verbose, watched.err);
+            let command = seen(watched.out, request.command);
+            answer(rt, folder, alloc, command, shows, behind, progress)
+        }
         Err(NoCommand::Told(told)) => Ok(told),
         Err(NoCommand::Memory) => memory(alloc),
     }
 }
 
-/// Writes what is told. Where standard output does not take it, that is told on standard error in
-/// its place.
-fn write_told<O: Write, E: Write>(alloc: Global, told: &Told, out: &mut O, err: &mut E) -> u8
+/// Writes two texts, one behind the other. If not both are taken, the status is 2, else this one.
+fn write_both<E: Write>(err: &mut E, text: &str, behind: &str, status: u8) -> u8
+    ensures status { (result ≡ status) ⊎ (result ≡ 2) }
+    ensures err { result ≢ 2 → Appends (E.contents err.old) (E.contents err.new)
+        (text.now ++ behind.now) }
+{
+    if write_text(err, text.as_bytes()).is_err() {
+        return 2;
+    }
+    match write_text(err, behind.as_bytes()) {
+        Ok(()) => status,
+        Err(_) => 2,
+    }
+}
+
+/// Writes what is printed, and this text behind it on standard error. If standard output does not
+/// take its text, that is printed on standard error too.
+fn write_told<O: Write, E: Write>(
+    alloc: Global,
+    told: &Told,
+    behind: &str,
+    out: &mut O,
+    err: &mut E,
+) -> u8
     ensures status { (result ≡ told.now.status) ⊎ (result ≡ 2) }
     // Another status than 2 says that all went out.
     ensures out { result ≢ 2 → Appends (O.contents out.old) (O.contents out.new)
         (string_bytes told.now.out) }
     ensures err { result ≢ 2 → Appends (E.contents err.old) (E.contents err.new)
-        (string_bytes told.now.err) }
+        (string_bytes told.now.err ++ behind.now) }
 {
     let status = match write_text(out, told.out.as_bytes()) {
         Ok(()) => told.status,
@@ -189,18 +284,17 @@ fn write_told<O: Write, E: Write>(alloc: Global, told: &Told, out: &mut O, err: 
             2
         }
     };
-    match write_text(err, told.err.as_bytes()) {
-        Ok(()) => status,
-        Err(_) => 2,
-    }
+    write_both(err, told.err.as_str(), behind, status)
 }
 
 /// Runs the program on the words of a command line, its own name first, and on the files of a
-/// folder. If a person looks on, it prints on `err` how far a long search has come. The status is 0
-/// for `YES`, for mends, for a certificate that is made, for a chain, for facts, for a drawing, for
-/// promises, for a replay, for a journal, for MIG files that are cut and for help and the version,
-/// 1 for `NO`, for attacks and for `none`, and 2 for a fault, if too little is read of MIG files,
-/// and if all tasks of a `live` that have lines left wait for messages.
+/// folder. If a person looks at `err`, it prints there how far a long search has come, and behind a
+/// fault what helps with it; `--verbose` also asks for that. If a person looks at `out`, `verify`
+/// prints the text of each line that is broken. The status is 0 for `YES`, for mends, for a
+/// certificate that is made, for a chain, for facts, for a drawing, for slots, for promises, for a
+/// replay, for a journal, for MIG files that are cut and for help and the version, 1 for `NO`, for
+/// attacks and for `none`, and 2 for a fault, if too little is read of MIG files, and if all tasks
+/// of a `live` that have lines left wait for messages.
 pub fn run<F: Folder, R: Threads + Wait + Sync, O: Write, E: Write>(
     rt: &R,
     folder: &mut F,
@@ -208,35 +302,40 @@ pub fn run<F: Folder, R: Threads + Wait + Sync, O: Write, E: Write>(
     words: &[String],
     out: &mut O,
     err: &mut E,
-    watched: bool,
+    watched: Watched,
 ) -> u8
     ensures status { result ≤ 2 }
-    // With status 0 a yes, mends, the making of a certificate, a chain, facts, a drawing, promises,
-    // a replay, a journal or what MIG files are cut to went out. It is what the words ask for, and
-    // right of what the files held that they name, unless they ask for help or the version.
+    // With status 0 a yes, mends, the making of a certificate, a chain, facts, a drawing, slots,
+    // promises, a replay, a journal or what MIG files are cut to went out. It is what the words ask
+    // for, and right of what the files held that they name, unless they ask for help or the
+    // version.
     ensures yes { result ≡ 0
-        → WentOut (map string_bytes words.now) (DoneOf (F.held folder.old) (F.held folder.new))
+        → WentOut watched.out (map string_bytes words.now)
+        (DoneOf (F.held folder.old) (F.held folder.new))
         (O.contents out.old) (O.contents out.new)
         ⊎ AsksHelp (map string_bytes words.now) }
     // With status 1 a no went out, attacks, that no chain leads to a fact, or that no mend was
     // found. It is what the words ask for, and right of what the files hold that they name.
     ensures no { result ≡ 1
-        → WentOut (map string_bytes words.now) (NoOf (F.held folder.old))
+        → WentOut watched.out (map string_bytes words.now) (NoOf (F.held folder.old))
         (O.contents out.old) (O.contents out.new) }
 {
+    let mut behind = String::new(alloc);
     let told = told(
         rt,
         folder,
         alloc,
         words,
+        watched,
+        &mut behind,
         &mut Counter {
             err,
-            watched,
+            watched: watched.err,
             looked: 0,
         },
     );
     match told {
-        Ok(told) => write_told(alloc, &told, out, err),
+        Ok(told) => write_told(alloc, &told, behind.as_str(), out, err),
         Err(AllocError) => {
             let _ = write_text(err, b"machcheck: Memory\n");
             2
@@ -244,7 +343,7 @@ pub fn run<F: Folder, R: Threads + Wait + Sync, O: Write, E: Write>(
     }
 }
 
-/// Runs the program on the words of a command line, or tells why they can't be had. The status is
+/// Runs the program on the words of a command line, or prints why they can't be had. The status is
 /// that of [`run`], or 2.
 pub fn start<F: Folder, R: Threads + Wait + Sync, O: Write, E: Write>(
     rt: &R,
@@ -253,21 +352,23 @@ pub fn start<F: Folder, R: Threads + Wait + Sync, O: Write, E: Write>(
     words: Result<Vec<String>, WordsFault>,
     out: &mut O,
     err: &mut E,
-    watched: bool,
+    watched: Watched,
 ) -> u8
     ensures status { result ≤ 2 }
     ensures fault { IfErr words (λ _. result ≡ 2) }
-    // With status 0 a yes, mends, the making of a certificate, a chain, facts, a drawing, promises,
-    // a replay, a journal or what MIG files are cut to went out. It is what the words ask for, and
-    // right of what the files held that they name, unless they ask for help or the version.
+    // With status 0 a yes, mends, the making of a certificate, a chain, facts, a drawing, slots,
+    // promises, a replay, a journal or what MIG files are cut to went out. It is what the words ask
+    // for, and right of what the files held that they name, unless they ask for help or the
+    // version.
     ensures yes { result ≡ 0 → IsOkAnd words (λ given.
-        WentOut (map string_bytes given.items) (DoneOf (F.held folder.old) (F.held folder.new))
+        WentOut watched.out (map string_bytes given.items)
+        (DoneOf (F.held folder.old) (F.held folder.new))
         (O.contents out.old) (O.contents out.new)
         ⊎ AsksHelp (map string_bytes given.items)) }
     // With status 1 a no went out, attacks, that no chain leads to a fact, or that no mend was
     // found. It is what the words ask for, and right of what the files hold that they name.
     ensures no { result ≡ 1 → IsOkAnd words (λ given.
-        WentOut (map string_bytes given.items) (NoOf (F.held folder.old))
+        WentOut watched.out (map string_bytes given.items) (NoOf (F.held folder.old))
         (O.contents out.old) (O.contents out.new)) }
 {
     match words {

@@ -16,7 +16,7 @@ use mrc_command::{FileNames, Told, fault_of, memory, push_shown, shown};
 use mrc_files::{ReadFault, Unread, WriteFault};
 use std::alloc::{AllocError, Global};
 
-/// An empty text with room for the line that tells that a file did not take all bytes.
+/// An empty text with room for the line of a file that did not take all bytes.
 pub fn room_for_line(alloc: Global, file: &str) -> Result<String, AllocError>
     ensures bytes { IfOk result (λ line. string_bytes line ≡ []) }
     ensures len { IfOk result (λ line. string_len line ≡ 0) }
@@ -60,7 +60,7 @@ fn add_failed(text: &mut String, file: &str, written: usize)
     push(text, "\n");
 }
 
-/// Adds the line of a file whose writing was refused to a text that has room for it. Want of memory
+/// Adds the line of a file whose writing was refused to a text that has room for it. Out of memory
 /// is no file's fault.
 pub fn add_refusal(text: &mut String, file: &str, refusal: &OrMemory<WriteFault>)
     requires { string_len text.old + (length (shown file.now) + 66) ≤ string_capacity text.old }
@@ -74,7 +74,7 @@ pub fn add_refusal(text: &mut String, file: &str, refusal: &OrMemory<WriteFault>
 }
 
 /// A file that took so many bytes and then no more, in a line that has room for that. No memory is
-/// needed, so what a file was left with is told.
+/// needed, so what a file was left with is printed.
 pub fn write_failed(alloc: Global, line: String, file: &str, written: usize) -> Told
     requires empty { string_bytes line ≡ [] }
     requires len { string_len line ≡ 0 }
@@ -116,7 +116,7 @@ pub fn defs_name<'a>(names: &FileNames<'a>, number: usize) -> &'a str
 }
 
 /// The file of a text that has no meaning.
-fn file_of<'a>(names: &FileNames<'a>, fault: &CaseFault) -> &'a str
+pub fn file_of<'a>(names: &FileNames<'a>, fault: &CaseFault) -> &'a str
     ensures { result.now ≡ file_of names.now (meaningless fault.now) }
 {
     match fault {

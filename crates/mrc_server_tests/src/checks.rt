@@ -2,7 +2,7 @@
 
 use crate::file_server::{CAREFUL, FILE_SERVER, NO_KERNEL_PORT, OF_CAREFUL};
 use crate::shelf::{NONE, of_shelf, shelf_of};
-use crate::told::{Outcome, line, ran, wants};
+use crate::told::{Outcome, UNWATCHED, line, ran, wants};
 use mrc_files::Disk;
 use mrc_program::run::run;
 use std::alloc::Global;
@@ -397,7 +397,7 @@ fn ran_failing(
         words,
         &mut out,
         &mut err,
-        false,
+        UNWATCHED,
     );
     (err, status)
 }

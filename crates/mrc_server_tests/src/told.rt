@@ -1,7 +1,7 @@
 //! What the program tells.
 
 use mrc_files::Folder;
-use mrc_program::run::run;
+use mrc_program::run::{Watched, run};
 use std::alloc::Global;
 use std::process::Abort;
 use std::sync::Wait;
@@ -15,6 +15,12 @@ pub(crate) struct Outcome {
     pub(crate) err: Vec<u8>,
     pub(crate) status: u8,
 }
+
+/// No person looks on.
+pub(crate) const UNWATCHED: Watched = Watched {
+    out: false,
+    err: false,
+};
 
 /// The words of a command line.
 pub(crate) fn line(alloc: Global, words: &[&str]) -> Result<Vec<String>, Fail> {
@@ -34,7 +40,7 @@ pub(crate) fn ran<F: Folder>(
 ) -> Outcome {
     let mut out = Vec::new(alloc);
     let mut err = Vec::new(alloc);
-    let status = run(rt, folder, alloc, words, &mut out, &mut err, false);
+    let status = run(rt, folder, alloc, words, &mut out, &mut err, UNWATCHED);
     Outcome { out, err, status }
 }
 

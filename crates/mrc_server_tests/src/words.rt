@@ -1,6 +1,6 @@
 //! Command lines: help, the version, and words that are wrong or can't be had.
 
-use crate::told::{Outcome, line, ran, wants};
+use crate::told::{Outcome, UNWATCHED, line, ran, wants};
 use mrc_command::{WordsFault, words_of};
 use mrc_files::Disk;
 use mrc_program::start;
@@ -131,8 +131,9 @@ fn help_of_replays(rt: HostRuntime) -> Result<(), Fail> {
     tells_help(&rt, &rt, &["machcheck", "replay", "--help"], &OF_REPLAYS)
 }
 
-const OF_LIVES: [&str; 2] = [
-    "Usage: machcheck live --wiring <FILE> --policy <FILE> --cert <FILE> --script <FILE>",
+const OF_LIVES: [&str; 3] = [
+    "Usage: machcheck live [OPTIONS] --wiring <FILE> --policy <FILE> --cert <FILE> --script <FILE>",
+    "--verbose",
     "`wait NAME LIMIT` receives",
 ];
 
@@ -218,7 +219,7 @@ fn without_words(
         Err(fault),
         &mut out,
         &mut err,
-        false,
+        UNWATCHED,
     );
     Outcome { out, err, status }
 }

@@ -1,7 +1,7 @@
 -- None so far: whether one of those that are left has the number.
 use Rattle.std.proofs.Common.{◌≡◌, drop, map}
 use Rattle.mrc_why.specs.Broken.{line_of}
-use Rattle.mrc_program.specs.Attacked.{has_number}
+use Rattle.mrc_program.specs.Asked.{has_number}
 use Rattle.mrc_program.proofs.attack.number_in.Given as goal
 
 abbrev pub invariant-loop-line : goal.invariant-loop-line

@@ -4,7 +4,7 @@ use Rattle.std.specs.Prelude.{IfSome}
 use Rattle.mrc_check.specs.Texts.{Stated}
 use Rattle.mrc_why.specs.Broken.{BrokenLine, line_of}
 use Rattle.mrc_program.specs.Files.{Files}
-use Rattle.mrc_program.specs.Attacked.{IsBrokenAt, has_number}
+use Rattle.mrc_program.specs.Asked.{IsBrokenAt, has_number}
 use Rattle.mrc_program.proofs.AttackLaws.{attacks_so, broken_at, no_yes, unbroken_told}
 use Rattle.mrc_program.proofs.VerifyLaws.{allowed_told}
 use Rattle.mrc_program.proofs.attack.stated_attacked.Goals as goal

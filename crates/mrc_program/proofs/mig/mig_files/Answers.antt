@@ -4,6 +4,7 @@ use Rattle.mrc_files.specs.Files.{AreHeld, IsFirstUnread}
 use Rattle.mrc_program.specs.Cutting.{mig_names, same_name}
 use Rattle.mrc_program.proofs.ToldLaws.{unread_fault}
 use Rattle.mrc_program.proofs.CutLaws.{same_told, mig_of_held, as_many}
+use Rattle.mrc_program.proofs.RunLaws.{behind_unread_of}
 use Rattle.mrc_program.proofs.mig.mig_files.Goals as goal
 
 pub returns-in-Some-clause-fault : goal.returns-in-Some-clause-fault
@@ -14,8 +15,8 @@ returns-in-Some-clause-fault g c =
     (sym c.as_slice.ensures.value) ∙ sym c.in-Some.ensures)
     c.fault_of.ensures.status c.fault_of.ensures.out c.fault_of.ensures.err
 
-pub mig_told-requires : goal.mig_told-requires
-mig_told-requires g c =
+pub mig_told-requires-clause-count : goal.mig_told-requires-clause-count
+mig_told-requires-clause-count g c =
     let defs = c.args.files.now.defs.items in
     let held = g.F.Folder.held c.args.folder.now in
     let are = subst (λ (xs : List (Bor (List ℕ))). AreHeld held
@@ -41,7 +42,12 @@ pub returns-in-Err-clause-fault : goal.returns-in-Err-clause-fault
 returns-in-Err-clause-fault g c =
     let files = c.args.files.now in
     let held = g.F.Folder.held c.args.folder.now in
-    unread_fault held (mig_names files) _ _ c.unread_told.result _
+    unread_fault held (mig_names files) _ _ c.unread_helped.result _
     (subst (λ (xs : List (Bor (List ℕ))). IsFirstUnread held
     (map (λ (file : Bor (List ℕ)). file.now) xs) c.in-Err.unread.file.now)
-    c.as_slice-2.ensures.value c.in-Err.ensures.first) c.unread_told.ensures.told
+    c.as_slice-2.ensures.value c.in-Err.ensures.first) c.unread_helped.ensures.told
+
+pub returns-in-Err-clause-behind : goal.returns-in-Err-clause-behind
+returns-in-Err-clause-behind g c =
+    behind_unread_of c.args.shows (g.F.Folder.held c.args.folder.now) c.args.files.now _
+    c.unread_helped.result c.unread_helped.ensures.behind

@@ -12,7 +12,7 @@ returns-in-Ok-clause-yes g c zero_is =
     let out = c.write_told.ensures.out (λ two. absurd (omega arith)) in
     elim (c.in-Ok.ensures.yes (is_told c.write_told.result c.in-Ok.told.status 0
     c.write_told.ensures.status zero_is (omega arith))) [
-      | inl said ↦ inl (went_out _ _ c.in-Ok.told _ _ said out)
+      | inl said ↦ inl (went_out _ _ _ c.in-Ok.told _ _ said out)
       | inr help ↦ inr help
     ]
 
@@ -21,4 +21,4 @@ returns-in-Ok-clause-no g c one_is =
     let no = c.in-Ok.ensures.no (is_told c.write_told.result c.in-Ok.told.status 1
     c.write_told.ensures.status one_is (omega arith)) in
     let out = c.write_told.ensures.out (λ two. absurd (omega arith)) in
-    went_out _ _ c.in-Ok.told _ _ no out
+    went_out _ _ _ c.in-Ok.told _ _ no out

@@ -25,7 +25,8 @@ returns-in-Ok-clause-yes g c zero_is =
     let after = g.F.Folder.held c.run.new.folder in
     let old = g.O.Write.contents c.args.out.now in
     let new = g.O.Write.contents c.run.new.out in
-    of_words (λ given. WentOut given (DoneOf held after) old new ⊎ AsksHelp given)
+    of_words
+    (λ given. WentOut c.args.watched.out given (DoneOf held after) old new ⊎ AsksHelp given)
     c.args.words c.in-Ok.words c.as_slice.result.now c.in-Ok.is c.as_slice.ensures.value
     (c.run.ensures.yes zero_is)
 
@@ -34,6 +35,6 @@ returns-in-Ok-clause-no g c one_is =
     let held = g.F.Folder.held c.args.folder.now in
     let old = g.O.Write.contents c.args.out.now in
     let new = g.O.Write.contents c.run.new.out in
-    of_words (λ given. WentOut given (NoOf held) old new)
+    of_words (λ given. WentOut c.args.watched.out given (NoOf held) old new)
     c.args.words c.in-Ok.words c.as_slice.result.now c.in-Ok.is c.as_slice.ensures.value
     (c.run.ensures.no one_is)

@@ -1,7 +1,12 @@
-use Rattle.std.proofs.Common.{◌∙◌, Ok, ap, sym}
+use Rattle.std.proofs.Common.{◌≡◌, ◌∙◌, ℕ, List, Option, Some, None, Ok, ap, map, subst, sym}
+use Rattle.std.proofs.Common.{true, false}
+use Rattle.std.specs.Prelude.{IfSome}
 use Rattle.mrc_check.specs.Texts.{Stated}
+use Rattle.mrc_why.specs.Broken.{BrokenLine, line_of}
+use Rattle.mrc_program.specs.Asked.{IsBrokenAt, has_number}
 use Rattle.mrc_program.specs.Files.{Files}
-use Rattle.mrc_program.proofs.VerifyLaws.{allowed_told, broken_text}
+use Rattle.mrc_program.proofs.AttackLaws.{broken_at, unbroken_told}
+use Rattle.mrc_program.proofs.VerifyLaws.{allowed_told, broken_so, no_both}
 use Rattle.mrc_program.proofs.verify.stated_told.Goals as goal
 
 pub returns-then-is_yes-clause-done : goal.returns-then-is_yes-clause-done
@@ -14,23 +19,58 @@ returns-then-is_yes-clause-done c =
     c.in_ok-notices.ensures (ap (λ (f : Files). f.names) c.files.view_is) c.wired.ensures
     c.yes.ensures.is
 
-pub returns-clause-no : goal.returns-clause-no
-returns-clause-no c = λ one.
+pub returns-in-None-clause-no : goal.returns-in-None-clause-no
+returns-in-None-clause-no c =
     let inside = c.stated.inside in
     let meant : Stated = record { lines = inside.lines.items; claim = inside.claim } in
-    let verdict = c.in_ok-verdict.verdict in
-    record {
-      meant = meant;
-      says = c.requires ∙ ap (λ (s : Stated). Ok s) (sym c.stated.view_is);
-      exposed = verdict.exposed;
-      first = c.in_ok-verdict.ensures.exposed;
-      reached = c.in_ok-verdict.ensures.chain;
-      broken = verdict.broken.items;
-      are = c.in_ok-verdict.ensures.lines;
-      chains = c.in_ok-verdict.ensures.chains;
-      no = c.in_ok-verdict.ensures.no (sym c.is_yes.ensures ∙ c.if-is_yes.false);
-      out = broken_text c.args.tree c.layout_of.result meant _ _ _ verdict.exposed
-          verdict.broken.items _ c.layout_of.ensures c.in_ok-sources.ensures c.wired-2.ensures
-          c.as_slice.ensures.value c.in_ok-text.ensures;
-      err = c.in_ok-notices.ensures;
-    }
+    let verdict = c.in_ok-verdict in
+    broken_so c.args.showing None c.args.files.now meant c.args.stated.now verdict.verdict.exposed
+    verdict.verdict.broken.items _ c.broken_told.result
+    (c.requires ∙ ap (λ (s : Stated). Ok s) (sym c.stated.view_is)) c.stated.view_is
+    verdict.ensures.exposed verdict.ensures.chain verdict.ensures.lines verdict.ensures.chains
+    (verdict.ensures.no (sym c.is_yes.ensures ∙ c.if-is_yes.false))
+    (subst (λ (l : Option ℕ). IfSome l (λ n. IsBrokenAt meant.claim n true)) (sym c.in-None.is) tt)
+    c.in_ok-notices.ensures (sym c.in-None.is) c.broken_told.ensures.out
+    c.broken_told.ensures.err
+
+pub returns-in-Some-number_in-clause-no : goal.returns-in-Some-number_in-clause-no
+returns-in-Some-number_in-clause-no c =
+    let inside = c.stated.inside in
+    let meant : Stated = record { lines = inside.lines.items; claim = inside.claim } in
+    let verdict = c.in_ok-verdict in
+    let broken = verdict.verdict.broken.items in
+    let n = c.in-Some.number in
+    let has : has_number (map line_of broken) n ≡ true =
+    subst (λ (b : List BrokenLine). has_number (map line_of b) n ≡ true) c.as_slice.ensures.value
+    c.in-Some-number_in.ensures.some
+    in
+    broken_so c.args.showing (Some c.in-Some-number_in.own) c.args.files.now meant
+    c.args.stated.now verdict.verdict.exposed broken _ c.broken_told-in-Some-number_in.result
+    (c.requires ∙ ap (λ (s : Stated). Ok s) (sym c.stated.view_is)) c.stated.view_is
+    verdict.ensures.exposed verdict.ensures.chain verdict.ensures.lines verdict.ensures.chains
+    (verdict.ensures.no (sym c.is_yes.ensures ∙ c.if-is_yes.false))
+    (subst (λ (l : Option ℕ). IfSome l (λ k. IsBrokenAt meant.claim k true)) (sym c.in-Some.is)
+    (broken_at meant.claim broken n true verdict.ensures.lines has))
+    c.in_ok-notices.ensures
+    (ap (λ (k : ℕ). Some k) c.in-Some-number_in.ensures.own ∙ sym c.in-Some.is)
+    c.broken_told-in-Some-number_in.ensures.out c.broken_told-in-Some-number_in.ensures.err
+
+pub returns-in-None-number_in-clause-only : goal.returns-in-None-number_in-clause-only
+returns-in-None-number_in-clause-only c = λ has_yes.
+    let inside = c.stated.inside in
+    no_both (record { lines = inside.lines.items; claim = inside.claim }) c.args.stated.now
+    c.stated.view_is has_yes
+    (c.in_ok-verdict.ensures.no (sym c.is_yes.ensures ∙ c.if-is_yes.false))
+
+pub returns-in-None-number_in-clause-fault : goal.returns-in-None-number_in-clause-fault
+returns-in-None-number_in-clause-fault c =
+    let inside = c.stated.inside in
+    let meant : Stated = record { lines = inside.lines.items; claim = inside.claim } in
+    let verdict = c.in_ok-verdict in
+    let n = c.in-Some.number in
+    unbroken_told c.args.showing.line n c.args.files.now meant verdict.verdict.broken.items
+    c.fault_of.result (c.requires ∙ ap (λ (s : Stated). Ok s) (sym c.stated.view_is))
+    c.in-Some.is verdict.ensures.lines
+    (subst (λ (b : List BrokenLine). has_number (map line_of b) n ≡ false) c.as_slice.ensures.value
+    (c.number_in.ensures.none c.in-None-number_in.is))
+    c.fault_of.ensures.out c.fault_of.ensures.err

@@ -1,0 +1,161 @@
+//! What helps with a fault of a text, by the text's role.
+
+use crate::files::{Files, Texts};
+use mrc_check::{CaseFault, PolicyFault, WiringFault};
+use mrc_interface::{DefsFault, FileFault, LexFault, ParseFault, read_interfaces};
+use mrc_line_hints::{policy_line_hint, wiring_line_hint};
+use mrc_mig_cut::CutFault;
+use mrc_mig_hints::mig_hint;
+use mrc_name_hints::{names_hint, policy_name_hint, wiring_name_hint};
+use mrc_place::Hint;
+use mrc_wiring::{ClaimFault, ResolveFault};
+use mrc_wiring_text::read_wiring;
+use std::alloc::{AllocError, Global};
+use std::str;
+
+/// What helps with a fault of a MIG file.
+fn defs_hint(alloc: Global, texts: &Texts, fault: &FileFault) -> Result<Option<Hint>, AllocError> {
+    let Some(bytes) = texts.defs.get(fault.file) else {
+        return Ok(None);
+    };
+    let hint = mig_hint(alloc, bytes.as_slice(), &fault.fault)?;
+    Ok(Some(hint))
+}
+
+/// What helps with a fault of the names of the wiring's lines.
+fn wiring_names_hint(
+    alloc: Global,
+    files: &Files<'_>,
+    fault: ResolveFault,
+) -> Result<Option<Hint>, AllocError> {
+    let Ok(text) = str::from_utf8(files.texts.wiring.as_slice()) else {
+        return Ok(None);
+    };
+    let Ok(interfaces) = read_interfaces(alloc, files.texts.defs.as_slice()) else {
+        return Ok(None);
+    };
+    let names = files.names.defs.as_slice();
+    let hint = wiring_name_hint(alloc, text, interfaces.as_slice(), names, fault)?;
+    Ok(Some(hint))
+}
+
+/// What helps with a fault of the wiring.
+fn wiring_hint(
+    alloc: Global,
+    files: &Files<'_>,
+    fault: &WiringFault,
+) -> Result<Option<Hint>, AllocError> {
+    match fault {
+        WiringFault::Text(fault) => {
+            let hint = wiring_line_hint(alloc, files.texts.wiring.as_slice(), *fault)?;
+            Ok(Some(hint))
+        }
+        WiringFault::Lines(fault) => wiring_names_hint(alloc, files, *fault),
+        WiringFault::TooManyNames(name) => {
+            let hint = names_hint(alloc, name)?;
+            Ok(Some(hint))
+        }
+    }
+}
+
+/// What helps with a fault of the names of the policy's lines.
+fn policy_names_hint(
+    alloc: Global,
+    texts: &Texts,
+    fault: ClaimFault,
+) -> Result<Option<Hint>, AllocError> {
+    let Ok(text) = str::from_utf8(texts.policy()) else {
+        return Ok(None);
+    };
+    let Ok(lines) = read_wiring(alloc, texts.wiring.as_slice()) else {
+        return Ok(None);
+    };
+    let hint = policy_name_hint(alloc, text, lines.as_slice(), fault)?;
+    Ok(Some(hint))
+}
+
+/// What helps with a fault of the policy.
+fn policy_hint(
+    alloc: Global,
+    texts: &Texts,
+    fault: PolicyFault,
+) -> Result<Option<Hint>, AllocError> {
+    match fault {
+        PolicyFault::Text(fault) => {
+            let hint = policy_line_hint(alloc, texts.policy(), fault)?;
+            Ok(Some(hint))
+        }
+        PolicyFault::Lines(fault) => policy_names_hint(alloc, texts, fault),
+    }
+}
+
+/// What helps with the fault of a text: nothing, if it is the certificate or the script, or if
+/// memory runs out while the texts are read.
+pub fn hint_of(
+    alloc: Global,
+    files: &Files<'_>,
+    fault: &CaseFault,
+) -> Result<Option<Hint>, AllocError> {
+    match fault {
+        CaseFault::Defs(fault) => defs_hint(alloc, &files.texts, fault),
+        CaseFault::Wiring(fault) => wiring_hint(alloc, files, fault),
+        CaseFault::Policy(fault) => policy_hint(alloc, &files.texts, *fault),
+        CaseFault::Certificate(_) | CaseFault::Script(_) => Ok(None),
+    }
+}
+
+/// The sentence of a MIG file without a subsystem, as [`mig_hint`] has it.
+const NO_SUBSYSTEM: &str = "the file has no subsystem";
+
+/// Why a file can't be cut at a brace or a parenthesis.
+const BRACKETS: &str =
+    "a brace may be only where a struct begins or ends, and no parenthesis inside braces";
+
+/// Whether the byte of this number is a brace or a parenthesis.
+fn is_bracket(bytes: &[u8], place: usize) -> bool {
+    matches!(bytes.get(place), Some(b'(' | b')' | b'{' | b'}'))
+}
+
+/// Of these sentences that of a file without a subsystem.
+fn subsystem_notes(alloc: Global, notes: Vec<String>) -> Result<Vec<String>, AllocError> {
+    let mut kept = Vec::new(alloc);
+    for note in notes {
+        if note.as_str() == NO_SUBSYSTEM {
+            kept.push(note)?;
+        }
+    }
+    Ok(kept)
+}
+
+/// The sentences about a MIG file that can't be cut, of those about one that can't be read. It is
+/// not said what may be at the place of the fault: a file that can be cut need not be one that can
+/// be read.
+fn cut_notes(
+    alloc: Global,
+    bytes: &[u8],
+    fault: &DefsFault,
+    notes: Vec<String>,
+) -> Result<Vec<String>, AllocError> {
+    match fault {
+        DefsFault::Lex(LexFault::BadCharacter(at)) if is_bracket(bytes, *at) => {
+            let mut notes = Vec::new(alloc);
+            notes.push(String::from_str(alloc, BRACKETS)?)?;
+            Ok(notes)
+        }
+        DefsFault::Parse(ParseFault::Unexpected(_)) => subsystem_notes(alloc, notes),
+        _ => Ok(notes),
+    }
+}
+
+/// What helps with the fault of a MIG file that can't be cut.
+pub fn cut_hint(alloc: Global, bytes: &[u8], fault: CutFault) -> Result<Option<Hint>, AllocError> {
+    let fault = match fault {
+        CutFault::NotUtf8 => DefsFault::NotUtf8,
+        CutFault::Lex(fault) => DefsFault::Lex(fault),
+        CutFault::Parse(fault) => DefsFault::Parse(fault),
+        CutFault::Rest => return Ok(None),
+    };
+    let Hint { spot, notes } = mig_hint(alloc, bytes, &fault)?;
+    let notes = cut_notes(alloc, bytes, &fault, notes)?;
+    Ok(Some(Hint { spot, notes }))
+}
