@@ -90,7 +90,7 @@ abbrev pub help_note : Option ℕ → Option (List ℕ) → Option (List ℕ) �
 help_note (Some line) near text known = Some (codes "declared below, on line " ++ decimal line)
 help_note None near text known = near_note near text known
 
--- the known name that is nearest, or none if each is further than two edits
+-- the known name that is nearest, or none if none is near
 abbrev pub IsNear : List ℕ → List (List ℕ) → Option (List ℕ) → Type 0
 IsNear name known (Some found) = IsNearest name known found
 IsNear name known None = AreFar name known
