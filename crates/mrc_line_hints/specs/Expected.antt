@@ -18,6 +18,7 @@ use Rattle.mrc_line_hints.specs.Ways.{keyword_text, ways, may_end}
 
 -- a part in words
 abbrev pub phrase : Part → List ℕ
+phrase (Fixed key.Comma) = codes "a comma"
 phrase (Fixed keyword) = keyword_text keyword
 phrase TaskName = codes "the name of a task"
 phrase PortName = codes "the name of a port"

@@ -20,6 +20,7 @@ impl Part {
         ensures { result.now ≡ phrase self }
     {
         match self {
+            Part::Fixed(Keyword::Comma) => "a comma",
             Part::Fixed(keyword) => keyword.text(),
             Part::TaskName => "the name of a task",
             Part::PortName => "the name of a port",
