@@ -11,7 +11,8 @@ use Rattle.std.proofs.lemmas.Bool.{or_right, le-leb}
 use Rattle.mrc_mig_hints.specs.declared.seen.Naming.TheVariants.{OfType}
 use Rattle.mrc_mig_hints.specs.Sights.{Sight, named, first_place, has_bytes}
 use Rattle.mrc_mig_hints.specs.Standing.{Candidate, may_be, reserved_words, others, new_name, if_so}
-use Rattle.mrc_mig_hints.specs.Standing.{limit_of_tries, expected, shown_of, name_shown}
+use Rattle.mrc_mig_hints.specs.Standing.{limit_of_tries, expected, shown_of, name_shown, numbers}
+use Rattle.mrc_mig_hints.specs.Standing.{number_shown}
 use Rattle.mrc_mig_hints.specs.Known.{declared_at}
 use Rattle.mrc_mig_hints.specs.Laws.{IsTried, tried_types}
 
@@ -103,7 +104,7 @@ name_may text at types word i = elim (is_or (may_be text at new_name)) [
             subst (λ b. IsIn word (if b then codes "the name of a type" ∷ [] else [])) some
             types_only in
             let (token, among, may) = one_passes (may_be text at) (tried_types types) some in
-            (token, inr (inr (among, in_one word (codes "the name of a type") only)), may)
+            (token, inr (inr (inl (among, in_one word (codes "the name of a type") only))), may)
         | inr none ↦
             none_in word
             (subst (λ b. IsIn word (if b then codes "the name of a type" ∷ [] else [])) none
@@ -111,15 +112,31 @@ name_may text at types word i = elim (is_or (may_be text at new_name)) [
       ]
 ]
 
+-- the word for a number is that of one that may be there
+number_may : (text : List ℕ) (at : ℕ) (types : List (List ℕ)) (word : List ℕ)
+    → IsIn word (number_shown text at)
+    → (token : List ℕ) × IsTried types token word × (may_be text at token ≡ true)
+number_may text at types word i = elim (is_or (list_any (may_be text at) numbers)) [
+  | inl some ↦
+      let only : IsIn word (codes "a number" ∷ []) =
+      subst (λ b. IsIn word (if_so b (codes "a number"))) some i in
+      let (token, among, may) = one_passes (may_be text at) numbers some in
+      (token, inr (inr (inr (among, in_one word (codes "a number") only))), may)
+  | inr none ↦
+      none_in word (subst (λ b. IsIn word (if_so b (codes "a number"))) none i)
+]
+
 -- all that is listed within the limit
 abbrev all_shown : List ℕ → ℕ → List (List ℕ) → List (List ℕ)
 all_shown text at types =
-    shown_of text at reserved_words ++ (name_shown text at types ++ shown_of text at others)
+    shown_of text at reserved_words
+    ++ (name_shown text at types ++ (number_shown text at ++ shown_of text at others))
 
 -- within the limit they are listed
 pub listed_within : (text : List ℕ) (at : ℕ) (types : List (List ℕ)) → at ≤ limit_of_tries
     → expected text at types
-    ≡ shown_of text at reserved_words ++ (name_shown text at types ++ shown_of text at others)
+    ≡ shown_of text at reserved_words
+    ++ (name_shown text at types ++ (number_shown text at ++ shown_of text at others))
 listed_within text at types le =
     ap (λ b. if b then all_shown text at types else []) (le-leb at limit_of_tries le)
 
@@ -129,16 +146,20 @@ all_may : (text : List ℕ) (at : ℕ) (types : List (List ℕ)) (word : List �
     → (token : List ℕ) × IsTried types token word × (may_be text at token ≡ true)
 all_may text at types word i =
     let words = shown_of text at reserved_words in
+    let numbered = number_shown text at in
     let signs = shown_of text at others in
-    elim (in_append word words (name_shown text at types ++ signs) i) [
+    elim (in_append word words (name_shown text at types ++ (numbered ++ signs)) i) [
       | inl w ↦
           let (c, among, shown, may) = shown_may text at reserved_words word w in
           (c.token, inl (c, in_left c reserved_words others among, refl, shown), may)
-      | inr j ↦ elim (in_append word (name_shown text at types) signs j) [
+      | inr j ↦ elim (in_append word (name_shown text at types) (numbered ++ signs) j) [
         | inl n ↦ name_may text at types word n
-        | inr s ↦
-            let (c, among, shown, may) = shown_may text at others word s in
-            (c.token, inl (c, in_right c reserved_words others among, refl, shown), may)
+        | inr k ↦ elim (in_append word numbered signs k) [
+          | inl n ↦ number_may text at types word n
+          | inr s ↦
+              let (c, among, shown, may) = shown_may text at others word s in
+              (c.token, inl (c, in_right c reserved_words others among, refl, shown), may)
+        ]
       ]
     ]
 
@@ -166,13 +187,16 @@ pub none_is_missing : (text : List ℕ) (at : ℕ) (types : List (List ℕ)) (c 
 none_is_missing text at types c le i may =
     let words = shown_of text at reserved_words in
     let names = name_shown text at types in
+    let numbered = number_shown text at in
     let signs = shown_of text at others in
+    let behind = names ++ (numbered ++ signs) in
     within_limit text at types c.shown le
     (elim (in_append c reserved_words others i) [
-      | inl w ↦ in_left c.shown words (names ++ signs) (may_shown text at reserved_words c w may)
+      | inl w ↦ in_left c.shown words behind (may_shown text at reserved_words c w may)
       | inr s ↦
-          in_right c.shown words (names ++ signs)
-          (in_right c.shown names signs (may_shown text at others c s may))
+          in_right c.shown words behind
+          (in_right c.shown names (numbered ++ signs)
+          (in_right c.shown numbered signs (may_shown text at others c s may)))
     ])
 
 -- a word among the names is listed
@@ -182,9 +206,9 @@ name_listed : (text : List ℕ) (at : ℕ) (types : List (List ℕ)) (word : Lis
 name_listed text at types word le i =
     let words = shown_of text at reserved_words in
     let names = name_shown text at types in
-    let signs = shown_of text at others in
+    let behind = number_shown text at ++ shown_of text at others in
     within_limit text at types word le
-    (in_right word words (names ++ signs) (in_left word names signs i))
+    (in_right word words (names ++ behind) (in_left word names behind i))
 
 -- a name that may be there, whatever it is used for
 any_name : (text : List ℕ) (at : ℕ) (types : List (List ℕ)) → may_be text at new_name ≡ true
@@ -210,6 +234,21 @@ no_name_is_missing text at types le = (
       name_listed text at types (codes "the name of a type") le
       (type_name text at types name i holds fails),
 )
+
+pub no_number_is_missing : (text : List ℕ) (at : ℕ) (types : List (List ℕ)) (number : List ℕ)
+    → at ≤ limit_of_tries → IsIn number numbers → may_be text at number ≡ true
+    → IsIn (codes "a number") (expected text at types)
+no_number_is_missing text at types number le i may =
+    let word = codes "a number" in
+    let words = shown_of text at reserved_words in
+    let names = name_shown text at types in
+    let numbered = number_shown text at in
+    let signs = shown_of text at others in
+    let some = passes_any (may_be text at) numbers number i may in
+    within_limit text at types word le
+    (in_right word words (names ++ (numbered ++ signs))
+    (in_right word names (numbered ++ signs)
+    (in_left word numbered signs (subst (λ b. IsIn word (if_so b word)) (sym some) here))))
 
 -- the first token that passes has its place
 first_there : (p : Sight → Bool) (tokens : List Sight) (at : ℕ) → first_place p tokens ≡ Some at

@@ -1,7 +1,7 @@
 -- Believe. Which types are known before a place of a MIG file, and where a name was declared. The
 -- types that the include line declares, and the names of basic types, are those of the reader.
 use Rattle.std.specs.Prelude.{ℕ, ◌-◌, List, [], ◌∷◌, ◌++◌, Bool, not, Option, Some, None}
-use Rattle.std.specs.Prelude.{bytes_eq, flat_map, length, slice_get, if◌then◌else◌}
+use Rattle.std.specs.Prelude.{bytes_eq, flat_map, length, slice_get, take, if◌then◌else◌}
 use Rattle.std.specs.List.{list_any}
 use Rattle.mrc_mig_symbols.specs.declared.symbol.Symbol.{Symbol}
 use Rattle.mrc_mig_symbols.specs.declared.symbol.Symbol.TheVariants as symbols
@@ -10,7 +10,8 @@ use Rattle.mrc_mig_parse.specs.Files.{table}
 use Rattle.mrc_mig_hints.specs.declared.seen.Naming.{Naming}
 use Rattle.mrc_mig_hints.specs.declared.seen.Naming.TheVariants.{OfType, OfRoutine, OfArgument}
 use Rattle.mrc_mig_hints.specs.Sights.{Sight, is_type, is_routine, is_include, named, has_bytes}
-use Rattle.mrc_mig_hints.specs.Sights.{first_place, last_place, has_include}
+use Rattle.mrc_mig_hints.specs.Sights.{is_semicolon, first_place, last_place, has_include}
+use Rattle.mrc_mig_hints.specs.Sights.{count_before}
 use Rattle.mrc_mig_hints.specs.Standing.{if_so}
 
 -- the names of a table
@@ -30,17 +31,31 @@ basic_names = names_of basics
 abbrev pub is_among : List (List ℕ) → List ℕ → Bool
 is_among names name = list_any (λ (other : List ℕ). bytes_eq other name) names
 
+-- a semicolon, which ends each declaration of a type
+abbrev pub is_end : Sight → Bool
+is_end token = is_semicolon token.symbol
+
+-- the tokens that begin before a place, or none if there is no place
+abbrev pub up_to : Option ℕ → List Sight → List Sight
+up_to None tokens = []
+up_to (Some at) tokens = take (count_before at tokens) tokens
+
+-- the tokens before the last semicolon: a type that is declared behind it is not known yet
+abbrev pub finished : List Sight → List Sight
+finished tokens = up_to (last_place is_end tokens) tokens
+
 -- the names of the types that are declared among these tokens, except for one name
 abbrev pub declared_but : List ℕ → List Sight → List (List ℕ)
 declared_but name tokens =
     flat_map (λ (token : Sight). if_so (not (bytes_eq token.bytes name)) token.bytes)
     (named OfType tokens)
 
--- The names of types that are known behind these tokens, where this name is not: those that are
--- declared, those of the table if a line includes it, and those of basic types if one may be there.
+-- The names of types that are known behind these tokens, where this name is not: those whose
+-- declarations have ended, those of the table if a line includes it, and those of basic types if
+-- one may be there.
 abbrev pub known_names : Bool → List ℕ → List Sight → List (List ℕ)
 known_names may_be_basic name before =
-    declared_but name before
+    declared_but name (finished before)
     ++ ((if has_include before then table_names else [])
     ++ (if may_be_basic then basic_names else []))
 

@@ -5,7 +5,7 @@ use Rattle.mrc_model.specs.IsIn.{IsIn}
 use Rattle.mrc_mig_hints.specs.declared.seen.Naming.TheVariants.{OfType}
 use Rattle.mrc_mig_hints.specs.Sights.{Sight, named}
 use Rattle.mrc_mig_hints.specs.Standing.{Candidate, may_be, reserved_words, others, new_name}
-use Rattle.mrc_mig_hints.specs.Standing.{basic_name, limit_of_tries, expected}
+use Rattle.mrc_mig_hints.specs.Standing.{basic_name, numbers, limit_of_tries, expected}
 use Rattle.mrc_mig_hints.specs.Known.{declared_at}
 
 -- the names that are tried as names of types
@@ -17,7 +17,8 @@ abbrev pub IsTried : List (List ℕ) → (token shown : List ℕ) → Type 0
 IsTried types token shown =
     ((c : Candidate) × IsIn c (reserved_words ++ others) × (c.token ≡ token) × (c.shown ≡ shown))
     ⊎ (((token ≡ new_name) × (shown ≡ codes "a name"))
-    ⊎ (IsIn token (tried_types types) × (shown ≡ codes "the name of a type")))
+    ⊎ ((IsIn token (tried_types types) × (shown ≡ codes "the name of a type"))
+    ⊎ (IsIn token numbers × (shown ≡ codes "a number"))))
 
 -- each word that is listed is how a token is shown that may be there
 abbrev pub EachMayBe : Type 0
@@ -26,7 +27,7 @@ EachMayBe =
     → IsIn shown (expected text at types)
     → (token : List ℕ) × IsTried types token shown × (may_be text at token ≡ true)
 
--- a word, sign, number or string that may be there is listed, within the limit
+-- a word, sign or string that may be there is listed, within the limit
 abbrev pub NoneIsMissing : Type 0
 NoneIsMissing =
     (text : List ℕ) (at : ℕ) (types : List (List ℕ)) (c : Candidate) → at ≤ limit_of_tries
@@ -41,6 +42,13 @@ NoNameIsMissing =
     × ((name : List ℕ) → IsIn name (tried_types types) → may_be text at name ≡ true
     → may_be text at new_name ≡ false
     → IsIn (codes "the name of a type") (expected text at types))
+
+-- so is a number
+abbrev pub NoNumberIsMissing : Type 0
+NoNumberIsMissing =
+    (text : List ℕ) (at : ℕ) (types : List (List ℕ)) (number : List ℕ) → at ≤ limit_of_tries
+    → IsIn number numbers → may_be text at number ≡ true
+    → IsIn (codes "a number") (expected text at types)
 
 -- where a name is said to be declared, there is a token behind `type` with this name
 abbrev pub DeclaredThere : Type 0

@@ -4,3 +4,4 @@ pub mod Known
 pub mod Notes
 pub mod Hints
 pub mod Laws
+pub mod Worked

@@ -4,8 +4,10 @@ use Rattle.std.specs.Prelude.{◌≡◌, ℕ, ◌+◌, ◌==◌, List, [], ◌�
 use Rattle.std.specs.Prelude.{◌&&◌, ◌||◌, Option, Some, None, codes, count_by}
 use Rattle.std.specs.Prelude.{decimal, length, nat_lt, take}
 use Rattle.std.specs.Prelude.{if◌then◌else◌}
+use Rattle.std.specs.List.{list_any}
 use Rattle.mrc_base.specs.Limits.{limit_of_name}
 use Rattle.mrc_mig_lex.specs.Characters.{line_feed}
+use Rattle.mrc_mig_lex.specs.declared.token.Sign.TheVariants as signs
 use Rattle.mrc_mig_symbols.specs.declared.fault.Feature.{Feature}
 use Rattle.mrc_mig_symbols.specs.declared.fault.Feature.TheVariants as features
 use Rattle.mrc_mig_symbols.specs.declared.fault.ParseFault.{ParseFault}
@@ -16,9 +18,11 @@ use Rattle.mrc_mig_symbols.specs.declared.word.Word.TheVariants as words
 use Rattle.mrc_place.specs.Distance.{IsNearest, AreFar}
 use Rattle.mrc_place.specs.Lists.{alternatives, listed}
 use Rattle.mrc_mig_hints.specs.declared.seen.Naming.TheVariants.{OfType}
-use Rattle.mrc_mig_hints.specs.Sights.{Sight, is_colon, named, bytes_of, has_include, has_subsystem}
-use Rattle.mrc_mig_hints.specs.Standing.{if_so, may_be, expected, a_number, basic_name}
+use Rattle.mrc_mig_hints.specs.Sights.{Sight, is_colon, is_slash, named, bytes_of, has_include}
+use Rattle.mrc_mig_hints.specs.Sights.{has_subsystem}
+use Rattle.mrc_mig_hints.specs.Standing.{if_so, may_be, expected, numbers, basic_name}
 use Rattle.mrc_mig_hints.specs.Known.{table_names, is_among, known_names, declared_at, given_at}
+use Rattle.mrc_mig_hints.specs.Known.{last_of}
 
 -- the number of the line of a place
 abbrev pub line_number : List ℕ → ℕ → ℕ
@@ -55,25 +59,43 @@ abbrev pub is_line : Symbol → Bool
 is_line (symbols.Directive line) = true
 is_line _ = false
 
--- a number
-abbrev pub is_number : Symbol → Bool
-is_number (symbols.Number n) = true
-is_number _ = false
+-- A token of this kind may be there, but not this one: a number, or the first parenthesis of an
+-- expression.
+abbrev pub is_unfit : List ℕ → ℕ → Symbol → Bool
+is_unfit text at (symbols.Number n) = list_any (may_be text at) numbers
+is_unfit text at (symbols.Sign signs.OpenParenthesis) = may_be text at (codes "(")
+is_unfit text at _ = false
+
+-- the number 0
+abbrev pub is_zero : Symbol → Bool
+is_zero (symbols.Number n) = n == 0
+is_zero _ = false
+
+-- it is 0 and what is divided by, behind this token
+abbrev pub is_zero_divisor : Option Sight → Symbol → Bool
+is_zero_divisor None symbol = false
+is_zero_divisor (Some token) symbol = is_slash token.symbol && is_zero symbol
+
+-- what is said of a value that does not fit, behind this token
+abbrev pub unfit_note : Option Sight → Symbol → List ℕ
+unfit_note last symbol =
+    if is_zero_divisor last symbol then codes "a divisor is not 0"
+    else codes
+    "its value does not fit: see MIG.md, Grammar, for sizes and the parts of an expression"
 
 -- what helps with a line of the preprocessor
 abbrev pub preprocess : List ℕ
-preprocess = codes "run bin/mig-preprocess first"
+preprocess = codes "run machcheck mig first: it works out macros, conditions and includes"
 
 -- What is said of a token that can't be there: what may be; that there is no subsystem; that a line
--- of the preprocessor is there; and that a number may be there, but not this one.
+-- of the preprocessor is there; and that a value does not fit.
 abbrev pub unexpected_notes : List ℕ → ℕ → List Sight → Symbol → (whole : List Sight)
     → List (List ℕ)
 unexpected_notes text at before symbol whole =
     expected_note (expected text at (take 1 (bytes_of (named OfType before))))
     ++ (if_so (not (has_subsystem whole)) (codes "the file has no subsystem")
     ++ (if_so (is_line symbol) preprocess
-    ++ if_so (is_number symbol && may_be text at a_number) (codes
-    "its value does not fit: see MIG.md, Grammar, for sizes and the parts of an expression")))
+    ++ if_so (is_unfit text at symbol) (unfit_note (last_of before) symbol)))
 
 -- the word of a form that is left out
 abbrev pub feature_word : Feature → List ℕ
@@ -98,7 +120,7 @@ abbrev pub known_note : List (List ℕ) → List ℕ
 known_note [] = codes "no type is declared above"
 known_note (name ∷ names) = codes "known types: " ++ listed (name ∷ names)
 
--- the nearest of the known names, if one is at most two edits away
+-- the nearest of the known names, if one is near
 abbrev pub IsNear : List ℕ → List (List ℕ) → Option (List ℕ) → Type 0
 IsNear name known None = AreFar name known
 IsNear name known (Some found) = IsNearest name known found

@@ -49,6 +49,16 @@ abbrev pub is_colon : Symbol → Bool
 is_colon (symbols.Sign signs.Colon) = true
 is_colon _ = false
 
+-- a semicolon
+abbrev pub is_semicolon : Symbol → Bool
+is_semicolon (symbols.Sign signs.Semicolon) = true
+is_semicolon _ = false
+
+-- a sign that divides
+abbrev pub is_slash : Symbol → Bool
+is_slash (symbols.Sign signs.Slash) = true
+is_slash _ = false
+
 -- the word `subsystem`
 abbrev pub is_subsystem : Symbol → Bool
 is_subsystem (symbols.Word words.Subsystem) = true

@@ -104,14 +104,16 @@ reserved_words =
     word (codes "islong") ∷ word (codes "isnotlong") ∷ word (codes "servercopy") ∷
     word (codes "countinout") ∷ word (codes "dealloc") ∷ word (codes "polymorphic") ∷ []
 
--- a number, which is also a size and a count
-abbrev pub a_number : List ℕ
-a_number = codes "32"
+-- Numbers, which are also sizes and counts. In an expression only such may be there with which its
+-- value fits: so several are tried.
+abbrev pub numbers : List (List ℕ)
+numbers =
+    codes "32" ∷ codes "1" ∷ codes "2" ∷ codes "3" ∷ codes "4" ∷ codes "5" ∷ codes "6" ∷
+    codes "7" ∷ codes "8" ∷ codes "0" ∷ []
 
--- numbers, strings and signs
+-- strings and signs
 abbrev pub others : List Candidate
 others =
-    record { token = a_number; shown = codes "a number" } ∷
     record { token = quote ∷ codes "x" ++ quote ∷ []; shown = codes "a string" } ∷
     record { token = codes "<x>"; shown = codes "<..>" } ∷
     sign (codes "=") ∷ sign (codes ":") ∷ sign (codes ",") ∷ sign (codes "(") ∷
@@ -146,6 +148,10 @@ name_shown text at types =
     then codes "the name of a type" ∷ []
     else []
 
+-- a number, if one of those that are tried may be at a place
+abbrev pub number_shown : List ℕ → ℕ → List (List ℕ)
+number_shown text at = if_so (list_any (may_be text at) numbers) (codes "a number")
+
 -- a text of more bytes is not tried
 abbrev pub limit_of_tries : ℕ
 limit_of_tries = 1048576
@@ -156,5 +162,5 @@ abbrev pub expected : List ℕ → ℕ → List (List ℕ) → List (List ℕ)
 expected text at types =
     if nat_le at limit_of_tries
     then shown_of text at reserved_words
-    ++ (name_shown text at types ++ shown_of text at others)
+    ++ (name_shown text at types ++ (number_shown text at ++ shown_of text at others))
     else []

@@ -5,11 +5,12 @@ ghost use Rattle.std.specs.Prelude.{if◌then◌else◌, IfOk, OnOk};
 ghost use Rattle.mrc_mig_hints.specs.Sights.{sight_of, last_place};
 ghost use Rattle.mrc_mig_hints.specs.Standing.{if_so};
 ghost use Rattle.mrc_mig_hints.specs.Known.{table_names, is_among, has_table_name, declared_but};
-ghost use Rattle.mrc_mig_hints.specs.Known.{known_names, declared_at, naming_by, last_of};
+ghost use Rattle.mrc_mig_hints.specs.Known.{finished, known_names, declared_at, naming_by, last_of};
 ghost use Rattle.mrc_mig_hints.specs.Known.{same_name_at, table_name_at, given_at};
 
 use crate::seen::{
-    Naming, Seen, first_named, has_include, include_place, is_routine, is_type, last_named, named,
+    Naming, Seen, count_before, first_named, has_include, include_place, is_routine, is_type,
+    last_end, last_named, named,
 };
 use mrc_mig_symbols::Symbol;
 use std::alloc::{AllocError, Global};
@@ -109,6 +110,16 @@ fn declared_but<'t>(
     texts_but(alloc, name, types.as_slice())
 }
 
+/// The tokens before the last semicolon.
+fn finished<'s, 't>(before: &'s [Seen<'t>]) -> &'s [Seen<'t>]
+    ensures { map sight_of result.now ≡ finished (map sight_of before.now) }
+{
+    match last_end(before) {
+        Some(at) => &before[..count_before(before, at)],
+        None => &[],
+    }
+}
+
 /// Adds these names, if the test holds.
 fn push_names_if<'t>(
     names: &mut Vec<&'t str>,
@@ -135,7 +146,7 @@ pub(crate) fn known_names<'t>(
     ensures { IfOk result (λ names. map (λ other. other.now) names.items
         ≡ known_names may_be_basic name.now (map sight_of before.now)) }
 {
-    let mut names = declared_but(alloc, name, before)?;
+    let mut names = declared_but(alloc, name, finished(before))?;
     push_names_if(&mut names, has_include(before), &TABLE_NAMES)?;
     push_names_if(&mut names, may_be_basic, &BASIC_NAMES)?;
     Ok(names)

@@ -1,10 +1,11 @@
 //! What is said of a fault of the grammar.
 
-ghost use Rattle.std.specs.Prelude.{◌≡◌, ◌++◌, ◌&&◌, [], ◌∷◌, map, not, take};
+ghost use Rattle.std.specs.Prelude.{◌≡◌, ◌++◌, [], ◌∷◌, map, not, take};
 ghost use Rattle.std.specs.Prelude.{IfOk, OnOk, string_bytes};
 ghost use Rattle.mrc_mig_hints.specs.Sights.{sight_of, bytes_of, named, has_subsystem};
 ghost use Rattle.mrc_mig_hints.specs.declared.seen.Naming.TheVariants.{OfType};
-ghost use Rattle.mrc_mig_hints.specs.Standing.{if_so, expected, may_be, a_number};
+ghost use Rattle.mrc_mig_hints.specs.Standing.{if_so, expected, may_be};
+ghost use Rattle.mrc_mig_hints.specs.Known.{last_of};
 ghost use Rattle.mrc_mig_hints.specs.Notes as notes;
 ghost use Rattle.mrc_mig_hints.specs.Notes.{line_number, on_line, expected_note};
 ghost use Rattle.mrc_mig_hints.specs.Notes.{unexpected_notes, feature_word, left_out_note};
@@ -13,9 +14,10 @@ ghost use Rattle.mrc_mig_hints.specs.Notes.{is_left_in_table, known_at, twice_no
 ghost use Rattle.mrc_mig_hints.specs.Notes.{grammar_notes};
 
 use crate::known::{declared_at, given_at, is_table_name, known_names};
-use crate::seen::{Naming, Seen, has_include, has_subsystem, is_colon, named};
-use crate::standing::{A_NUMBER, BASIC_NAME, expected, may_be};
+use crate::seen::{Naming, Seen, has_include, has_subsystem, is_colon, is_slash, named};
+use crate::standing::{BASIC_NAME, expected, may_be, may_be_number};
 use mrc_base::limits;
+use mrc_mig_lex::Sign;
 use mrc_mig_symbols::{Feature, ParseFault, Symbol, Word};
 use mrc_place::{alternatives, listed, nearest};
 use std::alloc::{AllocError, Global};
@@ -25,7 +27,7 @@ const REQUEST_PORT: &str = "a routine has one request port, of a port type: the 
     requestport, or else the first, unmarked or in";
 
 /// What helps with a line of the preprocessor.
-const PREPROCESS: &str = "run bin/mig-preprocess first";
+const PREPROCESS: &str = "run machcheck mig first: it works out macros, conditions and includes";
 
 /// The number of the line of a place.
 pub(crate) fn line_number(bytes: &[u8], at: usize) -> usize
@@ -132,21 +134,46 @@ fn is_line(symbol: Symbol) -> bool
     matches!(symbol, Symbol::Directive(_))
 }
 
-fn is_number(symbol: Symbol) -> bool
-    ensures { result ≡ notes.is_number symbol }
+/// Whether this is a number or a parenthesis, and such a token may be there.
+fn is_unfit(alloc: Global, text: &str, at: usize, symbol: Symbol) -> Result<bool, AllocError>
+    ensures { IfOk result (λ unfit. unfit ≡ notes.is_unfit text.now at symbol) }
 {
-    matches!(symbol, Symbol::Number(_))
+    match symbol {
+        Symbol::Number(_) => may_be_number(alloc, text, at),
+        Symbol::Sign(Sign::OpenParenthesis) => may_be(alloc, text, at, "("),
+        _ => Ok(false),
+    }
 }
 
-/// Whether this is a number, and a number may be there.
-fn is_unfit(alloc: Global, text: &str, at: usize, symbol: Symbol) -> Result<bool, AllocError>
-    ensures { IfOk result (λ unfit.
-        unfit ≡ (notes.is_number symbol && may_be text.now at a_number)) }
+fn is_zero(symbol: Symbol) -> bool
+    ensures { result ≡ notes.is_zero symbol }
 {
-    if !is_number(symbol) {
-        return Ok(false);
+    match symbol {
+        Symbol::Number(number) => number == 0,
+        _ => false,
     }
-    may_be(alloc, text, at, A_NUMBER)
+}
+
+/// Whether this is 0 and what is divided by, behind these tokens.
+fn is_zero_divisor(before: &[Seen<'_>], symbol: Symbol) -> bool
+    ensures { result
+        ≡ notes.is_zero_divisor (last_of (map sight_of before.now)) symbol }
+{
+    match before.last() {
+        Some(last) => is_slash(last.symbol) && is_zero(symbol),
+        None => false,
+    }
+}
+
+/// What is said of a value that does not fit, behind these tokens.
+fn unfit_note(before: &[Seen<'_>], symbol: Symbol) -> &'static str
+    ensures { result.now
+        ≡ notes.unfit_note (last_of (map sight_of before.now)) symbol }
+{
+    if is_zero_divisor(before, symbol) {
+        return "a divisor is not 0";
+    }
+    "its value does not fit: see MIG.md, Grammar, for sizes and the parts of an expression"
 }
 
 /// Whether none of these tokens is the word `subsystem`.
@@ -180,9 +207,7 @@ fn unexpected_notes(
     push_if(alloc, &mut notes, is_missing, "the file has no subsystem")?;
     push_if(alloc, &mut notes, is_line(symbol), PREPROCESS)?;
     let is_unfit = is_unfit(alloc, text, at, symbol)?;
-    let unfit =
-        "its value does not fit: see MIG.md, Grammar, for sizes and the parts of an expression";
-    push_if(alloc, &mut notes, is_unfit, unfit)?;
+    push_if(alloc, &mut notes, is_unfit, unfit_note(before, symbol))?;
     Ok(notes)
 }
 

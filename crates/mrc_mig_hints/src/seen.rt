@@ -10,7 +10,7 @@ ghost use Rattle.mrc_mig_hints.specs.Sights as sights;
 ghost use Rattle.mrc_mig_hints.specs.Sights.{sight, sight_of, count_before, picked, picked_with};
 ghost use Rattle.mrc_mig_hints.specs.Sights.{named, has_include, has_subsystem, first_place};
 ghost use Rattle.mrc_mig_hints.specs.Sights.{has_bytes, last_place};
-ghost use Rattle.mrc_mig_hints.specs.Known.{include_at};
+ghost use Rattle.mrc_mig_hints.specs.Known.{include_at, is_end};
 
 use mrc_mig_lex::Sign;
 use mrc_mig_symbols::{Directive, Rest, Symbol, Tokens, Word, place_of};
@@ -100,6 +100,18 @@ pub(crate) fn is_colon(symbol: Symbol) -> bool
     matches!(symbol, Symbol::Sign(Sign::Colon))
 }
 
+fn is_semicolon(symbol: Symbol) -> bool
+    ensures { result ≡ sights.is_semicolon symbol }
+{
+    matches!(symbol, Symbol::Sign(Sign::Semicolon))
+}
+
+pub(crate) fn is_slash(symbol: Symbol) -> bool
+    ensures { result ≡ sights.is_slash symbol }
+{
+    matches!(symbol, Symbol::Sign(Sign::Slash))
+}
+
 fn is_subsystem(symbol: Symbol) -> bool
     ensures { result ≡ sights.is_subsystem symbol }
 {
@@ -180,6 +192,19 @@ pub(crate) fn last_named(seen: &[Seen<'_>], text: &str) -> Option<usize>
     let mut last = None;
     for token in seen {
         if token.text == text {
+            last = Some(token.at);
+        }
+    }
+    last
+}
+
+/// The place of the last semicolon.
+pub(crate) fn last_end(seen: &[Seen<'_>]) -> Option<usize>
+    ensures { result ≡ last_place is_end (map sight_of seen.now) }
+{
+    let mut last = None;
+    for token in seen {
+        if is_semicolon(token.symbol) {
             last = Some(token.at);
         }
     }

@@ -8,7 +8,7 @@ ghost use Rattle.mrc_mig_hints.specs.Standing.{lex_place, parse_place, place_in}
 ghost use Rattle.mrc_mig_hints.specs.Standing.{first_fault, is_behind, written, may_be, if_so};
 ghost use Rattle.mrc_mig_hints.specs.Standing.{text_if, is_faultless};
 ghost use Rattle.mrc_mig_hints.specs.Standing.{candidate, shown_of, name_shown, expected};
-ghost use Rattle.mrc_mig_hints.specs.Standing.{reserved_words, others};
+ghost use Rattle.mrc_mig_hints.specs.Standing.{reserved_words, others, numbers, number_shown};
 
 use mrc_base::OrMemory;
 use mrc_mig_lex::LexFault;
@@ -67,9 +67,8 @@ const RESERVED_WORDS: [(&str, &str); 43] = [
     ("polymorphic", "polymorphic"),
 ];
 
-/// Numbers, strings and signs, each with how it is shown.
-const OTHERS: [(&str, &str); 17] = [
-    (A_NUMBER, "a number"),
+/// Strings and signs, each with how it is shown.
+const OTHERS: [(&str, &str); 16] = [
     ("\"x\"", "a string"),
     ("<x>", "<..>"),
     ("=", "\"=\""),
@@ -91,8 +90,8 @@ const OTHERS: [(&str, &str); 17] = [
 /// A name that is used for nothing.
 pub(crate) const NEW_NAME: &str = "any_other_name";
 
-/// A number, which is also a size and a count.
-pub(crate) const A_NUMBER: &str = "32";
+/// Numbers, which are also sizes and counts.
+const NUMBERS: [&str; 10] = ["32", "1", "2", "3", "4", "5", "6", "7", "8", "0"];
 
 /// A name of a basic type.
 pub(crate) const BASIC_NAME: &str = "MACH_MSG_TYPE_BOOLEAN";
@@ -280,6 +279,29 @@ fn push_name<'s>(
     Ok(())
 }
 
+/// Whether a number may be at a place.
+pub(crate) fn may_be_number(alloc: Global, text: &str, at: usize) -> Result<bool, AllocError>
+    ensures { IfOk result (λ may. may ≡ list_any (may_be text.now at) numbers) }
+{
+    any_may_be(alloc, text, at, &NUMBERS)
+}
+
+/// Adds that a number may be at a place, if one may.
+fn push_number<'s>(
+    alloc: Global,
+    text: &str,
+    at: usize,
+    shown: &mut Vec<&'s str>,
+) -> Result<(), AllocError>
+    ensures { OnOk result (map (λ word. word.now) shown.new.items
+        ≡ map (λ word. word.now) shown.old.items ++ number_shown text.now at) }
+{
+    if may_be_number(alloc, text, at)? {
+        shown.push("a number")?;
+    }
+    Ok(())
+}
+
 /// All that may be at a place, as it is shown.
 pub(crate) fn expected(
     alloc: Global,
@@ -296,6 +318,7 @@ pub(crate) fn expected(
     }
     push_shown(alloc, text, at, &RESERVED_WORDS, &mut shown)?;
     push_name(alloc, text, at, types, &mut shown)?;
+    push_number(alloc, text, at, &mut shown)?;
     push_shown(alloc, text, at, &OTHERS, &mut shown)?;
     Ok(shown)
 }

@@ -77,6 +77,37 @@ fn types(rt: HostRuntime) -> Result<(), Fail> {
 }
 
 #[test]
+fn parts_of_expressions(rt: HostRuntime) -> Result<(), Fail> {
+    let alloc = rt.alloc();
+    let zero = "1:subsystem s 5; type t = array[1/|0|] of int;\nexpected: a number or \"(\"\n\
+        a divisor is not 0";
+    expect(
+        &rt,
+        alloc,
+        b"subsystem s 5; type t = array[1/0] of int;",
+        zero,
+    )?;
+    let below = "1:subsystem s 5; type t = array[|5|-7] of int;\n\
+        expected: a number, \"(\" or \"*\"\n\
+        its value does not fit: see MIG.md, Grammar, for sizes and the parts of an expression";
+    expect(
+        &rt,
+        alloc,
+        b"subsystem s 5; type t = array[5-7] of int;",
+        below,
+    )?;
+    let inner = "1:subsystem s 5; type t = array[1/|(|1-1)] of int;\nexpected: a number or \"(\"\n\
+        its value does not fit: see MIG.md, Grammar, for sizes and the parts of an expression";
+    expect(
+        &rt,
+        alloc,
+        b"subsystem s 5; type t = array[1/(1-1)] of int;",
+        inner,
+    )?;
+    Ok(())
+}
+
+#[test]
 fn no_subsystem(rt: HostRuntime) -> Result<(), Fail> {
     let alloc = rt.alloc();
     let empty = "1:||\nexpected: subsystem\nthe file has no subsystem";
@@ -122,12 +153,31 @@ fn known_types(rt: HostRuntime) -> Result<(), Fail> {
 }
 
 #[test]
+fn declared_types(rt: HostRuntime) -> Result<(), Fail> {
+    let alloc = rt.alloc();
+    let itself = "1:subsystem s 5; type file_t = |file|;\nknown types: \
+        MACH_MSG_TYPE_BOOLEAN, MACH_MSG_TYPE_INTEGER_16, MACH_MSG_TYPE_INTEGER_32, \
+        MACH_MSG_TYPE_CHAR, MACH_MSG_TYPE_BYTE, MACH_MSG_TYPE_INTEGER_8, MACH_MSG_TYPE_STRING, \
+        MACH_MSG_TYPE_STRING_C, MACH_MSG_TYPE_PORT_NAME, MACH_MSG_TYPE_MOVE_RECEIVE and 10 more";
+    expect(&rt, alloc, b"subsystem s 5; type file_t = file;", itself)?;
+    let file = b"subsystem s 5; type door = MACH_MSG_TYPE_MAKE_SEND;\ntype gate = array[2] of dor;";
+    let near = "2:type gate = array[2] of |dor|;\ndid you mean: door";
+    expect(&rt, alloc, file, near)?;
+    let argument = "2:routine r(p : gate; q : |t|);\nknown types: gate";
+    let file = b"subsystem s 5; type gate = MACH_MSG_TYPE_MAKE_SEND;\n\
+        routine r(p : gate; q : t);";
+    expect(&rt, alloc, file, argument)?;
+    Ok(())
+}
+
+#[test]
 fn left_out(rt: HostRuntime) -> Result<(), Fail> {
     let alloc = rt.alloc();
     let form = "1:subsystem s 5; type t = |^| int;\n\
         this form of MIG is not read: see MIG.md, What is left out, OutOfLine";
     expect(&rt, alloc, b"subsystem s 5; type t = ^ int;", form)?;
-    let line = "2:|#define A 1|\nrun bin/mig-preprocess first";
+    let line = "2:|#define A 1|\n\
+        run machcheck mig first: it works out macros, conditions and includes";
     expect(&rt, alloc, b"subsystem s 5;\n#define A 1\n", line)?;
     Ok(())
 }
