@@ -1,0 +1,6 @@
+mod Loops
+mod Noted
+mod Fitting
+mod First
+mod Grammar
+mod Worked

@@ -1,0 +1,258 @@
+//! The hexadecimal digits of a message that is sent.
+
+ghost use Rattle.std.specs.Prelude.{◌≡◌, ◌≤◌, ◌<◌, ◌^◌, length, map, flat_map, option_map};
+ghost use Rattle.std.specs.Prelude.{slice_index_or, IfOk, IfSome};
+ghost use Rattle.std.specs.List.{position_or_len};
+ghost use Rattle.mrc_report.specs.Parameters.{digit_value, byte_of, bytes_of_digits};
+ghost use Rattle.mrc_script_hints.specs.Hexes.{is_no_digit, bad_disp_byte, fault_byte, is_long_at};
+ghost use Rattle.mrc_script_hints.specs.Hexes.{is_of_desc, fault_at, behind, message_seen};
+ghost use Rattle.mrc_script_hints.specs.Hexes.{bytes_seen, hex_seen, digit_place};
+ghost use Rattle.mrc_script_hints.specs.declared.hexes.HexFault.TheVariants as hex;
+ghost use Rattle.mrc_desc.specs.Reading.{message_at};
+
+use mrc_base::OrMemory;
+use mrc_desc::{ReadFault, read_message};
+use std::alloc::{AllocError, Global};
+
+/// How many bytes a message may have.
+const LONGEST: usize = 8192;
+
+/// What is wrong in the digits of a message.
+#[derive(Clone, Copy, Debug, PartialEq, Eq)]
+pub(crate) enum HexFault {
+    /// There is none.
+    Missing,
+    /// A character is no digit.
+    NoDigit,
+    /// The last digit is one half of a byte.
+    HalfByte,
+    /// The bytes are no message.
+    OfMessage {
+        /// The fault of the message.
+        fault: ReadFault,
+        /// The byte that it is at.
+        byte: usize,
+        /// Whether it is of a descriptor in the long form.
+        long: bool,
+    },
+    /// Nothing.
+    NoFault,
+}
+
+/// What is wrong in the digits of a message, and where.
+#[derive(Clone, Copy, Debug, PartialEq, Eq)]
+pub(crate) struct HexSeen {
+    /// How many digits are before it.
+    pub digit: usize,
+    /// What is wrong.
+    pub fault: HexFault,
+}
+
+/// Where a digit is in words.
+#[derive(Clone, Copy, Debug, PartialEq, Eq)]
+pub(crate) struct DigitPlace {
+    /// The number of the word, from 0.
+    pub word: usize,
+    /// How many digits are before it in the word.
+    pub offset: usize,
+}
+
+/// The value of a hexadecimal digit, of either case.
+fn digit_value(digit: u8) -> Option<u8>
+    ensures exact { result ≡ digit_value digit }
+    ensures within { IfSome result (λ value. value < 16) }
+{
+    match digit {
+        b'0'..=b'9' => Some(digit - b'0'),
+        b'a'..=b'f' => Some(digit - b'a' + 10),
+        b'A'..=b'F' => Some(digit - b'A' + 10),
+        _ => None,
+    }
+}
+
+/// The byte that two hexadecimal digits encode.
+#[tactic(auto, unfolding(mrc_report::specs::Parameters::byte_of))]
+fn byte_of(high: u8, low: u8) -> Option<u8>
+    ensures { result ≡ byte_of high low }
+{
+    let high = digit_value(high)?;
+    let low = digit_value(low)?;
+    Some(high * 16 + low)
+}
+
+/// The bytes that hexadecimal digits encode, two digits a byte.
+fn bytes_of_digits(alloc: Global, digits: &[u8]) -> Result<Option<Vec<u8>>, AllocError>
+    ensures { IfOk result (λ found.
+        option_map (λ bytes. bytes.items) found ≡ bytes_of_digits digits.now) }
+{
+    let mut bytes = Vec::new(alloc);
+    let mut rest = digits;
+    while let [high, low, after @ ..] = rest {
+        let Some(byte) = byte_of(*high, *low) else {
+            return Ok(None);
+        };
+        bytes.push(byte)?;
+        rest = after;
+    }
+    if rest.is_empty() {
+        Ok(Some(bytes))
+    } else {
+        Ok(None)
+    }
+}
+
+/// Words one after the other, as one.
+pub(crate) fn joined(alloc: Global, words: &[&[u8]]) -> Result<Vec<u8>, AllocError>
+    ensures { IfOk result (λ text.
+        text.items ≡ flat_map (λ word. word) (map (λ word. word.now) words.now)) }
+{
+    let mut text = Vec::new(alloc);
+    for word in words {
+        text.extend_from_slice(word)?;
+    }
+    Ok(text)
+}
+
+fn is_no_digit(digit: u8) -> bool
+    ensures { result ≡ is_no_digit digit }
+{
+    !digit_value(digit).is_some()
+}
+
+/// How many digits are before the first character that is none.
+fn first_no_digit(digits: &[u8]) -> usize
+    ensures { result ≡ position_or_len is_no_digit digits.now }
+{
+    digits
+        .iter()
+        .position(|digit| is_no_digit(*digit))
+        .unwrap_or(digits.len())
+}
+
+/// The byte of a header that has the wrong one of its two dispositions.
+fn bad_disp_byte(remote: u8) -> usize
+    ensures { result ≡ bad_disp_byte remote }
+{
+    if 17 <= remote && remote <= 21 { 1 } else { 0 }
+}
+
+/// The byte of this number: 0 if there is none.
+fn byte_at(bytes: &[u8], place: usize) -> u8
+    ensures { result ≡ slice_index_or bytes.now place 0 }
+{
+    match bytes.get(place) {
+        Some(byte) => *byte,
+        None => 0,
+    }
+}
+
+/// The byte of a message that its fault is at.
+fn fault_byte(bytes: &[u8], fault: ReadFault) -> usize
+    ensures exact { result ≡ fault_byte bytes.now fault }
+    ensures within { result < 2 ^ 63 }
+{
+    match fault {
+        ReadFault::TooShort => bytes.len(),
+        ReadFault::TooLong => LONGEST,
+        ReadFault::BadHeaderDisp => bad_disp_byte(byte_at(bytes, 0)),
+        ReadFault::BadDesc(at) | ReadFault::OutOfLine(at) | ReadFault::Truncated(at) => {
+            at.min(bytes.len())
+        }
+        ReadFault::ComplexDiffers => 3,
+    }
+}
+
+/// Whether it is a fault of a descriptor that may have the long form.
+fn is_of_desc(fault: ReadFault) -> bool
+    ensures { result ≡ is_of_desc fault }
+{
+    matches!(fault, ReadFault::BadDesc(_) | ReadFault::Truncated(_))
+}
+
+/// Whether the descriptor that begins at a byte has the long form.
+fn is_long_at(bytes: &[u8], byte: usize) -> bool
+    requires { byte < 2 ^ 63 }
+    ensures { result ≡ is_long_at bytes.now byte }
+{
+    byte_at(bytes, byte + 3) / 32 % 2 == 1
+}
+
+/// The fault of a message, and where it is.
+fn fault_seen(bytes: &[u8], fault: ReadFault) -> HexSeen
+    ensures { result ≡ fault_at bytes.now fault (fault_byte bytes.now fault) }
+{
+    let byte = fault_byte(bytes, fault);
+    let long = is_of_desc(fault) && is_long_at(bytes, byte);
+    HexSeen {
+        digit: 2 * byte,
+        fault: HexFault::OfMessage { fault, byte, long },
+    }
+}
+
+fn no_fault(count: usize) -> HexSeen
+    ensures { result ≡ behind count hex.NoFault }
+{
+    HexSeen {
+        digit: count,
+        fault: HexFault::NoFault,
+    }
+}
+
+/// What is wrong in the bytes of so many digits.
+fn bytes_seen(alloc: Global, count: usize, bytes: &[u8]) -> Result<HexSeen, AllocError>
+    ensures { IfOk result (λ seen. seen ≡ message_seen count bytes.now (message_at bytes.now)) }
+{
+    match read_message(alloc, bytes) {
+        Ok(_) => Ok(no_fault(count)),
+        Err(OrMemory::Fault(fault)) => Ok(fault_seen(bytes, fault)),
+        Err(OrMemory::Memory) => Err(AllocError),
+    }
+}
+
+/// What is wrong in hexadecimal digits, two for each byte.
+fn pairs_seen(alloc: Global, digits: &[u8]) -> Result<HexSeen, AllocError>
+    ensures { IfOk result (λ seen.
+        seen ≡ bytes_seen (length digits.now) (bytes_of_digits digits.now)) }
+{
+    match bytes_of_digits(alloc, digits)? {
+        Some(bytes) => bytes_seen(alloc, digits.len(), &bytes),
+        None => Ok(no_fault(digits.len())),
+    }
+}
+
+/// What is wrong in the digits of a message.
+pub(crate) fn hex_seen(alloc: Global, digits: &[u8]) -> Result<HexSeen, AllocError>
+    ensures { IfOk result (λ seen. seen ≡ hex_seen digits.now) }
+{
+    let first = first_no_digit(digits);
+    let (digit, fault) = if digits.is_empty() {
+        (0, HexFault::Missing)
+    } else if first < digits.len() {
+        (first, HexFault::NoDigit)
+    } else if digits.len() % 2 == 1 {
+        (digits.len() - 1, HexFault::HalfByte)
+    } else {
+        return pairs_seen(alloc, digits);
+    };
+    Ok(HexSeen { digit, fault })
+}
+
+/// The word that has the digit behind so many others.
+pub(crate) fn digit_place(digit: usize, words: &[&[u8]]) -> DigitPlace
+    ensures exact { result ≡ digit_place digit (map (λ word. word.now) words.now) }
+    ensures offset { result.offset < 2 ^ 63 }
+    ensures word { result.word ≤ length words.now }
+{
+    let mut word = 0usize;
+    let mut offset = digit;
+    let mut rest = words;
+    while let [first, others @ ..] = rest {
+        if offset < first.len() {
+            return DigitPlace { word, offset };
+        }
+        offset -= first.len();
+        word += 1;
+        rest = others;
+    }
+    DigitPlace { word, offset: 0 }
+}

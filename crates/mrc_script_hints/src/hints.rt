@@ -1,0 +1,226 @@
+//! What helps with a fault of a script.
+
+ghost use Rattle.std.specs.Prelude.{◌≡◌, ◌≤◌, ◌<◌, ◌-◌, ◌^◌, ◌++◌, [], map, IfOk, OnOk, None};
+ghost use Rattle.std.specs.Prelude.{nat_lt};
+ghost use Rattle.std.specs.Prelude.{slice_index_or, string_bytes};
+ghost use Rattle.std.specs.Option.{option_map, option_to_list};
+ghost use Rattle.std.specs.Str.{IsUtf8};
+ghost use Rattle.mrc_base.specs.Limits.{limit_of_lines};
+ghost use Rattle.mrc_wiring.specs.GivenLines.{task_named, task_names};
+ghost use Rattle.mrc_wiring_text.specs.Lexis.{lines, words};
+ghost use Rattle.mrc_script_hints.specs.Wrong.{found_in};
+ghost use Rattle.mrc_script_hints.specs.Hints.{IsPart, width, IsCaret, word_of, IsLineHint};
+ghost use Rattle.mrc_script_hints.specs.Hints.{IsBadLine, IsScriptHint};
+
+use crate::hexes::HexFault;
+use crate::notes::{notes, text_note};
+use crate::wrong::{Found, Wrong, found_in};
+use mrc_base::limits::LINES;
+use mrc_place::{Hint, Spot, byte_spot, word_spot};
+use mrc_wiring_text::{TextFault, WiringLine, WiringSays, between_blanks, first_line, spaced};
+use std::alloc::{AllocError, Global};
+use std::str;
+
+/// Two texts, one after the other.
+fn joined(alloc: Global, first: &str, second: &str) -> Result<String, AllocError>
+    ensures { IfOk result (λ text. string_bytes text ≡ first.now ++ second.now) }
+{
+    format!(in alloc; "{first}{second}")
+}
+
+/// The bytes of a word from `start` to `end`, as a part of the word's line.
+fn part_of(alloc: Global, whole: &Spot, start: usize, end: usize) -> Result<Spot, AllocError>
+    ensures { IfOk result (IsPart whole.now start end) }
+{
+    let inner = byte_spot(alloc, whole.word.as_str(), start, end)?;
+    let before = joined(alloc, whole.before.as_str(), inner.before.as_str())?;
+    let after = joined(alloc, inner.after.as_str(), whole.after.as_str())?;
+    Ok(Spot {
+        line: whole.line,
+        before,
+        word: inner.word,
+        after,
+    })
+}
+
+/// How many digits or characters are wrong.
+fn width(fault: HexFault) -> usize
+    ensures exact { result ≡ width fault }
+    ensures few { result ≤ 2 }
+{
+    match fault {
+        HexFault::OfMessage { .. } => 2,
+        _ => 1,
+    }
+}
+
+/// The wrong word of a line; of HEX the wrong digits.
+fn caret(alloc: Global, text: &str, line: u32, found: Found) -> Result<Option<Spot>, AllocError>
+    requires { found.offset < 2 ^ 63 }
+    ensures { IfOk result (IsCaret text.now line found) }
+{
+    let Some(whole) = word_spot(alloc, text, line, found.word)? else {
+        return Ok(None);
+    };
+    match found.wrong {
+        Wrong::Hex(fault) => {
+            let end = found.offset + width(fault);
+            Ok(Some(part_of(alloc, &whole, found.offset, end)?))
+        }
+        _ => Ok(Some(whole)),
+    }
+}
+
+/// The text of the part of a line, if there is one.
+fn word_of(spot: &Option<Spot>) -> &str
+    ensures { result.now ≡ word_of spot.now }
+{
+    match spot {
+        Some(spot) => spot.word.as_str(),
+        None => "",
+    }
+}
+
+/// The line behind so many others: empty if there is none.
+fn nth_line(text: &[u8], above: usize) -> &[u8]
+    ensures { result.now ≡ slice_index_or (lines text.now) above [] }
+{
+    let mut rest = text;
+    let mut left = above;
+    while !rest.is_empty() {
+        let (line, after) = first_line(rest);
+        if left == 0 {
+            return line;
+        }
+        left -= 1;
+        rest = after;
+    }
+    &[]
+}
+
+fn task_named(line: &WiringLine) -> Option<&str>
+    ensures { option_map (λ name. name.now) result ≡ task_named line.now.says }
+{
+    match &line.says {
+        WiringSays::Task(name) => Some(name.as_str()),
+        _ => None,
+    }
+}
+
+/// Adds a name, if there is one.
+fn push_if_there<'a>(names: &mut Vec<&'a str>, name: Option<&'a str>) -> Result<(), AllocError>
+    ensures { OnOk result (map (λ name. name.now) names.new.items
+        ≡ map (λ name. name.now) names.old.items
+        ++ option_to_list (option_map (λ name. name.now) name.entry)) }
+{
+    if let Some(name) = name {
+        names.push(name)?;
+    }
+    Ok(())
+}
+
+/// The names of the tasks of a wiring.
+fn task_names(alloc: Global, wiring: &[WiringLine]) -> Result<Vec<&str>, AllocError>
+    ensures { IfOk result (λ names.
+        map (λ name. name.now) names.items ≡ task_names wiring.now) }
+{
+    let mut names = Vec::new(alloc);
+    for line in wiring {
+        push_if_there(&mut names, task_named(line))?;
+    }
+    Ok(names)
+}
+
+/// What is wrong in a line.
+#[tactic(auto, unfolding(mrc_wiring_text::specs::Lexis::words))]
+fn found_at(alloc: Global, live: bool, tasks: &[&str], line: &[u8]) -> Result<Found, AllocError>
+    ensures exact { IfOk result (λ found.
+        found ≡ found_in live (map (λ name. name.now) tasks.now) (words line.now)) }
+    ensures within { IfOk result (λ found. found.offset < 2 ^ 63) }
+{
+    let text = spaced(alloc, line)?;
+    let words = between_blanks(alloc, &text)?;
+    found_in(alloc, live, tasks, &words)
+}
+
+/// What helps with a line that is not one of the grammar.
+fn line_hint(
+    alloc: Global,
+    live: bool,
+    tasks: &[&str],
+    text: &str,
+    line: u32,
+) -> Result<Hint, AllocError>
+    ensures { IfOk result (λ hint. IsLineHint live (map (λ name. name.now) tasks.now) text.now
+        line (found_in live (map (λ name. name.now) tasks.now)
+        (words (slice_index_or (lines text.now) (line - 1) []))) hint) }
+{
+    let above = (line as usize).saturating_sub(1);
+    let found = found_at(alloc, live, tasks, nth_line(text.as_bytes(), above))?;
+    let spot = caret(alloc, text, line, found)?;
+    let notes = notes(alloc, live, tasks, found.wrong, word_of(&spot))?;
+    Ok(Hint { spot, notes })
+}
+
+/// What helps with a line of this number, which may be one too many.
+fn bad_line(
+    alloc: Global,
+    live: bool,
+    wiring: &[WiringLine],
+    text: &str,
+    line: u32,
+) -> Result<Hint, AllocError>
+    ensures { IfOk result (IsBadLine live wiring.now text.now line
+        (nat_lt limit_of_lines line)) }
+{
+    if line > LINES {
+        return Ok(Hint {
+            spot: None,
+            notes: text_note(alloc, "the text has more than 65,535 lines")?,
+        });
+    }
+    let tasks = task_names(alloc, wiring)?;
+    line_hint(alloc, live, &tasks, text, line)
+}
+
+/// What helps with bytes that are no text, the first of which is behind so many others.
+fn no_text(alloc: Global, text: &[u8], valid: usize) -> Result<Hint, AllocError>
+    ensures { IfOk result (λ hint. hint.spot ≡ None) }
+{
+    let mut notes = Vec::new(alloc);
+    let (before, behind) = text.split_at(valid.min(text.len()));
+    if let [byte, ..] = behind {
+        let line = before.iter().filter(|byte| **byte == b'\n').count() as u64 + 1;
+        notes.push(format!(in alloc; "the byte {byte:02x} on line {line} is not UTF-8")?)?;
+    }
+    Ok(Hint { spot: None, notes })
+}
+
+/// What helps with a line of a script that is none of the grammar: its first wrong word, or of the
+/// bytes of a message the wrong digits, and what may be there. The lines are those of the wiring of
+/// its tasks. `live` is as in `read_script` of `mrc_report`.
+pub fn script_hint(
+    alloc: Global,
+    text: &[u8],
+    wiring: &[WiringLine],
+    live: bool,
+    fault: TextFault,
+) -> Result<Hint, AllocError>
+    // The caret is under the first word that is wrong by the table of calls, or behind the last
+    // word if one is missing; and the notes are those on it.
+    ensures hint { IsUtf8 text.now →
+        IfOk result (IsScriptHint live wiring.now text.now fault) }
+    // Bytes that are no text have no line.
+    ensures no_text { ¬ (IsUtf8 text.now) → IfOk result (λ hint. hint.spot ≡ None) }
+{
+    match str::from_utf8(text) {
+        Err(error) => no_text(alloc, text, error.valid_up_to()),
+        Ok(text) => match fault {
+            TextFault::BadLine(line) => bad_line(alloc, live, wiring, text, line),
+            TextFault::NotUtf8 | TextFault::Version => Ok(Hint {
+                spot: None,
+                notes: Vec::new(alloc),
+            }),
+        },
+    }
+}

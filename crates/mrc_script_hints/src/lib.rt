@@ -1,0 +1,16 @@
+//! What helps with a fault of a script: where its first wrong word is, and what may be in its
+//! place.
+#![tactic(auto)]
+
+mod calls;
+mod hexes;
+mod hints;
+pub mod laws;
+mod notes;
+mod parameters;
+mod wrong;
+
+pub use hints::script_hint;
+
+#[cfg(test)]
+mod tests;
