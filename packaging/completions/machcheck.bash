@@ -18,19 +18,21 @@ _machcheck() {
     '') kind=words options='verify mend attack check make explain facts graph slots promises replay live mig help --help --version' ;;
     help) kind=words options='verify mend attack check make explain facts graph slots promises replay live mig ' ;;
     verify)
-        options='--wiring --policy --tree --brief --line --verbose --help'
+        options='--wiring --policy --tree --brief --line --format --verbose --help'
         case $before in
         --wiring) kind=file ;;
         --policy) kind=file ;;
         --line) kind=nothing ;;
+        --format) kind=nothing ;;
         esac
         ;;
     mend)
-        options='--wiring --policy --most --verbose --help'
+        options='--wiring --policy --most --format --verbose --help'
         case $before in
         --wiring) kind=file ;;
         --policy) kind=file ;;
         --most) kind=nothing ;;
+        --format) kind=nothing ;;
         esac
         ;;
     attack)
@@ -43,11 +45,12 @@ _machcheck() {
         esac
         ;;
     check)
-        options='--wiring --policy --cert --verbose --help'
+        options='--wiring --policy --cert --format --verbose --help'
         case $before in
         --wiring) kind=file ;;
         --policy) kind=file ;;
         --cert) kind=file ;;
+        --format) kind=nothing ;;
         esac
         ;;
     make)
@@ -59,20 +62,22 @@ _machcheck() {
         esac
         ;;
     explain)
-        options='--wiring --fact --by --verbose --help'
+        options='--wiring --fact --by --format --verbose --help'
         case $before in
         --wiring) kind=file ;;
         --fact) kind=nothing ;;
+        --format) kind=nothing ;;
         esac
         ;;
     facts)
-        options='--wiring --cert --task --class --right --verbose --help'
+        options='--wiring --cert --task --class --right --format --verbose --help'
         case $before in
         --wiring) kind=file ;;
         --cert) kind=file ;;
         --task) kind=nothing ;;
         --class) kind=nothing ;;
         --right) kind=nothing ;;
+        --format) kind=nothing ;;
         esac
         ;;
     graph)
@@ -114,9 +119,10 @@ _machcheck() {
         esac
         ;;
     mig)
-        options='--out --strict --strict-rights --verbose -I -D -U --help'
+        options='--out --strict --strict-rights --format --verbose -I -D -U --help'
         case $before in
         --out) kind=folder ;;
+        --format) kind=nothing ;;
         -I) kind=folder ;;
         -D) kind=nothing ;;
         -U) kind=nothing ;;

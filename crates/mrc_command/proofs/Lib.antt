@@ -1,4 +1,5 @@
 pub mod CommandLaws
+pub mod AskedLaws
 mod Escapes
 mod ShownExamples
 mod ShownLaws

@@ -2,15 +2,23 @@
 use Rattle.std.proofs.Common.{◌≡◌, true, false, List, [], ◌∷◌, Option, Some, None, codes, map}
 use Rattle.std.proofs.Common.{refl}
 use Rattle.std.specs.Option.{option_map}
-use Rattle.clap.specs.Words.{Row, Text, first_of, subcommand_of}
+use Rattle.clap.specs.Words.{App, Row, Text, fault_of, first_of, subcommand_of, takes}
+use Rattle.clap.specs.declared.error.kind.ErrorKind.TheVariants.{ArgumentConflict, InvalidValue}
+use Rattle.clap.specs.declared.error.kind.ErrorKind.TheVariants.{UnknownArgument}
 use Rattle.clap.proofs.OnLiterals.{clap_on_literals}
 use Rattle.mrc_words.specs.Numbers.{number_of_word}
+use Rattle.mrc_command.proofs.CommandLaws.{kept_formats}
 use Rattle.mrc_command.specs.CommandLine.{machcheck_app}
-use Rattle.mrc_command.specs.Meaning.{all_values, has_flag, number_of, number_if_given}
+use Rattle.mrc_command.specs.Meaning.{all_values, format_given, has_flag, number_of}
+use Rattle.mrc_command.specs.Meaning.{number_if_given}
+use Rattle.mrc_command.specs.declared.command.Format.TheVariants.{Text as Plain, Json, Sarif}
+
+abbrev app : App
+app = machcheck_app kept_formats
 
 -- the name of the subcommand, and what is read of its rows
 abbrev given : {T : Type 0} → (List Row → T) → List Text → Option (Text × T)
-given read words = option_map (λ asked. (asked.0, read asked.1)) (subcommand_of machcheck_app words)
+given read words = option_map (λ asked. (asked.0, read asked.1)) (subcommand_of app words)
 
 -- options and MIG files in any order, and a flag
 abbrev check_words : List Text
@@ -109,3 +117,69 @@ mig_words =
 mig_verbose : given (has_flag (codes "verbose")) mig_words ≡ Some (codes "mig", true)
 unfolding clap_on_literals
 mig_verbose = refl
+
+-- the format is named, and behind `=`
+abbrev json_words : List Text
+json_words =
+    codes "machcheck" ∷ codes "check" ∷ codes "--format" ∷ codes "json" ∷ codes "--wiring"
+    ∷ codes "w" ∷ codes "--policy" ∷ codes "p" ∷ codes "--cert" ∷ codes "c" ∷ []
+
+check_json : given format_given json_words ≡ Some (codes "check", Json)
+unfolding clap_on_literals
+check_json = refl
+
+json_taken : takes app json_words ≡ true
+unfolding clap_on_literals
+json_taken = refl
+
+abbrev sarif_words : Text → List Text
+sarif_words command =
+    codes "machcheck" ∷ command ∷ codes "--wiring" ∷ codes "w" ∷ codes "--policy" ∷ codes "p"
+    ∷ codes "--format=sarif" ∷ []
+
+verify_sarif : given format_given (sarif_words (codes "verify")) ≡ Some (codes "verify", Sarif)
+unfolding clap_on_literals
+verify_sarif = refl
+
+-- only `verify` has this format
+verify_taken : takes app (sarif_words (codes "verify")) ≡ true
+unfolding clap_on_literals
+verify_taken = refl
+
+mend_refused : fault_of app (sarif_words (codes "mend")) ≡ InvalidValue ∷ []
+unfolding clap_on_literals
+mend_refused = refl
+
+-- it is not named
+verify_text : given format_given verify_words ≡ Some (codes "verify", Plain)
+unfolding clap_on_literals
+verify_text = refl
+
+-- it is named as text
+abbrev text_words : List Text
+text_words =
+    codes "machcheck" ∷ codes "mig" ∷ codes "--out" ∷ codes "o" ∷ codes "--format=text"
+    ∷ codes "a" ∷ []
+
+mig_text : given format_given text_words ≡ Some (codes "mig", Plain)
+unfolding clap_on_literals
+mig_text = refl
+
+-- it is named twice
+abbrev twice_words : List Text
+twice_words =
+    codes "machcheck" ∷ codes "mig" ∷ codes "--format=json" ∷ codes "--out" ∷ codes "o"
+    ∷ codes "--format=text" ∷ codes "a" ∷ []
+
+twice_refused : fault_of app twice_words ≡ ArgumentConflict ∷ []
+unfolding clap_on_literals
+twice_refused = refl
+
+-- a command that has no formats
+abbrev slots_format : List Text
+slots_format =
+    codes "machcheck" ∷ codes "slots" ∷ codes "--format=json" ∷ codes "--wiring" ∷ codes "w" ∷ []
+
+slots_refused : fault_of app slots_format ≡ UnknownArgument ∷ []
+unfolding clap_on_literals
+slots_refused = refl

@@ -1,16 +1,20 @@
 -- Believe. Which command the words of a command line ask for.
 -- This profile's own choice. `clap` says which subcommand the words name, and which values they
 -- give to each of its options: a row for each option that has a value.
-use Rattle.std.specs.Prelude.{◌≡◌, ◌&&◌, ℕ, Bool, true, false, List, [], Option, Some, None, map}
-use Rattle.std.specs.Prelude.{codes, bytes_eq, unwrap_or, is_some, IsSomeAnd}
+use Rattle.std.specs.Prelude.{◌≡◌, ◌&&◌, ℕ, Bool, true, false, List, [], ◌∷◌, Option, Some, None}
+use Rattle.std.specs.Prelude.{map}
+use Rattle.std.specs.Prelude.{codes, bytes_eq, unwrap_or, is_some, if◌then◌else◌, IsSomeAnd}
+use Rattle.std.specs.List.{list_any}
 use Rattle.std.specs.Option.{option_map, option_map_or}
 use Rattle.clap.specs.Words.{Row, Text, all_of, first_of, found_of, rows_of, subcommand_of}
 use Rattle.clap.specs.declared.parser.matches.ArgMatches.{ArgMatches}
 use Rattle.mrc_words.specs.Numbers.{number_of_word}
-use Rattle.mrc_command.specs.CommandLine.{machcheck_app}
+use Rattle.mrc_command.specs.CommandLine.{Formats, machcheck_app}
 use Rattle.mrc_command.specs.declared.command.Command.{Command}
 use Rattle.mrc_command.specs.declared.command.Command.TheVariants.{Case, Mig}
 use Rattle.mrc_command.specs.declared.command.FileNames.{FileNames}
+use Rattle.mrc_command.specs.declared.command.Format.{Format}
+use Rattle.mrc_command.specs.declared.command.Format.TheVariants.{Text as Plain, Json, Sarif}
 use Rattle.mrc_command.specs.declared.command.MigFiles.{MigFiles}
 use Rattle.mrc_command.specs.declared.command.Question.{Question}
 use Rattle.mrc_command.specs.declared.command.Question.TheVariants.{Verify, Mend, Attack, Check}
@@ -43,6 +47,18 @@ abbrev pub number_if_given : Option Text → Option ℕ
 number_if_given None = None
 number_if_given (Some text) = Some (unwrap_or (number_of_word text) 0)
 
+-- the format that a word names, if one is given: text if it names none
+abbrev pub format_of : Option Text → Format
+format_of None = Plain
+format_of (Some word) =
+    if bytes_eq word (codes "json") then Json
+    else if bytes_eq word (codes "sarif") then Sarif
+    else Plain
+
+-- how the answer is to be printed
+abbrev pub format_given : List Row → Format
+format_given rows = format_of (first_of (codes "format") rows)
+
 -- what may not be left out: nothing, if all are asked for, and else what carries rights, if that is
 -- asked for
 abbrev pub strictness_of : Bool → Bool → Strictness
@@ -59,33 +75,37 @@ pub record NamesFiles (rows : List Row) (files : FileNames) : Type 0 where
   pub certificate : first_of (codes "cert") rows ≡ option_map (λ file. file.now) files.certificate
   pub script : first_of (codes "script") rows ≡ option_map (λ file. file.now) files.script
 
--- how broken lines are printed by these options
+-- how the answer of `verify` is printed by these options
 pub record IsShowing (rows : List Row) (showing : Showing) : Type 0 where
   pub tree : showing.tree ≡ has_flag (codes "tree") rows
   pub brief : showing.brief ≡ has_flag (codes "brief") rows
   pub quotes : showing.quotes ≡ has_flag (codes "verbose") rows
   pub line : showing.line ≡ number_if_given (first_of (codes "line") rows)
+  pub format : showing.format ≡ format_given rows
 
 -- the question that a subcommand of this name asks with these options
 abbrev pub Asks : Text → List Row → Question → Type 0
 Asks name rows (Verify showing) = (name ≡ codes "verify") × IsShowing rows showing
-Asks name rows (Mend most) =
+Asks name rows (Mend most format) =
     (name ≡ codes "mend") × (most ≡ number_of 10 (first_of (codes "most") rows))
+    × (format ≡ format_given rows)
 Asks name rows (Attack line most) =
     (name ≡ codes "attack") × (line ≡ number_if_given (first_of (codes "line") rows))
     × (most ≡ number_of 1000 (first_of (codes "most") rows))
-Asks name rows (Check verbose) =
+Asks name rows (Check verbose format) =
     (name ≡ codes "check") × (verbose ≡ has_flag (codes "verbose") rows)
+    × (format ≡ format_given rows)
 Asks name rows (Make out workers) =
     (name ≡ codes "make") × (first_of (codes "out") rows ≡ Some out.now)
     × (workers ≡ number_of 4 (first_of (codes "workers") rows))
-Asks name rows (Explain fact by) =
+Asks name rows (Explain fact by format) =
     (name ≡ codes "explain") × (first_of (codes "fact") rows ≡ Some fact.now)
-    × (by ≡ has_flag (codes "by") rows)
-Asks name rows (Facts task class right) =
+    × (by ≡ has_flag (codes "by") rows) × (format ≡ format_given rows)
+Asks name rows (Facts task class right format) =
     (name ≡ codes "facts") × (first_of (codes "task") rows ≡ option_map (λ word. word.now) task)
     × (first_of (codes "class") rows ≡ option_map (λ word. word.now) class)
     × (first_of (codes "right") rows ≡ option_map (λ word. word.now) right)
+    × (format ≡ format_given rows)
 Asks name rows (Graph fact task holds) =
     (name ≡ codes "graph") × (first_of (codes "fact") rows ≡ option_map (λ text. text.now) fact)
     × (first_of (codes "task") rows ≡ option_map (λ word. word.now) task)
@@ -98,9 +118,9 @@ Asks name rows Live = name ≡ codes "live"
 -- the files that a question needs besides the wiring are named
 abbrev pub has_files : Question → FileNames → Bool
 has_files (Verify showing) files = is_some files.policy
-has_files (Mend most) files = is_some files.policy
+has_files (Mend most format) files = is_some files.policy
 has_files (Attack line most) files = is_some files.policy
-has_files (Check verbose) files = is_some files.policy && is_some files.certificate
+has_files (Check verbose format) files = is_some files.policy && is_some files.certificate
 has_files Replay files = is_some files.script
 has_files Live files =
     is_some files.policy && (is_some files.certificate && is_some files.script)
@@ -112,6 +132,7 @@ pub record AsksMig (rows : List Row) (files : MigFiles) : Type 0 where
   pub out : first_of (codes "out") rows ≡ Some files.out.now
   pub strict : files.strict
       ≡ strictness_of (has_flag (codes "strict") rows) (has_flag (codes "strict-rights") rows)
+  pub format : files.format ≡ format_given rows
 
 -- the command that a subcommand of this name is with these options
 abbrev pub IsCommandOf : Text → List Row → Command → Type 0
@@ -127,5 +148,66 @@ IsRequestOf name rows request =
 
 -- the words mean the request: it is that of the subcommand and the options that they give
 abbrev pub Means : List Text → Request → Type 0
-Means words request =
-    IsSomeAnd (subcommand_of machcheck_app words) (λ given. IsRequestOf given.0 given.1 request)
+Means words request = (formats : Formats)
+    × IsSomeAnd (subcommand_of (machcheck_app formats) words)
+    (λ given. IsRequestOf given.0 given.1 request)
+
+-- the subcommand that asks a question
+abbrev pub question_word : Question → List ℕ
+question_word (Verify showing) = codes "verify"
+question_word (Mend most format) = codes "mend"
+question_word (Attack line most) = codes "attack"
+question_word (Check verbose format) = codes "check"
+question_word (Make out workers) = codes "make"
+question_word (Explain fact by format) = codes "explain"
+question_word (Facts task class right format) = codes "facts"
+question_word (Graph fact task holds) = codes "graph"
+question_word Slots = codes "slots"
+question_word Promises = codes "promises"
+question_word Replay = codes "replay"
+question_word Live = codes "live"
+
+-- the subcommand of a command
+abbrev pub command_word : Command → List ℕ
+command_word (Case files question) = question_word question
+command_word (Mig files) = codes "mig"
+
+-- how the answer to a question is to be printed: as text if its subcommand has no `--format`
+abbrev pub question_format : Question → Format
+question_format (Verify showing) = showing.format
+question_format (Mend most format) = format
+question_format (Check verbose format) = format
+question_format (Explain fact by format) = format
+question_format (Facts task class right format) = format
+question_format question = Plain
+
+-- how the answer to a command is to be printed
+abbrev pub asked_format : Command → Format
+asked_format (Case files question) = question_format question
+asked_format (Mig files) = files.format
+
+-- the subcommands that have `--format`
+abbrev pub formatted : List Text
+formatted =
+    codes "verify" ∷ codes "mend" ∷ codes "check" ∷ codes "explain" ∷ codes "facts" ∷ codes "mig"
+    ∷ []
+
+-- the name of a command is that of the subcommand that it is
+abbrev pub NamesItsSubcommand : Type 0
+NamesItsSubcommand =
+    (name : Text) (rows : List Row) (command : Command) → IsCommandOf name rows command
+    → command_word command ≡ name
+
+-- the format of a command is that of its options, if its subcommand has `--format`
+abbrev pub HasFormatOfOptions : Type 0
+HasFormatOfOptions =
+    (name : Text) (rows : List Row) (command : Command) → IsCommandOf name rows command
+    → list_any (λ word. bytes_eq word name) formatted ≡ true
+    → asked_format command ≡ format_given rows
+
+-- if it has none, the command is to be answered by text
+abbrev pub IsTextWithoutOption : Type 0
+IsTextWithoutOption =
+    (name : Text) (rows : List Row) (command : Command) → IsCommandOf name rows command
+    → list_any (λ word. bytes_eq word name) formatted ≡ false
+    → asked_format command ≡ Plain

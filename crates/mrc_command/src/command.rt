@@ -5,9 +5,10 @@ ghost use Rattle.std.specs.Prelude.{IfSome, IsSomeAnd};
 ghost use Rattle.std.specs.Option.{option_map};
 ghost use Rattle.clap.specs.Words.{first_of, kind_of, subcommand_rows_of, takes};
 ghost use Rattle.clap.specs.declared.error.kind.ErrorKind.TheVariants.{OutOfMemory};
-ghost use Rattle.mrc_command.specs.CommandLine.{IsNoCommand, TellsError, machcheck_app};
+ghost use Rattle.mrc_command.specs.CommandLine.{IsNoCommand, TellsError, Formats, machcheck_app};
 ghost use Rattle.mrc_command.specs.Meaning.{all_values, has_flag, number_of, number_if_given};
-ghost use Rattle.mrc_command.specs.Meaning.{strictness_of, rows, NamesFiles, IsShowing, Asks};
+ghost use Rattle.mrc_command.specs.Meaning.{strictness_of, format_of, format_given, rows};
+ghost use Rattle.mrc_command.specs.Meaning.{NamesFiles, IsShowing, Asks};
 ghost use Rattle.mrc_command.specs.Meaning.{has_files, AsksMig, IsCommandOf, IsRequestOf, Means};
 
 use crate::options::whole_command;
@@ -32,7 +33,18 @@ pub struct FileNames<'a> {
     pub script: Option<&'a str>,
 }
 
-/// How broken lines are printed.
+/// How an answer is printed.
+#[derive(Clone, Copy, Debug, PartialEq, Eq)]
+pub enum Format {
+    /// As text, to be read by people.
+    Text,
+    /// As one JSON object.
+    Json,
+    /// As a SARIF log, to be shown by a code host.
+    Sarif,
+}
+
+/// How the answer of `verify` is printed.
 #[derive(Clone, Copy)]
 pub struct Showing {
     /// Chains are printed from their conclusions down.
@@ -43,6 +55,8 @@ pub struct Showing {
     pub quotes: bool,
     /// Only the broken line of this number is printed. It is 0 if the text is no number.
     pub line: Option<usize>,
+    /// Text, JSON or SARIF.
+    pub format: Format,
 }
 
 /// What is asked of the files.
@@ -57,6 +71,7 @@ pub enum Question<'a> {
     /// number.
     Mend {
         most: usize,
+        format: Format,
     },
     /// By which calls can what the policy forbids come about? With `line` only that line is looked
     /// at. For each line `most` states are looked at, at most. Both are 0 if the text is no number.
@@ -68,6 +83,7 @@ pub enum Question<'a> {
     /// it is of another wiring.
     Check {
         verbose: bool,
+        format: Format,
     },
     /// What may the tasks of the wiring come to hold? It is made by `workers` threads, and written
     /// to the file `out`.
@@ -79,12 +95,14 @@ pub enum Question<'a> {
     Explain {
         fact: &'a str,
         by: bool,
+        format: Format,
     },
     /// Which facts does a certificate have, of this task, this class and this right, if given?
     Facts {
         task: Option<&'a str>,
         class: Option<&'a str>,
         right: Option<&'a str>,
+        format: Format,
     },
     /// The same as a drawing, or the chain of the fact of this text alone. With `task` only what
     /// this task may hold is drawn, and with `holds` only what tasks may hold.
@@ -137,6 +155,8 @@ pub struct MigFiles<'a> {
     pub defs: Vec<&'a str>,
     pub out: &'a str,
     pub strict: Strictness,
+    /// How it is printed what was cut.
+    pub format: Format,
 }
 
 /// Why there is no command to run.
@@ -243,6 +263,24 @@ fn defs_given<'a>(alloc: Global, matches: &ArgMatches<'a>) -> Result<Vec<&'a str
     }
 }
 
+/// The format that a word names, if one is given: text if it names none.
+fn format_of(word: Option<&str>) -> Format
+    ensures { result ≡ format_of (option_map (λ word. word.now) word.entry) }
+{
+    match word {
+        Some("json") => Format::Json,
+        Some("sarif") => Format::Sarif,
+        _ => Format::Text,
+    }
+}
+
+/// How the answer is to be printed.
+fn format_given(matches: &ArgMatches<'_>) -> Format
+    ensures { result ≡ format_given (rows matches.now) }
+{
+    format_of(value_given(matches, "format"))
+}
+
 /// The files that the options name. A wiring has to be given.
 fn files_named<'a>(alloc: Global, matches: &ArgMatches<'a>) -> Result<FileNames<'a>, NoCommand>
     ensures named { IfOk result (NamesFiles (rows matches.now)) }
@@ -270,7 +308,24 @@ fn showing_asked(matches: &ArgMatches<'_>) -> Showing
         brief: has_flag(matches, "brief"),
         quotes: has_flag(matches, "verbose"),
         line: number_if_given(matches, "line"),
+        format: format_given(matches),
     }
+}
+
+fn mend_asked<'a>(matches: &ArgMatches<'_>) -> Question<'a>
+    ensures { Asks (codes "mend") (rows matches.now) result }
+{
+    let most = number_given(matches, "most", 10);
+    let format = format_given(matches);
+    Question::Mend { most, format }
+}
+
+fn check_asked<'a>(matches: &ArgMatches<'_>) -> Question<'a>
+    ensures { Asks (codes "check") (rows matches.now) result }
+{
+    let verbose = has_flag(matches, "verbose");
+    let format = format_given(matches);
+    Question::Check { verbose, format }
 }
 
 fn attack_asked<'a>(matches: &ArgMatches<'_>) -> Question<'a>
@@ -296,7 +351,8 @@ fn explain_asked<'a>(matches: &ArgMatches<'a>) -> Option<Question<'a>>
 {
     let fact = value_given(matches, "fact")?;
     let by = has_flag(matches, "by");
-    Some(Question::Explain { fact, by })
+    let format = format_given(matches);
+    Some(Question::Explain { fact, by, format })
 }
 
 fn facts_asked<'a>(matches: &ArgMatches<'a>) -> Question<'a>
@@ -305,7 +361,13 @@ fn facts_asked<'a>(matches: &ArgMatches<'a>) -> Question<'a>
     let task = value_given(matches, "task");
     let class = value_given(matches, "class");
     let right = value_given(matches, "right");
-    Question::Facts { task, class, right }
+    let format = format_given(matches);
+    Question::Facts {
+        task,
+        class,
+        right,
+        format,
+    }
 }
 
 fn graph_asked<'a>(matches: &ArgMatches<'a>) -> Question<'a>
@@ -327,15 +389,9 @@ fn question_asked<'a>(name: &str, matches: &ArgMatches<'a>) -> Option<Question<'
             let showing = showing_asked(matches);
             Some(Question::Verify { showing })
         }
-        "mend" => {
-            let most = number_given(matches, "most", 10);
-            Some(Question::Mend { most })
-        }
+        "mend" => Some(mend_asked(matches)),
         "attack" => Some(attack_asked(matches)),
-        "check" => {
-            let verbose = has_flag(matches, "verbose");
-            Some(Question::Check { verbose })
-        }
+        "check" => Some(check_asked(matches)),
         "make" => make_asked(matches),
         "explain" => explain_asked(matches),
         "facts" => Some(facts_asked(matches)),
@@ -409,7 +465,13 @@ fn mig_asked<'a>(alloc: Global, matches: &ArgMatches<'a>) -> Result<MigFiles<'a>
     };
     let all = has_flag(matches, "strict");
     let strict = strictness_of(all, has_flag(matches, "strict-rights"));
-    Ok(MigFiles { defs, out, strict })
+    let format = format_given(matches);
+    Ok(MigFiles {
+        defs,
+        out,
+        strict,
+        format,
+    })
 }
 
 /// The command of this name.
@@ -444,8 +506,9 @@ fn request_of<'a>(alloc: Global, matches: &ArgMatches<'a>) -> Result<Request<'a>
 pub fn read(alloc: Global, words: &[String]) -> Result<Request<'_>, NoCommand>
     ensures command { IfOk result (Means (map string_bytes words.now)) }
     ensures none { IfErr result (IsNoCommand (map string_bytes words.now)) }
-    ensures taken { takes machcheck_app (map string_bytes words.now) ≡ true
-        → IfErr result (λ none. none ≡ NoCommand.Memory) }
+    ensures taken { (formats : Formats)
+        × (takes (machcheck_app formats) (map string_bytes words.now) ≡ true
+        → IfErr result (λ none. none ≡ NoCommand.Memory)) }
 {
     let command = whole_command(alloc)?;
     let matches = match command.try_get_matches_from(words) {

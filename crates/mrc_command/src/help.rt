@@ -13,6 +13,9 @@ pub(crate) const PROGRAM_HELP: &str = "Exit status of each command:
 With --verbose a fault is followed by its place: the line of the file with a mark below the word,
 and what may help to mend it. If standard error is a terminal, this is always so.
 
+With --format json, which some commands have, the answer is one JSON object for programs, and that
+of a fault is printed too. If the command line is wrong, there is none.
+
 `machcheck check --help`, and the same of the other commands, tells of the files. Read on
 in README.md, which starts with a worked example, and in docs/ARCHITECTURE.md.";
 
@@ -27,6 +30,9 @@ It also shows where a fault is, and what may help to mend it.
 
 With YES a line on standard error names the tasks that the wiring trusts, if there are any:
 `machcheck: FILE: trusted: TASK, TASK`. `machcheck promises` prints what they must keep to.
+
+--format json prints the answer as one JSON object, and a fault too. docs/FORMATS.md describes
+these objects. Standard error is the same as without it.
 
 Exit status:
   0  YES: no list of calls can lead to a holding that the policy forbids
@@ -66,6 +72,9 @@ A fact is printed as in a NO: `hold TASK CLASS RIGHT`, `carry CLASS CLASS RIGHT`
 derives it: a line for each step, with its number from 0, the rule, what it concludes, and the
 numbers of the steps that it follows from. The last step concludes the fact. --by adds where
 a step comes from in the files, as `verify` does.
+
+--format json prints the steps as one JSON object, with where each comes from, and a fault too.
+docs/FORMATS.md describes these objects. Standard error is the same as without it.
 
 Exit status:
   0  a chain was printed
@@ -139,6 +148,10 @@ lines have in common: `# K of N lines by: FACT`.
 With YES a line on standard error names the tasks that the wiring trusts, if there are any:
 `machcheck: FILE: trusted: TASK, TASK`. `machcheck promises` prints what they must keep to.
 
+--format json prints the answer as one JSON object, and a fault too. --format sarif prints a SARIF
+log, in which a code host finds each broken line as a result. docs/FORMATS.md describes both.
+Standard error is the same as without them.
+
 Exit status:
   0  YES: no list of calls can lead to a holding that the policy forbids
   1  NO: a trusted task that another could rewrite, and each line that is broken, with the
@@ -164,6 +177,9 @@ is not given.
 
 If several lines of the policy are broken, a first line may print a fact that the chains of all
 have in common: `# all N broken lines have FACT in their chains`.
+
+--format json prints the changes as one JSON object, and a fault too. docs/FORMATS.md describes
+these objects. Standard error is the same as without it.
 
 Exit status:
   0  changes were printed, or YES: nothing has to be changed
@@ -216,6 +232,9 @@ wiring where none is named. With --task those are left out that are no holdings 
 with --class those that do not name the class, with --right those of another right. Of a
 certificate nothing is claimed but that it has these facts: `check` judges it. Two wirings are
 compared by `diff` of what is printed for each.
+
+--format json prints the facts as one JSON object, and a fault too. docs/FORMATS.md describes
+these objects. Standard error is the same as without it.
 
 Exit status:
   0  the facts were printed
@@ -305,6 +324,9 @@ as `make` replaces a certificate.
 
 --strict writes nothing if a routine is left out, --strict=rights only if one that carries rights
 is left out.
+
+--format json prints one JSON object that has what is left out of each file, and one of a fault.
+docs/FORMATS.md describes these objects. Standard error is the same as without it.
 
 Exit status:
   0  the files were written: of one of them at least a routine is read

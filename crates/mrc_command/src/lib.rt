@@ -1,6 +1,7 @@
 //! The command line, read by `clap`; what the program prints, with the lines of faults.
 #![tactic(auto)]
 
+mod asked;
 mod command;
 mod help;
 mod options;
@@ -8,8 +9,9 @@ mod surface;
 mod told;
 mod words;
 
+pub use asked::{asked_format, command_word, commands_are_what_words_say};
 pub use command::{
-    Command, FileNames, MigFiles, NoCommand, Question, Request, Showing, Strictness, read,
+    Command, FileNames, Format, MigFiles, NoCommand, Question, Request, Showing, Strictness, read,
 };
 pub use surface::clap_command;
 pub use told::{Told, fault_of, memory, names_are_shown_safely, push_shown, said, shown};

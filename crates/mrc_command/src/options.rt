@@ -9,17 +9,44 @@ ghost use Rattle.mrc_command.specs.CommandLine.{policy_app, facts_of_app, verify
 ghost use Rattle.mrc_command.specs.CommandLine.{attack_app, check_app, make_app, explain_app};
 ghost use Rattle.mrc_command.specs.CommandLine.{facts_app, graph_app, slots_app, promises_app};
 ghost use Rattle.mrc_command.specs.CommandLine.{replay_app, live_app, mig_app, bare_app};
-ghost use Rattle.mrc_command.specs.CommandLine.{answer_app, fact_app, machcheck_app};
+ghost use Rattle.mrc_command.specs.CommandLine.{answer_app, fact_app, whole_app, format_rule};
+ghost use Rattle.mrc_command.specs.CommandLine.{IsMachcheck, chosen};
 
 use crate::help::{
     ATTACK_HELP, CHECK_HELP, EXPLAIN_HELP, FACTS_HELP, GRAPH_HELP, LIVE_HELP, MAKE_HELP, MEND_HELP,
     MIG_HELP, PROGRAM_HELP, PROMISES_HELP, REPLAY_HELP, SLOTS_HELP, VERIFY_HELP,
 };
+use clap::builder::ValueParser;
 use clap::{Arg, ArgAction, value_parser};
 use std::alloc::{AllocError, Global};
 
 /// The help of `--verbose`, if it means no more.
 const VERBOSE: &str = "Shows where a fault is, and what may help to mend it";
+
+static ANSWERS: [&str; 2] = ["text", "json"];
+
+static REPORTS: [&str; 3] = ["text", "json", "sarif"];
+
+/// The help of `--format`.
+const FORMAT: &str = "How the answer is printed: text, or json for one JSON object";
+
+/// That of `verify`.
+const REPORT_FORMAT: &str =
+    "How the answer is printed: text, json for one JSON object, or sarif for a code host";
+
+/// The words of `--format`.
+fn answer_words<'a>() -> &'a [&'a str]
+    ensures { chosen result ≡ codes "text" ∷ codes "json" ∷ [] }
+{
+    ANSWERS.as_slice()
+}
+
+/// Those of `verify`.
+fn report_words<'a>() -> &'a [&'a str]
+    ensures { chosen result ≡ codes "text" ∷ codes "json" ∷ codes "sarif" ∷ [] }
+{
+    REPORTS.as_slice()
+}
 
 /// An option that has to be given, with one value.
 fn value_option<'a>(alloc: Global, name: &'a str, value: &'a str, help: &'a str) -> Arg<'a>
@@ -83,6 +110,14 @@ fn workers_option<'a>(alloc: Global) -> Arg<'a>
         "How many threads make it, 1 to 64: 4 where it is not given",
     )
     .value_parser(value_parser!(usize))
+}
+
+/// How the answer is printed: these are the words that it may have.
+fn format_option<'a>(alloc: Global, choices: &'a [&'a str], help: &'a str) -> Arg<'a>
+    ensures rule { rule_of result ≡ format_rule choices.entry }
+    ensures local { result.global ≡ false }
+{
+    free_option(alloc, "format", "FORMAT", help).value_parser(ValueParser::Names(choices))
 }
 
 fn defs_arguments<'a>(alloc: Global) -> Arg<'a>
@@ -204,12 +239,16 @@ fn script_option<'a>(alloc: Global) -> Arg<'a>
     file_option(alloc, "script", "The calls, one a line")
 }
 
-fn verify_command<'a>(alloc: Global) -> Result<clap::Command<'a>, AllocError>
-    ensures app { IfOk result (λ command. app_of command ≡ verify_app) }
+/// The command with the options that say how broken lines are printed.
+fn with_layout<'a>(
+    alloc: Global,
+    command: clap::Command<'a>,
+) -> Result<clap::Command<'a>, AllocError>
+    requires local { HasNoGlobals command }
+    ensures app { IfOk result (λ made. app_of made ≡ with_rules (app_of command.entry)
+        (flag_rule (codes "tree") ∷ flag_rule (codes "brief") ∷ free_rule (codes "line") ∷ [])) }
     ensures local { IfOk result HasNoGlobals }
 {
-    let about = "Says whether a forbidden right can be obtained, and how";
-    let command = policy_command(alloc, "verify", about, VERIFY_HELP)?;
     let tree = flag(alloc, "tree", "Prints the steps from the fact down");
     let command = with(command, tree)?;
     let brief = flag(
@@ -219,13 +258,27 @@ fn verify_command<'a>(alloc: Global) -> Result<clap::Command<'a>, AllocError>
     );
     let command = with(command, brief)?;
     let line = free_option(alloc, "line", "N", "Only this line of the policy");
-    let command = with(command, line)?;
+    with(command, line)
+}
+
+fn verify_command<'a>(
+    alloc: Global,
+    choices: &'a [&'a str],
+) -> Result<clap::Command<'a>, AllocError>
+    ensures app { IfOk result (λ command. app_of command ≡ verify_app choices.entry) }
+    ensures local { IfOk result HasNoGlobals }
+{
+    let about = "Says whether a forbidden right can be obtained, and how";
+    let command = policy_command(alloc, "verify", about, VERIFY_HELP)?;
+    let command = with_layout(alloc, command)?;
+    let format = format_option(alloc, choices, REPORT_FORMAT);
+    let command = with(command, format)?;
     let help = "Prints the text of each broken line too, and shows where a fault is";
     with_last(alloc, command, help)
 }
 
-fn mend_command<'a>(alloc: Global) -> Result<clap::Command<'a>, AllocError>
-    ensures app { IfOk result (λ command. app_of command ≡ mend_app) }
+fn mend_command<'a>(alloc: Global, choices: &'a [&'a str]) -> Result<clap::Command<'a>, AllocError>
+    ensures app { IfOk result (λ command. app_of command ≡ mend_app choices.entry) }
     ensures local { IfOk result HasNoGlobals }
 {
     let about = "Looks for changes of a wiring after which no forbidden right can be obtained";
@@ -237,6 +290,7 @@ fn mend_command<'a>(alloc: Global) -> Result<clap::Command<'a>, AllocError>
         "How many mends are printed, 1 to 1000000: 10 if it is not given",
     );
     let command = with(command, most)?;
+    let command = with(command, format_option(alloc, choices, FORMAT))?;
     with_last(alloc, command, VERBOSE)
 }
 
@@ -263,13 +317,14 @@ fn attack_command<'a>(alloc: Global) -> Result<clap::Command<'a>, AllocError>
     with_last(alloc, command, VERBOSE)
 }
 
-fn check_command<'a>(alloc: Global) -> Result<clap::Command<'a>, AllocError>
-    ensures app { IfOk result (λ command. app_of command ≡ check_app) }
+fn check_command<'a>(alloc: Global, choices: &'a [&'a str]) -> Result<clap::Command<'a>, AllocError>
+    ensures app { IfOk result (λ command. app_of command ≡ check_app choices.entry) }
     ensures local { IfOk result HasNoGlobals }
 {
     let about = "Says whether a certificate shows that no forbidden right can be obtained";
     let command = policy_command(alloc, "check", about, CHECK_HELP)?;
     let command = with(command, certificate_option(alloc))?;
+    let command = with(command, format_option(alloc, choices, FORMAT))?;
     let help = "Says what to do with a certificate of another wiring, and shows where a fault is";
     with_last(alloc, command, help)
 }
@@ -286,8 +341,11 @@ fn make_command<'a>(alloc: Global) -> Result<clap::Command<'a>, AllocError>
     with_last(alloc, command, VERBOSE)
 }
 
-fn explain_command<'a>(alloc: Global) -> Result<clap::Command<'a>, AllocError>
-    ensures app { IfOk result (λ command. app_of command ≡ explain_app) }
+fn explain_command<'a>(
+    alloc: Global,
+    choices: &'a [&'a str],
+) -> Result<clap::Command<'a>, AllocError>
+    ensures app { IfOk result (λ command. app_of command ≡ explain_app choices.entry) }
     ensures local { IfOk result HasNoGlobals }
 {
     let about = "Shows how a fact comes to be in the least certificate of a wiring";
@@ -296,21 +354,36 @@ fn explain_command<'a>(alloc: Global) -> Result<clap::Command<'a>, AllocError>
     let command = with(command, fact)?;
     let by = flag(alloc, "by", "Tells where the steps come from in the files");
     let command = with(command, by)?;
+    let command = with(command, format_option(alloc, choices, FORMAT))?;
     with_last(alloc, command, VERBOSE)
 }
 
-fn facts_command<'a>(alloc: Global) -> Result<clap::Command<'a>, AllocError>
-    ensures app { IfOk result (λ command. app_of command ≡ facts_app) }
+/// The command with the options that say which facts are printed.
+fn with_parts<'a>(
+    alloc: Global,
+    command: clap::Command<'a>,
+) -> Result<clap::Command<'a>, AllocError>
+    requires local { HasNoGlobals command }
+    ensures app { IfOk result (λ made. app_of made ≡ with_rules (app_of command.entry)
+        (free_rule (codes "task") ∷ free_rule (codes "class") ∷ free_rule (codes "right") ∷ [])) }
     ensures local { IfOk result HasNoGlobals }
 {
-    let about = "Prints the facts of a certificate, or of the least one of a wiring";
-    let command = facts_of_command(alloc, "facts", about, FACTS_HELP)?;
     let task = free_option(alloc, "task", "TASK", "Holdings of this task alone");
     let command = with(command, task)?;
     let class = free_option(alloc, "class", "CLASS", "Facts that name this class alone");
     let command = with(command, class)?;
     let right = free_option(alloc, "right", "RIGHT", "Facts of this right alone");
-    let command = with(command, right)?;
+    with(command, right)
+}
+
+fn facts_command<'a>(alloc: Global, choices: &'a [&'a str]) -> Result<clap::Command<'a>, AllocError>
+    ensures app { IfOk result (λ command. app_of command ≡ facts_app choices.entry) }
+    ensures local { IfOk result HasNoGlobals }
+{
+    let about = "Prints the facts of a certificate, or of the least one of a wiring";
+    let command = facts_of_command(alloc, "facts", about, FACTS_HELP)?;
+    let command = with_parts(alloc, command)?;
+    let command = with(command, format_option(alloc, choices, FORMAT))?;
     with_last(alloc, command, VERBOSE)
 }
 
@@ -411,13 +484,17 @@ fn with_given<'a>(
     with(command, given_defs(alloc))
 }
 
-fn mig_command<'a>(alloc: Global) -> Result<clap::Command<'a>, AllocError>
-    ensures app { IfOk result (λ command. app_of command ≡ mig_app) }
+/// The command with the options that say where files are written, and when none is.
+fn with_strictness<'a>(
+    alloc: Global,
+    command: clap::Command<'a>,
+) -> Result<clap::Command<'a>, AllocError>
+    requires local { HasNoGlobals command }
+    ensures app { IfOk result (λ made. app_of made ≡ with_rules (app_of command.entry)
+        (file_rule (codes "out") ∷ flag_rule (codes "strict") ∷ flag_rule (codes "strict-rights")
+        ∷ [])) }
     ensures local { IfOk result HasNoGlobals }
 {
-    let command = clap::Command::new(alloc, "mig")
-        .about("Cuts MIG files of a system to files that can be read")
-        .after_help(MIG_HELP);
     let out = value_option(
         alloc,
         "out",
@@ -436,7 +513,18 @@ fn mig_command<'a>(alloc: Global) -> Result<clap::Command<'a>, AllocError>
         "strict-rights",
         "The same as --strict=rights: writes nothing if one that carries rights is left out",
     );
-    let command = with(command, strict_rights)?;
+    with(command, strict_rights)
+}
+
+fn mig_command<'a>(alloc: Global, choices: &'a [&'a str]) -> Result<clap::Command<'a>, AllocError>
+    ensures app { IfOk result (λ command. app_of command ≡ mig_app choices.entry) }
+    ensures local { IfOk result HasNoGlobals }
+{
+    let command = clap::Command::new(alloc, "mig")
+        .about("Cuts MIG files of a system to files that can be read")
+        .after_help(MIG_HELP);
+    let command = with_strictness(alloc, command)?;
+    let command = with(command, format_option(alloc, choices, FORMAT))?;
     with_given(alloc, command)
 }
 
@@ -467,32 +555,53 @@ fn bare_command<'a>(alloc: Global) -> clap::Command<'a>
 }
 
 /// The program with the commands that answer what can come about.
-fn answer_commands<'a>(alloc: Global) -> Result<clap::Command<'a>, AllocError>
-    ensures { IfOk result (λ program. app_of program ≡ answer_app) }
+fn answer_commands<'a>(
+    alloc: Global,
+    reports: &'a [&'a str],
+    answers: &'a [&'a str],
+) -> Result<clap::Command<'a>, AllocError>
+    ensures { IfOk result (λ program. app_of program ≡ answer_app reports.entry answers.entry) }
 {
-    let program = with_command(bare_command(alloc), verify_command(alloc)?)?;
-    let program = with_command(program, mend_command(alloc)?)?;
+    let program = with_command(bare_command(alloc), verify_command(alloc, reports)?)?;
+    let program = with_command(program, mend_command(alloc, answers)?)?;
     let program = with_command(program, attack_command(alloc)?)?;
-    with_command(program, check_command(alloc)?)
+    with_command(program, check_command(alloc, answers)?)
 }
 
 /// The same with the commands that speak of facts.
-fn fact_commands<'a>(alloc: Global) -> Result<clap::Command<'a>, AllocError>
-    ensures { IfOk result (λ program. app_of program ≡ fact_app) }
+fn fact_commands<'a>(
+    alloc: Global,
+    reports: &'a [&'a str],
+    answers: &'a [&'a str],
+) -> Result<clap::Command<'a>, AllocError>
+    ensures { IfOk result (λ program. app_of program ≡ fact_app reports.entry answers.entry) }
 {
-    let program = with_command(answer_commands(alloc)?, make_command(alloc)?)?;
-    let program = with_command(program, explain_command(alloc)?)?;
-    let program = with_command(program, facts_command(alloc)?)?;
+    let program = answer_commands(alloc, reports, answers)?;
+    let program = with_command(program, make_command(alloc)?)?;
+    let program = with_command(program, explain_command(alloc, answers)?)?;
+    let program = with_command(program, facts_command(alloc, answers)?)?;
     with_command(program, graph_command(alloc)?)
+}
+
+/// The program and its commands, with these lists of words of `--format`.
+fn all_commands<'a>(
+    alloc: Global,
+    reports: &'a [&'a str],
+    answers: &'a [&'a str],
+) -> Result<clap::Command<'a>, AllocError>
+    ensures { IfOk result (λ program. app_of program ≡ whole_app reports.entry answers.entry) }
+{
+    let program = fact_commands(alloc, reports, answers)?;
+    let program = with_command(program, slots_command(alloc)?)?;
+    let program = with_command(program, promises_command(alloc)?)?;
+    let program = with_command(program, replay_command(alloc)?)?;
+    let program = with_command(program, live_command(alloc)?)?;
+    with_command(program, mig_command(alloc, answers)?)
 }
 
 /// The program and its commands.
 pub(crate) fn whole_command<'a>(alloc: Global) -> Result<clap::Command<'a>, AllocError>
-    ensures { IfOk result (λ program. app_of program ≡ machcheck_app) }
+    ensures { IfOk result (λ program. IsMachcheck (app_of program)) }
 {
-    let program = with_command(fact_commands(alloc)?, slots_command(alloc)?)?;
-    let program = with_command(program, promises_command(alloc)?)?;
-    let program = with_command(program, replay_command(alloc)?)?;
-    let program = with_command(program, live_command(alloc)?)?;
-    with_command(program, mig_command(alloc)?)
+    all_commands(alloc, report_words(), answer_words())
 }

@@ -1,0 +1,77 @@
+-- What a command is called and how it is answered are what its words say.
+use Rattle.std.proofs.Common.{◌≡◌, ◌∙◌, Bool, true, false, ap, refl, sym}
+use Rattle.std.proofs.lemmas.Bool.{false≢true, true≢false}
+use Rattle.std.specs.Prelude.{bytes_eq}
+use Rattle.std.specs.List.{list_any}
+use Rattle.clap.specs.Words.{Text}
+use Rattle.mrc_command.specs.declared.command.Command.TheVariants.{Case, Mig}
+use Rattle.mrc_command.specs.declared.command.Question.TheVariants.{Verify, Mend, Attack, Check}
+use Rattle.mrc_command.specs.declared.command.Question.TheVariants.{Make, Explain, Facts, Graph}
+use Rattle.mrc_command.specs.declared.command.Question.TheVariants.{Slots, Promises, Replay, Live}
+use Rattle.mrc_command.specs.Meaning.{formatted, NamesItsSubcommand, HasFormatOfOptions}
+use Rattle.mrc_command.specs.Meaning.{IsTextWithoutOption}
+
+-- whether a subcommand of this name has the option
+abbrev has_option : Text → Bool
+has_option name = list_any (λ word. bytes_eq word name) formatted
+
+-- two names of which one has the option are not one name
+abbrev other : {one two : Text} → one ≡ two → has_option one ≡ true → has_option two ≡ true
+other same has = sym (ap has_option same) ∙ has
+
+abbrev other_none : {one two : Text} → one ≡ two → has_option one ≡ false
+    → has_option two ≡ false
+other_none same has = sym (ap has_option same) ∙ has
+
+pub names_subcommand : NamesItsSubcommand
+names_subcommand name rows (Case files (Verify showing)) is = sym is.1.0
+names_subcommand name rows (Case files (Mend most format)) is = sym is.1.0
+names_subcommand name rows (Case files (Attack line most)) is = sym is.1.0
+names_subcommand name rows (Case files (Check verbose format)) is = sym is.1.0
+names_subcommand name rows (Case files (Make out workers)) is = sym is.1.0
+names_subcommand name rows (Case files (Explain fact by format)) is = sym is.1.0
+names_subcommand name rows (Case files (Facts task class right format)) is = sym is.1.0
+names_subcommand name rows (Case files (Graph fact task holds)) is = sym is.1.0
+names_subcommand name rows (Case files Slots) is = sym is.1
+names_subcommand name rows (Case files Promises) is = sym is.1
+names_subcommand name rows (Case files Replay) is = sym is.1
+names_subcommand name rows (Case files Live) is = sym is.1
+names_subcommand name rows (Mig files) is = sym is.0
+
+pub format_of_options : HasFormatOfOptions
+format_of_options name rows (Case files (Verify showing)) is has = is.1.1.format
+format_of_options name rows (Case files (Mend most format)) is has = is.1.2
+format_of_options name rows (Case files (Attack line most)) is has =
+    absurd (false≢true (other is.1.0 has))
+format_of_options name rows (Case files (Check verbose format)) is has = is.1.2
+format_of_options name rows (Case files (Make out workers)) is has =
+    absurd (false≢true (other is.1.0 has))
+format_of_options name rows (Case files (Explain fact by format)) is has = is.1.3
+format_of_options name rows (Case files (Facts task class right format)) is has = is.1.4
+format_of_options name rows (Case files (Graph fact task holds)) is has =
+    absurd (false≢true (other is.1.0 has))
+format_of_options name rows (Case files Slots) is has = absurd (false≢true (other is.1 has))
+format_of_options name rows (Case files Promises) is has = absurd (false≢true (other is.1 has))
+format_of_options name rows (Case files Replay) is has = absurd (false≢true (other is.1 has))
+format_of_options name rows (Case files Live) is has = absurd (false≢true (other is.1 has))
+format_of_options name rows (Mig files) is has = is.1.format
+
+pub text_without_option : IsTextWithoutOption
+text_without_option name rows (Case files (Verify showing)) is none =
+    absurd (true≢false (other_none is.1.0 none))
+text_without_option name rows (Case files (Mend most format)) is none =
+    absurd (true≢false (other_none is.1.0 none))
+text_without_option name rows (Case files (Attack line most)) is none = refl
+text_without_option name rows (Case files (Check verbose format)) is none =
+    absurd (true≢false (other_none is.1.0 none))
+text_without_option name rows (Case files (Make out workers)) is none = refl
+text_without_option name rows (Case files (Explain fact by format)) is none =
+    absurd (true≢false (other_none is.1.0 none))
+text_without_option name rows (Case files (Facts task class right format)) is none =
+    absurd (true≢false (other_none is.1.0 none))
+text_without_option name rows (Case files (Graph fact task holds)) is none = refl
+text_without_option name rows (Case files Slots) is none = refl
+text_without_option name rows (Case files Promises) is none = refl
+text_without_option name rows (Case files Replay) is none = refl
+text_without_option name rows (Case files Live) is none = refl
+text_without_option name rows (Mig files) is none = absurd (true≢false (other_none is.0 none))
