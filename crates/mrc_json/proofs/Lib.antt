@@ -1,0 +1,5 @@
+mod ListLaws
+mod PlainLaws
+mod FaultLaws
+mod AnswerLaws
+mod Worked

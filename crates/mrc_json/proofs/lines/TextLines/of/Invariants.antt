@@ -1,0 +1,10 @@
+use Rattle.std.proofs.Common.{◌≡◌, ◌++◌, map, length}
+use Rattle.mrc_wiring_text.specs.Lexis.{lines}
+use Rattle.mrc_json.proofs.lines.TextLines.of.Given as goal
+
+abbrev pub invariant-loop-rest : goal.invariant-loop-rest
+invariant-loop-rest l =
+    map (λ line. line.now) l.found.items ++ lines l.rest ≡ lines l.text
+
+abbrev pub decreases-loop-rest : goal.decreases-loop-rest
+decreases-loop-rest l = length l.rest
