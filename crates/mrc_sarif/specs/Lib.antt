@@ -1,0 +1,5 @@
+pub mod Uris
+pub mod Places
+pub mod Objects
+pub mod Steps
+pub mod Answers
