@@ -1,7 +1,7 @@
--- From what helps with a fault to what is printed behind its line.
-use Rattle.std.proofs.Common.{◌≡◌, ◌⊎◌, ◌∙◌, ℕ, Bool, true, List, [], Result, Ok, Err, inl, inr}
-use Rattle.std.proofs.Common.{ap, subst, sym, string_bytes}
-use Rattle.std.specs.Prelude.{IfErr, IfOk, String}
+-- From what helps with a fault to what is made for the fault that is printed.
+use Rattle.std.proofs.Common.{◌≡◌, ◌⊎◌, ◌∙◌, ℕ, Bool, true, List, [], ◌∷◌, Result, Ok, Err}
+use Rattle.std.proofs.Common.{ap, inl, inr, subst, sym}
+use Rattle.std.specs.Prelude.{None, IfErr, IfOk, String}
 use Rattle.std.specs.declared.alloc.Global.{Global}
 use Rattle.mrc_check.specs.Texts.{Meaningless}
 use Rattle.mrc_command.specs.declared.command.FileNames.{FileNames}
@@ -10,63 +10,68 @@ use Rattle.mrc_files.specs.declared.streams.ReadFault.{ReadFault}
 use Rattle.mrc_files.specs.declared.streams.ReadFault.TheVariants.{ReadFailed, TooBig}
 use Rattle.mrc_files.specs.declared.streams.ReadFault.TheVariants.{Memory as NoMemory}
 use Rattle.mrc_place.specs.declared.spots.Hint.{Hint}
-use Rattle.mrc_program.specs.Behind.{all_meant, IsFailure, IsHelp, IsHintIfAny, IsNote, IsShown}
-use Rattle.mrc_program.specs.Behind.{IsHintOf, IsUnreadHelp}
+use Rattle.mrc_program.specs.declared.behind.Help.{Help}
+use Rattle.mrc_program.specs.Behind.{all_meant, IsFailure, IsHelp, IsHelpIfAny, IsMade, IsNoHelp}
+use Rattle.mrc_program.specs.Behind.{IsNoteAlone, IsTextOf, IsUnreadHelp}
 use Rattle.mrc_program.specs.Files.{Files}
-use Rattle.mrc_program.specs.Hints.{hint_text}
 use Rattle.mrc_program.specs.Texts.{file_of}
 use Rattle.mrc_program.specs.Told.{IsFaultOf, UnreadTold}
 
--- what the system says of a file that can't be read is printed behind its line
-pub unread_shown : (shows : Bool) (file : List ℕ) (fault : ReadFault) (text : List ℕ) (told : Told)
+-- what the system says of a file that can't be read
+pub unread_made : (wanted : Bool) (file : List ℕ) (fault : ReadFault) (help : Help) (told : Told)
     → told.status ≡ 2
     → UnreadTold file fault told
-    → (text ≡ []) ⊎ ((shows ≡ true) × IsFailure fault × IsNote text)
-    → IsShown shows IsUnreadHelp text told
-unread_shown shows file fault text told two is (inl none) = inl none
-unread_shown shows file (ReadFailed failure) text told two is (inr helps) =
-    inr (helps.0, two, record { file = file; of_file = is.err; is = helps.2 })
-unread_shown shows file TooBig text told two is (inr helps) = absurd helps.1
-unread_shown shows file NoMemory text told two is (inr helps) = absurd helps.1
-
--- the text of a hint is one of a hint of the file
-pub hint_shown : {E : Type 0} (file : List ℕ) (hint : Hint) (result : Result (String Global) E)
-    → IfOk result (λ text. string_bytes text ≡ hint_text file hint)
-    → IfOk result (λ text. IsHintIfAny file (string_bytes text))
-hint_shown file hint (Ok text) is = inr (hint, is)
-hint_shown file hint (Err e) is = tt
+    → IsNoHelp help
+    ⊎ ((wanted ≡ true) × IsFailure fault × IsNoteAlone help.hint × IsTextOf file help)
+    → IsMade wanted IsUnreadHelp help told
+unread_made wanted file fault help told two is (inl none) = inl none
+unread_made wanted file (ReadFailed failure) help told two is (inr helps) =
+    inr (
+      helps.0,
+      two,
+      record { file = file; of_file = is.err; note = helps.2; is = helps.3 },
+    )
+unread_made wanted file TooBig help told two is (inr helps) = absurd helps.1
+unread_made wanted file NoMemory help told two is (inr helps) = absurd helps.1
 
 -- what helps with a MIG file that can't be cut, if there is memory for it
-pub uncut_shown : {E : Type 0} (shows : Bool) (file : List ℕ) (result : Result (String Global) E)
-    (made : String Global)
-    → shows ≡ true
-    → IfOk result (λ text. IsHintIfAny file (string_bytes text))
-    → IfOk result (λ text. string_bytes made ≡ string_bytes text)
-    → IfErr result (λ e. string_bytes made ≡ [])
-    → (string_bytes made ≡ []) ⊎ ((shows ≡ true) × IsHintOf file (string_bytes made))
-uncut_shown shows file (Err e) made asked are same none = inl none
-uncut_shown shows file (Ok text) made asked are same none = elim are [
-  | inl nothing ↦ inl (same ∙ nothing)
-  | inr hint ↦ inr (asked, subst (IsHintOf file) (sym same) hint)
+pub uncut_made : {E : Type 0} (wanted : Bool) (file : List ℕ) (result : Result Help E) (made : Help)
+    → wanted ≡ true
+    → IfOk result (IsHelpIfAny file)
+    → IfOk result (λ help. made ≡ help)
+    → IfErr result (λ e. IsNoHelp made)
+    → IsNoHelp made ⊎ ((wanted ≡ true) × IsTextOf file made)
+uncut_made wanted file (Err e) made asked are same none = inl none
+uncut_made wanted file (Ok help) made asked are same none = elim are [
+  | inl nothing ↦ inl (subst IsNoHelp (sym same) nothing)
+  | inr text ↦ inr (asked, subst (IsTextOf file) (sym same) text)
 ]
 
--- the text of a hint helps with the fault of the first text without a meaning, by the line of its
--- file
-pub help_shown : {E : Type 0} (live : Bool) (files : Files) (names : FileNames) (line file : List ℕ)
-    (hint : Hint) (fault : Meaningless) (result : Result (String Global) E)
+-- a hint helps with the fault of the first text without a meaning, by the line of its file
+pub help_made : {E : Type 0} (live : Bool) (files : Files) (names : FileNames)
+    (line file : List ℕ) (fault : Meaningless) (result : Result Help E)
     → all_meant live files.texts ≡ Err fault
     → names ≡ files.names
     → file ≡ file_of names fault
     → IsFaultOf file line
-    → IfOk result (λ text. string_bytes text ≡ hint_text file hint)
-    → IfOk result (λ text. (string_bytes text ≡ []) ⊎ IsHelp live files line (string_bytes text))
-help_shown live files names line file hint fault (Err e) first same is of_file made = tt
-help_shown live files names line file hint fault (Ok text) first same is of_file made =
+    → IfOk result (IsTextOf file)
+    → IfOk result (λ help. IsNoHelp help ⊎ IsHelp live files line help)
+help_made live files names line file fault (Err e) first same is of_file made = tt
+help_made live files names line file fault (Ok help) first same is of_file made =
     let so = is ∙ ap (λ n. file_of n fault) same in
     inr record {
       fault = fault;
       first = first;
       of_file = subst (λ f. IsFaultOf f line) so of_file;
-      hint = hint;
-      is = subst (λ f. string_bytes text ≡ hint_text f hint) so made;
+      is = subst (λ f. IsTextOf f help) so made;
     }
+
+-- a sentence and nothing else
+pub note_alone : {E : Type 0} (result : Result Help E) (hint : Hint) (note : String Global)
+    → IfOk result (λ help. help.hint ≡ hint)
+    → hint.spot ≡ None
+    → hint.notes.items ≡ note ∷ []
+    → IfOk result (λ help. IsNoteAlone help.hint)
+note_alone (Err e) hint note is spot notes = tt
+note_alone (Ok help) hint note is spot notes =
+    subst IsNoteAlone (sym is) record { note = note; spot = spot; notes = notes }

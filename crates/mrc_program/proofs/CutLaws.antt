@@ -21,7 +21,7 @@ use Rattle.mrc_command.specs.Lines.{fault_line, shown}
 use Rattle.mrc_command.specs.declared.told.Told.{Told}
 use Rattle.mrc_command.specs.declared.command.MigFiles.{MigFiles}
 use Rattle.mrc_program.specs.Told.{ToldMemory}
-use Rattle.mrc_program.specs.declared.cuts.NamedCut.{NamedCut}
+use Rattle.mrc_json.specs.declared.cuts.NamedCut.{NamedCut}
 use Rattle.mrc_program.specs.Cutting.{IsCutTo, IsNoFile, IsFirstUncut, is_named_so}
 use Rattle.mrc_program.specs.Cutting.{same_name_behind, Writing, IsStopped, HasRoom}
 use Rattle.mrc_program.specs.Cutting.{left_line, left_lines, same_name, mig_names, FaultOfMig}

@@ -1,12 +1,12 @@
 -- From what is printed of files that were read to what is printed of a command.
-use Rattle.std.proofs.Common.{◌≡◌, ◌⊎◌, ℕ, Bool, List, [], Result, Ok, Err, Option, inl, inr}
-use Rattle.std.proofs.Common.{string_bytes}
-use Rattle.std.proofs.Common.{subst, sym}
+use Rattle.std.proofs.Common.{◌≡◌, ◌⊎◌, ◌<◌, ◌≤◌, ◌∙◌, ℕ, Bool, true, false, List, [], arith, ap}
+use Rattle.std.proofs.Common.{Result, Ok, Err, Option, inl, inr, refl, string_bytes, subst, sym}
 use Rattle.std.specs.Prelude.{IfOk, ◌||◌}
 use Rattle.std.specs.Io.KnownBytes.{Appends}
 use Rattle.mrc_command.specs.declared.command.Command.{Command}
 use Rattle.mrc_command.specs.declared.command.Command.TheVariants.{Case, Mig}
 use Rattle.mrc_command.specs.declared.command.FileNames.{FileNames}
+use Rattle.mrc_command.specs.declared.command.Format.{Format}
 use Rattle.mrc_command.specs.declared.command.MigFiles.{MigFiles}
 use Rattle.mrc_command.specs.declared.command.Question.{Question}
 use Rattle.mrc_command.specs.declared.command.Question.TheVariants.{Verify, Mend, Attack, Check}
@@ -16,11 +16,13 @@ use Rattle.mrc_command.specs.declared.told.Told.{Told}
 use Rattle.mrc_files.specs.declared.streams.ReadFault.{ReadFault}
 use Rattle.mrc_files.specs.Files.{Held, IsFirstUnread}
 use Rattle.mrc_command.specs.declared.command.Request.{Request}
-use Rattle.mrc_command.specs.Meaning.{Means}
-use Rattle.mrc_program.specs.Behind.{IsBehind, IsHelp, IsShown, IsUncutHelp, IsUnreadHelp}
-use Rattle.mrc_program.specs.Behind.{IsBehindWords, is_live}
-use Rattle.mrc_program.specs.Commands.{BadWord, Fault, FaultOf, Halted, HaltedOf, OfWords, WentOut}
-use Rattle.mrc_program.specs.Commands.{seen}
+use Rattle.mrc_command.specs.Meaning.{Means, asked_format, command_word}
+use Rattle.mrc_place.specs.declared.spots.Hint.{Hint}
+use Rattle.mrc_program.specs.declared.behind.Help.{Help}
+use Rattle.mrc_program.specs.Behind.{IsBehind, IsBehindWords, IsHelp, IsMade, IsMadeFor, HelpsWith}
+use Rattle.mrc_program.specs.Behind.{IsUncutHelp, IsUnreadHelp, is_live}
+use Rattle.mrc_program.specs.Commands.{BadWord, Fault, FaultOf, Halted, OfWords, WentOut, seen}
+use Rattle.mrc_program.specs.FaultObjects.{IsFaultObject, IsOutOfFault, IsOutOfWords, fault_object}
 use Rattle.mrc_program.specs.Files.{AreRead, Files, OfFiles, Texts, all_names, word_of}
 use Rattle.mrc_program.specs.Told.{ToldMemory, ToldUnread, UnreadTold}
 use Rattle.mrc_program.proofs.GraphLaws.{unlisted_silent, undrawn_silent}
@@ -40,13 +42,13 @@ fault_of_files question held names texts told are tells two = elim (tells two) [
   | inr fault ↦ inr (inr (inr record { texts = texts; are_read = are; tells = fault }))
 ]
 
--- what is printed behind a fault of texts that were read
-pub behind_files : (shows : Bool) (held : Held) (names : FileNames) (texts : Texts)
-    (question : Question) (text : List ℕ) (told : Told)
+-- what helps with a fault of texts that were read
+pub made_files : (wanted : Bool) (held : Held) (names : FileNames) (texts : Texts)
+    (question : Question) (help : Help) (told : Told)
     → AreRead held names texts
-    → IsShown shows (IsHelp (is_live question) record { names = names; texts = texts }) text told
-    → IsBehind shows held (Case names question) text told
-behind_files shows held names texts question text told are behind = elim behind [
+    → IsMade wanted (IsHelp (is_live question) record { names = names; texts = texts }) help told
+    → IsMadeFor wanted held (Case names question) help told
+made_files wanted held names texts question help told are made = elim made [
   | inl none ↦ inl none
   | inr helps ↦ inr (
     helps.0,
@@ -55,35 +57,35 @@ behind_files shows held names texts question text told are behind = elim behind 
   )
 ]
 
--- what is printed behind a file that can't be read, of a question
-pub behind_unread : {E : Type 0} (shows : Bool) (held : Held) (names : FileNames)
-    (question : Question) (text : List ℕ) (result : Result Told E)
-    → IfOk result (λ told. IsShown shows IsUnreadHelp text told)
-    → IfOk result (IsBehind shows held (Case names question) text)
-behind_unread shows held names question text (Err e) behind = tt
-behind_unread shows held names question text (Ok told) behind = elim behind [
+-- what helps with a file that can't be read, of a question
+pub made_unread : {E : Type 0} (wanted : Bool) (held : Held) (names : FileNames)
+    (question : Question) (help : Help) (result : Result Told E)
+    → IfOk result (IsMade wanted IsUnreadHelp help)
+    → IfOk result (IsMadeFor wanted held (Case names question) help)
+made_unread wanted held names question help (Err e) made = tt
+made_unread wanted held names question help (Ok told) made = elim made [
   | inl none ↦ inl none
   | inr helps ↦ inr (helps.0, helps.1, inl helps.2)
 ]
 
 -- the same of a `mig`
-pub behind_unread_of : {E : Type 0} (shows : Bool) (held : Held) (files : MigFiles)
-    (text : List ℕ) (result : Result Told E)
-    → IfOk result (λ told. IsShown shows IsUnreadHelp text told)
-    → IfOk result (IsBehind shows held (Mig files) text)
-behind_unread_of shows held files text (Err e) behind = tt
-behind_unread_of shows held files text (Ok told) behind = elim behind [
+pub made_unread_of : {E : Type 0} (wanted : Bool) (held : Held) (files : MigFiles)
+    (help : Help) (result : Result Told E)
+    → IfOk result (IsMade wanted IsUnreadHelp help)
+    → IfOk result (IsMadeFor wanted held (Mig files) help)
+made_unread_of wanted held files help (Err e) made = tt
+made_unread_of wanted held files help (Ok told) made = elim made [
   | inl none ↦ inl none
   | inr helps ↦ inr (helps.0, helps.1, inl helps.2)
 ]
 
--- what is printed behind a MIG file that can't be cut
-pub behind_uncut : {E : Type 0} (shows : Bool) (held : Held) (files : MigFiles)
-    (text : List ℕ) (result : Result Told E)
-    → IfOk result (λ told. IsShown shows IsUncutHelp text told)
-    → IfOk result (IsBehind shows held (Mig files) text)
-behind_uncut shows held files text (Err e) behind = tt
-behind_uncut shows held files text (Ok told) behind = elim behind [
+-- what helps with a MIG file that can't be cut
+pub made_uncut : {E : Type 0} (wanted : Bool) (held : Held) (files : MigFiles)
+    (help : Help) (result : Result Told E)
+    → IfOk result (IsMade wanted IsUncutHelp help)
+    → IfOk result (IsMadeFor wanted held (Mig files) help)
+made_uncut wanted held files help (Err e) made = tt
+made_uncut wanted held files help (Ok told) made = elim made [
   | inl none ↦ inl none
   | inr helps ↦ inr (helps.0, helps.1, inr helps.2)
 ]
@@ -97,22 +99,22 @@ files_silent (Verify showing) files told fault = inl (elim fault [
   | inl texts ↦ texts.is.out
   | inr line ↦ line.is.out
 ])
-files_silent (Mend most) files told fault = inl fault.is.out
+files_silent (Mend most format) files told fault = inl fault.is.out
 files_silent (Attack line most) files told fault = inl (elim fault [
   | inl texts ↦ texts.is.out
   | inr line ↦ line.is.out
 ])
-files_silent (Check verbose) files told fault = inl fault.is.out
+files_silent (Check verbose format) files told fault = inl fault.is.out
 files_silent (Make out workers) files told fault = inl (elim fault [
   | inl texts ↦ texts.is.out
   | inr (inl unwritten) ↦ unwritten.out
   | inr (inr many) ↦ many.is.out
 ])
-files_silent (Explain fact by) files told fault = inl (elim fault [
+files_silent (Explain fact by format) files told fault = inl (elim fault [
   | inl texts ↦ texts.is.out
   | inr bad ↦ bad.tells.out
 ])
-files_silent (Facts task class right) files told fault =
+files_silent (Facts task class right format) files told fault =
     inl (unlisted_silent (word_of task) (word_of class) (word_of right) files told fault)
 files_silent (Graph fact task holds) files told fault =
     inl (undrawn_silent (word_of fact) (word_of task) files told fault)
@@ -129,45 +131,181 @@ word_silent : (question : Question) (told : Told)
     → BadWord question told
     → string_bytes told.out ≡ []
 word_silent (Verify showing) told bad = bad.is.out
-word_silent (Mend most) told bad = bad.is.out
+word_silent (Mend most format) told bad = bad.is.out
 word_silent (Attack line most) told bad = elim bad [
   | inl many ↦ many.is.out
   | inr none ↦ none.is.out
 ]
-word_silent (Check verbose) told bad = absurd bad
+word_silent (Check verbose format) told bad = absurd bad
 word_silent (Make out workers) told bad = absurd bad
-word_silent (Explain fact by) told bad = absurd bad
-word_silent (Facts task class right) told bad = absurd bad
+word_silent (Explain fact by format) told bad = absurd bad
+word_silent (Facts task class right format) told bad = absurd bad
 word_silent (Graph fact task holds) told bad = absurd bad
 word_silent Slots told bad = absurd bad
 word_silent Promises told bad = absurd bad
 word_silent Replay told bad = absurd bad
 word_silent Live told bad = absurd bad
 
--- the same of a command
-pub silent : (held : Held) (command : Command) (told : Told)
+-- what goes to standard output with a fault of a command, without the object of the fault
+silent : (shows : Bool) (held : Held) (command : Command) (behind : List ℕ) (told : Told)
     → FaultOf held command told
-    → (string_bytes told.out ≡ []) ⊎ HaltedOf held command told
-silent held (Case names question) told fault = elim fault [
+    → IsOutOfFault shows held command behind told
+silent shows held (Case names question) behind told fault = elim fault [
   | inl memory ↦ inl memory.out
   | inr (inl word) ↦ inl (word_silent question told word)
   | inr (inr (inl unread)) ↦ inl unread.is.out
   | inr (inr (inr files)) ↦ elim (files_silent question
       record { names = names; texts = files.texts } told files.tells) [
         | inl nothing ↦ inl nothing
-        | inr halted ↦ inr record { texts = files.texts; are_read = files.are_read; tells = halted }
+        | inr halted ↦ inr (inl record {
+          texts = files.texts;
+          are_read = files.are_read;
+          tells = halted;
+        })
       ]
 ]
-silent held (Mig files) told fault = inl (elim fault [
-  | inl memory ↦ memory.out
-  | inr (inl unread) ↦ unread.is.out
+silent shows held (Mig files) behind told fault = elim fault [
+  | inl memory ↦ inl memory.out
+  | inr (inl unread) ↦ inl unread.is.out
   | inr (inr (inl texts)) ↦ elim texts.tells [
-    | inl uncut ↦ uncut.out
-    | inr (inl less) ↦ less.tells.out
-    | inr (inr refused) ↦ refused.1.tells.tells.out
+    | inl uncut ↦ inl uncut.out
+    | inr (inl less) ↦ inr (inr (inl record {
+      texts = texts.texts;
+      are_held = texts.are_held;
+      tells = less;
+    }))
+    | inr (inr refused) ↦ inl refused.1.tells.tells.out
   ]
-  | inr (inr (inr same)) ↦ same.out
-])
+  | inr (inr (inr same)) ↦ inl same.out
+]
+
+-- with the object of a fault another status than 2 is that of an answer which is not changed
+pub same_answer : (P : Told → Type 0) (status : ℕ) (format : Format) (word : List ℕ) (hint : Hint)
+    (told new : Told)
+    → status < 2
+    → (new ≡ told) ⊎ IsFaultObject format word hint told new
+    → (told.status ≡ status → P told)
+    → new.status ≡ status
+    → P new
+same_answer P status format word hint told new low (inl same) holds so =
+    subst P (sym same) (holds (ap (λ (t : Told). t.status) (sym same) ∙ so))
+same_answer P status format word hint told new low (inr object) holds so =
+    let two = object.status in absurd (omega arith)
+
+-- with the object of a fault the status stays, and the line of the fault
+same_status : (format : Format) (word : List ℕ) (hint : Hint) (told new : Told)
+    → (new ≡ told) ⊎ IsFaultObject format word hint told new
+    → new.status ≡ told.status
+same_status format word hint told new (inl same) = ap (λ (t : Told). t.status) same
+same_status format word hint told new (inr object) = object.status ∙ sym object.fault
+
+same_err : (format : Format) (word : List ℕ) (hint : Hint) (told new : Told)
+    → (new ≡ told) ⊎ IsFaultObject format word hint told new
+    → string_bytes new.err ≡ string_bytes told.err
+same_err format word hint told new (inl same) = ap (λ (t : Told). string_bytes t.err) same
+same_err format word hint told new (inr object) = object.err
+
+-- so the statuses are the same
+pub status_kept : (format : Format) (word : List ℕ) (hint : Hint) (told new : Told)
+    → (new ≡ told) ⊎ IsFaultObject format word hint told new
+    → told.status ≤ 2
+    → new.status ≤ 2
+status_kept format word hint told new is within =
+    let same = same_status format word hint told new is in omega arith
+
+-- what helps with a fault helps with another text that has its line
+helps_same : (held : Held) (command : Command) (told new : Told) (help : Help)
+    → string_bytes new.err ≡ string_bytes told.err
+    → HelpsWith held command told help
+    → HelpsWith held command new help
+helps_same held (Case names question) told new help same helps = elim helps [
+  | inl unread ↦ inl (subst (λ line. IsUnreadHelp line help) (sym same) unread)
+  | inr files ↦ inr record {
+    texts = files.texts;
+    are_read = files.are_read;
+    tells = subst (λ line. IsHelp (is_live question)
+        record { names = names; texts = files.texts } line help) (sym same) files.tells;
+  }
+]
+helps_same held (Mig files) told new help same helps = elim helps [
+  | inl unread ↦ inl (subst (λ line. IsUnreadHelp line help) (sym same) unread)
+  | inr uncut ↦ inr (subst (λ line. IsUncutHelp line help) (sym same) uncut)
+]
+
+-- what goes to standard output with status 2, once the object of the fault is there
+pub out_of_fault : (shows wanted : Bool) (held : Held) (command : Command) (format : Format)
+    (word behind : List ℕ) (help : Help) (told new : Told)
+    → format ≡ asked_format command
+    → word ≡ command_word command
+    → IsMadeFor wanted held command help told
+    → (told.status ≡ 2 → FaultOf held command told)
+    → (new ≡ told) ⊎ IsFaultObject format word help.hint told new
+    → (shows ≡ true → behind ≡ string_bytes help.text)
+    → new.status ≡ 2
+    → IsOutOfFault shows held command behind new
+out_of_fault shows wanted held command format word behind help told new form named made fault
+    (inl same) text two =
+    subst (IsOutOfFault shows held command behind) (sym same)
+    (silent shows held command behind told
+    (fault (ap (λ (t : Told). t.status) (sym same) ∙ two)))
+out_of_fault shows wanted held command format word behind help told new form named made fault
+    (inr object) text two =
+    inr (inr (inr record {
+      help = help;
+      helps = elim made [
+        | inl none ↦ inl none
+        | inr helps ↦ inr (helps_same held command told new help object.err helps.2)
+      ];
+      text = text;
+      out = object.out
+          ∙ ap (λ err. fault_object format word err help.hint) (sym object.err)
+          ∙ ap (λ f. fault_object f word (string_bytes new.err) help.hint) form
+          ∙ ap (λ w. fault_object (asked_format command) w (string_bytes new.err) help.hint) named;
+    }))
+
+-- the same of the words that ask for the command
+pub out_of_words : {E : Type 0} (out err : Bool) (held : Held) (words : List (List ℕ))
+    (behind : List ℕ) (request : Request) (shows : Bool) (command : Command)
+    (result : Result Told E)
+    → Means words request
+    → shows ≡ (request.verbose || err)
+    → command ≡ seen out request.command
+    → IfOk result (λ told. told.status ≡ 2 → IsOutOfFault shows held command behind told)
+    → IfOk result (λ told. told.status ≡ 2 → (string_bytes told.out ≡ [])
+    ⊎ IsOutOfWords out err held words behind told)
+out_of_words out err held words behind request shows command (Err e) means is so fault = tt
+out_of_words out err held words behind request shows command (Ok told) means is so fault =
+    λ two. inr (
+      request,
+      means,
+      subst (λ s. IsOutOfFault s held (seen out request.command) behind told) is
+          (subst (λ c. IsOutOfFault shows held c behind told) so (fault two)),
+    )
+
+-- what is printed behind a fault of what helps with it, if that is shown
+pub behind_shown : (shows wanted : Bool) (held : Held) (command : Command) (format : Format)
+    (word : List ℕ) (help : Help) (told new : Told) (text : List ℕ)
+    → IsMadeFor wanted held command help told
+    → (new ≡ told) ⊎ IsFaultObject format word help.hint told new
+    → (shows ≡ true → text ≡ string_bytes help.text)
+    → (shows ≡ false → text ≡ [])
+    → IsBehind shows held command text new
+behind_shown false wanted held command format word help told new text made is shown none =
+    inl (none refl)
+behind_shown true wanted held command format word help told new text made is shown none =
+    elim made [
+      | inl nothing ↦ inl (shown refl ∙ nothing.text)
+      | inr helps ↦ inr (
+        refl,
+        same_status format word help.hint told new is ∙ helps.1,
+        (
+          help,
+          helps_same held command told new help (same_err format word help.hint told new is)
+              helps.2,
+          shown refl,
+        ),
+      )
+    ]
 
 -- what is printed of the first file that can't be read, among all that may be printed with status 2
 pub unread_of_files : {E : Type 0} (question : Question) (held : Held) (names : FileNames)

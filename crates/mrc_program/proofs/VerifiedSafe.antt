@@ -36,13 +36,15 @@ no_texts texts meant says none =
     (claim_meant texts.defs texts.wiring (given texts.policy) meant says) none
 
 pub allowed_safe : AllowedIsSafe
-allowed_safe files told allowed = safe_texts files.texts allowed.meant allowed.says allowed.yes
+allowed_safe command format files told allowed =
+    safe_texts files.texts allowed.meant allowed.says allowed.yes
 
 pub broken_no : BrokenHasNoYes
 broken_no showing files told broken = no_texts files.texts broken.meant broken.says broken.no
 
 pub unattacked_safe : UnattackedIsSafe
-unattacked_safe line files told none = allowed_safe files told none.allowed
+unattacked_safe line files told none =
+    safe_texts files.texts none.allowed.meant none.allowed.says none.allowed.yes
 
 pub attacked_no : AttackedHasNoYes
 attacked_no line files told attacks = no_texts files.texts attacks.meant attacks.says attacks.no

@@ -16,23 +16,22 @@ use Rattle.mrc_why.specs.Broken.{ExposedTask, IsExposedOf, IsReached}
 use Rattle.mrc_why.proofs.Verdicts.{least_one}
 use Rattle.mrc_mend.specs.declared.answers.Answer.{Answer}
 use Rattle.mrc_mend.specs.Judging.{IsNeededOf, IsMend, AreAnswered, AreAtMost}
-use Rattle.mrc_mend.specs.Texts.{mends_text}
-use Rattle.mrc_verdicts.specs.Verdicts.{IsNoText}
 use Rattle.mrc_command.specs.declared.command.FileNames.{FileNames}
+use Rattle.mrc_command.specs.declared.command.Format.{Format}
 use Rattle.mrc_command.specs.declared.command.Showing.{Showing}
 use Rattle.mrc_command.specs.declared.told.Told.{Told}
 use Rattle.mrc_program.specs.Asked.{IsBrokenAt}
 use Rattle.mrc_program.specs.Checked.{IsYesWith}
 use Rattle.mrc_program.specs.Explained.{numbered_by}
 use Rattle.mrc_program.specs.Files.{Files, given, word_of}
+use Rattle.mrc_program.specs.Formats.{mends_out}
 use Rattle.mrc_program.specs.Notices.{notice}
 use Rattle.mrc_program.specs.LeftNotices.{left_notices}
 use Rattle.mrc_program.specs.PolicyNotices.{policy_notices}
 use Rattle.mrc_program.specs.Texts.{stated}
 use Rattle.mrc_program.specs.Told.{ToldMemory}
 use Rattle.mrc_program.specs.Verified.{AreNotices, ToldAllowed, ToldBroken, ToldMends}
-use Rattle.mrc_program.specs.Verified.{manner_of}
-use Rattle.mrc_program.specs.Verified.{mend_status, notes_of}
+use Rattle.mrc_program.specs.Verified.{IsBrokenOut, mend_status, notes_of}
 
 -- the notices are those of their three parts, the last of which is by the least set
 pub all_notices : (files : Files) (claim : Claimed) (facts : List Fact) (names : FileNames)
@@ -76,26 +75,27 @@ all_notices files claim facts names defs shown table file bytes left asked polic
     ++ (notice files.names claim.table.interfaces ++ z)) third))
 
 -- a yes that is printed of texts whose least set is one
-pub allowed_told : {E : Type 0} (files : Files) (names : FileNames) (meant : Stated)
-    (notices : List ℕ) (table : Table) (result : Result Told E)
+pub allowed_told : {E : Type 0} (command : List ℕ) (format : Format) (files : Files)
+    (names : FileNames) (meant : Stated) (notices : List ℕ) (table : Table) (result : Result Told E)
     → stated files.texts ≡ Ok meant
     → HasYes meant.claim
     → AreNotices files meant.claim notices
     → names ≡ files.names
     → table ≡ meant.claim.table
-    → IfOk result (IsYesWith names notices table)
-    → IfOk result (λ told. told.status ≡ 0 → ToldAllowed files told)
-allowed_told files names meant notices table (Ok told) says has_yes noted named is printed = λ zero.
-    record {
+    → IfOk result (IsYesWith command format names notices table)
+    → IfOk result (λ told. told.status ≡ 0 → ToldAllowed command format files told)
+allowed_told command format files names meant notices table (Ok told) says has_yes noted named is
+    printed = λ zero. record {
       meant = meant;
       says = says;
       yes = has_yes;
       notices = notices;
       are_notices = noted;
-      is = subst (λ n. IsYesWith n notices meant.claim.table told) named
-          (subst (λ t. IsYesWith names notices t told) is printed);
+      is = subst (λ n. IsYesWith command format n notices meant.claim.table told) named
+          (subst (λ t. IsYesWith command format names notices t told) is printed);
     }
-allowed_told files names meant notices table (Err e) says has_yes noted named is printed = tt
+allowed_told command format files names meant notices table (Err e) says has_yes noted named is
+    printed = tt
 
 -- what is printed of a no is right, of all or of the line that is asked for
 pub broken_so : {E : Type 0} (showing : Showing) (only : Option ℕ) (files : Files)
@@ -111,8 +111,8 @@ pub broken_so : {E : Type 0} (showing : Showing) (only : Option ℕ) (files : Fi
     → IfSome showing.line (λ n. IsBrokenAt meant.claim n true)
     → AreNotices files meant.claim notices
     → only ≡ showing.line
-    → IfOk result (λ told. IsNoText (manner_of showing files) only
-    (numbered_by other.claim.table other.lines) exposed broken (string_bytes told.out))
+    → IfOk result (λ told. IsBrokenOut showing.format showing files only
+    (numbered_by other.claim.table other.lines) exposed broken notices (string_bytes told.out))
     → IfOk result (λ told. string_bytes told.err ≡ notices)
     → IfOk result (λ told. told.status ≡ 1 → ToldBroken showing files told)
 broken_so showing only files meant other exposed broken notices (Ok told) says seen first reached
@@ -127,11 +127,13 @@ broken_so showing only files meant other exposed broken notices (Ok told) says s
       chains = chains;
       no = none;
       asked = asked;
-      out = subst (λ (m : Stated). IsNoText (manner_of showing files) showing.line
-          (numbered_by m.claim.table m.lines) exposed broken (string_bytes told.out)) (sym seen)
-          (subst (λ o. IsNoText (manner_of showing files) o
-          (numbered_by other.claim.table other.lines) exposed broken (string_bytes told.out))
-          same out);
+      out = subst (λ n. IsBrokenOut showing.format showing files showing.line
+          (numbered_by meant.claim.table meant.lines) exposed broken n (string_bytes told.out))
+          (sym err) (subst (λ (m : Stated). IsBrokenOut showing.format showing files showing.line
+          (numbered_by m.claim.table m.lines) exposed broken notices (string_bytes told.out))
+          (sym seen) (subst (λ o. IsBrokenOut showing.format showing files o
+          (numbered_by other.claim.table other.lines) exposed broken notices
+          (string_bytes told.out)) same out));
       err = subst (AreNotices files meant.claim) (sym err) noted;
     }
 broken_so showing only files meant other exposed broken notices (Err e) says seen first reached
@@ -167,8 +169,9 @@ only_yes files meant other (Ok told) says also has_yes printed =
 only_yes files meant other (Err e) says also has_yes printed = tt
 
 -- mends that are printed are those that were found
-pub mends_told : {E : Type 0} (most : ℕ) (files : Files) (defs : List (List ℕ))
-    (wiring policy shown : List ℕ) (answer : Answer) (result : Result Told E)
+pub mends_told : {E : Type 0} (most : ℕ) (format : Format) (files : Files)
+    (defs : List (List ℕ)) (wiring policy shown : List ℕ) (answer : Answer)
+    (result : Result Told E)
     → defs ≡ files.texts.defs
     → wiring ≡ files.texts.wiring
     → policy ≡ given files.texts.policy
@@ -177,11 +180,11 @@ pub mends_told : {E : Type 0} (most : ℕ) (files : Files) (defs : List (List �
     → AreAtMost most answer
     → IsNeededOf (stated_of defs wiring policy) answer
     → IfOk result (λ told. told.status ≡ mend_status answer)
-    → IfOk result (λ told. string_bytes told.out ≡ mends_text shown answer)
+    → IfOk result (λ told. string_bytes told.out ≡ mends_out format shown answer)
     → IfOk result (λ told. string_bytes told.err ≡ notes_of answer)
-    → IfOk result (ToldMends most files)
-mends_told most files defs wiring policy shown answer (Ok told) d w p s right within needed status
-    out err =
+    → IfOk result (ToldMends most format files)
+mends_told most format files defs wiring policy shown answer (Ok told) d w p s right within needed
+    status out err =
     let texts = files.texts in
     let old = given texts.policy in
     record {
@@ -194,8 +197,8 @@ mends_told most files defs wiring policy shown answer (Ok told) d w p s right wi
           (subst (λ x. AreAnswered (IsMend defs x old) answer) w
           (subst (λ x. AreAnswered (IsMend defs wiring x) answer) p right));
       status = status;
-      out = out ∙ ap (λ x. mends_text x answer) s;
+      out = out ∙ ap (λ x. mends_out format x answer) s;
       err = err;
     }
-mends_told most files defs wiring policy shown answer (Err e) d w p s right within needed status
-    out err = tt
+mends_told most format files defs wiring policy shown answer (Err e) d w p s right within needed
+    status out err = tt

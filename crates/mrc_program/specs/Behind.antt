@@ -1,17 +1,21 @@
--- Believe. What is printed behind the line of a fault: nothing, or what helps with the fault of the
--- first text that has no meaning, or with a file that can't be read. This profile's own choice.
-use Rattle.std.specs.Prelude.{◌≡◌, ◌⊎◌, ℕ, Bool, true, false, ◌||◌, List, []}
-use Rattle.std.specs.Prelude.{Option, Some, None, Result, Ok, Err, codes, string_bytes}
+-- Believe. What helps with a fault: with that of the first text that has no meaning, or with a file
+-- that can't be read; and what is printed of it behind the line of the fault. This profile's own
+-- choice.
+use Rattle.std.specs.Prelude.{◌≡◌, ◌⊎◌, ℕ, Bool, true, false, ◌||◌, List, [], ◌∷◌}
+use Rattle.std.specs.Prelude.{Option, Some, None, Result, Ok, Err, codes, string_bytes, String}
+use Rattle.std.specs.declared.alloc.Global.{Global}
 use Rattle.mrc_base.specs.Reading.{◌>>=◌}
 use Rattle.mrc_certificate.specs.Reading.{draft_from}
 use Rattle.mrc_check.specs.Texts.{Meant, Meaningless, InCertificate, stated_by}
 use Rattle.mrc_command.specs.declared.command.Command.{Command}
 use Rattle.mrc_command.specs.declared.command.Command.TheVariants.{Case, Mig}
+use Rattle.mrc_command.specs.declared.command.Format.{Format}
+use Rattle.mrc_command.specs.declared.command.Format.TheVariants.{Text}
 use Rattle.mrc_command.specs.declared.command.Question.{Question}
 use Rattle.mrc_command.specs.declared.command.Question.TheVariants.{Live}
 use Rattle.mrc_command.specs.declared.command.Request.{Request}
 use Rattle.mrc_command.specs.declared.told.Told.{Told}
-use Rattle.mrc_command.specs.Lines.{fault_line, shown}
+use Rattle.mrc_command.specs.Lines.{fault_line}
 use Rattle.mrc_command.specs.Meaning.{Means}
 use Rattle.mrc_files.specs.declared.streams.ReadFault.{ReadFault}
 use Rattle.mrc_files.specs.declared.streams.ReadFault.TheVariants.{ReadFailed}
@@ -19,9 +23,10 @@ use Rattle.mrc_files.specs.Files.{Held}
 use Rattle.mrc_interface.specs.Reading.{step}
 use Rattle.mrc_place.specs.declared.spots.Hint.{Hint}
 use Rattle.mrc_wiring.specs.Table.{Table}
+use Rattle.mrc_program.specs.declared.behind.Help.{Help}
 use Rattle.mrc_program.specs.Commands.{seen}
 use Rattle.mrc_program.specs.Files.{Files, OfFiles, Texts}
-use Rattle.mrc_program.specs.Hints.{hint_text, inner_line}
+use Rattle.mrc_program.specs.Hints.{hint_text}
 use Rattle.mrc_program.specs.Texts.{file_of, script, system}
 use Rattle.mrc_program.specs.Told.{IsFaultOf}
 
@@ -57,69 +62,93 @@ abbrev pub is_live : Question → Bool
 is_live Live = true
 is_live question = false
 
--- The text helps with the fault of which this is the line: the first text without a meaning is that
--- of the file that the line names, and the hint that is printed is one of this file.
-pub record IsHelp (live : Bool) (files : Files) (line text : List ℕ) : Type 0 where
+-- nothing helps: there is no text and no hint
+pub record IsNoHelp (help : Help) : Type 0 where
+  pub text : string_bytes help.text ≡ []
+  pub spot : help.hint.spot ≡ None
+  pub notes : help.hint.notes.items ≡ []
+
+-- the text is that of the hint, with the name of the file
+abbrev pub IsTextOf : List ℕ → Help → Type 0
+IsTextOf file help = string_bytes help.text ≡ hint_text file help.hint
+
+-- It helps with the fault of which this is the line: the first text without a meaning is that of
+-- the file that the line names, and the text of the hint has the name of this file.
+pub record IsHelp (live : Bool) (files : Files) (line : List ℕ) (help : Help) : Type 0 where
   pub fault : Meaningless
   pub first : all_meant live files.texts ≡ Err fault
   pub of_file : IsFaultOf (file_of files.names fault) line
-  pub hint : Hint
-  pub is : text ≡ hint_text (file_of files.names fault) hint
+  pub is : IsTextOf (file_of files.names fault) help
 
--- the text is a sentence, as it is shown
-abbrev pub IsNote : List ℕ → Type 0
-IsNote text = (note : List ℕ) × (text ≡ inner_line (shown note))
+-- the hint is a sentence and nothing else
+pub record IsNoteAlone (hint : Hint) : Type 0 where
+  pub note : String Global
+  pub spot : hint.spot ≡ None
+  pub notes : hint.notes.items ≡ note ∷ []
 
 -- the file can't be opened or read
 abbrev pub IsFailure : ReadFault → Type 0
 IsFailure (ReadFailed failure) = Unit {0}
 IsFailure fault = ⊥
 
--- the text is a sentence about a file that can't be opened or read, of which this is the line
-pub record IsUnreadHelp (line text : List ℕ) : Type 0 where
+-- it is a sentence about a file that can't be opened or read, of which this is the line
+pub record IsUnreadHelp (line : List ℕ) (help : Help) : Type 0 where
   pub file : List ℕ
   pub of_file : line ≡ fault_line file (codes "ReadFailed")
-  pub is : IsNote text
+  pub note : IsNoteAlone help.hint
+  pub is : IsTextOf file help
 
--- the text is that of a hint of the file
-abbrev pub IsHintOf : List ℕ → List ℕ → Type 0
-IsHintOf file text = (hint : Hint) × (text ≡ hint_text file hint)
+-- nothing helps, or the text is that of the hint, with the name of the file
+abbrev pub IsHelpIfAny : List ℕ → Help → Type 0
+IsHelpIfAny file help = IsNoHelp help ⊎ IsTextOf file help
 
--- the same, or there is none
-abbrev pub IsHintIfAny : List ℕ → List ℕ → Type 0
-IsHintIfAny file text = (text ≡ []) ⊎ IsHintOf file text
-
--- the text is a hint of a MIG file that can't be cut, of which this is the line
-pub record IsUncutHelp (line text : List ℕ) : Type 0 where
+-- it helps with a MIG file that can't be cut, of which this is the line
+pub record IsUncutHelp (line : List ℕ) (help : Help) : Type 0 where
   pub file : List ℕ
   pub of_file : IsFaultOf file line
-  pub is : IsHintOf file text
+  pub is : IsTextOf file help
 
--- What is printed behind a fault: nothing, or, if it is shown, a text that helps with the fault of
+-- What is made to help with a fault: nothing, or, if it is wanted, what helps with the fault of
 -- which this is the line.
-abbrev pub IsShown : Bool → (List ℕ → List ℕ → Type 0) → List ℕ → Told → Type 0
-IsShown shows Helps text told =
-    (text ≡ []) ⊎ ((shows ≡ true) × (told.status ≡ 2) × Helps (string_bytes told.err) text)
+abbrev pub IsMade : Bool → (List ℕ → Help → Type 0) → Help → Told → Type 0
+IsMade wanted Helps help told =
+    IsNoHelp help ⊎ ((wanted ≡ true) × (told.status ≡ 2) × Helps (string_bytes told.err) help)
 
--- the text helps with the fault that is printed of a question about files
-abbrev pub IsHelpOf : Question → List ℕ → Files → Told → Type 0
-IsHelpOf question text files told = IsHelp (is_live question) files (string_bytes told.err) text
+-- it helps with the fault that is printed of a question about files
+abbrev pub IsHelpOf : Question → Help → Files → Told → Type 0
+IsHelpOf question help files told = IsHelp (is_live question) files (string_bytes told.err) help
 
--- the text helps with the fault that is printed of a command
-abbrev pub HelpsWith : Held → Command → Told → List ℕ → Type 0
-HelpsWith held (Case names question) told text =
-    IsUnreadHelp (string_bytes told.err) text ⊎ OfFiles (IsHelpOf question text) held names told
-HelpsWith held (Mig files) told text =
-    IsUnreadHelp (string_bytes told.err) text ⊎ IsUncutHelp (string_bytes told.err) text
+-- it helps with the fault that is printed of a command
+abbrev pub HelpsWith : Held → Command → Told → Help → Type 0
+HelpsWith held (Case names question) told help =
+    IsUnreadHelp (string_bytes told.err) help ⊎ OfFiles (IsHelpOf question help) held names told
+HelpsWith held (Mig files) told help =
+    IsUnreadHelp (string_bytes told.err) help ⊎ IsUncutHelp (string_bytes told.err) help
+
+-- What is made to help with the answer to a command: nothing, or, if it is wanted, what helps with
+-- a fault.
+abbrev pub IsMadeFor : Bool → Held → Command → Help → Told → Type 0
+IsMadeFor wanted held command help told =
+    IsNoHelp help ⊎ ((wanted ≡ true) × (told.status ≡ 2) × HelpsWith held command told help)
+
+-- Whether what helps with a fault is wanted: if it is shown, or if the answer is for programs.
+abbrev pub is_wanted : Bool → Format → Bool
+is_wanted shows Text = shows
+is_wanted shows format = true
+
+-- the text is that of what helps with a fault
+abbrev pub IsShownHelp : Held → Command → Told → List ℕ → Type 0
+IsShownHelp held command told text =
+    (help : Help) × HelpsWith held command told help × (text ≡ string_bytes help.text)
 
 -- What is printed behind the answer to a command: nothing, or, if the places of faults are shown,
--- what helps with a fault.
+-- the text of what helps with a fault.
 abbrev pub IsBehind : Bool → Held → Command → List ℕ → Told → Type 0
 IsBehind shows held command text told =
-    (text ≡ []) ⊎ ((shows ≡ true) × (told.status ≡ 2) × HelpsWith held command told text)
+    (text ≡ []) ⊎ ((shows ≡ true) × (told.status ≡ 2) × IsShownHelp held command told text)
 
 -- What is printed behind the answer to the words: nothing, or, if they ask for the places of faults
--- or a person looks at standard error (`err`), what helps with a fault.
+-- or a person looks at standard error (`err`), the text of what helps with a fault.
 abbrev pub IsBehindWords : (out err : Bool) → Held → List (List ℕ) → List ℕ → Told → Type 0
 IsBehindWords out err held words text told =
     (text ≡ []) ⊎ ((request : Request) × Means words request

@@ -1,6 +1,7 @@
 -- What the program prints of a command, by its status: 0 of what was asked for, 1 of a no, 2 of a
 -- fault; and what it is asked for at a terminal. This profile's own choice.
-use Rattle.std.specs.Prelude.{◌⊎◌, List, [], ℕ, Bool, Option, false, ◌||◌, string_bytes}
+use Rattle.std.specs.Prelude.{◌⊎◌, List, [], ℕ, Bool, Option, false, ◌||◌, codes}
+use Rattle.std.specs.Prelude.{string_bytes}
 use Rattle.std.specs.Io.KnownBytes.{Appends}
 use Rattle.mrc_command.specs.declared.told.Told.{Told}
 use Rattle.mrc_command.specs.declared.command.Command.{Command}
@@ -9,6 +10,7 @@ use Rattle.mrc_command.specs.declared.command.Question.{Question}
 use Rattle.mrc_command.specs.declared.command.Question.TheVariants.{Verify, Mend, Attack, Check}
 use Rattle.mrc_command.specs.declared.command.Question.TheVariants.{Make, Explain, Facts, Graph}
 use Rattle.mrc_command.specs.declared.command.Question.TheVariants.{Slots, Promises, Replay, Live}
+use Rattle.mrc_command.specs.declared.command.Format.TheVariants.{Text}
 use Rattle.mrc_command.specs.declared.command.Request.{Request}
 use Rattle.mrc_command.specs.Meaning.{Means}
 use Rattle.mrc_files.specs.Files.{Held}
@@ -30,14 +32,15 @@ use Rattle.mrc_program.specs.Cutting.{CutsOfFiles, RefusedOfFiles, FaultOfMig}
 -- with status 0 of files: a yes, mends, the making of a certificate, a chain, facts, a drawing,
 -- slots, what has to be found in the code of trusted tasks, a replay, or a journal
 abbrev pub Done : Held → Question → Files → Told → Type 0
-Done after (Verify showing) files told = ToldAllowed files told
-Done after (Mend most) files told = ToldMends most files told
+Done after (Verify showing) files told =
+    ToldAllowed (codes "verify") showing.format files told
+Done after (Mend most format) files told = ToldMends most format files told
 Done after (Attack line most) files told = ToldUnattacked line files told
-Done after (Check verbose) files told = ToldYes files told
+Done after (Check verbose format) files told = ToldYes format files told
 Done after (Make out workers) files told = ToldMade out.now after files told
-Done after (Explain fact by) files told = ToldChain fact.now by files told
-Done after (Facts task class right) files told =
-    ToldFacts (word_of task) (word_of class) (word_of right) files told
+Done after (Explain fact by format) files told = ToldChain fact.now by format files told
+Done after (Facts task class right format) files told =
+    ToldFacts (word_of task) (word_of class) (word_of right) format files told
 Done after (Graph fact task holds) files told =
     ToldGraph (word_of fact) (word_of task) holds files told
 Done after Slots files told = ToldSlots files told
@@ -49,32 +52,32 @@ Done after Live files told = ToldLive files told
 -- never of a `make`, a `slots`, a `promises` or a `replay`
 abbrev pub No : Question → Files → Told → Type 0
 No (Verify showing) files told = ToldBroken showing files told
-No (Mend most) files told = ToldMends most files told
+No (Mend most format) files told = ToldMends most format files told
 No (Attack line most) files told = ToldAttacks line files told
-No (Check verbose) files told = ToldNo (notices_of files) verbose files told
+No (Check verbose format) files told = ToldNo (notices_of files) verbose format files told
 No (Make out workers) files told = ⊥
-No (Explain fact by) files told = ToldNone fact.now files told
-No (Facts task class right) files told = ToldOther files told
+No (Explain fact by format) files told = ToldNone fact.now format files told
+No (Facts task class right format) files told = ToldOther format files told
 No (Graph fact task holds) files told = ToldUndrawn (word_of fact) files told
 No Slots files told = ⊥
 No Promises files told = ⊥
 No Replay files told = ⊥
-No Live files told = ToldNo [] false files told
+No Live files told = ToldNo [] false Text files told
 
 -- with status 2 of files that were read, unless memory ran out: a text has no meaning, a word names
 -- nothing, or what was asked for can't be done
 abbrev pub Fault : Question → Files → Told → Type 0
 Fault (Verify showing) files told =
     ToldFault (stated files.texts) files.names told ⊎ ToldNotBroken showing.line files told
-Fault (Mend most) files told = ToldFault (stated files.texts) files.names told
+Fault (Mend most format) files told = ToldFault (stated files.texts) files.names told
 Fault (Attack line most) files told =
     ToldFault (stated files.texts) files.names told ⊎ ToldNotBroken line files told
-Fault (Check verbose) files told = ToldFault (case files.texts) files.names told
+Fault (Check verbose format) files told = ToldFault (case files.texts) files.names told
 Fault (Make out workers) files told =
     ToldFault (system files.texts) files.names told ⊎ ToldUnmade out.now workers told
-Fault (Explain fact by) files told =
+Fault (Explain fact by format) files told =
     ToldFault (system files.texts) files.names told ⊎ ToldBadFact fact.now files told
-Fault (Facts task class right) files told =
+Fault (Facts task class right format) files told =
     ToldUnlisted (word_of task) (word_of class) (word_of right) files told
 Fault (Graph fact task holds) files told = ToldNoGraph (word_of fact) (word_of task) files told
 Fault Slots files told = ToldFault (system files.texts) files.names told
@@ -85,12 +88,12 @@ Fault Live files told = ToldUnserved files told
 -- a word can't be what it is asked to be: that is printed before any file is read
 abbrev pub BadWord : Question → Told → Type 0
 BadWord (Verify showing) told = ToldLine showing.line told
-BadWord (Mend most) told = ToldMost most told
+BadWord (Mend most format) told = ToldMost most told
 BadWord (Attack line most) told = ToldMost most told ⊎ ToldLine line told
-BadWord (Check verbose) told = ⊥
+BadWord (Check verbose format) told = ⊥
 BadWord (Make out workers) told = ⊥
-BadWord (Explain fact by) told = ⊥
-BadWord (Facts task class right) told = ⊥
+BadWord (Explain fact by format) told = ⊥
+BadWord (Facts task class right format) told = ⊥
 BadWord (Graph fact task holds) told = ⊥
 BadWord Slots told = ⊥
 BadWord Promises told = ⊥

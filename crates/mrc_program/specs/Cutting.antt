@@ -18,11 +18,14 @@ use Rattle.mrc_files.specs.declared.streams.WriteFault.{WriteFault}
 use Rattle.mrc_files.specs.Files.{Held, HasBytes, AreHeld, IsLeftBy}
 use Rattle.mrc_files.specs.Paths.{name}
 use Rattle.mrc_command.specs.declared.told.Told.{Told}
+use Rattle.mrc_command.specs.declared.command.Format.{Format}
+use Rattle.mrc_command.specs.declared.command.Format.TheVariants.{Json}
 use Rattle.mrc_command.specs.declared.command.MigFiles.{MigFiles}
 use Rattle.mrc_command.specs.declared.command.Strictness.{Strictness}
 use Rattle.mrc_command.specs.declared.command.Strictness.TheVariants.{None as Each, Rights, All}
 use Rattle.mrc_command.specs.Lines.{fault_line, memory_line, shown}
-use Rattle.mrc_program.specs.declared.cuts.NamedCut.{NamedCut}
+use Rattle.mrc_json.specs.declared.cuts.NamedCut.{NamedCut}
+use Rattle.mrc_json.specs.Answers.{cuts_json}
 use Rattle.mrc_program.specs.LeftNotices.{carriers_text}
 use Rattle.mrc_program.specs.Told.{ToldMemory, ToldUnread, IsFaultOf}
 
@@ -204,12 +207,13 @@ refusal_line path Memory = memory_line
 abbrev pub HasRoom : ℕ → ℕ → Writing → Type 0
 HasRoom len capacity writing = len + (length (shown writing.path) + 66) ≤ capacity
 
--- the files were written, and this text is told
-pub record ToldWritings (before after : Held) (writings : List Writing) (text : List ℕ)
+-- the files were written, and these texts are printed: the first on standard output, the second on
+-- standard error
+pub record ToldWritings (before after : Held) (writings : List Writing) (first second : List ℕ)
     (told : Told) : Type 0 where
   pub written : AreWritten before writings after
-  pub out : string_bytes told.out ≡ []
-  pub err : string_bytes told.err ≡ text
+  pub out : string_bytes told.out ≡ first
+  pub err : string_bytes told.err ≡ second
 
 -- the writing of one of the files was refused, and its line is told behind this text
 pub record ToldRefusal (before after : Held) (writings : List Writing) (text : List ℕ)
@@ -223,16 +227,22 @@ pub record ToldRefusal (before after : Held) (writings : List Writing) (text : L
 
 -- What is told of files.
 
+-- what goes to standard output of what texts are cut to: an object, if the answer is for programs
+abbrev pub cuts_out : Format → Bool → List NamedCut → List ℕ
+cuts_out Json written cuts = cuts_json written cuts
+cuts_out format written cuts = []
+
 -- what texts are cut to was written
 pub record CutsWritten (files : MigFiles) (before after : Held) (cuts : List NamedCut)
     (told : Told) : Type 0 where
   pub enough : are_written files.strict cuts ≡ true
-  pub tells : ToldWritings before after (map (writing_of files.out.now) cuts) (cuts_text cuts) told
+  pub tells : ToldWritings before after (map (writing_of files.out.now) cuts)
+      (cuts_out files.format true cuts) (cuts_text cuts) told
 
 -- too little is read of what texts are cut to: nothing is written
 pub record CutsLess (files : MigFiles) (cuts : List NamedCut) (told : Told) : Type 0 where
   pub less : are_written files.strict cuts ≡ false
-  pub out : string_bytes told.out ≡ []
+  pub out : string_bytes told.out ≡ cuts_out files.format false cuts
   pub err : string_bytes told.err ≡ cuts_text cuts
 
 -- what texts are cut to was written, up to a file that was refused

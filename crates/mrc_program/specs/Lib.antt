@@ -2,6 +2,7 @@ pub mod Files
 pub mod Texts
 pub mod Told
 pub mod Hints
+pub mod Formats
 pub mod Checked
 pub mod Made
 pub mod Played
@@ -20,3 +21,4 @@ pub mod VerifiedLaws
 pub mod Cutting
 pub mod Commands
 pub mod Behind
+pub mod FaultObjects

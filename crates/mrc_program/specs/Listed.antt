@@ -19,13 +19,16 @@ use Rattle.mrc_check.specs.Texts.{Meant, Stated, Meaningless, InCertificate, sta
 use Rattle.mrc_draw.specs.declared.filter.Filter.{Filter}
 use Rattle.mrc_draw.specs.declared.filter.FilterFault.{FilterFault}
 use Rattle.mrc_draw.specs.declared.filter.FilterFault.TheVariants.{Task, Class, Right}
-use Rattle.mrc_draw.specs.Filters.{filter_of, facts_text, is_drawn}
+use Rattle.mrc_draw.specs.Filters.{filter_of, is_drawn}
 use Rattle.mrc_draw.specs.Pictures.{picture_of}
 use Rattle.mrc_draw.specs.Dot.{graph_text}
 use Rattle.mrc_command.specs.Lines.{fault_line}
+use Rattle.mrc_command.specs.declared.command.Format.{Format}
+use Rattle.mrc_command.specs.declared.command.Format.TheVariants as formats
 use Rattle.mrc_command.specs.declared.told.Told.{Told}
 use Rattle.mrc_program.specs.Explained.{OfMeaning, IsNamed, TellsNone, TellsBadFact}
 use Rattle.mrc_program.specs.Files.{Files, Texts}
+use Rattle.mrc_program.specs.Formats.{counts_out, facts_out}
 use Rattle.mrc_program.specs.Texts.{system}
 use Rattle.mrc_program.specs.Told.{ToldFault}
 
@@ -97,28 +100,30 @@ IsOtherIfGiven table None = ⊥
 IsOtherIfGiven table (Some bytes) = IsOfAnother table bytes
 
 -- it is printed that the certificate has other numbers than the wiring
-pub record TellsOther (certificate : Option (List ℕ)) (table : Table) (told : Told) : Type 0 where
+pub record TellsOther (format : Format) (certificate : Option (List ℕ)) (table : Table)
+    (told : Told) : Type 0 where
   pub other : IsOtherIfGiven table certificate
-  pub out : string_bytes told.out ≡ codes "NO counts\n"
+  pub out : string_bytes told.out ≡ counts_out format
   pub err : string_bytes told.err ≡ []
 
 -- the same of what the texts mean
-abbrev pub ToldOther : Files → Told → Type 0
-ToldOther files told =
-    OfMeaning (system files.texts) (λ meant. TellsOther files.texts.certificate meant.table) told
+abbrev pub ToldOther : Format → Files → Told → Type 0
+ToldOther format files told =
+    OfMeaning (system files.texts) (λ meant. TellsOther format files.texts.certificate meant.table)
+    told
 
 -- Lists of facts.
 
 -- the facts that these words ask for are printed, in ascending order: those of the certificate, or
 -- of the least set
-pub record TellsFacts (task class right certificate : Option (List ℕ)) (table : Table)
-    (told : Told) : Type 0 where
+pub record TellsFacts (task class right certificate : Option (List ℕ)) (format : Format)
+    (table : Table) (told : Told) : Type 0 where
   pub filter : Filter
   pub asked : filter_of table task class right ≡ Ok filter
   pub facts : List Fact
   pub are : AreFactsOf table certificate facts
   pub ascending : IsAscending facts
-  pub out : string_bytes told.out ≡ facts_text table filter facts
+  pub out : string_bytes told.out ≡ facts_out format table filter facts
   pub err : string_bytes told.err ≡ []
 
 -- the option of a filter, and its fault
@@ -136,10 +141,10 @@ pub record TellsBadFilter (task class right : Option (List ℕ)) (table : Table)
   pub err : string_bytes told.err ≡ filter_line fault
 
 -- the facts are printed of what the texts mean
-abbrev pub ToldFacts : (task class right : Option (List ℕ)) → Files → Told → Type 0
-ToldFacts task class right files told =
+abbrev pub ToldFacts : (task class right : Option (List ℕ)) → Format → Files → Told → Type 0
+ToldFacts task class right format files told =
     OfMeaning (system files.texts)
-    (λ meant. TellsFacts task class right files.texts.certificate meant.table) told
+    (λ meant. TellsFacts task class right files.texts.certificate format meant.table) told
 
 -- why none are listed: a text has no meaning, or a word names nothing
 abbrev pub ToldUnlisted : (task class right : Option (List ℕ)) → Files → Told → Type 0
@@ -181,8 +186,8 @@ pub record IsDrawing (Are : List Fact → Type 0) (task : Option (List ℕ)) (ho
 
 -- with status 1: that the certificate has other numbers, or that no chain leads to the fact
 abbrev pub TellsUndrawn : (certificate fact : Option (List ℕ)) → Table → Told → Type 0
-TellsUndrawn certificate None table told = TellsOther certificate table told
-TellsUndrawn certificate (Some text) table told = TellsNone text table told
+TellsUndrawn certificate None table told = TellsOther formats.Text certificate table told
+TellsUndrawn certificate (Some text) table told = TellsNone text formats.Text table told
 
 -- it is printed that the text that is given names no fact of the wiring
 abbrev pub TellsBadIfGiven : Option (List ℕ) → Table → Told → Type 0

@@ -3,7 +3,7 @@
 -- answer is a yes. This profile's own choice.
 use Rattle.std.specs.Prelude.{◌≡◌, ◌⊎◌, ◌<◌, ◌||◌, Bool, true, false, ℕ, List, [], ◌∷◌, ◌++◌, Ok}
 use Rattle.std.specs.Prelude.{All, IfSome, Option, Some, None, codes, string_bytes}
-use Rattle.std.specs.Prelude.{if◌then◌else◌}
+use Rattle.std.specs.Prelude.{if◌then◌else◌, not}
 use Rattle.mrc_base.specs.declared.Fact.{Fact}
 use Rattle.mrc_model.specs.Rules.{IsLeast}
 use Rattle.mrc_wiring_text.specs.Lexis.{lines}
@@ -14,17 +14,23 @@ use Rattle.mrc_why.specs.declared.printing.Layout.{Layout}
 use Rattle.mrc_why.specs.declared.printing.Layout.TheVariants.{Flat, Tree}
 use Rattle.mrc_why.specs.Broken.{BrokenLine, AreBroken, IsDerived, HasYes, HasNoYes}
 use Rattle.mrc_why.specs.Broken.{ExposedTask, IsExposedOf, IsReached}
+use Rattle.mrc_why.specs.Lines.{Numbered}
 use Rattle.mrc_mend.specs.declared.answers.Answer.{Answer}
 use Rattle.mrc_mend.specs.declared.answers.Answer.TheVariants.{Nothing, Found}
 use Rattle.mrc_mend.specs.Judging.{IsNeededOf, IsMend, AreAnswered, AreAtMost}
-use Rattle.mrc_mend.specs.Texts.{mends_text}
 use Rattle.mrc_verdicts.specs.declared.printing.Manner.{Manner}
 use Rattle.mrc_verdicts.specs.Verdicts.{IsNoText}
+use Rattle.mrc_command.specs.declared.command.Format.{Format}
+use Rattle.mrc_command.specs.declared.command.Format.TheVariants.{Text, Json, Sarif}
 use Rattle.mrc_command.specs.declared.command.Showing.{Showing}
 use Rattle.mrc_command.specs.declared.told.Told.{Told}
+use Rattle.mrc_json.specs.Answers.{IsBrokenJson}
+use Rattle.mrc_json.specs.Verdicts.{Asked}
+use Rattle.mrc_sarif.specs.Answers.{IsBrokenSarif}
 use Rattle.mrc_program.specs.Asked.{IsBrokenAt}
 use Rattle.mrc_program.specs.Explained.{numbered_by}
 use Rattle.mrc_program.specs.Files.{Files, given, word_of}
+use Rattle.mrc_program.specs.Formats.{mends_out}
 use Rattle.mrc_program.specs.Notices.{notice}
 use Rattle.mrc_program.specs.LeftNotices.{left_notices}
 use Rattle.mrc_program.specs.PolicyNotices.{policy_notices}
@@ -61,6 +67,27 @@ manner_of showing files = record {
   policy = quoted_if showing.quotes (given files.texts.policy);
 }
 
+-- what a no of these files has as JSON: chains unless the answer is to be brief, of all lines or of
+-- one
+abbrev pub asked_of : Showing → Option ℕ → Files → Asked
+asked_of showing only files = record {
+  steps = not showing.brief;
+  only = only;
+  wiring = files.texts.wiring;
+  policy = given files.texts.policy;
+}
+
+-- the text is that of a no in this format, with what goes to standard error: of all that is
+-- objected to, or of one line
+abbrev pub IsBrokenOut : Format → Showing → Files → Option ℕ → Numbered → Option ExposedTask
+    → List BrokenLine → (notices text : List ℕ) → Type 0
+IsBrokenOut Text showing files only numbered exposed broken notices text =
+    IsNoText (manner_of showing files) only numbered exposed broken text
+IsBrokenOut Json showing files only numbered exposed broken notices text =
+    IsBrokenJson (asked_of showing only files) numbered exposed broken notices text
+IsBrokenOut Sarif showing files only numbered exposed broken notices text =
+    IsBrokenSarif files.names files.texts.defs numbered only exposed broken text
+
 -- what goes to standard error of files and their claim, by a set of facts: of routines that carry
 -- rights and are left out of the MIG files, of routines of notifications, and of the policy
 abbrev pub notices : Files → Claimed → (Fact → Bool) → List ℕ
@@ -74,15 +101,16 @@ abbrev pub AreNotices : Files → Claimed → List ℕ → Type 0
 AreNotices files claim text =
     (set : Fact → Bool) → IsLeast (wiring_of claim.table) set → text ≡ notices files claim set
 
--- `YES` is printed, and it is right: the least set of the wiring is a yes to the policy; and their
--- notices, and which tasks are trusted
-pub record ToldAllowed (files : Files) (told : Told) : Type 0 where
+-- the yes of a command is printed in this format, and it is right: the least set of the wiring is a
+-- yes to the policy; and their notices, and which tasks are trusted
+pub record ToldAllowed (command : List ℕ) (format : Format) (files : Files) (told : Told)
+    : Type 0 where
   pub meant : Stated
   pub says : stated files.texts ≡ Ok meant
   pub yes : HasYes meant.claim
   pub notices : List ℕ
   pub are_notices : AreNotices files meant.claim notices
-  pub is : IsYesWith files.names notices meant.claim.table told
+  pub is : IsYesWith command format files.names notices meant.claim.table told
 
 -- A no is printed: the first trusted task that another could rewrite, with a chain that derives the
 -- hold by which it could; the lines that are broken, with chains that derive what they forbid; the
@@ -99,8 +127,9 @@ pub record ToldBroken (showing : Showing) (files : Files) (told : Told) : Type 0
   pub chains : All (IsDerived meant.claim) broken
   pub no : HasNoYes meant.claim
   pub asked : IfSome showing.line (λ n. IsBrokenAt meant.claim n true)
-  pub out : IsNoText (manner_of showing files) showing.line
-      (numbered_by meant.claim.table meant.lines) exposed broken (string_bytes told.out)
+  pub out : IsBrokenOut showing.format showing files showing.line
+      (numbered_by meant.claim.table meant.lines) exposed broken (string_bytes told.err)
+      (string_bytes told.out)
   pub err : AreNotices files meant.claim (string_bytes told.err)
 
 -- Mends.
@@ -126,16 +155,16 @@ mend_status Nothing = 0
 mend_status (Found mends) = status_by mends.mends.items
 
 -- Mends are printed, so many at most, and they are right: with each of them, as it is printed, the
--- least set of the wiring is a yes to the policy; `YES` is printed if and only if there is nothing
+-- least set of the wiring is a yes to the policy; a yes is printed if and only if there is nothing
 -- to mend; and what the broken lines are said to have in common is in the chain of each.
-pub record ToldMends (most : ℕ) (files : Files) (told : Told) : Type 0 where
+pub record ToldMends (most : ℕ) (format : Format) (files : Files) (told : Told) : Type 0 where
   pub answer : Answer
   pub needed : IsNeededOf (stated files.texts) answer
   pub within : AreAtMost most answer
   pub right : AreAnswered (IsMend files.texts.defs files.texts.wiring (given files.texts.policy))
       answer
   pub status : told.status ≡ mend_status answer
-  pub out : string_bytes told.out ≡ mends_text files.texts.wiring answer
+  pub out : string_bytes told.out ≡ mends_out format files.texts.wiring answer
   pub err : string_bytes told.err ≡ notes_of answer
 
 -- no such number can be asked for: one at least can, and 1,000,000 at most

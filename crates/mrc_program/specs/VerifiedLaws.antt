@@ -1,10 +1,11 @@
 -- What `verify` and `attack` print means for the machine and for certificates. This profile's own
 -- choice.
-use Rattle.std.specs.Prelude.{Bool, ℕ, Option}
+use Rattle.std.specs.Prelude.{Bool, ℕ, List, Option}
 use Rattle.mrc_base.specs.declared.Fact.{Fact}
 use Rattle.mrc_wiring.specs.Claims.{Claimed}
 use Rattle.mrc_check.specs.Texts.{MeanClaim}
 use Rattle.mrc_confine.specs.Safety.{IsSafeBy, NoneIsAccepted}
+use Rattle.mrc_command.specs.declared.command.Format.{Format}
 use Rattle.mrc_command.specs.declared.command.Showing.{Showing}
 use Rattle.mrc_command.specs.declared.told.Told.{Told}
 use Rattle.mrc_program.specs.Files.{Files, Texts, given}
@@ -23,9 +24,11 @@ pub record AreSafe (texts : Texts) : Type 0 where
 abbrev pub HaveNoYes : Texts → Type 0
 HaveNoYes texts = NoneIsAccepted texts.defs texts.wiring (given texts.policy)
 
--- if `verify` prints `YES`, the texts are safe
+-- if a yes is printed in any format, as by `verify`, the texts are safe
 abbrev pub AllowedIsSafe : Type 0
-AllowedIsSafe = (files : Files) (told : Told) → ToldAllowed files told → AreSafe files.texts
+AllowedIsSafe =
+    (command : List ℕ) (format : Format) (files : Files) (told : Told)
+    → ToldAllowed command format files told → AreSafe files.texts
 
 -- if it prints what is exposed and broken, no certificate is accepted for the texts
 abbrev pub BrokenHasNoYes : Type 0

@@ -18,7 +18,7 @@ use crate::told::refused;
 use crate::verify::notices;
 use mrc_attack::Progress;
 use mrc_check::Stated;
-use mrc_command::{Told, fault_of};
+use mrc_command::{Format, Told, fault_of};
 use mrc_leak::{Form, attacks, attacks_text, cut_text};
 use mrc_why::{Broken, Verdict, verify};
 use mrc_wiring::Wired;
@@ -154,7 +154,7 @@ fn stated_attacked<P: Progress>(
     match line {
         None => {
             if verdict.is_yes() {
-                yes(alloc, &files.names, notices, wired)
+                yes(alloc, "attack", Format::Text, &files.names, notices, wired)
             } else {
                 attacks_told(alloc, wired, &verdict, None, most, notices, progress)
             }

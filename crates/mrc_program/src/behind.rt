@@ -1,34 +1,87 @@
-//! What is printed behind the line of a fault.
+//! What helps with a fault: the hint, and what is printed of it behind the line of the fault.
 
-ghost use Rattle.std.specs.Prelude.{◌≡◌, ◌⊎◌, [], Err, true, IfOk, IfErr, IsTrue};
+ghost use Rattle.std.specs.Prelude.{◌≡◌, ◌⊎◌, [], Err, true, false, IfOk, IfErr, IsTrue};
 ghost use Rattle.std.specs.Prelude.{string_bytes};
 ghost use Rattle.mrc_check.specs.Texts.{meaningless};
-ghost use Rattle.mrc_program.specs.Behind.{all_meant, is_live, IsHelp, IsUnreadHelp};
-ghost use Rattle.mrc_program.specs.Behind.{IsFailure, IsHintOf, IsHintIfAny, IsNote, IsShown};
-ghost use Rattle.mrc_program.specs.Behind.{IsUncutHelp};
+ghost use Rattle.mrc_program.specs.Behind.{all_meant, is_live, is_wanted, IsHelp, IsNoHelp};
+ghost use Rattle.mrc_program.specs.Behind.{IsFailure, IsHelpIfAny, IsMade, IsNoteAlone, IsTextOf};
+ghost use Rattle.mrc_program.specs.Behind.{IsUncutHelp, IsUnreadHelp};
 ghost use Rattle.mrc_program.specs.Told.{IsFaultOf, UnreadTold};
 
 use crate::cuts::Uncut;
 use crate::files::Files;
-use crate::hints::{hint_text, inner_line};
+use crate::hints::hint_text;
 use crate::meaning::all_meant;
 use crate::places::{cut_hint, hint_of};
 use crate::told::{file_of, unread_told};
 use mrc_base::OrMemory;
 use mrc_check::CaseFault;
-use mrc_command::{Question, Told, fault_of, shown};
+use mrc_command::{Format, Question, Told, fault_of};
 use mrc_files::{ReadFailure, ReadFault, Unread};
+use mrc_place::Hint;
 use std::alloc::{AllocError, Global};
 
-/// A text, or none if memory ran out for it.
-fn text_if_made(alloc: Global, text: Result<String, AllocError>) -> String
-    ensures made { IfOk text (λ made. string_bytes result ≡ string_bytes made) }
-    ensures none { IfErr text (λ _. string_bytes result ≡ []) }
+/// What helps with a fault.
+#[derive(Drop)]
+pub struct Help {
+    /// What is printed of the hint behind the line of the fault.
+    pub text: String,
+    /// Where the fault is, and sentences that help to mend it.
+    pub hint: Hint,
+}
+
+/// Nothing.
+pub fn no_help(alloc: Global) -> Help
+    ensures { IsNoHelp result }
 {
-    match text {
-        Ok(text) => text,
-        Err(AllocError) => String::new(alloc),
+    Help {
+        text: String::new(alloc),
+        hint: Hint {
+            spot: None,
+            notes: Vec::new(alloc),
+        },
     }
+}
+
+/// A hint of a file, with its text.
+fn help_of(alloc: Global, file: &str, hint: Hint) -> Result<Help, AllocError>
+    ensures hint { IfOk result (λ help. help.hint ≡ hint) }
+    ensures text { IfOk result (IsTextOf file.now) }
+{
+    let text = hint_text(alloc, file, &hint)?;
+    Ok(Help { text, hint })
+}
+
+/// What was made to help, or nothing if memory ran out for it.
+fn help_if_made(alloc: Global, help: Result<Help, AllocError>) -> Help
+    ensures made { IfOk help (λ made. result ≡ made) }
+    ensures none { IfErr help (λ _. IsNoHelp result) }
+{
+    match help {
+        Ok(help) => help,
+        Err(AllocError) => no_help(alloc),
+    }
+}
+
+/// Whether what helps with a fault is wanted: if it is shown, or if the answer is for programs.
+pub fn is_wanted(shows: bool, format: Format) -> bool
+    ensures { result ≡ is_wanted shows format }
+{
+    match format {
+        Format::Text => shows,
+        Format::Json | Format::Sarif => true,
+    }
+}
+
+/// What is printed of what helps with a fault, if that is shown (`shows`).
+pub fn help_text(alloc: Global, shows: bool, help: Help) -> String
+    ensures shown { shows ≡ true → string_bytes result ≡ string_bytes help.text }
+    ensures none { shows ≡ false → string_bytes result ≡ [] }
+{
+    if shows {
+        return help.text;
+    }
+    String::new(alloc)
 }
 
 /// Whether a script of this question is for tasks that run as threads.
@@ -61,18 +114,17 @@ fn hint_behind(
     live: bool,
     line: &str,
     fault: &CaseFault,
-) -> Result<String, AllocError>
+) -> Result<Help, AllocError>
     requires { all_meant live files.now.texts ≡ Err (meaningless fault.now) }
-    ensures { IfOk result (λ text. (string_bytes text ≡ [])
-        ⊎ IsHelp live files.now line.now (string_bytes text)) }
+    ensures { IfOk result (λ help. IsNoHelp help ⊎ IsHelp live files.now line.now help) }
 {
     let file = file_of(&files.names, fault);
     if !is_line_of(alloc, file, fault, line)? {
-        return Ok(String::new(alloc));
+        return Ok(no_help(alloc));
     }
-    match hint_of(alloc, files, fault)? {
-        Some(hint) => hint_text(alloc, file, &hint),
-        None => Ok(String::new(alloc)),
+    match hint_of(alloc, files, live, fault)? {
+        Some(hint) => help_of(alloc, file, hint),
+        None => Ok(no_help(alloc)),
     }
 }
 
@@ -82,140 +134,135 @@ fn texts_behind(
     files: &Files<'_>,
     live: bool,
     line: &str,
-) -> Result<String, AllocError>
-    ensures { IfOk result (λ text. (string_bytes text ≡ [])
-        ⊎ IsHelp live files.now line.now (string_bytes text)) }
+) -> Result<Help, AllocError>
+    ensures { IfOk result (λ help. IsNoHelp help ⊎ IsHelp live files.now line.now help) }
 {
     match all_meant(alloc, &files.texts, live) {
         Err(OrMemory::Fault(fault)) => hint_behind(alloc, files, live, line, &fault),
         Err(OrMemory::Memory) => Err(AllocError),
-        Ok(()) => Ok(String::new(alloc)),
+        Ok(()) => Ok(no_help(alloc)),
     }
 }
 
 /// What helps with the fault that is printed of a question about files that were read, if that is
-/// shown (`shows`). If memory runs out for it, it is nothing.
+/// wanted. If memory runs out for it, it is nothing.
 pub fn files_behind(
     alloc: Global,
-    shows: bool,
+    wanted: bool,
     files: &Files<'_>,
     question: Question<'_>,
     told: &Told,
-) -> String
-    ensures { IsShown shows (IsHelp (is_live question.entry) files.now) (string_bytes result)
-        told.now }
+) -> Help
+    ensures { IsMade wanted (IsHelp (is_live question.entry) files.now) result told.now }
 {
-    if !shows || told.status != 2 {
-        return String::new(alloc);
+    if !wanted || told.status != 2 {
+        return no_help(alloc);
     }
-    let text = texts_behind(alloc, files, is_live(question), told.err.as_str());
-    text_if_made(alloc, text)
+    let help = texts_behind(alloc, files, is_live(question), told.err.as_str());
+    help_if_made(alloc, help)
 }
 
 /// What the system says of a file that can't be read.
-fn failure_text(alloc: Global, failure: ReadFailure) -> Result<String, AllocError>
-    ensures { IfOk result (λ text. IsNote (string_bytes text)) }
+fn failure_help(alloc: Global, file: &str, failure: ReadFailure) -> Result<Help, AllocError>
+    ensures note { IfOk result (λ help. IsNoteAlone help.hint) }
+    ensures text { IfOk result (IsTextOf file.now) }
 {
     let note = failure.to_string(alloc)?;
-    let note = shown(alloc, note.as_str())?;
-    inner_line(alloc, note.as_str())
+    let mut notes = Vec::new(alloc);
+    notes.push(note)?;
+    help_of(alloc, file, Hint { spot: None, notes })
 }
 
-/// What helps with a file that can't be read, if that is shown (`shows`): what the system says of
-/// it. If memory runs out for it, it is nothing.
-fn unread_behind(alloc: Global, shows: bool, fault: ReadFault) -> String
-    ensures { (string_bytes result ≡ []) ⊎ ((shows ≡ true) × IsFailure fault
-        × IsNote (string_bytes result)) }
+/// What helps with a file that can't be read, if that is wanted: what the system says of it. If
+/// memory runs out for it, it is nothing.
+fn unread_behind(alloc: Global, wanted: bool, file: &str, fault: ReadFault) -> Help
+    ensures { IsNoHelp result ⊎ ((wanted ≡ true) × IsFailure fault
+        × IsNoteAlone result.hint × IsTextOf file.now result) }
 {
     match fault {
-        ReadFault::ReadFailed(failure) if shows => {
-            text_if_made(alloc, failure_text(alloc, failure))
+        ReadFault::ReadFailed(failure) if wanted => {
+            help_if_made(alloc, failure_help(alloc, file, failure))
         }
-        _ => String::new(alloc),
+        _ => no_help(alloc),
     }
 }
 
-/// What is printed of a file that could not be read, and behind it what helps with that, if it is
-/// shown (`shows`).
+/// What is printed of a file that could not be read; and what helps with that, if it is wanted.
 pub fn unread_helped(
     alloc: Global,
     unread: &Unread<'_>,
-    shows: bool,
-    behind: &mut String,
+    wanted: bool,
+    help: &mut Help,
 ) -> Result<Told, AllocError>
     ensures status { IfOk result (λ told. told.status ≡ 2) }
     ensures told { IfOk result (UnreadTold unread.now.file.now unread.now.fault) }
-    ensures behind { IfOk result
-        (λ told. IsShown shows IsUnreadHelp (string_bytes behind.new) told) }
+    ensures help { IfOk result (IsMade wanted IsUnreadHelp help.new) }
 {
     let told = unread_told(alloc, unread)?;
-    *behind = unread_behind(alloc, shows, unread.fault);
+    *help = unread_behind(alloc, wanted, unread.file, unread.fault);
     Ok(told)
 }
 
 /// What helps with a MIG file that can't be cut, by its bytes.
-fn cut_text(alloc: Global, uncut: &Uncut<'_>, bytes: &[u8]) -> Result<String, AllocError>
-    ensures { IfOk result (λ text. IsHintIfAny uncut.now.file.now (string_bytes text)) }
+fn cut_help(alloc: Global, uncut: &Uncut<'_>, bytes: &[u8]) -> Result<Help, AllocError>
+    ensures { IfOk result (IsHelpIfAny uncut.now.file.now) }
 {
     match cut_hint(alloc, bytes, uncut.fault)? {
-        Some(hint) => hint_text(alloc, uncut.file, &hint),
-        None => Ok(String::new(alloc)),
+        Some(hint) => help_of(alloc, uncut.file, hint),
+        None => Ok(no_help(alloc)),
     }
 }
 
 /// What helps with the MIG file that can't be cut, of files with these bytes.
-fn uncut_text(
+fn uncut_help(
     alloc: Global,
     files: &[&str],
     texts: &[Vec<u8>],
     uncut: &Uncut<'_>,
-) -> Result<String, AllocError>
-    ensures { IfOk result (λ text. IsHintIfAny uncut.now.file.now (string_bytes text)) }
+) -> Result<Help, AllocError>
+    ensures { IfOk result (IsHelpIfAny uncut.now.file.now) }
 {
     for (file, text) in files.iter().zip(texts) {
         if *file == uncut.file {
-            return cut_text(alloc, uncut, text.as_slice());
+            return cut_help(alloc, uncut, text.as_slice());
         }
     }
-    Ok(String::new(alloc))
+    Ok(no_help(alloc))
 }
 
-/// What helps with the MIG file that can't be cut, of files with these bytes, if that is shown
-/// (`shows`). If memory runs out for it, it is nothing.
+/// What helps with the MIG file that can't be cut, of files with these bytes, if that is wanted. If
+/// memory runs out for it, it is nothing.
 fn uncut_behind(
     alloc: Global,
-    shows: bool,
+    wanted: bool,
     files: &[&str],
     texts: &[Vec<u8>],
     uncut: &Uncut<'_>,
-) -> String
-    ensures { (string_bytes result ≡ []) ⊎ ((shows ≡ true)
-        × IsHintOf uncut.now.file.now (string_bytes result)) }
+) -> Help
+    ensures { IsNoHelp result ⊎ ((wanted ≡ true) × IsTextOf uncut.now.file.now result) }
 {
-    if !shows {
-        return String::new(alloc);
+    if !wanted {
+        return no_help(alloc);
     }
-    text_if_made(alloc, uncut_text(alloc, files, texts, uncut))
+    help_if_made(alloc, uncut_help(alloc, files, texts, uncut))
 }
 
-/// What is printed of a text that can't be cut, and behind it what helps with its fault, if that is
-/// shown (`shows`).
+/// What is printed of a text that can't be cut; and what helps with its fault, if that is wanted.
 pub fn uncut_helped(
     alloc: Global,
     files: &[&str],
     texts: &[Vec<u8>],
     uncut: &Uncut<'_>,
-    shows: bool,
-    behind: &mut String,
+    wanted: bool,
+    help: &mut Help,
 ) -> Result<Told, AllocError>
     ensures status { IfOk result (λ told. told.status ≡ 2) }
     ensures out { IfOk result (λ told. string_bytes told.out ≡ []) }
     ensures err { IfOk result (λ told. IsFaultOf uncut.now.file.now (string_bytes told.err)) }
-    ensures behind { IfOk result
-        (λ told. IsShown shows IsUncutHelp (string_bytes behind.new) told) }
+    ensures help { IfOk result (IsMade wanted IsUncutHelp help.new) }
 {
     let text = uncut.fault.to_string(alloc)?;
     let told = fault_of(alloc, uncut.file, text.as_str())?;
-    *behind = uncut_behind(alloc, shows, files, texts, uncut);
+    *help = uncut_behind(alloc, wanted, files, texts, uncut);
     Ok(told)
 }

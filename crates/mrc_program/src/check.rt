@@ -12,7 +12,7 @@ use crate::left_notices::left_notices;
 use crate::tell::{unaccepted_told, yes};
 use mrc_base::OrMemory;
 use mrc_check::{Confined, TextsFault, check_texts};
-use mrc_command::Told;
+use mrc_command::{Format, Told};
 use std::alloc::{AllocError, Global};
 use std::thread::Threads;
 
@@ -43,16 +43,17 @@ pub fn check_told<R: Threads + Sync>(
     alloc: Global,
     files: &Files<'_>,
     verbose: bool,
+    format: Format,
 ) -> Result<Told, AllocError>
     ensures status { IfOk result (λ told. told.status ≤ 2) }
     // A yes is right.
-    ensures done { IfOk result (λ told. told.status ≡ 0 → ToldYes files.now told) }
+    ensures done { IfOk result (λ told. told.status ≡ 0 → ToldYes format files.now told) }
     // If the answer is yes, that is printed, unless memory runs out.
     ensures only { (judged : Case) → AreAccepted files.now.texts judged
         → IfOk result (λ told. (told.status ≡ 0) ⊎ ToldMemory told) }
     // A no is right, and its reason is printed.
     ensures no { IfOk result (λ told. told.status ≡ 1
-        → ToldNo (notices_of files.now) verbose files.now told) }
+        → ToldNo (notices_of files.now) verbose format files.now told) }
     // A fault is one of the first file that has one, unless memory ran out.
     ensures fault { IfOk result (λ told. told.status ≡ 2
         → ToldMemory told ⊎ ToldFault (case files.now.texts) files.now.names told) }
@@ -60,7 +61,14 @@ pub fn check_told<R: Threads + Sync>(
     let answer = answer_of(rt, alloc, &files.texts);
     let notices = left_notices(alloc, &files.names, files.texts.defs.as_slice())?;
     match answer {
-        Ok(confined) => yes(alloc, &files.names, notices, confined.wired()),
-        Err(refusal) => unaccepted_told(alloc, files, notices, verbose, refusal),
+        Ok(confined) => yes(
+            alloc,
+            "check",
+            format,
+            &files.names,
+            notices,
+            confined.wired(),
+        ),
+        Err(refusal) => unaccepted_told(alloc, files, notices, verbose, format, refusal),
     }
 }

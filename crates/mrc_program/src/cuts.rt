@@ -11,22 +11,16 @@ ghost use Rattle.mrc_program.specs.Cutting.{is_named_so, same_name, IsCutTo, IsN
 ghost use Rattle.mrc_program.specs.Cutting.{IsFirstUncut, left_text, left_line, left_lines};
 ghost use Rattle.mrc_program.specs.Cutting.{carries_text, before_text, carrying_count};
 ghost use Rattle.mrc_program.specs.Cutting.{carrying_words, carrying_text, count_line, cut_text};
-ghost use Rattle.mrc_program.specs.Cutting.{cuts_text, has_routine, has_before, has_left_out};
-ghost use Rattle.mrc_program.specs.Cutting.{has_carrying, is_forbidden, are_written};
+ghost use Rattle.mrc_program.specs.Cutting.{cuts_out, cuts_text, has_routine, has_before};
+ghost use Rattle.mrc_program.specs.Cutting.{has_left_out, has_carrying, is_forbidden, are_written};
 ghost use Rattle.mrc_program.specs.Cutting.{count_text, reason_text, routine_text, shown_text};
 
 use crate::left_notices::carriers_text;
 use mrc_base::OrMemory;
-use mrc_command::{Strictness, shown};
+use mrc_command::{Format, Strictness, shown};
+use mrc_json::{NamedCut, cuts_json};
 use mrc_mig_cut::{Carried, CutFault, CutFile, LeftOut, carried_text, cut};
 use std::alloc::{AllocError, Global};
-
-/// A MIG file, and what its text is cut to.
-#[derive(Drop)]
-pub struct NamedCut<'a> {
-    pub file: &'a str,
-    pub cut: CutFile,
-}
 
 /// A MIG file whose text can't be cut, and why.
 #[derive(Drop)]
@@ -272,6 +266,22 @@ pub fn cuts_text(alloc: Global, cuts: &[NamedCut<'_>]) -> Result<String, AllocEr
         text.push_str(told.as_str())?;
     }
     Ok(text)
+}
+
+/// What goes to standard output of files that were cut and written, or of which too little is read
+/// for that: an object, if the answer is for programs.
+pub fn cuts_out(
+    alloc: Global,
+    format: Format,
+    written: bool,
+    cuts: &[NamedCut<'_>],
+) -> Result<String, AllocError>
+    ensures { IfOk result (λ text. string_bytes text ≡ cuts_out format written cuts.now) }
+{
+    match format {
+        Format::Json => cuts_json(alloc, written, cuts),
+        Format::Text | Format::Sarif => Ok(String::new(alloc)),
+    }
 }
 
 /// Whether a routine is read of a file.

@@ -1,8 +1,11 @@
 //! What the program prints of a fact: the chain that derives it.
 
 ghost use Rattle.std.specs.Prelude.{◌≡◌, ◌≤◌, ◌⊎◌, IfOk, string_bytes};
-ghost use Rattle.mrc_program.specs.Explained.{IsNamed, IsPrinted, TellsChain, TellsNone};
-ghost use Rattle.mrc_program.specs.Explained.{TellsBadFact, ToldChain, ToldNone, ToldBadFact};
+ghost use Rattle.mrc_json.specs.Answers.{IsChainJson};
+ghost use Rattle.mrc_program.specs.Explained.{IsNamed, IsPrinted, IsChainOut, numbered_by};
+ghost use Rattle.mrc_program.specs.Explained.{TellsChain, TellsNone, TellsBadFact, ToldChain};
+ghost use Rattle.mrc_program.specs.Explained.{ToldNone, ToldBadFact};
+ghost use Rattle.mrc_program.specs.Formats.{none_out};
 ghost use Rattle.mrc_program.specs.Texts.{system};
 ghost use Rattle.mrc_program.specs.Told.{ToldMemory, ToldFault};
 
@@ -11,8 +14,10 @@ use crate::told::refused;
 use mrc_base::Fact;
 use mrc_check::System;
 use mrc_closure::{Step, explain};
-use mrc_command::{Told, fault_of, said};
+use mrc_command::{Format, Told, fault_of, said};
+use mrc_json::{chain_json, none_json};
 use mrc_why::{Layout, Sources, chain_text, plain_lines};
+use mrc_wiring::Wired;
 use mrc_words::fact_named;
 use std::alloc::{AllocError, Global};
 
@@ -28,42 +33,91 @@ fn printed(alloc: Global, by: bool, system: &System, steps: &[Step]) -> Result<S
     }
 }
 
+/// The chain of a fact as JSON.
+fn chain_out_json(
+    alloc: Global,
+    system: &System,
+    fact: Fact,
+    steps: &[Step],
+) -> Result<String, AllocError>
+    ensures { IfOk result (λ text. IsChainJson (numbered_by system.now.table system.now.lines) fact
+        steps.now (string_bytes text)) }
+{
+    let sources = Sources::new(alloc, &system.wired, system.lines.as_slice())?;
+    chain_json(alloc, &sources, fact, steps)
+}
+
+/// The chain of a fact in this format.
+fn chain_out(
+    alloc: Global,
+    format: Format,
+    by: bool,
+    system: &System,
+    fact: Fact,
+    steps: &[Step],
+) -> Result<String, AllocError>
+    ensures { IfOk result (λ text.
+        IsChainOut format by system.now fact steps.now (string_bytes text)) }
+{
+    match format {
+        Format::Text | Format::Sarif => printed(alloc, by, system, steps),
+        Format::Json => chain_out_json(alloc, system, fact, steps),
+    }
+}
+
+/// That no chain leads to a fact, in this format.
+fn none_out(alloc: Global, format: Format, wired: &Wired, fact: Fact) -> Result<String, AllocError>
+    ensures { IfOk result (λ text. string_bytes text ≡ none_out format wired.now fact) }
+{
+    match format {
+        Format::Text | Format::Sarif => String::from_str(alloc, "none\n"),
+        Format::Json => none_json(alloc, wired, fact),
+    }
+}
+
 /// What is printed of a fact of the wiring.
 fn explained(
     alloc: Global,
     text: &str,
     by: bool,
+    format: Format,
     system: &System,
     fact: Fact,
 ) -> Result<Told, AllocError>
     requires { IsNamed system.now.table text.now fact }
     ensures status { IfOk result (λ told. (told.status ≡ 0) ⊎ (told.status ≡ 1)) }
     ensures done { IfOk result (λ told. told.status ≡ 0
-        → TellsChain text.now by system.now told) }
+        → TellsChain text.now by format system.now told) }
     ensures no { IfOk result (λ told. told.status ≡ 1
-        → TellsNone text.now system.now.table told) }
+        → TellsNone text.now format system.now.table told) }
 {
     match explain(alloc, &system.wired, fact)? {
         Some(chain) => {
-            let text = printed(alloc, by, system, chain.steps())?;
+            let text = chain_out(alloc, format, by, system, fact, chain.steps())?;
             Ok(said(alloc, text, 0))
         }
-        None => Ok(said(alloc, String::from_str(alloc, "none\n")?, 1)),
+        None => Ok(said(alloc, none_out(alloc, format, &system.wired, fact)?, 1)),
     }
 }
 
 /// What is printed of the text of a fact.
-fn text_explained(alloc: Global, text: &str, by: bool, system: &System) -> Result<Told, AllocError>
+fn text_explained(
+    alloc: Global,
+    text: &str,
+    by: bool,
+    format: Format,
+    system: &System,
+) -> Result<Told, AllocError>
     ensures status { IfOk result (λ told. told.status ≤ 2) }
     ensures done { IfOk result (λ told. told.status ≡ 0
-        → TellsChain text.now by system.now told) }
+        → TellsChain text.now by format system.now told) }
     ensures no { IfOk result (λ told. told.status ≡ 1
-        → TellsNone text.now system.now.table told) }
+        → TellsNone text.now format system.now.table told) }
     ensures fault { IfOk result (λ told. told.status ≡ 2
         → TellsBadFact text.now system.now.table told) }
 {
     match fact_named(&system.wired, text) {
-        Some(fact) => explained(alloc, text, by, system, fact),
+        Some(fact) => explained(alloc, text, by, format, system, fact),
         None => fault_of(alloc, "--fact", "BadFact"),
     }
 }
@@ -74,11 +128,13 @@ pub fn explain_told(
     files: &Files<'_>,
     fact: &str,
     by: bool,
+    format: Format,
 ) -> Result<Told, AllocError>
     ensures status { IfOk result (λ told. told.status ≤ 2) }
     // A chain, or that there is none, is right of what the texts mean.
-    ensures done { IfOk result (λ told. told.status ≡ 0 → ToldChain fact.now by files.now told) }
-    ensures no { IfOk result (λ told. told.status ≡ 1 → ToldNone fact.now files.now told) }
+    ensures done { IfOk result (λ told. told.status ≡ 0
+        → ToldChain fact.now by format files.now told) }
+    ensures no { IfOk result (λ told. told.status ≡ 1 → ToldNone fact.now format files.now told) }
     // A fault is one of the first text that has no meaning, or of the fact, unless memory ran out.
     ensures fault { IfOk result (λ told. told.status ≡ 2
         → ToldMemory told ⊎ (ToldFault (system files.now.texts) files.now.names told
@@ -86,7 +142,7 @@ pub fn explain_told(
 {
     let texts = &files.texts;
     match System::read(alloc, texts.defs.as_slice(), texts.wiring.as_slice()) {
-        Ok(system) => text_explained(alloc, fact, by, &system),
+        Ok(system) => text_explained(alloc, fact, by, format, &system),
         Err(refusal) => refused(alloc, &files.names, &refusal),
     }
 }

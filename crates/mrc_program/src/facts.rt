@@ -2,6 +2,7 @@
 
 ghost use Rattle.std.specs.Prelude.{◌≡◌, ◌≤◌, ◌⊎◌, [], IfOk, string_bytes};
 ghost use Rattle.mrc_program.specs.Files.{word_of};
+ghost use Rattle.mrc_program.specs.Formats.{facts_out};
 ghost use Rattle.mrc_program.specs.Told.{ToldMemory, ToldFault};
 ghost use Rattle.mrc_program.specs.Listed.{draft_given, filter_line, TellsFacts, TellsOther};
 ghost use Rattle.mrc_program.specs.Listed.{TellsBadFilter, ToldFacts, ToldOther, ToldUnlisted};
@@ -10,8 +11,10 @@ use crate::files::Files;
 use crate::given::{facts_given, other_told};
 use crate::told::refused;
 use mrc_check::System;
-use mrc_command::{Told, fault_of, said};
-use mrc_draw::{FilterFault, facts_text, filter_of};
+use mrc_command::{Format, Told, fault_of, said};
+use mrc_draw::{Filter, FilterFault, facts_text, filter_of};
+use mrc_json::facts_json;
+use mrc_rows::Facts;
 use mrc_wiring::Wired;
 use std::alloc::{AllocError, Global};
 
@@ -28,6 +31,23 @@ pub fn filter_told(alloc: Global, fault: FilterFault) -> Result<Told, AllocError
     }
 }
 
+/// The facts that a filter asks for, in this format.
+fn facts_out(
+    alloc: Global,
+    format: Format,
+    wired: &Wired,
+    filter: &Filter,
+    facts: &Facts,
+) -> Result<String, AllocError>
+    ensures { IfOk result (λ text. string_bytes text
+        ≡ facts_out format wired.now filter.now facts.now) }
+{
+    match format {
+        Format::Text | Format::Sarif => facts_text(alloc, wired, facts, filter),
+        Format::Json => facts_json(alloc, wired, filter, facts),
+    }
+}
+
 /// What is printed of a wiring, and of a certificate, if it is given.
 fn listing_told(
     alloc: Global,
@@ -35,14 +55,15 @@ fn listing_told(
     task: Option<&str>,
     class: Option<&str>,
     right: Option<&str>,
+    format: Format,
     wired: &Wired,
 ) -> Result<Told, AllocError>
     ensures status { IfOk result (λ told. told.status ≤ 2) }
     ensures done { IfOk result (λ told. told.status ≡ 0
         → TellsFacts (word_of task.entry) (word_of class.entry) (word_of right.entry)
-        files.now.texts.certificate wired.now told) }
+        files.now.texts.certificate format wired.now told) }
     ensures no { IfOk result (λ told. told.status ≡ 1
-        → TellsOther files.now.texts.certificate wired.now told) }
+        → TellsOther format files.now.texts.certificate wired.now told) }
     ensures fault { IfOk result (λ told. told.status ≡ 2 → ToldMemory told
         ⊎ (ToldFault (draft_given files.now.texts.certificate) files.now.names told
         ⊎ TellsBadFilter (word_of task.entry) (word_of class.entry) (word_of right.entry)
@@ -53,9 +74,9 @@ fn listing_told(
             Ok(filter) => match facts {
                 Some(facts) => {
                     let _count = facts.len();
-                    Ok(said(alloc, facts_text(alloc, wired, &facts, &filter)?, 0))
+                    Ok(said(alloc, facts_out(alloc, format, wired, &filter, &facts)?, 0))
                 }
-                None => other_told(alloc),
+                None => other_told(alloc, format),
             },
             Err(fault) => filter_told(alloc, fault),
         },
@@ -70,13 +91,14 @@ pub fn facts_told(
     task: Option<&str>,
     class: Option<&str>,
     right: Option<&str>,
+    format: Format,
 ) -> Result<Told, AllocError>
     ensures status { IfOk result (λ told. told.status ≤ 2) }
     // The facts are those of what the texts mean.
     ensures done { IfOk result (λ told. told.status ≡ 0
-        → ToldFacts (word_of task.entry) (word_of class.entry) (word_of right.entry) files.now
-        told) }
-    ensures no { IfOk result (λ told. told.status ≡ 1 → ToldOther files.now told) }
+        → ToldFacts (word_of task.entry) (word_of class.entry) (word_of right.entry) format
+        files.now told) }
+    ensures no { IfOk result (λ told. told.status ≡ 1 → ToldOther format files.now told) }
     // A fault is one of the first text that has no meaning, or of a word, unless memory ran out.
     ensures fault { IfOk result (λ told. told.status ≡ 2 → ToldMemory told
         ⊎ ToldUnlisted (word_of task.entry) (word_of class.entry) (word_of right.entry) files.now
@@ -84,7 +106,7 @@ pub fn facts_told(
 {
     let texts = &files.texts;
     match System::read(alloc, texts.defs.as_slice(), texts.wiring.as_slice()) {
-        Ok(system) => listing_told(alloc, files, task, class, right, &system.wired),
+        Ok(system) => { listing_told(alloc, files, task, class, right, format, &system.wired) }
         Err(refusal) => refused(alloc, &files.names, &refusal),
     }
 }

@@ -1,10 +1,11 @@
 //! The facts of a certificate that may be given, or those of the least set.
 
-ghost use Rattle.std.specs.Prelude.{◌≡◌, [], Some, Err, IfOk, IfErr, IfSome, IfNone, codes};
+ghost use Rattle.std.specs.Prelude.{◌≡◌, [], Some, Err, IfOk, IfErr, IfSome, IfNone};
 ghost use Rattle.std.specs.Prelude.{string_bytes};
 ghost use Rattle.mrc_base.specs.Reading.{UnlessMemory};
 ghost use Rattle.mrc_certificate.specs.Spelling.{content};
 ghost use Rattle.mrc_check.specs.Texts.{meaningless};
+ghost use Rattle.mrc_program.specs.Formats.{counts_out};
 ghost use Rattle.mrc_program.specs.Listed.{draft_given, IsOfWiring, AreOfDraft, AreFactsOf};
 ghost use Rattle.mrc_program.specs.Listed.{IsOfAnother, IsOtherIfGiven};
 
@@ -13,18 +14,29 @@ use mrc_base::OrMemory;
 use mrc_certificate::{Draft, read_draft};
 use mrc_check::CaseFault;
 use mrc_closure::make_alone;
-use mrc_command::{Told, said};
+use mrc_command::{Format, Told, said};
+use mrc_json::counts_json;
 use mrc_rows::Facts;
 use mrc_wiring::Wired;
 use std::alloc::{AllocError, Global};
 
-/// That a certificate has other numbers than the wiring.
-pub fn other_told(alloc: Global) -> Result<Told, AllocError>
+/// That a certificate has other numbers than the wiring, in this format.
+fn counts_out(alloc: Global, format: Format) -> Result<String, AllocError>
+    ensures { IfOk result (λ text. string_bytes text ≡ counts_out format) }
+{
+    match format {
+        Format::Text | Format::Sarif => String::from_str(alloc, "NO counts\n"),
+        Format::Json => counts_json(alloc),
+    }
+}
+
+/// What is printed of a certificate that has other numbers than the wiring.
+pub fn other_told(alloc: Global, format: Format) -> Result<Told, AllocError>
     ensures status { IfOk result (λ told. told.status ≡ 1) }
-    ensures out { IfOk result (λ told. string_bytes told.out ≡ codes "NO counts\n") }
+    ensures out { IfOk result (λ told. string_bytes told.out ≡ counts_out format) }
     ensures err { IfOk result (λ told. string_bytes told.err ≡ []) }
 {
-    Ok(said(alloc, String::from_str(alloc, "NO counts\n")?, 1))
+    Ok(said(alloc, counts_out(alloc, format)?, 1))
 }
 
 /// The facts of a draft, if it has the wiring's numbers.

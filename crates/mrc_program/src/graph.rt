@@ -6,6 +6,7 @@ ghost use Rattle.std.specs.Option.{option_map};
 ghost use Rattle.mrc_closure.specs.Chains.{IsChain};
 ghost use Rattle.mrc_closure.specs.declared.chains.Step.{Step};
 ghost use Rattle.mrc_check.specs.Texts.{meaningless};
+ghost use Rattle.mrc_command.specs.declared.command.Format.TheVariants as formats;
 ghost use Rattle.mrc_draw.specs.Dot.{graph_text};
 ghost use Rattle.mrc_draw.specs.Filters.{is_drawn};
 ghost use Rattle.mrc_draw.specs.Pictures.{picture_of};
@@ -26,7 +27,7 @@ use crate::given::{facts_given, other_told};
 use crate::told::refused;
 use mrc_base::{Fact, OrMemory};
 use mrc_check::{CaseFault, PolicyFault, Stated, System};
-use mrc_command::{Told, fault_of, said};
+use mrc_command::{Format, Told, fault_of, said};
 use mrc_draw::{Filter, drawn_facts, filter_of, graph_text, set_of};
 use mrc_rows::Facts;
 use mrc_why::{Derivations, Step};
@@ -101,7 +102,8 @@ fn chain_drawn(
     ensures done { IfOk result (λ told. told.status ≡ 0
         → IsDrawing (AreOfChain wired.now text.now) (word_of task.entry) holds wired.now lines.now
         told) }
-    ensures no { IfOk result (λ told. told.status ≡ 1 → TellsNone text.now wired.now told) }
+    ensures no { IfOk result (λ told. told.status ≡ 1
+        → TellsNone text.now formats.Text wired.now told) }
     ensures fault { IfOk result (λ told. told.status ≡ 2
         → TellsBadDrawing (Some text.now) (word_of task.entry) wired.now told) }
 {
@@ -131,7 +133,7 @@ fn facts_drawn(
         → IsDrawing (AreFactsOf wired.now files.now.texts.certificate) (word_of task.entry) holds
         wired.now lines.now told) }
     ensures no { IfOk result (λ told. told.status ≡ 1
-        → TellsOther files.now.texts.certificate wired.now told) }
+        → TellsOther formats.Text files.now.texts.certificate wired.now told) }
     ensures fault { IfOk result (λ told. told.status ≡ 2 → ToldMemory told
         ⊎ (ToldFault (draft_given files.now.texts.certificate) files.now.names told
         ⊎ TellsBadFilter (word_of task.entry) None None wired.now told)) }
@@ -140,7 +142,7 @@ fn facts_drawn(
         Ok(facts) => match filter_of(wired, task, None, None) {
             Ok(asked) => match facts {
                 Some(facts) => drawn(alloc, wired, &facts, &asked, holds, lines),
-                None => other_told(alloc),
+                None => other_told(alloc, Format::Text),
             },
             Err(fault) => filter_told(alloc, fault),
         },

@@ -26,7 +26,7 @@ fn width(alloc: Global, text: &str) -> Result<usize, AllocError>
 }
 
 /// A line behind that of the fault.
-pub fn inner_line(alloc: Global, text: &str) -> Result<String, AllocError>
+fn inner_line(alloc: Global, text: &str) -> Result<String, AllocError>
     ensures { IfOk result (λ line. string_bytes line ≡ inner_line text.now) }
 {
     format!(in alloc; "  {text}\n")

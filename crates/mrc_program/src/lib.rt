@@ -19,6 +19,7 @@ mod meaning;
 mod mend;
 mod mig;
 mod notices;
+mod objects;
 mod places;
 mod policy_notices;
 mod progress;

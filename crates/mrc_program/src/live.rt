@@ -2,6 +2,7 @@
 
 ghost use Rattle.std.specs.Prelude.{false, ◌≡◌, ◌≤◌, ◌⊎◌, [], IfOk, string_bytes};
 ghost use Rattle.mrc_command.specs.Lines.{fault_line};
+ghost use Rattle.mrc_command.specs.declared.command.Format.TheVariants as formats;
 ghost use Rattle.mrc_report.specs.Printing.{waits_text};
 ghost use Rattle.mrc_report.specs.Served.{IsServed};
 ghost use Rattle.mrc_program.specs.Texts.{AreAccepted, case};
@@ -17,7 +18,7 @@ use crate::tell::unaccepted_told;
 use crate::told::refused;
 use mrc_base::OrMemory;
 use mrc_check::Confined;
-use mrc_command::{FileNames, Told, fault_of, memory, said};
+use mrc_command::{FileNames, Format, Told, fault_of, memory, said};
 use mrc_report::{Gate, Script, ServeFault, Served, serve, waits_text};
 use std::alloc::{AllocError, Global};
 use std::marker::Brand;
@@ -145,7 +146,8 @@ pub fn live_told<R: Threads + Wait + Sync>(
     // A journal is right.
     ensures done { IfOk result (λ told. told.status ≡ 0 → ToldLive files.now told) }
     // A no is right, and its reason is printed.
-    ensures no { IfOk result (λ told. told.status ≡ 1 → ToldNo [] false files.now told) }
+    ensures no { IfOk result (λ told. told.status ≡ 1
+        → ToldNo [] false formats.Text files.now told) }
     // A fault is one of the first text that has no meaning, or of the script's run, unless memory
     // ran out.
     ensures fault { IfOk result (λ told. told.status ≡ 2
@@ -153,6 +155,13 @@ pub fn live_told<R: Threads + Wait + Sync>(
 {
     match answer_of(rt, alloc, &files.texts) {
         Ok(confined) => confined_told(rt, alloc, files, confined, limit),
-        Err(refusal) => unaccepted_told(alloc, files, String::new(alloc), false, refusal),
+        Err(refusal) => unaccepted_told(
+            alloc,
+            files,
+            String::new(alloc),
+            false,
+            Format::Text,
+            refusal,
+        ),
     }
 }

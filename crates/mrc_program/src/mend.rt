@@ -1,7 +1,7 @@
 //! What the program prints of mends: changes of a wiring after which a policy holds.
 
 ghost use Rattle.std.specs.Prelude.{◌≡◌, ◌≤◌, ◌⊎◌, [], IfOk, IfSome, IsSomeAnd, string_bytes};
-ghost use Rattle.mrc_mend.specs.Texts.{mends_text};
+ghost use Rattle.mrc_program.specs.Formats.{mends_out};
 ghost use Rattle.mrc_program.specs.Texts.{stated};
 ghost use Rattle.mrc_program.specs.Told.{ToldMemory, ToldFault};
 ghost use Rattle.mrc_program.specs.Verified.{mend_status, notes_of, ToldMends};
@@ -9,7 +9,8 @@ ghost use Rattle.mrc_program.specs.Verified.{IsBadMost, ToldMost};
 
 use crate::files::Files;
 use crate::told::refused;
-use mrc_command::{Told, fault_of};
+use mrc_command::{Format, Told, fault_of};
+use mrc_json::mends_json;
 use mrc_mend::{Answer, Progress, find_mends, mends_text};
 use std::alloc::{AllocError, Global};
 
@@ -56,13 +57,34 @@ fn notes_of(alloc: Global, answer: &Answer) -> Result<String, AllocError>
     }
 }
 
+/// Mends of a wiring in this format.
+fn mends_out(
+    alloc: Global,
+    format: Format,
+    wiring: &[u8],
+    answer: &Answer,
+) -> Result<String, AllocError>
+    ensures { IfOk result (λ text. string_bytes text ≡ mends_out format wiring.now answer.now) }
+{
+    match format {
+        Format::Text | Format::Sarif => mends_text(alloc, wiring, answer),
+        Format::Json => mends_json(alloc, wiring, answer),
+    }
+}
+
 /// What is printed of an answer.
-fn answer_told(alloc: Global, wiring: &[u8], answer: &Answer) -> Result<Told, AllocError>
+fn answer_told(
+    alloc: Global,
+    format: Format,
+    wiring: &[u8],
+    answer: &Answer,
+) -> Result<Told, AllocError>
     ensures status { IfOk result (λ told. told.status ≡ mend_status answer.now) }
-    ensures out { IfOk result (λ told. string_bytes told.out ≡ mends_text wiring.now answer.now) }
+    ensures out { IfOk result (λ told. string_bytes told.out
+        ≡ mends_out format wiring.now answer.now) }
     ensures err { IfOk result (λ told. string_bytes told.err ≡ notes_of answer.now) }
 {
-    let out = mends_text(alloc, wiring, answer)?;
+    let out = mends_out(alloc, format, wiring, answer)?;
     let err = notes_of(alloc, answer)?;
     Ok(Told {
         out,
@@ -76,11 +98,12 @@ pub fn mend_told<P: Progress>(
     alloc: Global,
     files: &Files<'_>,
     most: usize,
+    format: Format,
     progress: &mut P,
 ) -> Result<Told, AllocError>
     ensures status { IfOk result (λ told. told.status ≤ 2) }
-    ensures done { IfOk result (λ told. told.status ≡ 0 → ToldMends most files.now told) }
-    ensures no { IfOk result (λ told. told.status ≡ 1 → ToldMends most files.now told) }
+    ensures done { IfOk result (λ told. told.status ≡ 0 → ToldMends most format files.now told) }
+    ensures no { IfOk result (λ told. told.status ≡ 1 → ToldMends most format files.now told) }
     // A fault is one of the first file that has one, unless memory ran out.
     ensures fault { IfOk result (λ told. told.status ≡ 2
         → ToldMemory told ⊎ ToldFault (stated files.now.texts) files.now.names told) }
@@ -93,7 +116,7 @@ pub fn mend_told<P: Progress>(
         most,
         progress,
     ) {
-        Ok(answer) => answer_told(alloc, files.texts.wiring.as_slice(), &answer),
+        Ok(answer) => answer_told(alloc, format, files.texts.wiring.as_slice(), &answer),
         Err(refusal) => refused(alloc, &files.names, &refusal),
     }
 }

@@ -3,18 +3,19 @@
 ghost use Rattle.std.specs.Prelude.{◌≡◌, ◌⊎◌, ℕ, List, [], Some, IfOk, IsOkAnd, length, map};
 ghost use Rattle.std.specs.Prelude.{string_bytes};
 ghost use Rattle.mrc_command.specs.declared.command.Command.{Command};
-ghost use Rattle.mrc_program.specs.Behind.{IsBehind};
+ghost use Rattle.mrc_program.specs.Behind.{IsMadeFor, IsNoHelp};
 ghost use Rattle.mrc_program.specs.Told.{ToldMemory};
 ghost use Rattle.mrc_program.specs.Cutting.{mig_names, same_name, CutsWritten, CutsLess};
 ghost use Rattle.mrc_program.specs.Cutting.{CutsRefused, OfCuts, ToldNoCuts, ToldSameName};
 ghost use Rattle.mrc_program.specs.Cutting.{CutsOfFiles, RefusedOfFiles, FaultOfMig};
 
-use crate::behind::{uncut_helped, unread_helped};
-use crate::cuts::{NamedCut, are_written, cuts_of, cuts_text, same_name};
+use crate::behind::{Help, uncut_helped, unread_helped};
+use crate::cuts::{are_written, cuts_of, cuts_out, cuts_text, same_name};
 use crate::writing::{make_room, writings_of, writings_told};
 use mrc_base::OrMemory;
 use mrc_command::{MigFiles, Told, fault_of, memory};
 use mrc_files::{Folder, bytes_of_all};
+use mrc_json::NamedCut;
 use std::alloc::{AllocError, Global};
 
 /// Writes what texts are cut to, where enough is read of them, and tells what is left out.
@@ -39,28 +40,29 @@ fn cuts_told<F: Folder>(
     let mut text = cuts_text(alloc, cuts)?;
     if !are_written(files.strict, cuts) {
         return Ok(Told {
-            out: String::new(alloc),
+            out: cuts_out(alloc, files.format, false, cuts)?,
             err: text,
             status: 2,
         });
     }
+    let out = cuts_out(alloc, files.format, true, cuts)?;
     let writings = writings_of(alloc, files.out, cuts)?;
     make_room(alloc, &mut text, writings.as_slice())?;
-    Ok(writings_told(folder, alloc, writings.as_slice(), text))
+    Ok(writings_told(folder, alloc, writings.as_slice(), out, text))
 }
 
-/// What is printed of the bytes of MIG files, and behind it what helps with one that can't be cut,
-/// if that is shown (`shows`).
+/// What is printed of the bytes of MIG files; and what helps with one that can't be cut, if that is
+/// wanted.
 fn mig_told<F: Folder>(
     folder: &mut F,
     alloc: Global,
     files: &MigFiles<'_>,
     texts: &[Vec<u8>],
-    shows: bool,
-    behind: &mut String,
+    wanted: bool,
+    help: &mut Help,
 ) -> Result<Told, AllocError>
     requires count { length (mig_names files.now) ≡ length texts.now }
-    requires empty { string_bytes behind.old ≡ [] }
+    requires empty { IsNoHelp help.old }
     ensures status { IfOk result (λ told. (told.status ≡ 0) ⊎ (told.status ≡ 2)) }
     ensures cuts { IfOk result (λ told. told.status ≡ 0
         → OfCuts (CutsWritten files.now (F.held folder.old) (F.held folder.new)) files.now
@@ -74,28 +76,28 @@ fn mig_told<F: Folder>(
         (OfCuts (CutsRefused files.now (F.held folder.old) (F.held folder.new)) files.now
         (map (λ text. text.items) texts.now))
         ⊎ (F.held folder.new ≡ F.held folder.old)) }
-    ensures behind { IfOk result (IsBehind shows (F.held folder.old) (Command.Mig files.now)
-        (string_bytes behind.new)) }
+    ensures help { IfOk result
+        (IsMadeFor wanted (F.held folder.old) (Command.Mig files.now) help.new) }
 {
     match cuts_of(alloc, files.defs.as_slice(), texts) {
         Ok(cuts) => cuts_told(folder, alloc, files, cuts.as_slice()),
         Err(OrMemory::Fault(uncut)) => {
-            uncut_helped(alloc, files.defs.as_slice(), texts, &uncut, shows, behind)
+            uncut_helped(alloc, files.defs.as_slice(), texts, &uncut, wanted, help)
         }
         Err(OrMemory::Memory) => memory(alloc),
     }
 }
 
-/// What is printed of the files of a `mig`, and behind it what helps with one that can't be read or
-/// cut, if that is shown (`shows`). Out of memory before the first file is written changes no file.
+/// What is printed of the files of a `mig`; and what helps with one that can't be read or cut, if
+/// that is wanted. Out of memory before the first file is written changes no file.
 pub fn mig_files<F: Folder>(
     folder: &mut F,
     alloc: Global,
     files: &MigFiles<'_>,
-    shows: bool,
-    behind: &mut String,
+    wanted: bool,
+    help: &mut Help,
 ) -> Result<Told, AllocError>
-    requires empty { string_bytes behind.old ≡ [] }
+    requires empty { IsNoHelp help.old }
     ensures status { IfOk result (λ told. (told.status ≡ 0) ⊎ (told.status ≡ 2)) }
     // What is printed is right of what the files held, so far as that is known.
     ensures cuts { IfOk result (λ told. told.status ≡ 0
@@ -110,14 +112,14 @@ pub fn mig_files<F: Folder>(
     ensures kept { IsOkAnd result (λ told. told.status ≡ 0)
         ⊎ (IsOkAnd result (RefusedOfFiles (F.held folder.old) (F.held folder.new) files.now)
         ⊎ (F.held folder.new ≡ F.held folder.old)) }
-    ensures behind { IfOk result (IsBehind shows (F.held folder.old) (Command.Mig files.now)
-        (string_bytes behind.new)) }
+    ensures help { IfOk result
+        (IsMadeFor wanted (F.held folder.old) (Command.Mig files.now) help.new) }
 {
     if let Some(file) = same_name(files.defs.as_slice()) {
         return fault_of(alloc, file, "SameName");
     }
     match bytes_of_all(folder, alloc, files.defs.as_slice()) {
-        Ok(texts) => mig_told(folder, alloc, files, texts.as_slice(), shows, behind),
-        Err(unread) => unread_helped(alloc, &unread, shows, behind),
+        Ok(texts) => mig_told(folder, alloc, files, texts.as_slice(), wanted, help),
+        Err(unread) => unread_helped(alloc, &unread, wanted, help),
     }
 }

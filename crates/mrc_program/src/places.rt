@@ -8,8 +8,9 @@ use mrc_mig_cut::CutFault;
 use mrc_mig_hints::mig_hint;
 use mrc_name_hints::{names_hint, policy_name_hint, wiring_name_hint};
 use mrc_place::Hint;
+use mrc_script_hints::script_hint;
 use mrc_wiring::{ClaimFault, ResolveFault};
-use mrc_wiring_text::read_wiring;
+use mrc_wiring_text::{TextFault, read_wiring};
 use std::alloc::{AllocError, Global};
 use std::str;
 
@@ -89,18 +90,34 @@ fn policy_hint(
     }
 }
 
-/// What helps with the fault of a text: nothing, if it is the certificate or the script, or if
-/// memory runs out while the texts are read.
+/// What helps with a fault of the script.
+fn script_text_hint(
+    alloc: Global,
+    texts: &Texts,
+    live: bool,
+    fault: TextFault,
+) -> Result<Option<Hint>, AllocError> {
+    let Ok(lines) = read_wiring(alloc, texts.wiring.as_slice()) else {
+        return Ok(None);
+    };
+    let hint = script_hint(alloc, texts.script(), lines.as_slice(), live, fault)?;
+    Ok(Some(hint))
+}
+
+/// What helps with the fault of a text: nothing, if it is the certificate, or if memory runs out
+/// while the texts are read.
 pub fn hint_of(
     alloc: Global,
     files: &Files<'_>,
+    live: bool,
     fault: &CaseFault,
 ) -> Result<Option<Hint>, AllocError> {
     match fault {
         CaseFault::Defs(fault) => defs_hint(alloc, &files.texts, fault),
         CaseFault::Wiring(fault) => wiring_hint(alloc, files, fault),
         CaseFault::Policy(fault) => policy_hint(alloc, &files.texts, *fault),
-        CaseFault::Certificate(_) | CaseFault::Script(_) => Ok(None),
+        CaseFault::Certificate(_) => Ok(None),
+        CaseFault::Script(fault) => script_text_hint(alloc, &files.texts, live, *fault),
     }
 }
 

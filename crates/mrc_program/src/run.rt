@@ -4,15 +4,16 @@ ghost use Rattle.std.specs.Prelude.{◌≡◌, ◌≢◌, ◌≤◌, ◌⊎◌, 
 ghost use Rattle.std.specs.Prelude.{IsOkAnd, string_bytes};
 ghost use Rattle.std.specs.Io.KnownBytes.{Appends};
 ghost use Rattle.mrc_command.specs.CommandLine.{AsksHelp};
-ghost use Rattle.mrc_program.specs.Behind.{IsBehind, IsBehindWords};
+ghost use Rattle.mrc_program.specs.Behind.{IsBehind, IsBehindWords, IsMadeFor, IsNoHelp};
 ghost use Rattle.mrc_program.specs.Files.{OfFiles, all_names};
 ghost use Rattle.mrc_program.specs.Told.{ToldMemory, ToldUnread};
 ghost use Rattle.mrc_program.specs.Commands.{Done, No, Fault, BadWord, Cut, Changes, HasOut};
-ghost use Rattle.mrc_program.specs.Commands.{DoneOf, NoOf, FaultOf, CutOf, HaltedOf, OfWords};
+ghost use Rattle.mrc_program.specs.Commands.{DoneOf, NoOf, FaultOf, CutOf, OfWords};
 ghost use Rattle.mrc_program.specs.Commands.{WentOut, seen, seen_question};
+ghost use Rattle.mrc_program.specs.FaultObjects.{IsOutOfFault, IsOutOfWords};
 
 use crate::attack::{attack_told, bounds_told, line_told};
-use crate::behind::{files_behind, unread_helped};
+use crate::behind::{Help, files_behind, help_text, is_wanted, no_help, unread_helped};
 use crate::check::check_told;
 use crate::explain::explain_told;
 use crate::facts::facts_told;
@@ -22,13 +23,15 @@ use crate::live::{EVENTS, live_told};
 use crate::make::make_told;
 use crate::mend::{mend_told, most_told};
 use crate::mig::mig_files;
+use crate::objects::with_object;
 use crate::progress::Counter;
 use crate::promises::promises_told;
 use crate::replay::replay_told;
 use crate::slots::slots_told;
 use crate::verify::verify_told;
 use mrc_command::{
-    Command, FileNames, NoCommand, Question, Showing, Told, WordsFault, memory, read, words_line,
+    Command, FileNames, NoCommand, Question, Showing, Told, WordsFault, asked_format, command_word,
+    memory, read, words_line,
 };
 use mrc_files::{Folder, write_text};
 use std::alloc::{AllocError, Global};
@@ -52,7 +55,7 @@ fn word_told(alloc: Global, question: Question<'_>) -> Result<Option<Told>, Allo
 {
     match question {
         Question::Verify { showing } => line_told(alloc, showing.line),
-        Question::Mend { most } => most_told(alloc, most),
+        Question::Mend { most, .. } => most_told(alloc, most),
         Question::Attack { line, most } => bounds_told(alloc, line, most),
         _ => Ok(None),
     }
@@ -79,12 +82,17 @@ fn question_told<F: Folder, R: Threads + Wait + Sync, P: mrc_mend::Progress + mr
 {
     match question {
         Question::Verify { showing } => verify_told(alloc, files, showing),
-        Question::Mend { most } => mend_told(alloc, files, most, progress),
+        Question::Mend { most, format } => mend_told(alloc, files, most, format, progress),
         Question::Attack { line, most } => attack_told(alloc, files, line, most, progress),
-        Question::Check { verbose } => check_told(rt, alloc, files, verbose),
+        Question::Check { verbose, format } => check_told(rt, alloc, files, verbose, format),
         Question::Make { out, workers } => make_told(rt, folder, alloc, files, out, workers),
-        Question::Explain { fact, by } => explain_told(alloc, files, fact, by),
-        Question::Facts { task, class, right } => facts_told(alloc, files, task, class, right),
+        Question::Explain { fact, by, format } => explain_told(alloc, files, fact, by, format),
+        Question::Facts {
+            task,
+            class,
+            right,
+            format,
+        } => facts_told(alloc, files, task, class, right, format),
         Question::Graph { fact, task, holds } => graph_told(alloc, files, fact, task, holds),
         Question::Slots => slots_told(alloc, files),
         Question::Promises => promises_told(alloc, files),
@@ -93,20 +101,19 @@ fn question_told<F: Folder, R: Threads + Wait + Sync, P: mrc_mend::Progress + mr
     }
 }
 
-/// What is printed of a question, and behind it what helps with a fault, if that is shown
-/// (`shows`). All files are read before any is judged, and a word that can't be what it is asked to
-/// be comes before them.
+/// What is printed of a question; and what helps with a fault, if that is wanted. All files are
+/// read before any is judged, and a word that can't be what it is asked to be comes before them.
 fn case_told<F: Folder, R: Threads + Wait + Sync, P: mrc_mend::Progress + mrc_attack::Progress>(
     rt: &R,
     folder: &mut F,
     alloc: Global,
     names: FileNames<'_>,
     question: Question<'_>,
-    shows: bool,
-    behind: &mut String,
+    wanted: bool,
+    help: &mut Help,
     progress: &mut P,
 ) -> Result<Told, AllocError>
-    requires empty { string_bytes behind.old ≡ [] }
+    requires empty { IsNoHelp help.old }
     ensures status { IfOk result (λ told. told.status ≤ 2) }
     ensures done { IfOk result (λ told. told.status ≡ 0
         → OfFiles (Done (F.held folder.new) question.entry) (F.held folder.old) names.entry told) }
@@ -120,8 +127,8 @@ fn case_told<F: Folder, R: Threads + Wait + Sync, P: mrc_mend::Progress + mrc_at
         ⊎ (IsOkAnd result (OfFiles (Cut (F.held folder.new) question.entry) (F.held folder.old)
         names.entry)
         ⊎ (F.held folder.new ≡ F.held folder.old)) }
-    ensures behind { IfOk result (IsBehind shows (F.held folder.old)
-        (Command.Case names.entry question.entry) (string_bytes behind.new)) }
+    ensures help { IfOk result (IsMadeFor wanted (F.held folder.old)
+        (Command.Case names.entry question.entry) help.new) }
 {
     if let Some(told) = word_told(alloc, question)? {
         return Ok(told);
@@ -130,25 +137,25 @@ fn case_told<F: Folder, R: Threads + Wait + Sync, P: mrc_mend::Progress + mrc_at
         Ok(texts) => {
             let files = Files { names, texts };
             let told = question_told(rt, folder, alloc, &files, question, progress)?;
-            *behind = files_behind(alloc, shows, &files, question, &told);
+            *help = files_behind(alloc, wanted, &files, question, &told);
             Ok(told)
         }
-        Err(unread) => unread_helped(alloc, &unread, shows, behind),
+        Err(unread) => unread_helped(alloc, &unread, wanted, help),
     }
 }
 
-/// What is printed of a command, and behind it what helps with a fault, if that is shown. It is
-/// right of what the files held, so far as that is known.
+/// What is printed of a command; and what helps with a fault, if that is wanted. It is right of
+/// what the files held, so far as that is known.
 fn answer<F: Folder, R: Threads + Wait + Sync, P: mrc_mend::Progress + mrc_attack::Progress>(
     rt: &R,
     folder: &mut F,
     alloc: Global,
     command: Command<'_>,
-    shows: bool,
-    behind: &mut String,
+    wanted: bool,
+    help: &mut Help,
     progress: &mut P,
 ) -> Result<Told, AllocError>
-    requires empty { string_bytes behind.old ≡ [] }
+    requires empty { IsNoHelp help.old }
     ensures status { IfOk result (λ told. told.status ≤ 2) }
     ensures done { IfOk result (λ told. told.status ≡ 0
         → DoneOf (F.held folder.old) (F.held folder.new) command.entry told) }
@@ -161,14 +168,13 @@ fn answer<F: Folder, R: Threads + Wait + Sync, P: mrc_mend::Progress + mrc_attac
     ensures kept { IsOkAnd result (λ told. (told.status ≡ 0) × HasOut command.entry)
         ⊎ (IsOkAnd result (CutOf (F.held folder.old) (F.held folder.new) command.entry)
         ⊎ (F.held folder.new ≡ F.held folder.old)) }
-    ensures behind { IfOk result (IsBehind shows (F.held folder.old) command.entry
-        (string_bytes behind.new)) }
+    ensures help { IfOk result (IsMadeFor wanted (F.held folder.old) command.entry help.new) }
 {
     match command {
         Command::Case(names, question) => {
-            case_told(rt, folder, alloc, names, question, shows, behind, progress)
+            case_told(rt, folder, alloc, names, question, wanted, help, progress)
         }
-        Command::Mig(files) => mig_files(folder, alloc, &files, shows, behind),
+        Command::Mig(files) => mig_files(folder, alloc, &files, wanted, help),
     }
 }
 
@@ -206,6 +212,37 @@ fn is_shown(verbose: bool, watched: bool) -> bool
     verbose || watched
 }
 
+/// What is printed of a command, with the object of a fault if the answer is for programs; and the
+/// text behind it of what helps with the fault, if that is shown (`shows`).
+fn command_told<F: Folder, R: Threads + Wait + Sync, P: mrc_mend::Progress + mrc_attack::Progress>(
+    rt: &R,
+    folder: &mut F,
+    alloc: Global,
+    command: Command<'_>,
+    shows: bool,
+    behind: &mut String,
+    progress: &mut P,
+) -> Result<Told, AllocError>
+    ensures status { IfOk result (λ told. told.status ≤ 2) }
+    ensures done { IfOk result (λ told. told.status ≡ 0
+        → DoneOf (F.held folder.old) (F.held folder.new) command.entry told) }
+    ensures no { IfOk result (λ told. told.status ≡ 1
+        → NoOf (F.held folder.old) command.entry told) }
+    ensures fault { IfOk result (λ told. told.status ≡ 2
+        → IsOutOfFault shows (F.held folder.old) command.entry (string_bytes behind.new) told) }
+    ensures behind { IfOk result (IsBehind shows (F.held folder.old) command.entry
+        (string_bytes behind.new)) }
+{
+    let format = asked_format(&command);
+    let word = command_word(&command);
+    let mut help = no_help(alloc);
+    let wanted = is_wanted(shows, format);
+    let told = answer(rt, folder, alloc, command, wanted, &mut help, progress)?;
+    let told = with_object(alloc, format, word, &help.hint, told);
+    *behind = help_text(alloc, shows, help);
+    Ok(told)
+}
+
 /// What is printed for the words of a command line, and behind it what helps with a fault, if the
 /// words ask for it or a person looks at standard error.
 fn told<F: Folder, R: Threads + Wait + Sync, P: mrc_mend::Progress + mrc_attack::Progress>(
@@ -227,9 +264,11 @@ fn told<F: Folder, R: Threads + Wait + Sync, P: mrc_mend::Progress + mrc_attack:
     ensures no { IfOk result (λ told. told.status ≡ 1
         → OfWords watched.out (map string_bytes words.now) (NoOf (F.held folder.old)) told) }
     // With status 2 nothing goes to standard output, except the journal of a `live` after which no
-    // task can go on.
+    // task can go on, and, if the answer is for programs, what MIG files would be cut to of which
+    // too little is read, or the object of the fault.
     ensures fault { IfOk result (λ told. told.status ≡ 2 → (string_bytes told.out ≡ [])
-        ⊎ OfWords watched.out (map string_bytes words.now) (HaltedOf (F.held folder.old)) told) }
+        ⊎ IsOutOfWords watched.out watched.err (F.held folder.old) (map string_bytes words.now)
+        (string_bytes behind.new) told) }
     ensures behind { IfOk result (IsBehindWords watched.out watched.err (F.held folder.old)
         (map string_bytes words.now) (string_bytes behind.new)) }
 {
@@ -237,7 +276,7 @@ fn told<F: Folder, R: Threads + Wait + Sync, P: mrc_mend::Progress + mrc_attack:
         Ok(request) => {
             let shows = is_shown(request.verbose, watched.err);
             let command = seen(watched.out, request.command);
-            answer(rt, folder, alloc, command, shows, behind, progress)
+            command_told(rt, folder, alloc, command, shows, behind, progress)
         }
         Err(NoCommand::Told(told)) => Ok(told),
         Err(NoCommand::Memory) => memory(alloc),

@@ -5,15 +5,18 @@ ghost use Rattle.mrc_base.specs.Reading.{UnlessMemory};
 ghost use Rattle.mrc_check.specs.Texts.{IsTold};
 ghost use Rattle.mrc_program.specs.Texts.{case};
 ghost use Rattle.mrc_program.specs.Told.{ToldMemory, ToldFault};
-ghost use Rattle.mrc_program.specs.Checked.{why_line, stale_note, IsYesWith, ToldNo};
+ghost use Rattle.mrc_program.specs.Checked.{why_line, why_out, stale_note, IsYesWith, ToldNo};
 ghost use Rattle.mrc_program.specs.Checked.{UnacceptedTold};
+ghost use Rattle.mrc_program.specs.Formats.{yes_out};
 
 use crate::files::Files;
 use crate::told::refused;
 use crate::trusted::trusted_notice;
 use mrc_base::OrMemory;
 use mrc_check::{Refused, TextsFault, Why};
-use mrc_command::{FileNames, Told, memory};
+use mrc_command::{FileNames, Format, Told, memory};
+use mrc_json::{reason_json, yes_json};
+use mrc_sarif::yes_sarif;
 use mrc_wiring::Wired;
 use mrc_words::fact_text;
 use std::alloc::{AllocError, Global};
@@ -68,21 +71,44 @@ fn why_line(alloc: Global, wired: &Wired, why: Why) -> Result<String, AllocError
     }
 }
 
+/// What goes to standard output of a reason in this format, with what goes to standard error.
+fn why_out(
+    alloc: Global,
+    format: Format,
+    wired: &Wired,
+    why: Why,
+    notices: &str,
+) -> Result<String, AllocError>
+    ensures { IfOk result (λ text. string_bytes text ≡ why_out format wired.now why notices.now) }
+{
+    match format {
+        Format::Text | Format::Sarif => why_line(alloc, wired, why),
+        Format::Json => reason_json(alloc, wired, why, notices),
+    }
+}
+
 /// What is printed of a refusal: the reason, and these notices.
 fn reason_told(
     alloc: Global,
     notices: String,
     verbose: bool,
+    format: Format,
     refused: &Refused<Why>,
 ) -> Result<Told, AllocError>
     ensures status { IfOk result (λ told. told.status ≡ 1) }
     ensures out { IfOk result (λ told. string_bytes told.out
-        ≡ why_line refused.now.claim.table refused.now.why) }
+        ≡ why_out format refused.now.claim.table refused.now.why (string_bytes told.err)) }
     ensures err { IfOk result (λ told. string_bytes told.err
         ≡ string_bytes notices ++ stale_note verbose refused.now.why) }
 {
-    let out = why_line(alloc, refused.claim.wired(), refused.why)?;
     let err = noted(alloc, notices, verbose, refused.why)?;
+    let out = why_out(
+        alloc,
+        format,
+        refused.claim.wired(),
+        refused.why,
+        err.as_str(),
+    )?;
     Ok(Told {
         out,
         err,
@@ -98,19 +124,20 @@ pub fn unaccepted_told(
     files: &Files<'_>,
     notices: String,
     verbose: bool,
+    format: Format,
     refusal: OrMemory<TextsFault>,
 ) -> Result<Told, AllocError>
     requires { UnlessMemory (λ fault. IsTold fault (case files.now.texts)) refusal }
     ensures status { IfOk result (λ told. (told.status ≡ 1) ⊎ (told.status ≡ 2)) }
     ensures exact { IfOk result (UnacceptedTold files.now.names refusal) }
     ensures no { IfOk result (λ told. told.status ≡ 1
-        → ToldNo (string_bytes notices) verbose files.now told) }
+        → ToldNo (string_bytes notices) verbose format files.now told) }
     ensures fault { IfOk result (λ told. told.status ≡ 2
         → ToldMemory told ⊎ ToldFault (case files.now.texts) files.now.names told) }
 {
     match refusal {
         OrMemory::Fault(TextsFault::Check(reason)) => {
-            reason_told(alloc, notices, verbose, &reason)
+            reason_told(alloc, notices, verbose, format, &reason)
         }
         OrMemory::Fault(TextsFault::Meaning(fault)) => {
             refused(alloc, &files.names, &OrMemory::Fault(fault))
@@ -119,21 +146,42 @@ pub fn unaccepted_told(
     }
 }
 
-/// What is printed of a yes over a wiring, with these notices.
+/// What goes to standard output of a yes of a command in this format, with what goes to standard
+/// error.
+fn yes_out(
+    alloc: Global,
+    command: &str,
+    format: Format,
+    notices: &str,
+) -> Result<String, AllocError>
+    ensures { IfOk result (λ text. string_bytes text ≡ yes_out format command.now notices.now) }
+{
+    match format {
+        Format::Text => String::from_str(alloc, "YES\n"),
+        Format::Json => yes_json(alloc, command, notices),
+        Format::Sarif => yes_sarif(alloc),
+    }
+}
+
+/// What is printed in this format of a yes of a command over a wiring, with these notices.
 pub fn yes(
     alloc: Global,
+    command: &str,
+    format: Format,
     names: &FileNames<'_>,
     notices: String,
     wired: &Wired,
 ) -> Result<Told, AllocError>
     ensures status { IfOk result (λ told. told.status ≡ 0) }
-    ensures is { IfOk result (IsYesWith names.now (string_bytes notices) wired.now) }
+    ensures is { IfOk result (IsYesWith command.now format names.now
+        (string_bytes notices) wired.now) }
 {
     let trusted = trusted_notice(alloc, names, wired)?;
     let mut err = notices;
     err.push_str(trusted.as_str())?;
+    let out = yes_out(alloc, command, format, err.as_str())?;
     Ok(Told {
-        out: String::from_str(alloc, "YES\n")?,
+        out,
         err,
         status: 0,
     })

@@ -1,7 +1,7 @@
 //! What the program prints of a wiring and a policy: a yes, or the trusted task that another could
 //! rewrite, and each line that is broken.
 
-ghost use Rattle.std.specs.Prelude.{◌≡◌, ◌⊎◌, ◌≤◌, ◌++◌, Ok, IfOk, string_bytes};
+ghost use Rattle.std.specs.Prelude.{◌≡◌, ◌⊎◌, ◌≤◌, ◌++◌, Ok, IfOk, codes, string_bytes};
 ghost use Rattle.mrc_facts.specs.Sets.{has};
 ghost use Rattle.mrc_model.specs.Rules.{IsLeast};
 ghost use Rattle.mrc_wiring.specs.Table.{wiring_of};
@@ -14,7 +14,8 @@ ghost use Rattle.mrc_program.specs.Files.{given, word_of};
 ghost use Rattle.mrc_program.specs.Texts as texts;
 ghost use Rattle.mrc_program.specs.Told.{ToldMemory, ToldFault};
 ghost use Rattle.mrc_program.specs.Verified.{layout_of, chains_of, quoted_if, names_common};
-ghost use Rattle.mrc_program.specs.Verified.{manner_of, AreNotices, ToldAllowed, ToldBroken};
+ghost use Rattle.mrc_program.specs.Verified.{manner_of, asked_of, IsBrokenOut, AreNotices};
+ghost use Rattle.mrc_program.specs.Verified.{ToldAllowed, ToldBroken};
 
 use crate::attack::number_in;
 use crate::files::Files;
@@ -24,8 +25,10 @@ use crate::policy_notices::policy_notices;
 use crate::tell::yes;
 use crate::told::refused;
 use mrc_check::Stated;
-use mrc_command::{FileNames, Showing, Told, fault_of};
+use mrc_command::{FileNames, Format, Showing, Told, fault_of};
+use mrc_json::{Asked, broken_json};
 use mrc_rows::Facts;
+use mrc_sarif::broken_sarif;
 use mrc_verdicts::{Manner, Quoted, no_text};
 use mrc_why::{Layout, Sources, Verdict, verify};
 use mrc_wiring::Claim;
@@ -122,6 +125,63 @@ pub fn notices(
     Ok(text)
 }
 
+/// The text of a no: of all that is objected to, or of one line.
+fn broken_text(
+    alloc: Global,
+    files: &Files<'_>,
+    showing: Showing,
+    only: Option<u32>,
+    sources: &Sources<'_>,
+    verdict: Verdict,
+) -> Result<String, AllocError>
+    ensures { IfOk result (λ text. IsNoText (manner_of showing files.now) only sources.now
+        verdict.exposed verdict.broken.items (string_bytes text)) }
+{
+    let manner = manner_of(alloc, files, showing)?;
+    let text = no_text(alloc, sources, &manner, only, verdict)?;
+    Ok(text)
+}
+
+/// What a no of these files has as JSON: chains unless the answer is to be brief, of all lines or
+/// of one.
+fn asked_of<'a>(showing: Showing, only: Option<u32>, files: &'a Files<'_>) -> Asked<'a>
+    ensures { result ≡ asked_of showing only files.now }
+{
+    Asked {
+        steps: !showing.brief,
+        only,
+        wiring: files.texts.wiring.as_slice(),
+        policy: files.texts.policy(),
+    }
+}
+
+/// What goes to standard output of a no in the format that is asked for, with what goes to standard
+/// error.
+fn broken_out(
+    alloc: Global,
+    files: &Files<'_>,
+    showing: Showing,
+    only: Option<u32>,
+    sources: &Sources<'_>,
+    verdict: Verdict,
+    notices: &str,
+) -> Result<String, AllocError>
+    ensures { IfOk result (λ text. IsBrokenOut showing.format showing files.now only sources.now
+        verdict.exposed verdict.broken.items notices.now (string_bytes text)) }
+{
+    match showing.format {
+        Format::Text => broken_text(alloc, files, showing, only, sources, verdict),
+        Format::Json => {
+            let asked = asked_of(showing, only, files);
+            broken_json(alloc, sources, &asked, &verdict, notices)
+        }
+        Format::Sarif => {
+            let defs = files.texts.defs.as_slice();
+            broken_sarif(alloc, &files.names, defs, sources, only, &verdict)
+        }
+    }
+}
+
 /// What is printed of a verdict that is no yes, behind notices: of all that is objected to, or of
 /// one line.
 fn broken_told(
@@ -134,16 +194,23 @@ fn broken_told(
     notices: String,
 ) -> Result<Told, AllocError>
     ensures status { IfOk result (λ told. told.status ≡ 1) }
-    ensures out { IfOk result (λ told. IsNoText (manner_of showing files.now) only
+    ensures out { IfOk result (λ told. IsBrokenOut showing.format showing files.now only
         (numbered_by stated.now.claim.table stated.now.lines) verdict.exposed verdict.broken.items
-        (string_bytes told.out)) }
+        (string_bytes notices) (string_bytes told.out)) }
     ensures err { IfOk result (λ told. string_bytes told.err ≡ string_bytes notices) }
 {
-    let manner = manner_of(alloc, files, showing)?;
     let sources = Sources::new(alloc, stated.claim.wired(), stated.lines.as_slice())?;
-    let text = no_text(alloc, &sources, &manner, only, verdict)?;
+    let out = broken_out(
+        alloc,
+        files,
+        showing,
+        only,
+        &sources,
+        verdict,
+        notices.as_str(),
+    )?;
     Ok(Told {
-        out: text,
+        out,
         err: notices,
         status: 1,
     })
@@ -159,7 +226,8 @@ fn stated_told(
 ) -> Result<Told, AllocError>
     requires { texts.stated files.now.texts ≡ Ok stated.now }
     ensures status { IfOk result (λ told. told.status ≤ 2) }
-    ensures done { IfOk result (λ told. told.status ≡ 0 → ToldAllowed files.now told) }
+    ensures done { IfOk result (λ told. told.status ≡ 0
+        → ToldAllowed (codes "verify") showing.format files.now told) }
     ensures only { HasYes stated.now.claim → IfOk result (λ told. told.status ≡ 0) }
     ensures no { IfOk result (λ told. told.status ≡ 1 → ToldBroken showing files.now told) }
     ensures fault { IfOk result (λ told. told.status ≡ 2
@@ -169,7 +237,14 @@ fn stated_told(
     let verdict = verify(alloc, claim)?;
     let notices = notices(alloc, files, claim, &verdict.facts)?;
     if verdict.is_yes() {
-        return yes(alloc, &files.names, notices, claim.wired());
+        return yes(
+            alloc,
+            "verify",
+            showing.format,
+            &files.names,
+            notices,
+            claim.wired(),
+        );
     }
     match showing.line {
         None => broken_told(alloc, files, stated, showing, None, verdict, notices),
@@ -184,7 +259,8 @@ fn stated_told(
 /// chain or without, with the line that it is of, or of one line alone.
 pub fn verify_told(alloc: Global, files: &Files<'_>, showing: Showing) -> Result<Told, AllocError>
     ensures status { IfOk result (λ told. told.status ≤ 2) }
-    ensures done { IfOk result (λ told. told.status ≡ 0 → ToldAllowed files.now told) }
+    ensures done { IfOk result (λ told. told.status ≡ 0
+        → ToldAllowed (codes "verify") showing.format files.now told) }
     // If the least set is a yes, that is printed, unless memory runs out.
     ensures only { (meant : meanings.Stated) → texts.stated files.now.texts ≡ Ok meant
         → HasYes meant.claim → IfOk result (λ told. (told.status ≡ 0) ⊎ ToldMemory told) }

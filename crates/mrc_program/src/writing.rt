@@ -8,11 +8,12 @@ ghost use Rattle.mrc_command.specs.Lines.{shown};
 ghost use Rattle.mrc_program.specs.Cutting.{writing_of, AreWritten, IsStopped, refusal_line};
 ghost use Rattle.mrc_program.specs.Cutting.{HasRoom, ToldWritings, ToldRefusal};
 
-use crate::cuts::{NamedCut, name_of};
+use crate::cuts::name_of;
 use crate::told::add_refusal;
 use mrc_base::OrMemory;
 use mrc_command::{Told, shown};
 use mrc_files::{Folder, WriteFault};
+use mrc_json::NamedCut;
 use std::alloc::{AllocError, Global};
 use std::marker::Model;
 
@@ -130,23 +131,25 @@ fn stopped_told(alloc: Global, text: String, stopped: &Stopped<'_>) -> Told
     }
 }
 
-/// Writes files, and tells this text on standard error, and behind it the first that is refused.
+/// Writes files, and prints these texts. If one is refused, it is printed behind the text on
+/// standard error, and nothing on standard output.
 pub fn writings_told<F: Folder>(
     folder: &mut F,
     alloc: Global,
     writings: &[Writing<'_>],
+    out: String,
     text: String,
 ) -> Told
     requires room { All (HasRoom (string_len text) (string_capacity text)) writings.now }
     ensures status { (result.status ≡ 0) ⊎ (result.status ≡ 2) }
     ensures whole { result.status ≡ 0 → ToldWritings (F.held folder.old) (F.held folder.new)
-        writings.now (string_bytes text) result }
+        writings.now (string_bytes out) (string_bytes text) result }
     ensures refused { result.status ≡ 2 → ToldRefusal (F.held folder.old) (F.held folder.new)
         writings.now (string_bytes text) result }
 {
     match write_each(folder, alloc, writings) {
         Ok(()) => Told {
-            out: String::new(alloc),
+            out,
             err: text,
             status: 0,
         },

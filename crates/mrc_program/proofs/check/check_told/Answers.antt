@@ -16,9 +16,10 @@ returns-in-Ok-clause-done g c =
     let files : Files = record { names = c.files.inside.names; texts = c.files.inside.texts } in
     let seen = c.files-inside.view_is in
     let named = ap (λ (i : Inside). i.names) seen in
-    subst (λ (f : Files). IfOk c.yes.result (λ told. told.status ≡ 0 → ToldYes f told))
+    subst (λ (f : Files). IfOk c.yes.result (λ told. told.status ≡ 0
+    → ToldYes c.args.format f told))
     c.files.view_is
-    (yes_told files c.in-Ok.confined _ _
+    (yes_told c.args.format files c.in-Ok.confined _ _
     (map (λ (text : Vec ℕ Global). text.items) c.as_slice.result.now)
     (string_bytes c.in_ok-notices.notices) c.wired.result.now c.yes.result c.in-Ok.ensures.yes
     c.in_ok-notices.ensures named

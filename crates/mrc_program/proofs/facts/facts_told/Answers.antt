@@ -14,9 +14,10 @@ returns-in-Ok-clause-no c =
     let texts = c.args.files.now.texts in
     let says : system texts ≡ Ok c.in-Ok.system = search rules in
     told_of (system texts) c.in-Ok.system
-    (λ (m : Meant). TellsOther texts.certificate m.table) 1 c.listing_told.result says (subst
+    (λ (m : Meant). TellsOther c.args.format texts.certificate m.table) 1 c.listing_told.result
+    says (subst
     (λ (t : Table). IfOk c.listing_told.result
-    (λ told. told.status ≡ 1 → TellsOther texts.certificate t told))
+    (λ told. told.status ≡ 1 → TellsOther c.args.format texts.certificate t told))
     (ap (λ (m : Meant). m.table) c.system.view_is) c.listing_told.ensures.no)
 
 pub returns-in-Ok-clause-fault : goal.returns-in-Ok-clause-fault

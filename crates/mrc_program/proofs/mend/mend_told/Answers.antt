@@ -13,8 +13,9 @@ returns-in-Ok-clause-no g c =
     let seen = c.files-inside.view_is in
     let wiring = ap (λ (i : Inside). i.texts.wiring) seen in
     IfOk-weaker c.answer_told.result _ _ (λ told h one. h)
-    (subst (λ (f : Files). IfOk c.answer_told.result (ToldMends c.args.most f)) c.files.view_is
-    (mends_told c.args.most files (map (λ (text : Vec ℕ Global). text.items) c.as_slice.result.now)
+    (subst (λ (f : Files). IfOk c.answer_told.result (ToldMends c.args.most c.args.format f))
+    c.files.view_is (mends_told c.args.most c.args.format files
+    (map (λ (text : Vec ℕ Global). text.items) c.as_slice.result.now)
     c.as_slice-2.result.now c.policy.result.now c.as_slice-in-Ok.result.now c.in-Ok.answer
     c.answer_told.result
     (ap (map (λ (text : Vec ℕ Global). text.items)) c.as_slice.ensures.value

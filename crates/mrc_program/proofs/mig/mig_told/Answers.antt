@@ -1,8 +1,8 @@
 use Rattle.std.proofs.Common.{sym, map, List, ℕ, Bor, Vec, Global, subst}
-use Rattle.mrc_program.specs.declared.cuts.NamedCut.{NamedCut}
+use Rattle.mrc_json.specs.declared.cuts.NamedCut.{NamedCut}
 use Rattle.mrc_program.specs.Cutting.{AreCuts, mig_names}
 use Rattle.mrc_program.proofs.CutLaws.{no_cuts}
-use Rattle.mrc_program.proofs.RunLaws.{behind_uncut}
+use Rattle.mrc_program.proofs.RunLaws.{made_uncut}
 use Rattle.mrc_program.proofs.mig.mig_told.Goals as goal
 
 pub returns-in-Ok-clause-fault : goal.returns-in-Ok-clause-fault
@@ -15,7 +15,7 @@ returns-in-Ok-clause-fault g c =
     (subst (λ (cuts : List NamedCut). AreCuts (mig_names c.args.files.now) texts cuts)
     (sym c.as_slice-in-Ok.ensures.value) are) c.cuts_told.ensures.fault
 
-pub returns-in-Err-Fault-clause-behind : goal.returns-in-Err-Fault-clause-behind
-returns-in-Err-Fault-clause-behind g c =
-    behind_uncut c.args.shows (g.F.Folder.held c.args.folder.now) c.args.files.now _
-    c.uncut_helped.result c.uncut_helped.ensures.behind
+pub returns-in-Err-Fault-clause-help : goal.returns-in-Err-Fault-clause-help
+returns-in-Err-Fault-clause-help g c =
+    made_uncut c.args.wanted (g.F.Folder.held c.args.folder.now) c.args.files.now _
+    c.uncut_helped.result c.uncut_helped.ensures.help

@@ -1,6 +1,6 @@
 use Rattle.std.proofs.Common.{◌≡◌, ◌∙◌, ℕ, List, Option, Some, None, Ok, ap, map, subst, sym}
 use Rattle.std.proofs.Common.{true, false}
-use Rattle.std.specs.Prelude.{IfSome}
+use Rattle.std.specs.Prelude.{IfSome, codes}
 use Rattle.mrc_check.specs.Texts.{Stated}
 use Rattle.mrc_why.specs.Broken.{BrokenLine, line_of}
 use Rattle.mrc_program.specs.Asked.{IsBrokenAt, has_number}
@@ -13,7 +13,8 @@ pub returns-then-is_yes-clause-done : goal.returns-then-is_yes-clause-done
 returns-then-is_yes-clause-done c =
     let inside = c.stated.inside in
     let meant : Stated = record { lines = inside.lines.items; claim = inside.claim } in
-    allowed_told c.args.files.now c.files.inside.names meant _ c.wired.result.now c.yes.result
+    allowed_told (codes "verify") c.args.showing.format c.args.files.now c.files.inside.names meant
+    _ c.wired.result.now c.yes.result
     (c.requires ∙ ap (λ (s : Stated). Ok s) (sym c.stated.view_is))
     (c.in_ok-verdict.ensures.yes (sym c.is_yes.ensures ∙ c.if-is_yes.true))
     c.in_ok-notices.ensures (ap (λ (f : Files). f.names) c.files.view_is) c.wired.ensures

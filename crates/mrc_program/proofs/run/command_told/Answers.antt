@@ -1,0 +1,35 @@
+use Rattle.std.proofs.Common.{arith, string_bytes}
+use Rattle.mrc_program.specs.Commands.{DoneOf, NoOf}
+use Rattle.mrc_program.proofs.RunLaws.{behind_shown, out_of_fault, same_answer, status_kept}
+use Rattle.mrc_program.proofs.run.command_told.Goals as goal
+
+pub returns-clause-status : goal.returns-clause-status
+returns-clause-status g c =
+    status_kept _ _ _ c.in_ok-told.told _ c.with_object-told.ensures c.in_ok-told.ensures.status
+
+pub returns-clause-done : goal.returns-clause-done
+returns-clause-done g c =
+    same_answer
+    (DoneOf (g.F.Folder.held c.args.folder.now) (g.F.Folder.held c.answer.new.folder)
+    c.args.command) 0 _ _ _ c.in_ok-told.told _ (omega arith) c.with_object-told.ensures
+    c.in_ok-told.ensures.done
+
+pub returns-clause-no : goal.returns-clause-no
+returns-clause-no g c =
+    same_answer (NoOf (g.F.Folder.held c.args.folder.now) c.args.command) 1 _ _ _ c.in_ok-told.told
+    _ (omega arith) c.with_object-told.ensures c.in_ok-told.ensures.no
+
+pub returns-clause-fault : goal.returns-clause-fault
+returns-clause-fault g c =
+    out_of_fault c.args.shows c.is_wanted-wanted.result (g.F.Folder.held c.args.folder.now)
+    c.args.command c.asked_format-format.result c.command_word-word.result.now
+    (string_bytes c.help_text.result) c.answer.new.help c.in_ok-told.told _
+    c.asked_format-format.ensures c.command_word-word.ensures c.in_ok-told.ensures.help
+    c.in_ok-told.ensures.fault c.with_object-told.ensures c.help_text.ensures.shown
+
+pub returns-clause-behind : goal.returns-clause-behind
+returns-clause-behind g c =
+    behind_shown c.args.shows c.is_wanted-wanted.result (g.F.Folder.held c.args.folder.now)
+    c.args.command c.asked_format-format.result c.command_word-word.result.now c.answer.new.help
+    c.in_ok-told.told _ (string_bytes c.help_text.result) c.in_ok-told.ensures.help
+    c.with_object-told.ensures c.help_text.ensures.shown c.help_text.ensures.none

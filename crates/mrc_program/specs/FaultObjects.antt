@@ -1,0 +1,66 @@
+-- Believe. The object of a fault, which goes to standard output if the answer is for programs, and
+-- all that may go there with status 2. This profile's own choice.
+use Rattle.std.specs.Prelude.{◌≡◌, ◌⊎◌, ℕ, Bool, true, ◌||◌, List, [], string_bytes}
+use Rattle.mrc_command.specs.declared.command.Command.{Command}
+use Rattle.mrc_command.specs.declared.command.Command.TheVariants.{Case, Mig}
+use Rattle.mrc_command.specs.declared.command.Format.{Format}
+use Rattle.mrc_command.specs.declared.command.Format.TheVariants.{Text, Json, Sarif}
+use Rattle.mrc_command.specs.declared.command.Request.{Request}
+use Rattle.mrc_command.specs.declared.told.Told.{Told}
+use Rattle.mrc_command.specs.Meaning.{Means, asked_format, command_word}
+use Rattle.mrc_files.specs.Files.{Held}
+use Rattle.mrc_place.specs.declared.spots.Hint.{Hint}
+use Rattle.mrc_json.specs.Answers.{fault_json}
+use Rattle.mrc_sarif.specs.Answers.{fault_sarif}
+use Rattle.mrc_program.specs.declared.behind.Help.{Help}
+use Rattle.mrc_program.specs.Behind.{IsNoHelp, HelpsWith}
+use Rattle.mrc_program.specs.Commands.{HaltedOf, seen}
+use Rattle.mrc_program.specs.Cutting.{CutsLess, OfCuts, OfTexts}
+
+-- The object of a fault, by the word of the command, what is printed on standard error, and the
+-- hint. An answer for people has none.
+abbrev pub fault_object : Format → (word err : List ℕ) → Hint → List ℕ
+fault_object Text word err hint = []
+fault_object Json word err hint = fault_json word err hint
+fault_object Sarif word err hint = fault_sarif err hint
+
+-- Something is printed with status 2, and nothing of it on standard output: there the object of the
+-- fault is printed, and nothing else is changed.
+pub record IsFaultObject (format : Format) (word : List ℕ) (hint : Hint) (told new : Told)
+    : Type 0 where
+  pub fault : told.status ≡ 2
+  pub nothing : string_bytes told.out ≡ []
+  pub status : new.status ≡ 2
+  pub err : string_bytes new.err ≡ string_bytes told.err
+  pub out : string_bytes new.out ≡ fault_object format word (string_bytes told.err) hint
+
+-- The object of the fault of a command is printed, with the hint that helps with it, or with none.
+-- If the places of faults are shown, `behind` is the text of this hint.
+pub record ToldObject (shows : Bool) (held : Held) (command : Command) (behind : List ℕ)
+    (told : Told) : Type 0 where
+  pub help : Help
+  pub helps : IsNoHelp help ⊎ HelpsWith held command told help
+  pub text : shows ≡ true → behind ≡ string_bytes help.text
+  pub out : string_bytes told.out
+      ≡ fault_object (asked_format command) (command_word command) (string_bytes told.err) help.hint
+
+-- too little is read of MIG files
+abbrev pub LessOf : Held → Command → Told → Type 0
+LessOf held (Case names question) told = ⊥
+LessOf held (Mig files) told = OfTexts (OfCuts (CutsLess files) files) held files told
+
+-- What goes to standard output with status 2: nothing, the journal of a `live` after which no task
+-- can go on, what MIG files would be cut to of which too little is read, or the object of the
+-- fault, behind whose line `behind` is printed.
+abbrev pub IsOutOfFault : Bool → Held → Command → List ℕ → Told → Type 0
+IsOutOfFault shows held command behind told = (string_bytes told.out ≡ [])
+    ⊎ (HaltedOf held command told
+    ⊎ (LessOf held command told
+    ⊎ ToldObject shows held command behind told))
+
+-- the same of the words: the places of faults are shown if they ask for them or a person looks at
+-- standard error (`err`)
+abbrev pub IsOutOfWords : (out err : Bool) → Held → List (List ℕ) → List ℕ → Told → Type 0
+IsOutOfWords out err held words behind told =
+    (request : Request) × Means words request
+    × IsOutOfFault (request.verbose || err) held (seen out request.command) behind told

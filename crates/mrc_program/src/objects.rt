@@ -1,0 +1,55 @@
+//! The objects of faults, for programs that read them.
+
+ghost use Rattle.std.specs.Prelude.{◌≡◌, ◌⊎◌, [], IfOk, IsTrue, string_bytes};
+ghost use Rattle.mrc_program.specs.FaultObjects.{IsFaultObject, fault_object};
+
+use mrc_command::{Format, Told};
+use mrc_json::fault_json;
+use mrc_place::Hint;
+use mrc_sarif::fault_sarif;
+use std::alloc::{AllocError, Global};
+
+/// The object of a fault, by the word of the command, what is printed on standard error, and the
+/// hint. It is empty if the answer is for people.
+fn fault_object(
+    alloc: Global,
+    format: Format,
+    word: &str,
+    err: &str,
+    hint: &Hint,
+) -> Result<String, AllocError>
+    ensures { IfOk result (λ object.
+        string_bytes object ≡ fault_object format word.now err.now hint.now) }
+{
+    match format {
+        Format::Text => Ok(String::new(alloc)),
+        Format::Json => fault_json(alloc, word, err, hint),
+        Format::Sarif => fault_sarif(alloc, err, hint),
+    }
+}
+
+/// Whether it is a fault that is printed, and nothing on standard output.
+fn has_room(told: &Told) -> bool
+    ensures fault { IsTrue result → told.now.status ≡ 2 }
+    ensures nothing { IsTrue result → string_bytes told.now.out ≡ [] }
+{
+    told.status == 2 && told.out.as_str().is_empty()
+}
+
+/// What is printed, with the object of the fault if it is one, and if nothing else goes to standard
+/// output. If memory runs out for the object, nothing does.
+pub fn with_object(alloc: Global, format: Format, word: &str, hint: &Hint, told: Told) -> Told
+    ensures { (result ≡ told) ⊎ IsFaultObject format word.now hint.now told result }
+{
+    if !has_room(&told) {
+        return told;
+    }
+    match fault_object(alloc, format, word, told.err.as_str(), hint) {
+        Ok(out) => Told {
+            out,
+            err: told.err,
+            status: 2,
+        },
+        Err(AllocError) => told,
+    }
+}
