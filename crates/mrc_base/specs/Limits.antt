@@ -72,3 +72,19 @@ first_limit_of_queue = 5
 -- messages of a queue, as a task can set it
 abbrev pub limit_of_queue : ℕ
 limit_of_queue = 16
+
+-- seats of a server, one for each of its tasks
+abbrev pub limit_of_seats : ℕ
+limit_of_seats = 256
+
+-- parts of a server's lock: one for each seat, and one for the desk
+abbrev pub limit_of_parts : ℕ
+limit_of_parts = 257
+
+-- events of a journal
+abbrev pub limit_of_events : ℕ
+limit_of_events = 1000000
+
+-- threads that look for facts
+abbrev pub limit_of_workers : ℕ
+limit_of_workers = 64

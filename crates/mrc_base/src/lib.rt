@@ -9,10 +9,12 @@ ghost use Rattle.mrc_base.specs.Disposition.{NumbersAreDispositions, PortNumbers
 ghost use Rattle.mrc_base.specs.NameRight.{name_right};
 
 mod copies;
+mod gate;
 pub mod limits;
 mod memory;
 
 pub use copies::{Copies, copy_all, same_all};
+pub use gate::{Gate, Open};
 pub use memory::OrMemory;
 use std::marker::Model;
 

@@ -39,6 +39,14 @@ pub const BIRTHS: u64 = 0x1_0000_0000_0000;
 pub const FIRST_QUEUE: u32 = 5;
 /// Messages of a queue, at most, as a task can set it.
 pub const QUEUE: u32 = 16;
+/// Seats of a server, at most, one for each of its tasks.
+pub const SEATS: u32 = 256;
+/// Parts of a server's lock: one for each seat, and one for the desk.
+pub const PARTS: u64 = 257;
+/// Events of a journal, at most.
+pub const EVENTS: usize = 1_000_000;
+/// Threads that look for facts, at most.
+pub const WORKERS: usize = 64;
 
 /// The code's limits are those of the definitions.
 pub fn limits_are_defined()
@@ -60,4 +68,8 @@ pub fn limits_are_defined()
     ensures births { BIRTHS ≡ limit.limit_of_births }
     ensures first_queue { FIRST_QUEUE ≡ limit.first_limit_of_queue }
     ensures queue { QUEUE ≡ limit.limit_of_queue }
+    ensures seats { SEATS ≡ limit.limit_of_seats }
+    ensures parts { PARTS ≡ limit.limit_of_parts }
+    ensures events { EVENTS ≡ limit.limit_of_events }
+    ensures workers { WORKERS ≡ limit.limit_of_workers }
 {}

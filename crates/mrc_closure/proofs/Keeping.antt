@@ -29,10 +29,6 @@ false_from : (b : Bool) → IsTrue (not b) → b ≡ false
 false_from true h = absurd (true≢false (sym h))
 false_from false h = refl
 
-or_false : (b : Bool) → (b || false) ≡ b
-or_false true = refl
-or_false false = refl
-
 -- merging
 
 -- what a set lacks is put into it

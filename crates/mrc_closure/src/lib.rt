@@ -8,4 +8,4 @@ mod workers;
 
 pub use chains::{Chain, Places, Rounds, Step, explain, rounds_of};
 pub use rounds::make_alone;
-pub use workers::{Gate, MakeFault, make};
+pub use workers::{MakeFault, make};

@@ -3,6 +3,7 @@
 ghost use Rattle.std.specs.Prelude.{◌≡◌, ◌⊎◌, ◌||◌, ◌<◌, ◌≤◌, ℕ, [], Some, Err, MatchResult};
 ghost use Rattle.std.specs.Prelude.{IfErr, IfOk, OnOk, IsTrue, length, slice_get, vec_capacity};
 ghost use Rattle.std.specs.Prelude.{vec_len};
+ghost use Rattle.mrc_base.specs.Limits.{limit_of_workers};
 ghost use Rattle.mrc_base.specs.declared.Fact.{Fact};
 ghost use Rattle.mrc_wiring.specs.Table.{wiring_of};
 ghost use Rattle.mrc_model.specs.Wiring.{classes};
@@ -18,7 +19,8 @@ ghost use Rattle.mrc_closure.specs.Least.{IsLeastList};
 ghost use Rattle.mrc_closure.specs.Working.{IsWorking};
 
 use crate::rounds::{merge, round};
-use mrc_base::{Fact, OrMemory};
+use mrc_base::limits::WORKERS;
+use mrc_base::{Fact, Gate, OrMemory};
 use mrc_certificate::Draft;
 use mrc_classes::{Facts, Rules, first_conclusions};
 use mrc_wiring::Wired;
@@ -28,12 +30,6 @@ use std::sync::Wait;
 use std::thread;
 use std::thread::{Promise, PromisedHandle, Scope, Threads};
 use thiserror::Error;
-
-/// What each worker enters once, before its first place.
-pub trait Gate: Sync {
-    /// Lets in the worker of this number.
-    fn enter(&self, worker: usize);
-}
 
 /// What a worker promises: all that follows at its places.
 #[derive(Drop)]
@@ -294,7 +290,7 @@ fn least_by<R: Threads + Wait + Sync, G: Gate>(
 /// Why no certificate is made.
 #[derive(Clone, Copy, Debug, PartialEq, Eq, Error)]
 pub enum MakeFault {
-    /// There are no workers, or more than 64.
+    /// There are no workers, or more than [`WORKERS`].
     #[error("Workers")]
     Workers,
 }
@@ -318,12 +314,12 @@ pub fn make<R: Threads + Wait + Sync, G: Gate>(
         (content draft).classes ≡ classes (wiring_of wired.now)) }
     ensures births { IfOk result (λ draft.
         (content draft).births ≡ length (wiring_of wired.now).births) }
-    ensures fault { (workers ≡ 0) ⊎ (64 < workers) →
+    ensures fault { (workers ≡ 0) ⊎ (limit_of_workers < workers) →
         result ≡ Err (Fault Workers) }
     ensures refused { IfErr result (λ why.
-        (why ≡ Memory) ⊎ ((workers ≡ 0) ⊎ (64 < workers))) }
+        (why ≡ Memory) ⊎ ((workers ≡ 0) ⊎ (limit_of_workers < workers))) }
 {
-    if workers == 0 || workers > 64 {
+    if workers == 0 || workers > WORKERS {
         return Err(OrMemory::Fault(MakeFault::Workers));
     }
     let facts = least_by(rt, alloc, wired, workers, gate)?;

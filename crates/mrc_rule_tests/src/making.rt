@@ -1,9 +1,9 @@
 //! The least closed set of a wiring, and chains that lead to its facts.
 
 use crate::samples::{ALONE, ALONE_WITH_KINDS, KINDS, ONE, TWO, count, hold, is_in, wired};
-use mrc_base::{Fact, OrMemory, PortRight};
+use mrc_base::{Fact, Gate, Open, OrMemory, PortRight};
 use mrc_certificate::{Draft, write_draft};
-use mrc_closure::{Chain, Gate, MakeFault, Places, Step, explain, make, make_alone};
+use mrc_closure::{Chain, MakeFault, Places, Step, explain, make, make_alone};
 use mrc_wiring::Wired;
 use std::alloc::{AllocError, Global};
 use std::fmt::Write;
@@ -142,13 +142,6 @@ fn no_chain_leads_outside(rt: HostRuntime) -> Result<(), Fail> {
         assert!(rt; chain_of_two(rt.alloc(), fact)?.is_none());
     }
     Ok(())
-}
-
-/// Lets all workers in at once.
-struct Open;
-
-impl Gate for Open {
-    fn enter(&self, _worker: usize) {}
 }
 
 fn count_alone(alloc: Global, wired: &Wired) -> Option<usize> {
