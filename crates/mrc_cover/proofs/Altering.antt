@@ -18,7 +18,8 @@ pub record KeepsRights (g : ℕ → Entry → Option Entry) : Type 0 where
       → is_entry_of p e ≡ true
 
 -- the receive rights of a name that may have nothing left
-at_opt : (q k : ℕ) (o : Option Entry) → at_or_0 (entry_receives q) k o ≡ receives q (rights_left o)
+pub at_opt : (q k : ℕ) (o : Option Entry)
+    → at_or_0 (entry_receives q) k o ≡ receives q (rights_left o)
 at_opt q k None = refl
 at_opt q k (Some e) = refl
 

@@ -13,7 +13,7 @@ use Rattle.mrc_model.specs.Rules.{FactSet}
 use Rattle.mrc_model.specs.Wiring.{Wiring}
 use Rattle.mrc_model.specs.World.{Held, Port, Space, Store, class_of, entry_rights, places}
 use Rattle.mrc_model.specs.World.{queue_rights, receives, space, space_receives}
-use Rattle.mrc_model.specs.declared.Entry.{Entry}
+use Rattle.mrc_cover.proofs.Altering.{at_opt}
 use Rattle.mrc_cover.proofs.Entries.{rights_left}
 use Rattle.mrc_cover.proofs.Pruning.{backup_stays, known-prune, perish, perish_space, perished_name}
 use Rattle.mrc_cover.proofs.Pruning.{port_stays, prune, receives-prune, rights-perished_entry}
@@ -80,12 +80,6 @@ module _ (s : Store) (dead : List ℕ) where
       cases None = refl
       cases (Some x) = refl
 
--- the receive rights of a name that may have nothing left
-at_perished : (q k : ℕ) (o : Option Entry)
-    → at_or_0 (entry_receives q) k o ≡ receives q (rights_left o)
-at_perished q k None = refl
-at_perished q k (Some e) = refl
-
 -- a space keeps the receive rights of ports that stay
 space_receives-perished : (dead : List ℕ) (p : ℕ) (x : Space) → has dead p ≡ false
     → space_receives p (alter_all (perish dead) x) ≡ space_receives p x
@@ -93,7 +87,7 @@ unfolding space_receives
 space_receives-perished dead p x h =
     total-alter_all (entry_receives p) (perish dead) x
     ∙ total-same _ (entry_receives p) x
-    (λ k e is. at_perished p k (perished_entry dead e)
+    (λ k e is. at_opt p k (perished_entry dead e)
     ∙ ap (receives p) (rights-perished_entry dead e)
     ∙ receives-prune dead p (entry_rights e) h)
 

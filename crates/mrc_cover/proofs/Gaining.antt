@@ -7,7 +7,7 @@ use Rattle.mrc_base.specs.declared.PortRight.{PortRight}
 use Rattle.mrc_base.specs.declared.PortRight.TheVariants.{Receive, Send, SendOnce}
 use Rattle.mrc_model.proofs.Maps.{at_most-total, at_or_0, find_cases, len-insert, not_None}
 use Rattle.mrc_model.proofs.Maps.{origin-insert, total-insert}
-use Rattle.mrc_model.proofs.Spaces.{entry_of-some, get-unused}
+use Rattle.mrc_model.proofs.Spaces.{entry_of-some, get-unused, len_after}
 use Rattle.mrc_model.proofs.Tries.{Gives, bind_, checked, gives_err, gives_ok, not_refused}
 use Rattle.mrc_model.specs.Covers.{HasOneName, Known, KnownAt}
 use Rattle.mrc_model.specs.Map.{get, insert, len}
@@ -79,10 +79,6 @@ one_is_not_none p z =
 zero_below : (a : ℕ) {b : ℕ} → a ≤ b → b ≡ 0 → a ≡ 0
 zero_below a h z = omega arith
 
--- an entry is one name more at most
-insert_adds_at_most_one : (x : Space) (n : ℕ) (e : Entry) → len (insert x n e) ≤ len x + 1
-insert_adds_at_most_one x n e = let a = len-insert x n e in omega arith
-
 module _ (k : ℕ → Option ℕ) (F : ℕ → PortRight → Type 0) where
   -- a right under a name of its own
   pub insert_new_gains : (x : Space) (n p : ℕ) (r : PortRight) → get x n ≡ None
@@ -112,7 +108,7 @@ module _ (k : ℕ → Option ℕ) (F : ℕ → PortRight → Type 0) where
         | inr h ↦ one i j q e f g.1 h.1 c d
       ]
     ];
-    size = insert_adds_at_most_one x n (new_entry p r);
+    size = len_after x n (new_entry p r);
   }
 
   -- a send right, as often as it is shown
@@ -200,7 +196,7 @@ module _ (k : ℕ → Option ℕ) (F : ℕ → PortRight → Type 0) where
               | inl h ↦ (e, ap (get x) h.0 ∙ is, sym (here.names q) ∙ ap (is_entry_of q) h.1 ∙ g)
               | inr h ↦ (f, h.1, g)
             ]);
-        size = insert_adds_at_most_one x n (joined e r);
+        size = len_after x n (joined e r);
       }
 
   -- the next lemma, by the port's entry

@@ -1,6 +1,7 @@
 -- A right from the hand that is given to a task.
 use Rattle.std.proofs.Common.{List, arith, ℕ, ◌++◌, ◌+◌, ◌∷◌, ◌≡◌, ◌≤◌}
 use Rattle.mrc_base.specs.declared.PortRight.{PortRight}
+use Rattle.mrc_model.proofs.Spaces.{space-set_other, space-set_same}
 use Rattle.mrc_model.specs.Covers.{Known, KnownAt}
 use Rattle.mrc_model.specs.Map.{len}
 use Rattle.mrc_model.specs.Rules.{FactSet}
@@ -14,7 +15,6 @@ use Rattle.mrc_cover.proofs.Gaining.{HasGained, place_gains}
 use Rattle.mrc_cover.proofs.Rights.{MayHold, right_on}
 use Rattle.mrc_cover.proofs.Sound.{Leaves, SoundWith, changes_nothing, receive_in_hand_is_alone}
 use Rattle.mrc_cover.proofs.Sound.{set_space_changes, set_space_sound}
-use Rattle.mrc_cover.proofs.Stores.{space-set_other, space-set_same}
 
 module _ (W : Wiring) (G : FactSet) (task : ℕ → ℕ) (A : ℕ → Type 0) where
   -- a space with one more right, which was in hand

@@ -14,7 +14,7 @@ use Rattle.mrc_model.specs.Map.{get, len}
 use Rattle.mrc_model.specs.Reply.{Reply, Try}
 use Rattle.mrc_model.specs.Rising.{find_key, is_rising, right_holds}
 use Rattle.mrc_model.specs.Rules.{FactSet}
-use Rattle.mrc_model.specs.Target.{entry_at, first_task, has_kernel, is_alive, kernel_right, target}
+use Rattle.mrc_model.specs.Target.{first_task, has_kernel, is_alive, kernel_right, target}
 use Rattle.mrc_model.specs.Target.{task_of, with_store}
 use Rattle.mrc_model.specs.Wiring.{Wiring, kernel_class, numbers_of}
 use Rattle.mrc_model.specs.World.{Store, Task, World, class_of, entry_rights, space, task_class}
@@ -159,9 +159,3 @@ module _ (W : Wiring) (G : FactSet) where
     holds = λ u e. is_target w t n u kept
         ((found (task_of w (kernel_right (get (space w.store t) n))) _).holds u e);
   }
-
-  -- the entry that a call works on stands under the name
-  pub entry_is : (w : World) (u n : ℕ)
-      → Gives (λ e. get (space w.store u) n ≡ Some e) (entry_at w u n)
-  unfolding entry_at
-  entry_is w u n = found _ _

@@ -109,20 +109,17 @@ rights-perished_item dead
       | false ↦ refl
     ]
 
+-- two equations of lists make one
+both_parts : {a b c d : List Held} → a ≡ b → c ≡ d → a ++ c ≡ b ++ d
+both_parts p q = cc
+
 -- so do the items of an argument
 rights-perished_items : (dead : List ℕ) (xs : List Item)
     → items_rights (map (perished_item dead) xs) ≡ prune dead (items_rights xs)
 rights-perished_items dead [] = refl
 rights-perished_items dead (x ∷ xs) = sym
     (prune-append dead (item_rights x) (items_rights xs)
-    ∙ sym (joined2 (rights-perished_item dead x) (rights-perished_items dead xs)))
-  where
-    joined2 : {a b c d : List Held} → a ≡ b → c ≡ d → a ++ c ≡ b ++ d
-    joined2 p q = cc
-
--- two equations of lists make one
-both_parts : {a b c d : List Held} → a ≡ b → c ≡ d → a ++ c ≡ b ++ d
-both_parts p q = cc
+    ∙ sym (both_parts (rights-perished_item dead x) (rights-perished_items dead xs)))
 
 -- so does an argument
 rights-perished_arg : (dead : List ℕ) (x : QueuedArg)

@@ -18,6 +18,7 @@ use Rattle.mrc_base.specs.declared.PortRight.{PortRight}
 use Rattle.mrc_base.specs.declared.PortRight.TheVariants.{Receive}
 use Rattle.mrc_model.proofs.Maps.{get-insert_other, get-insert_same, same_Some, total-same}
 use Rattle.mrc_model.proofs.Maps.{total-zero}
+use Rattle.mrc_model.proofs.Spaces.{space-set_other, space-set_same}
 use Rattle.mrc_model.specs.Covers.{CoversStore, HasOneName, IsBackup, Known, KnownAt, owed}
 use Rattle.mrc_model.specs.Map.{empty, get, total}
 use Rattle.mrc_model.specs.Rules.{FactSet}
@@ -29,7 +30,7 @@ use Rattle.mrc_model.specs.declared.Entry.{Entry}
 use Rattle.mrc_cover.proofs.Rights.{IsBackup-along, Known-along, MayCarry, MayHold, entry_receives}
 use Rattle.mrc_cover.proofs.Rights.{queue_receives, receives-append, receives-unknown, right_on}
 use Rattle.mrc_cover.proofs.Stores.{class_of-set_port, owed_at_most_one, places-set_port}
-use Rattle.mrc_cover.proofs.Stores.{places-set_space, space-set_other, space-set_same}
+use Rattle.mrc_cover.proofs.Stores.{places-set_space}
 use Rattle.mrc_cover.proofs.Stores.{space_at_most_places}
 
 -- The store is sound while these rights are in hand. Its tasks have the classes that `task` tells.

@@ -8,7 +8,7 @@ use Rattle.std.proofs.lemmas.Bool.{and_right, both_ways, cases_eq, le-ltb}
 use Rattle.mrc_base.specs.declared.Right.{Right}
 use Rattle.mrc_model.proofs.Maps.{at_or_0, len-insert, not_None, origin-insert, same_Some}
 use Rattle.mrc_model.proofs.Maps.{total-insert}
-use Rattle.mrc_model.proofs.Spaces.{get-unused}
+use Rattle.mrc_model.proofs.Spaces.{get-unused, space-set_other, space-set_same}
 use Rattle.mrc_model.proofs.Tries.{bind, bind_, checked, found, gives_err, gives_ok, not_refused}
 use Rattle.mrc_base.specs.Limits.{limit_of_births, limit_of_ports}
 use Rattle.mrc_model.specs.CallAllocate.{allocate_entry, allocate_in, allocate_port, call_allocate}
@@ -28,7 +28,6 @@ use Rattle.mrc_cover.proofs.Kept.{IsAlive, IsTarget, Keeps, Kept, keeps_with, ta
 use Rattle.mrc_cover.proofs.Obeyed.{Obeys, obeys}
 use Rattle.mrc_cover.proofs.Rights.{MayHold, entry_receives}
 use Rattle.mrc_cover.proofs.Sound.{set_space_changes, set_space_sound}
-use Rattle.mrc_cover.proofs.Stores.{space-set_other, space-set_same}
 use Rattle.mrc_cover.proofs.Taking.{one_name_if_traced}
 use Rattle.mrc_base.specs.declared.Right.TheVariants as named
 

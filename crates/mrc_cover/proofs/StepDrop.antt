@@ -10,7 +10,9 @@ use Rattle.mrc_base.specs.declared.Fact.TheVariants.{Hold}
 use Rattle.mrc_base.specs.declared.PortRight.{PortRight}
 use Rattle.mrc_base.specs.declared.PortRight.TheVariants.{Receive}
 use Rattle.mrc_base.specs.declared.Right.{Right}
+use Rattle.mrc_model.proofs.KeptCalls.{same_entry}
 use Rattle.mrc_model.proofs.Maps.{len-alter_all, not_None, same_Some}
+use Rattle.mrc_model.proofs.Spaces.{space-set_other, space-set_same}
 use Rattle.mrc_model.proofs.Tries.{Gives, bind, bind_, checked, found, gives_err, gives_ok}
 use Rattle.mrc_model.specs.CallDeallocate.{Change, DestroysEntry, DestroysReceive, Remains}
 use Rattle.mrc_model.specs.CallDeallocate.{call_deallocate, call_destroy, changed, drop_one}
@@ -39,12 +41,11 @@ use Rattle.mrc_cover.proofs.Destroying.{destruction_keeps}
 use Rattle.mrc_cover.proofs.Entries.{IsLeft, all_is_left, dead_is_left, if_some, nothing_is_left}
 use Rattle.mrc_cover.proofs.Entries.{receive_is_left, receives-if_sends, rights-dead_entry}
 use Rattle.mrc_cover.proofs.Entries.{rights-send_entry, rights_left, send_is_left, sends_are_left}
-use Rattle.mrc_cover.proofs.Kept.{IsAlive, Keeps, Kept, entry_is, keeps_with, manned_along}
+use Rattle.mrc_cover.proofs.Kept.{IsAlive, Keeps, Kept, keeps_with, manned_along}
 use Rattle.mrc_cover.proofs.Kept.{target_is}
 use Rattle.mrc_cover.proofs.Obeyed.{Obeys}
 use Rattle.mrc_cover.proofs.Rights.{MayHold}
 use Rattle.mrc_cover.proofs.Sound.{set_space_changes, set_space_sound}
-use Rattle.mrc_cover.proofs.Stores.{space-set_other, space-set_same}
 use Rattle.mrc_cover.proofs.Taking.{len-put_entry, one_name-put_entry, origin-put_entry}
 use Rattle.mrc_cover.proofs.Taking.{put_entry_adds_no_name, put_entry_leaves}
 use Rattle.mrc_cover.proofs.Taking.{space_receives-put_entry}
@@ -299,7 +300,7 @@ module _ (W : Wiring) (G : FactSet) (obeys : Obeys W G) where
   unfolding call_deallocate
   deallocate_keeps w t task name kept =
       bind _ _ (target_is W G w t task _ kept) (λ u is.
-      bind _ _ (entry_is W G w u name) (λ e at.
+      bind _ _ (same_entry w u name) (λ e at.
       bind _ _ (found (drop_one e) _) (λ c got.
       gives_ok (change_keeps W G obeys w u name is.alive kept e c at
       (drop_one_may (class_of w.store) (MayHold G (task_class w u)) e c got)))))
@@ -310,7 +311,7 @@ module _ (W : Wiring) (G : FactSet) (obeys : Obeys W G) where
   unfolding call_destroy
   destroy_keeps w t task name kept =
       bind _ _ (target_is W G w t task _ kept) (λ u is.
-      bind _ _ (entry_is W G w u name) (λ e at.
+      bind _ _ (same_entry w u name) (λ e at.
       gives_ok (entry_destroyed_keeps W G obeys w u name is.alive kept e at)))
 
   -- mod_refs
@@ -319,7 +320,7 @@ module _ (W : Wiring) (G : FactSet) (obeys : Obeys W G) where
   unfolding call_mod_refs
   mod_refs_keeps w t task name right delta kept =
       bind _ _ (target_is W G w t task _ kept) (λ u is.
-      bind _ _ (entry_is W G w u name) (λ e at.
+      bind _ _ (same_entry w u name) (λ e at.
       bind _ _ (change_refs_may (class_of w.store) (MayHold G (task_class w u)) e right delta)
       (λ c may.
       gives_ok (change_keeps W G obeys w u name is.alive kept e c at may))))

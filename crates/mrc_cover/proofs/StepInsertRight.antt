@@ -6,6 +6,7 @@ use Rattle.std.proofs.Math.Nat.{le_trans}
 use Rattle.std.proofs.lemmas.Bool.{cases_eq}
 use Rattle.mrc_base.specs.Disposition.{given}
 use Rattle.mrc_base.specs.declared.Disp.{Disp}
+use Rattle.mrc_model.proofs.Spaces.{space-set_other, space-set_same}
 use Rattle.mrc_model.proofs.Tries.{bind, bind_, checked, gives_ok, not_refused}
 use Rattle.mrc_model.specs.CallInsertRight.{call_insert_right}
 use Rattle.mrc_model.specs.CallSend.{dead_taken, is_dead_taken}
@@ -24,7 +25,6 @@ use Rattle.mrc_cover.proofs.Kept.{IsAlive, Keeps, Kept, keeps_with, target_is}
 use Rattle.mrc_cover.proofs.Obeyed.{Obeys, obeys}
 use Rattle.mrc_cover.proofs.Rights.{MayHold, right_on}
 use Rattle.mrc_cover.proofs.Sound.{leaves_then, receive_in_hand_is_alone}
-use Rattle.mrc_cover.proofs.Stores.{space-set_other, space-set_same}
 use Rattle.mrc_cover.proofs.Taking.{take_leaves}
 use Rattle.mrc_cover.proofs.Trusting.{given_fact}
 

@@ -1,6 +1,7 @@
 -- move_member keeps a world well formed and covered: no right is new.
 use Rattle.std.proofs.Common.{Option, Some, [], refl, ℕ, ◌≡◌}
 use Rattle.std.proofs.Math.Nat.{le_trans}
+use Rattle.mrc_model.proofs.KeptCalls.{same_entry}
 use Rattle.mrc_model.proofs.Tries.{bind, gives_err, gives_ok}
 use Rattle.mrc_model.specs.CallMoveMember.{call_move_member, move_entry}
 use Rattle.mrc_model.specs.Map.{get}
@@ -12,7 +13,7 @@ use Rattle.mrc_model.specs.declared.Entry.TheVariants.{DeadName as DeadEntry, Se
 use Rattle.mrc_model.specs.declared.Entry.TheVariants.{Receive as ReceiveEntry, Send as SendEntry}
 use Rattle.mrc_model.specs.declared.Entry.TheVariants.{PortSet as SetEntry}
 use Rattle.mrc_cover.proofs.Entries.{receive_is_left}
-use Rattle.mrc_cover.proofs.Kept.{IsAlive, Keeps, Kept, entry_is, keeps_with, target_is}
+use Rattle.mrc_cover.proofs.Kept.{IsAlive, Keeps, Kept, keeps_with, target_is}
 use Rattle.mrc_cover.proofs.Rights.{MayHold}
 use Rattle.mrc_cover.proofs.Taking.{put_entry_adds_no_name, put_entry_leaves}
 
@@ -41,5 +42,5 @@ module _ (W : Wiring) (G : FactSet) where
       → Keeps W G (call_move_member w t task member n)
   unfolding call_move_member
   move_member_keeps w t task member n kept = bind _ _ (target_is W G w t task _ kept)
-      (λ u is. bind _ _ (entry_is W G w u member)
+      (λ u is. bind _ _ (same_entry w u member)
       (λ e at. move_entry_keeps w u member n e is.alive at kept))

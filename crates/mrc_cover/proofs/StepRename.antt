@@ -4,9 +4,11 @@ use Rattle.std.proofs.Common.{true, ℕ, ◌∙◌, ◌≡◌, ◌≤◌, ◌⊎
 use Rattle.std.proofs.Math.Nat.{le_trans}
 use Rattle.std.proofs.lemmas.Bool.{cases_eq}
 use Rattle.mrc_base.specs.declared.PortRight.{PortRight}
+use Rattle.mrc_model.proofs.KeptCalls.{not_used, same_entry}
 use Rattle.mrc_model.proofs.Maps.{at_or_0, get-remove_other, len-alter_all, len-insert, len-remove}
 use Rattle.mrc_model.proofs.Maps.{not_None, origin-insert, origin-remove, same_Some, total-insert}
 use Rattle.mrc_model.proofs.Maps.{total-remove}
+use Rattle.mrc_model.proofs.Spaces.{space-set_other, space-set_same}
 use Rattle.mrc_model.proofs.Tries.{bind, bind_, gives_ok, not_refused}
 use Rattle.mrc_model.specs.CallRename.{call_rename, is_used}
 use Rattle.mrc_model.specs.Space.{in_renamed, is_entry_of, is_set, members_follow}
@@ -24,10 +26,9 @@ use Rattle.mrc_model.specs.declared.Entry.TheVariants.{PortSet as SetEntry}
 use Rattle.mrc_cover.proofs.Altering.{KeepsRights, known-alter, one_name-alter}
 use Rattle.mrc_cover.proofs.Altering.{space_receives-alter}
 use Rattle.mrc_cover.proofs.Entries.{rights_left}
-use Rattle.mrc_cover.proofs.Kept.{Keeps, Kept, entry_is, keeps_with, target_is}
+use Rattle.mrc_cover.proofs.Kept.{Keeps, Kept, keeps_with, target_is}
 use Rattle.mrc_cover.proofs.Rights.{MayHold, entry_receives}
 use Rattle.mrc_cover.proofs.Sound.{set_space_changes, set_space_sound}
-use Rattle.mrc_cover.proofs.Stores.{space-set_other, space-set_same}
 
 -- the members of a set that is renamed keep their rights
 pub renamed_keeps_rights : (old new : ℕ) → KeepsRights (in_renamed old new)
@@ -107,11 +108,6 @@ module _ (x : Space) (old new : ℕ) (e : Entry) (is : get x old ≡ Some e)
       let c = len-remove x old in
       let d = ap (at_or_0 (λ (q : ℕ) (y : Entry). 1) old) is in omega arith
 
--- a name that is not used has no entry
-not_used : (o : Option Entry) → is_used o ≡ false → o ≡ None
-not_used None e = refl
-not_used (Some x) e = cc
-
 module _ (b : Bool) (old new : ℕ) (y : Space) where
   -- the space whose members follow a set that is renamed
   abbrev followed : Space
@@ -152,7 +148,7 @@ module _ (W : Wiring) (G : FactSet) where
   rename_keeps w t task old new kept =
       bind _ _ (target_is W G w t task _ kept) (λ u is.
       bind_ _ _ (not_refused (is_reserved new) _) (λ _ _.
-      bind _ _ (entry_is W G w u old) (λ e at.
+      bind _ _ (same_entry w u old) (λ e at.
       bind_ _ _ (not_refused (is_used (get (space w.store u) new)) _) (λ _ unused.
       let x = space w.store u in
       let free = not_used (get x new) unused in

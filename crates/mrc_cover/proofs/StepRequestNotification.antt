@@ -13,6 +13,7 @@ use Rattle.mrc_base.specs.declared.Disp.TheVariants.{CopySend, MakeSend, MakeSen
 use Rattle.mrc_base.specs.declared.Disp.TheVariants.{MoveSend, MoveSendOnce}
 use Rattle.mrc_base.specs.declared.Fact.TheVariants.{Hold}
 use Rattle.mrc_base.specs.declared.PortRight.TheVariants.{Receive, SendOnce}
+use Rattle.mrc_model.proofs.KeptCalls.{same_entry}
 use Rattle.mrc_model.proofs.Maps.{not_None, same_Some}
 use Rattle.mrc_model.proofs.Tries.{Gives, bind, bind_, checked, found, gives_ok, not_refused}
 use Rattle.mrc_model.specs.CallRequestNotification.{backup_item, call_request_notification}
@@ -38,7 +39,7 @@ use Rattle.mrc_model.specs.declared.Item.TheVariants.{Right as RightItem}
 use Rattle.mrc_model.specs.declared.Verb.TheVariants.{Gives as GivesVerb, Takes}
 use Rattle.mrc_cover.proofs.Gaining.{room_if_not_full}
 use Rattle.mrc_cover.proofs.Giving.{give_right_leaves}
-use Rattle.mrc_cover.proofs.Kept.{IsAlive, Keeps, Kept, entry_is, keeps_with, target_is}
+use Rattle.mrc_cover.proofs.Kept.{IsAlive, Keeps, Kept, keeps_with, target_is}
 use Rattle.mrc_cover.proofs.Obeyed.{Obeys, obeys}
 use Rattle.mrc_cover.proofs.Rights.{right_on}
 use Rattle.mrc_cover.proofs.Sound.{Leaves, SoundWith, changes_nothing, changes_then, exchange_hand}
@@ -153,7 +154,7 @@ module _ (W : Wiring) (G : FactSet) where
       let A = IsAlive w in
       bind _ _ (target_is W G w t task _ kept) (λ u is.
       bind_ _ _ (checked (id == 69 && (sync == 0 && is_notify_disp x)) _) (λ _ asked.
-      bind _ _ (entry_is W G w u name) (λ e at.
+      bind _ _ (same_entry w u name) (λ e at.
       bind _ _ (found (received_port e) _) (λ p got.
       let once = (and_parts _ _ (and_parts (id == 69) _ asked).1).1 in
       bind _ _ (new_backup_is W G obeys τ A w.store t notify x once alive kept.sound) (λ r h.

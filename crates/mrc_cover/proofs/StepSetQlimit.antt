@@ -1,5 +1,6 @@
 -- set_qlimit keeps a world well formed and covered: no right is new.
 use Rattle.std.proofs.Common.{[], nat_lt, refl, ℕ}
+use Rattle.mrc_model.proofs.KeptCalls.{same_entry}
 use Rattle.mrc_model.proofs.Tries.{bind, bind_, found, gives_ok, not_refused}
 use Rattle.mrc_model.specs.CallRequestNotification.{received_port}
 use Rattle.mrc_model.specs.CallSetQlimit.{call_set_qlimit}
@@ -7,7 +8,7 @@ use Rattle.mrc_model.specs.Map.{get}
 use Rattle.mrc_model.specs.Rules.{FactSet}
 use Rattle.mrc_model.specs.Wiring.{Wiring}
 use Rattle.mrc_model.specs.World.{Port, World, set_port, task_class}
-use Rattle.mrc_cover.proofs.Kept.{Keeps, Kept, entry_is, keeps_with, target_is}
+use Rattle.mrc_cover.proofs.Kept.{Keeps, Kept, keeps_with, target_is}
 use Rattle.mrc_cover.proofs.Sound.{set_port_changes, set_port_sound}
 
 module _ (W : Wiring) (G : FactSet) where
@@ -18,7 +19,7 @@ module _ (W : Wiring) (G : FactSet) where
   set_qlimit_keeps w t task name limit kept =
       bind _ _ (target_is W G w t task _ kept) (λ u is.
       bind_ _ _ (not_refused (nat_lt 16 limit) _) (λ _ _.
-      bind _ _ (entry_is W G w u name) (λ e at.
+      bind _ _ (same_entry w u name) (λ e at.
       bind _ _ (found (received_port e) _) (λ p got.
       bind _ _ (found (get w.store.ports p) _) (λ y live.
       let z : Port = record y { limit = limit } in

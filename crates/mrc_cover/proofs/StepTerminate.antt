@@ -9,12 +9,13 @@ use Rattle.std.specs.Option.{option_map, unwrap_or}
 use Rattle.mrc_model.proofs.Dying.{dying_closed}
 use Rattle.mrc_model.proofs.Maps.{get-empty, get-insert_other, get-insert_same, len-alter_all}
 use Rattle.mrc_model.proofs.Maps.{len-empty, not_None, origin-insert, same_Some}
+use Rattle.mrc_model.proofs.Spaces.{space-set_other, space-set_same}
 use Rattle.mrc_model.proofs.Tries.{bind, found, gives_ok}
 use Rattle.mrc_model.specs.CallTerminate.{call_terminate, ended}
 use Rattle.mrc_model.specs.Covers.{Known}
 use Rattle.mrc_model.specs.Death.{Doomed, destroy, dying, has, is_kernel_of}
-use Rattle.mrc_model.specs.Destroyed.{all_rights, destroyed}
-use Rattle.mrc_model.specs.Map.{empty, get, len, sum_list, total}
+use Rattle.mrc_model.specs.Destroyed.{all_rights, cleared, destroyed}
+use Rattle.mrc_model.specs.Map.{Map, empty, get, insert, len, sum_list, total}
 use Rattle.mrc_model.specs.Rules.{FactSet}
 use Rattle.mrc_model.specs.Target.{is_alive}
 use Rattle.mrc_model.specs.Wiring.{Wiring, kernel_class}
@@ -28,8 +29,7 @@ use Rattle.mrc_cover.proofs.Obeyed.{Obeys}
 use Rattle.mrc_cover.proofs.Pruning.{perish}
 use Rattle.mrc_cover.proofs.Rights.{MayHold, entry_receives, receives-append}
 use Rattle.mrc_cover.proofs.Sound.{SoundWith, set_space_sound}
-use Rattle.mrc_cover.proofs.Stores.{port_of_class, space-set_other, space-set_same}
-use Rattle.mrc_cover.proofs.Stores.{space_receives-empty}
+use Rattle.mrc_cover.proofs.Stores.{port_of_class, space_receives-empty}
 
 -- the receive rights of all entries
 receives-all_rights : (q : ℕ) (es : List (ℕ × Entry))
@@ -60,39 +60,41 @@ same_tasks W G task other s hand same sound = record {
   };
 }
 
+-- the empty space has no rights
+no_rights : all_rights (empty {X = Entry}).list ≡ []
+unfolding empty
+no_rights = refl
+
 -- the empty space is not too large
 few_empty : len {X = Entry} empty ≤ 4096
 few_empty = let a = len-empty {X = Entry} empty refl in omega arith
 
 module _ (W : Wiring) (G : FactSet) (obeys : Obeys W G) (w : World) (u : ℕ) (x : Task)
     (kept : Kept W G w)
-    (at : get w.tasks u ≡ Some x) (alive : x.alive ≡ true) where
-  -- the store without the task's space
+    (at : get w.tasks u ≡ Some x) (alive : x.alive ≡ true) (z : Map Space)
+    (emptied : SoundWith W G (task_class w) (record w.store { spaces = z })
+    (all_rights (space w.store u).list))
+    (own : unwrap_or (get z u) empty ≡ empty)
+    (others : (t : ℕ) → (t ≡ u → ⊥) → unwrap_or (get z t) empty ≡ space w.store t) where
+  -- the store in which the task has no entries
   s1 : Store
-  s1 = set_space w.store u empty
+  s1 = record w.store { spaces = z }
 
   -- what is destroyed with the task
   doomed : Doomed
   doomed = record { rights = all_rights (space w.store u).list; kernel = Some x.kernel }
 
-  -- the store is sound with all rights of the task in hand
-  emptied : SoundWith W G (task_class w) s1 doomed.rights
-  unfolding s1 doomed
-  emptied =
-      set_space_sound W G (task_class w) w.store []
-      (all_rights (space w.store u).list) u empty kept.sound
-      (λ p c is. let a = receives-space p
-      (space w.store u) in let b = space_receives-empty p in omega arith)
-      (λ n e is. absurd (not_None e (sym is ∙ get-empty n)))
-      (λ n m p e f a. absurd (not_None e (sym a ∙ get-empty n)))
-
-  -- and so is what their destruction leaves
+  -- what the destruction leaves is sound
   done : IsDestroyed W G (task_class w) s1 doomed (destroy s1 doomed)
+  unfolding s1 doomed
   done = destroy_leaves W G obeys (task_class w) s1 doomed emptied
 
   -- the world after the end
   after : World
-  after = ended w u x
+  after = record {
+    tasks = insert w.tasks u (record x { alive = false });
+    store = destroy s1 doomed;
+  }
 
   -- tasks keep their classes
   class_after : (t : ℕ) → task_class after t ≡ task_class w t
@@ -163,17 +165,17 @@ module _ (W : Wiring) (G : FactSet) (obeys : Obeys W G) (w : World) (u : ℕ) (x
   ]
 
   -- the end of a task keeps the world
-  pub end_keeps : Kept W G (ended w u x)
-  unfolding after s1 doomed destroyed
+  end_keeps : Kept W G after
+  unfolding after s1 doomed
   end_keeps = record {
     sound =
-        same_tasks W G (task_class w) (task_class (ended w u x))
+        same_tasks W G (task_class w) (task_class after)
         (destroy s1 doomed) [] class_after done.sound;
     few =
         λ t. rw (done.spaces t)
         (le_trans (len-alter_all (perish (dying s1 doomed)) (space s1 t)) (elim (cases_eq t u) [
-          | inl e ↦ rw e (rw (space-set_same w.store u empty) few_empty)
-          | inr n ↦ rw (space-set_other w.store u t empty n) (kept.few t)
+          | inl e ↦ rw e (rw own few_empty)
+          | inr n ↦ rw (others t n) (kept.few t)
         ]));
     tasks = record {
       class = λ t y is. let (z, was, c, k) = any_task t y is in rw c at (kept.tasks.class t z was);
@@ -205,15 +207,56 @@ module _ (W : Wiring) (G : FactSet) (obeys : Obeys W G) (w : World) (u : ℕ) (x
           ∙ kernel_dies c (ap (class_of s1) kernel ∙ was)) in
           (t, y, get-insert_other w.tasks u (record x { alive = false }) t apart ∙ old, a, its);
       gone = λ t n e. space_after t n (elim (cases_eq t u) [
-        | inl same ↦ ap (λ v. get v n) (ap (space s1) same ∙ space-set_same w.store u empty)
-            ∙ get-empty n
-        | inr apart ↦ ap (λ v. get v n) (space-set_other w.store u t empty apart)
+        | inl same ↦ ap (λ v. get v n) (ap (space s1) same ∙ own) ∙ get-empty n
+        | inr apart ↦ ap (λ v. get v n) (others t apart)
             ∙ kept.tasks.gone t n (ap is_alive
             (sym (get-insert_other w.tasks u (record x { alive = false }) t apart)) ∙ e)
       ]);
     };
     kernels = λ t y is a. kept.kernels t y (task_after t y is a).1 a;
   }
+
+module _ (W : Wiring) (G : FactSet) (obeys : Obeys W G) (w : World) (u : ℕ) (x : Task)
+    (kept : Kept W G w)
+    (at : get w.tasks u ≡ Some x) (alive : x.alive ≡ true) where
+  -- a task without a space has no rights
+  without_space : get w.store.spaces u ≡ None
+      → SoundWith W G (task_class w) w.store (all_rights (space w.store u).list)
+  without_space none = rw (ap (λ o. unwrap_or o empty) none) (rw no_rights kept.sound)
+
+  -- the store without the task's space is sound with all its rights in hand
+  emptied_sound : SoundWith W G (task_class w) (set_space w.store u empty)
+      (all_rights (space w.store u).list)
+  emptied_sound =
+      set_space_sound W G (task_class w) w.store []
+      (all_rights (space w.store u).list) u empty kept.sound
+      (λ p c is. let a = receives-space p
+      (space w.store u) in let b = space_receives-empty p in omega arith)
+      (λ n e is. absurd (not_None e (sym is ∙ get-empty n)))
+      (λ n m p e f a. absurd (not_None e (sym a ∙ get-empty n)))
+
+  -- the world after the end, whether or not the task has a space
+  ended_with : Option Space → World
+  ended_with o = record {
+    tasks = insert w.tasks u (record x { alive = false });
+    store = destroy (cleared w.store u o)
+        (record { rights = all_rights (space w.store u).list; kernel = Some x.kernel });
+  }
+
+  -- the end of a task keeps the world, whether or not it has a space
+  either_keeps : (o : Option Space) → get w.store.spaces u ≡ o → Kept W G (ended_with o)
+  unfolding after s1 doomed ended_with
+  either_keeps None none =
+      end_keeps W G obeys w u x kept at alive w.store.spaces (without_space none)
+      (ap (λ o. unwrap_or o empty) none) (λ t n. refl)
+  either_keeps (Some y) some =
+      end_keeps W G obeys w u x kept at alive (set_space w.store u empty).spaces emptied_sound
+      (space-set_same w.store u empty) (λ t n. space-set_other w.store u t empty n)
+
+  -- the end of a task keeps the world
+  its_end_keeps : Kept W G (ended w u x)
+  unfolding ended_with destroyed
+  its_end_keeps = either_keeps (get w.store.spaces u) refl
 
 -- the task that is alive
 alive_task : (o : Option Task) (x : Task) → is_alive o ≡ true → o ≡ Some x → x.alive ≡ true
@@ -227,4 +270,5 @@ module _ (W : Wiring) (G : FactSet) (obeys : Obeys W G) where
   terminate_keeps w t task kept =
       bind _ _ (target_is W G w t task _ kept) (λ u is.
       bind _ _ (found (get w.tasks u) _) (λ x at.
-      gives_ok (end_keeps W G obeys w u x kept at (alive_task (get w.tasks u) x is.alive.of at))))
+      gives_ok (its_end_keeps W G obeys w u x kept at
+      (alive_task (get w.tasks u) x is.alive.of at))))

@@ -13,15 +13,6 @@ use Rattle.mrc_model.specs.World.{Port, Space, Store, class_of, places, queue_ri
 use Rattle.mrc_model.specs.World.{set_port, set_space, space, space_receives}
 use Rattle.mrc_cover.proofs.Rights.{each_receives, queue_receives}
 
--- the space that was put there
-pub space-set_same : (s : Store) (t : ℕ) (x : Space) → space (set_space s t x) t ≡ x
-space-set_same s t x = ap (λ o. unwrap_or o empty) (get-insert_same s.spaces t x)
-
--- the other spaces stay
-pub space-set_other : (s : Store) (t u : ℕ) (x : Space) → (u ≡ t → ⊥)
-    → space (set_space s t x) u ≡ space s u
-space-set_other s t u x n = ap (λ o. unwrap_or o empty) (get-insert_other s.spaces t x u n)
-
 -- no receive right is in the empty space
 pub space_receives-empty : (p : ℕ) → space_receives p empty ≡ 0
 unfolding space_receives

@@ -8,8 +8,10 @@ use Rattle.mrc_base.specs.declared.Disp.TheVariants.{CopySend, MakeSend, MakeSen
 use Rattle.mrc_base.specs.declared.Disp.TheVariants.{MoveSend, MoveSendOnce}
 use Rattle.mrc_base.specs.declared.Fact.TheVariants.{Hold}
 use Rattle.mrc_base.specs.declared.PortRight.{PortRight}
+use Rattle.mrc_model.proofs.KeptCalls.{restart_spaces}
 use Rattle.mrc_model.proofs.Maps.{at_or_0, len-alter_all, len-insert, origin-insert, origin-remove}
 use Rattle.mrc_model.proofs.Maps.{total-insert, total-remove}
+use Rattle.mrc_model.proofs.Spaces.{space-set_other, space-set_same}
 use Rattle.mrc_model.proofs.Tries.{Gives, bind, found, gives_ok}
 use Rattle.mrc_model.specs.Covers.{HasOneName, KnownAt}
 use Rattle.mrc_model.specs.Map.{get, len}
@@ -28,7 +30,6 @@ use Rattle.mrc_cover.proofs.Rights.{MayHold, entry_receives, right_on}
 use Rattle.mrc_cover.proofs.Sound.{Leaves, SoundWith, changes_nothing, changes_then, leaves_then}
 use Rattle.mrc_cover.proofs.Sound.{set_port_changes, set_port_sound, set_space_changes}
 use Rattle.mrc_cover.proofs.Sound.{set_space_sound}
-use Rattle.mrc_cover.proofs.Stores.{space-set_other, space-set_same}
 
 -- each port entry was one of the same port, at the same name
 pub one_name_if_traced : (x y : Space) → HasOneName x
@@ -139,10 +140,7 @@ module _ (W : Wiring) (G : FactSet) (task : ℕ → ℕ) (A : ℕ → Type 0) wh
   -- and it changes no space
   spaces-restart_if : (b : Bool) (s : Store) (p : ℕ) → (restart_if b s p).spaces ≡ s.spaces
   unfolding restart
-  spaces-restart_if true s p =
-      let go : (o : Option Port)
-      → (restart_port s p o).spaces ≡ s.spaces = elim [ None ↦ refl | Some x ↦ refl ] in
-      go (get s.ports p)
+  spaces-restart_if true s p = restart_spaces s p (get s.ports p)
   spaces-restart_if false s p = refl
 
   -- what was taken, and what the taker may then do with it

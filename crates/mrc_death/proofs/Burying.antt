@@ -64,4 +64,5 @@ module _ (xs ys : List ℕ) (same : has xs ≡ has ys) where
 
   pub queued_same : (es : List (ℕ × Port)) → queued_on xs es ≡ queued_on ys es
   queued_same [] = refl
-  queued_same (e ∷ es) = λ i. (if same i e.0 then queue_rights e.1.queue else []) ++ queued_same es i
+  queued_same (e ∷ es) =
+      λ i. (if same i e.0 then queue_rights e.1.queue else []) ++ queued_same es i

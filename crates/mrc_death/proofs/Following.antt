@@ -4,6 +4,7 @@ use Rattle.std.proofs.Common.{false, not, List, [], ◌∷◌, ◌++◌, length,
 use Rattle.std.proofs.Common.{ap, subst, arith, ◌==◌, ◌||◌, ◌&&◌, if◌then◌else◌, Some, eq-eqb}
 use Rattle.std.proofs.Common.{T}
 use Rattle.std.proofs.lemmas.Bool.{and_parts, both_ways, or_cases, eqb-true}
+use Rattle.std.specs.Cmp.{both_ways as same_tests}
 use Rattle.std.proofs.lemmas.Option.{slice_get-get_or}
 use Rattle.std.specs.List.{slice_get}
 use Rattle.mrc_model.specs.declared.Backup.{Backup}
@@ -131,11 +132,6 @@ pub has_item : (l : List ℕ) (j x : ℕ) → j < length l → x ≡ get_or l j 
 has_item [] j x h e = absurd (omega arith)
 has_item (y ∷ ys) zero x h e = or_left (y == x) (has ys x) (eq-eqb y x (sym e))
 has_item (y ∷ ys) (suc j) x h e = or_right (y == x) (has ys x) (has_item ys j x (omega arith) e)
-
-bool_same : (a b : Bool) → (a ≡ true → b ≡ true) → (b ≡ true → a ≡ true) → a ≡ b
-bool_same true b f g = sym (f refl)
-bool_same false true f g = g refl
-bool_same false false f g = refl
 
 same_value : (v w : Port) → Some v ≡ Some w → v ≡ w
 same_value v w e = cc
@@ -365,7 +361,7 @@ module _ (s : Store) (d : Doomed) where
 
   pub finished : (z : Search) → Going s d z → length z.dead.items ≤ z.done → (p : ℕ)
       → has z.dead.items p ≡ has (dying s d) p
-  finished z g all p = bool_same (has z.dead.items p) (has (dying s d) p) (g.kept.sound p)
+  finished z g all p = same_tests (has z.dead.items p) (has (dying s d) p) (g.kept.sound p)
       (dying_within s d z.dead.items closed p)
     where
       closed : (q : ℕ) → has (keys s.ports) q ≡ true → dies s d z.dead.items q ≡ true
@@ -390,7 +386,7 @@ module _ (s : Store) (d : Doomed) where
       → (p : ℕ)
       → has z.gone p ≡ is_losing s d p
   finished_lost z g all p =
-      bool_same (has z.gone p) (is_losing s d p)
+      same_tests (has z.gone p) (is_losing s d p)
       (λ h. and_from (has (keys s.ports) p)
       (has_receive p (d.rights ++ queued_rights s (dying s d))) (g.kept.loses p h).live
       (g.kept.loses p h).goes)

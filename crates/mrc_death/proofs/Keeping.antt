@@ -83,13 +83,8 @@ same_port b c e = cc
 pub self_receive : (p : ℕ) → has_receive p (receive_of p) ≡ true
 self_receive p = rw (eq-eqb p p refl) refl
 
-pub from_not : (x b : Bool) → x ≡ not b → x ≡ true → b ≡ false
-from_not x true e h = absurd (both_ways x e h)
-from_not x false e h = refl
-
-pub from_not_false : (x b : Bool) → x ≡ not b → x ≡ false → b ≡ true
-from_not_false x true e h = refl
-from_not_false x false e h = absurd (both_ways x h e)
+own_receive : (p q : ℕ) → has_receive q (receive_of p) ≡ true → (p == q) ≡ true
+own_receive p q h = elim (or_cases (p == q) false h) [ inl e ↦ e | inr r ↦ cc ]
 
 pub live_not_absent : {X : Type 0} (m : Map X) (p : ℕ) → get m p ≡ None → has (keys m) p ≡ true → ⊥
 unfolding get keys
@@ -154,12 +149,9 @@ module _ (s : Store) (d : Doomed) where
       (has dead q)) (keys s.ports) within) [
         | inl l ↦ omega arith
         | inr r ↦ absurd (both_ways (not (has (dead ++ p ∷ []) p)) (ap not (has_push dead p p
-            ∙ or_right (has dead p) (p == p) (same_is p))) (r.1 p live (ap not out)))
+            ∙ or_right (has dead p) (p == p) (eq-eqb p p refl))) (r.1 p live (ap not out)))
       ]
     where
-      same_is : (p : ℕ) → (p == p) ≡ true
-      same_is p = eq-eqb p p refl
-
       within : (q : ℕ) → not (has (dead ++ p ∷ []) q) ≡ true → not (has dead q) ≡ true
       within q h = go (has dead q) refl
         where
@@ -259,7 +251,8 @@ module _ (s : Store) (d : Doomed) where
       ≡ Some e = ap (λ xs. slice_get xs (length a.links.items)) links
       ∙ get_last a.links.items e in
       let own : head_at b.heads backup ≡ length a.links.items + 1 = heads backup
-      ∙ ap (λ t. if t then length b.links.items else head_at a.heads backup) (same_is backup)
+      ∙ ap (λ t. if t then length b.links.items else head_at a.heads backup)
+      (eq-eqb backup backup refl)
       ∙ len in
       let followed : take b.done b.dead.items ≡ take a.done a.dead.items = ap (λ n. take n
       b.dead.items) done ∙ ap (take a.done) dead in
@@ -315,9 +308,6 @@ module _ (s : Store) (d : Doomed) where
         here (length a.links.items) e own last e_backup e_port,
       )
     where
-      same_is : (p : ℕ) → (p == p) ≡ true
-      same_is p = eq-eqb p p refl
-
       at_end : (n : ℕ) (f : Link) → n ≡ length a.links.items → e ≡ f → f.before ≤ n
       at_end n f i j = let h = k.heads backup in subst (λ m. f.before ≤ m) (sym i) (subst (λ m. m ≤
           length a.links.items) (sym (ap (λ (x : Link). x.before) (sym j) ∙ e_before)) h)
@@ -329,7 +319,7 @@ module _ (s : Store) (d : Doomed) where
           let h = k.heads c in
           elim (cases_eq backup c) [
             | inl y ↦ let z = heads c ∙ ap (λ t. if t then length b.links.items else head_at
-                a.heads c) (subst (λ x. (backup == x) ≡ true) y (same_is backup)) in omega arith
+                a.heads c) (eq-eqb backup c y) in omega arith
             | inr n ↦ let z = heads c ∙ ap (λ t. if t then length b.links.items else head_at
                 a.heads c) (ne_eqb backup c n) in omega arith
           ]
@@ -391,7 +381,7 @@ module _ (s : Store) (d : Doomed) where
     };
     gone = λ q h. new q ∙ or_right (port == q) (has a.gone q) h;
     dead = λ q h. h;
-    all = λ q l h. new q ∙ or_left (port == q) (has a.gone q) (receives q h);
+    all = λ q l h. new q ∙ or_left (port == q) (has a.gone q) (own_receive port q h);
     done = refl;
     longer = omega arith;
     prefix = λ n l. refl;
@@ -400,9 +390,6 @@ module _ (s : Store) (d : Doomed) where
       cases : (q : ℕ) → has gone q ≡ true → (port ≡ q) ⊎ (has a.gone q ≡ true)
       cases q h = elim (or_cases (port == q) (has a.gone q) (sym (new q)
           ∙ h)) [ inl e ↦ inl (eqb-true port q e) | inr r ↦ inr r ]
-
-      receives : (q : ℕ) → has_receive q (receive_of port) ≡ true → (port == q) ≡ true
-      receives q h = elim (or_cases (port == q) false h) [ inl e ↦ e | inr r ↦ cc ]
 
       lost : Settled s a port → is_lost (take a.done a.dead.items) (backup_of (get s.ports port))
           ≡ true → has a.dead.items port ≡ true
@@ -424,15 +411,12 @@ module _ (s : Store) (d : Doomed) where
     gone = λ p h. h;
     dead = λ p h. h;
     all = λ q l
-        h. ap (has z.gone) (sym (eqb-true port q (receives q h)))
+        h. ap (has z.gone) (sym (eqb-true port q (own_receive port q h)))
         ∙ known;
     done = refl;
     longer = omega arith;
     prefix = λ n l. refl;
   }
-    where
-      receives : (q : ℕ) → has_receive q (receive_of port) ≡ true → (port == q) ≡ true
-      receives q h = elim (or_cases (port == q) false h) [ inl e ↦ e | inr r ↦ cc ]
 
   -- nor what is not live
   pub not_live : (z : Search) (port : ℕ) → Kept s d z → get s.ports port ≡ None
@@ -442,15 +426,12 @@ module _ (s : Store) (d : Doomed) where
     gone = λ p h. h;
     dead = λ p h. h;
     all = λ q l h.
-        absurd (live_not_absent s.ports port out (ap (has (keys s.ports)) (eqb-true port q (receives
-        q h)) ∙ l));
+        absurd (live_not_absent s.ports port out (ap (has (keys s.ports)) (eqb-true port q
+        (own_receive port q h)) ∙ l));
     done = refl;
     longer = omega arith;
     prefix = λ n l. refl;
   }
-    where
-      receives : (q : ℕ) → has_receive q (receive_of port) ≡ true → (port == q) ≡ true
-      receives q h = elim (or_cases (port == q) false h) [ inl e ↦ e | inr r ↦ cc ]
 
   -- the kernel port dies, where it is live
   pub kernel_dies : {X : Type 0} (p : ℕ) (f : X → Port) (r : Option X) → option_map f r

@@ -2,6 +2,7 @@ pub mod Words
 pub mod Keeping
 pub mod Following
 pub mod Absent
+pub mod Leaving
 pub mod RightsLaws
 pub mod Burying
 pub mod Rooms

@@ -1,6 +1,6 @@
 -- Rights that are put behind others, part by part.
-use Rattle.std.proofs.Common.{◌≡◌, ℕ, ◌+◌, ◌<◌, ◌≤◌, List, [], ◌∷◌, ◌++◌, refl, length, get_or, drop, map, sym, ◌∙◌}
-use Rattle.std.proofs.Common.{ap}
+use Rattle.std.proofs.Common.{◌≡◌, ℕ, ◌+◌, ◌<◌, ◌≤◌, List, [], ◌∷◌, ◌++◌, refl, length}
+use Rattle.std.proofs.Common.{get_or, drop, map, sym, ◌∙◌, ap}
 use Rattle.std.proofs.lemmas.List.{at_drop_more, at_drop_all, append_assoc}
 use Rattle.mrc_model.specs.declared.Item.{Item}
 use Rattle.mrc_model.specs.World.{Parcel, Port, Held, item_rights, args_rights, parcel_rights}

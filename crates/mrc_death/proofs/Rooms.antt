@@ -4,8 +4,8 @@ use Rattle.std.proofs.Common.{◌∷◌, ◌++◌, length, if◌then◌else◌}
 use Rattle.std.proofs.Common.{map, Option, Some, None, refl, sym, ◌∙◌, ap, subst, arith}
 use Rattle.std.proofs.lemmas.Bool.{cases_eq}
 use Rattle.std.proofs.lemmas.List.{length_push, length-map}
-use Rattle.mrc_model.specs.Map.{get, insert}
-use Rattle.mrc_model.specs.World.{Space, Parcel, Port, Store, set_space, set_port}
+use Rattle.mrc_model.specs.Map.{Map, get, insert}
+use Rattle.mrc_model.specs.World.{Space, Parcel, Port, Store, set_port}
 use Rattle.mrc_model.specs.declared.Backup.{Backup}
 use Rattle.mrc_model.specs.declared.Backup.TheVariants.{Absent as NoBackup, Dead as DeadBackup}
 use Rattle.mrc_model.specs.declared.Backup.TheVariants.{Port as BackupPort}
@@ -55,9 +55,10 @@ room_append n s p m r = go (get s.ports p) refl
         let room : length x.queue + (j + 1) < limit_of_waiting = r.at p (j + 1) x e (omega arith) in
         subst (λ k. k + j < limit_of_waiting) (sym size) (omega arith))
 
--- another space takes none
-pub room_space : (n : ℕ) (s : Store) (t : ℕ) (x : Space) → HasRoom n s → HasRoom n (set_space s t x)
-room_space n s t x r = record { at = r.at }
+-- other spaces take none
+pub room_spaces : (n : ℕ) (s : Store) (m : Map Space) → HasRoom n s
+    → HasRoom n (record s { spaces = m })
+room_spaces n s m r = record { at = r.at }
 
 -- a burial takes none
 pub room_bury : (n : ℕ) (s : Store) (dead : List ℕ) → HasRoom n s → HasRoom n (bury s dead)

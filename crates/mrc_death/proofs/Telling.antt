@@ -1,6 +1,6 @@
 -- Notices that are told one by one, and what the definitions say of them.
-use Rattle.std.proofs.Common.{◌≡◌, ℕ, Bool, true, false, not, ◌&&◌, List, [], ◌∷◌, ◌++◌, length, map}
-use Rattle.std.proofs.Common.{Option, Some, None, Result, Err, IsOk, refl, sym, ◌∙◌, ap, subst}
+use Rattle.std.proofs.Common.{◌≡◌, ℕ, Bool, true, false, not, ◌&&◌, List, [], ◌∷◌, ◌++◌, length}
+use Rattle.std.proofs.Common.{map, Option, Some, None, Result, Err, IsOk, refl, sym, ◌∙◌, ap, subst}
 use Rattle.std.proofs.Common.{arith, nat_le, ◌+◌, ◌<◌, if◌then◌else◌, ◌==◌, eq-eqb}
 use Rattle.std.proofs.lemmas.Bool.Decides.{nat_tests}
 use Rattle.mrc_model.specs.declared.Backup.{Backup}
@@ -17,9 +17,9 @@ use Rattle.mrc_model.specs.Death.{notify_destroyed, perished_port}
 use Rattle.mrc_model.proofs.Maps.{get-insert_same, same_Some}
 use Rattle.mrc_model.proofs.Dying.{or_left, or_right}
 use Rattle.mrc_map.proofs.Walks.{since, from_first}
-use Rattle.mrc_ports.specs.Queues.{limit_of_waiting, is_full_for, with_message}
+use Rattle.mrc_ports.specs.Queues.{limit_of_waiting, is_full_for, is_out_of_room, with_message}
 use Rattle.mrc_ports.specs.declared.table.NotQueued.{NotQueued}
-use Rattle.mrc_ports.specs.declared.table.NotQueued.TheVariants.{Absent, Full}
+use Rattle.mrc_ports.specs.declared.table.NotQueued.TheVariants.{Absent, Full, Memory}
 use Rattle.mrc_ports.proofs.TableLaws.{insert_twice}
 use Rattle.mrc_death.specs.Plans.{HasRoom, tell_once, tell_destroyed, once_ports}
 use Rattle.mrc_death.specs.Plans.{left_port, kept_ports, named, backup_at, used_up}
@@ -77,11 +77,15 @@ destroyed_told dead lost gone s (e ∷ es) same =
 
 module _ (s t : Store) (p : ℕ) (m : Parcel) (r : Result (Unit {0}) NotQueued)
     (queued : (x : Port) → get s.ports p ≡ Some x → is_full_for x m.by_once ≡ false
+    → is_out_of_room x ≡ false
     → IsOk r × (t ≡ set_port s p (with_message x m)))
     (absent : get s.ports p ≡ None → (r ≡ Err (Absent m)) × (t ≡ s))
     (once : m.by_once ≡ true) (room : HasRoom 1 s) where
-  not_full : (x : Port) → get s.ports p ≡ Some x → is_full_for x m.by_once ≡ false
-  not_full x at = ap (is_full_for x) once ∙ below (length x.queue) (room.at p 0 x at (omega arith))
+  not_full : (x : Port) → is_full_for x m.by_once ≡ false
+  not_full x = ap (is_full_for x) once
+
+  has_place : (x : Port) → get s.ports p ≡ Some x → is_out_of_room x ≡ false
+  has_place x at = below (length x.queue) (room.at p 0 x at (omega arith))
     where
       below : (n : ℕ) → n + 0 < limit_of_waiting → nat_le limit_of_waiting n ≡ false
       below n h = grind (arith, nat_tests)
@@ -93,15 +97,24 @@ module _ (s t : Store) (p : ℕ) (m : Parcel) (r : Result (Unit {0}) NotQueued)
     where
       go : (o : Option Port) → get s.ports p ≡ o → t ≡ append_to s p m o
       go None at = (absent at).1
-      go (Some x) at = (queued x at (not_full x at)).1
+      go (Some x) at = (queued x at (not_full x) (has_place x at)).1
 
-  -- it is not refused for want of room
-  pub never_full : (kept : Parcel) → r ≡ Err (Full kept) → ⊥
-  never_full kept full = go (get s.ports p) refl
+  -- it is refused only if the port is not live
+  only_absent : (why : NotQueued) → r ≡ Err why → r ≡ Err (Absent m)
+  only_absent why is = go (get s.ports p) refl
     where
-      go : (o : Option Port) → get s.ports p ≡ o → ⊥
-      go None at = let both = sym full ∙ (absent at).0 in cc
-      go (Some x) at = let ok = subst IsOk full (queued x at (not_full x at)).0 in cc
+      go : (o : Option Port) → get s.ports p ≡ o → r ≡ Err (Absent m)
+      go None at = (absent at).0
+      go (Some x) at =
+          let ok = subst IsOk is (queued x at (not_full x) (has_place x at)).0 in cc
+
+  -- the queue is not full for it
+  pub never_full : (kept : Parcel) → r ≡ Err (Full kept) → ⊥
+  never_full kept is = let same = sym is ∙ only_absent (Full kept) is in cc
+
+  -- and not so many messages wait that there is no room
+  pub never_out_of_room : (kept : Parcel) → r ≡ Err (Memory kept) → ⊥
+  never_out_of_room kept is = let same = sym is ∙ only_absent (Memory kept) is in cc
 
 -- a request that is used up
 pub used_as : (s mid t : Store) (p : ℕ) (x : Port)

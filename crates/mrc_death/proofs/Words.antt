@@ -1,20 +1,12 @@
--- What std's words for a set and a map of numbers are in this crate's.
-use Rattle.std.proofs.Common.{◌≡◌, ℕ, List, [], ◌∷◌, refl, sym, ◌∙◌, ap, arith, Bool, ◌==◌, ◌||◌}
+-- What std's words for a map of numbers are in this crate's.
+use Rattle.std.proofs.Common.{◌≡◌, ℕ, List, [], ◌∷◌, refl, sym, ◌∙◌, ap, arith, ◌==◌}
 use Rattle.std.proofs.Common.{if◌then◌else◌, unwrap_or, Some, Option, true, false, cond}
 use Rattle.std.proofs.lemmas.Bool.Decides.{nat_tests}
 use Rattle.std.specs.Ordering.{nat_cmp}
-use Rattle.std.specs.List.{list_any}
 use Rattle.std.specs.Map.{lookup}
 use Rattle.std.specs.BTreeMap.{is_at}
-use Rattle.mrc_model.specs.Death.{has}
+use Rattle.mrc_map.proofs.MemberLaws.{at_is}
 use Rattle.mrc_death.specs.Heads.{head_at}
-
-pub at_is : (p k : ℕ) → is_at (nat_cmp p) k ≡ (k == p)
-at_is p k = grind (arith, nat_tests)
-
-pub has_keys : (ks : List ℕ) (p : ℕ) → list_any (is_at (nat_cmp p)) ks ≡ has ks p
-has_keys [] p = refl
-has_keys (k ∷ ks) p = rw (at_is p k, has_keys ks p) refl
 
 pub head_is : (es : List (ℕ × ℕ)) (p : ℕ) → unwrap_or (lookup (is_at (nat_cmp p)) es) 0
     ≡ head_at es p
@@ -25,16 +17,6 @@ head_is (e ∷ es) p = rw (at_is p e.0) (elim (e.0 == p) as (λ b. unwrap_or (if
       | false ↦
           head_is es p
     ])
-
-member_cases : (p q : ℕ) (b : Bool) → cond (q == p) true b ≡ (p == q || b)
-member_cases p q b = grind (arith, nat_tests)
-
-pub member_after : (new old : List ℕ) (p q : ℕ) → list_any (is_at (nat_cmp q)) new
-    ≡ cond (is_at (nat_cmp p) q) true (list_any (is_at (nat_cmp q)) old) → has new q
-    ≡ (p == q || has old q)
-member_after new old p q h = sym (has_keys new q) ∙ h
-    ∙ ap (λ b. cond b true (list_any (is_at (nat_cmp q)) old)) (at_is p q)
-    ∙ ap (cond (q == p) true) (has_keys old q) ∙ member_cases p q (has old q)
 
 head_cases : (p q v w : ℕ) (o : Option ℕ) → unwrap_or o 0 ≡ w
     → unwrap_or (cond (q == p) (Some v) o) 0 ≡ (if p == q then v else w)

@@ -1,6 +1,6 @@
 -- Work that was planned does what follows from a destruction.
-use Rattle.std.proofs.Common.{◌≡◌, ℕ, zero, suc, ◌+◌, true, ◌&&◌, List, ◌++◌, length, map, Option, Some, None}
-use Rattle.std.proofs.Common.{refl, sym, ◌∙◌, ap, subst, arith, filter}
+use Rattle.std.proofs.Common.{◌≡◌, ℕ, zero, suc, ◌+◌, true, ◌&&◌, List, ◌++◌, length}
+use Rattle.std.proofs.Common.{map, Option, Some, None, refl, sym, ◌∙◌, ap, subst, arith, filter}
 use Rattle.mrc_model.specs.Map.{Map, keys, len, alter_all}
 use Rattle.mrc_model.specs.Rising.{alter_list}
 use Rattle.mrc_model.specs.World.{Space, Store, Held}
@@ -16,7 +16,7 @@ use Rattle.mrc_death.specs.Taking.{AreTaken}
 use Rattle.mrc_death.specs.declared.taking.Taken.{Taken}
 use Rattle.mrc_death.specs.Removing.{CanRemove, removed_from}
 use Rattle.mrc_death.specs.declared.removal.Removal.{Removal}
-use Rattle.mrc_death.proofs.Rooms.{room_less, room_space, room_bury, room_told}
+use Rattle.mrc_death.proofs.Rooms.{room_less, room_spaces, room_bury, room_told}
 use Rattle.mrc_death.proofs.Burying.{bury_same, queued_same}
 use Rattle.mrc_death.proofs.Telling.{once_told, destroyed_told}
 
@@ -91,7 +91,8 @@ work_follows s t r d dead lost die lose =
     let after = bury s1 dead in
     sym (destroyed_told dead lost gone (tell_once after (once_ports gone)) s.ports.list
     (lost_live s d dead lost same lose))
-    ∙ ap (λ z. notify_destroyed z gone (map (λ e. e.0) (alter_list (perished_port dead) s.ports.list)))
+    ∙ ap (λ z. notify_destroyed z gone (map (λ e. e.0)
+    (alter_list (perished_port dead) s.ports.list)))
     (sym (once_told after gone))
     ∙ ap (notify_destroyed (notify_once after gone) gone) (sym (keys_buried s1 dead))
     ∙ follows_same s1 d dead (dying s1 d) same1
@@ -103,7 +104,7 @@ module _ (s s1 s2 : Store) (w : Work) (ready : IsReadyFor s w)
   buried_room : HasRoom (length w.once + length w.lost) s2
   buried_room =
       subst (HasRoom (length w.once + length w.lost)) (sym (buried ∙ ap (λ z. bury z w.dead) put))
-      (room_bury _ (removed_from s w.task w.removal) w.dead (room_space _ s w.task _ ready.room))
+      (room_bury _ (removed_from s w.task w.removal) w.dead (room_spaces _ s _ ready.room))
 
   -- there is room for the send-once notices
   pub once_room : HasRoom (length w.once) s2
@@ -141,7 +142,8 @@ unfolding carried_out destroyed
 nothing_destroyed s what none = ap (destroy_out s) (sym none)
 
 -- what follows from what is taken out is what is destroyed
-pub plan_destroys : (s : Store) (what : model.Destroyed) (t : ℕ) (r : Removal) (d : Doomed) (w : Work)
+pub plan_destroys : (s : Store) (what : model.Destroyed) (t : ℕ) (r : Removal) (d : Doomed)
+    (w : Work)
     → taken_out s what ≡ Some (record { store = removed_from s t r; doomed = d })
     → work_done s w ≡ destroy (removed_from s t r) d
     → carried_out s (Some w) ≡ destroyed s what

@@ -1,7 +1,7 @@
 -- What a destruction removes from a task's space, as a plan has it. A step of the proof.
-use Rattle.std.specs.Prelude.{ℕ, IsSome, ⊤}
-use Rattle.mrc_model.specs.Map.{empty, get}
-use Rattle.mrc_model.specs.World.{Space, Store, space, set_space}
+use Rattle.std.specs.Prelude.{ℕ, ⊤, Option, Some, None}
+use Rattle.mrc_model.specs.Map.{Map, empty, get, insert}
+use Rattle.mrc_model.specs.World.{Space, Store, space}
 use Rattle.mrc_model.specs.Space.{put_entry}
 use Rattle.mrc_index.specs.Undo.{CanPut}
 use Rattle.mrc_names.specs.Changes.{without}
@@ -20,10 +20,15 @@ CanBeRemoved (Receive n rest) x = CanPut x n rest
 CanBeRemoved (Name n) x = ⊤
 CanBeRemoved All x = ⊤
 
--- the store without it in the task's space
-abbrev pub removed_from : Store → ℕ → Removal → Store
-removed_from s t r = set_space s t (removed r (space s t))
+-- the spaces without it in the task's, if the task has one
+abbrev pub left_in : Map Space → ℕ → Removal → Option Space → Map Space
+left_in m t r None = m
+left_in m t r (Some x) = insert m t (removed r x)
 
--- the task has a space, from which it can be removed without memory
+-- the store without it in the task's space, if the task has one
+abbrev pub removed_from : Store → ℕ → Removal → Store
+removed_from s t r = record s { spaces = left_in s.spaces t r (get s.spaces t) }
+
+-- it can be removed from the task's space without memory
 abbrev pub CanRemove : Store → ℕ → Removal → Type 0
-CanRemove s t r = IsSome (get s.spaces t) × CanBeRemoved r (space s t)
+CanRemove s t r = CanBeRemoved r (space s t)

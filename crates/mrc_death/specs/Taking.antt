@@ -14,8 +14,8 @@ destroyed_of (Receive task name) = ReceiveOf task name
 destroyed_of (WholeEntry task name) = EntryOf task name
 destroyed_of (Task task kernel) = TaskOf task kernel
 
--- what is taken out of a task's space: nothing where nothing is. The task has a space, from which
--- it is removed without memory.
+-- what is taken out of a task's space: nothing if nothing is there. It is removed from the space
+-- without memory.
 abbrev pub AreTaken : Store → Option Taken → Option TakenOut → Type 0
 AreTaken s None out = out ≡ None
 AreTaken s (Some t) out =

@@ -51,6 +51,7 @@ fn queue_notice(store: &mut Store, port: PortId, message: Ready)
         Ok(()) => (),
         Err(NotQueued::Absent(_)) => (),
         Err(NotQueued::Full(_)) => unreachable!(),
+        Err(NotQueued::Memory(_)) => unreachable!(),
     }
 }
 

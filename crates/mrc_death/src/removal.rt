@@ -41,7 +41,7 @@ impl Removal {
         }
     }
 
-    /// Removes it from the task's space. It takes no memory.
+    /// Removes it from the task's space, if the task has one. It takes no memory.
     pub(crate) fn apply(self, alloc: Global, store: &mut Store, task: TaskId)
         requires { CanRemove store.old task self }
         ensures { store.new ≡ removed_from store.old task self }

@@ -150,8 +150,17 @@ fn take_entry(
     }))
 }
 
-/// All that a task has, taken out, with its kernel port. A task without a space is answered as want
-/// of memory: a space of its own would take some.
+/// The rights of all entries of a task. It has none if it has no space.
+fn task_rights(alloc: Global, store: &Store, task: TaskId) -> Result<Vec<Held>, AllocError>
+    ensures { IfOk result (λ rights. rights.items ≡ all_rights (space store.now task).list) }
+{
+    match store.space(task) {
+        Some(found) => all_rights(alloc, found.iter()),
+        None => Ok(Vec::new(alloc)),
+    }
+}
+
+/// All that a task has, taken out, with its kernel port.
 fn take_task(
     alloc: Global,
     store: &Store,
@@ -161,10 +170,7 @@ fn take_task(
     ensures { IfOk result (λ taken.
         AreTaken store.now (Some taken) (Some (task_out store.now task kernel))) }
 {
-    let Some(found) = store.space(task) else {
-        return Err(AllocError);
-    };
-    let rights = all_rights(alloc, found.iter())?;
+    let rights = task_rights(alloc, store, task)?;
     Ok(Taken {
         task,
         removal: Removal::All,

@@ -59,7 +59,7 @@ or_right false b e = e
 
 -- ports that a space names
 
-some_found : (p : ℕ) (es : List (ℕ × Entry)) (n : ℕ) (e : Entry) → find_key n es ≡ Some e
+pub some_found : (p : ℕ) (es : List (ℕ × Entry)) (n : ℕ) (e : Entry) → find_key n es ≡ Some e
     → is_entry_of p e ≡ true → is_some (first_entry p es) ≡ true
 some_found p [] n e is own = absurd (not_None e (sym is))
 some_found p (f ∷ es) n e is own =
@@ -73,15 +73,15 @@ some_found p (f ∷ es) n e is own =
     ] in
     go (is_entry_of p f.1) refl
 
-abbrev names : Space → ℕ → Bool
+abbrev pub names : Space → ℕ → Bool
 names x p = is_some (entry_of x p)
 
-named_by : (x : Space) (p n : ℕ) (e : Entry) → get x n ≡ Some e → is_entry_of p e ≡ true
+pub named_by : (x : Space) (p n : ℕ) (e : Entry) → get x n ≡ Some e → is_entry_of p e ≡ true
     → names x p ≡ true
 unfolding get entry_of
 named_by x p n e is own = some_found p x.list n e is own
 
-the_entry : (x : Space) (p : ℕ) (P : Type 0) → ((f : ℕ × Entry) → entry_of x p ≡ Some f → P)
+pub the_entry : (x : Space) (p : ℕ) (P : Type 0) → ((f : ℕ × Entry) → entry_of x p ≡ Some f → P)
     → names x p ≡ true → P
 the_entry x p P k is =
     let go : (o : Option (ℕ × Entry)) → entry_of x p ≡ o → is_some o ≡ true → P =
@@ -89,7 +89,7 @@ the_entry x p P k is =
     go (entry_of x p) refl is
 
 -- a new entry names its port besides
-names_new : (x : Space) (n : ℕ) (e : Entry) (q : ℕ) → get x n ≡ None
+pub names_new : (x : Space) (n : ℕ) (e : Entry) (q : ℕ) → get x n ≡ None
     → names (insert x n e) q ≡ (is_entry_of q e || names x q)
 names_new x n e q free = same_if (names (insert x n e) q) (is_entry_of q e || names x q) there back
   where
@@ -114,7 +114,7 @@ names_new x n e q free = same_if (names (insert x n e) q) (is_entry_of q e || na
     ]
 
 -- an entry that takes the place of one of the same port
-names_over : (x : Space) (n : ℕ) (e g : Entry) (q : ℕ) → get x n ≡ Some e
+pub names_over : (x : Space) (n : ℕ) (e g : Entry) (q : ℕ) → get x n ≡ Some e
     → is_entry_of q g ≡ is_entry_of q e → names (insert x n g) q ≡ names x q
 names_over x n e g q was same = same_if (names (insert x n g) q) (names x q) there back
   where
@@ -136,13 +136,13 @@ names_over x n e g q was same = same_if (names (insert x n g) q) (names x q) the
           | inr z ↦ named_by (insert x n g) q f.0 f.1 (get-insert_other x n g f.0 z ∙ at.0) at.1
         ])
 
-len_new : (x : Space) (n : ℕ) (e : Entry) → get x n ≡ None → len (insert x n e) ≡ len x + 1
+pub len_new : (x : Space) (n : ℕ) (e : Entry) → get x n ≡ None → len (insert x n e) ≡ len x + 1
 len_new x n e free =
     let a = len-insert x n e in
     let b : at_or_0 (λ q (y : Entry). 1) n (get x n) ≡ 0 = ap
     (at_or_0 (λ q y. 1) n) free in omega arith
 
-len_over : (x : Space) (n : ℕ) (e g : Entry) → get x n ≡ Some e → len (insert x n g) ≡ len x
+pub len_over : (x : Space) (n : ℕ) (e g : Entry) → get x n ≡ Some e → len (insert x n g) ≡ len x
 len_over x n e g was =
     let a = len-insert x n g in
     let b : at_or_0 (λ q (y : Entry). 1) n (get x n) ≡ 1 = ap

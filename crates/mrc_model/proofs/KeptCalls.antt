@@ -48,8 +48,8 @@ use Rattle.mrc_model.specs.Death.{Doomed, dying, queued_rights, perished_entry, 
 use Rattle.mrc_model.specs.Death.{append_to, append}
 use Rattle.mrc_model.specs.Death.{once_notice, notify_once, notify_backup, notify_port}
 use Rattle.mrc_model.specs.Death.{notify_destroyed, has_receive, destroy}
-use Rattle.mrc_model.specs.Destroyed.{Destroyed, ReceiveOf, EntryOf, TaskOf, receive_out, entry_out}
-use Rattle.mrc_model.specs.Destroyed.{destroy_out, destroyed}
+use Rattle.mrc_model.specs.Destroyed.{Destroyed, ReceiveOf, EntryOf, TaskOf, cleared, receive_out}
+use Rattle.mrc_model.specs.Destroyed.{entry_out, destroy_out, destroyed}
 use Rattle.mrc_model.specs.Target.{entry_at, is_alive}
 use Rattle.mrc_model.specs.CallSend.{dead_taken, take_live, take_named}
 use Rattle.mrc_model.specs.CallSend.{take_item, take_reply_by}
@@ -115,7 +115,7 @@ set_port_kept s p x all = same_kept s (set_port s p x) refl all
 
 -- taking
 
-restart_spaces : (s : Store) (p : ℕ) (o : Option Port) → (restart_port s p o).spaces ≡ s.spaces
+pub restart_spaces : (s : Store) (p : ℕ) (o : Option Port) → (restart_port s p o).spaces ≡ s.spaces
 restart_spaces s p None = refl
 restart_spaces s p (Some x) = refl
 
@@ -219,11 +219,16 @@ destroy_kept s d all =
     (notified_spaces (notify_once after gone) gone (keys after.ports)
     ∙ once_spaces after gone) (bury_kept s dead all)
 
+-- the spaces without a task's entries
+cleared_kept : (s : Store) (t : ℕ) (o : Option Space) → AreSpaces s → AreSpaces (cleared s t o)
+cleared_kept s t None all = all
+cleared_kept s t (Some x) all = set_space_kept s t empty all empty_is_space
+
 -- what a call destroys
 pub destroyed_kept : (s : Store) (what : Destroyed) → AreSpaces s → AreSpaces (destroyed s what)
 unfolding destroyed
 destroyed_kept s (TaskOf t p) all =
-    destroy_kept (set_space s t empty) _ (set_space_kept s t empty all empty_is_space)
+    destroy_kept (cleared s t (get s.spaces t)) _ (cleared_kept s t (get s.spaces t) all)
 destroyed_kept s (EntryOf t n) all = go (get (space s t) n) refl
   where
     go : (o : Option Entry) → get (space s t) n ≡ o → AreSpaces (destroy_out s (entry_out s t n o))
@@ -253,7 +258,8 @@ destroyed_kept s (ReceiveOf t n) all = go (get (space s t) n) refl
 abbrev Ends : Try (World × Reply) → Type 0
 Ends r = Gives (λ (end : World × Reply). AreSpaces end.0.store) r
 
-same_entry : (w : World) (u n : ℕ) → Gives (λ e. get (space w.store u) n ≡ Some e) (entry_at w u n)
+-- the entry that a call works on has the name
+pub same_entry : (w : World) (u n : ℕ) → Gives (λ e. get (space w.store u) n ≡ Some e) (entry_at w u n)
 unfolding entry_at
 same_entry w u n = found _ _
 
@@ -706,7 +712,8 @@ qlimit_kept w t task name limit all =
     bind _ _ (any_of _) (λ p _.
     bind _ _ (any_of _) (λ y _. gives_ok (set_port_kept w.store p _ all))))))
 
-not_used : (o : Option Entry) → is_used o ≡ false → o ≡ None
+-- a name that is not used has no entry
+pub not_used : (o : Option Entry) → is_used o ≡ false → o ≡ None
 not_used None e = refl
 not_used (Some x) e = cc
 

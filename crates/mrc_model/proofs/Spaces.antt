@@ -1,16 +1,20 @@
 -- The laws of spaces: an unused name has no entry, and the entry that a port is found under is its
 -- own.
 use Rattle.std.proofs.Common.{◌≡◌, ℕ, ◌+◌, ◌<◌, ◌≤◌, Bool, true, false, T, List, [], ◌∷◌, Some}
-use Rattle.std.proofs.Common.{None, refl, sym, ◌∙◌, subst, arith, ◌==◌, nat_lt, if◌then◌else◌}
+use Rattle.std.proofs.Common.{Option, ap, None, refl, sym, ◌∙◌, subst, arith, ◌==◌, nat_lt, if◌then◌else◌}
 use Rattle.std.proofs.lemmas.Bool.{ltb-true, ltb-false, eqb-true, eqb-false, ne_eqb}
+use Rattle.std.specs.Option.{unwrap_or}
 use Rattle.mrc_model.specs.declared.Entry.{Entry}
 use Rattle.mrc_model.specs.Rising.{is_rising, find_key, right_holds}
-use Rattle.mrc_model.specs.Map.{get}
-use Rattle.mrc_model.specs.World.{Space}
+use Rattle.mrc_model.specs.Map.{empty, get, insert, len}
+use Rattle.mrc_model.specs.World.{Space, Store, set_space, space}
 use Rattle.mrc_model.specs.Space.{least_from, unused, is_entry_of, first_entry, entry_of}
+use Rattle.mrc_model.specs.Space.{put_entry}
 use Rattle.mrc_model.proofs.Maps.{same_Some, not_None, find_later, find_here, find_is_low, if_false}
+use Rattle.mrc_model.proofs.Maps.{get-insert_same, get-insert_other, get-remove_same}
+use Rattle.mrc_model.proofs.Maps.{get-remove_other, len-insert}
 
-least_is_later : {X : Type 0} (k : ℕ) (es : List (ℕ × X)) → k ≤ least_from k es
+pub least_is_later : {X : Type 0} (k : ℕ) (es : List (ℕ × X)) → k ≤ least_from k es
 least_is_later k [] = omega arith
 least_is_later k (e ∷ es) =
     let a = least_is_later (k + 1) es in
@@ -73,3 +77,27 @@ pub entry_of-some : (x : Space) (p : ℕ) (f : ℕ × Entry) → entry_of x p �
     → (get x f.0 ≡ Some f.1) × (is_entry_of p f.1 ≡ true)
 unfolding get entry_of
 entry_of-some x p f is = entry_found 0 p x.list f x.rising is
+
+-- the name has the entry that was put under it
+pub put_entry_same : (x : Space) (n : ℕ) (o : Option Entry) → get (put_entry x n o) n ≡ o
+put_entry_same x n None = get-remove_same x n
+put_entry_same x n (Some e) = get-insert_same x n e
+
+-- the other names keep their entries
+pub put_entry_other : (x : Space) (n q : ℕ) (o : Option Entry) → (q ≡ n → ⊥)
+    → get (put_entry x n o) q ≡ get x q
+put_entry_other x n q None other = get-remove_other x n q other
+put_entry_other x n q (Some e) other = get-insert_other x n e q other
+
+-- a new entry is one name more at most
+pub len_after : (x : Space) (n : ℕ) (e : Entry) → len (insert x n e) ≤ len x + 1
+len_after x n e = let a = len-insert x n e in omega arith
+
+-- the task has the space that it was given
+pub space-set_same : (s : Store) (t : ℕ) (x : Space) → space (set_space s t x) t ≡ x
+space-set_same s t x = ap (λ o. unwrap_or o empty) (get-insert_same s.spaces t x)
+
+-- the other tasks keep their spaces
+pub space-set_other : (s : Store) (t u : ℕ) (x : Space) → (u ≡ t → ⊥)
+    → space (set_space s t x) u ≡ space s u
+space-set_other s t u x other = ap (λ o. unwrap_or o empty) (get-insert_other s.spaces t x u other)

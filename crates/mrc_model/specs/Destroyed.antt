@@ -43,10 +43,15 @@ abbrev pub all_rights : List (ℕ × Entry) → List Held
 all_rights [] = []
 all_rights (e ∷ es) = entry_rights e.1 ++ all_rights es
 
+-- all entries leave the task's space, if it has one
+abbrev pub cleared : Store → ℕ → Option Space → Store
+cleared s t None = s
+cleared s t (Some x) = set_space s t empty
+
 -- all entries leave the space, and the kernel port goes
 abbrev pub task_out : Store → ℕ → ℕ → TakenOut
 task_out s t p = record {
-  store = set_space s t empty;
+  store = cleared s t (get s.spaces t);
   doomed = record { rights = all_rights (space s t).list; kernel = Some p };
 }
 

@@ -23,12 +23,12 @@ tell-requires c =
 pub loop-notice-preserved : goal.loop-notice-preserved
 loop-notice-preserved c =
     let step = c.in-Some.ensures.steps in
-    told_on tell_destroyed (λ z q. notify_port z q (get z.ports q)) c.args.store.now c.loop-notice.store
-    c.tell.new.store c.args.notices.items (into_iter_items c.loop-notice.notice-iterator)
+    told_on tell_destroyed (λ z q. notify_port z q (get z.ports q)) c.args.store.now
+    c.loop-notice.store c.tell.new.store c.args.notices.items (into_iter_items c.loop-notice.notice-iterator)
     (into_iter_items c.next.new.self) c.in-Some.notice
     (into_iter_len c.loop-notice.notice-iterator) (into_iter_len c.next.new.self)
-    (λ z q qs. refl) (λ k z q. room_notify k z q (get z.ports q) (λ i. get z.ports q)) c.loop-notice.invariant
-    step.0 step.1 c.tell.ensures
+    (λ z q qs. refl) (λ k z q. room_notify k z q (get z.ports q) (λ i. get z.ports q))
+    c.loop-notice.invariant step.0 step.1 c.tell.ensures
 
 pub returns : goal.returns
 returns c =

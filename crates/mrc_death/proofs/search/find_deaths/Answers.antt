@@ -1,23 +1,13 @@
 use Rattle.std.proofs.Common.{◌∙◌, ◌≤◌, List, sym, refl, subst, arith, length}
 use Rattle.mrc_model.specs.World.{Held}
-use Rattle.mrc_death.specs.declared.search.Search.{Search}
 use Rattle.mrc_death.specs.Search.{Goes, Step}
 use Rattle.mrc_death.proofs.Following.{empty_kept, rights_go, begun, finished, finished_lost}
 use Rattle.mrc_death.proofs.search.find_deaths.Goals as goal
 
 pub kill_kernel-requires : goal.kill_kernel-requires
 kill_kernel-requires c =
-    let z : Search = record {
-      dead = c.new.result;
-      done = 0;
-      seen = c.new-2.result;
-      gone =
-          c.new-3.result;
-      heads = c.new-4.result;
-      links = c.new-5.result;
-    } in
     record {
-      kept = empty_kept c.args.store.now c.args.doomed.now z c.new.ensures.items refl
+      kept = empty_kept c.args.store.now c.args.doomed.now _ c.new.ensures.items refl
           c.new-2.ensures c.new-3.ensures c.new-4.ensures c.new-5.ensures.items;
     }
 
@@ -30,17 +20,8 @@ pub loop-search-init : goal.loop-search-init
 loop-search-init c =
     let s = c.args.store.now in
     let d = c.args.doomed.now in
-    let z : Search = record {
-      dead = c.new.result;
-      done = 0;
-      seen = c.new-2.result;
-      gone =
-          c.new-3.result;
-      heads = c.new-4.result;
-      links = c.new-5.result;
-    } in
     let y = c.kill_kernel.new.self in
-    begun s d z y c.lose_rights.new.self refl c.in_ok-kill_kernel.ensures.step
+    begun s d _ y c.lose_rights.new.self refl c.in_ok-kill_kernel.ensures.step
     c.in_ok-kill_kernel.ensures.kernel (subst (λ (hs : List Held). Step s d hs
     y c.lose_rights.new.self) c.rights.ensures c.in_ok-lose_rights.ensures)
 

@@ -1,5 +1,5 @@
 use Rattle.std.proofs.Common.{sym, ap, ◌∙◌, subst}
-use Rattle.mrc_death.specs.Plans.{Work, IsReadyFor, work_done}
+use Rattle.mrc_death.specs.Plans.{IsReadyFor, work_done}
 use Rattle.mrc_death.proofs.WorkLaws.{once_room, lost_room, all_done}
 use Rattle.mrc_death.proofs.plan.Work.apply.Goals as goal
 
@@ -9,42 +9,21 @@ apply-requires c =
 
 pub tell_once-requires : goal.tell_once-requires
 tell_once-requires c =
-    let w : Work = record {
-      task = c.self.inside.task;
-      removal = c.self.inside.removal;
-      dead = c.self.inside.dead;
-      once = c.self.inside.once.items;
-      lost = c.self.inside.lost.items;
-    } in
     let ready = subst (IsReadyFor c.args.store.now) (sym c.self.view_is) c.requires in
-    once_room c.args.store.now c.apply.new.store c.bury_all.new.self w ready c.apply.ensures
+    once_room c.args.store.now c.apply.new.store c.bury_all.new.self _ ready c.apply.ensures
     c.bury_all.ensures
 
 pub tell_destroyed-requires : goal.tell_destroyed-requires
 tell_destroyed-requires c =
-    let w : Work = record {
-      task = c.self.inside.task;
-      removal = c.self.inside.removal;
-      dead = c.self.inside.dead;
-      once = c.self.inside.once.items;
-      lost = c.self.inside.lost.items;
-    } in
     let ready = subst (IsReadyFor c.args.store.now) (sym c.self.view_is) c.requires in
-    lost_room c.args.store.now c.apply.new.store c.bury_all.new.self w ready c.apply.ensures
+    lost_room c.args.store.now c.apply.new.store c.bury_all.new.self _ ready c.apply.ensures
     c.bury_all.ensures c.tell_once.new.store
     c.tell_once.ensures
 
 pub returns : goal.returns
 returns c =
-    let w : Work = record {
-      task = c.self.inside.task;
-      removal = c.self.inside.removal;
-      dead = c.self.inside.dead;
-      once = c.self.inside.once.items;
-      lost = c.self.inside.lost.items;
-    } in
     let ready = subst (IsReadyFor c.args.store.now) (sym c.self.view_is) c.requires in
-    all_done c.args.store.now c.apply.new.store c.bury_all.new.self w ready c.apply.ensures
+    all_done c.args.store.now c.apply.new.store c.bury_all.new.self _ ready c.apply.ensures
     c.bury_all.ensures c.tell_once.new.store
     c.tell_destroyed.new.store c.tell_once.ensures c.tell_destroyed.ensures
     ∙ ap (work_done c.args.store.now) c.self.view_is

@@ -1,7 +1,8 @@
 use Rattle.std.proofs.Common.{◌==◌, refl, sym, ap, ◌∙◌, eq-eqb}
+use Rattle.std.proofs.lemmas.Bool.{not-false, not-true}
 use Rattle.mrc_model.specs.Death.{has}
 use Rattle.mrc_death.specs.declared.search.Search.{Search}
-use Rattle.mrc_death.proofs.Keeping.{killed, killed_before, from_not, from_not_false, has_push}
+use Rattle.mrc_death.proofs.Keeping.{killed, killed_before, has_push}
 use Rattle.mrc_model.proofs.Dying.{or_right}
 use Rattle.mrc_death.proofs.search.Search.kill.Goals as goal
 
@@ -18,9 +19,8 @@ returns-in_ok-push-clause-step c =
       links = z.links;
     } in
     killed c.args.store.now c.args.doomed.now z b c.args.port c.requires.kept c.requires.dies
-    (from_not c.in_ok-insert.field-0 (has z.seen c.args.port) c.in_ok-insert.ensures.new
-    c.if-branch.true) c.in_ok-push.ensures.items c.in_ok-insert.ensures.ok refl refl refl
-    refl
+    (not-true (has z.seen c.args.port) (sym c.in_ok-insert.ensures.new ∙ c.if-branch.true))
+    c.in_ok-push.ensures.items c.in_ok-insert.ensures.ok refl refl refl refl
 
 pub returns-in_ok-push-clause-dead : goal.returns-in_ok-push-clause-dead
 returns-in_ok-push-clause-dead c =
@@ -33,10 +33,10 @@ pub returns-else-branch-clause-step : goal.returns-else-branch-clause-step
 returns-else-branch-clause-step c =
     let z = c.args.self.now in
     killed_before c.args.store.now c.args.doomed.now z c.insert.new.self c.args.port
-    c.requires.kept (from_not_false c.in_ok-insert.field-0 (has z.seen c.args.port)
-    c.in_ok-insert.ensures.new c.if-branch.false) c.in_ok-insert.ensures.ok
+    c.requires.kept (not-false (has z.seen c.args.port)
+    (sym c.in_ok-insert.ensures.new ∙ c.if-branch.false)) c.in_ok-insert.ensures.ok
 
 pub returns-else-branch-clause-dead : goal.returns-else-branch-clause-dead
 returns-else-branch-clause-dead c = sym (c.requires.kept.same c.args.port)
-    ∙ from_not_false c.in_ok-insert.field-0 (has c.args.self.now.seen c.args.port)
-    c.in_ok-insert.ensures.new c.if-branch.false
+    ∙ not-false (has c.args.self.now.seen c.args.port)
+    (sym c.in_ok-insert.ensures.new ∙ c.if-branch.false)
