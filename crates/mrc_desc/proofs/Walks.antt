@@ -1,18 +1,22 @@
 -- Going over arguments one after the other, as loops do.
 use Rattle.std.proofs.Common.{◌≡◌, ◌↔◌, ℕ, zero, suc, ◌+◌, ◌-◌, ◌<◌, ◌≤◌, List, [], ◌∷◌, ◌++◌}
 use Rattle.std.proofs.Common.{length, get_or, drop, refl, sym, ap, ◌∙◌, append_assoc, arith}
-use Rattle.std.proofs.Common.{length-append, Result, Ok, Err}
+use Rattle.std.proofs.Common.{Result, Ok, Err, Bool, ◌||◌, inl, inr}
 use Rattle.std.specs.List.{flat_map, All, AllByRecursion}
+use Rattle.std.proofs.Math.Bool.{or-false, or_assoc}
+use Rattle.std.proofs.lemmas.Bool.{cases_Bool, cond-true, cond-false}
 use Rattle.std.proofs.lemmas.List.{drop_more, append-nil}
 use Rattle.std.proofs.lemmas.List.Elements.{All-from_recursion}
-use Rattle.mrc_model.specs.Message.{Arg, arg_bytes}
+use Rattle.mrc_base.specs.Disposition.{is_port_number}
+use Rattle.mrc_model.specs.Message.{Arg, arg_bytes, is_port_arg, any_port_arg}
+use Rattle.mrc_desc.specs.declared.argument.Desc.{Desc}
 use Rattle.mrc_desc.specs.declared.argument.Argument.{Argument}
 use Rattle.mrc_desc.specs.Lawful.{IsLawfulArg}
 use Rattle.mrc_desc.specs.declared.fault.ReadFault.{ReadFault}
 use Rattle.mrc_base.specs.declared.memory.OrMemory.{OrMemory}
 use Rattle.mrc_base.specs.declared.memory.OrMemory.TheVariants.{Fault, Memory}
 use Rattle.mrc_base.specs.Reading.{◌>>=◌, Refuses}
-use Rattle.mrc_desc.specs.Reading.{arg_at, args_at, args_of}
+use Rattle.mrc_desc.specs.Reading.{arg_at, arg_with, args_at, args_of}
 use Rattle.mrc_desc.specs.View.{argument_of, arguments_of}
 
 -- what is left of a list begins with the item at the index
@@ -34,20 +38,6 @@ each_lawful args lawful = All-from_recursion (λ a. IsLawfulArg (argument_of a))
 -- the arguments are lawful and fit into so many bytes
 abbrev pub AreLawfulIn : ℕ → List Arg → Type 0
 AreLawfulIn room args = AllByRecursion IsLawfulArg args × (length (flat_map arg_bytes args) ≤ room)
-
-pub lawful_more : (room size : ℕ) (a : Arg) (args : List Arg) → IsLawfulArg a
-    → size ≡ length (arg_bytes a) → size ≤ room → AreLawfulIn (room - size) args
-    ↔ AreLawfulIn room (a ∷ args)
-lawful_more room size a args h is fits = (
-  λ l. ((h, l.0), omega (arith, l.1, length-append (arg_bytes a) (flat_map arg_bytes args))),
-  λ l. (l.0.1, omega (arith, l.1, length-append (arg_bytes a) (flat_map arg_bytes args))),
-)
-
--- an argument that is longer than the room is in no such list
-pub too_large : (room size : ℕ) (a : Arg) (args : List Arg) → size ≡ length (arg_bytes a)
-    → room < size → AreLawfulIn room (a ∷ args) → ⊥
-too_large room size a args is large l =
-    omega (arith, l.1, length-append (arg_bytes a) (flat_map arg_bytes args))
 
 -- what was read before, and what is still read
 abbrev pub with_front : List Arg → Result (List Arg) ReadFault → Result (List Arg) ReadFault
@@ -142,3 +132,27 @@ pub is_done_from : (front : List Arg) (total : ℕ) (bytes : List ℕ)
     → all ≡ Ok front
 is_done_from front total bytes all h (steps, enough, so_far) =
     is_done front total steps bytes all h so_far
+
+is_port_with : (desc : Desc) (items : List ℕ)
+    → is_port_arg (arg_with desc items) ≡ is_port_number desc.name
+is_port_with desc items =
+    elim (cases_Bool (is_port_number desc.name)) [
+      | inl port ↦ ap is_port_arg (cond-true (is_port_number desc.name) _ _ port) ∙ sym port
+      | inr other ↦ ap is_port_arg (cond-false (is_port_number desc.name) _ _ other) ∙ sym other
+    ]
+
+any_port_more : (front : List Arg) (a : Arg)
+    → any_port_arg (front ++ a ∷ []) ≡ any_port_arg front || is_port_arg a
+any_port_more [] a = or-false (is_port_arg a)
+any_port_more (f ∷ front) a =
+    ap (λ (x : Bool). is_port_arg f || x) (any_port_more front a)
+    ∙ sym (or_assoc (is_port_arg f) (any_port_arg front) (is_port_arg a))
+
+-- whether an argument has port rights, with one argument more
+pub any_port_after : (front : List Arg) (desc : Desc) (items : List ℕ) (ports port : Bool)
+    → any_port_arg front ≡ ports → port ≡ is_port_number desc.name
+    → any_port_arg (front ++ arg_with desc items ∷ []) ≡ ports || port
+any_port_after front desc items ports port so_far is =
+    any_port_more front (arg_with desc items)
+    ∙ ap (λ (x : Bool). x || is_port_arg (arg_with desc items)) so_far
+    ∙ ap (λ (x : Bool). ports || x) (is_port_with desc items ∙ sym is)

@@ -33,7 +33,7 @@ use Rattle.mrc_desc.proofs.Bodies.{TakesArgs, args_take, args_again}
 
 -- ---- the first word of a header
 
-pub same_is : (a b : Bool) → beq a b ≡ true → a ≡ b
+same_is : (a b : Bool) → beq a b ≡ true → a ≡ b
 same_is true true h = refl
 same_is true false h = absurd cc
 same_is false true h = absurd cc
@@ -171,17 +171,6 @@ pub record Starts (bytes : List ℕ) : Type 0 where
   pub admitted : is_admitted (header_at bytes).remote_disp (header_at bytes).local_disp
       (header_at bytes).local_port ≡ true
 
-pub starts_from : (bytes : List ℕ) (header : Header) → header ≡ header_at bytes → 24 ≤ length bytes
-    → length bytes ≤ limit_of_message
-    → is_admitted header.remote_disp header.local_disp header.local_port ≡ true → Starts bytes
-starts_from bytes header is enough within admitted =
-    record {
-      enough = enough;
-      within = within;
-      admitted = ap
-          (λ (h : Header). is_admitted h.remote_disp h.local_disp h.local_port) (sym is) ∙ admitted;
-    }
-
 -- what remains to be tested of arguments that are read
 abbrev finished : List ℕ → List Arg → Result Message ReadFault
 finished bytes args = cond (beq (is_complex bytes) (any_port_arg args))
@@ -204,18 +193,12 @@ lawful_read bytes args fits s read =
     (args_take (length bytes) (length (drop 24 bytes)) (drop 24 bytes) args
     (IsBytes-drop 24 bytes fits) read)
 
-pub message_read : (bytes : List ℕ) (args : List Arg) → Starts bytes → args_of bytes ≡ Ok args
+message_read : (bytes : List ℕ) (args : List Arg) → Starts bytes → args_of bytes ≡ Ok args
     → is_complex bytes ≡ any_port_arg args
     → message_at bytes ≡ Ok (with_args (header_at bytes) args)
 message_read bytes args s read complex =
     message_start bytes s ∙ bind_again (args_of bytes) (λ args. finished bytes args) args read
     ∙ cond-true (beq (is_complex bytes) (any_port_arg args)) _ _ (same_again _ _ complex)
-
-pub complex_differs : (bytes : List ℕ) (args : List Arg) → Starts bytes → args_of bytes ≡ Ok args
-    → beq (is_complex bytes) (any_port_arg args) ≡ false → message_at bytes ≡ Err ComplexDiffers
-complex_differs bytes args s read differs =
-    message_start bytes s ∙ bind_again (args_of bytes) (λ args. finished bytes args) args read
-    ∙ cond-false (beq (is_complex bytes) (any_port_arg args)) _ _ differs
 
 -- the first fault of the arguments is that of the message
 pub args_fail : (refusal : OrMemory ReadFault) (bytes : List ℕ)
@@ -227,14 +210,14 @@ args_fail refusal bytes s h =
     (sym (message_start bytes s))
     (refuses_then refusal (args_of bytes) (λ args. finished bytes args) h)
 
-record Steps (bytes : List ℕ) (m : Message) : Type 0 where
-  args : List Arg
-  starts : Starts bytes
-  args_read : args_of bytes ≡ Ok args
-  complex : is_complex bytes ≡ any_port_arg args
-  made : with_args (header_at bytes) args ≡ m
+pub record Steps (bytes : List ℕ) (m : Message) : Type 0 where
+  pub args : List Arg
+  pub starts : Starts bytes
+  pub args_read : args_of bytes ≡ Ok args
+  pub complex : is_complex bytes ≡ any_port_arg args
+  pub made : with_args (header_at bytes) args ≡ m
 
-steps_of : (bytes : List ℕ) (m : Message) → message_at bytes ≡ Ok m → Steps bytes m
+pub steps_of : (bytes : List ℕ) (m : Message) → message_at bytes ≡ Ok m → Steps bytes m
 unfolding message_at
 steps_of bytes m e =
     let a = not_stopped (ltb (length bytes) 24) TooShort _ m e in
@@ -255,6 +238,17 @@ steps_of bytes m e =
       }
       | inr h ↦ let wrong = h.1 in absurd cc
     ]
+
+-- what is read of bytes that are a message is that message's
+pub message_made : (bytes : List ℕ) (m : Message) (header : Header) (args : List Arg)
+    → message_at bytes ≡ Ok m → header_at bytes ≡ header → args_of bytes ≡ Ok args
+    → message_at bytes ≡ Ok (with_args header args)
+message_made bytes m header args e is read =
+    let s = steps_of bytes m e in
+    let same : s.args ≡ args = ok_is s.args args (sym s.args_read ∙ read) in
+    e ∙ ap (λ (x : Message). Ok x) (sym s.made
+    ∙ ap (λ (xs : List Arg). with_args (header_at bytes) xs) same
+    ∙ ap (λ (h : Header). with_args h args) is)
 
 pub message_takes : (bytes : List ℕ) (m : Message) → IsBytes bytes → message_at bytes ≡ Ok m
     → Spells bytes m

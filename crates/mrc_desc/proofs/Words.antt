@@ -30,9 +30,6 @@ IsBytes-take n bytes h i =
           (omega arith)
     ]
 
-IsBytes-rest : (b : ℕ) (bytes : List ℕ) → IsBytes (b ∷ bytes) → IsBytes bytes
-IsBytes-rest b bytes h i = h (suc i)
-
 -- four bytes are those of the number that they make
 word_four : (a b c d : ℕ) → IsBytes (a ∷ b ∷ c ∷ d ∷ [])
     → word (word_at (a ∷ b ∷ c ∷ d ∷ [])) ≡ a ∷ b ∷ c ∷ d ∷ []

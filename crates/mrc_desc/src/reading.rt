@@ -1,9 +1,10 @@
 //! Reading a message.
 
-ghost use Rattle.std.specs.Prelude.{◌≡◌, ◌≤◌, ◌<◌, length, IfOk, Ok};
+ghost use Rattle.std.specs.Prelude.{◌≡◌, ◌≤◌, ◌<◌, length, IfOk, IsOk, Ok, Err};
 ghost use Rattle.std.specs.Result.{result_map_both};
 ghost use Rattle.mrc_base.specs.Reading.{Gives};
-ghost use Rattle.mrc_model.specs.Message.{Message};
+ghost use Rattle.mrc_base.specs.declared.memory.OrMemory.TheVariants.{Memory};
+ghost use Rattle.mrc_model.specs.Message.{Message, any_port_arg};
 ghost use Rattle.mrc_desc.specs.Descriptor.{half_at, word_at};
 ghost use Rattle.mrc_desc.specs.Lawful.{is_admitted};
 ghost use Rattle.mrc_desc.specs.Spelling.{Spells};
@@ -14,9 +15,9 @@ ghost use Rattle.mrc_desc.specs.View.{argument_of, arguments_of};
 use crate::argument::{Argument, Desc, FirstWord, first_word, padding_len};
 use crate::fault::ReadFault;
 use crate::lists::{Bytes, Names};
-use crate::message::{Arguments, HEADER_SIZE, Header, Message, any_ports};
+use crate::message::{Arguments, HEADER_SIZE, Header, Message};
 use byteorder::{ByteOrder, LittleEndian};
-use mrc_base::{Disp, OrMemory, limits};
+use mrc_base::{Disp, OrMemory, is_port_number, limits};
 use std::alloc::{AllocError, Global};
 
 fn half_at(bytes: &[u8]) -> u16
@@ -113,31 +114,46 @@ fn arg_with(alloc: Global, desc: Desc, bytes: &[u8]) -> Result<Argument, AllocEr
     }
 }
 
+/// The data of a descriptor at the front, and the bytes after its padding.
 #[tactic(auto, unfolding(crate::specs::Reading::data_at))]
-fn data_at(
-    alloc: Global,
-    at: usize,
-    desc: Desc,
-    bytes: &[u8],
-) -> Result<(Argument, &[u8]), OrMemory<ReadFault>>
-    ensures fault { Gives (λ x. (argument_of x.0, x.1.now)) result (data_at at desc bytes.now) }
+fn data_at(at: usize, desc: Desc, bytes: &[u8]) -> Result<(&[u8], &[u8]), ReadFault>
+    ensures fault { result_map_both (λ x. (arg_with desc x.0.now, x.1.now)) (λ fault. fault) result
+        ≡ data_at at desc bytes.now }
     ensures within { IfOk result (λ x. length x.1.now ≤ length bytes.now) }
 {
     let len = desc.data_len();
     let padded = len + padding_len(len);
     if bytes.len() < padded {
-        return Err(ReadFault::Truncated(at).into());
+        return Err(ReadFault::Truncated(at));
     }
-    Ok((arg_with(alloc, desc, &bytes[..len])?, &bytes[padded..]))
+    Ok((&bytes[..len], &bytes[padded..]))
 }
 
+/// The descriptor at the front, its data, and the bytes after their padding.
 #[tactic(auto, unfolding(crate::specs::Reading::arg_at))]
-fn arg_at(alloc: Global, at: usize, bytes: &[u8]) -> Result<(Argument, &[u8]), OrMemory<ReadFault>>
-    ensures fault { Gives (λ x. (argument_of x.0, x.1.now)) result (arg_at at bytes.now) }
-    ensures within { IfOk result (λ x. length x.1.now < length bytes.now) }
+fn arg_at(at: usize, bytes: &[u8]) -> Result<(Desc, &[u8], &[u8]), ReadFault>
+    ensures fault { result_map_both (λ x. (arg_with x.0 x.1.now, x.2.now)) (λ fault. fault) result
+        ≡ arg_at at bytes.now }
+    ensures within { IfOk result (λ x. length x.2.now < length bytes.now) }
 {
     let (desc, rest) = desc_at(at, bytes)?;
-    data_at(alloc, at, desc, rest)
+    let (items, after) = data_at(at, desc, rest)?;
+    Ok((desc, items, after))
+}
+
+/// Whether an argument behind the header has port rights, or the first fault of the arguments.
+fn has_ports(bytes: &[u8]) -> Result<bool, ReadFault>
+    requires { 24 ≤ length bytes.now }
+    ensures { result ≡ result_map_both any_port_arg (λ fault. fault) (args_of bytes.now) }
+{
+    let mut ports = false;
+    let (_, mut rest) = bytes.split_at(HEADER_SIZE);
+    while !rest.is_empty() {
+        let (desc, _items, after) = arg_at(bytes.len() - rest.len(), rest)?;
+        ports |= is_port_number(desc.name);
+        rest = after;
+    }
+    Ok(ports)
 }
 
 /// The arguments behind the header.
@@ -148,7 +164,8 @@ fn args_of(alloc: Global, bytes: &[u8]) -> Result<Arguments, OrMemory<ReadFault>
     let mut args = Vec::new(alloc);
     let (_, mut rest) = bytes.split_at(HEADER_SIZE);
     while !rest.is_empty() {
-        let (argument, after) = arg_at(alloc, bytes.len() - rest.len(), rest)?;
+        let (desc, items, after) = arg_at(bytes.len() - rest.len(), rest)?;
+        let argument = arg_with(alloc, desc, items)?;
         args.push(argument)?;
         rest = after;
     }
@@ -186,31 +203,42 @@ fn is_complex(bytes: &[u8]) -> bool
     word_at(bytes) >> 31 == 1
 }
 
+/// The header of bytes that encode a message, or the first fault. It takes no memory.
 #[tactic(auto, unfolding(crate::specs::Reading::message_at))]
-fn message_at(alloc: Global, bytes: &[u8]) -> Result<Message, OrMemory<ReadFault>>
-    ensures { Gives (λ m. m) result (message_at bytes.now) }
+fn checked(bytes: &[u8]) -> Result<Header, ReadFault>
+    ensures { result
+        ≡ result_map_both (λ m. header_at bytes.now) (λ fault. fault) (message_at bytes.now) }
 {
     if bytes.len() < HEADER_SIZE {
-        return Err(ReadFault::TooShort.into());
+        return Err(ReadFault::TooShort);
     }
     if bytes.len() > limits::MESSAGE {
-        return Err(ReadFault::TooLong.into());
+        return Err(ReadFault::TooLong);
     }
     let header = header_at(bytes);
     if !is_admitted(header) {
-        return Err(ReadFault::BadHeaderDisp.into());
+        return Err(ReadFault::BadHeaderDisp);
     }
+    if is_complex(bytes) != has_ports(bytes)? {
+        return Err(ReadFault::ComplexDiffers);
+    }
+    Ok(header)
+}
+
+/// The message of the bytes. They are read twice: first for a fault, then for the arguments.
+fn message_at(alloc: Global, bytes: &[u8]) -> Result<Message, OrMemory<ReadFault>>
+    ensures fault { Gives (λ m. m) result (message_at bytes.now) }
+    ensures last { result ≡ Err Memory → IsOk (message_at bytes.now) }
+{
+    let header = checked(bytes)?;
     let args = args_of(alloc, bytes)?;
-    if is_complex(bytes) != any_ports(args.as_slice()) {
-        return Err(ReadFault::ComplexDiffers.into());
-    }
     Ok(Message { header, args })
 }
 
-/// The message that the bytes spell, all of them. Its `seqno` is 0. The first fault is answered:
+/// The message that the bytes encode, all of them. Its `seqno` is 0. The first fault is returned:
 /// those of the size and of the header before those of the arguments, which come in the order of
-/// the bytes, and last that of the complex bit. Where memory runs out, that is answered in its
-/// place.
+/// the bytes, and last that of the complex bit. Out of memory is returned only if there is no
+/// fault.
 pub fn read_message(alloc: Global, bytes: &[u8]) -> Result<Message, OrMemory<ReadFault>>
     // What is read is spelled so.
     ensures found { IfOk result (λ m. Spells bytes.now m) }
@@ -218,6 +246,8 @@ pub fn read_message(alloc: Global, bytes: &[u8]) -> Result<Message, OrMemory<Rea
     ensures only { (m : Message) → Spells bytes.now m → Gives (λ m. m) result (Ok m) }
     // Which fault it is: the first.
     ensures fault { Gives (λ m. m) result (message_at bytes.now) }
+    // Out of memory comes last: the bytes have no fault.
+    ensures last { result ≡ Err Memory → IsOk (message_at bytes.now) }
 {
     message_at(alloc, bytes)
 }

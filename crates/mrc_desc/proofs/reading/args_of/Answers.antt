@@ -1,7 +1,10 @@
-use Rattle.std.proofs.Common.{◌≡◌, ◌++◌, ◌∷◌, [], ◌<◌, length, arith}
+use Rattle.std.proofs.Common.{◌≡◌, ◌++◌, ◌∷◌, [], ◌<◌, length, sym, ap, ◌∙◌, arith}
 use Rattle.std.proofs.lemmas.Result.{err_from_is_err_and}
 use Rattle.std.proofs.lemmas.List.{map_push}
-use Rattle.mrc_desc.specs.View.{argument_of, arguments_of}
+use Rattle.mrc_base.specs.declared.memory.OrMemory.TheVariants.{Fault}
+use Rattle.mrc_model.specs.Message.{Arg}
+use Rattle.mrc_desc.specs.Reading.{arg_with}
+use Rattle.mrc_desc.specs.View.{arguments_of}
 use Rattle.mrc_desc.proofs.Walks.{begins, goes_on_from, ends_from, is_done_from}
 use Rattle.mrc_desc.proofs.reading.args_of.Goals as goal
 
@@ -12,28 +15,29 @@ loop-rest-init c = (
       (begins c.args.bytes.now c.split_at.result.1.now c.split_at.ensures.back),
 )
 
-pub returns-in_err-argument : goal.returns-in_err-argument
-returns-in_err-argument c =
+pub returns-in_err-desc : goal.returns-in_err-desc
+returns-in_err-desc c =
     let p = err_from_is_err_and c.from_residual.result c.from_residual.ensures.1 in
     let some : 0 < length c.loop-rest.rest.now = grind arith in
     rw (p.1, p.2)
-    (ends_from c.in_err-argument.field-0.0 (arguments_of c.loop-rest.args.items)
-    (length c.args.bytes.now) c.loop-rest.rest.now _ some c.in_err-argument.ensures.fault
+    (ends_from (Fault c.in_err-desc.field-0.0) (arguments_of c.loop-rest.args.items)
+    (length c.args.bytes.now) c.loop-rest.rest.now _ some (sym c.in_err-desc.ensures.fault)
     c.loop-rest.invariant.1)
 
 pub loop-rest-preserved : goal.loop-rest-preserved
 loop-rest-preserved c =
+    let argument = arg_with c.in_ok-desc.desc c.in_ok-desc.items.now in
     let e : arguments_of c.push.new.self.items ≡ arguments_of c.loop-rest.args.items
-    ++ argument_of c.in_ok-argument.argument ∷ [] =
+    ++ argument ∷ [] =
     rw c.in_ok-push.ensures.items
-    (map_push _ c.loop-rest.args.items c.in_ok-argument.argument) in
+    (map_push _ c.loop-rest.args.items c.in_ok-argument.argument)
+    ∙ ap (λ (a : Arg). arguments_of c.loop-rest.args.items ++ a ∷ []) c.in_ok-argument.ensures in
     let some : 0 < length c.loop-rest.rest.now = grind arith in (
-      grind (arith, c.in_ok-argument.ensures.within, c.loop-rest.invariant.0),
+      grind (arith, c.in_ok-desc.ensures.within, c.loop-rest.invariant.0),
       rw e
           (goes_on_from (arguments_of c.loop-rest.args.items) (length c.args.bytes.now)
-          c.loop-rest.rest.now (argument_of c.in_ok-argument.argument) c.in_ok-argument.after.now _
-          some c.in_ok-argument.ensures.within c.in_ok-argument.ensures.fault
-          c.loop-rest.invariant.1),
+          c.loop-rest.rest.now argument c.in_ok-desc.after.now _ some c.in_ok-desc.ensures.within
+          (sym c.in_ok-desc.ensures.fault) c.loop-rest.invariant.1),
     )
 
 pub returns : goal.returns
