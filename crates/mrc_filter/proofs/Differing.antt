@@ -3,6 +3,7 @@ use Rattle.std.proofs.Common.{◌≡◌, ℕ, zero, suc, ◌+◌, Bool, true, fa
 use Rattle.std.proofs.Common.{◌∷◌, Option, Some, None, refl, ap, sym, subst, ◌∙◌, arith}
 use Rattle.std.specs.Prelude.{slice_get, ◌==◌, nat_le, if◌then◌else◌}
 use Rattle.std.proofs.lemmas.Bool.{and_parts, and_from, leb-true, le-leb, eqb-true, eq-eqb}
+use Rattle.std.proofs.lemmas.Bool.{true≢false}
 use Rattle.mrc_base.specs.Disposition.{is_port_number}
 use Rattle.mrc_model.specs.declared.Denied.{Denied}
 use Rattle.mrc_model.specs.declared.Denied.TheVariants.{NoSuchId, WrongShape, WrongDisposition}
@@ -57,9 +58,6 @@ Tells k s a (Some NotGiven) = ⊥
 Tells k s a (Some (NotSent n)) = ⊥
 Tells k s a (Some NotForReply) = ⊥
 
-contradict : true ≡ false → ⊥
-contradict h = cc
-
 -- the same if the types of the shape are these
 abbrev TellsBy : ItemTypes → ℕ → Shape → Arg → Option Denied → Type 0
 TellsBy types k s a o = s.types ≡ types → Tells k s a o
@@ -68,7 +66,7 @@ any_data_tells : (k : ℕ) (s : Shape) (a : Arg) (b : Bool) → is_port_arg a �
     → TellsBy AnyData k s a (if b then Some (WrongShape k) else None)
 any_data_tells k s a true e same = (
   refl,
-  λ met. contradict (sym e ∙ subst (λ types. IsMetBy types s a) same met),
+  λ met. true≢false (sym e ∙ subst (λ types. IsMetBy types s a) same met),
   λ other. subst (λ types. HasOtherNameBy types s a) same other,
 )
 any_data_tells k s a false e same = subst (λ types. IsMetBy types s a) (sym same) e
@@ -87,10 +85,10 @@ ported k s a numbers true e size none same =
 ported k s a numbers false e size none same = (
   refl,
   λ met.
-      let is = subst (λ types. IsMetBy types s a) same met in contradict (sym is.1 ∙ none),
+      let is = subst (λ types. IsMetBy types s a) same met in true≢false (sym is.1 ∙ none),
   λ other.
       let is = subst (λ types. HasOtherNameBy types s a) same other in
-      contradict (sym (and_from (list_any is_port_number numbers) (is_port_number (arg_name a))
+      true≢false (sym (and_from (list_any is_port_number numbers) (is_port_number (arg_name a))
       is.2 is.3) ∙ e),
 )
 
@@ -118,10 +116,10 @@ sized k s a numbers false e same = (
   refl,
   λ met.
       let is = subst (λ types. IsMetBy types s a) same met in
-      contradict (sym (fits_size s a is.0) ∙ e),
+      true≢false (sym (fits_size s a is.0) ∙ e),
   λ other.
       let is = subst (λ types. HasOtherNameBy types s a) same other in
-      contradict (sym (fits_size s a is.0) ∙ e),
+      true≢false (sym (fits_size s a is.0) ∙ e),
 )
 
 tells_by : (types : ItemTypes) (k : ℕ) (s : Shape) (a : Arg)
@@ -136,7 +134,7 @@ tells k s a = tells_by s.types k s a refl
 other_is_not_met : (types : ItemTypes) (s : Shape) (a : Arg) → HasOtherNameBy types s a
     → IsMetBy types s a → ⊥
 other_is_not_met AnyData s a other met = other
-other_is_not_met (OneOf numbers) s a other met = contradict (sym met.1 ∙ other.1)
+other_is_not_met (OneOf numbers) s a other met = true≢false (sym met.1 ∙ other.1)
 
 -- ---- the answer of such an argument
 

@@ -1,8 +1,9 @@
 -- How arguments meet shapes, place by place.
-use Rattle.std.proofs.Common.{◌≡◌, ℕ, zero, suc, ◌+◌, ◌<◌, ◌≤◌, Bool, true, false, List, [], ◌∷◌}
+use Rattle.std.proofs.Common.{◌≡◌, ℕ, ◌+◌, ◌<◌, ◌≤◌, Bool, true, false, List, [], ◌∷◌}
 use Rattle.std.proofs.Common.{length, drop, cond, Option, Some, None, refl, ap, sym, ◌∙◌}
-use Rattle.std.proofs.Common.{arith, get_or, add-one, drop-cons}
-use Rattle.std.proofs.lemmas.List.{get_or_default}
+use Rattle.std.proofs.Common.{arith, get_or}
+use Rattle.std.proofs.Math.Bool.{or-false}
+use Rattle.std.proofs.lemmas.List.{drop_all, get_or_default}
 use Rattle.mrc_model.specs.declared.Denied.{Denied}
 use Rattle.mrc_model.specs.declared.Denied.TheVariants.{WrongShape}
 use Rattle.mrc_model.specs.Message.{Arg, Data, Ports}
@@ -12,6 +13,7 @@ use Rattle.mrc_model.specs.declared.Denied.TheVariants.{WrongDisposition}
 use Rattle.mrc_model.specs.Filter.{arg_name, has_size, difference, or_behind, first_difference}
 use Rattle.mrc_desc.specs.declared.argument.Argument.{Argument}
 use Rattle.mrc_desc.specs.View.{argument_of, arguments_of, desc_of}
+use Rattle.mrc_desc.proofs.Walks.{item_first}
 use Rattle.mrc_model.specs.Wiring.{OneOf, Shape}
 
 -- what a descriptor says is what the filter looks at
@@ -37,32 +39,14 @@ of_one_type i name s a e =
     ∙ ap (λ b. cond (has_size s a) (cond b None
     (cond ((is_port_number name || false) && is_port_number (arg_name a))
     (Some (WrongDisposition i)) (Some (WrongShape i)))) (Some (WrongShape i)))
-    (or_nothing (name == arg_name a))
+    (or-false (name == arg_name a))
     ∙ ap (λ b. cond (has_size s a) (cond (name == arg_name a) None
     (cond (b && is_port_number (arg_name a)) (Some (WrongDisposition i))
-    (Some (WrongShape i)))) (Some (WrongShape i))) (or_nothing (is_port_number name))
-  where
-    or_nothing : (b : Bool) → (b || false) ≡ b
-    or_nothing true = refl
-    or_nothing false = refl
+    (Some (WrongShape i)))) (Some (WrongShape i))) (or-false (is_port_number name))
 
 -- the first difference from place i on
 abbrev pub differs_from : ℕ → List Shape → List Argument → Option Denied
 differs_from i shapes args = first_difference i (drop i shapes) (arguments_of (drop i args))
-
--- what stands at a place, and what is behind it
-pub at_place : {X : Type 0} (xs : List X) (i : ℕ) (x : X) → i < length xs → x ≡ get_or xs i x
-    → drop i xs ≡ x ∷ drop (i + 1) xs
-at_place {X} xs i x less e =
-    drop-cons xs i x less
-    ∙ ap (λ n. get_or xs i x ∷ drop n xs) (sym (add-one i))
-    ∙ ap (λ (y : X). y ∷ drop (i + 1) xs) (sym e)
-
-pub past : {X : Type 0} (xs : List X) (i : ℕ) → length xs ≤ i → drop i xs ≡ []
-past [] zero more = refl
-past [] (suc i) more = refl
-past (x ∷ xs) zero more = absurd (omega arith)
-past (x ∷ xs) (suc i) more = past xs i (omega arith)
 
 -- one place more
 pub place_turn : (i : ℕ) (shapes : List Shape) (args : List Argument) (shape : Shape)
@@ -75,9 +59,9 @@ pub place_turn : (i : ℕ) (shapes : List Shape) (args : List Argument) (shape :
 place_turn i shapes args shape a here all less is there said told so_far =
     so_far
     ∙ ap (λ xs. first_difference i xs (arguments_of (drop i args)))
-    (at_place shapes i shape there said)
+    (item_first shapes i shape there said)
     ∙ ap (λ ys. first_difference i (shape ∷ drop (i + 1) shapes) (arguments_of ys))
-    (at_place args i a less is)
+    (item_first args i a less is)
     ∙ ap (λ o. or_behind o (differs_from (i + 1) shapes args)) (sym told)
 
 -- an argument that the form does not have
@@ -89,8 +73,8 @@ pub extra : (i : ℕ) (shapes : List Shape) (args : List Argument) (a : Argument
     → Some (WrongShape i) ≡ all
 extra i shapes args a all less is more so_far =
     sym (so_far
-    ∙ ap (λ xs. first_difference i xs (arguments_of (drop i args))) (past shapes i more)
-    ∙ ap (λ ys. first_difference i [] (arguments_of ys)) (at_place args i a less is))
+    ∙ ap (λ xs. first_difference i xs (arguments_of (drop i args))) (drop_all i shapes more)
+    ∙ ap (λ ys. first_difference i [] (arguments_of ys)) (item_first args i a less is))
 
 -- an argument that is missing
 pub missing : (i : ℕ) (shapes : List Shape) (args : List Argument) (all : Option Denied)
@@ -101,8 +85,8 @@ pub missing : (i : ℕ) (shapes : List Shape) (args : List Argument) (all : Opti
 missing i [] args all more less so_far = absurd (omega arith)
 missing i (x ∷ xs) args all more less so_far =
     sym (so_far
-    ∙ ap (λ ys. first_difference i (drop i (x ∷ xs)) (arguments_of ys)) (past args i more)
-    ∙ ap (λ zs. first_difference i zs []) (at_place (x ∷ xs) i (get_or (x ∷ xs) i x) less
+    ∙ ap (λ ys. first_difference i (drop i (x ∷ xs)) (arguments_of ys)) (drop_all i args more)
+    ∙ ap (λ zs. first_difference i zs []) (item_first (x ∷ xs) i (get_or (x ∷ xs) i x) less
     (get_or_default (x ∷ xs) i x (get_or (x ∷ xs) i x) less)))
 
 -- and none is
@@ -113,5 +97,5 @@ pub all_met : (i : ℕ) (shapes : List Shape) (args : List Argument) (all : Opti
     → None ≡ all
 all_met i shapes args all more less so_far =
     sym (so_far
-    ∙ ap (λ ys. first_difference i (drop i shapes) (arguments_of ys)) (past args i more)
-    ∙ ap (λ zs. first_difference i zs []) (past shapes i less))
+    ∙ ap (λ ys. first_difference i (drop i shapes) (arguments_of ys)) (drop_all i args more)
+    ∙ ap (λ zs. first_difference i zs []) (drop_all i shapes less))

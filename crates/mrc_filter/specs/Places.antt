@@ -2,15 +2,21 @@
 use Rattle.std.specs.Prelude.{◌≡◌, ℕ, List, Some, Result, Ok, Err, if◌then◌else◌}
 use Rattle.mrc_model.specs.declared.Denied.{Denied}
 use Rattle.mrc_model.specs.declared.Denied.TheVariants.{NotAdmitted}
-use Rattle.mrc_model.specs.Wiring.{Wiring, Shape, Form as ModelForm, admits}
+use Rattle.mrc_model.specs.Filter.{judge}
+use Rattle.mrc_model.specs.Message.{Message}
+use Rattle.mrc_model.specs.Wiring.{Wiring, Shape, admits}
 use Rattle.mrc_wiring.specs.Finding.{form_at, sort_at}
 use Rattle.mrc_filter.specs.declared.form.Form.{Form}
 
--- what is answered is what is given, where a form is answered with the place at which it stands
-abbrev pub IsJudged : Wiring → Result Form Denied → Result ModelForm Denied → Type 0
-IsJudged W (Ok form) given =
-    (form_at W form.class form.item form.id ≡ Some form.found.now) × (given ≡ Ok form.found.now)
-IsJudged W (Err denied) given = given ≡ Err denied
+-- What the filter answers of a message to a port of the class. A form is answered with the place of
+-- its item in the class's label, and with its id, which is the message's. No label has two forms of
+-- one id, so there is no other such place.
+abbrev pub IsJudged : Wiring → ℕ → Message → Result Form Denied → Type 0
+IsJudged W class m (Ok form) =
+    (form_at W class form.item form.id ≡ Some form.found.now)
+    × (judge W class m ≡ Ok form.found.now)
+    × (form.id ≡ m.id)
+IsJudged W class m (Err denied) = judge W class m ≡ Err denied
 
 -- whether argument i of a form with these arguments may carry a port of class c
 abbrev pub admitted : Wiring → List Shape → ℕ → ℕ → Result (Unit {0}) Denied

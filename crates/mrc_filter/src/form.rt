@@ -1,13 +1,10 @@
-//! Forms that classes accept, by where they stand.
+//! Forms that classes accept, with their places.
 
-use mrc_base::ClassId;
 use mrc_wiring::TypedForm;
 
-/// A form that a class accepts, and where it stands in the wiring by which a message was judged.
+/// A form that a class accepts, and its place in the wiring by which a message was judged.
 #[derive(Clone, Copy, Debug)]
 pub struct Form<'w> {
-    /// The class.
-    pub class: ClassId,
     /// The place of the form's item in the class's label, from 0.
     pub item: usize,
     /// The id of its messages.

@@ -1,6 +1,5 @@
 //! Judging messages.
 
-ghost use Rattle.mrc_model.specs.Filter.{judge};
 ghost use Rattle.mrc_wiring.specs.Table.{wiring_of};
 ghost use Rattle.mrc_filter.specs.Places.{IsJudged};
 
@@ -16,18 +15,12 @@ use mrc_wiring::Wired;
 /// form that has it (`WrongShape`, `WrongDisposition`), or all arguments fit and the disposition of
 /// the reply port does not (`ReplySlot`). Which ports the form's slots admit is not asked here.
 pub fn judge<'w>(wired: &'w Wired, class: ClassId, message: &Message) -> Result<Form<'w>, Denied>
-    ensures exact { IsJudged (wiring_of wired.entry.now) result
-        (judge (wiring_of wired.entry.now) class message.now) }
+    ensures exact { IsJudged (wiring_of wired.entry.now) class message.now result }
 {
     let id = message.header().id;
     let Some((item, found)) = wired.form_of(class, id) else {
         return Err(Denied::NoSuchId);
     };
     meet(found, message)?;
-    Ok(Form {
-        class,
-        item,
-        id,
-        found,
-    })
+    Ok(Form { item, id, found })
 }

@@ -29,5 +29,6 @@ returns c =
         c.in-Some.ensures.placed,
         judged_by W c.args.class c.header-id.result.id c.args.message.now _ c.header-id.ensures.id
             c.in-Some.ensures.exact ∙ c.in_ok-meet.ensures,
+        c.header-id.ensures.id,
       );
     }
