@@ -3,40 +3,19 @@ use Rattle.std.proofs.Common.{◌≡◌, ℕ, ◌<◌, ◌≤◌, ◌^◌, Bool,
 use Rattle.std.proofs.Common.{Some, None, refl, sym, ◌∙◌, ap, subst, arith, ◌==◌, ◌||◌, ◌&&◌}
 use Rattle.std.proofs.Common.{inl, inr, nat_lt}
 use Rattle.std.proofs.Common.{if◌then◌else◌}
-use Rattle.std.specs.Option.{is_some}
-use Rattle.std.proofs.lemmas.Bool.{cases_eq, eq-eqb, ne_eqb}
+use Rattle.std.proofs.lemmas.Bool.{cases_eq, eq-eqb, ne_eqb, or_left, or_right, or_from}
 use Rattle.mrc_model.specs.declared.Entry.{Entry}
 use Rattle.mrc_model.specs.declared.Entry.TheVariants.{Receive as ReceiveEntry, Send as SendEntry}
 use Rattle.mrc_model.specs.declared.Entry.TheVariants.{SendOnce as OnceEntry, PortSet as SetEntry}
 use Rattle.mrc_model.specs.declared.Entry.TheVariants.{DeadName as DeadEntry}
 use Rattle.mrc_model.specs.Map.{get, insert}
 use Rattle.mrc_model.specs.World.{Space}
-use Rattle.mrc_model.specs.Space.{put_entry, is_entry_of, dead_entry}
-use Rattle.mrc_model.proofs.Maps.{get-insert_same, get-insert_other, get-remove_same}
-use Rattle.mrc_model.proofs.Maps.{get-remove_other, Each-insert}
+use Rattle.mrc_model.specs.Space.{is_entry_of, dead_entry}
+use Rattle.mrc_model.proofs.Maps.{get-insert_same, get-insert_other}
+use Rattle.mrc_model.proofs.Maps.{Each-insert}
 use Rattle.mrc_index.specs.Pairs.{has_pair, IsLeast}
 use Rattle.mrc_index.specs.Names.{is_once_of, is_held_by, is_once_by, is_on, left_of, IsIndexed}
-
--- the entry of a name after it was put there
-pub get_put : (x : Space) (n : ℕ) (o : Option Entry) → get (put_entry x n o) n ≡ o
-get_put x n None = get-remove_same x n
-get_put x n (Some e) = get-insert_same x n e
-
-pub get_beside : (x : Space) (n q : ℕ) (o : Option Entry)
-    → (q ≡ n → ⊥)
-    → get (put_entry x n o) q ≡ get x q
-get_beside x n q None apart = get-remove_other x n q apart
-get_beside x n q (Some e) apart = get-insert_other x n e q apart
-
-first_true : (b c : Bool) → b ≡ true → (b || c) ≡ true
-first_true b c h = ap (λ z. z || c) h
-
-second_true : (b c : Bool) → c ≡ true → (b || c) ≡ true
-second_true true c h = refl
-second_true false c h = h
-
-both_false : (b c : Bool) → b ≡ false → c ≡ false → (b || c) ≡ false
-both_false b c g h = ap (λ z. z || c) g ∙ h
+use Rattle.mrc_index.proofs.IndexLaws.{gone_true, gone_false, free_kept}
 
 -- a name that the index tells is the port's
 named : (by : ℕ → Option Entry → Bool) (of : ℕ → Entry → Bool) (x : Space) (ps : List (ℕ × ℕ))
@@ -62,7 +41,7 @@ pub held_named : (x : Space) (ports onces : List (ℕ × ℕ)) (bits : List ℕ)
     → (e : Entry) × (get x n ≡ Some e) × (is_on p e ≡ true)
 held_named x ports onces bits p n i f =
     named is_held_by is_entry_of x ports p n (get x n) refl (λ e. refl)
-    (λ e h. first_true (is_entry_of p e) (is_once_of p e) h) (i.held p n) f.has refl
+    (λ e h. or_left (is_entry_of p e) (is_once_of p e) h) (i.held p n) f.has refl
 
 pub once_named : (x : Space) (ports onces : List (ℕ × ℕ)) (bits : List ℕ) (p n : ℕ)
     → IsIndexed x ports onces bits
@@ -70,7 +49,7 @@ pub once_named : (x : Space) (ports onces : List (ℕ × ℕ)) (bits : List ℕ)
     → (e : Entry) × (get x n ≡ Some e) × (is_on p e ≡ true)
 once_named x ports onces bits p n i f =
     named is_once_by is_once_of x onces p n (get x n) refl (λ e. refl)
-    (λ e h. second_true (is_entry_of p e) (is_once_of p e) h) (i.once p n) f.has refl
+    (λ e h. or_right (is_entry_of p e) (is_once_of p e) h) (i.once p n) f.has refl
 
 pub none_named : (x : Space) (ports onces : List (ℕ × ℕ)) (bits : List ℕ) (p : ℕ)
     → IsIndexed x ports onces bits
@@ -78,7 +57,7 @@ pub none_named : (x : Space) (ports onces : List (ℕ × ℕ)) (bits : List ℕ)
     → ((n : ℕ) → 0 ≤ n → has_pair onces p n ≡ false)
     → (n : ℕ) (e : Entry) → get x n ≡ Some e → is_on p e ≡ false
 none_named x ports onces bits p i held once n e at =
-    both_false (is_entry_of p e) (is_once_of p e)
+    or_from (is_entry_of p e) (is_once_of p e)
     (sym (ap (is_held_by p) at) ∙ sym (i.held p n) ∙ held n (omega arith))
     (sym (ap (is_once_by p) at) ∙ sym (i.once p n) ∙ once n (omega arith))
 
@@ -117,14 +96,6 @@ left_once p (SendEntry q k) = dead_once p k
 left_once p (OnceEntry q) = refl
 left_once p SetEntry = refl
 left_once p (DeadEntry k) = refl
-
-gone_true : (b : Bool) (c : Bool) → c ≡ b → (not (b && true) && c) ≡ false
-gone_true true c h = refl
-gone_true false c h = h
-
-gone_false : (b : Bool) (c : Bool) → (not (b && false) && c) ≡ c
-gone_false true c = refl
-gone_false false c = refl
 
 -- a right that turned dead is in no index
 fewer : (by : ℕ → Option Entry → Bool) (of : ℕ → Entry → Bool) (x : Space) (ps qs : List (ℕ × ℕ))
@@ -166,13 +137,7 @@ faded x x' ports onces ports' onces' bits k n d f i key at is held once gone gon
       short = Each-insert (λ j v. j < 2 ^ 32) x n f i.short (i.short n d there);
       held = fewer is_held_by is_entry_of x ports ports' n d f (λ p e. refl) held i.held there gone;
       once = fewer is_once_by is_once_of x onces onces' n d f (λ p e. refl) once i.once there gone';
-      free = λ m small. elim (cases_eq m n) [
-        | inl same ↦
-            i.free m small ∙ ap (λ o. not (is_some o)) (ap (get x) same ∙ there)
-            ∙ sym (ap (λ o. not (is_some o)) (ap (get (insert x n f)) same ∙ get-insert_same x n f))
-        | inr apart ↦
-            i.free m small ∙ sym (ap (λ o. not (is_some o)) (get-insert_other x n f m apart))
-      ];
+      free = λ m small. free_kept x bits n m d f there (i.free m small);
     }
   where
     there : get x n ≡ Some d

@@ -4,7 +4,7 @@ use Rattle.std.proofs.Common.{List, [], ◌∷◌, ◌^◌, length, T, Option, S
 use Rattle.std.proofs.Common.{◌∙◌, ap, subst}
 use Rattle.std.proofs.Common.{arith, ◌==◌, ◌&&◌, ◌||◌, inl, inr, nat_lt, if◌then◌else◌}
 use Rattle.std.specs.Option.{is_some}
-use Rattle.std.proofs.lemmas.Bool.{cases_eq, cases_order, ne_eqb, eq-eqb}
+use Rattle.std.proofs.lemmas.Bool.{cases_eq, cases_order, ne_eqb, eq-eqb, lt-ltb, le-ltb}
 use Rattle.std.proofs.lemmas.Bool.Decides.{nat_tests}
 use Rattle.mrc_bits.specs.Bits.{is_set, IsNextBit}
 use Rattle.std.proofs.lemmas.List.{get_or-replicate}
@@ -21,14 +21,15 @@ use Rattle.mrc_model.specs.Space.{entry_of, first_entry, is_entry_of, unused, le
 use Rattle.mrc_model.proofs.Maps.{same_Some, not_None, get-insert_same, get-insert_other, get-empty}
 use Rattle.mrc_model.proofs.Maps.{get-remove_same, get-remove_other, find_here, find_is_low}
 use Rattle.mrc_model.proofs.Maps.{rest_rises, if_true, if_false, Each-insert, Each-alter_all}
-use Rattle.mrc_model.proofs.Spaces.{get-unused}
+use Rattle.mrc_model.proofs.Spaces.{get-unused, least_is_later}
 use Rattle.mrc_map.proofs.EntryLaws.{remove-absent}
 use Rattle.mrc_bits.proofs.Counts.{past as past_row}
 use Rattle.std.proofs.lemmas.Bool.{cases_lt}
 use Rattle.mrc_index.specs.Pairs.{has_pair, IsLeast}
 use Rattle.mrc_index.specs.Names.{is_once_of, is_held_by, is_once_by, HoldsAlike, IsIndexed}
 
-true_false : {A : Type 0} (b : Bool) → b ≡ true → b ≡ false → A
+-- no test both holds and fails
+pub true_false : {A : Type 0} (b : Bool) → b ≡ true → b ≡ false → A
 true_false true t f = absurd (cc)
 true_false false t f = absurd (cc)
 
@@ -139,6 +140,10 @@ unfolding entry_of get
 found_none x ports onces bits p i none =
     none_at 0 p x.list x.rising (λ m. sym (i.held p m) ∙ none m (omega arith))
 
+-- a number that is another one is above it
+pub next_above : (a b c : ℕ) → a ≤ b → c ≡ a → (b ≡ c → ⊥) → a + 1 ≤ b
+next_above a b c h s d = grind (arith, nat_tests)
+
 -- the least unused number from k on
 pub least_at : {X : Type 0} (low k n : ℕ) (es : List (ℕ × X))
     → T (is_rising low es)
@@ -157,18 +162,18 @@ least_at low k n (e ∷ es) r le none used =
     λ z. not_None e.1 (sym (find_here e es) ∙ ap (λ q. find_key q (e ∷ es)) (sym z) ∙ none) in
     elim (cases_order e.0 k) [
       | inl same ↦
-          let more : k + 1 ≤ n = step k n e.0 le same away in
+          let more : k + 1 ≤ n = next_above k n e.0 le same away in
           if_true (e.0 == k) _ _ (eq-eqb e.0 k same)
           ∙ least_at (e.0 + 1) (k + 1) n es (rest_rises low e es r) more (sym (off n away) ∙ none)
           (λ m a b. ap is_some (sym (off m (λ z. absurd (omega arith)))) ∙ used m (omega arith) b)
       | inr (inl less) ↦
           if_false (e.0 == k) _ _ (ne_eqb e.0 k (λ z. absurd (omega arith)))
-          ∙ if_true (nat_lt e.0 k) _ _ (lt_is e.0 k less)
+          ∙ if_true (nat_lt e.0 k) _ _ (lt-ltb e.0 k less)
           ∙ least_at (e.0 + 1) k n es (rest_rises low e es r) le (sym (off n away) ∙ none)
           (λ m a b. ap is_some (sym (off m (λ z. absurd (omega arith)))) ∙ used m a b)
       | inr (inr more) ↦
           if_false (e.0 == k) _ _ (ne_eqb e.0 k (λ z. absurd (omega arith)))
-          ∙ if_false (nat_lt e.0 k) _ _ (ge_is e.0 k (omega arith))
+          ∙ if_false (nat_lt e.0 k) _ _ (le-ltb e.0 k (omega arith))
           ∙ elim (cases_order k n) [
             | inl same ↦ same
             | inr (inl less) ↦
@@ -178,15 +183,6 @@ least_at low k n (e ∷ es) r le none used =
             | inr (inr past_it) ↦ absurd (omega arith)
           ]
     ]
-  where
-    step : (a b c : ℕ) → a ≤ b → c ≡ a → (b ≡ c → ⊥) → a + 1 ≤ b
-    step a b c h s d = grind (arith, nat_tests)
-
-    lt_is : (a b : ℕ) → a < b → nat_lt a b ≡ true
-    lt_is a b h = grind (arith, nat_tests)
-
-    ge_is : (a b : ℕ) → b ≤ a → nat_lt a b ≡ false
-    ge_is a b h = grind (arith, nat_tests)
 
 -- it is not far
 least_near : {X : Type 0} (k : ℕ) (es : List (ℕ × X)) → least_from k es ≤ k + length es
@@ -229,23 +225,9 @@ first_free x ports onces bits n i few f small =
     (unused_is (find_key n x.list) (sym (i.free n small) ∙ f.set))
     (λ m a b. used_is (find_key m x.list) (sym (i.free m (omega arith)) ∙ f.first m a b)))
 
-least_up : {X : Type 0} (k : ℕ) (es : List (ℕ × X)) → k ≤ least_from k es
-least_up k [] = omega arith
-least_up {X} k (e ∷ es) =
-    let one = least_up (k + 1) es in
-    let two = least_up k es in
-    elim (e.0 == k) as (λ b. k ≤ (if b then least_from (k + 1) es
-    else if nat_lt e.0 k then least_from k es else k)) [
-      | true ↦ omega arith
-      | false ↦ elim (nat_lt e.0 k) as (λ b. k ≤ (if b then least_from k es else k)) [
-        | true ↦ omega arith
-        | false ↦ omega arith
-      ]
-    ]
-
 pub from_one : (y : Space) → 1 ≤ unused y
 unfolding unused
-from_one y = least_up 1 y.list
+from_one y = least_is_later 1 y.list
 
 -- there is one
 pub some_free : (x : Space) (ports onces : List (ℕ × ℕ)) (bits : List ℕ)
@@ -268,11 +250,11 @@ and_false : (b : Bool) (c : Bool) → ((b && false) || c) ≡ c
 and_false true c = refl
 and_false false c = refl
 
-gone_true : (b : Bool) (c : Bool) → c ≡ b → (not (b && true) && c) ≡ false
+pub gone_true : (b : Bool) (c : Bool) → c ≡ b → (not (b && true) && c) ≡ false
 gone_true true c h = refl
 gone_true false c h = h
 
-gone_false : (b : Bool) (c : Bool) → (not (b && false) && c) ≡ c
+pub gone_false : (b : Bool) (c : Bool) → (not (b && false) && c) ≡ c
 gone_false true c = refl
 gone_false false c = refl
 
@@ -376,6 +358,18 @@ removed_indexed x ports onces ports' onces' bits bits' n e i there held once fre
   ];
 }
 
+-- an entry in the place of another leaves the free names
+pub free_kept : (x : Space) (bits : List ℕ) (n m : ℕ) (d e : Entry)
+    → get x n ≡ Some d
+    → is_set bits m ≡ not (is_some (get x m))
+    → is_set bits m ≡ not (is_some (get (insert x n e) m))
+free_kept x bits n m d e there was = elim (cases_eq m n) [
+  | inl same ↦
+      was ∙ ap (λ o. not (is_some o)) (ap (get x) same ∙ there)
+      ∙ sym (ap (λ o. not (is_some o)) (ap (get (insert x n e)) same ∙ get-insert_same x n e))
+  | inr apart ↦ was ∙ sym (ap (λ o. not (is_some o)) (get-insert_other x n e m apart))
+]
+
 pub set_indexed : (x : Space) (ports onces : List (ℕ × ℕ)) (bits : List ℕ) (n : ℕ) (d e : Entry)
     → IsIndexed x ports onces bits
     → get x n ≡ Some d
@@ -398,13 +392,7 @@ set_indexed x ports onces bits n d e i there alike = record {
         ∙ ap (λ z. is_once_by p (get (insert x n e) z)) (sym same)
     | inr apart ↦ i.once p m ∙ ap (is_once_by p) (sym (get-insert_other x n e m apart))
   ];
-  free = λ m small. elim (cases_eq m n) [
-    | inl same ↦
-        i.free m small ∙ ap (λ o. not (is_some o)) (ap (get x) same ∙ there)
-        ∙ sym (ap (λ o. not (is_some o)) (ap (get (insert x n e)) same ∙ get-insert_same x n e))
-    | inr apart ↦
-        i.free m small ∙ sym (ap (λ o. not (is_some o)) (get-insert_other x n e m apart))
-  ];
+  free = λ m small. free_kept x bits n m d e there (i.free m small);
 }
 
 pub new_indexed : (x : Space) (ports onces : List (ℕ × ℕ)) (bits : List ℕ)

@@ -1,8 +1,8 @@
 -- Which name a port has, once another has no more than a rest.
-use Rattle.std.proofs.Common.{◌≡◌, ℕ, ◌+◌, ◌<◌, ◌≤◌, Bool, true, false, List, Option, Some, None}
+use Rattle.std.proofs.Common.{◌≡◌, ℕ, ◌+◌, ◌<◌, ◌≤◌, true, false, List, Option, Some, None}
 use Rattle.std.proofs.Common.{refl, sym, ◌∙◌, ap, subst, arith, inl, inr, ◌^◌}
 use Rattle.std.specs.Option.{option_map, IfSome, IfNone}
-use Rattle.std.proofs.lemmas.Bool.{cases_eq, cases_order}
+use Rattle.std.proofs.lemmas.Bool.{cases_eq, cases_order, false_from_ne_true}
 use Rattle.mrc_model.specs.declared.Entry.{Entry}
 use Rattle.mrc_model.specs.Map.{get, insert, remove}
 use Rattle.mrc_model.specs.World.{Space}
@@ -11,15 +11,7 @@ use Rattle.mrc_model.proofs.Maps.{get-remove_same, get-remove_other}
 use Rattle.mrc_index.specs.Pairs.{has_pair, IsLeast}
 use Rattle.mrc_index.specs.Names.{is_held_by, IsIndexed, IsLeastBut}
 use Rattle.mrc_index.specs.Undo.{CanPut}
-use Rattle.mrc_index.proofs.IndexLaws.{least_entry, no_entry, set_indexed}
-
-true_false : {A : Type 0} (b : Bool) → b ≡ true → b ≡ false → A
-true_false true t f = absurd (cc)
-true_false false t f = absurd (cc)
-
-not_true : (b : Bool) → (b ≡ true → ⊥) → b ≡ false
-not_true true h = absurd (h refl)
-not_true false h = refl
+use Rattle.mrc_index.proofs.IndexLaws.{least_entry, no_entry, set_indexed, true_false}
 
 -- the least name of a port's entries is the name of the one that is found
 least_name : (y : Space) (p n : ℕ) (o : Option Entry)
@@ -68,7 +60,7 @@ least_but x p k n l =
           ap (is_held_by p) (ap (get (remove x k)) same ∙ get-remove_same x k)
       | inr apart ↦
           ap (is_held_by p) (get-remove_other x k m apart)
-          ∙ not_true (is_held_by p (get x m)) (λ t. apart (l.least m h t))
+          ∙ false_from_ne_true (is_held_by p (get x m)) (λ t. apart (l.least m h t))
     ])
 
 held_at : (p : ℕ) (o : Option Entry)
@@ -85,7 +77,7 @@ none_but x p k none =
       | inl same ↦ ap (is_held_by p) (ap (get (remove x k)) same ∙ get-remove_same x k)
       | inr apart ↦
           ap (is_held_by p) (get-remove_other x k m apart)
-          ∙ not_true (is_held_by p (get x m)) (λ t.
+          ∙ false_from_ne_true (is_held_by p (get x m)) (λ t.
           let e = held_at p (get x m) t in apart (none m e.0 e.1 e.2))
     ]))
 

@@ -1,6 +1,7 @@
 -- What a tree of pairs tells of names by ports.
 use Rattle.std.proofs.Common.{◌≡◌, ℕ, ◌<◌, ◌≤◌, Bool, true, false, List, ◌∷◌, cond, not, ◌==◌}
 use Rattle.std.proofs.Common.{◌||◌, ◌&&◌, refl, sym, ◌∙◌, ap, subst, arith}
+use Rattle.std.proofs.lemmas.Bool.{false_from_ne_true}
 use Rattle.std.proofs.lemmas.Bool.Decides.{nat_tests}
 use Rattle.std.specs.Ordering.{is_gt}
 use Rattle.std.specs.BTreeMap.{is_at}
@@ -42,10 +43,6 @@ above_is p k n h = grind (arith, nat_tests)
 is_above : (p k n : ℕ) → is_gt (pair_cmp (p, k) (p, n)) ≡ false → k ≤ n
 is_above p k n h = grind (arith, nat_tests)
 
-not_true : (b : Bool) → (b ≡ true → ⊥) → b ≡ false
-not_true true h = absurd (h refl)
-not_true false h = refl
-
 apart : (p q : ℕ) (k l n : ℕ)
     → (q ≡ p → ⊥)
     → is_gt (pair_cmp (p, k) (q, l)) ≡ false
@@ -66,7 +63,7 @@ pub least_is : (ks : List (ℕ × ℕ)) (p k q l : ℕ)
 least_is ks p k q l same there start least = record {
   has = ap (λ z. has_pair ks z l) (sym same) ∙ there;
   above = is_above p k l (ap (λ z. is_gt (pair_cmp (p, k) (z, l))) (sym same) ∙ start);
-  least = λ n a h. not_true (has_pair ks p n) (λ t.
+  least = λ n a h. false_from_ne_true (has_pair ks p n) (λ t.
       below p l n h (ap (λ z. is_gt (pair_cmp (z, l) (p, n))) (sym same) ∙ least n a t));
 }
 
@@ -77,7 +74,7 @@ pub none_is : (ks : List (ℕ × ℕ)) (p k q l : ℕ)
     → ((n : ℕ) → k ≤ n → has_pair ks p n ≡ true → is_gt (pair_cmp (q, l) (p, n)) ≡ false)
     → (n : ℕ) → k ≤ n → has_pair ks p n ≡ false
 none_is ks p k q l differs start least n a =
-    not_true (has_pair ks p n) (λ t. apart p q k l n differs start (least n a t))
+    false_from_ne_true (has_pair ks p n) (λ t. apart p q k l n differs start (least n a t))
 
 -- what is told of the first of a list
 pub head_fact : (P : ℕ × ℕ → Type 0) (r rest : List (ℕ × ℕ)) (k : ℕ × ℕ)

@@ -18,7 +18,7 @@ use Rattle.mrc_model.proofs.Maps.{not_None, if_true, if_false}
 use Rattle.mrc_map.specs.Entries.{IsNext}
 use Rattle.mrc_map.proofs.SameMaps.{same_map}
 use Rattle.mrc_index.specs.Names.{is_on, count_on, left_of, is_dead}
-use Rattle.mrc_index.proofs.FadeLaws.{get_put, get_beside}
+use Rattle.mrc_model.proofs.Spaces.{put_entry_same, put_entry_other}
 
 -- dead references stay
 dead_stays : (ps : List ℕ) (k : ℕ)
@@ -91,9 +91,9 @@ same_later x y ps n e at is = same_map _ _ (λ q.
     ∙ elim (cases_eq q n) [
       | inl same ↦
           ap (λ z. option_and_then left (get (put_entry x n (left e)) z)) same
-          ∙ ap (option_and_then left) (get_put x n (left e)) ∙ left_twice ps e
+          ∙ ap (option_and_then left) (put_entry_same x n (left e)) ∙ left_twice ps e
           ∙ sym (ap (option_and_then left) (ap (get x) same ∙ at))
-      | inr apart ↦ ap (option_and_then left) (get_beside x n q (left e) apart)
+      | inr apart ↦ ap (option_and_then left) (put_entry_other x n q (left e) apart)
     ]
     ∙ sym (get-alter_all (λ m f. left f) x q))
   where
@@ -180,8 +180,9 @@ stayed x ps n e at alone =
     insert_again : (z : Space) (m : ℕ) (f : Entry) → get z m ≡ Some f → insert z m f ≡ z
     insert_again z m f there = same_map _ _ (λ q. elim (cases_eq q m) [
       | inl same ↦
-          ap (get (insert z m f)) same ∙ get_put z m (Some f) ∙ sym there ∙ ap (get z) (sym same)
-      | inr apart ↦ get_beside z m q (Some f) apart
+          ap (get (insert z m f)) same ∙ put_entry_same z m (Some f) ∙ sym there
+          ∙ ap (get z) (sym same)
+      | inr apart ↦ put_entry_other z m q (Some f) apart
     ])
 
 -- after one port the others
@@ -269,12 +270,12 @@ next_turned ps from n e old x y h next is = record {
   done = λ m f less at. elim (cases_eq m n) [
     | inl same ↦
         let left : perished_entry ps e ≡ Some f =
-        sym (get_put x n (perished_entry ps e)) ∙ ap (λ z. get z n) (sym is)
+        sym (put_entry_same x n (perished_entry ps e)) ∙ ap (λ z. get z n) (sym is)
         ∙ ap (get y) (sym same) ∙ at in
         sym (ap (option_and_then (perished_entry ps)) left) ∙ left_twice ps e ∙ left
     | inr apart ↦
         let was : get x m ≡ Some f =
-        sym (get_beside x n m (perished_entry ps e) apart) ∙ ap (λ z. get z m) (sym is) ∙ at in
+        sym (put_entry_other x n m (perished_entry ps e) apart) ∙ ap (λ z. get z m) (sym is) ∙ at in
         below m f (under m n less apart) was
   ];
 }

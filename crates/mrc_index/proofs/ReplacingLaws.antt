@@ -5,8 +5,8 @@ use Rattle.std.proofs.Common.{Option, Some, None, refl, sym, ◌∙◌, ap, subs
 use Rattle.std.proofs.Common.{◌==◌, ◌||◌, ◌&&◌, inl, inr, nat_lt, if◌then◌else◌}
 use Rattle.std.specs.Option.{is_some}
 use Rattle.std.specs.Prelude.{IsSome}
-use Rattle.std.proofs.lemmas.Bool.{cases_eq, cases_order, eq-eqb, ne_eqb, eqb-true}
-use Rattle.std.proofs.lemmas.Bool.Decides.{nat_tests}
+use Rattle.std.proofs.lemmas.Bool.{cases_eq, cases_order, eq-eqb, ne_eqb, eqb-true, lt-ltb, le-ltb}
+use Rattle.std.proofs.lemmas.Bool.{false≢true}
 use Rattle.mrc_model.specs.declared.Entry.{Entry}
 use Rattle.mrc_model.specs.declared.Entry.TheVariants.{Receive as ReceiveEntry, Send as SendEntry}
 use Rattle.mrc_model.specs.declared.Entry.TheVariants.{SendOnce as OnceEntry, PortSet as SetEntry}
@@ -22,12 +22,9 @@ use Rattle.mrc_model.proofs.Spaces.{get-unused}
 use Rattle.mrc_index.specs.Pairs.{has_pair}
 use Rattle.mrc_index.specs.Names.{is_once_of, is_held_by, is_once_by, HoldsAlike, IsIndexed}
 use Rattle.mrc_index.specs.Replacing.{is_like}
-use Rattle.mrc_index.proofs.IndexLaws.{least_at, from_one}
+use Rattle.mrc_index.proofs.IndexLaws.{least_at, from_one, next_above, free_kept}
 
 -- entries of one port and one kind
-
-never : {A : Type 0} → false ≡ true → A
-never h = absurd (cc)
 
 alike_held : (d e : Entry) (q p : ℕ)
     → ((r : ℕ) → is_entry_of r d ≡ (q == r))
@@ -58,26 +55,26 @@ like_alike (OnceEntry q) (OnceEntry p) is = record {
   held = λ r. refl;
   once = λ r. ap (λ z. z == r) (sym (eqb-true q p is));
 }
-like_alike (ReceiveEntry q k i) (OnceEntry p) is = never is
-like_alike (ReceiveEntry q k i) SetEntry is = never is
-like_alike (ReceiveEntry q k i) (DeadEntry l) is = never is
-like_alike (SendEntry q k) (OnceEntry p) is = never is
-like_alike (SendEntry q k) SetEntry is = never is
-like_alike (SendEntry q k) (DeadEntry l) is = never is
-like_alike (OnceEntry q) (ReceiveEntry p l j) is = never is
-like_alike (OnceEntry q) (SendEntry p l) is = never is
-like_alike (OnceEntry q) SetEntry is = never is
-like_alike (OnceEntry q) (DeadEntry l) is = never is
-like_alike SetEntry (ReceiveEntry p l j) is = never is
-like_alike SetEntry (SendEntry p l) is = never is
-like_alike SetEntry (OnceEntry p) is = never is
-like_alike SetEntry SetEntry is = never is
-like_alike SetEntry (DeadEntry l) is = never is
-like_alike (DeadEntry k) (ReceiveEntry p l j) is = never is
-like_alike (DeadEntry k) (SendEntry p l) is = never is
-like_alike (DeadEntry k) (OnceEntry p) is = never is
-like_alike (DeadEntry k) SetEntry is = never is
-like_alike (DeadEntry k) (DeadEntry l) is = never is
+like_alike (ReceiveEntry q k i) (OnceEntry p) is = absurd (false≢true is)
+like_alike (ReceiveEntry q k i) SetEntry is = absurd (false≢true is)
+like_alike (ReceiveEntry q k i) (DeadEntry l) is = absurd (false≢true is)
+like_alike (SendEntry q k) (OnceEntry p) is = absurd (false≢true is)
+like_alike (SendEntry q k) SetEntry is = absurd (false≢true is)
+like_alike (SendEntry q k) (DeadEntry l) is = absurd (false≢true is)
+like_alike (OnceEntry q) (ReceiveEntry p l j) is = absurd (false≢true is)
+like_alike (OnceEntry q) (SendEntry p l) is = absurd (false≢true is)
+like_alike (OnceEntry q) SetEntry is = absurd (false≢true is)
+like_alike (OnceEntry q) (DeadEntry l) is = absurd (false≢true is)
+like_alike SetEntry (ReceiveEntry p l j) is = absurd (false≢true is)
+like_alike SetEntry (SendEntry p l) is = absurd (false≢true is)
+like_alike SetEntry (OnceEntry p) is = absurd (false≢true is)
+like_alike SetEntry SetEntry is = absurd (false≢true is)
+like_alike SetEntry (DeadEntry l) is = absurd (false≢true is)
+like_alike (DeadEntry k) (ReceiveEntry p l j) is = absurd (false≢true is)
+like_alike (DeadEntry k) (SendEntry p l) is = absurd (false≢true is)
+like_alike (DeadEntry k) (OnceEntry p) is = absurd (false≢true is)
+like_alike (DeadEntry k) SetEntry is = absurd (false≢true is)
+like_alike (DeadEntry k) (DeadEntry l) is = absurd (false≢true is)
 
 -- entries that are not share no port and kind
 
@@ -174,13 +171,7 @@ replaced x x' ps qs rs os us vs bits k n d e i key at is unlike held once gone g
           (unlike_held d e unlike) i.held there held gone;
       once = exchanged is_once_by is_once_of x os us vs n d e (λ p f. refl)
           (unlike_once d e unlike) i.once there once gone';
-      free = λ m small. elim (cases_eq m n) [
-        | inl same ↦
-            i.free m small ∙ ap (λ o. not (is_some o)) (ap (get x) same ∙ there)
-            ∙ sym (ap (λ o. not (is_some o)) (ap (get (insert x n e)) same ∙ get-insert_same x n e))
-        | inr apart ↦
-            i.free m small ∙ sym (ap (λ o. not (is_some o)) (get-insert_other x n e m apart))
-      ];
+      free = λ m small. free_kept x bits n m d e there (i.free m small);
     }
   where
     there : get x n ≡ Some d
@@ -203,30 +194,21 @@ used_from low k m (e ∷ es) r le below = elim (cases_eq m e.0) [
         | inl same ↦
             let rest = if_true (e.0 == k) (least_from (k + 1) es)
             (if nat_lt e.0 k then least_from k es else k) (eq-eqb e.0 k same) in
-            used_from (e.0 + 1) (k + 1) m es (rest_rises low e es r) (step k m e.0 le same off)
-            (subst (λ z. m < z) rest below)
+            used_from (e.0 + 1) (k + 1) m es (rest_rises low e es r)
+            (next_above k m e.0 le same off) (subst (λ z. m < z) rest below)
         | inr (inl less) ↦
             let rest = if_false (e.0 == k) (least_from (k + 1) es)
             (if nat_lt e.0 k then least_from k es else k) (ne_eqb e.0 k (λ z. absurd (omega arith)))
-            ∙ if_true (nat_lt e.0 k) (least_from k es) k (lt_is e.0 k less) in
+            ∙ if_true (nat_lt e.0 k) (least_from k es) k (lt-ltb e.0 k less) in
             used_from (e.0 + 1) k m es (rest_rises low e es r) le (subst (λ z. m < z) rest below)
         | inr (inr more) ↦
             let rest = if_false (e.0 == k) (least_from (k + 1) es)
             (if nat_lt e.0 k then least_from k es else k) (ne_eqb e.0 k (λ z. absurd (omega arith)))
-            ∙ if_false (nat_lt e.0 k) (least_from k es) k (ge_is e.0 k (omega arith)) in
+            ∙ if_false (nat_lt e.0 k) (least_from k es) k (le-ltb e.0 k (omega arith)) in
             let low : m < k = subst (λ z. m < z) rest below in
             absurd (omega arith)
       ]
 ]
-  where
-    step : (a b c : ℕ) → a ≤ b → c ≡ a → (b ≡ c → ⊥) → a + 1 ≤ b
-    step a b c h s d = grind (arith, nat_tests)
-
-    lt_is : (a b : ℕ) → a < b → nat_lt a b ≡ true
-    lt_is a b h = grind (arith, nat_tests)
-
-    ge_is : (a b : ℕ) → b ≤ a → nat_lt a b ≡ false
-    ge_is a b h = grind (arith, nat_tests)
 
 pub below_unused : (x : Space) (m : ℕ) → 1 ≤ m → m < unused x → is_some (get x m) ≡ true
 unfolding unused get
@@ -246,7 +228,7 @@ apart_from : (x : Space) (n : ℕ) → IsSome (get x n) → unused x ≡ n → �
 apart_from x n used same =
     let none : false ≡ true = subst (λ o. IsSome o)
     (ap (get x) (sym same) ∙ get-unused x) used in
-    never none
+    absurd (false≢true none)
 
 -- an entry in the place of another leaves it
 pub unused_set : (x : Space) (n : ℕ) (e : Entry)

@@ -134,7 +134,7 @@ put_old {X} k v x (e ∷ es) n =
     ] refl n
 
 -- nothing goes where no key is the one
-keep_all : {X : Type 0} (low k : ℕ) (es : List (ℕ × X))
+pub keep_all : {X : Type 0} (low k : ℕ) (es : List (ℕ × X))
     → T (is_rising low es)
     → k < low
     → alter_list (all_but k) es ≡ es

@@ -1,7 +1,8 @@
 -- What std's words for a set of numbers are in the definitions'.
 use Rattle.std.proofs.Common.{◌≡◌, ℕ, List, [], ◌∷◌, refl, sym, ◌∙◌, ap, arith, Bool, true, false}
 use Rattle.std.proofs.Common.{◌==◌, ◌||◌, Option, Some, None, cond, ◌<◌, ◌≤◌}
-use Rattle.std.proofs.Common.{if◌then◌else◌, subst, suc, ◌^◌}
+use Rattle.std.proofs.Common.{subst, suc, ◌^◌}
+use Rattle.std.proofs.lemmas.Bool.{false_from_ne_true}
 use Rattle.std.proofs.lemmas.Bool.Decides.{nat_tests}
 use Rattle.std.specs.Prelude.{⊤}
 use Rattle.std.specs.Ordering.{nat_cmp, is_gt}
@@ -14,7 +15,7 @@ use Rattle.std.specs.BTreeMap.{is_at}
 use Rattle.mrc_model.specs.Death.{has}
 use Rattle.mrc_map.specs.Members.{above, start, IsMember, IsFirst}
 
-at_is : (p k : ℕ) → is_at (nat_cmp p) k ≡ (k == p)
+pub at_is : (p k : ℕ) → is_at (nat_cmp p) k ≡ (k == p)
 at_is p k = grind (arith, nat_tests)
 
 -- a number is found where the list has it
@@ -41,7 +42,7 @@ less_is p q h = grind (arith, nat_tests)
 is_less : (p q : ℕ) → nat_cmp p q ≡ Less → suc p ≤ q
 is_less p q h = grind (arith, nat_tests)
 
-is_up : (p q : ℕ) → is_gt (nat_cmp p q) ≡ false → p ≤ q
+pub is_up : (p q : ℕ) → is_gt (nat_cmp p q) ≡ false → p ≤ q
 is_up p q h = grind (arith, nat_tests)
 
 start_is : (last : Option ℕ) (q : ℕ) → above last ≤ q → IsFromStart nat_cmp (start last) q
@@ -51,10 +52,6 @@ start_is (Some p) q h = less_is p q h
 is_start : (last : Option ℕ) (q : ℕ) → IsFromStart nat_cmp (start last) q → above last ≤ q
 is_start None q h = omega arith
 is_start (Some p) q h = is_less p q h
-
-not_true : (b : Bool) → (b ≡ true → ⊥) → b ≡ false
-not_true true h = absurd (h refl)
-not_true false h = refl
 
 -- the first number of a range is the first member
 pub range_first : (ks : List ℕ) (last : Option ℕ) (low : Bound ℕ) (k : ℕ)
@@ -68,7 +65,7 @@ pub range_first : (ks : List ℕ) (last : Option ℕ) (low : Bound ℕ) (k : ℕ
 range_first ks last low k is from there least short = record {
   there = sym (has_keys ks k) ∙ there;
   above = is_start last k (subst (λ b. IsFromStart nat_cmp b k) is from);
-  first = λ q h l. not_true (has ks q) (λ t.
+  first = λ q h l. false_from_ne_true (has ks q) (λ t.
       let up : k ≤ q =
       is_up k q (least q (subst (λ b. IsFromStart nat_cmp b q) (sym is) (start_is last q h), tt)
       (has_keys ks q ∙ t)) in

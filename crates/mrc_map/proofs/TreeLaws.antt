@@ -9,17 +9,19 @@ use Rattle.std.specs.List.{slice_get}
 use Rattle.std.proofs.lemmas.Bool.Decides.{nat_tests}
 use Rattle.std.proofs.lemmas.Bool.{lt-ltb, le-ltb, eq-eqb, ne_eqb, cases_order}
 use Rattle.std.specs.Ordering.{nat_cmp}
+use Rattle.std.specs.Cmp.{nat_cmp_is}
 use Rattle.std.specs.declared.cmp.Ordering.TheVariants.{Less, Equal, Greater}
 use Rattle.std.specs.Map.{lookup, remove_entry, keys_of}
 use Rattle.std.specs.BTreeMap.{is_at, insert_entry}
 use Rattle.std.specs.List.Sorted.{IsStrictlySortedBy}
 use Rattle.std.specs.List.{AllByRecursion}
 use Rattle.mrc_model.specs.Rising.{is_rising, find_key, put_key, cons_some, alter_list, both_hold}
-use Rattle.mrc_model.specs.Rising.{is_at_least, right_holds, left_holds, at_least}
+use Rattle.mrc_model.specs.Rising.{is_at_least, right_holds}
 use Rattle.mrc_model.specs.Map.{Map, get, insert, remove, alter_all, all_but}
 use Rattle.mrc_model.proofs.Maps.{if_true, if_false}
 use Rattle.mrc_map.specs.Entries.{map_of, IsRising, IsNext}
-use Rattle.mrc_map.proofs.EntryLaws.{shows, Shows, view_list, list-map_of}
+use Rattle.mrc_map.proofs.EntryLaws.{shows, Shows, view_list, list-map_of, keep_all}
+use Rattle.mrc_map.proofs.MemberLaws.{is_up}
 
 at_is : (k j : ℕ) → is_at (nat_cmp k) j ≡ (k == j)
 at_is k j = grind (arith, nat_tests)
@@ -75,27 +77,21 @@ put_is : {X : Type 0} (k : ℕ) (v : X) (es : List (ℕ × X))
 put_is k v [] = refl
 put_is k v (e ∷ es) = elim (cases_order k e.0) [
   | inl same ↦ rw (
-    eq_cmp k e.0 same,
+    sym (nat_cmp_is k e.0 Equal same),
     if_false (nat_lt k e.0) _ _ (le-ltb k e.0 (omega arith)),
     if_true (k == e.0) _ _ (eq-eqb k e.0 same),
   ) (ap (λ j. (j, v) ∷ es) (sym same))
-  | inr (inl less) ↦ rw (lt_cmp k e.0 less, if_true (nat_lt k e.0) _ _ (lt-ltb k e.0 less)) refl
+  | inr (inl less) ↦ rw (
+    sym (nat_cmp_is k e.0 Less less),
+    if_true (nat_lt k e.0) _ _ (lt-ltb k e.0 less),
+  ) refl
   | inr (inr more) ↦ rw (
-    gt_cmp k e.0 more,
+    sym (nat_cmp_is k e.0 Greater more),
     if_false (nat_lt k e.0) _ _ (le-ltb k e.0 (omega arith)),
     if_false (k == e.0) _ _ (ne_eqb k e.0 (λ z. absurd (omega arith))),
   )
       (ap (λ xs. e ∷ xs) (put_is k v es))
 ]
-  where
-    eq_cmp : (x y : ℕ) → x ≡ y → nat_cmp x y ≡ Equal
-    eq_cmp x y h = grind (arith, nat_tests)
-
-    lt_cmp : (x y : ℕ) → x < y → nat_cmp x y ≡ Less
-    lt_cmp x y h = grind (arith, nat_tests)
-
-    gt_cmp : (x y : ℕ) → y < x → nat_cmp x y ≡ Greater
-    gt_cmp x y h = grind (arith, nat_tests)
 
 -- so the tree shows the map with the entry
 pub tree_insert : {X : Type 0} (k : ℕ) (v : X) (es xs : List (ℕ × X)) (m : Map X)
@@ -106,18 +102,6 @@ pub tree_insert : {X : Type 0} (k : ℕ) (v : X) (es xs : List (ℕ × X)) (m : 
 unfolding insert
 tree_insert k v es xs m r w e =
     shows xs _ (e ∙ put_is k v es ∙ ap (put_key k v) (view_list es m r w))
-
--- nothing goes where all keys are above
-keep_all : {X : Type 0} (low k : ℕ) (es : List (ℕ × X))
-    → T (is_rising low es)
-    → k < low
-    → alter_list (all_but k) es ≡ es
-keep_all low k [] r h = refl
-keep_all {X} low k (e ∷ es) r h =
-    let m : low ≤ e.0 = at_least low e.0 (left_holds _ _ r) in
-    ap (λ o. cons_some e.0 o (alter_list (all_but k) es))
-    (if_false (e.0 == k) None (Some e.1) (ne_eqb e.0 k (λ z. absurd (omega arith))))
-    ∙ ap (λ xs. e ∷ xs) (keep_all (e.0 + 1) k es (right_holds _ _ r) (omega arith))
 
 -- a key that goes from a tree goes from the list
 out_is : {X : Type 0} (low k : ℕ) (es : List (ℕ × X))
@@ -167,9 +151,6 @@ tree_retained R es fs m r w s h =
 above_is : (k q : ℕ) → k ≤ q → is_gt (nat_cmp k q) ≡ false
 above_is k q h = grind (arith, nat_tests)
 
-is_above : (k q : ℕ) → is_gt (nat_cmp k q) ≡ false → k ≤ q
-is_above k q h = grind (arith, nat_tests)
-
 some_is : {X : Type 0} (o : Option X) → (IsSome o → ⊥) → o ≡ None
 some_is None h = refl
 some_is (Some x) h = absurd (h refl)
@@ -195,9 +176,9 @@ pub first_from : {X : Type 0} (k : ℕ) (es : List (ℕ × X)) (e : ℕ × X) (m
     → IsNext m k e.0 e.1
 first_from k es e m s v above at least = record {
   at = sym (tree_get e.0 es m s v) ∙ at;
-  above = is_above k e.0 above;
+  above = is_up k e.0 above;
   first = λ j h l. sym (tree_get j es m s v) ∙ some_is _ (λ t.
-      let up : e.0 ≤ j = is_above e.0 j (least j (above_is k j h, tt) t) in absurd (omega arith));
+      let up : e.0 ≤ j = is_up e.0 j (least j (above_is k j h, tt) t) in absurd (omega arith));
 }
 
 -- what is told of the first of a list

@@ -2,25 +2,14 @@
 use Rattle.std.proofs.Common.{◌≡◌, ℕ, suc, ◌+◌, ◌<◌, ◌≤◌, nat_le, true, false, ◌&&◌, T, List}
 use Rattle.std.proofs.Common.{[], ◌∷◌, ◌++◌, Option, Some, None, refl, sym, ◌∙◌, ap, arith}
 use Rattle.std.proofs.Common.{inl, inr, ◌==◌, if◌then◌else◌}
-use Rattle.std.proofs.lemmas.Bool.{leb-true, eq-eqb, ne_eqb, cases_order}
-use Rattle.std.proofs.lemmas.Bool.Decides.{nat_tests}
-use Rattle.std.proofs.lemmas.List.{append_assoc}
+use Rattle.std.proofs.lemmas.Bool.{leb-true, le-leb, lt-leb, eq-eqb, ne_eqb, cases_order}
+use Rattle.std.proofs.lemmas.List.{append_assoc, append-nil}
 use Rattle.mrc_model.specs.Rising.{is_rising, find_key, at_least, is_at_least, left_holds}
 use Rattle.mrc_model.specs.Rising.{right_holds, both_hold}
 use Rattle.mrc_model.specs.Map.{Map, get}
 use Rattle.mrc_model.specs.Death.{has}
 use Rattle.mrc_model.proofs.Maps.{find_is_low, if_true, if_false}
 use Rattle.mrc_map.specs.Members.{above, IsMember, IsFirst, of_some}
-
-is_le : (a b : ℕ) → a ≤ b → nat_le a b ≡ true
-is_le a b h = grind (arith, nat_tests)
-
-not_le : (a b : ℕ) → b < a → nat_le a b ≡ false
-not_le a b h = grind (arith, nat_tests)
-
-nothing_behind : {A : Type 0} (xs : List A) → xs ++ [] ≡ xs
-nothing_behind [] = refl
-nothing_behind (x ∷ xs) = ap (λ r. x ∷ r) (nothing_behind xs)
 
 module _ {X A : Type 0} (f : ℕ → X → List A) (xs : List ℕ) where
   -- what an entry gives, if its key is a member and not below from
@@ -42,7 +31,7 @@ module _ {X A : Type 0} (f : ℕ → X → List A) (xs : List ℕ) where
   since_above a b low (e ∷ es) r h k =
       let first : low ≤ e.0 = at_least low e.0 (left_holds _ _ r) in
       let same : nat_le a e.0 ≡ nat_le b e.0 =
-      is_le a e.0 (omega arith) ∙ sym (is_le b e.0 (omega arith)) in
+      le-leb a e.0 (omega arith) ∙ sym (le-leb b e.0 (omega arith)) in
       let rest : since a es ≡ since b es =
       since_above a b (e.0 + 1) es (right_holds _ _ r) (omega arith) (omega arith) in
       ap (λ c. (if c && has xs e.0 then f e.0 e.1 else []) ++ since a es) same
@@ -59,7 +48,7 @@ module _ {X A : Type 0} (f : ℕ → X → List A) (xs : List ℕ) where
   -- nor does one below
   of_below : (from : ℕ) (e : ℕ × X) → e.0 < from → of_entry from e ≡ []
   of_below from e h =
-      ap (λ b. if b && has xs e.0 then f e.0 e.1 else []) (not_le from e.0 h)
+      ap (λ b. if b && has xs e.0 then f e.0 e.1 else []) (lt-leb from e.0 h)
 
   -- first the next member gives, then those above it
   since_next : (from p low : ℕ) (es : List (ℕ × X))
@@ -73,7 +62,7 @@ module _ {X A : Type 0} (f : ℕ → X → List A) (xs : List ℕ) where
         let found : find_key p (e ∷ es) ≡ Some e.1 =
         if_true (p == e.0) (Some e.1) (find_key p es) (eq-eqb p e.0 same) in
         let here : of_entry from e ≡ f e.0 e.1 =
-        ap (λ b. if b && has xs e.0 then f e.0 e.1 else []) (is_le from e.0 (omega arith))
+        ap (λ b. if b && has xs e.0 then f e.0 e.1 else []) (le-leb from e.0 (omega arith))
         ∙ ap (λ b. if b then f e.0 e.1 else []) (ap (has xs) (sym same) ∙ m.there) in
         ap (λ h. h ++ since from es) here
         ∙ ap (λ l. f e.0 e.1 ++ l)
@@ -124,10 +113,10 @@ module _ {X A : Type 0} (f : ℕ → X → List A) (xs : List ℕ) where
       → now ++ since (above last) m.list ≡ all
       → now ≡ all
   walk_end now all last m none so_far =
-      sym (nothing_behind now) ∙ ap (λ l. now ++ l) (sym (since_none (above last) m.list none))
+      sym (append-nil now) ∙ ap (λ l. now ++ l) (sym (since_none (above last) m.list none))
       ∙ so_far
 
   -- from the first on
   pub from_first : (e : ℕ × X) → of_entry 0 e ≡ (if has xs e.0 then f e.0 e.1 else [])
   from_first e =
-      ap (λ b. if b && has xs e.0 then f e.0 e.1 else []) (is_le 0 e.0 (omega arith))
+      ap (λ b. if b && has xs e.0 then f e.0 e.1 else []) (le-leb 0 e.0 (omega arith))

@@ -1,6 +1,6 @@
 //! Sets of ports.
 
-ghost use Rattle.std.specs.Prelude.{◌≡◌, ◌==◌, ◌||◌, ℕ, [], OnOk, IfOk, not, length};
+ghost use Rattle.std.specs.Prelude.{◌≡◌, ◌==◌, ◌||◌, ℕ, [], OnOk, OnErr, IfOk, not, length};
 ghost use Rattle.mrc_model.specs.Death.{has};
 ghost use Rattle.mrc_map.specs.Members.{above, start, IsFirst};
 
@@ -82,11 +82,13 @@ impl Ports {
         Some(PortId(number))
     }
 
-    /// Puts the port into the set, and answers whether it is new there.
+    /// Inserts the port, and returns whether it is new in the set. Out of memory leaves the set
+    /// unchanged.
     pub fn insert(&mut self, port: PortId) -> Result<bool, AllocError>
         ensures new { IfOk result (λ new. new ≡ not (has self.old port)) }
         ensures ok { OnOk result
             ((other : ℕ) → has self.new other ≡ (port == other || has self.old other)) }
+        ensures err { OnErr result (self.new ≡ self.old) }
     {
         Ok(self.numbers.insert(port.0)?)
     }

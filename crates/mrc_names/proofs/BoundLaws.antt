@@ -9,7 +9,7 @@ use Rattle.mrc_model.specs.World.{Space}
 use Rattle.mrc_model.specs.Space.{is_full, entry_of}
 use Rattle.mrc_model.proofs.Maps.{at_or_0, get-empty, Each-insert, Each-alter_all, len-insert}
 use Rattle.mrc_model.proofs.Maps.{len-alter_all, len-empty, not_None}
-use Rattle.mrc_model.proofs.Spaces.{entry_of-some}
+use Rattle.mrc_model.proofs.Spaces.{entry_of-some, len_after}
 use Rattle.mrc_names.specs.Bounds.{IsBounded}
 
 -- the empty space is in bounds
@@ -18,10 +18,6 @@ bounded_empty x e = record {
   few = omega (arith, len-empty x e);
   short = λ n v at. absurd (not_None v (sym at ∙ ap (λ y. get y n) e ∙ get-empty n));
 }
-
--- a change adds one entry at most
-len_after : (x : Space) (n : ℕ) (e : Entry) → len (insert x n e) ≤ len x + 1
-len_after x n e = omega (arith, len-insert x n e)
 
 -- a new entry under a short name keeps the bounds of a space that is not full
 pub bounded_new : (x : Space) (n : ℕ) (e : Entry)

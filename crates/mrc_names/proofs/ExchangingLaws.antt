@@ -3,6 +3,7 @@ use Rattle.std.proofs.Common.{◌≡◌, ℕ, true, false, Option, Some, None, r
 use Rattle.std.proofs.Common.{subst, Ok}
 use Rattle.std.specs.Prelude.{IsSome}
 use Rattle.std.specs.Option.{is_some, option_map}
+use Rattle.std.proofs.lemmas.Bool.{true≢false}
 use Rattle.mrc_base.specs.declared.PortRight.{PortRight}
 use Rattle.mrc_base.specs.declared.PortRight.TheVariants.{SendOnce}
 use Rattle.mrc_model.specs.declared.Entry.{Entry}
@@ -17,15 +18,12 @@ use Rattle.mrc_names.specs.Bounds.{IsBounded}
 use Rattle.mrc_names.specs.Takes.{give_right, give_new}
 use Rattle.mrc_names.proofs.GivingLaws.{given_unknown, given_joined}
 
-not_both : {A : Type 0} → true ≡ false → A
-not_both h = absurd (cc)
-
 -- the name of an entry tells whether there is one
 pub found_by : (o : Option ℕ) (h : Option (ℕ × Entry))
     → o ≡ option_map (λ (e : ℕ × Entry). e.0) h
     → is_some o ≡ true
     → IsSome h
-found_by o None is has = not_both (sym has ∙ ap is_some is)
+found_by o None is has = absurd (true≢false (sym has ∙ ap is_some is))
 found_by o (Some e) is has = refl
 
 -- and where there is none the right takes a new name
@@ -39,7 +37,8 @@ new_by x p r o other is none = go (entry_of x p) refl
     go : (h : Option (ℕ × Entry)) → entry_of x p ≡ h → give_right x p r ≡ give_new x p r
     go None at = given_unknown x p r other at
     go (Some e) at =
-        not_both (sym (ap is_some (is ∙ ap (option_map (λ (d : ℕ × Entry). d.0)) at)) ∙ none)
+        absurd (true≢false
+        (sym (ap is_some (is ∙ ap (option_map (λ (d : ℕ × Entry). d.0)) at)) ∙ none))
 
 -- an entry that a right joins can be put back
 pub can_join : (x : Space) (p : ℕ) (r : PortRight) (f : ℕ × Entry) (e : Entry)

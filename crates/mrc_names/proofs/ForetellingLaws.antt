@@ -1,11 +1,11 @@
 -- A space once a name has no more than the rest: what it has of a port and of a name.
-use Rattle.std.proofs.Common.{◌≡◌, ℕ, Bool, true, false, inl, inr}
+use Rattle.std.proofs.Common.{◌≡◌, ℕ, true, false, inl, inr}
 use Rattle.std.proofs.Common.{Option, Some, None, Ok, Err, refl, sym, ◌∙◌, ap, subst, arith, Result}
 use Rattle.std.proofs.Common.{◌==◌, nat_le, if◌then◌else◌}
 use Rattle.std.specs.Prelude.{IsSome, ◌&&◌}
 use Rattle.std.specs.Result.{result_unwrap_or}
 use Rattle.std.specs.Option.{is_some}
-use Rattle.std.proofs.lemmas.Bool.{cases_eq, eq-eqb, ne_eqb, lt-leb}
+use Rattle.std.proofs.lemmas.Bool.{cases_eq, eq-eqb, ne_eqb, lt-leb, true≢false}
 use Rattle.mrc_model.specs.declared.Entry.{Entry}
 use Rattle.mrc_model.specs.declared.Code.{Code}
 use Rattle.mrc_model.specs.Map.{get, remove, len}
@@ -24,13 +24,9 @@ use Rattle.mrc_names.specs.Takes.{take_right, move_right}
 use Rattle.mrc_names.specs.Refusals.{Foretells}
 use Rattle.mrc_names.proofs.BoundLaws.{same_len}
 
--- a test does not both hold and fail
-not_both : ◌≡◌ {A = Bool} true false → ⊥
-not_both h = cc
-
 -- a used name counts for one
 one_used : (n : ℕ) (o : Option Entry) → IsSome o → at_or_0 (λ q (y : Entry). 1) n o ≡ 1
-one_used n None used = absurd (not_both (sym used))
+one_used n None used = absurd (true≢false (sym used))
 one_used n (Some e) used = refl
 
 module _ (x : Space) (n : ℕ) (used : IsSome (get x n)) where

@@ -8,27 +8,16 @@ use Rattle.mrc_model.specs.Rising.{is_rising, find_key, right_holds}
 use Rattle.mrc_model.specs.Map.{Map, empty, get, insert}
 use Rattle.mrc_model.specs.World.{Space}
 use Rattle.mrc_model.specs.Space.{put_entry}
-use Rattle.mrc_model.proofs.Maps.{get-insert_same, get-insert_other, get-remove_same, get-empty}
-use Rattle.mrc_model.proofs.Maps.{get-remove_other, find_here, find_later, find_is_low, if_false}
+use Rattle.mrc_model.proofs.Maps.{get-insert_same, get-insert_other, get-empty}
+use Rattle.mrc_model.proofs.Maps.{find_here, find_later, find_is_low, if_false}
 use Rattle.mrc_model.proofs.Maps.{not_None, Each-insert}
+use Rattle.mrc_model.proofs.Spaces.{put_entry_same, put_entry_other}
 use Rattle.mrc_map.proofs.SameMaps.{same_map}
 use Rattle.mrc_index.specs.Names.{HoldsAlike, IsRestOf}
 use Rattle.mrc_index.specs.Undo.{CanPut}
 use Rattle.mrc_names.specs.Leaving.{patched_by, patched, HasRest, AreRests, CanPatch}
 
--- what stands under a name after one change
-
-pub get_put_same : (x : Space) (n : ℕ) (rest : Option Entry) → get (put_entry x n rest) n ≡ rest
-get_put_same x n None = get-remove_same x n
-get_put_same x n (Some e) = get-insert_same x n e
-
-pub get_put_other : (x : Space) (n : ℕ) (rest : Option Entry) (q : ℕ)
-    → (q ≡ n → ⊥)
-    → get (put_entry x n rest) q ≡ get x q
-get_put_other x n None q other = get-remove_other x n q other
-get_put_other x n (Some e) q other = get-insert_other x n e q other
-
--- and after many: what the change of the name says, if there is one
+-- what stands under a name after many changes: what the change of the name says, if there is one
 abbrev pub over : Option (Option Entry) → Option Entry → Option Entry
 over None held = held
 over (Some rest) held = rest
@@ -44,10 +33,10 @@ get_by low (c ∷ cs) x q r =
           let late : find_key q cs ≡ None =
           find_is_low (c.0 + 1) q cs (right_holds _ _ r) (omega arith) in
           ap (λ o. over o (get (put_entry x c.0 c.1) q)) late
-          ∙ ap (get (put_entry x c.0 c.1)) same ∙ get_put_same x c.0 c.1
+          ∙ ap (get (put_entry x c.0 c.1)) same ∙ put_entry_same x c.0 c.1
           ∙ sym (ap (λ o. over o (get x q)) (ap (λ k. find_key k (c ∷ cs)) same ∙ find_here c cs))
       | inr other ↦
-          ap (over (find_key q cs)) (get_put_other x c.0 c.1 q other)
+          ap (over (find_key q cs)) (put_entry_other x c.0 q c.1 other)
           ∙ ap (λ o. over o (get x q))
           (sym (if_false (q == c.0) (Some c.1) (find_key q cs) (ne_eqb q c.0 other)))
     ]
@@ -85,12 +74,12 @@ patched_more x c n rest = same_map _ _ (λ q. elim (cases_eq q n) [
   | inl same ↦
       ap (get (patched x (insert c n rest))) same
       ∙ get_changed x (insert c n rest) n rest (get-insert_same c n rest)
-      ∙ sym (get_put_same (patched x c) n rest)
+      ∙ sym (put_entry_same (patched x c) n rest)
       ∙ ap (get (put_entry (patched x c) n rest)) (sym same)
   | inr other ↦
       get_patched x (insert c n rest) q
       ∙ ap (λ o. over o (get x q)) (get-insert_other c n rest q other)
-      ∙ sym (get_patched x c q) ∙ sym (get_put_other (patched x c) n rest q other)
+      ∙ sym (get_patched x c q) ∙ sym (put_entry_other (patched x c) n q rest other)
 ])
 
 -- what is left of what was left is left
@@ -137,7 +126,7 @@ can_each low (c ∷ cs) x r each = (
       (sym at ∙ ap (λ k. find_key k cs) s
       ∙ find_is_low (c.0 + 1) c.0 cs (right_holds _ _ r) (omega arith)) in
       let old = each n rest (find_later low c cs n rest r at) in
-      (old.0, get_put_other x c.0 c.1 n apart ∙ old.1, old.2)),
+      (old.0, put_entry_other x c.0 n c.1 apart ∙ old.1, old.2)),
 )
 
 pub can_patch : (x : Space) (c : Map (Option Entry)) (cs : List (ℕ × Option Entry))

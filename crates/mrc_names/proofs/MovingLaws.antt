@@ -28,7 +28,7 @@ use Rattle.mrc_index.specs.Names.{HoldsAlike}
 use Rattle.mrc_names.specs.Bounds.{IsBounded}
 use Rattle.mrc_names.specs.Takes.{take_right, move_right}
 use Rattle.mrc_names.proofs.BoundLaws.{bounded_old, bounded_less}
-use Rattle.mrc_names.proofs.LeavingLaws.{get_put_same, get_put_other}
+use Rattle.mrc_model.proofs.Spaces.{put_entry_same, put_entry_other}
 
 -- an entry in the place of what was left
 pub put_over : (x : Space) (n m : ℕ) (rest : Option Entry) (e : Entry)
@@ -41,7 +41,7 @@ put_over x n m rest e same =
           ∙ sym (get-insert_same (put_entry x n rest) n e)
           ∙ ap (get (insert (put_entry x n rest) n e)) (sym here)
       | inr other ↦
-          get-insert_other x n e q other ∙ sym (get_put_other x n rest q other)
+          get-insert_other x n e q other ∙ sym (put_entry_other x n q rest other)
           ∙ sym (get-insert_other (put_entry x n rest) n e q other)
     ])
     ∙ ap (λ k. insert (put_entry x n rest) k e) (sym same)
@@ -149,7 +149,7 @@ pub alike_at : (x : Space) (n : ℕ) (d : Disp) (z : Space) (p : ℕ)
 alike_at x n d z p took none =
     let (e, t, at, from, left, port) = take_parts x n d z p took in
     let gone : t.rest ≡ None =
-    sym (get_put_same x n t.rest) ∙ ap (λ y. get y n) (sym left) ∙ none in
+    sym (put_entry_same x n t.rest) ∙ ap (λ y. get y n) (sym left) ∙ none in
     let whole : take_from e d ≡ Some (taken p None) =
     from ∙ (λ i. Some (record { port = sym port i; rest = gone i })) in
     (e, at, alike_new e d p whole)

@@ -5,7 +5,7 @@ use Rattle.mrc_model.specs.World.{Space}
 use Rattle.mrc_model.specs.Space.{put_entry, is_full}
 use Rattle.mrc_names.specs.Bounds.{IsBounded}
 use Rattle.mrc_names.proofs.BoundLaws.{bounded_new, bounded_old}
-use Rattle.mrc_names.proofs.LeavingLaws.{get_put_other}
+use Rattle.mrc_model.proofs.Spaces.{put_entry_other}
 use Rattle.mrc_names.proofs.MovingLaws.{put_over, bounded_left}
 use Rattle.mrc_names.proofs.space.Space.put_over.Goals as goal
 
@@ -25,7 +25,7 @@ returns-then-to-from-clause-ok c =
 pub move_new-requires-clause-unused : goal.move_new-requires-clause-unused
 move_new-requires-clause-unused c =
     ap (λ (x : Space). get x c.args.to) c.self.view_is
-    ∙ sym (get_put_other c.args.self.now c.args.from c.args.rest c.args.to c.if-to-from.false)
+    ∙ sym (put_entry_other c.args.self.now c.args.from c.args.to c.args.rest c.if-to-from.false)
     ∙ c.requires.unused
 
 pub invariant_of-self-2 : goal.invariant_of-self-2
