@@ -36,12 +36,14 @@ fn space(alloc: Global) -> Result<Space> {
     Ok(space)
 }
 
-/// A store of so many ports. The task holds the receive rights of the first 4,096; that of each
-/// other waits on the queue of one of these, in turn.
+/// A store of so many ports, the first one the task's kernel port. The task holds the receive
+/// rights of the first 4,096; that of each other waits on the queue of one of these, in turn.
 pub fn store(alloc: Global, ports: u64) -> Result<Store> {
     let mut store = Store::new(alloc);
-    store.add_space(TASK, space(alloc)?)?;
-    for port in 0..ports {
+    let _ = store
+        .add_task(space(alloc)?, ClassId(0))
+        .map_err(|refused| refused.fault)?;
+    for port in 1..ports {
         let _ = store.birth(ClassId(0));
         if port >= HELD {
             let ready = store.ready(carrying(alloc, PortId(port))?)?;

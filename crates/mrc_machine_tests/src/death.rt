@@ -27,20 +27,27 @@ fn space_of(alloc: Global, count: u64, right: PortRight) -> Result<Space, Fail> 
     Ok(space)
 }
 
-fn store_with(alloc: Global, own: Space, other: Space) -> Result<Store, AllocError> {
+fn add(store: &mut Store, space: Space) -> Result<PortId, OrMemory<Shortage>> {
+    store
+        .add_task(space, ClassId(0))
+        .map_err(|refused| refused.fault)
+}
+
+/// A store with tasks A and B, which have these spaces and the kernel ports 0 and 1.
+fn store_with(alloc: Global, own: Space, other: Space) -> Result<Store, OrMemory<Shortage>> {
     let mut store = Store::new(alloc);
-    store.add_space(A, own)?;
-    store.add_space(B, other)?;
+    let _ = add(&mut store, own)?;
+    let _ = add(&mut store, other)?;
     Ok(store)
 }
 
-/// A store with so many ports. Task A has their receive rights, and task B a send right on each,
-/// both under the names from 1 on.
+/// A store with so many ports, or two. Task A has the receive rights of the first so many, and task
+/// B a send right on each, both under the names from 1 on.
 fn store_of(alloc: Global, count: u64) -> Result<Store, Fail> {
     let own = space_of(alloc, count, PortRight::Receive)?;
     let other = space_of(alloc, count, PortRight::Send)?;
     let mut store = store_with(alloc, own, other)?;
-    for _ in 0..count {
+    for _ in 2..count {
         let _ = bear(&mut store)?;
     }
     Ok(store)
@@ -169,13 +176,15 @@ fn a_port_dies_with_its_receive_right(rt: HostRuntime) -> Result<(), Fail> {
     Ok(())
 }
 
-/// Whether no plan is made of the end of task 9, which has no space.
-fn is_no_task(alloc: Global, store: &Store) -> bool {
-    let what = Destroyed::Task {
-        task: TaskId(9),
-        kernel: PortId(0),
-    };
-    dying(alloc, store, what).is_err()
+/// Ends task 9, which has no space.
+fn end_without_space(alloc: Global, store: &mut Store, kernel: u64) -> Result<(), AllocError> {
+    let task = TaskId(9);
+    let kernel = PortId(kernel);
+    destroy(alloc, store, Destroyed::Task { task, kernel })
+}
+
+fn has_space(store: &Store, task: u32) -> bool {
+    store.space(TaskId(task)).is_some()
 }
 
 #[test]
@@ -183,8 +192,18 @@ fn what_is_not_there_destroys_nothing(rt: HostRuntime) -> Result<(), Fail> {
     let mut store = store_of(rt.alloc(), 2)?;
     destroy_entry(rt.alloc(), &mut store, 9)?;
     destroy_receive(rt.alloc(), &mut store, B, 1)?;
+    end_without_space(rt.alloc(), &mut store, 9)?;
     assert_eq!(rt; live(&store), 2);
-    assert!(rt; is_no_task(rt.alloc(), &store));
+    Ok(())
+}
+
+#[test]
+fn a_task_without_a_space_ends_with_its_kernel_port(rt: HostRuntime) -> Result<(), Fail> {
+    let mut store = store_of(rt.alloc(), 2)?;
+    end_without_space(rt.alloc(), &mut store, 1)?;
+    assert!(rt; is_live(&store, 0));
+    assert!(rt; !is_live(&store, 1));
+    assert!(rt; !has_space(&store, 9));
     Ok(())
 }
 

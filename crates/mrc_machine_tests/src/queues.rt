@@ -14,7 +14,7 @@ fn message(alloc: Global, id: u32, by_once: bool) -> Parcel {
 
 /// Such a message, for which there is room on a queue.
 fn ready(alloc: Global, table: &PortTable, id: u32, by_once: bool) -> Result<Ready, AllocError> {
-    table.ready(message(alloc, id, by_once))
+    Ok(table.ready(message(alloc, id, by_once))?)
 }
 
 fn enqueue(table: &mut PortTable, port: u64, ready: Ready) -> Result<(), NotQueued> {

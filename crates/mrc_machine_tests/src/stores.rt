@@ -4,19 +4,17 @@ use mrc_base::{ClassId, Disp, OrMemory, PortId, PortRight, TaskId};
 use mrc_model::Entry;
 use mrc_names::Space;
 use mrc_ports::{NoSuchPort, Shortage, Store};
-use std::alloc::{AllocError, Global};
+use std::alloc::Global;
 use std::test::Fail;
 
 const A: TaskId = TaskId(0);
 
 const B: TaskId = TaskId(1);
 
-fn add(store: &mut Store, space: Space) -> Result<(), AllocError> {
-    store.add_space(A, space)
-}
-
-fn bear(store: &mut Store) -> Result<PortId, OrMemory<Shortage>> {
-    store.birth(ClassId(3))
+fn add(store: &mut Store, space: Space) -> Result<PortId, OrMemory<Shortage>> {
+    store
+        .add_task(space, ClassId(3))
+        .map_err(|refused| refused.fault)
 }
 
 fn set_limit(store: &mut Store, port: u64) -> Result<(), NoSuchPort> {
@@ -35,11 +33,10 @@ fn limit_of(store: &Store) -> Option<u32> {
     Some(store.ports().get(PortId(0))?.limit())
 }
 
-/// A store with a port, and a space of task A without entries.
+/// A store with task A, whose space has no entry, and with its kernel port alone.
 fn store_of_one_port(alloc: Global) -> Result<Store, OrMemory<Shortage>> {
     let mut store = Store::new(alloc);
-    add(&mut store, Space::new(alloc))?;
-    let _ = bear(&mut store)?;
+    let _ = add(&mut store, Space::new(alloc))?;
     Ok(store)
 }
 

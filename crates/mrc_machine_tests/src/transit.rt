@@ -21,13 +21,17 @@ fn bear(store: &mut Store) -> Result<PortId, OrMemory<Shortage>> {
     store.birth(ClassId(0))
 }
 
-/// A store with two ports, and with the space of task A.
+fn add(store: &mut Store, space: Space) -> Result<PortId, OrMemory<Shortage>> {
+    store
+        .add_task(space, ClassId(0))
+        .map_err(|refused| refused.fault)
+}
+
+/// A store with task A, which has this space, and with two ports, the first one its kernel port.
 fn two_ports(alloc: Global, space: Space) -> Result<Store, OrMemory<Shortage>> {
     let mut store = Store::new(alloc);
-    store.add_space(A, space)?;
-    for _ in 0..2u8 {
-        let _ = bear(&mut store)?;
-    }
+    let _ = add(&mut store, space)?;
+    let _ = bear(&mut store)?;
     Ok(store)
 }
 

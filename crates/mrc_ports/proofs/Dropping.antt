@@ -2,8 +2,7 @@
 use Rattle.std.proofs.Common.{◌≡◌, ℕ, suc, ◌<◌, ◌≤◌, nat_lt, Bool, true, false, ◌&&◌, List}
 use Rattle.std.proofs.Common.{[], ◌∷◌, map, length, Option, Some, None, refl, sym, ◌∙◌, ap, arith}
 use Rattle.std.proofs.Common.{inl, inr, if◌then◌else◌}
-use Rattle.std.proofs.lemmas.Bool.{cases_eq, ltb-true, ltb-false}
-use Rattle.std.proofs.lemmas.Bool.Decides.{nat_tests}
+use Rattle.std.proofs.lemmas.Bool.{cases_eq, ltb-true, ltb-false, lt-ltb, and_right}
 use Rattle.std.specs.Option.{option_and_then}
 use Rattle.mrc_model.specs.declared.Backup.{Backup}
 use Rattle.mrc_model.specs.declared.Backup.TheVariants.{Absent as NoBackup, Dead as DeadBackup}
@@ -24,16 +23,6 @@ use Rattle.mrc_map.specs.Members.{above, IsMember, IsFirst}
 use Rattle.mrc_map.proofs.SameMaps.{same_map}
 use Rattle.mrc_ports.specs.Burials.{left_of, without}
 
-not_less : (a b : ℕ) → b ≤ a → nat_lt a b ≡ false
-not_less a b h = grind (arith, nat_tests)
-
-is_less : (a b : ℕ) → a < b → nat_lt a b ≡ true
-is_less a b h = grind (arith, nat_tests)
-
-no_right : (b : Bool) → (b && false) ≡ false
-no_right true = refl
-no_right false = refl
-
 -- the members below a number are gone
 abbrev pub AreGone : List ℕ → ℕ → Map Port → Map Port → Type 0
 AreGone dead below was now =
@@ -51,7 +40,7 @@ module _ (dead : List ℕ) (last : Option ℕ) where
       → (b && has dead q) ≡ (nat_lt q (suc p) && has dead q)) [
         | true ↦ λ t.
             let low : q < above last = ltb-true q (above last) t in
-            sym (ap (λ c. c && has dead q) (is_less q (suc p) (omega arith)))
+            sym (ap (λ c. c && has dead q) (lt-ltb q (suc p) (omega arith)))
         | false ↦ λ t.
             let high : above last ≤ q = ltb-false q (above last) t in
             sym (elim (nat_lt q (suc p)) as (λ c. nat_lt q (suc p) ≡ c
@@ -76,7 +65,7 @@ module _ (dead : List ℕ) (last : Option ℕ) where
     | inl same ↦
         ap (get (remove now p)) same ∙ get-remove_same now p
         ∙ sym (ap (λ k. if nat_lt k (suc p) && has dead k then None else get was q) same
-        ∙ ap (λ b. if b && has dead p then None else get was q) (is_less p (suc p) (omega arith))
+        ∙ ap (λ b. if b && has dead p then None else get was q) (lt-ltb p (suc p) (omega arith))
         ∙ ap (λ b. if b then None else get was q) m.there)
     | inr apart ↦
         get-remove_other now p q apart ∙ so_far q
@@ -102,7 +91,7 @@ module _ (dead : List ℕ) (last : Option ℕ) where
           ]
       each q (Some x) false h =
           ap (λ b. if nat_lt q (above last) && b then None else Some x) h
-          ∙ ap (λ b. if b then None else Some x) (no_right (nat_lt q (above last)))
+          ∙ ap (λ b. if b then None else Some x) (and_right (nat_lt q (above last)) false refl)
           ∙ sym (if_false (has dead q) None (Some x) h)
       each q (Some x) true h = elim (nat_lt q (above last)) as (λ c. nat_lt q (above last) ≡ c
           → (if c && has dead q then None else Some x) ≡ without dead q x) [

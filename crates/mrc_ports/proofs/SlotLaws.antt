@@ -85,11 +85,6 @@ module _ {X : Type 0} where
           not_None q (sym (kept.listed q j h) ∙ ap (number_in s.slots) e
           ∙ ap (option_map (λ (x : ℕ × X). x.0)) vacant)
 
-      other_slot : (j : ℕ)
-          → (j ≡ k → ⊥)
-          → slice_index_or t.slots j None ≡ slice_index_or s.slots j None
-      other_slot j d = new.others j d
-
       listed_new : (q j : ℕ) → get (insert order n k) q ≡ Some j → number_in t.slots j ≡ Some q
       listed_new q j h = elim (cases_eq q n) [
         | inl same ↦
@@ -99,7 +94,7 @@ module _ {X : Type 0} where
             ∙ ap Some (sym same)
         | inr differs ↦
             let was : get order q ≡ Some j = sym (get-insert_other order n k q differs) ∙ h in
-            ap (option_map (λ (x : ℕ × X). x.0)) (other_slot j (apart q j was))
+            ap (option_map (λ (x : ℕ × X). x.0)) (new.others j (apart q j was))
             ∙ kept.listed q j was
       ]
 
@@ -112,7 +107,7 @@ module _ {X : Type 0} where
             ap (get (insert order n k)) (sym is) ∙ get-insert_same order n k ∙ ap Some (sym same)
         | inr differs ↦
             let was : get order q ≡ Some j = kept.found j q
-            (sym (ap (option_map (λ (x : ℕ × X). x.0)) (other_slot j differs)) ∙ h) in
+            (sym (ap (option_map (λ (x : ℕ × X). x.0)) (new.others j differs)) ∙ h) in
             get-insert_other order n k q
             (λ e. not_None j (sym was ∙ ap (get order) e ∙ no_slot)) ∙ was
       ]
@@ -122,7 +117,7 @@ module _ {X : Type 0} where
           → option_and_then (value_in t.slots) o ≡ option_and_then (value_in s.slots) o
       other_value q None h = refl
       other_value q (Some j) h =
-          ap (option_map (λ (x : ℕ × X). x.1)) (other_slot j (apart q j h))
+          ap (option_map (λ (x : ℕ × X). x.1)) (new.others j (apart q j h))
 
       same_at : (q : ℕ) → get (values_of t.slots (insert order n k)) q ≡ get (insert m n v) q
       same_at q = elim (cases_eq q n) [
@@ -204,18 +199,13 @@ module _ {X : Type 0} where
           differs (same_Some q n (sym (kept.listed q j h) ∙ ap (number_in s.slots) e
           ∙ kept.listed n k at))
 
-      other_slot : (j : ℕ)
-          → (j ≡ k → ⊥)
-          → slice_index_or t.slots j None ≡ slice_index_or s.slots j None
-      other_slot j d = new.others j d
-
       listed_new : (q j : ℕ) → get (remove order n) q ≡ Some j → number_in t.slots j ≡ Some q
       listed_new q j h = elim (cases_eq q n) [
         | inl same ↦
             absurd (not_None j (sym h ∙ ap (get (remove order n)) same ∙ get-remove_same order n))
         | inr differs ↦
             let was : get order q ≡ Some j = sym (get-remove_other order n q differs) ∙ h in
-            ap (option_map (λ (x : ℕ × X). x.0)) (other_slot j (apart q j differs was))
+            ap (option_map (λ (x : ℕ × X). x.0)) (new.others j (apart q j differs was))
             ∙ kept.listed q j was
       ]
 
@@ -226,7 +216,7 @@ module _ {X : Type 0} where
             ∙ ap (option_map (λ (x : ℕ × X). x.0)) new.changed))
         | inr differs ↦
             let was : get order q ≡ Some j = kept.found j q
-            (sym (ap (option_map (λ (x : ℕ × X). x.0)) (other_slot j differs)) ∙ h) in
+            (sym (ap (option_map (λ (x : ℕ × X). x.0)) (new.others j differs)) ∙ h) in
             get-remove_other order n q
             (λ e. differs (same_Some j k (sym was ∙ ap (get order) e ∙ at))) ∙ was
       ]
@@ -237,7 +227,7 @@ module _ {X : Type 0} where
           → option_and_then (value_in t.slots) o ≡ option_and_then (value_in s.slots) o
       other_value q None d h = refl
       other_value q (Some j) d h =
-          ap (option_map (λ (x : ℕ × X). x.1)) (other_slot j (apart q j d h))
+          ap (option_map (λ (x : ℕ × X). x.1)) (new.others j (apart q j d h))
 
       same_at : (q : ℕ) → get (values_of t.slots (remove order n)) q ≡ get (remove m n) q
       same_at q = elim (cases_eq q n) [

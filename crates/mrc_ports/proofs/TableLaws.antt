@@ -17,6 +17,7 @@ use Rattle.mrc_map.specs.Entries.{below}
 use Rattle.mrc_map.proofs.SameMaps.{same_map}
 use Rattle.mrc_ports.specs.Burials.{buried, left_of}
 use Rattle.mrc_ports.specs.Tables.{Table, IsSound, with_port, restarted, store_of, next_task}
+use Rattle.mrc_ports.specs.Tables.{with_home}
 
 -- the last value put at a key stands there
 pub insert_twice : {X : Type 0} (m : Map X) (k : ℕ) (v w : X)
@@ -124,6 +125,28 @@ add_undone spaces put out t u s key j x view next key_is put_is out_is table =
     ap (λ m. store_of m u)
     (out_is ∙ ap (λ m. remove m key) put_is ∙ remove_next spaces key x number)
     ∙ ap (store_of spaces) table ∙ view
+
+-- the space of a task that was just added
+pub home_there : (spaces : Map Space) (t : Table) (s : Store) (class key : ℕ)
+    → store_of spaces t ≡ with_home s empty class
+    → key ≡ next_key s.spaces
+    → IsSome (get spaces key)
+home_there spaces t s class key is number =
+    ap (λ (z : Store). is_some (get z.spaces key)) is
+    ∙ ap (λ k. is_some (get (insert s.spaces (next_key s.spaces) empty) k)) number
+    ∙ ap is_some (get-insert_same s.spaces (next_key s.spaces) empty)
+
+-- and another one in its place
+pub home_filled : (spaces put : Map Space) (t : Table) (s : Store) (class key : ℕ) (x : Space)
+    → store_of spaces t ≡ with_home s empty class
+    → key ≡ next_key s.spaces
+    → put ≡ insert spaces key x
+    → store_of put t ≡ with_home s x class
+home_filled spaces put t s class key x is number put_is =
+    let n = next_key s.spaces in
+    ap (λ m. store_of m t) (put_is ∙ ap (λ (z : Store). insert z.spaces key x) is
+    ∙ ap (λ k. insert (insert s.spaces n empty) k x) number ∙ insert_twice s.spaces n empty x)
+    ∙ ap (λ (z : Store). record z { spaces = insert s.spaces n x }) is
 
 -- what each port of a table keeps
 

@@ -1,7 +1,7 @@
 -- Queues of ports, and what sending and receiving leave of a port. From Mach 3 Kernel Interfaces,
 -- mach_msg. How many messages may wait at most, whatever the limit of a queue says, is this
 -- profile's own choice: memory has no room for as many.
-use Rattle.std.specs.Prelude.{ℕ, ◌≤◌, ◌+◌, ◌%◌, ◌^◌, Bool, false, not, ◌&&◌, ◌||◌, List, [], ◌∷◌}
+use Rattle.std.specs.Prelude.{ℕ, ◌≤◌, ◌+◌, ◌%◌, ◌^◌, Bool, false, not, ◌&&◌, List, [], ◌∷◌}
 use Rattle.std.specs.Prelude.{◌++◌, length, Option, Some, None, nat_le}
 use Rattle.mrc_model.specs.declared.Item.TheVariants.{Null}
 use Rattle.mrc_model.specs.Map.{Map, Each, get}
@@ -17,11 +17,13 @@ limit_of_waiting = 2 ^ 62
 abbrev pub HaveRoom : ℕ → Map Port → Type 0
 HaveRoom more ports = Each (λ p x. length x.queue + more ≤ limit_of_waiting) ports
 
--- the port takes no such message now: one that was sent through a send-once right comes in also at
--- the limit of the queue
+-- the queue is at or above its limit, and the message was not sent through a send-once right
 abbrev pub is_full_for : Port → Bool → Bool
-is_full_for x by_once =
-    (not by_once && nat_le x.limit (length x.queue)) || nat_le limit_of_waiting (length x.queue)
+is_full_for x by_once = not by_once && nat_le x.limit (length x.queue)
+
+-- so many messages wait at the port that memory has no room for as many
+abbrev pub is_out_of_room : Port → Bool
+is_out_of_room x = nat_le limit_of_waiting (length x.queue)
 
 -- the port with one message more
 abbrev pub with_message : Port → Parcel → Port

@@ -10,5 +10,5 @@ mod table;
 
 pub use parcel::{Items, Parcel, Queue, QueuedArgument, Ready, moving};
 pub use port::Port;
-pub use store::Store;
+pub use store::{NotAdded, Store};
 pub use table::{NoSuchPort, NotQueued, PortTable, Shortage};

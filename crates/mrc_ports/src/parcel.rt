@@ -1,7 +1,7 @@
 //! Messages on a queue.
 
-ghost use Rattle.std.specs.Prelude.{◌≡◌, ◌<◌, ◌≤◌, ◌^◌, ◌+◌, ◌++◌, ◌∷◌, [], length, map, IfOk};
-ghost use Rattle.std.specs.Prelude.{MatchOption, option_map};
+ghost use Rattle.std.specs.Prelude.{◌≡◌, ◌<◌, ◌≤◌, ◌^◌, ◌+◌, ◌++◌, ◌∷◌, [], length, map};
+ghost use Rattle.std.specs.Prelude.{IfOk, IfErr, MatchOption, option_map};
 ghost use Rattle.std.specs.Option.{option_copied};
 ghost use Rattle.mrc_base.specs.Limits.{limit_of_message};
 ghost use Rattle.mrc_model.specs.Rights.{moving, given_number};
@@ -19,7 +19,7 @@ use mrc_base::{Disp, PortRight};
 use mrc_desc::{Bytes, Desc};
 use mrc_map::Ports;
 use mrc_model::Item;
-use std::alloc::{AllocError, Global};
+use std::alloc::{AllocFailed, Global};
 use std::collections::LinkedList;
 use std::collections::linked_list::Iter;
 use std::marker::Model;
@@ -335,8 +335,9 @@ impl Model for Ready {
 
 impl Ready {
     /// A message with room. It alone takes memory.
-    pub(crate) fn new(alloc: Global, parcel: Parcel) -> Result<Ready, AllocError>
-        ensures { IfOk result (λ ready. ready ≡ parcel) }
+    pub(crate) fn new(alloc: Global, parcel: Parcel) -> Result<Ready, AllocFailed<Parcel>>
+        ensures ok { IfOk result (λ ready. ready ≡ parcel) }
+        ensures returned { IfErr result (λ refused. refused.value ≡ parcel) }
     {
         let mut parcels = LinkedList::new(alloc);
         parcels.push_back(parcel)?;

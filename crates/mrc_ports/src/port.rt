@@ -1,8 +1,8 @@
 //! Ports.
 
 ghost use Rattle.std.specs.Prelude.{◌≡◌, ◌<◌, ◌∷◌, length};
-ghost use Rattle.mrc_ports.specs.Queues.{limit_of_waiting, is_full_for, with_message};
-ghost use Rattle.mrc_ports.specs.Queues.{after_receipt};
+ghost use Rattle.mrc_ports.specs.Queues.{limit_of_waiting, is_full_for, is_out_of_room};
+ghost use Rattle.mrc_ports.specs.Queues.{with_message, after_receipt};
 ghost use Rattle.mrc_model.specs.CallAllocate.{new_port};
 ghost use Rattle.mrc_model.specs.Death.{perished_backup};
 ghost use Rattle.mrc_ports.specs.Burials.{left_of};
@@ -133,13 +133,19 @@ impl Port {
         }
     }
 
-    /// Whether the port takes no message now that was sent through such a right: its queue is at or
-    /// above its limit and the right is no send-once right, or 2^62 messages wait.
+    /// Whether the queue is full for a message: it is at or above its limit, and the message was
+    /// not sent through a send-once right.
     pub fn is_full_for(&self, by_once: bool) -> bool
         ensures { result ≡ is_full_for self.now by_once }
     {
-        let waiting = self.queue.len();
-        !by_once && self.limit as usize <= waiting || WAITING <= waiting
+        !by_once && self.limit as usize <= self.queue.len()
+    }
+
+    /// Whether 2^62 messages wait: memory has no room for as many.
+    pub fn is_out_of_room(&self) -> bool
+        ensures { result ≡ is_out_of_room self.now }
+    {
+        WAITING <= self.queue.len()
     }
 
     /// The same port with one message more.

@@ -1,15 +1,15 @@
 //! All spaces and all ports.
 
-ghost use Rattle.std.specs.Prelude.{◌≡◌, ◌↔◌, Some, None, IfOk, OnOk, OnErr, IsSome, IsOk, IsErr};
-ghost use Rattle.std.specs.Prelude.{IsErrAnd, IsTrue, Err, true, false};
+ghost use Rattle.std.specs.Prelude.{◌≡◌, ◌↔◌, Some, None, IfOk, IfErr, OnOk, OnErr, IsSome, IsOk};
+ghost use Rattle.std.specs.Prelude.{IsErr, IsErrAnd, IsTrue, Err, true, false};
 ghost use Rattle.std.specs.Option.{option_copied};
-ghost use Rattle.mrc_model.specs.Map.{get, insert};
+ghost use Rattle.mrc_model.specs.Map.{empty, get, insert, next_key};
 ghost use Rattle.mrc_model.specs.World.{set_space, set_port, Port as TPort};
 ghost use Rattle.mrc_model.specs.Space.{restart};
 ghost use Rattle.mrc_model.specs.Death.{bury};
-ghost use Rattle.mrc_ports.specs.declared.table.NotQueued.TheVariants.{Absent, Full};
+ghost use Rattle.mrc_ports.specs.declared.table.NotQueued.TheVariants.{Absent, Full, Memory};
 ghost use Rattle.mrc_ports.specs.Faults.{IsFault};
-ghost use Rattle.mrc_ports.specs.Queues.{is_full_for, with_message, received_by};
+ghost use Rattle.mrc_ports.specs.Queues.{is_full_for, is_out_of_room, with_message, received_by};
 ghost use Rattle.mrc_ports.specs.Tables.{table_of, store_of, with_birth, is_short, no_store};
 ghost use Rattle.mrc_ports.specs.Tables.{next_task, with_home, is_short_of_homes};
 
@@ -20,11 +20,20 @@ use mrc_base::{ClassId, OrMemory, PortId, TaskId};
 use mrc_map::{Map, Ports};
 use mrc_model::Backup;
 use mrc_names::Space;
-use std::alloc::{AllocError, Global};
+use std::alloc::{AllocFailed, Global};
 use std::marker::Model;
 
 /// How many tasks there may have been: their numbers have 32 bits.
 const TASK_NUMBERS: u64 = 0x1_0000_0000;
+
+/// Why no task was added; its space comes back.
+#[derive(Debug, Drop)]
+pub struct NotAdded {
+    /// Shortage, or out of memory.
+    pub fault: OrMemory<Shortage>,
+    /// The space that was passed.
+    pub space: Space,
+}
 
 /// The spaces of all tasks, and all live ports.
 #[derive(Debug, Drop)]
@@ -67,14 +76,6 @@ impl Store {
         self.spaces.entries()
     }
 
-    /// Gives a task a space, or another one.
-    pub fn add_space(&mut self, task: TaskId, space: Space) -> Result<(), AllocError>
-        ensures ok { OnOk result (self.new ≡ set_space self.old task space) }
-        ensures err { OnErr result (self.new ≡ self.old) }
-    {
-        self.spaces.insert(u64::from(task.0), space)
-    }
-
     /// The number that the next task gets: one above the last. None where as many tasks have been
     /// as there may be.
     pub fn next_task(&self) -> Option<TaskId>
@@ -86,12 +87,11 @@ impl Store {
         }
     }
 
-    /// A space for the next task, and a new port of the class, which is its kernel port: both or
-    /// neither. The space may name the port, whose number `PortTable::next` shows. Refused exactly
-    /// where there are as many live ports, or as many births or tasks have been, as there may be.
-    pub fn add_task(&mut self, space: Space, class: ClassId) -> Result<PortId, OrMemory<Shortage>>
-        ensures added { OnOk result (self.new ≡ with_home self.old space class) }
-        ensures number { IfOk result (λ port. port ≡ self.old.next) }
+    /// An empty space for the next task, whose number is returned, and a new port of the class.
+    fn add_home(&mut self, class: ClassId) -> Result<(u64, PortId), OrMemory<Shortage>>
+        ensures added { OnOk result (self.new ≡ with_home self.old empty class) }
+        ensures number { IfOk result (λ home.
+            (home.0 ≡ next_key self.old.spaces) × (home.1 ≡ self.old.next)) }
         ensures short { IsErrAnd result IsFault ↔ IsTrue (is_short_of_homes self.old) }
         ensures err { OnErr result (self.new ≡ self.old) }
     {
@@ -102,13 +102,34 @@ impl Store {
             return Err(OrMemory::Fault(Shortage));
         }
         let key = u64::from(task.0);
-        self.spaces.insert(key, space)?;
+        self.spaces.insert(key, Space::new(self.table.allocator()))?;
         match self.table.birth(class) {
-            Ok(port) => Ok(port),
+            Ok(port) => Ok((key, port)),
             Err(fault) => {
                 self.spaces.remove(key);
                 Err(fault)
             }
+        }
+    }
+
+    /// A space for the next task, and a new port of the class, which is its kernel port: both or
+    /// neither. The space may name the port, whose number `PortTable::next` shows; with a refusal
+    /// it comes back. Refused with Shortage if and only if there are as many live ports, or as many
+    /// births or tasks have been, as there may be.
+    pub fn add_task(&mut self, space: Space, class: ClassId) -> Result<PortId, NotAdded>
+        ensures added { OnOk result (self.new ≡ with_home self.old space class) }
+        ensures number { IfOk result (λ port. port ≡ self.old.next) }
+        ensures short { IsErrAnd result (λ refused. IsFault refused.fault)
+            ↔ IsTrue (is_short_of_homes self.old) }
+        ensures err { OnErr result (self.new ≡ self.old) }
+        ensures returned { IfErr result (λ refused. refused.space ≡ space) }
+    {
+        match self.add_home(class) {
+            Ok((key, port)) => {
+                self.spaces.set(key, space);
+                Ok(port)
+            }
+            Err(fault) => Err(NotAdded { fault, space }),
         }
     }
 
@@ -187,22 +208,28 @@ impl Store {
         self.table.restart(port);
     }
 
-    /// A message with its own room on a queue.
-    pub fn ready(&self, parcel: Parcel) -> Result<Ready, AllocError>
-        ensures { IfOk result (λ ready. ready ≡ parcel) }
+    /// A message with its own room on a queue; if memory runs out the message comes back.
+    pub fn ready(&self, parcel: Parcel) -> Result<Ready, AllocFailed<Parcel>>
+        ensures ok { IfOk result (λ ready. ready ≡ parcel) }
+        ensures returned { IfErr result (λ refused. refused.value ≡ parcel) }
     {
         self.table.ready(parcel)
     }
 
-    /// Puts a message at the end of a port's queue. Refused where no live port has this number, or
-    /// it is full for the message. It takes no memory.
+    /// Puts a message at the end of a port's queue. Refused if no live port has this number, if the
+    /// queue is full for the message, or if 2^62 messages wait. It takes no memory.
     pub fn enqueue(&mut self, port: PortId, ready: Ready) -> Result<(), NotQueued>
         ensures queued { (x : TPort) → get self.old.ports port ≡ Some x
             → is_full_for x ready.by_once ≡ false
+            → is_out_of_room x ≡ false
             → IsOk result × (self.new ≡ set_port self.old port (with_message x ready)) }
         ensures full { (x : TPort) → get self.old.ports port ≡ Some x
             → is_full_for x ready.by_once ≡ true
             → (result ≡ Err (Full ready)) × (self.new ≡ self.old) }
+        ensures memory { (x : TPort) → get self.old.ports port ≡ Some x
+            → is_full_for x ready.by_once ≡ false
+            → is_out_of_room x ≡ true
+            → (result ≡ Err (Memory ready)) × (self.new ≡ self.old) }
         ensures absent { get self.old.ports port ≡ None
             → (result ≡ Err (Absent ready)) × (self.new ≡ self.old) }
     {

@@ -1,15 +1,16 @@
 //! All live ports.
 
-ghost use Rattle.std.specs.Prelude.{◌≡◌, ◌≤◌, ◌↔◌, Some, IfOk, OnOk, OnErr, None, IsSome, IsOk};
-ghost use Rattle.std.specs.Prelude.{IsErr, IsErrAnd, IsTrue, Err, true, false};
+ghost use Rattle.std.specs.Prelude.{◌≡◌, ◌≤◌, ◌↔◌, Some, None, IsSome, IfOk, OnOk, OnErr};
+ghost use Rattle.std.specs.Prelude.{IfErr, IsOk, IsErr, IsErrAnd, IsTrue, Err, true, false};
 ghost use Rattle.std.specs.Option.{option_copied};
 ghost use Rattle.mrc_model.specs.Map.{empty, get, insert, len};
 ghost use Rattle.mrc_ports.specs.Burials.{buried};
 ghost use Rattle.mrc_ports.specs.Tables.{with_birth, is_short, with_port, restarted};
 ghost use Rattle.mrc_model.specs.World.{Port as TPort};
-ghost use Rattle.mrc_ports.specs.declared.table.NotQueued.TheVariants.{Absent, Full};
+ghost use Rattle.mrc_ports.specs.declared.table.NotQueued.TheVariants.{Absent, Full, Memory};
 ghost use Rattle.mrc_ports.specs.Faults.{IsFault};
-ghost use Rattle.mrc_ports.specs.Queues.{HaveRoom, is_full_for, with_message, received_from};
+ghost use Rattle.mrc_ports.specs.Queues.{HaveRoom, is_full_for, is_out_of_room, with_message};
+ghost use Rattle.mrc_ports.specs.Queues.{received_from};
 
 use crate::burying::bury_ports;
 use crate::parcel::{Parcel, Ready};
@@ -18,7 +19,7 @@ use crate::slots::Slots;
 use mrc_base::{ClassId, OrMemory, PortId, limits};
 use mrc_map::Ports;
 use mrc_model::Backup;
-use std::alloc::{AllocError, Global};
+use std::alloc::{AllocFailed, Global};
 use std::marker::Model;
 use thiserror::Error;
 
@@ -38,8 +39,10 @@ pub enum NotQueued {
     /// No live port has this number.
     Absent(Ready),
     /// The port's queue is at or above its limit, and the message was not sent through a send-once
-    /// right; or 2^62 messages wait.
+    /// right.
     Full(Ready),
+    /// The queue is not full for the message, but 2^62 messages wait at the port.
+    Memory(Ready),
 }
 
 /// All live ports, by the numbers of their births. It keeps the allocator that it is made with.
@@ -91,6 +94,11 @@ impl PortTable {
             longest: 0,
             ports: Slots::new(alloc),
         }
+    }
+
+    /// The allocator that the table keeps.
+    pub(crate) fn allocator(&self) -> Global {
+        self.alloc
     }
 
     /// The port of this number.
@@ -198,31 +206,40 @@ impl PortTable {
         self.longest <= WAITING && more <= WAITING - self.longest
     }
 
-    /// A message with its own room on a queue.
-    pub fn ready(&self, parcel: Parcel) -> Result<Ready, AllocError>
-        ensures { IfOk result (λ ready. ready ≡ parcel) }
+    /// A message with its own room on a queue; if memory runs out the message comes back.
+    pub fn ready(&self, parcel: Parcel) -> Result<Ready, AllocFailed<Parcel>>
+        ensures ok { IfOk result (λ ready. ready ≡ parcel) }
+        ensures returned { IfErr result (λ refused. refused.value ≡ parcel) }
     {
         Ready::new(self.alloc, parcel)
     }
 
-    /// Puts a message at the end of a port's queue. Refused where no live port has this number, or
-    /// it is full for the message. It takes no memory.
+    /// Puts a message at the end of a port's queue. Refused if no live port has this number, if the
+    /// queue is full for the message, or if 2^62 messages wait. It takes no memory.
     pub fn enqueue(&mut self, port: PortId, ready: Ready) -> Result<(), NotQueued>
         ensures queued { (x : TPort) → get self.old.ports port ≡ Some x
             → is_full_for x ready.by_once ≡ false
+            → is_out_of_room x ≡ false
             → IsOk result × (self.new ≡ with_port self.old port (with_message x ready)) }
         ensures full { (x : TPort) → get self.old.ports port ≡ Some x
             → is_full_for x ready.by_once ≡ true
             → (result ≡ Err (Full ready)) × (self.new ≡ self.old) }
+        ensures memory { (x : TPort) → get self.old.ports port ≡ Some x
+            → is_full_for x ready.by_once ≡ false
+            → is_out_of_room x ≡ true
+            → (result ≡ Err (Memory ready)) × (self.new ≡ self.old) }
         ensures absent { get self.old.ports port ≡ None
             → (result ≡ Err (Absent ready)) × (self.new ≡ self.old) }
     {
-        let full = match self.ports.get(port.0) {
+        let (full, out_of_room) = match self.ports.get(port.0) {
             None => return Err(NotQueued::Absent(ready)),
-            Some(found) => found.is_full_for(ready.by_once()),
+            Some(found) => (found.is_full_for(ready.by_once()), found.is_out_of_room()),
         };
         if full {
             return Err(NotQueued::Full(ready));
+        }
+        if out_of_room {
+            return Err(NotQueued::Memory(ready));
         }
         let found = taken(&mut self.ports, self.alloc, port);
         let filled = found.with_message(ready);
