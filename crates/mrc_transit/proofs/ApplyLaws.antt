@@ -4,13 +4,14 @@ use Rattle.std.proofs.Common.{Option, Some, None, Result, Ok, Err, refl, inl, in
 use Rattle.std.proofs.Common.{sym, ◌∙◌, ap, subst}
 use Rattle.std.specs.Prelude.{IsOk, is_err}
 use Rattle.std.proofs.lemmas.Bool.{cases_eq}
+use Rattle.std.proofs.lemmas.List.{drop_all}
 use Rattle.mrc_model.specs.Map.{get, insert}
 use Rattle.mrc_model.specs.World.{Port, Parcel, Store, set_space, set_port}
 use Rattle.mrc_model.specs.Space.{restart, restart_port}
 use Rattle.mrc_model.specs.Death.{append, append_to}
 use Rattle.mrc_model.proofs.Maps.{same_Some, get-insert_same, get-insert_other}
-use Rattle.mrc_ports.specs.Queues.{is_full_for, with_message}
-use Rattle.mrc_filter.proofs.Shapes.{past}
+use Rattle.mrc_model.proofs.KeptCalls.{restart_spaces as same_spaces}
+use Rattle.mrc_ports.specs.Queues.{is_full_for, is_out_of_room, with_message}
 use Rattle.mrc_transit.specs.Staging.{restart_each, staged}
 use Rattle.mrc_transit.specs.SendPlans.{SendPlan, sent, taking_of, IsReady}
 
@@ -20,7 +21,7 @@ pub restart_done : (s z : Store) (k : ℕ) (ps : List ℕ)
     → restart_each s ps ≡ restart_each z (drop k ps)
     → length ps ≤ k
     → restart_each s ps ≡ z
-restart_done s z k ps far most = far ∙ ap (restart_each z) (past ps k most)
+restart_done s z k ps far most = far ∙ ap (restart_each z) (drop_all k ps most)
 
 -- what is put and restarted is what the plan leaves of the takings
 pub put_staged : (s m z : Store) (plan : SendPlan)
@@ -35,13 +36,9 @@ put_staged s m z plan put ps left same =
 
 -- no space but the sender's changes
 
-restart_spaces_at : (s : Store) (p : ℕ) (o : Option Port) → (restart_port s p o).spaces ≡ s.spaces
-restart_spaces_at s p None = refl
-restart_spaces_at s p (Some x) = refl
-
 pub restart_spaces : (s : Store) (p : ℕ) → (restart s p).spaces ≡ s.spaces
 unfolding restart
-restart_spaces s p = restart_spaces_at s p (get s.ports p)
+restart_spaces s p = same_spaces s p (get s.ports p)
 
 each_spaces : (ps : List ℕ) (s : Store) → (restart_each s ps).spaces ≡ s.spaces
 each_spaces [] s = refl
@@ -127,14 +124,16 @@ appended : (s : Store) (p : ℕ) (m : Parcel) (y : Port)
 unfolding append
 appended s p m y at = ap (append_to s p m) at
 
-ok_fails : {A B : Type 0} (r : Result A B) → IsOk r → is_err r ≡ true → ⊥
-ok_fails (Ok a) ok err = cc
-ok_fails (Err b) ok err = cc
+-- an answer is a value or a fault
+pub ok_not_err : {A B : Type 0} (r : Result A B) → IsOk r → is_err r ≡ true → ⊥
+ok_not_err (Ok a) ok err = cc
+ok_not_err (Err b) ok err = cc
 
 module _ {A B : Type 0} (s z v : Store) (plan : SendPlan) (ready : IsReady s plan) (r : Result A B)
     (put : z ≡ staged s plan.sender (taking_of s plan))
     (queued : (x : Port) → get z.ports plan.destination ≡ Some x
     → is_full_for x plan.parcel.by_once ≡ false
+    → is_out_of_room x ≡ false
     → IsOk r × (v ≡ set_port z plan.destination (with_message x plan.parcel))) where
   still : IsLike ready.port z plan.destination
   unfolding staged
@@ -143,17 +142,22 @@ module _ {A B : Type 0} (s z v : Store) (plan : SendPlan) (ready : IsReady s pla
       (like_each plan.moved _ plan.destination ready.port
       (ready.port, ready.live, refl, refl))
 
-  has_room : is_full_for still.0 plan.parcel.by_once ≡ false
-  has_room =
+  not_full : is_full_for still.0 plan.parcel.by_once ≡ false
+  not_full =
       (λ i. is_full_for (record still.0 { queue = still.2 i; limit = still.3 i })
-      plan.parcel.by_once) ∙ ready.room
+      plan.parcel.by_once) ∙ ready.not_full
+
+  has_room : is_out_of_room still.0 ≡ false
+  has_room =
+      (λ i. is_out_of_room (record still.0 { queue = still.2 i; limit = still.3 i }))
+      ∙ ready.room
 
   done : IsOk r × (v ≡ set_port z plan.destination (with_message still.0 plan.parcel))
-  done = queued still.0 still.1 has_room
+  done = queued still.0 still.1 not_full has_room
 
   -- the message is queued
   pub apply_queued : is_err r ≡ true → ⊥
-  apply_queued = ok_fails r done.0
+  apply_queued = ok_not_err r done.0
 
   pub apply_done : v ≡ sent s plan
   unfolding sent

@@ -2,7 +2,7 @@
 use Rattle.std.proofs.Common.{◌≡◌, ℕ, zero, suc, ◌+◌, ◌<◌, ◌≤◌, List, [], ◌∷◌, ◌++◌, length, drop}
 use Rattle.std.proofs.Common.{get_or, Ok, Err, refl, sym, ◌∙◌, ap, append_assoc}
 use Rattle.std.proofs.Common.{add-one}
-use Rattle.std.proofs.lemmas.List.{append-nil, map-append}
+use Rattle.std.proofs.lemmas.List.{append-nil, drop_all, map-append}
 use Rattle.std.specs.Prelude.{map}
 use Rattle.mrc_base.specs.declared.PortRight.{PortRight}
 use Rattle.mrc_base.specs.declared.Disp.{Disp}
@@ -22,9 +22,9 @@ use Rattle.mrc_model.specs.CallSend.{take_item, admit_item, take_items, take_arg
 use Rattle.mrc_model.specs.CallSend.{first_sort, rest_of}
 use Rattle.mrc_desc.specs.declared.argument.Argument.{Argument}
 use Rattle.mrc_desc.specs.View.{argument_of, arguments_of}
+use Rattle.mrc_desc.proofs.Walks.{item_first}
 use Rattle.mrc_ports.specs.declared.parcel.QueuedArgument.{QueuedArgument}
 use Rattle.mrc_ports.specs.Parcels.{queued_of}
-use Rattle.mrc_filter.proofs.Shapes.{at_place, past}
 use Rattle.mrc_transit.specs.declared.taking.NotHeld.{NotHeld}
 use Rattle.mrc_transit.specs.declared.sending.SendFault.{SendFault}
 use Rattle.mrc_transit.specs.Staging.{IsRefusedBy}
@@ -123,7 +123,7 @@ module _ (W : Wiring) (own t : ℕ) (x : Disp) (sort i : ℕ) where
     at_name : take_items W own t x sort i s names
         ≡ onto items (take_items W own t x sort i z (n ∷ drop (k + 1) names))
     at_name =
-        far ∙ ap (λ ns. onto items (take_items W own t x sort i z ns)) (at_place names k n less
+        far ∙ ap (λ ns. onto items (take_items W own t x sort i z ns)) (item_first names k n less
         here)
 
     pub items_turn : (y : Store) (item : Item)
@@ -146,7 +146,7 @@ module _ (W : Wiring) (own t : ℕ) (x : Disp) (sort i : ℕ) where
       → length names ≤ k
       → take_items W own t x sort i s names ≡ Ok (z, items)
   items_done s z items k names far most =
-      far ∙ ap (λ ns. onto items (take_items W own t x sort i z ns)) (past names k most)
+      far ∙ ap (λ ns. onto items (take_items W own t x sort i z ns)) (drop_all k names most)
       ∙ ap (λ xs. Ok (z, xs)) (append-nil items)
 
 -- one argument
@@ -225,7 +225,8 @@ module _ (W : Wiring) (own t : ℕ) where
           ≡ onto (map queued_of queued) (take_args W own t k (drop k shapes) z
           (argument_of a ∷ arguments_of (drop (k + 1) args)))
       at_arg = far ∙ ap (λ rest. onto (map queued_of queued)
-          (take_args W own t k (drop k shapes) z (arguments_of rest))) (at_place args k a less here)
+          (take_args W own t k (drop k shapes) z (arguments_of rest)))
+          (item_first args k a less here)
 
       pub args_turn : (y : Store) (q : QueuedArgument)
           → take_arg W own t sort k z (argument_of a) ≡ Ok (y, queued_of q)
@@ -257,5 +258,5 @@ module _ (W : Wiring) (own t : ℕ) where
         → take_args W own t 0 shapes s (arguments_of args) ≡ Ok (z, map queued_of queued)
     args_done s z queued k args far most =
         far ∙ ap (λ rest. onto (map queued_of queued)
-        (take_args W own t k (drop k shapes) z (arguments_of rest))) (past args k most)
+        (take_args W own t k (drop k shapes) z (arguments_of rest))) (drop_all k args most)
         ∙ ap (λ qs. Ok (z, qs)) (append-nil (map queued_of queued))

@@ -1,7 +1,8 @@
 -- What giving to a space is to giving to a task.
 use Rattle.std.proofs.Common.{◌≡◌, ℕ, Bool, true, false, Result, Ok, Err, refl, sym, ◌∙◌, ap, subst}
-use Rattle.std.specs.Prelude.{IsOk, IfOk, IfErr, unwrap_or}
+use Rattle.std.specs.Prelude.{IsOk, IfOk, IfErr}
 use Rattle.std.specs.Result.{result_unwrap_or}
+use Rattle.std.proofs.lemmas.Bool.{both_ways}
 use Rattle.mrc_base.specs.declared.PortRight.{PortRight}
 use Rattle.mrc_base.specs.declared.memory.OrMemory.{OrMemory}
 use Rattle.mrc_base.specs.declared.memory.OrMemory.TheVariants.{Fault, Memory}
@@ -10,19 +11,14 @@ use Rattle.mrc_model.specs.declared.Code.TheVariants.{KernNoSpace}
 use Rattle.mrc_model.specs.declared.Item.{Item}
 use Rattle.mrc_model.specs.declared.Item.TheVariants.{Right as RightItem, Null as NullItem}
 use Rattle.mrc_model.specs.declared.Item.TheVariants.{Dead as DeadItem}
-use Rattle.mrc_model.specs.Map.{empty}
 use Rattle.mrc_model.specs.World.{Space, Store, space, set_space, port_dead}
 use Rattle.mrc_model.specs.Reply.{Try, Refused, ◌>>◌, refuse_if}
 use Rattle.mrc_model.specs.Space.{give_item, is_over_full, place}
-use Rattle.mrc_model.proofs.Maps.{get-insert_same}
+use Rattle.mrc_model.proofs.Spaces.{space-set_same}
 use Rattle.mrc_names.specs.Takes.{give_right}
 use Rattle.mrc_names.specs.Refusals.{IsRefusal}
 use Rattle.mrc_ports.proofs.TableLaws.{insert_twice}
 use Rattle.mrc_transit.specs.Giving.{IsNotGiven}
-
--- the space that was put is the task's
-pub space_put : (s : Store) (t : ℕ) (x : Space) → space (set_space s t x) t ≡ x
-space_put s t x = ap (λ o. unwrap_or o empty) (get-insert_same s.spaces t x)
 
 -- the last one that was put stands
 put_twice : (s : Store) (t : ℕ) (x y : Space) → set_space (set_space s t x) t y ≡ set_space s t y
@@ -35,12 +31,8 @@ gives_place : (s : Store) (t p : ℕ) (r : PortRight) (x : Space)
 unfolding give_item
 gives_place s t p r x =
     ap (λ z. (set_space (set_space s t x) t (place z p r).space, (place z p r).name))
-    (space_put s t x)
+    (space-set_same s t x)
     ∙ ap (λ z. (z, (place x p r).name)) (put_twice s t x (place x p r).space)
-
--- a test does not both hold and fail
-not_both : ◌≡◌ {A = Bool} true false → ⊥
-not_both h = cc
 
 module _ (x : Space) (p : ℕ) (r : PortRight) where
   answer : Bool → Try (Space × ℕ)
@@ -57,14 +49,16 @@ module _ (x : Space) (p : ℕ) (r : PortRight) where
   parts true y n is = cc
   parts false y n is = ap (λ m. result_unwrap_or m (x, 0)) is
 
-  over : (b : Bool) (code : Code) → answer b ≡ Err (Refused code) → b ≡ true
+  over : (b : Bool) (code : Code)
+      → answer b ≡ Err (Refused code)
+      → (code ≡ KernNoSpace) × (b ≡ true)
   unfolding answer ◌>>◌ refuse_if
-  over true code is = refl
+  over true code is = (cc, refl)
   over false code is = cc
 
   within : (b : Bool) → IsOk (answer b) → b ≡ false
   unfolding answer ◌>>◌ refuse_if
-  within true ok = absurd (not_both (sym ok))
+  within true ok = absurd (both_ways true (sym ok) refl)
   within false ok = refl
 
   -- what was given to the space is given to the task
@@ -80,11 +74,14 @@ module _ (x : Space) (p : ℕ) (r : PortRight) where
       → IsRefusal e (give_right x p r)
       → IsNotGiven e t (give_item (set_space s t x) t (RightItem p r)).0
   not_given_right s t (Fault code) refused =
-      ap (λ (z : Store × ℕ). is_over_full (space z.0 t)) (gives_place s t p r x)
-      ∙ ap is_over_full (space_put s t (place x p r).space) ∙ over _ code (sym answered ∙ refused)
+      let told = over _ code (sym answered ∙ refused) in (
+        told.0,
+        ap (λ (z : Store × ℕ). is_over_full (space z.0 t)) (gives_place s t p r x)
+            ∙ ap is_over_full (space-set_same s t (place x p r).space) ∙ told.1,
+      )
   not_given_right s t Memory ok =
       ap (λ (z : Store × ℕ). is_over_full (space z.0 t)) (gives_place s t p r x)
-      ∙ ap is_over_full (space_put s t (place x p r).space)
+      ∙ ap is_over_full (space-set_same s t (place x p r).space)
       ∙ within _ (subst IsOk answered ok)
 
 -- nothing, and a dead right

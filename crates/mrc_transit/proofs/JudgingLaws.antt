@@ -3,7 +3,7 @@ use Rattle.std.proofs.Common.{◌≡◌, ℕ, ◌+◌, ◌<◌, ◌≤◌, List,
 use Rattle.std.proofs.Common.{get_or, Option, Some, None, Ok, Err, inl, inr, refl, sym, ◌∙◌, ap}
 use Rattle.std.specs.Prelude.{option_map}
 use Rattle.std.proofs.lemmas.Bool.{cases_eq, eq-eqb, ne_eqb}
-use Rattle.std.proofs.lemmas.List.{append-nil, take_all, take_more}
+use Rattle.std.proofs.lemmas.List.{append-nil, drop_all, take_all, take_more}
 use Rattle.mrc_base.specs.declared.Disp.{Disp}
 use Rattle.mrc_base.specs.declared.memory.OrMemory.TheVariants.{Fault}
 use Rattle.mrc_base.specs.Disposition.{given}
@@ -20,12 +20,12 @@ use Rattle.mrc_model.specs.Target.{bad_name, wrong_right}
 use Rattle.mrc_model.specs.CallSend.{dead_taken, take_item, take_reply_by, take_items, take_arg}
 use Rattle.mrc_model.specs.CallSend.{take_args, first_sort, rest_of, admit_item}
 use Rattle.mrc_model.specs.declared.Code.TheVariants.{MachSendInvalidRight}
-use Rattle.mrc_model.proofs.Maps.{get-insert_same, get-insert_other, get-remove_same}
-use Rattle.mrc_model.proofs.Maps.{get-remove_other, same_Some, not_None}
+use Rattle.mrc_model.proofs.Maps.{same_Some, not_None}
+use Rattle.mrc_model.proofs.Spaces.{put_entry_same, put_entry_other}
 use Rattle.mrc_desc.specs.declared.argument.Argument.{Argument}
 use Rattle.mrc_desc.specs.declared.argument.Argument.TheVariants as arguments
 use Rattle.mrc_desc.specs.View.{argument_of, arguments_of}
-use Rattle.mrc_filter.proofs.Shapes.{at_place, past}
+use Rattle.mrc_desc.proofs.Walks.{item_first}
 use Rattle.mrc_names.specs.Takes.{take_right}
 use Rattle.mrc_transit.specs.declared.sending.SendFault.{SendFault}
 use Rattle.mrc_transit.specs.declared.sending.SendFault.TheVariants as faults
@@ -41,17 +41,6 @@ use Rattle.mrc_transit.proofs.ArgumentLaws.{onto, onto_more, ItemsSoFar, items_t
 use Rattle.mrc_transit.proofs.ArgumentLaws.{items_done, args_more, args_stop, rest_drop}
 use Rattle.mrc_transit.proofs.ArgumentLaws.{name_refused, arg_taken, arg_refused}
 use Rattle.mrc_transit.proofs.AdmitLaws.{admitted, not_admitted}
-
--- what stands under a name after another rest was put
-
-pub get-put_same : (y : Space) (n : ℕ) (o : Option Entry) → get (put_entry y n o) n ≡ o
-get-put_same y n None = get-remove_same y n
-get-put_same y n (Some e) = get-insert_same y n e
-
-pub get-put_other : (y : Space) (n q : ℕ) (o : Option Entry) → (q ≡ n → ⊥)
-    → get (put_entry y n o) q ≡ get y q
-get-put_other y n q None other = get-remove_other y n q other
-get-put_other y n q (Some e) other = get-insert_other y n e q other
 
 -- after a name has given
 
@@ -75,7 +64,7 @@ name_keeps x y n q other = elim (cases_eq n 0) [
     | inl dead ↦ ap (λ z. get z q) (after_dead x y n named dead)
     | inr plain ↦
         ap (λ z. get z q) (after_named x y n named plain)
-        ∙ get-put_other y n q (left_of x (get y n)) other
+        ∙ put_entry_other y n q (left_of x (get y n)) other
   ]
 ]
 
@@ -84,7 +73,7 @@ pub name_left : (x : Disp) (y : Space) (n : ℕ) → (n ≡ 0 → ⊥) → (n �
     → get (after_name x y n) n ≡ left_of x (get y n)
 name_left x y n null dead =
     ap (λ z. get z n) (after_named x y n null dead)
-    ∙ get-put_same y n (left_of x (get y n))
+    ∙ put_entry_same y n (left_of x (get y n))
 
 -- one name, or one argument, more
 
@@ -474,7 +463,7 @@ module _ (W : Wiring) (own : ℕ) (s : Store) (t : ℕ) (shapes : List Shape) (y
         (argument_of a ∷ arguments_of (drop (k + 1) args)))
     at_arg b z queued is =
         is ∙ ap (λ rest. onto queued (take_args W own t k (drop k shapes) z (arguments_of rest)))
-        (at_place args k a less here)
+        (item_first args k a less here)
 
     pub args_judged : ((g : Taking) → g.space ≡ after_args (take k args) y
         → Leaves s t (after_arg a (after_args (take k args) y))
@@ -525,6 +514,6 @@ module _ (W : Wiring) (own : ℕ) (s : Store) (t : ℕ) (shapes : List Shape) (y
         f.1,
         f.2 ∙ args_all y args k most,
         f.3 ∙ ap (λ rest. onto f.1 (take_args W own t k (drop k shapes) (staged s t f.0)
-            (arguments_of rest))) (past args k most)
+            (arguments_of rest))) (drop_all k args most)
             ∙ ap (λ qs. Ok (staged s t f.0, qs)) (append-nil f.1),
       )

@@ -1,8 +1,7 @@
 -- What the plan of a message is to sending it, from what each step of code tells.
 use Rattle.std.proofs.Common.{◌≡◌, ℕ, Bool, true, false, List, [], Option, Some, None, Ok, Err}
-use Rattle.std.proofs.Common.{refl, inl, inr, sym, ◌∙◌, ap, subst}
-use Rattle.std.specs.Prelude.{not, ◌&&◌, ◌||◌, nat_le, length, unwrap_or, is_some, IsOk}
-use Rattle.std.proofs.lemmas.Bool.{cases_eq}
+use Rattle.std.proofs.Common.{refl, sym, ◌∙◌, ap, subst}
+use Rattle.std.specs.Prelude.{unwrap_or, is_some, IsOk}
 use Rattle.mrc_base.specs.declared.Disp.{Disp}
 use Rattle.mrc_base.specs.declared.Disp.TheVariants.{MoveReceive, MoveSend, MoveSendOnce, CopySend}
 use Rattle.mrc_base.specs.declared.Disp.TheVariants.{MakeSend, MakeSendOnce}
@@ -15,7 +14,7 @@ use Rattle.mrc_model.specs.declared.Denied.{Denied}
 use Rattle.mrc_model.specs.declared.Code.TheVariants.{MachSendInvalidDest, MachSendInvalidReply}
 use Rattle.mrc_model.specs.declared.Code.TheVariants.{MachSendTimedOut}
 use Rattle.mrc_model.specs.Rights.{is_once, is_receive}
-use Rattle.mrc_model.specs.Map.{Map, get, insert, empty}
+use Rattle.mrc_model.specs.Map.{Map, get, empty}
 use Rattle.mrc_model.specs.Message.{Message, Arg}
 use Rattle.mrc_model.specs.Wiring.{Wiring, form_shapes}
 use Rattle.mrc_model.specs.Filter.{judge}
@@ -26,11 +25,10 @@ use Rattle.mrc_model.specs.Death.{append}
 use Rattle.mrc_model.specs.Space.{take, take_from, Taken, put_entry, restart_if}
 use Rattle.mrc_model.specs.Target.{with_store}
 use Rattle.mrc_model.specs.CallSend.{not_receive, take_reply_by, take_args, call_send}
-use Rattle.mrc_model.proofs.Maps.{get-insert_same, get-insert_other, get-empty}
-use Rattle.mrc_map.proofs.SameMaps.{same_map}
+use Rattle.mrc_model.proofs.Maps.{get-empty}
 use Rattle.mrc_desc.specs.declared.message.Header.{Header}
 use Rattle.mrc_desc.specs.View.{HasHeader}
-use Rattle.mrc_ports.specs.Queues.{is_full_for}
+use Rattle.mrc_ports.specs.Queues.{is_full_for, is_out_of_room}
 use Rattle.mrc_filter.specs.declared.form.Form.{Form}
 use Rattle.mrc_filter.specs.Places.{IsJudged}
 use Rattle.mrc_transit.specs.declared.taking.NotHeld.{NotHeld}
@@ -41,20 +39,10 @@ use Rattle.mrc_transit.specs.Staging.{Taking, staged, restart_each, IsRefusedBy}
 use Rattle.mrc_transit.specs.Sending.{IsSendRefusal, refused_by, fault_reply, judge_reply}
 use Rattle.mrc_transit.specs.SendPlans.{SendPlan, sent, IsReady, IsPlanOf, IsNotPlanned, IsNoRoom}
 use Rattle.mrc_transit.specs.SendPlans.{destination_disp}
+use Rattle.mrc_transit.proofs.StagingLaws.{put_same}
 use Rattle.mrc_transit.proofs.SendLaws.{bad_destination, plain, send_no_disp, send_no_right}
 use Rattle.mrc_transit.proofs.SendLaws.{send_no_port, send_denied, send_no_reply, send_no_args}
 use Rattle.mrc_transit.proofs.SendLaws.{send_unfit, send_full, send_done}
-
--- a space that is there already
-put_same : (s : Store) (t : ℕ) (x : Space) → get s.spaces t ≡ Some x → set_space s t x ≡ s
-put_same s t x at =
-    let same : insert s.spaces t x ≡ s.spaces = same_map _ _ (λ q. elim (cases_eq q t) [
-      | inl k ↦
-          ap (get (insert s.spaces t x)) k ∙ get-insert_same s.spaces t x ∙ sym at
-          ∙ ap (get s.spaces) (sym k)
-      | inr n ↦ get-insert_other s.spaces t x q n
-    ]) in
-    ap (λ (m : Map Space). record s { spaces = m }) same
 
 -- nothing was taken yet
 begun : (s : Store) (t : ℕ) (x : Space) (g : Taking)
@@ -122,11 +110,6 @@ take_none s t n x e none =
     let at : get (space s t) n ≡ None = ap (λ o. get (unwrap_or o empty) n) none ∙ get-empty n in
     rw at refl
 
--- a port that is not full is below its limit, or the message comes through a send-once right
-either_fails : (a b : Bool) → (a || b) ≡ false → a ≡ false
-either_fails true b is = is
-either_fails false b is = refl
-
 -- each exit
 
 module _ (W : Wiring) (s : Store) (own t : ℕ) (m : Message) (h : Header)
@@ -185,14 +168,14 @@ module _ (W : Wiring) (s : Store) (own t : ℕ) (m : Message) (h : Header)
         module _ (dest : Port) (live : get s.ports d ≡ Some dest) (class : ℕ)
             (class_is : class ≡ dest.class) where
           pub plan_denied : (denied : Denied)
-              → IsJudged W (Err denied) (judge W class m)
+              → IsJudged W class m (Err denied)
               → IsNotPlanned (Fault (faults.Denied denied)) W s own t m
           plan_denied denied judged = λ w of_class.
               send_denied W (with_store w s) t m x disp_of (staged s t g1) d took dest
               (at_port w (Some dest) live) denied
               (ap (λ c. judge W c m) (sym class_is) ∙ judged)
 
-          module _ (form : Form) (judged : IsJudged W (Ok form) (judge W class m)) where
+          module _ (form : Form) (judged : IsJudged W class m (Ok form)) where
             form_is : judge W dest.class m ≡ Ok form.found.now
             form_is = ap (λ c. judge W c m) (sym class_is) ∙ judged.1
 
@@ -273,17 +256,16 @@ module _ (W : Wiring) (s : Store) (own t : ℕ) (m : Message) (h : Header)
                         (at_port w (Some dest) live) form.found.now form_is (staged s t g2)
                         reply replied own of_class (of_judged _ good)
                         (staged s t g3) queued (of_args _ taken)
-                        (ap (λ k. not k && nat_le dest.limit (length dest.queue)) (sym once)
-                        ∙ full.1)
+                        (ap (is_full_for dest) (sym once) ∙ full.1)
                         ∙ ap (λ f. Err (fault_reply f)) (sym full.0)
                     plan_no_room Memory full = λ w of_class. tt
 
-                    pub plan_at_limit : (not b && nat_le dest.limit (length dest.queue)) ≡ true
+                    pub plan_at_limit : is_full_for dest b ≡ true
                         → IsNotPlanned (Fault (faults.Refused MachSendTimedOut)) W s own t m
                     plan_at_limit full = plan_no_room (Fault (faults.Refused MachSendTimedOut))
                         (refl, full)
 
-                    pub plan_granted : (not b && nat_le dest.limit (length dest.queue)) ≡ false
+                    pub plan_granted : is_full_for dest b ≡ false
                         → (w : World)
                         → task_class w t ≡ own
                         → IsOk (call_send W (with_store w s) t m)
@@ -294,10 +276,10 @@ module _ (W : Wiring) (s : Store) (own t : ℕ) (m : Message) (h : Header)
                         g2)
                         reply replied own of_class (of_judged _ good) (staged s t g3) queued
                         (of_args _ taken)
-                        (ap (λ k. not k && nat_le dest.limit (length dest.queue)) (sym once)
-                        ∙ below))) refl
+                        (ap (is_full_for dest) (sym once) ∙ below))) refl
 
-                    module _ (room : is_full_for dest b ≡ false) (base : g3.base ≡ y)
+                    module _ (below : is_full_for dest b ≡ false)
+                        (room : is_out_of_room dest ≡ false) (base : g3.base ≡ y)
                         (changes : Map (Option Entry)) (left : patched g3.base changes ≡ g3.space)
                         (rests : AreRests g3.base changes) (moved : List ℕ)
                         (moved_is : moved ≡ g3.moved) (plan : SendPlan)
@@ -338,8 +320,7 @@ module _ (W : Wiring) (s : Store) (own t : ℕ) (m : Message) (h : Header)
                           (at_port w (Some dest) live) form.found.now form_is (staged s t g2)
                           reply replied own of_class (of_judged _ good)
                           (staged s t g3) queued (of_args _ taken)
-                          (ap (λ k. not k && nat_le dest.limit (length dest.queue)) (sym once)
-                          ∙ either_fails _ _ room)
+                          (ap (is_full_for dest) (sym once) ∙ below)
                           ∙ (λ i. Ok (
                             with_store w (append (staged_so i) d record {
                               by_once = sym once i;
@@ -358,5 +339,6 @@ module _ (W : Wiring) (s : Store) (own t : ℕ) (m : Message) (h : Header)
                             rests = subst (λ z. AreRests z changes) from_base rests;
                             port = dest;
                             live = live;
+                            not_full = below;
                             room = room;
                           }

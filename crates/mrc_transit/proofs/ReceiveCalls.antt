@@ -25,7 +25,7 @@ use Rattle.mrc_model.specs.CallReceive.{Source, source_at, first_ready, ready_me
 use Rattle.mrc_model.specs.CallReceive.{first_parcel, received, call_receive}
 use Rattle.mrc_model.proofs.Maps.{get-empty, get-insert_same, get-insert_other, not_None, find_here}
 use Rattle.mrc_model.proofs.Maps.{Each-rest, same_Some}
-use Rattle.mrc_map.proofs.SameMaps.{same_map}
+use Rattle.mrc_model.proofs.Spaces.{space-set_same}
 use Rattle.mrc_names.specs.Bounds.{IsBounded}
 use Rattle.mrc_ports.specs.Parcels.{carried_size}
 use Rattle.mrc_ports.specs.Queues.{after_receipt, received_at, received_from, received_by}
@@ -34,7 +34,7 @@ use Rattle.mrc_transit.specs.Giving.{IsNotGiven}
 use Rattle.mrc_transit.specs.Receiving.{found_source, IsFirst}
 use Rattle.mrc_transit.specs.Receiving.{IsReceiveRefusal, no_space as no_space_for}
 use Rattle.mrc_transit.specs.Receiving.{AreHousedAlike}
-use Rattle.mrc_transit.proofs.GiveLaws.{space_put}
+use Rattle.mrc_transit.proofs.StagingLaws.{put_same}
 use Rattle.mrc_transit.proofs.ReceiveSizes.{received_size}
 
 -- where a message comes from
@@ -97,17 +97,6 @@ module _ (s : Store) (t n : ℕ) (x : Space) (e : Entry)
   set_refused (Ok found) none = tt
   set_refused (Err code) none =
       by_set None none.1 ∙ ap (λ k. Err (Refused k)) (sym none.0)
-
--- a space that is put where it stands already
-pub put_same : (s : Store) (t : ℕ) (x : Space) → get s.spaces t ≡ Some x → set_space s t x ≡ s
-put_same s t x at =
-    ap (λ (m : Map Space). record s { spaces = m })
-    (same_map (insert s.spaces t x) s.spaces (λ q. elim (cases_eq q t) [
-      | inl same ↦
-          ap (get (insert s.spaces t x)) same ∙ get-insert_same s.spaces t x ∙ sym at
-          ∙ ap (get s.spaces) (sym same)
-      | inr other ↦ get-insert_other s.spaces t x q other
-    ]))
 
 -- the messages behind the first one
 pub behind : List Parcel → List Parcel
@@ -248,7 +237,7 @@ module _ (tasks : Map Task) (s : Store) (t n limit : ℕ) where
                 x.receipts m).0
                 → IsReceiveRefusal (no_space_for e)
                 (call_receive (record { tasks = tasks; store = s }) t n limit)
-            refused_so (Fault code) over = full over
+            refused_so (Fault code) over = full over.1
             refused_so Memory room = granted room
 
             pub done : (y : Space) (bytes : List ℕ)
@@ -277,7 +266,7 @@ module _ (tasks : Map Task) (s : Store) (t n limit : ℕ) where
                 (ap (λ (z : Store × Message). nat_lt limit (written_size z.1)) (sym whole)
                 ∙ ap (nat_lt limit) size ∙ fits)
                 (ap is_over_full
-                (space_put (set_port s found.1 (after_receipt x ms)) t y) ∙ room)
+                (space-set_same (set_port s found.1 (after_receipt x ms)) t y) ∙ room)
                 ∙ ap (λ (b : List ℕ). Ok (
                   record {
                     tasks = tasks;

@@ -14,7 +14,7 @@ use Rattle.mrc_model.specs.World.{Space, Store, QueuedArg, QueuedData, QueuedIte
 use Rattle.mrc_model.specs.Space.{give_item, is_over_full, place, place_at, entry_of}
 use Rattle.mrc_model.specs.CallReceive.{give_items, give_arg, give_args, received}
 use Rattle.mrc_model.proofs.Maps.{at_or_0, len-insert}
-use Rattle.mrc_transit.proofs.GiveLaws.{space_put}
+use Rattle.mrc_model.proofs.Spaces.{space-set_same}
 
 -- a value more makes no map smaller
 one_at_most : {X : Type 0} (k : ℕ) (o : Option X) → at_or_0 (λ q y. 1) k o ≤ 1
@@ -43,7 +43,7 @@ item_grows t s NullItem = omega arith
 item_grows t s DeadItem = omega arith
 item_grows t s (RightItem p r) =
     subst (λ (y : Space). len (space s t) ≤ len y)
-    (sym (space_put s t (place (space s t) p r).space)) (place_grows (space s t) p r)
+    (sym (space-set_same s t (place (space s t) p r).space)) (place_grows (space s t) p r)
 
 items_grow : (t : ℕ) (s : Store) (items : List Item)
     → len (space s t) ≤ len (space (give_items t s items).0 t)

@@ -2,7 +2,7 @@
 use Rattle.std.proofs.Common.{◌≡◌, ℕ, ◌<◌, ◌+◌, List, [], ◌∷◌, ◌++◌, length, get_or, drop, take}
 use Rattle.std.proofs.Common.{map, refl, sym, ◌∙◌, ap, subst, append_assoc, add-one}
 use Rattle.std.specs.Prelude.{Bool, if◌then◌else◌}
-use Rattle.std.proofs.lemmas.List.{append-nil, drop_more, map-append}
+use Rattle.std.proofs.lemmas.List.{append-nil, map-append}
 use Rattle.std.proofs.Math.Seq.{take-suc}
 use Rattle.mrc_base.specs.declared.PortRight.TheVariants.{Send, SendOnce}
 use Rattle.mrc_base.specs.declared.memory.OrMemory.{OrMemory}
@@ -17,6 +17,7 @@ use Rattle.mrc_model.specs.CallReceive.{give_items, give_arg, give_args, receive
 use Rattle.mrc_desc.specs.declared.argument.Argument.{Argument}
 use Rattle.mrc_desc.specs.Laws.{OtherArg, OtherArgs}
 use Rattle.mrc_desc.specs.View.{argument_of, arguments_of}
+use Rattle.mrc_desc.proofs.Walks.{item_first}
 use Rattle.mrc_ports.specs.declared.parcel.QueuedArgument.{QueuedArgument}
 use Rattle.mrc_ports.specs.Parcels.{queued_of, unnamed}
 use Rattle.mrc_transit.specs.Giving.{IsNotGiven}
@@ -31,13 +32,6 @@ with_front ys got = (got.0, ys ++ got.1)
 regroup : {Y : Type 0} (ys : List Y) (y : Y) (got : Store × List Y)
     → with_front ys (got.0, y ∷ got.1) ≡ with_front (ys ++ y ∷ []) got
 regroup {Y} ys y got = ap (λ (zs : List Y). (got.0, zs)) (simp append_assoc)
-
--- what is left of a list begins with the item at the index
-pub item_first : {X : Type 0} (xs : List X) (i : ℕ) (x : X)
-    → i < length xs
-    → x ≡ get_or xs i x
-    → drop i xs ≡ x ∷ drop (i + 1) xs
-item_first {X} xs i x h e = drop_more xs i x h ∙ ap (λ (y : X). y ∷ drop (i + 1) xs) (sym e)
 
 -- items
 
@@ -66,11 +60,13 @@ pub items_over : (x0 x : Space) (items : List Item) (i : ℕ) (item : Item) (nam
     → ((s : Store) (t : ℕ) → IsNotGiven e t (give_item (set_space s t x) t item).0)
     → (s : Store) (t : ℕ)
     → IsOverFilled e (space (give_items t (set_space s t x0) items).0 t)
-items_over x0 x items i item names (Fault code) so_far here is over s t =
-    ap (λ (r : Store × List ℕ). is_over_full (space r.0 t))
-    (so_far s t ∙ ap (λ r. with_front names (give_items t (set_space s t x) r))
-    (item_first items i item here is))
-    ∙ over_items t (set_space s t x) item (drop (i + 1) items) (over s t)
+items_over x0 x items i item names (Fault code) so_far here is over s t = (
+  (over s t).0,
+  ap (λ (r : Store × List ℕ). is_over_full (space r.0 t))
+      (so_far s t ∙ ap (λ r. with_front names (give_items t (set_space s t x) r))
+      (item_first items i item here is))
+      ∙ over_items t (set_space s t x) item (drop (i + 1) items) (over s t).1,
+)
 items_over x0 x items i item names Memory so_far here is over s t = tt
 
 -- arguments
@@ -116,10 +112,12 @@ pub args_over : (x0 x : Space) (args rest left : List QueuedArg) (a : QueuedArg)
     → ((s : Store) (t : ℕ) → IsOverFilled e (space (give_arg t (set_space s t x) a).0 t))
     → (s : Store) (t : ℕ)
     → IsOverFilled e (space (give_args t (set_space s t x0) args).0 t)
-args_over x0 x args rest left a got (Fault code) so_far is over s t =
-    ap (λ (r : Store × List Arg). is_over_full (space r.0 t))
-    (so_far s t ∙ ap (λ r. with_front got (give_args t (set_space s t x) r)) is)
-    ∙ over_args t (set_space s t x) a left (over s t)
+args_over x0 x args rest left a got (Fault code) so_far is over s t = (
+  (over s t).0,
+  ap (λ (r : Store × List Arg). is_over_full (space r.0 t))
+      (so_far s t ∙ ap (λ r. with_front got (give_args t (set_space s t x) r)) is)
+      ∙ over_args t (set_space s t x) a left (over s t).1,
+)
 args_over x0 x args rest left a got Memory so_far is over s t = tt
 
 -- one argument more, as code has them
@@ -171,9 +169,12 @@ pub reply_over : (e : OrMemory Code) (x : Space) (item : Item) (name receipts : 
     → ((s : Store) (t : ℕ) → IsNotGiven e t (give_item (set_space s t x) t item).0)
     → (s : Store) (t : ℕ)
     → IsOverFilled e (space (received (set_space s t x) t name receipts m).0 t)
-reply_over (Fault code) x item name receipts m is over s t =
-    over_reply t (set_space s t x) name receipts m
-    (ap (λ k. is_over_full (space (give_item (set_space s t x) t k).0 t)) (sym is) ∙ over s t)
+reply_over (Fault code) x item name receipts m is over s t = (
+  (over s t).0,
+  over_reply t (set_space s t x) name receipts m
+      (ap (λ k. is_over_full (space (give_item (set_space s t x) t k).0 t)) (sym is)
+      ∙ (over s t).1),
+)
 reply_over Memory x item name receipts m is over s t = tt
 
 module _ (x y : Space) (item : Item) (n : ℕ) (args : List QueuedArg) (m : Parcel)

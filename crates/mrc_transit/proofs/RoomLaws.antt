@@ -5,7 +5,8 @@ use Rattle.std.proofs.Common.{refl, sym, ◌∙◌, ap, subst, arith, append_ass
 use Rattle.std.proofs.Common.{if◌then◌else◌}
 use Rattle.std.specs.Prelude.{is_some, flat_map, IfSome, IfNone}
 use Rattle.std.specs.List.{list_any}
-use Rattle.std.proofs.lemmas.Bool.{cases_eq, both_ways, or_cases, eqb-true, lt-ltb, le-ltb}
+use Rattle.std.specs.Cmp.{both_ways as same_if}
+use Rattle.std.proofs.lemmas.Bool.{both_ways, or_cases, or_right, eqb-true, lt-ltb, le-ltb}
 use Rattle.std.proofs.lemmas.List.{append-nil, map-append, take-append-drop}
 use Rattle.std.proofs.lemmas.List.Folds.{list_any-append}
 use Rattle.std.proofs.lemmas.Grind.{flat_map-append}
@@ -19,134 +20,19 @@ use Rattle.mrc_model.specs.declared.Entry.TheVariants.{DeadName as DeadEntry}
 use Rattle.mrc_model.specs.declared.Item.{Item}
 use Rattle.mrc_model.specs.declared.Item.TheVariants.{Null as NullItem, Dead as DeadItem}
 use Rattle.mrc_model.specs.declared.Item.TheVariants.{Right as RightItem}
-use Rattle.mrc_model.specs.Rising.{find_key}
-use Rattle.mrc_model.specs.Map.{get, insert, len}
+use Rattle.mrc_model.specs.Map.{insert, len}
 use Rattle.mrc_model.specs.World.{Space, Store, QueuedArg, QueuedData, QueuedItems, Parcel, space}
 use Rattle.mrc_model.specs.World.{set_space}
-use Rattle.mrc_model.specs.Space.{unused, is_entry_of, first_entry, entry_of, new_entry, joined}
+use Rattle.mrc_model.specs.Space.{unused, is_entry_of, entry_of, new_entry, joined}
 use Rattle.mrc_model.specs.Space.{place, place_at, give_item, is_over_full}
 use Rattle.mrc_model.specs.CallReceive.{give_items, give_arg, give_args, received}
 use Rattle.mrc_model.specs.FirstHoldings.{one_if}
-use Rattle.mrc_model.proofs.Maps.{same_Some, not_None, at_or_0, get-insert_same, get-insert_other}
-use Rattle.mrc_model.proofs.Maps.{len-insert, find_cases, origin-insert}
-use Rattle.mrc_model.proofs.Spaces.{get-unused, entry_of-some}
+use Rattle.mrc_model.proofs.Few.{names, names_new, names_over, len_new, len_over}
+use Rattle.mrc_model.proofs.Spaces.{get-unused, entry_of-some, space-set_same}
 use Rattle.mrc_ports.specs.declared.parcel.QueuedArgument.{QueuedArgument}
 use Rattle.mrc_ports.specs.Parcels.{queued_of}
 use Rattle.mrc_transit.specs.Room.{carried_by, carried, names_port, is_named, takes_name}
 use Rattle.mrc_transit.specs.Room.{names_taken}
-use Rattle.mrc_transit.proofs.GiveLaws.{space_put}
-
-same_if : (a b : Bool) → (a ≡ true → b ≡ true) → (b ≡ true → a ≡ true) → a ≡ b
-same_if true b there back = sym (there refl)
-same_if false true there back = back refl
-same_if false false there back = refl
-
-or_left : (a b : Bool) → a ≡ true → (a || b) ≡ true
-or_left a b e = rw e refl
-
-or_right : (a b : Bool) → b ≡ true → (a || b) ≡ true
-or_right true b e = refl
-or_right false b e = e
-
--- ports that have an entry in a space
-
-some_found : (p : ℕ) (es : List (ℕ × Entry)) (n : ℕ) (e : Entry)
-    → find_key n es ≡ Some e
-    → is_entry_of p e ≡ true
-    → is_some (first_entry p es) ≡ true
-some_found p [] n e is own = absurd (not_None e (sym is))
-some_found p (f ∷ es) n e is own =
-    let go : (b : Bool) → is_entry_of p f.1 ≡ b
-    → is_some (if b then Some f else first_entry p es) ≡ true = elim [
-      | true ↦ λ z. refl
-      | false ↦ λ z. elim (find_cases f es n e is) [
-        | inl at ↦ absurd (both_ways (is_entry_of p f.1) z (ap (is_entry_of p) at.1 ∙ own))
-        | inr rest ↦ some_found p es n e rest own
-      ]
-    ] in
-    go (is_entry_of p f.1) refl
-
-abbrev names : Space → ℕ → Bool
-names x p = is_some (entry_of x p)
-
-named_by : (x : Space) (p n : ℕ) (e : Entry)
-    → get x n ≡ Some e
-    → is_entry_of p e ≡ true
-    → names x p ≡ true
-unfolding get entry_of
-named_by x p n e is own = some_found p x.list n e is own
-
-the_entry : (x : Space) (p : ℕ) (P : Type 0)
-    → ((f : ℕ × Entry) → entry_of x p ≡ Some f → P)
-    → names x p ≡ true
-    → P
-the_entry x p P k is =
-    let go : (o : Option (ℕ × Entry)) → entry_of x p ≡ o → is_some o ≡ true → P =
-    elim [ None ↦ λ a b. absurd (cc) | Some f ↦ λ a b. k f a ] in
-    go (entry_of x p) refl is
-
--- a new entry names its port besides
-names_new : (x : Space) (n : ℕ) (e : Entry) (q : ℕ)
-    → get x n ≡ None
-    → names (insert x n e) q ≡ (is_entry_of q e || names x q)
-names_new x n e q free = same_if (names (insert x n e) q) (is_entry_of q e || names x q) there back
-  where
-    there : names (insert x n e) q ≡ true → (is_entry_of q e || names x q) ≡ true
-    there = the_entry (insert x n e) q ((is_entry_of q e || names x q) ≡ true) (λ f is.
-        let at = entry_of-some (insert x n e) q f is in
-        elim (origin-insert x n e f.0 f.1 at.0) [
-          | inl h ↦ or_left (is_entry_of q e) (names x q) (ap (is_entry_of q) h.1 ∙ at.1)
-          | inr h ↦ or_right (is_entry_of q e) (names x q) (named_by x q f.0 f.1 h.1 at.1)
-        ])
-
-    kept : names x q ≡ true → names (insert x n e) q ≡ true
-    kept = the_entry x q (names (insert x n e) q ≡ true) (λ f is.
-        let at = entry_of-some x q f is in
-        let other : f.0 ≡ n → ⊥ = λ z. not_None f.1 (sym at.0 ∙ ap (get x) z ∙ free) in
-        named_by (insert x n e) q f.0 f.1 (get-insert_other x n e f.0 other ∙ at.0) at.1)
-
-    back : (is_entry_of q e || names x q) ≡ true → names (insert x n e) q ≡ true
-    back h = elim (or_cases (is_entry_of q e) (names x q) h) [
-      | inl own ↦ named_by (insert x n e) q n e (get-insert_same x n e) own
-      | inr was ↦ kept was
-    ]
-
--- an entry that takes the place of one of the same port
-names_over : (x : Space) (n : ℕ) (e g : Entry) (q : ℕ)
-    → get x n ≡ Some e
-    → is_entry_of q g ≡ is_entry_of q e
-    → names (insert x n g) q ≡ names x q
-names_over x n e g q was same = same_if (names (insert x n g) q) (names x q) there back
-  where
-    there : names (insert x n g) q ≡ true → names x q ≡ true
-    there = the_entry (insert x n g) q (names x q ≡ true) (λ f is.
-        let at = entry_of-some (insert x n g) q f is in
-        elim (origin-insert x n g f.0 f.1 at.0) [
-          | inl h ↦ named_by x q n e was (sym same ∙ ap (is_entry_of q) h.1 ∙ at.1)
-          | inr h ↦ named_by x q f.0 f.1 h.1 at.1
-        ])
-
-    back : names x q ≡ true → names (insert x n g) q ≡ true
-    back = the_entry x q (names (insert x n g) q ≡ true) (λ f is.
-        let at = entry_of-some x q f is in
-        elim (cases_eq f.0 n) [
-          | inl z ↦ named_by (insert x n g) q n g (get-insert_same x n g)
-              (same ∙ ap (is_entry_of q) (same_Some e f.1 (sym was ∙ sym (ap (get x) z) ∙ at.0))
-              ∙ at.1)
-          | inr z ↦ named_by (insert x n g) q f.0 f.1 (get-insert_other x n g f.0 z ∙ at.0) at.1
-        ])
-
-len_new : (x : Space) (n : ℕ) (e : Entry) → get x n ≡ None → len (insert x n e) ≡ len x + 1
-len_new x n e free =
-    let a = len-insert x n e in
-    let b : at_or_0 (λ q (y : Entry). 1) n (get x n) ≡ 0 = ap (at_or_0 (λ q y. 1) n) free in
-    omega arith
-
-len_over : (x : Space) (n : ℕ) (e g : Entry) → get x n ≡ Some e → len (insert x n g) ≡ len x
-len_over x n e g was =
-    let a = len-insert x n g in
-    let b : at_or_0 (λ q (y : Entry). 1) n (get x n) ≡ 1 = ap (at_or_0 (λ q y. 1) n) was in
-    omega arith
 
 -- how many names lists of items take, one behind the other
 pub taken_append : (x : Space) (before items more : List Item)
@@ -300,7 +186,7 @@ module _ (t : ℕ) (x : Space) where
       given_item x _ _ before DeadItem holds (omega arith) (λ p. refl)
   gives_item s before (RightItem p r) holds =
       subst (λ (z : Space). Given x (space s t) z before (RightItem p r ∷ []))
-      (sym (space_put s t (place (space s t) p r).space))
+      (sym (space-set_same s t (place (space s t) p r).space))
       (given_place x (space s t) before p r holds)
 
   gives_items : (s : Store) (before items : List Item)
@@ -341,8 +227,8 @@ pub received_size : (x : Space) (s : Store) (t name receipts : ℕ) (m : Parcel)
     → len (space (received (set_space s t x) t name receipts m).0 t)
     ≡ len x + names_taken x [] (carried m)
 received_size x s t name receipts m =
-    let given = gives_message t x (set_space s t x) name receipts m (space_put s t x) in
-    given.size ∙ ap (λ (z : Space). len z + names_taken x [] (carried m)) (space_put s t x)
+    let given = gives_message t x (set_space s t x) name receipts m (space-set_same s t x) in
+    given.size ∙ ap (λ (z : Space). len z + names_taken x [] (carried m)) (space-set_same s t x)
 
 -- whether there is room for all, by what is told of the names
 pub room_told : (x : Space) (s : Store) (t name receipts : ℕ) (m : Parcel) (o : Option ℕ)

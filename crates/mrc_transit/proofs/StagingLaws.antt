@@ -1,23 +1,36 @@
 -- The store after what a task has given: how a taking changes it.
 use Rattle.std.proofs.Common.{◌≡◌, ℕ, List, [], ◌∷◌, ◌++◌, Option, Some, None}
-use Rattle.std.proofs.Common.{Ok, Err, refl, sym, ◌∙◌, ap}
+use Rattle.std.proofs.Common.{Ok, Err, refl, sym, ◌∙◌, ap, inl, inr}
 use Rattle.std.specs.Prelude.{unwrap_or}
+use Rattle.std.proofs.lemmas.Bool.{cases_eq}
 use Rattle.mrc_base.specs.declared.PortRight.{PortRight}
 use Rattle.mrc_base.specs.declared.PortRight.TheVariants.{Send, Receive, SendOnce}
 use Rattle.mrc_base.specs.declared.Disp.{Disp}
 use Rattle.mrc_base.specs.Disposition.{given}
 use Rattle.mrc_model.specs.declared.Entry.{Entry}
 use Rattle.mrc_model.specs.Rights.{is_receive}
-use Rattle.mrc_model.specs.Map.{Map, empty, get}
+use Rattle.mrc_model.specs.Map.{Map, empty, get, insert}
 use Rattle.mrc_model.specs.World.{Space, Port, Store, space, set_space}
 use Rattle.mrc_model.specs.Reply.{Reply, Try, ◌>>=◌, or_refuse}
 use Rattle.mrc_model.specs.Space.{Taken, take_from, put_entry, take, restart, restart_port}
 use Rattle.mrc_model.specs.Space.{restart_if}
 use Rattle.mrc_model.specs.Target.{bad_name, wrong_right}
-use Rattle.mrc_model.proofs.Maps.{get-insert_same}
+use Rattle.mrc_model.proofs.Maps.{get-insert_same, get-insert_other}
+use Rattle.mrc_map.proofs.SameMaps.{same_map}
 use Rattle.mrc_names.specs.Takes.{take_right}
 use Rattle.mrc_ports.proofs.TableLaws.{insert_twice}
 use Rattle.mrc_transit.specs.Staging.{Taking, restart_each, staged, moved_by}
+
+-- a space that is put where it stands already
+pub put_same : (s : Store) (t : ℕ) (x : Space) → get s.spaces t ≡ Some x → set_space s t x ≡ s
+put_same s t x at =
+    ap (λ (m : Map Space). record s { spaces = m })
+    (same_map (insert s.spaces t x) s.spaces (λ q. elim (cases_eq q t) [
+      | inl same ↦
+          ap (get (insert s.spaces t x)) same ∙ get-insert_same s.spaces t x ∙ sym at
+          ∙ ap (get s.spaces) (sym same)
+      | inr other ↦ get-insert_other s.spaces t x q other
+    ]))
 
 -- a space is put before or after a port's receipts become 0
 restart_set_at : (s : Store) (t p : ℕ) (x : Space) (o : Option Port)

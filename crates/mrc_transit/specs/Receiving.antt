@@ -4,7 +4,7 @@ use Rattle.std.specs.Prelude.{◌≡◌, ℕ, true, false, List, Some, Ok, Err, 
 use Rattle.mrc_base.specs.declared.memory.OrMemory.{OrMemory}
 use Rattle.mrc_base.specs.declared.memory.OrMemory.TheVariants.{Fault, Memory}
 use Rattle.mrc_model.specs.declared.Code.{Code}
-use Rattle.mrc_model.specs.declared.Code.TheVariants.{ProfileNoSpace}
+use Rattle.mrc_model.specs.declared.Code.TheVariants.{KernNoSpace, ProfileNoSpace}
 use Rattle.mrc_model.specs.Map.{get}
 use Rattle.mrc_model.specs.World.{Space, Parcel, Port, Store, space as space_of}
 use Rattle.mrc_model.specs.Reply as model
@@ -55,10 +55,10 @@ abbrev pub IsReceiveRefusal : {A : Type 0} → OrMemory ReceiveFault → Try A �
 IsReceiveRefusal (Fault fault) m = m ≡ Err (receive_reply fault)
 IsReceiveRefusal Memory m = IsOk m
 
--- after all is given the space has more entries than it may have; of want of memory nothing is
--- said, since what is not yet given may be too much
+-- after all is given the space has more entries than it may have, and this is the code for it; if
+-- memory ran out nothing is said, since what is not yet given may be too much
 abbrev pub IsOverFilled : OrMemory Code → Space → Type 0
-IsOverFilled (Fault code) x = is_over_full x ≡ true
+IsOverFilled (Fault code) x = (code ≡ KernNoSpace) × (is_over_full x ≡ true)
 IsOverFilled Memory x = Unit {0}
 
 -- why a message is not received whose rights the space has no room for

@@ -1,6 +1,6 @@
 -- Plans of messages that are sent, and what carrying one out does. From Mach 3 Kernel Interfaces,
 -- mach_msg (MACH_SEND_MSG). That a plan is made first is this profile's own choice.
-use Rattle.std.specs.Prelude.{◌≡◌, ℕ, Bool, true, false, not, ◌&&◌, nat_le, List, length, Option}
+use Rattle.std.specs.Prelude.{◌≡◌, ℕ, Bool, true, false, List, Option}
 use Rattle.std.specs.Prelude.{Some, None, Ok, Err, IsOk, IsSome, option_and_then}
 use Rattle.mrc_base.specs.declared.Disp.{Disp}
 use Rattle.mrc_base.specs.declared.Disp.TheVariants.{MoveReceive, MoveSend, MoveSendOnce, CopySend}
@@ -19,7 +19,7 @@ use Rattle.mrc_model.specs.Death.{append}
 use Rattle.mrc_model.specs.Target.{with_store}
 use Rattle.mrc_model.specs.CallSend.{call_send}
 use Rattle.mrc_names.specs.Leaving.{patched, AreRests}
-use Rattle.mrc_ports.specs.Queues.{is_full_for}
+use Rattle.mrc_ports.specs.Queues.{is_full_for, is_out_of_room}
 use Rattle.mrc_transit.specs.declared.sending.SendFault.{SendFault}
 use Rattle.mrc_transit.specs.declared.sending.SendFault.TheVariants as faults
 use Rattle.mrc_transit.specs.Staging.{Taking, staged}
@@ -47,13 +47,15 @@ unfoldable pub sent : Store → SendPlan → Store
 sent s plan = append (staged s plan.sender (taking_of s plan)) plan.destination plan.parcel
 
 -- the plan can be carried out on the store: the sender has a space, with the entries of which there
--- is something left, and the destination is a live port that takes the message
+-- is something left, and the destination is a live port that is not full for the message, and has
+-- room for it
 pub record IsReady (s : Store) (plan : SendPlan) : Type 0 where
   pub has_space : IsSome (get s.spaces plan.sender)
   pub rests : AreRests (space s plan.sender) plan.changes
   pub port : Port
   pub live : get s.ports plan.destination ≡ Some port
-  pub room : is_full_for port plan.parcel.by_once ≡ false
+  pub not_full : is_full_for port plan.parcel.by_once ≡ false
+  pub room : is_out_of_room port ≡ false
 
 -- in each world with this store in which t is of class `own`, sending the message is done, and
 -- leaves what the plan leaves
@@ -89,10 +91,8 @@ but_receive MakeSendOnce = Some MakeSendOnce
 abbrev pub destination_disp : ℕ → Option Disp
 destination_disp number = option_and_then but_receive (disp_of_number number)
 
--- a queue at or above its limit takes no message but through a send-once right; of want of room
--- nothing is said
+-- the queue is full for the message, which is told as timed out; if memory ran out nothing is said
 abbrev pub IsNoRoom : OrMemory SendFault → Port → Bool → Type 0
 IsNoRoom (Fault fault) x by_once =
-    (fault ≡ faults.Refused MachSendTimedOut)
-    × ((not by_once && nat_le x.limit (length x.queue)) ≡ true)
+    (fault ≡ faults.Refused MachSendTimedOut) × (is_full_for x by_once ≡ true)
 IsNoRoom Memory x by_once = Unit {0}

@@ -10,8 +10,8 @@ use mrc_model::{Code, Item};
 use mrc_names::Giving;
 
 /// Gives a space what a message carries, under the name that is answered: MACH_PORT_NULL for
-/// nothing, and MACH_PORT_DEAD for a dead right. Refused where the space would have more than 4,096
-/// entries.
+/// nothing, and MACH_PORT_DEAD for a dead right. Refused with KERN_NO_SPACE if the space would have
+/// more than 4,096 entries; out of memory is returned only if it would not.
 pub fn give_item(giving: &mut Giving, item: Item) -> Result<u32, OrMemory<Code>>
     ensures given { IfOk result (λ name. (s : Store) (t : ℕ)
         → give_item (set_space s t giving.old.space) t item

@@ -18,7 +18,7 @@ ghost use Rattle.mrc_transit.specs.Judging.{part, left_of, item_of, reply_of, Le
 ghost use Rattle.mrc_transit.specs.Judging.{after_name, after_names, after_arg, after_args};
 ghost use Rattle.mrc_transit.specs.Judging.{after_reply};
 
-use crate::send_plan::{destination_disp, is_at_limit, is_once};
+use crate::send_plan::{destination_disp, is_once};
 use crate::sending::{SendFault, Slot, admit, judge_reply};
 use mrc_base::{Disp, TaskId, give};
 use mrc_desc::{Argument, Message};
@@ -353,7 +353,7 @@ pub(crate) fn judge_again(
         reply_disp,
     };
     head.judge_args(wired, store, own, &form, message.args())?;
-    if is_at_limit(port, is_once(give(disp))) {
+    if port.is_full_for(is_once(give(disp))) {
         return Err(SendFault::Refused(Code::MachSendTimedOut));
     }
     Ok(())

@@ -295,8 +295,8 @@ fn give_message(
     }
 }
 
-/// Why a message was not given to a space, which is as it was before. Where memory ran out, want of
-/// room in the space is told first: it is found out without memory.
+/// Why a message was not given to a space, which is unchanged. If memory ran out, no room in the
+/// space comes first, with KERN_NO_SPACE: it is found out without memory.
 fn no_room_or(space: &Space, parcel: &Parcel, fault: OrMemory<Code>) -> OrMemory<Code>
     ensures { (s : TStore) (t name receipts : ℕ)
         → IsOverFilled fault

@@ -1,14 +1,13 @@
 //! The plan of a message that is sent.
 
-ghost use Rattle.std.specs.Prelude.{◌≡◌, false, not, ◌&&◌, nat_le, length};
-ghost use Rattle.std.specs.Prelude.{IfOk, IfErr, OnOk, IsSome};
+ghost use Rattle.std.specs.Prelude.{◌≡◌, false, IfOk, IfErr, OnOk, IsSome};
 ghost use Rattle.mrc_base.specs.Disposition.{disp_of_number};
 ghost use Rattle.mrc_model.specs.Map.{get};
 ghost use Rattle.mrc_model.specs.Rights.{is_once};
 ghost use Rattle.mrc_model.specs.World.{space, set_space};
 ghost use Rattle.mrc_names.specs.Leaving.{patched, AreRests};
 ghost use Rattle.mrc_transit.specs.Staging.{restart_each};
-ghost use Rattle.mrc_ports.specs.Queues.{is_full_for};
+ghost use Rattle.mrc_ports.specs.Queues.{is_full_for, is_out_of_room};
 ghost use Rattle.mrc_wiring.specs.Table.{wiring_of};
 ghost use Rattle.mrc_transit.specs.SendPlans.{destination_disp, sent, IsReady, IsPlanOf};
 ghost use Rattle.mrc_transit.specs.SendPlans.{IsNotSent, IsNotPlanned, IsNoRoom};
@@ -77,23 +76,17 @@ pub(crate) fn is_once(right: PortRight) -> bool
     matches!(right, PortRight::SendOnce)
 }
 
-/// Whether the port's queue is at or above its limit, for a message through such a right.
-pub(crate) fn is_at_limit(port: &Port, by_once: bool) -> bool
-    ensures { result ≡ (not by_once && nat_le port.now.limit (length port.now.queue)) }
-{
-    !by_once && port.limit() as usize <= port.queue().len()
-}
-
-/// Whether the port takes a message now that is sent through such a right. A queue at or above its
-/// limit is told as timed out; want of room for more messages than memory has, as want of memory.
+/// Whether the port takes a message now that is sent through such a right. Refused with
+/// MACH_SEND_TIMED_OUT if the queue is full for it. If 2^62 messages wait, memory has run out.
 fn ask_room(port: &Port, by_once: bool) -> Result<(), OrMemory<SendFault>>
     ensures ok { OnOk result (is_full_for port.now by_once ≡ false) }
+    ensures room { OnOk result (is_out_of_room port.now ≡ false) }
     ensures refused { IfErr result (λ fault. IsNoRoom fault port.now by_once) }
 {
-    if is_at_limit(port, by_once) {
+    if port.is_full_for(by_once) {
         return Err(OrMemory::Fault(SendFault::Refused(Code::MachSendTimedOut)));
     }
-    if port.is_full_for(by_once) {
+    if port.is_out_of_room() {
         return Err(OrMemory::Memory);
     }
     Ok(())

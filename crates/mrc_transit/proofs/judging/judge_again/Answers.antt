@@ -161,8 +161,8 @@ returns-in_err-judge_args-clause-refused c =
     (Fault c.in_err-judge_args.field-0.0)
     (c.in_err-judge_args.ensures.refused c.args.sender got.0 got.1))
 
-pub returns-then-is_at_limit-clause-refused : goal.returns-then-is_at_limit-clause-refused
-returns-then-is_at_limit-clause-refused c =
+pub returns-then-is_full_for-clause-refused : goal.returns-then-is_full_for-clause-refused
+returns-then-is_full_for-clause-refused c =
     let got = reply_gives c.args.store.now c.args.sender c.header-header.result.local_port
     (parted c.in-Some-space.space.now c.header-header.result.remote_port c.in-Some.disp
     c.in-Ok.parted.0 c.in-Ok.parted.1)
@@ -190,7 +190,7 @@ returns-then-is_at_limit-clause-refused c =
     ∙ c.in_ok-judge_reply.ensures.ok) (arguments_of c.args-2.result.now)
     c.args-2.ensures.exact
     all.0 all.1 all.3 c.is_once.result (c.is_once.ensures ∙ ap is_once c.give.ensures)
-    (sym c.is_at_limit.ensures ∙ c.if-is_at_limit.true)
+    (sym c.is_full_for.ensures ∙ c.if-is_full_for.true)
 
 pub returns-clause-ok : goal.returns-clause-ok
 returns-clause-ok c =
@@ -221,4 +221,4 @@ returns-clause-ok c =
     ∙ c.in_ok-judge_reply.ensures.ok) (arguments_of c.args-2.result.now)
     c.args-2.ensures.exact
     all.0 all.1 all.3 c.is_once.result (c.is_once.ensures ∙ ap is_once c.give.ensures)
-    (sym c.is_at_limit.ensures ∙ c.if-is_at_limit.false)
+    (sym c.is_full_for.ensures ∙ c.if-is_full_for.false)

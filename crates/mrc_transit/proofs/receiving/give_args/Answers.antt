@@ -1,8 +1,9 @@
 use Rattle.std.proofs.Common.{◌+◌, ap, ◌∙◌, drop, map}
 use Rattle.std.proofs.lemmas.Result.{err_from_is_err_and}
 use Rattle.mrc_desc.specs.View.{argument_of, arguments_of}
+use Rattle.mrc_desc.proofs.Walks.{item_first}
 use Rattle.mrc_ports.specs.Parcels.{queued_of}
-use Rattle.mrc_transit.proofs.ReceiveWalks.{item_first, args_next, args_over, others_next}
+use Rattle.mrc_transit.proofs.ReceiveWalks.{args_next, args_over, others_next}
 use Rattle.mrc_transit.proofs.ReceiveWalks.{arguments_pushed}
 use Rattle.mrc_transit.proofs.receiving.give_args.Goals as goal
 

@@ -6,7 +6,8 @@ use Rattle.mrc_ports.specs.Queues.{after_receipt}
 use Rattle.mrc_model.specs.CallReceive.{call_receive}
 use Rattle.mrc_transit.specs.Receiving.{IsFirst, IsReceiveRefusal}
 use Rattle.mrc_ports.proofs.TableLaws.{put_twice}
-use Rattle.mrc_transit.proofs.ReceiveCalls.{put_same, received_left, done, refused_so}
+use Rattle.mrc_transit.proofs.StagingLaws.{put_same}
+use Rattle.mrc_transit.proofs.ReceiveCalls.{received_left, done, refused_so}
 use Rattle.mrc_transit.proofs.ReceiveCalls.{told_ok, told_err, told_on_err, has_room}
 use Rattle.mrc_transit.proofs.ReceiveCalls.{alike_put, alike_same}
 use Rattle.mrc_transit.proofs.receiving.receive.Goals as goal

@@ -179,12 +179,13 @@ returns-clause-ok c =
     (map queued_of c.in_ok-arguments.arguments.items)
     (c.in_ok-arguments.ensures.taken c.args.sender) c.is_once-by_once.result
     (c.is_once-by_once.ensures ∙ ap is_once c.give.ensures) c.in_ok-ask_room.ensures.ok
+    c.in_ok-ask_room.ensures.room
     (c.take_args.ensures.base ∙ c.take_reply.ensures.base ∙ c.take.ensures.base
     ∙ ap (λ (g : Taking). g.base) c.new-taking.ensures)
     c.finish-changes.result.0 c.finish-changes.ensures.changes c.finish-changes.ensures.rests
     c.finish-changes.result.1.items
     c.finish-changes.ensures.moved (plan c.in_ok-ready.ready)
-    (ap plan (c.in_ok-ready.ensures ∙ c.new.ensures))
+    (ap plan (c.in_ok-ready.ensures.ok ∙ c.new.ensures))
 
 pub returns-clause-ready : goal.returns-clause-ready
 returns-clause-ready c =
@@ -214,9 +215,10 @@ returns-clause-ready c =
     (map queued_of c.in_ok-arguments.arguments.items)
     (c.in_ok-arguments.ensures.taken c.args.sender) c.is_once-by_once.result
     (c.is_once-by_once.ensures ∙ ap is_once c.give.ensures) c.in_ok-ask_room.ensures.ok
+    c.in_ok-ask_room.ensures.room
     (c.take_args.ensures.base ∙ c.take_reply.ensures.base ∙ c.take.ensures.base
     ∙ ap (λ (g : Taking). g.base) c.new-taking.ensures)
     c.finish-changes.result.0 c.finish-changes.ensures.changes c.finish-changes.ensures.rests
     c.finish-changes.result.1.items
     c.finish-changes.ensures.moved (plan c.in_ok-ready.ready)
-    (ap plan (c.in_ok-ready.ensures ∙ c.new.ensures))
+    (ap plan (c.in_ok-ready.ensures.ok ∙ c.new.ensures))
