@@ -1,19 +1,18 @@
 -- What making something in a space comes to, exit by exit.
 use Rattle.std.proofs.Common.{◌≡◌, ℕ, Bool, true, false, Option, Some, None, Ok, Err, refl}
-use Rattle.std.proofs.Common.{sym, ◌∙◌, ap, inl, inr, Result}
+use Rattle.std.proofs.Common.{sym, ◌∙◌, ap, Result}
 use Rattle.std.specs.Prelude.{OnOk, OnErr}
-use Rattle.std.proofs.lemmas.Bool.{ne_eqb, cases_eq}
+use Rattle.std.proofs.lemmas.Bool.{ne_eqb}
 use Rattle.mrc_model.specs.declared.Entry.{Entry}
 use Rattle.mrc_model.specs.declared.Entry.TheVariants.{Receive as ReceiveEntry}
 use Rattle.mrc_model.specs.declared.Code.TheVariants.{KernInvalidValue, KernNoSpace}
 use Rattle.mrc_model.specs.declared.Code.TheVariants.{KernResourceShortage, KernInvalidTask}
 use Rattle.mrc_base.specs.declared.Right.{Right}
 use Rattle.mrc_model.specs.Wiring.{Wiring}
-use Rattle.mrc_model.specs.Map.{empty, get, insert, remove, len}
-use Rattle.mrc_model.proofs.Maps.{get-insert_same, get-insert_other, get-remove_same}
-use Rattle.mrc_model.proofs.Maps.{get-remove_other}
+use Rattle.mrc_model.specs.Map.{empty, get, insert, len}
+use Rattle.mrc_model.proofs.Maps.{get-insert_same}
 use Rattle.mrc_model.proofs.Spaces.{get-unused}
-use Rattle.mrc_map.proofs.SameMaps.{same_map}
+use Rattle.mrc_index.proofs.UndoLaws.{took_back}
 use Rattle.mrc_model.specs.World.{Space, World, space}
 use Rattle.mrc_model.specs.Reply.{Reply, Name, Refused, Try, ◌>>=◌, ◌>>◌}
 use Rattle.mrc_model.specs.Reply.{check, refuse_if, or_refuse}
@@ -144,15 +143,7 @@ right_taken_back x a y e p name entry room add out =
     ∙ ap (λ n. without a n (get a n)) parts.1
     ∙ ap (λ z. without z (unused x) (get z (unused x))) parts.0
     ∙ ap (without (insert x (unused x) right) (unused x)) there
-    ∙ remove_new x (unused x) right (get-unused x)
-  where
-    remove_new : (z : Space) (n : ℕ) (f : Entry) → get z n ≡ None → remove (insert z n f) n ≡ z
-    remove_new z n f none = same_map _ _ (λ q. elim (cases_eq q n) [
-      | inl same ↦
-          ap (get (remove (insert z n f) n)) same ∙ get-remove_same (insert z n f) n
-          ∙ sym none ∙ ap (get z) (sym same)
-      | inr other ↦ get-remove_other (insert z n f) n q other ∙ get-insert_other z n f q other
-    ])
+    ∙ took_back x (unused x) right (get-unused x)
 
 -- the world where a space is put back into which a port was born
 pub born : (w v z y : World) (t class : ℕ) (x a : Space)

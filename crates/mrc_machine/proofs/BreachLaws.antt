@@ -1,10 +1,9 @@
 -- What the list of holdings says of tasks that count as one of a class.
 use Rattle.std.proofs.Common.{◌≡◌, ℕ, suc, Bool, true, false, ◌&&◌, ◌||◌, not, ◌==◌, List, [], ◌∷◌}
 use Rattle.std.proofs.Common.{Option, Some, None, if◌then◌else◌, ◌≤◌, ◌<◌, ◌↔◌, IsTrue, refl, sym}
-use Rattle.std.proofs.Common.{◌∙◌, ap, subst, arith, drop, length, get_or, zero, ◌+◌}
-use Rattle.std.proofs.Math.Seq.{drop-cons}
+use Rattle.std.proofs.Common.{◌∙◌, ap, subst, arith, drop, zero, ◌+◌}
+use Rattle.std.proofs.lemmas.Bool.{and_parts, false≢true, or_left, or_parts, or_right}
 use Rattle.std.proofs.lemmas.Bool.Decides.{nat_tests}
-use Rattle.std.specs.Prelude.{⊤}
 use Rattle.std.specs.List.{AllByRecursion, list_any}
 use Rattle.mrc_base.specs.declared.PortRight.{PortRight}
 use Rattle.mrc_base.specs.declared.PortRight.TheVariants.{Send, Receive, SendOnce}
@@ -17,18 +16,11 @@ use Rattle.mrc_model.specs.Wiring.{Wiring, is_limited}
 use Rattle.mrc_model.specs.World.{Task, World, task_class, class_of}
 use Rattle.mrc_model.specs.Breach.{Breach, Counts, Forbid, Holding, Holds, holdings, itself, also}
 use Rattle.mrc_model.proofs.HoldingLists.{is_held, held_is}
+use Rattle.mrc_wiring.proofs.GivenRows.{any_in}
 use Rattle.mrc_machine.specs.declared.holding.Holding.{Holding as CodeHolding}
 use Rattle.mrc_machine.specs.Holdings.{holding_of, holdings_of}
 use Rattle.mrc_machine.specs.Breaching.{is_reached, is_counted, is_new, is_of_class, breaks}
 use Rattle.mrc_machine.specs.Breaching.{IsCounted, AreReached, AreHeld, left, left_after}
-
-abbrev is_so : Bool → Type 0
-is_so true = ⊤
-is_so false = ⊥
-
--- a test does not both pass and fail
-differ : {A : Type 0} → false ≡ true → A
-differ h = absurd (subst is_so (sym h) tt)
 
 -- lists
 
@@ -41,37 +33,17 @@ all_in : {X : Type 0} (P : X → Type 0) (xs : List X) → ((x : X) → IsIn x x
 all_in P [] each = tt
 all_in P (x ∷ xs) each = (each x here, all_in P xs (λ y m. each y (later m)))
 
-or_false : (a b : Bool) → (a || b) ≡ false → (a ≡ false) × (b ≡ false)
-or_false a b h = grind arith
-
 none_in : {X : Type 0} (p : X → Bool) (xs : List X) (x : X) → IsIn x xs → list_any p xs ≡ false
     → p x ≡ false
 none_in p [] x m h = elim m [ ]
-none_in p (y ∷ xs) x (here) h = (or_false (p y) (list_any p xs) h).0
-none_in p (y ∷ xs) x (later m) h = none_in p xs x m (or_false (p y) (list_any p xs) h).1
-
-true_or : (a b : Bool) → a ≡ true → (a || b) ≡ true
-true_or a b h = grind arith
-
-or_true : (a b : Bool) → b ≡ true → (a || b) ≡ true
-or_true a b h = grind arith
+none_in p (y ∷ xs) x (here) h = (or_parts (p y) (list_any p xs) h).0
+none_in p (y ∷ xs) x (later m) h = none_in p xs x m (or_parts (p y) (list_any p xs) h).1
 
 in_any : {X : Type 0} (p : X → Bool) (xs : List X) (x : X) → IsIn x xs → p x ≡ true
     → list_any p xs ≡ true
 in_any p [] x m h = elim m [ ]
-in_any p (y ∷ xs) x (here) h = true_or (p y) (list_any p xs) h
-in_any p (y ∷ xs) x (later m) h = or_true (p y) (list_any p xs) (in_any p xs x m h)
-
-any_in : {X : Type 0} (p : X → Bool) (xs : List X) → list_any p xs ≡ true
-    → (x : X) × IsIn x xs × (p x ≡ true)
-any_in p [] h = differ h
-any_in p (x ∷ xs) h =
-    let go : (b : Bool) → p x ≡ b → (b || list_any p xs) ≡ true
-    → (y : _) × IsIn y (x ∷ xs) × (p y ≡ true) = elim [
-      | true ↦ λ is z. (x, here, is)
-      | false ↦ λ is z. let more = any_in p xs z in (more.0, later more.1, more.2)
-    ] in
-    go (p x) refl h
+in_any p (y ∷ xs) x (here) h = or_left (p y) (list_any p xs) h
+in_any p (y ∷ xs) x (later m) h = or_right (p y) (list_any p xs) (in_any p xs x m h)
 
 -- tests
 
@@ -79,12 +51,12 @@ same_is : (r q : PortRight) → same_right r q ≡ true → r ≡ q
 same_is Send Send h = refl
 same_is Receive Receive h = refl
 same_is SendOnce SendOnce h = refl
-same_is Send Receive h = differ h
-same_is Send SendOnce h = differ h
-same_is Receive Send h = differ h
-same_is Receive SendOnce h = differ h
-same_is SendOnce Send h = differ h
-same_is SendOnce Receive h = differ h
+same_is Send Receive h = absurd (false≢true h)
+same_is Send SendOnce h = absurd (false≢true h)
+same_is Receive Send h = absurd (false≢true h)
+same_is Receive SendOnce h = absurd (false≢true h)
+same_is SendOnce Send h = absurd (false≢true h)
+same_is SendOnce Receive h = absurd (false≢true h)
 
 same_self : (r : PortRight) → same_right r r ≡ true
 same_self Send = refl
@@ -96,9 +68,6 @@ equal_is a b h = grind (arith, nat_tests)
 
 is_equal : (a b : ℕ) → a ≡ b → (a == b) ≡ true
 is_equal a b h = grind (arith, nat_tests)
-
-two_parts : (a b : Bool) → (a && b) ≡ true → (a ≡ true) × (b ≡ true)
-two_parts a b h = grind arith
 
 three_parts : (a b c : Bool) → (a && b && c) ≡ true → (a ≡ true) × (b ≡ true) × (c ≡ true)
 three_parts a b c h = grind arith
@@ -118,7 +87,7 @@ both : (a b : Bool) → a ≡ true → b ≡ true → (a && b) ≡ true
 both a b h i = grind arith
 
 of_class_is : (class : ℕ) (o : Option ℕ) → is_of_class class o ≡ true → o ≡ Some class
-of_class_is class None h = differ h
+of_class_is class None h = absurd (false≢true h)
 of_class_is class (Some c) h = ap Some (equal_is c class h)
 
 is_of : (class : ℕ) (o : Option ℕ) → o ≡ Some class → is_of_class class o ≡ true
@@ -132,9 +101,9 @@ module _ (W : Wiring) (w : World) (class : ℕ) where
   counted_is ports t reached h =
       let through : (o : Option Task) → get w.tasks t ≡ o → is_reached ports o ≡ true
       → IsCounted W w class t = elim [
-        | None ↦ λ is z. differ z
+        | None ↦ λ is z. absurd (false≢true z)
         | Some x ↦ λ is z.
-            let parts = two_parts x.alive (has ports x.kernel) z in
+            let parts = and_parts x.alive (has ports x.kernel) z in
             let by = reached x.kernel parts.1 in
             (by.1.0, by.1.1, also by.1.2 (x, is, parts.0, by.2, by.3))
       ] in
@@ -171,7 +140,7 @@ module _ (W : Wiring) (w : World) (class : ℕ) where
   pub counts_are : (ports : List ℕ) → list_any (is_new W w class ports) (holdings w) ≡ false
       → (n t : ℕ) → Counts W w n t → task_class w n ≡ class → is_counted w class ports t ≡ true
   counts_are ports closed n t (itself) is =
-      true_or (task_class w n == class) (is_reached ports (get w.tasks n))
+      or_left (task_class w n == class) (is_reached ports (get w.tasks n))
       (is_equal (task_class w n) class is)
   counts_are ports closed n t (also {u = u} counts reaches) is =
       let x = reaches.0 in
@@ -181,7 +150,7 @@ module _ (W : Wiring) (w : World) (class : ℕ) where
       let there = known (same_right Send Send) (has ports x.kernel)
       (is_counted w class ports u) (is_limited W Takes (task_class w u)) old refl
       (counts_are ports closed n u counts is) reaches.4 in
-      or_true (task_class w t == class) (is_reached ports (get w.tasks t))
+      or_right (task_class w t == class) (is_reached ports (get w.tasks t))
       (rw reaches.1 (both x.alive (has ports x.kernel) reaches.2 there))
 
 pub all_held : (w : World) → AreHeld w (holdings w)
@@ -271,7 +240,7 @@ module _ (ports more : List ℕ) (p : ℕ) (put : (q : ℕ) → has more q ≡ (
   here_less h hs fresh is =
       let le : left more hs ≤ left ports hs = left_le hs in
       let there : has more h.port ≡ true =
-      put h.port ∙ true_or (p == h.port) (has ports h.port) (is_equal p h.port (sym is)) in
+      put h.port ∙ or_left (p == h.port) (has ports h.port) (is_equal p h.port (sym is)) in
       let new : has ports h.port ≡ false = ap (has ports) is ∙ fresh in
       rw (there, new) (omega (arith, le))
 
@@ -321,16 +290,6 @@ decided_at W w line class ports hs b all same reached closed is =
 
 -- steps of a pass
 
-pub never : {A : Type 0} → true ≡ false → A
-never h = differ (sym h)
-
-pub drop_next : {X : Type 0} (xs : List X) (i : ℕ) (x : X) → i < length xs → x ≡ get_or xs i x
-    → drop i xs ≡ x ∷ drop (i + 1) xs
-drop_next xs i x short is =
-    let one : suc i ≡ i + 1 = omega arith in
-    drop-cons xs i x short ∙ ap (λ y. y ∷ drop (suc i) xs) (sym is)
-    ∙ ap (λ n. x ∷ drop n xs) one
-
 pub first_held : (w : World) (h : CodeHolding) (next rest : List CodeHolding) → next ≡ h ∷ rest
     → AreHeld w (holdings_of next) → Holds w h.task h.port h.right
 first_held w h next rest is held = (subst (λ hs. AreHeld w (holdings_of hs)) is held).0
@@ -343,7 +302,7 @@ drop_in : (hs rest : List CodeHolding) (i : ℕ) (h : CodeHolding) → drop i hs
     → IsIn (holding_of h) (holdings_of hs)
 drop_in hs rest zero h is =
     subst (λ gs. IsIn (holding_of h) (holdings_of gs)) (sym is) here
-drop_in [] rest (suc i) h is = differ (ap is_full is)
+drop_in [] rest (suc i) h is = absurd (false≢true (ap is_full is))
 drop_in (g ∷ hs) rest (suc i) h is = later (drop_in hs rest i h is)
 
 left_up : (more : Bool) (ports : List ℕ) (hs : List Holding)

@@ -7,12 +7,13 @@ use Rattle.mrc_model.specs.declared.Backup.{Backup}
 use Rattle.mrc_model.specs.declared.Backup.TheVariants.{Absent as NoBackup, Dead as DeadBackup}
 use Rattle.mrc_model.specs.declared.Backup.TheVariants.{Port as BackupPort}
 use Rattle.mrc_model.specs.Map.{Map, get, alter_all}
-use Rattle.mrc_model.specs.World.{Space, Port, Parcel, Store, Task, space}
+use Rattle.mrc_model.specs.World.{Space, Port, Parcel, Store, Task, set_space}
 use Rattle.mrc_model.specs.Death.{perished_entry, bury, append, append_to, once_notice}
 use Rattle.mrc_model.specs.Death.{notify_backup, notify_port}
 use Rattle.mrc_model.proofs.Maps.{get-alter_all, Each-alter_all}
 use Rattle.mrc_death.specs.Plans.{Work, tell_once, tell_destroyed, carried_out, IsReady}
-use Rattle.mrc_death.specs.Removing.{removed, removed_from}
+use Rattle.mrc_death.specs.Removing.{left_in, removed, removed_from}
+use Rattle.mrc_death.specs.declared.removal.Removal.{Removal}
 use Rattle.mrc_machine.specs.Housing.{IsHoused}
 use Rattle.mrc_machine.proofs.HousingLaws.{AreSame, housed_same, housed_space}
 
@@ -84,6 +85,16 @@ told_destroyed_same s (p ∷ ps) =
     let z = notify_port s p (get s.ports p) in
     then_same s z (tell_destroyed z ps) (told_destroyed_same z ps) (port_same s p (get s.ports p))
 
+-- what leaves a task's space leaves it with one
+left_housed : (ts : Map Task) (s : Store) → IsHoused record { tasks = ts; store = s }
+    → (t : ℕ) (r : Removal) (o : Option Space)
+    → get s.spaces t ≡ o
+    → IsHoused record { tasks = ts; store = record s { spaces = left_in s.spaces t r o } }
+left_housed ts s h t r None is = h
+left_housed ts s h t r (Some x) is =
+    housed_space ts s (set_space s t (removed r x)) t (removed r x) h
+    (h.homes t (subst IsSome (sym is) refl)) refl
+
 -- where a plan was carried out
 pub housed_carried : (ts : Map Task) (s z : Store) (plan : Option Work)
     → IsHoused record { tasks = ts; store = s }
@@ -94,10 +105,8 @@ unfolding carried_out
 housed_carried ts s z None h ready is =
     housed_same ts s z h (ap (λ (y : Store). y.spaces) is, ap (λ (y : Store). y.next) is)
 housed_carried ts s z (Some w) h ready is =
-    let there = h.homes w.task ready.can_remove.0 in
-    let left = removed w.removal (space s w.task) in
     let without = removed_from s w.task w.removal in
-    let put = housed_space ts s without w.task left h there refl in
+    let put = left_housed ts s h w.task w.removal (get s.spaces w.task) refl in
     let after = bury without w.dead in
     let told = then_same after (tell_once after w.once)
     (tell_destroyed (tell_once after w.once) w.lost)

@@ -6,7 +6,7 @@ use Rattle.std.specs.Prelude.{◌&&◌, ◌==◌}
 use Prim.Native.Nat.{zero}
 use Rattle.std.specs.List.{slice_get, slice_index_or}
 use Rattle.std.specs.List.Sorted.{IsPartitionPoint, IsPartitionedBy}
-use Rattle.std.proofs.lemmas.Bool.{cases_lt, ltb-true, lt-ltb, le-ltb, ne_eqb}
+use Rattle.std.proofs.lemmas.Bool.{and_right, cases_lt, ltb-true, lt-ltb, le-ltb, ne_eqb}
 use Rattle.mrc_model.specs.World.{Task}
 use Rattle.mrc_model.specs.Target.{first_task, has_kernel}
 use Rattle.mrc_model.proofs.Maps.{if_true, if_false}
@@ -68,11 +68,7 @@ kernel_place_is p (e ∷ es) (suc i) h parted =
 
 -- a task with another kernel port
 other_kernel : (p : ℕ) (x : Task) → (x.kernel ≡ p → ⊥) → has_kernel p x ≡ false
-other_kernel p x other = go x.alive (x.kernel == p) (ne_eqb x.kernel p other)
-  where
-    go : (a b : Bool) → b ≡ false → (a && b) ≡ false
-    go true b is = is
-    go false b is = refl
+other_kernel p x other = and_right x.alive (x.kernel == p) (ne_eqb x.kernel p other)
 
 -- the number of the task, if it is alive and p is its kernel port
 abbrev pub kernel_at : ℕ → Option (ℕ × Task) → Option ℕ

@@ -15,7 +15,6 @@ pub mod CreateLaws
 pub mod TakeLaws
 pub mod RequestLaws
 pub mod MoveLaws
-pub mod BadTaskLaws
 pub mod StepLaws
 pub mod StartLaws
 pub mod BreachLaws

@@ -361,16 +361,6 @@ port_gone s p is = go (get s.ports p) refl is
     go None at told = at
     go (Some y) at told = absurd (not_None y.backup told)
 
-pub class_gone : (s : Store) (p : ℕ) → class_of s p ≡ None → get s.ports p ≡ None
-class_gone s p is = go (get s.ports p) refl is
-  where
-    go : (o : Option Port)
-        → get s.ports p ≡ o
-        → option_map (λ (y : Port). y.class) o ≡ None
-        → get s.ports p ≡ None
-    go None at told = at
-    go (Some y) at told = absurd (not_None y.class told)
-
 -- a space with room takes the right of a request
 pub given_new : (x y : Space) (p n : ℕ)
     → give_right x p SendOnce ≡ Ok (y, n)

@@ -18,7 +18,7 @@ use Rattle.mrc_model.specs.declared.Code.TheVariants.{KernInvalidTask, KernInval
 use Rattle.mrc_model.specs.Rights.{is_receive}
 use Rattle.mrc_model.specs.Map.{Map, empty, get, insert, len, next_key}
 use Rattle.mrc_model.specs.Wiring.{Wiring}
-use Rattle.mrc_model.specs.World.{Space, Port, Store, World, space, set_space}
+use Rattle.mrc_model.specs.World.{Space, Port, Store, World, space}
 use Rattle.mrc_model.specs.Reply.{Refused, Try, ◌>>=◌, ◌>>◌, check, refuse_if, or_refuse}
 use Rattle.mrc_model.specs.Space.{is_full, is_over_full, unused, place, give_item}
 use Rattle.mrc_model.specs.Target.{with_store, with_space}
@@ -31,11 +31,13 @@ use Rattle.mrc_model.specs.declared.FirstLine.{FirstLine}
 use Rattle.mrc_model.specs.First.{First, add_line, add_lines, no_world}
 use Rattle.mrc_model.proofs.Maps.{get-insert_same, len-insert, len-empty, next_key-empty}
 use Rattle.mrc_model.proofs.Maps.{next_key-insert}
+use Rattle.mrc_model.proofs.Spaces.{space-set_same}
 use Rattle.mrc_map.specs.Entries.{below}
 use Rattle.mrc_names.specs.Takes.{give_right}
 use Rattle.mrc_names.proofs.GivingLaws.{over_full}
 use Rattle.mrc_machine.specs.Starts.{IsStart, with_task, with_right}
 use Rattle.mrc_machine.proofs.HousingLaws.{kept_there}
+use Rattle.mrc_machine.proofs.DropLaws.{no_some}
 use Rattle.mrc_machine.proofs.Trying.{same_Ok, not_Err, ok_bind, err_bind, ok_goes}
 
 -- before the first line
@@ -184,14 +186,6 @@ start_port f z t c h low is =
 
 -- hold lines
 
-none_is : {X : Type 0} (o : Option X) → is_some o ≡ false → o ≡ None
-none_is None is = refl
-none_is (Some x) is = cc
-
--- the space that was put is the task's
-space_put : (s : Store) (t : ℕ) (x : Space) → space (set_space s t x) t ≡ x
-space_put s t x = ap (λ o. unwrap_or o empty) (get-insert_same s.spaces t x)
-
 -- what is answered for a state that has this world
 abbrev pub on_world : First → World → Try First
 on_world f w = Ok (record f { world = w })
@@ -222,7 +216,7 @@ module _ (W : Wiring) (f : First) (t p : ℕ) (r : PortRight) where
           rw (
             not_receive other,
             lt-ltb t f.tasks low,
-            none_is
+            no_some
                 (get f.world.store.ports p) none,
           ) refl
 
@@ -239,7 +233,7 @@ module _ (W : Wiring) (f : First) (t p : ℕ) (r : PortRight) where
           >>= λ (got : Space × ℕ). Ok (with_space f.world t got.0)) >>= on_world f in
           let same : (b : Bool) → go b ≡ by b = elim [ true ↦ refl | false ↦ refl ] in
           rw (not_receive other, lt-ltb t f.tasks low, at)
-          (ap go (ap is_over_full (space_put f.world.store t y.space)) ∙ same
+          (ap go (ap is_over_full (space-set_same f.world.store t y.space)) ∙ same
           (is_over_full y.space))
 
       pub hold_given : is_some (get f.world.store.ports p) ≡ true

@@ -8,7 +8,7 @@ use Rattle.mrc_model.specs.Reply.{◌>>=◌, or_refuse}
 use Rattle.mrc_model.specs.Space.{restart_if}
 use Rattle.mrc_model.specs.Target.{with_store, bad_name}
 use Rattle.mrc_model.proofs.Maps.{get-insert}
-use Rattle.mrc_transit.proofs.ApplyLaws.{restart_spaces}
+use Rattle.mrc_transit.proofs.ApplyLaws.{ok_not_err, restart_spaces}
 use Rattle.mrc_model.specs.declared.Backup.{Backup}
 use Rattle.mrc_machine.specs.Moves.{limited}
 use Rattle.mrc_machine.specs.Requests.{with_backup}
@@ -41,10 +41,6 @@ limited_none : (w : World) (p limit : ℕ)
     → limited w p limit ≡ Err bad_name
 unfolding limited ◌>>=◌ or_refuse
 limited_none w p limit at = rw at refl
-
-ok_not_err : {A B : Type 0} (r : Result A B) → IsOk r → is_err r ≡ true → ⊥
-ok_not_err (Ok a) ok err = cc
-ok_not_err (Err b) ok err = cc
 
 -- what code tells of a port that it looked for
 module _ {A B : Type 0} (w : World) (z : Store) (p limit : ℕ) (r : Result A B)

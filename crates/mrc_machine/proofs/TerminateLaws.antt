@@ -27,12 +27,12 @@ module _ (w : World) (t task : ℕ) where
   module _ (u kernel : ℕ) (task_is : target_of w t task ≡ Some u)
       (kernel_is : option_map (λ (x : Task). x.kernel) (get w.tasks u) ≡ Some kernel) where
     -- the task, and the world after its end
-    terminated : (z v : World)
+    pub terminate_done : (z v : World)
         → z ≡ with_store w (destroyed w.store (TaskOf u kernel))
         → v ≡ with_end z u (get z.tasks u)
         → call_terminate w t task ≡ Ok (v, Done)
     unfolding call_terminate ◌>>=◌ or_refuse
-    terminated z v gone end =
+    terminate_done z v gone end =
         rw (target_some w t task u KernInvalidArgument task_is)
         (go (get w.tasks u) refl kernel_is)
       where
@@ -51,11 +51,5 @@ module _ (w : World) (t task : ℕ) where
             (sym (same_Some x.kernel kernel is)) in
             ap (λ (k : World). Ok (k, Done)) (sym end')
 
-    pub terminate_done : (z v : World)
-        → z ≡ with_store w (destroyed w.store (TaskOf u kernel))
-        → v ≡ with_end z u (get z.tasks u)
-        → call_terminate w t task ≡ Ok (v, Done)
-    terminate_done z v gone end = terminated z v gone end
-
     pub terminate_goes : IsOk (call_terminate w t task)
-    terminate_goes = subst IsOk (sym (terminated _ _ refl refl)) refl
+    terminate_goes = subst IsOk (sym (terminate_done _ _ refl refl)) refl

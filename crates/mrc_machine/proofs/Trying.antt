@@ -1,6 +1,6 @@
 -- Steps that may be refused, one after the other: in whichever way they stand together.
 use Rattle.std.proofs.Common.{◌≡◌, Result, Ok, Err, refl, sym, ap, ◌∙◌, subst}
-use Rattle.std.specs.Prelude.{IsOk, IfOk, IfErr, OnOk, OnErr, IsErrAnd}
+use Rattle.std.specs.Prelude.{IsOk, IfOk, IfErr, OnErr, IsErrAnd}
 use Rattle.std.specs.Result.{result_unwrap_or}
 use Rattle.mrc_base.specs.declared.memory.OrMemory.{OrMemory}
 use Rattle.mrc_base.specs.declared.memory.OrMemory.TheVariants.{Fault, Memory}
@@ -113,17 +113,6 @@ seen_as (Ok a) call f g same is = is ∙ ap Ok (same a)
 seen_as (Err e) call f g same is = tt
 
 -- what follows where all went well
-pub on_ok : {A E : Type 0} (r : Result A E) (P Q : Type 0) → (P → Q) → OnOk r P → OnOk r Q
-on_ok (Ok a) P Q go p = go p
-on_ok (Err e) P Q go p = tt
-
-pub if_ok : {A E : Type 0} (r : Result A E) (P Q : A → Type 0)
-    → ((a : A) → P a → Q a)
-    → IfOk r P
-    → IfOk r Q
-if_ok (Ok a) P Q go p = go a p
-if_ok (Err e) P Q go p = tt
-
 pub if_ok_all : {A E : Type 0} (r : Result A E) (P Q R S : A → Type 0)
     → ((a : A) → P a → Q a → R a → S a)
     → IfOk r P
@@ -132,11 +121,6 @@ pub if_ok_all : {A E : Type 0} (r : Result A E) (P Q R S : A → Type 0)
     → IfOk r S
 if_ok_all (Ok a) P Q R S go p q k = go a p q k
 if_ok_all (Err e) P Q R S go p q k = tt
-
--- what follows from an error
-pub on_err : {A E : Type 0} (r : Result A E) (P Q : Type 0) → (P → Q) → OnErr r P → OnErr r Q
-on_err (Ok a) P Q go p = tt
-on_err (Err e) P Q go p = go p
 
 -- memory may run out in a step that is not refused
 pub wanting_by : {A T : Type 0} (r : Result T (OrMemory Refusal)) (m : Try A)

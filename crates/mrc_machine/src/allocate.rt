@@ -8,8 +8,11 @@ ghost use Rattle.mrc_model.specs.Reply.{Name};
 ghost use Rattle.mrc_model.specs.CallAllocate.{call_allocate, allocate_port, allocate_entry};
 ghost use Rattle.mrc_wiring.specs.Table.{wiring_of};
 ghost use Rattle.mrc_names.specs.Refusals.{IsRefusal};
+ghost use Rattle.mrc_machine.specs.Calls.{Answers};
 ghost use Rattle.mrc_machine.specs.Housing.{target_of};
 
+use crate::refusal::{Refusal, refusal_of};
+use crate::reply::Reply;
 use crate::state::State;
 use mrc_base::{OrMemory, Right, TaskId};
 use mrc_model::{Code, Entry};
@@ -68,7 +71,7 @@ impl State {
     }
 
     /// A new name: a receive right of a new port, an empty port set, or a dead name.
-    pub(crate) fn allocate(
+    fn allocate_in(
         &mut self,
         wired: &Wired,
         caller: TaskId,
@@ -91,6 +94,29 @@ impl State {
             Right::Receive => self.allocate_port(wired, target, kind),
             Right::PortSet => self.allocate_entry(target, kind, Entry::PortSet),
             Right::DeadName => self.allocate_entry(target, kind, Entry::DeadName { refs: 1 }),
+        }
+    }
+
+    /// Makes a name of a task: a receive right of a new port, an empty port set, or a dead name.
+    #[tactic(auto, using(crate::proofs::AllocateLaws::allocate_no_task))]
+    pub(crate) fn allocate(
+        &mut self,
+        wired: &Wired,
+        caller: TaskId,
+        task: u32,
+        right: Right,
+        kind: u32,
+    ) -> Result<Reply, OrMemory<Refusal>>
+        requires { IsSome (get self.old.tasks caller) }
+        ensures { Answers result self.old self.new
+            (call_allocate (wiring_of wired.now) self.old caller task right kind) }
+    {
+        let Some(target) = self.target(caller, task) else {
+            return Err(OrMemory::Fault(Refusal::Refused(Code::KernInvalidTask)));
+        };
+        match self.allocate_in(wired, caller, task, target, right, kind) {
+            Ok(name) => Ok(Reply::Name(name)),
+            Err(fault) => Err(refusal_of(fault)),
         }
     }
 }

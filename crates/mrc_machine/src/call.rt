@@ -1,11 +1,7 @@
 //! The calls of the machine.
 
-ghost use Rattle.std.specs.Prelude.{◌≡◌};
-ghost use Rattle.mrc_machine.specs.Calls.{task_name, bad_task};
-
 use mrc_base::{Disp, Right};
 use mrc_desc::Message;
-use mrc_model::Code;
 
 /// A call of a task (Mach 3 Kernel Interfaces, `mach_msg` and the `mach_port_` calls). `task` is a
 /// name of the caller's space, with a send right to the kernel port of the task that the call acts
@@ -206,40 +202,4 @@ pub enum Call {
         /// The task that it is made from.
         task: u32,
     },
-}
-
-impl Call {
-    /// The name of the task that the call acts on. None for messages, whose names are the caller's.
-    pub(crate) fn task_name(&self) -> Option<u32>
-        ensures { result ≡ task_name self.now }
-    {
-        match *self {
-            Call::Send(_) | Call::Receive { .. } => None,
-            Call::Allocate { task, .. } => Some(task),
-            Call::GetRefs { task, .. } => Some(task),
-            Call::InsertRight { task, .. } => Some(task),
-            Call::ExtractRight { task, .. } => Some(task),
-            Call::SetQlimit { task, .. } => Some(task),
-            Call::PortType { task, .. } => Some(task),
-            Call::Names { task } => Some(task),
-            Call::Rename { task, .. } => Some(task),
-            Call::MoveMember { task, .. } => Some(task),
-            Call::RequestNotification { task, .. } => Some(task),
-            Call::Deallocate { task, .. } => Some(task),
-            Call::Destroy { task, .. } => Some(task),
-            Call::ModRefs { task, .. } => Some(task),
-            Call::Terminate { task } => Some(task),
-            Call::CreateTask { task } => Some(task),
-        }
-    }
-
-    /// The code that refuses the call where its name stands for no live task.
-    pub(crate) fn bad_task(&self) -> Code
-        ensures { result ≡ bad_task self.now }
-    {
-        match self {
-            Call::Terminate { .. } | Call::CreateTask { .. } => Code::KernInvalidArgument,
-            _ => Code::KernInvalidTask,
-        }
-    }
 }

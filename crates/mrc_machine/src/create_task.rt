@@ -10,8 +10,11 @@ ghost use Rattle.mrc_model.specs.Space.{put_entry};
 ghost use Rattle.mrc_model.specs.Target.{with_space};
 ghost use Rattle.mrc_index.specs.Undo.{CanPut};
 ghost use Rattle.mrc_names.specs.Takes.{give_right};
+ghost use Rattle.mrc_machine.specs.Calls.{Answers};
 ghost use Rattle.mrc_machine.specs.Housing.{target_of};
 
+use crate::refusal::{Refusal, refusal_of};
+use crate::reply::Reply;
 use crate::state::State;
 use mrc_base::{OrMemory, PortId, PortRight, TaskId};
 use mrc_model::{Code, Entry};
@@ -41,7 +44,7 @@ impl State {
     }
 
     /// Makes a task from another one: its number, and the caller's name for its kernel port.
-    pub(crate) fn create_task(
+    fn create_from(
         &mut self,
         caller: TaskId,
         task: u32,
@@ -77,6 +80,25 @@ impl State {
                 self.leave(caller, name, former);
                 Err(OrMemory::Memory)
             }
+        }
+    }
+
+    /// Makes a task from another one.
+    #[tactic(auto, using(crate::proofs::CreateLaws::create_no_task))]
+    pub(crate) fn create_task(
+        &mut self,
+        caller: TaskId,
+        task: u32,
+    ) -> Result<Reply, OrMemory<Refusal>>
+        requires { IsSome (get self.old.tasks caller) }
+        ensures { Answers result self.old self.new (call_create_task self.old caller task) }
+    {
+        let Some(target) = self.target(caller, task) else {
+            return Err(OrMemory::Fault(Refusal::Refused(Code::KernInvalidArgument)));
+        };
+        match self.create_from(caller, task, target) {
+            Ok((task, name)) => Ok(Reply::Created { task, name }),
+            Err(fault) => Err(refusal_of(fault)),
         }
     }
 }

@@ -10,8 +10,11 @@ ghost use Rattle.mrc_model.specs.CallModRefs.{call_mod_refs};
 ghost use Rattle.mrc_death.specs.Taking.{destroyed_of};
 ghost use Rattle.mrc_names.specs.Refusals.{IsRefusal};
 ghost use Rattle.mrc_machine.specs.Drops.{after_drop, IsDone};
+ghost use Rattle.mrc_machine.specs.Calls.{Answers};
 ghost use Rattle.mrc_machine.specs.Housing.{target_of};
 
+use crate::refusal::{Refusal, refusal_of};
+use crate::reply::Reply;
 use crate::state::State;
 use mrc_base::{OrMemory, Right, TaskId};
 use mrc_death::Destroyed;
@@ -34,7 +37,7 @@ impl State {
     }
 
     /// Drops one send or dead reference of a name, or destroys its send-once right.
-    pub(crate) fn deallocate(
+    fn deallocate_in(
         &mut self,
         caller: TaskId,
         task: u32,
@@ -61,7 +64,7 @@ impl State {
     }
 
     /// Changes the references of a name's right by a number.
-    pub(crate) fn mod_refs(
+    fn mod_refs_in(
         &mut self,
         caller: TaskId,
         task: u32,
@@ -91,7 +94,7 @@ impl State {
     }
 
     /// Destroys a name with all its rights.
-    pub(crate) fn destroy_name(
+    fn destroy_in(
         &mut self,
         caller: TaskId,
         task: u32,
@@ -109,5 +112,68 @@ impl State {
         }
         self.destroy(Destroyed::Entry { task: target, name })?;
         Ok(())
+    }
+
+    /// Drops one reference of a task's name.
+    #[tactic(auto, using(crate::proofs::DropLaws::deallocate_no_task))]
+    pub(crate) fn deallocate(
+        &mut self,
+        caller: TaskId,
+        task: u32,
+        name: u32,
+    ) -> Result<Reply, OrMemory<Refusal>>
+        requires { IsSome (get self.old.tasks caller) }
+        ensures { Answers result self.old self.new (call_deallocate self.old caller task name) }
+    {
+        let Some(target) = self.target(caller, task) else {
+            return Err(OrMemory::Fault(Refusal::Refused(Code::KernInvalidTask)));
+        };
+        match self.deallocate_in(caller, task, target, name) {
+            Ok(()) => Ok(Reply::Done),
+            Err(fault) => Err(refusal_of(fault)),
+        }
+    }
+
+    /// Destroys a name of a task.
+    #[tactic(auto, using(crate::proofs::DropLaws::destroy_no_task))]
+    pub(crate) fn destroy_name(
+        &mut self,
+        caller: TaskId,
+        task: u32,
+        name: u32,
+    ) -> Result<Reply, OrMemory<Refusal>>
+        requires { IsSome (get self.old.tasks caller) }
+        ensures { Answers result self.old self.new (call_destroy self.old caller task name) }
+    {
+        let Some(target) = self.target(caller, task) else {
+            return Err(OrMemory::Fault(Refusal::Refused(Code::KernInvalidTask)));
+        };
+        match self.destroy_in(caller, task, target, name) {
+            Ok(()) => Ok(Reply::Done),
+            Err(fault) => Err(refusal_of(fault)),
+        }
+    }
+
+    /// Changes the references of a right of a task's name by a number.
+    #[tactic(auto, using(crate::proofs::DropLaws::mod_refs_no_task))]
+    pub(crate) fn mod_refs(
+        &mut self,
+        caller: TaskId,
+        task: u32,
+        name: u32,
+        right: Right,
+        delta: i32,
+    ) -> Result<Reply, OrMemory<Refusal>>
+        requires { IsSome (get self.old.tasks caller) }
+        ensures { Answers result self.old self.new
+            (call_mod_refs self.old caller task name right delta) }
+    {
+        let Some(target) = self.target(caller, task) else {
+            return Err(OrMemory::Fault(Refusal::Refused(Code::KernInvalidTask)));
+        };
+        match self.mod_refs_in(caller, task, target, name, right, delta) {
+            Ok(()) => Ok(Reply::Done),
+            Err(fault) => Err(refusal_of(fault)),
+        }
     }
 }

@@ -12,10 +12,11 @@ ghost use Rattle.mrc_index.specs.Undo.{CanPut};
 ghost use Rattle.mrc_names.specs.Refusals.{IsRefusal};
 ghost use Rattle.mrc_names.specs.Takes.{give_right};
 ghost use Rattle.mrc_wiring.specs.Table.{wiring_of};
-ghost use Rattle.mrc_machine.specs.Calls.{IsRefusedBy};
+ghost use Rattle.mrc_machine.specs.Calls.{Answers, IsRefusedBy};
 ghost use Rattle.mrc_machine.specs.Housing.{target_of};
 
 use crate::refusal::{Refusal, refusal_of};
+use crate::reply::Reply;
 use crate::state::State;
 use mrc_base::{Disp, OrMemory, PortId, PortRight, TaskId, give};
 use mrc_model::{Code, Denied, Entry, Item, Verb};
@@ -144,29 +145,29 @@ impl State {
         Ok(given)
     }
 
-    /// Gives a right of the task to the caller, which has to be trusted to take it from tasks of
-    /// other classes, and answers its name.
+    /// Gives a right of a task to the caller, which has to be trusted to take it from tasks of other
+    /// classes.
+    #[tactic(auto, using(crate::proofs::MoveLaws::extract_no_task))]
     pub(crate) fn extract_right(
         &mut self,
         wired: &Wired,
         caller: TaskId,
         task: u32,
-        target: TaskId,
         name: u32,
         disp: Disp,
-    ) -> Result<u32, OrMemory<Refusal>>
-        requires caller { IsSome (get self.old.tasks caller) }
-        requires target { target_of self.old caller task ≡ Some target }
-        requires there { IsSome (get self.old.tasks target) }
-        ensures ok { IfOk result (λ given. call_extract_right (wiring_of wired.now) self.old caller
-            task name disp ≡ Ok (self.new, Name given)) }
-        ensures refused { IfErr result (λ e. IsRefusedBy e
-            (call_extract_right (wiring_of wired.now) self.old caller task name disp)) }
-        ensures err { OnErr result (self.new ≡ self.old) }
+    ) -> Result<Reply, OrMemory<Refusal>>
+        requires { IsSome (get self.old.tasks caller) }
+        ensures { Answers result self.old self.new
+            (call_extract_right (wiring_of wired.now) self.old caller task name disp) }
     {
+        let Some(target) = self.target(caller, task) else {
+            return Err(OrMemory::Fault(Refusal::Refused(Code::KernInvalidTask)));
+        };
         if target.0 == caller.0 {
-            return self.extract_within(caller, task, name, disp);
+            let given = self.extract_within(caller, task, name, disp)?;
+            return Ok(Reply::Name(given));
         }
-        self.extract_across(wired, caller, task, target, name, disp)
+        let given = self.extract_across(wired, caller, task, target, name, disp)?;
+        Ok(Reply::Name(given))
     }
 }

@@ -11,11 +11,12 @@ ghost use Rattle.mrc_model.specs.CallSend.{dead_taken, is_dead_taken};
 ghost use Rattle.mrc_model.specs.CallInsertRight.{call_insert_right};
 ghost use Rattle.mrc_names.specs.Refusals.{IsRefusal};
 ghost use Rattle.mrc_wiring.specs.Table.{wiring_of};
-ghost use Rattle.mrc_machine.specs.Calls.{IsRefusedBy};
+ghost use Rattle.mrc_machine.specs.Calls.{Answers, IsRefusedBy};
 ghost use Rattle.mrc_machine.specs.Housing.{target_of};
 ghost use Rattle.mrc_machine.specs.Moves.{with_moved};
 
 use crate::refusal::{Refusal, refusal_of};
+use crate::reply::Reply;
 use crate::state::State;
 use mrc_base::{Disp, OrMemory, PortId, PortRight, TaskId, give};
 use mrc_model::{Code, Denied, Entry, Item, Verb};
@@ -141,7 +142,7 @@ impl State {
 
     /// Puts a right of the caller under a name of the task, which the caller has to be trusted to
     /// give to tasks of other classes.
-    pub(crate) fn insert_right(
+    fn insert_into(
         &mut self,
         wired: &Wired,
         caller: TaskId,
@@ -170,5 +171,27 @@ impl State {
             return self.insert_within(caller, right, disp, name);
         }
         self.insert_across(wired, caller, right, disp, target, name)
+    }
+
+    /// Puts a right of the caller under a name of a task.
+    #[tactic(auto, using(crate::proofs::MoveLaws::insert_no_task))]
+    pub(crate) fn insert_right(
+        &mut self,
+        wired: &Wired,
+        caller: TaskId,
+        task: u32,
+        name: u32,
+        right: u32,
+        disp: Disp,
+    ) -> Result<Reply, OrMemory<Refusal>>
+        requires { IsSome (get self.old.tasks caller) }
+        ensures { Answers result self.old self.new
+            (call_insert_right (wiring_of wired.now) self.old caller task name right disp) }
+    {
+        let Some(target) = self.target(caller, task) else {
+            return Err(OrMemory::Fault(Refusal::Refused(Code::KernInvalidTask)));
+        };
+        self.insert_into(wired, caller, task, target, name, right, disp)?;
+        Ok(Reply::Done)
     }
 }

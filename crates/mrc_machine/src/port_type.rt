@@ -4,16 +4,19 @@ ghost use Rattle.std.specs.Prelude.{◌≡◌, Some, Ok, Err, IfOk, IfErr, IsSom
 ghost use Rattle.mrc_model.specs.Map.{get};
 ghost use Rattle.mrc_model.specs.Reply.{Mask, Refused};
 ghost use Rattle.mrc_model.specs.CallNames.{call_type};
+ghost use Rattle.mrc_machine.specs.Calls.{Answers};
 ghost use Rattle.mrc_machine.specs.Housing.{target_of};
 
+use crate::refusal::Refusal;
+use crate::reply::Reply;
 use crate::state::State;
-use mrc_base::TaskId;
+use mrc_base::{OrMemory, TaskId};
 use mrc_model::Code;
 use mrc_names::PortType;
 
 impl State {
     /// The rights of a name.
-    pub(crate) fn port_type(
+    fn type_in(
         &self,
         caller: TaskId,
         task: u32,
@@ -31,5 +34,25 @@ impl State {
             return Err(Code::KernInvalidName);
         };
         Ok(rights)
+    }
+
+    /// The rights of a name of a task.
+    #[tactic(auto, using(crate::proofs::AskingLaws::type_no_task))]
+    pub(crate) fn port_type(
+        &self,
+        caller: TaskId,
+        task: u32,
+        name: u32,
+    ) -> Result<Reply, OrMemory<Refusal>>
+        requires { IsSome (get self.now.tasks caller) }
+        ensures { Answers result self.now self.now (call_type self.now caller task name) }
+    {
+        let Some(target) = self.target(caller, task) else {
+            return Err(OrMemory::Fault(Refusal::Refused(Code::KernInvalidTask)));
+        };
+        match self.type_in(caller, task, target, name) {
+            Ok(rights) => Ok(Reply::Mask(rights.mask())),
+            Err(code) => Err(OrMemory::Fault(Refusal::Refused(code))),
+        }
     }
 }

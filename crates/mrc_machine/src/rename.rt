@@ -5,15 +5,18 @@ ghost use Rattle.mrc_model.specs.Map.{get};
 ghost use Rattle.mrc_model.specs.Reply.{Done};
 ghost use Rattle.mrc_model.specs.CallRename.{call_rename};
 ghost use Rattle.mrc_names.specs.Refusals.{IsRefusal};
+ghost use Rattle.mrc_machine.specs.Calls.{Answers};
 ghost use Rattle.mrc_machine.specs.Housing.{target_of};
 
+use crate::refusal::{Refusal, refusal_of};
+use crate::reply::Reply;
 use crate::state::State;
 use mrc_base::{OrMemory, TaskId};
 use mrc_model::Code;
 
 impl State {
     /// Moves an entry to an unused name.
-    pub(crate) fn rename(
+    fn rename_in(
         &mut self,
         caller: TaskId,
         task: u32,
@@ -32,5 +35,26 @@ impl State {
         let renamed = space.rename(old, new);
         self.put_space(target, space);
         renamed
+    }
+
+    /// Moves an entry of a task to an unused name.
+    #[tactic(auto, using(crate::proofs::RenameLaws::rename_no_task))]
+    pub(crate) fn rename(
+        &mut self,
+        caller: TaskId,
+        task: u32,
+        old: u32,
+        new: u32,
+    ) -> Result<Reply, OrMemory<Refusal>>
+        requires { IsSome (get self.old.tasks caller) }
+        ensures { Answers result self.old self.new (call_rename self.old caller task old new) }
+    {
+        let Some(target) = self.target(caller, task) else {
+            return Err(OrMemory::Fault(Refusal::Refused(Code::KernInvalidTask)));
+        };
+        match self.rename_in(caller, task, target, old, new) {
+            Ok(()) => Ok(Reply::Done),
+            Err(fault) => Err(refusal_of(fault)),
+        }
     }
 }

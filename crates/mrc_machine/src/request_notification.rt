@@ -14,13 +14,14 @@ ghost use Rattle.mrc_model.specs.CallRequestNotification.{is_notify_disp, is_liv
 ghost use Rattle.mrc_model.specs.CallRequestNotification.{backup_item};
 ghost use Rattle.mrc_model.specs.CallRequestNotification.{call_request_notification};
 ghost use Rattle.mrc_wiring.specs.Table.{wiring_of};
-ghost use Rattle.mrc_machine.specs.Calls.{refusal_reply, IsRefusedBy};
+ghost use Rattle.mrc_machine.specs.Calls.{Answers, refusal_reply, IsRefusedBy};
 ghost use Rattle.mrc_machine.specs.Housing.{target_of};
 ghost use Rattle.mrc_machine.specs.Requests.{received_at, named_backup, request_left};
 ghost use Rattle.mrc_machine.specs.Requests.{given_backup};
 
 use crate::insert_right::gives_dead;
 use crate::refusal::Refusal;
+use crate::reply::Reply;
 use crate::set_qlimit::received_port;
 use crate::state::State;
 use mrc_base::{ClassId, Disp, OrMemory, PortId, PortRight, TaskId};
@@ -281,7 +282,7 @@ impl State {
 
     /// Requests that the receive right of a port go to another one in place of its destruction, or
     /// takes such a request back, and answers the name that the caller gets for the previous one.
-    pub(crate) fn request_notification(
+    fn request_in(
         &mut self,
         wired: &Wired,
         caller: TaskId,
@@ -330,5 +331,29 @@ impl State {
         let given = self.replace_request(caller, notify, disp, &previous)?;
         self.set_backup(port, &backup);
         Ok(given)
+    }
+
+    /// Requests a notice of a task's receive right, or takes the request back.
+    #[tactic(auto, using(crate::proofs::RequestLaws::request_no_task))]
+    pub(crate) fn request_notification(
+        &mut self,
+        wired: &Wired,
+        caller: TaskId,
+        task: u32,
+        name: u32,
+        id: u32,
+        sync: u32,
+        notify: u32,
+        disp: Disp,
+    ) -> Result<Reply, OrMemory<Refusal>>
+        requires { IsSome (get self.old.tasks caller) }
+        ensures { Answers result self.old self.new
+            (call_request_notification (wiring_of wired.now) self.old caller task name id sync notify disp) }
+    {
+        let Some(target) = self.target(caller, task) else {
+            return Err(OrMemory::Fault(Refusal::Refused(Code::KernInvalidTask)));
+        };
+        let given = self.request_in(wired, caller, task, target, name, id, sync, notify, disp)?;
+        Ok(Reply::Name(given))
     }
 }

@@ -7,9 +7,10 @@ ghost use Rattle.mrc_model.specs.CallSend.{call_send};
 ghost use Rattle.mrc_model.specs.Target.{with_store};
 ghost use Rattle.mrc_wiring.specs.Table.{wiring_of};
 ghost use Rattle.mrc_transit.specs.SendPlans.{sent, IsReady};
-ghost use Rattle.mrc_machine.specs.Calls.{IsRefusedBy};
+ghost use Rattle.mrc_machine.specs.Calls.{Answers};
 
 use crate::refusal::Refusal;
+use crate::reply::Reply;
 use crate::state::State;
 use mrc_base::{OrMemory, TaskId};
 use mrc_desc::Message;
@@ -23,12 +24,9 @@ impl State {
         wired: &Wired,
         caller: TaskId,
         message: &Message,
-    ) -> Result<(), OrMemory<Refusal>>
-        ensures ok { OnOk result
-            (call_send (wiring_of wired.now) self.old caller message.now ≡ Ok (self.new, Done)) }
-        ensures refused { IfErr result (λ fault. IsRefusedBy fault
-            (call_send (wiring_of wired.now) self.old caller message.now)) }
-        ensures err { OnErr result (self.new ≡ self.old) }
+    ) -> Result<Reply, OrMemory<Refusal>>
+        ensures { Answers result self.old self.new
+            (call_send (wiring_of wired.now) self.old caller message.now) }
     {
         let own = self.task_class(caller);
         let plan = match copy_in(self.alloc, &self.store, wired, own, caller, message) {
@@ -42,7 +40,7 @@ impl State {
             }
         };
         self.carry_out(plan);
-        Ok(())
+        Ok(Reply::Done)
     }
 
     /// Carries out the plan of a message that is sent.

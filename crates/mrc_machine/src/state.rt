@@ -18,7 +18,7 @@ ghost use Rattle.mrc_model.specs.CallAllocate.{birth};
 ghost use Rattle.mrc_model.specs.Target.{is_alive, first_task, kernel_right};
 ghost use Rattle.mrc_model.specs.Target.{with_space, with_store};
 ghost use Rattle.mrc_names.specs.Listings.{entry_name};
-ghost use Rattle.mrc_ports.specs.Tables.{table_of, store_of, with_birth, is_short};
+ghost use Rattle.mrc_ports.specs.Tables.{table_of, store_of, with_birth, with_home, is_short};
 ghost use Rattle.mrc_model.specs.Breach.{holdings};
 ghost use Rattle.mrc_machine.specs.Holdings.{holdings_of};
 ghost use Rattle.mrc_machine.specs.Housing.{AreByKernel, kernel_place, target_of};
@@ -116,6 +116,17 @@ fn received(port: PortId) -> Entry
         port,
         sends: 0,
         in_set: None,
+    }
+}
+
+/// A space for the next task, and its kernel port, of the class.
+fn add_home(store: &mut Store, space: Space, class: ClassId) -> Result<(), AllocError>
+    ensures added { OnOk result (store.new ≡ with_home store.old space class) }
+    ensures err { OnErr result (store.new ≡ store.old) }
+{
+    match store.add_task(space, class) {
+        Ok(_) => Ok(()),
+        Err(_) => Err(AllocError),
     }
 }
 
@@ -368,11 +379,11 @@ impl State {
         let space = self.first_space(kernel)?;
         let key = u64::from(number.0);
         self.tasks.insert(key, Task::new(kernel, wired))?;
-        match self.store.add_task(space, class) {
-            Ok(_) => Ok(()),
-            Err(_) => {
+        match add_home(&mut self.store, space, class) {
+            Ok(()) => Ok(()),
+            Err(error) => {
                 self.tasks.remove(key);
-                Err(AllocError)
+                Err(error)
             }
         }
     }

@@ -1,9 +1,11 @@
 //! The machine as its users see it: its first state, its steps, and what it shows.
 
 ghost use Rattle.std.specs.Prelude.{◌≡◌, ◌↔◌, [], ◌∷◌, IfOk, IsTrue, OnErr, is_some};
+ghost use Rattle.mrc_model.specs.Covers.{IsWellFormed};
 ghost use Rattle.mrc_model.specs.Map.{get, len};
 ghost use Rattle.mrc_model.specs.First.{first};
 ghost use Rattle.mrc_model.specs.Step.{step};
+ghost use Rattle.mrc_model.specs.Wiring.{numbers_of};
 ghost use Rattle.mrc_wiring.specs.Table.{wiring_of};
 ghost use Rattle.mrc_wiring.specs.Claims.{holding_of as forbidden_of};
 ghost use Rattle.mrc_model.specs.Breach.{Breach, holdings};
@@ -16,6 +18,7 @@ use crate::holding::Holding;
 use crate::reply::Reply;
 use crate::state::State;
 use mrc_base::{OrMemory, TaskId};
+use mrc_cover::{first_covered, step_covered};
 use mrc_wiring::{ForbiddenLine, Wired};
 use std::alloc::{AllocError, Global};
 use std::marker::Model;
@@ -40,8 +43,11 @@ impl Model for World {
 impl World {
     /// The first state of a wiring: what its lines make, one after the other.
     pub fn first(alloc: Global, wired: &Wired) -> Result<World, AllocError>
-        ensures { IfOk result (λ world. world ≡ first (wiring_of wired.now)) }
+        ensures exact { IfOk result (λ world. world ≡ first (wiring_of wired.now)) }
+        ensures well_formed { IfOk result (λ world.
+            IsWellFormed (numbers_of (wiring_of wired.now)) world) }
     {
+        first_covered();
         let _sound = wired.tasks();
         match built(alloc, wired) {
             Ok(start) => Ok(World {
@@ -63,7 +69,10 @@ impl World {
         ensures err { OnErr result (self.new ≡ self.old) }
         ensures last { OnErr result
             (IsGranted (wiring_of wired.now) self.old caller (call_of call.now)) }
+        ensures well_formed { IsWellFormed (numbers_of (wiring_of wired.now)) self.old
+            → IsWellFormed (numbers_of (wiring_of wired.now)) self.new }
     {
+        step_covered();
         if !self.state.is_alive(caller) {
             return Ok(Reply::DeadTask);
         }

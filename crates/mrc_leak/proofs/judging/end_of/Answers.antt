@@ -6,7 +6,7 @@ use Rattle.mrc_leak.proofs.Ends.{end_none, end_next, end_whole}
 use Rattle.mrc_leak.proofs.judging.end_of.Goals as goal
 
 pub loop-line-init : goal.loop-line-init
-loop-line-init c = end_none c.args.wired.now c.in_ok-world.world c.in_ok-world.ensures
+loop-line-init c = end_none c.args.wired.now c.in_ok-world.world c.in_ok-world.ensures.exact
 
 pub loop-line-preserved : goal.loop-line-preserved
 loop-line-preserved c =

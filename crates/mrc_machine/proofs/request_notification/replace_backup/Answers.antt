@@ -1,6 +1,6 @@
+use Rattle.std.proofs.lemmas.Result.{IfOk-weaker}
 use Rattle.mrc_model.specs.Space.{put_entry}
 use Rattle.mrc_model.specs.Reply.{Refused}
-use Rattle.mrc_machine.proofs.Trying.{if_ok}
 use Rattle.mrc_machine.proofs.RequestLaws.{left_whole, left_of, not_left}
 use Rattle.mrc_machine.proofs.request_notification.replace_backup.Goals as goal
 
@@ -10,7 +10,7 @@ give_backup-requires c =
 
 pub returns-then-name-eq0-clause-ok : goal.returns-then-name-eq0-clause-ok
 returns-then-name-eq0-clause-ok c =
-    if_ok c.give_backup.result _ _
+    IfOk-weaker c.give_backup.result _ _
     (λ given done. (c.args.space.now, left_whole _ _ _ c.if-name-eq0.true, done))
     c.give_backup.ensures.ok
 
@@ -21,7 +21,7 @@ exchange_backup-requires-clause-room c =
 
 pub returns-clause-ok : goal.returns-clause-ok
 returns-clause-ok c =
-    if_ok c.exchange_backup.result _ _ (λ given done. (
+    IfOk-weaker c.exchange_backup.result _ _ (λ given done. (
       put_entry c.args.space.now c.args.name c.in-Ok.taken.1,
       left_of _ _ _ c.if-name-eq0.false _ c.in-Ok.taken.0 c.in-Ok.ensures.found,
       done,

@@ -23,7 +23,8 @@ invariant_of-result c =
     → IsSome (get (first (wiring_of table)).tasks t)) c.wired.ensures.exact
     (all_tasks _ c.tasks-tasks.ensures.kept) in
     let is_first =
-    c.in-Ok.ensures ∙ ap (λ (table : Table). first (wiring_of table)) c.wired-2.ensures.exact in
+    c.in-Ok.ensures.exact
+    ∙ ap (λ (table : Table). first (wiring_of table)) c.wired-2.ensures.exact in
     subst (λ (w : World). IsGuarded case w) (sym is_first)
     (first_is_guarded case sound c.wired.ensures.kept record { of = wired })
 

@@ -1,10 +1,11 @@
 use Rattle.std.proofs.Common.{refl, ◌≡◌, sym, ap, ◌∙◌}
+use Rattle.std.proofs.lemmas.Result.{on_err_weaker}
 use Rattle.mrc_model.specs.World.{World}
 use Rattle.mrc_model.specs.Reply.{Name, ◌>>=◌}
 use Rattle.mrc_model.specs.Target.{with_space}
 use Rattle.mrc_model.specs.CallAllocate.{allocate_entry}
 use Rattle.mrc_names.specs.Takes.{add_entry}
-use Rattle.mrc_machine.proofs.Trying.{goes_on, is_refused, seen_as, on_err}
+use Rattle.mrc_machine.proofs.Trying.{goes_on, is_refused, seen_as}
 use Rattle.mrc_machine.proofs.AllocateLaws.{entry_no_kind, entry_as_added, put_after, on_entry}
 use Rattle.mrc_machine.proofs.state.State.allocate_entry.Goals as goal
 
@@ -42,6 +43,6 @@ returns-clause-err c =
     let w = c.args.self.now in
     let put = put_after w _ _ c.args.task _ c.add-added.new.self c.take_space-space.ensures.left
     c.put_space.ensures in
-    on_err c.add-added.result _ _
+    on_err_weaker c.add-added.result
     (λ same. put ∙ ap (with_space w c.args.task) same ∙ c.take_space-space.ensures.back)
     c.add-added.ensures.err

@@ -1,4 +1,5 @@
 use Rattle.std.proofs.Common.{ap, ◌∙◌, sym, subst}
+use Rattle.std.proofs.lemmas.Result.{IfOk-weaker, on_err_weaker}
 use Rattle.std.specs.Prelude.{IfErr, IsSome}
 use Rattle.mrc_model.specs.Map.{get}
 use Rattle.mrc_model.specs.Space.{put_entry}
@@ -6,7 +7,6 @@ use Rattle.mrc_model.specs.Target.{with_space}
 use Rattle.mrc_index.specs.Undo.{CanPut}
 use Rattle.mrc_names.specs.Refusals.{IsRefusal}
 use Rattle.mrc_names.specs.Takes.{give_right}
-use Rattle.mrc_machine.proofs.Trying.{if_ok, on_err}
 use Rattle.mrc_machine.proofs.AllocateLaws.{put_after}
 use Rattle.mrc_machine.proofs.state.State.exchange.Goals as goal
 
@@ -21,7 +21,7 @@ exchange-given-requires-clause-left c =
 
 pub returns-clause-ok : goal.returns-clause-ok
 returns-clause-ok c =
-    if_ok c.exchange-given.result _ _ (λ name done. (
+    IfOk-weaker c.exchange-given.result _ _ (λ name done. (
       c.exchange-given.new.self,
       ap (λ x. give_right (put_entry x c.args.name c.args.rest) c.args.port c.args.right)
           (sym c.take_space-space.ensures.out) ∙ done,
@@ -40,6 +40,6 @@ returns-clause-err c =
     let w = c.args.self.now in
     let put = put_after w _ _ c.args.task _ c.exchange-given.new.self
     c.take_space-space.ensures.left c.put_space.ensures in
-    on_err c.exchange-given.result _ _
+    on_err_weaker c.exchange-given.result
     (λ same. put ∙ ap (with_space w c.args.task) same ∙ c.take_space-space.ensures.back)
     c.exchange-given.ensures.err

@@ -1,9 +1,10 @@
 use Rattle.std.proofs.Common.{ap, ◌∙◌, sym, subst}
+use Rattle.std.proofs.lemmas.Result.{on_err_weaker}
 use Rattle.std.specs.Prelude.{IfErr}
 use Rattle.mrc_model.specs.Target.{with_space}
 use Rattle.mrc_names.specs.Refusals.{IsRefusal}
 use Rattle.mrc_names.specs.Takes.{give_right}
-use Rattle.mrc_machine.proofs.Trying.{if_ok_all, on_err}
+use Rattle.mrc_machine.proofs.Trying.{if_ok_all}
 use Rattle.mrc_machine.proofs.AllocateLaws.{put_after}
 use Rattle.mrc_machine.proofs.state.State.give_noted.Goals as goal
 
@@ -29,6 +30,6 @@ returns-clause-err c =
     let w = c.args.self.now in
     let put = put_after w _ _ c.args.task _ c.give-given.new.self
     c.take_space-space.ensures.left c.put_space.ensures in
-    on_err c.give-given.result _ _
+    on_err_weaker c.give-given.result
     (λ same. put ∙ ap (with_space w c.args.task) same ∙ c.take_space-space.ensures.back)
     c.give-given.ensures.err

@@ -1,15 +1,15 @@
 use Rattle.std.proofs.Common.{ap, ◌∙◌, sym, subst}
+use Rattle.std.proofs.lemmas.Result.{on_err_weaker, on_ok_weaker}
 use Rattle.std.specs.Prelude.{IfErr}
 use Rattle.mrc_model.specs.Space.{insert_at}
 use Rattle.mrc_model.specs.Target.{with_space}
 use Rattle.mrc_names.specs.Refusals.{IsRefusal}
-use Rattle.mrc_machine.proofs.Trying.{on_ok, on_err}
 use Rattle.mrc_machine.proofs.AllocateLaws.{put_after}
 use Rattle.mrc_machine.proofs.state.State.insert_at.Goals as goal
 
 pub returns-clause-ok : goal.returns-clause-ok
 returns-clause-ok c =
-    on_ok c.insert_at-put.result _ _ (λ done. (
+    on_ok_weaker c.insert_at-put.result (λ done. (
       c.insert_at-put.new.self,
       ap (λ x. insert_at x c.args.name c.args.port c.args.right)
           (sym c.take_space-space.ensures.out) ∙ done,
@@ -28,6 +28,6 @@ returns-clause-err c =
     let w = c.args.self.now in
     let put = put_after w _ _ c.args.task _ c.insert_at-put.new.self
     c.take_space-space.ensures.left c.put_space.ensures in
-    on_err c.insert_at-put.result _ _
+    on_err_weaker c.insert_at-put.result
     (λ same. put ∙ ap (with_space w c.args.task) same ∙ c.take_space-space.ensures.back)
     c.insert_at-put.ensures.err

@@ -7,8 +7,9 @@ use Rattle.mrc_model.specs.Reply.{Refused}
 use Rattle.mrc_model.specs.CallSend.{dead_taken, is_dead_taken}
 use Rattle.mrc_wiring.specs.Table.{wiring_of}
 use Rattle.mrc_names.specs.Takes.{take_right, taken_port}
+use Rattle.mrc_cover.proofs.Stores.{unborn}
 use Rattle.mrc_machine.proofs.RequestLaws.{backup_none, backup_dead, backup_untaken, backup_gone}
-use Rattle.mrc_machine.proofs.RequestLaws.{backup_denied, backup_is, class_gone, dead_at}
+use Rattle.mrc_machine.proofs.RequestLaws.{backup_denied, backup_is, dead_at}
 use Rattle.mrc_machine.proofs.state.State.named_backup.Goals.{then-name-eq4294967295-via-then-name-eq4294967295, then-name-eq4294967295-via-else-name-eq4294967295+then-gives_dead}
 use Rattle.mrc_machine.proofs.state.State.named_backup.Goals as goal
 
@@ -50,7 +51,7 @@ returns-in_default-clause-refused c =
     c.in-Ok.port
     (ap (λ (x : Space). taken_port x c.args.name c.args.disp) (sym c.space-2.ensures)
     ∙ c.in-Ok.ensures.found)
-    (class_gone c.args.self.now.store c.in-Ok.port (sym c.class_of.ensures ∙ c.in_default.is))
+    (unborn c.args.self.now.store c.in-Ok.port (sym c.class_of.ensures ∙ c.in_default.is))
 
 pub returns-then-not-accepts_destroyed-clause-refused :
     goal.returns-then-not-accepts_destroyed-clause-refused

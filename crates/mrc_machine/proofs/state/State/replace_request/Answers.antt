@@ -1,8 +1,8 @@
 use Rattle.std.proofs.Common.{ap, ◌∙◌, sym, subst}
+use Rattle.std.proofs.lemmas.Result.{IfOk-weaker, on_err_weaker}
 use Rattle.std.specs.Prelude.{IsOk}
 use Rattle.mrc_model.specs.Target.{with_space}
 use Rattle.mrc_machine.specs.Requests.{request_left}
-use Rattle.mrc_machine.proofs.Trying.{if_ok, on_err}
 use Rattle.mrc_machine.proofs.AllocateLaws.{put_after}
 use Rattle.mrc_machine.proofs.state.State.replace_request.Goals as goal
 
@@ -18,7 +18,7 @@ replace_backup-given-requires-clause-room c = λ y left.
 
 pub returns-clause-ok : goal.returns-clause-ok
 returns-clause-ok c =
-    if_ok c.replace_backup-given.result _ _ (λ name done. (
+    IfOk-weaker c.replace_backup-given.result _ _ (λ name done. (
       done.0,
       c.replace_backup-given.new.space,
       ap (λ x. request_left x c.args.name c.args.disp) (sym c.take_space-space.ensures.out)
@@ -33,6 +33,6 @@ returns-clause-err c =
     let w = c.args.self.now in
     let put = put_after w _ _ c.args.task _ c.replace_backup-given.new.space
     c.take_space-space.ensures.left c.put_space.ensures in
-    on_err c.replace_backup-given.result _ _
+    on_err_weaker c.replace_backup-given.result
     (λ same. put ∙ ap (with_space w c.args.task) same ∙ c.take_space-space.ensures.back)
     c.replace_backup-given.ensures.err
