@@ -1,7 +1,8 @@
--- Paths and part files worked out.
-use Rattle.std.proofs.Common.{◌≡◌, ℕ, [], ◌++◌, refl}
+-- Paths, part files and counts worked out.
+use Rattle.std.proofs.Common.{◌≡◌, ℕ, [], ◌++◌, Some, None, refl, arith}
 use Rattle.std.specs.Prelude.{codes, decimal}
 use Rattle.mrc_files.specs.Paths.{folder, name, linked, part}
+use Rattle.mrc_files.specs.Streams.{IsOneMore, IsAtMostMore}
 
 -- a name of a folder, of the root and of the folder that the program runs in
 in_a_folder : folder (codes "a/b/c") ≡ codes "a/b/"
@@ -31,3 +32,17 @@ absolute = refl
 of_a_certificate : (n : ℕ)
     → part (codes "a/my.cert") n ≡ codes "a/.my.cert.machcheck-" ++ (decimal n ++ codes ".part")
 of_a_certificate n = refl
+
+-- the fourth call, after which no more than five were made; two at once are not one
+fourth : IsOneMore (Some 3) (Some 4)
+fourth = refl
+
+not_two : IsOneMore (Some 3) (Some 5) → ⊥
+not_two e = omega arith
+
+two_of_five : IsAtMostMore (Some 3) (Some 5) 5
+two_of_five = omega arith
+
+-- a count that was lost stays so
+lost : IsOneMore None (Some 4) → ⊥
+lost e = e

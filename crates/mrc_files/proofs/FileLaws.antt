@@ -20,7 +20,7 @@ one_of {X = X} P x h = λ k d low. of k d low
     of (suc k) d low = absurd (omega (arith, low))
 
 -- what holds of two lists place by place, and of what stands behind them, holds of the whole
-zip_more : {A B : Type 0} (R : A → B → Type 0) (xs us : List A) (ys vs : List B)
+pub zip_more : {A B : Type 0} (R : A → B → Type 0) (xs us : List A) (ys vs : List B)
     → AllZip R xs ys → AllZip R us vs → AllZip R (xs ++ us) (ys ++ vs)
 zip_more R [] us [] vs h more = more
 zip_more R [] us (y ∷ ys) vs h more = absurd h

@@ -8,7 +8,7 @@ use Rattle.std.proofs.lemmas.Fmt.{length-decimal-le}
 use Rattle.std.proofs.lemmas.Bool.{cond-true, cond-false, cases_Bool}
 use Rattle.std.proofs.lemmas.Bool.Decides.{leb_tells}
 use Rattle.std.proofs.lemmas.Float.{T_from_true}
-use Rattle.mrc_files.specs.Paths.{folder, name, shown, part_name, part}
+use Rattle.mrc_files.specs.Paths.{folder, name, shown, part_name}
 use Rattle.mrc_files.specs.Paths.{EachPathIsInTwo, EachPartIsAnother}
 
 join : (path : List ℕ) → folder path ++ name path ≡ path

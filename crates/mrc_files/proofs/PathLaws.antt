@@ -1,5 +1,5 @@
 -- Paths and their two parts.
-use Rattle.std.proofs.Common.{◌≡◌, ℕ, suc, ◌+◌, ◌<◌, List, [], ◌∷◌, ◌++◌, length}
+use Rattle.std.proofs.Common.{◌≡◌, ℕ, suc, ◌<◌, List, [], ◌∷◌, ◌++◌, length}
 use Rattle.std.proofs.Common.{drop, get_or, refl, sym, ap, ap₂, ◌∙◌, arith, true, false}
 use Rattle.std.specs.Prelude.{◌&&◌, not}
 use Rattle.std.specs.Path.{slash, has_no_slash}

@@ -1,5 +1,6 @@
--- What is read of a reader, and which fault is told. This profile's own choice.
-use Rattle.std.specs.Prelude.{ℕ, ◌≤◌, List, Option, length}
+-- What is read of a source, how calls are counted, and which fault is reported. This profile's own
+-- choice.
+use Rattle.std.specs.Prelude.{◌≡◌, ℕ, ◌+◌, ◌≤◌, List, Option, Some, None, length, ⊤}
 use Rattle.std.specs.Io.KnownBytes.{Consumes}
 use Rattle.std.specs.declared.io.ErrorKind.{ErrorKind}
 use Rattle.std.specs.declared.io.ErrorKind.TheVariants.{OutOfMemory, NotFound, NotADirectory}
@@ -26,3 +27,19 @@ read_fault kind = ReadFailed (failure kind)
 -- a reader that had these bytes left, where they are known, lost no more than so many of them
 abbrev pub LosesAtMost : Option (List ℕ) → Option (List ℕ) → ℕ → Type 0
 LosesAtMost old new most = (bytes : List ℕ) × Consumes old new bytes × (length bytes ≤ most)
+
+-- A count went up by one. A count may be lost, as one that has no more room; then it stays unknown.
+abbrev pub IsOneMore : Option ℕ → Option ℕ → Type 0
+IsOneMore old None = ⊤
+IsOneMore None (Some more) = ⊥
+IsOneMore (Some count) (Some more) = more ≡ count + 1
+
+-- it went up by so many at most
+abbrev pub IsAtMostMore : Option ℕ → Option ℕ → ℕ → Type 0
+IsAtMostMore old None most = ⊤
+IsAtMostMore None (Some more) most = ⊥
+IsAtMostMore (Some count) (Some more) most = more ≤ count + most
+
+-- the fault is that of a failed read
+abbrev pub IsFailedRead : ReadFault → Type 0
+IsFailedRead fault = (why : ReadFailure) × (fault ≡ ReadFailed why)

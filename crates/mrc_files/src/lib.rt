@@ -9,6 +9,8 @@ mod streams;
 mod system;
 
 pub use folders::{Folder, Unread, bytes_of, bytes_of_all, read_file};
-pub use paths::{linked, part_path};
-pub use streams::{ReadFailure, ReadFault, WriteFault, read_all, read_fault, write_text};
+pub use paths::{linked, name_of, part_path};
+pub use streams::{
+    ReadFailure, ReadFault, Sink, Source, WriteFault, read_all, read_fault, write_text,
+};
 pub use system::Disk;

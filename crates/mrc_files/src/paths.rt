@@ -22,7 +22,7 @@ fn folder_of(alloc: Global, path: &str) -> Result<String, AllocError>
 }
 
 /// The name of a path, behind its last slash.
-fn name_of(path: &str) -> &str
+pub fn name_of(path: &str) -> &str
     ensures { result.now ≡ name path.now }
 {
     match path.rsplit_once('/') {

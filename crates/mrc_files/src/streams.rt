@@ -1,10 +1,11 @@
-//! Bytes in from readers, and out to writers.
+//! Bytes in from sources, and out to sinks.
 
 ghost use Rattle.std.specs.Prelude.{◌≡◌, ◌+◌, ◌≤◌, ◌<◌, ℕ, take, length, vec_len, OnOk, IfOk};
-ghost use Rattle.std.specs.Prelude.{IfErr, IfSome, IfNone, OnErr, ◌++◌, List};
+ghost use Rattle.std.specs.Prelude.{IfErr, IfSome, IfNone, OnErr, List, Option, None, true, false};
 ghost use Rattle.std.specs.IoError.{error_kind};
 ghost use Rattle.std.specs.Io.KnownBytes.{Appends, Keeps, Consumes, IsAtEnd};
-ghost use Rattle.mrc_files.specs.Streams.{failure, read_fault, LosesAtMost};
+ghost use Rattle.mrc_files.specs.Streams.{failure, read_fault, LosesAtMost, IsOneMore};
+ghost use Rattle.mrc_files.specs.Streams.{IsAtMostMore, IsFailedRead};
 
 use std::alloc::Global;
 use std::io;
@@ -75,127 +76,181 @@ pub fn read_fault(error: &io::Error) -> ReadFault
     }
 }
 
-/// One read: how many bytes came, none at the end. Nothing where it was interrupted.
-fn read_some<R: Read>(reader: &mut R, buffer: &mut [u8]) -> Result<Option<usize>, ReadFault>
-    ensures kept { length buffer.new ≡ length buffer.old }
-    ensures some { IfOk result (λ read. IfSome read (λ count. (count ≤ length buffer.old)
-        × Consumes (R.remaining reader.old) (R.remaining reader.new) (take count buffer.new))) }
-    ensures end { IfOk result (λ read. IfSome read (λ count. count ≡ 0 → 0 < length buffer.old
-        → IsAtEnd (R.remaining reader.new))) }
-    ensures none { IfOk result (λ read. IfNone read
-        (Keeps (R.remaining reader.old) (R.remaining reader.new))) }
-    ensures err { OnErr result (Keeps (R.remaining reader.old) (R.remaining reader.new)) }
-    ensures failed { IfErr result (λ fault. fault ≡ ReadFault.TooBig → ⊥) }
-{
-    match reader.read(buffer) {
-        Ok(count) => Ok(Some(count)),
-        Err(error) => {
-            if error.kind() == ErrorKind::Interrupted {
-                Ok(None)
-            } else {
-                Err(read_fault(&error))
+/// What bytes are read from.
+pub trait Source {
+    // The bytes that reads will give from here on, where they are known.
+    ghost remaining: { Self → Option (List ℕ) };
+    // How many reads there were, where they are counted.
+    ghost reads: { Self → Option ℕ };
+    // How many of them failed, where that is counted.
+    ghost failures: { Self → Option ℕ };
+
+    /// One read: how many bytes came, none at the end.
+    fn read_some(&mut self, buffer: &mut [u8]) -> Result<usize, ReadFault>
+        ensures kept { length buffer.new ≡ length buffer.old }
+        ensures some { IfOk result (λ count. (count ≤ length buffer.old)
+            × Consumes (remaining self.old) (remaining self.new) (take count buffer.new)) }
+        ensures end { IfOk result (λ count. count ≡ 0 → 0 < length buffer.old
+            → IsAtEnd (remaining self.new)) }
+        ensures err { OnErr result (Keeps (remaining self.old) (remaining self.new)) }
+        ensures fault { IfErr result (λ fault. fault ≡ ReadFault.TooBig → ⊥) }
+        ensures counted { IsOneMore (reads self.old) (reads self.new) }
+        ensures passed { OnOk result (failures self.new ≡ failures self.old) }
+        ensures failed { OnErr result (IsOneMore (failures self.old) (failures self.new)) };
+}
+
+/// A reader of std. A read that is interrupted is tried again.
+impl<R: Read> Source for R {
+    ghost remaining = { R.Read.remaining };
+
+    ghost reads = { λ _. None };
+
+    ghost failures = { λ _. None };
+
+    fn read_some(&mut self, buffer: &mut [u8]) -> Result<usize, ReadFault> {
+        for _ in 0..u64::MAX {
+            match self.read(buffer) {
+                Ok(count) => return Ok(count),
+                Err(error) => {
+                    if error.kind() != ErrorKind::Interrupted {
+                        return Err(read_fault(&error));
+                    }
+                }
             }
         }
+        Err(ReadFault::ReadFailed(ReadFailure::Other))
     }
 }
 
 /// How many bytes are asked for at once, at most.
 const BUFFER: usize = 4096;
 
-/// All bytes of a reader, or `TooBig` where there are more than the limit. A read that is
-/// interrupted is tried again.
-pub fn read_all<R: Read>(alloc: Global, reader: &mut R, limit: u32) -> Result<Vec<u8>, ReadFault>
+/// All bytes of a source, or `TooBig` if there are more than the limit.
+pub fn read_all<S: Source>(alloc: Global, source: &mut S, limit: u32) -> Result<Vec<u8>, ReadFault>
     // Where it is known what there is to read, that was read.
     ensures whole { IfOk result
-        (λ bytes. IfSome (R.remaining reader.old) (λ known. bytes.items ≡ known)) }
+        (λ bytes. IfSome (S.remaining source.old) (λ known. bytes.items ≡ known)) }
     ensures within { IfOk result (λ bytes. vec_len bytes ≤ limit) }
     ensures too_big { IfErr result (λ fault. fault ≡ ReadFault.TooBig
-        → IfSome (R.remaining reader.old) (λ known. limit < length known)) }
+        → IfSome (S.remaining source.old) (λ known. limit < length known)) }
     // One byte more than the limit is read at most.
-    ensures few { LosesAtMost (R.remaining reader.old) (R.remaining reader.new) (limit + 1) }
+    ensures few { LosesAtMost (S.remaining source.old) (S.remaining source.new) (limit + 1) }
+    // So many reads are made at most.
+    ensures often { IsAtMostMore (S.reads source.old) (S.reads source.new) (limit + 1) }
+    // Bytes are returned only if no read failed.
+    ensures passed { OnOk result (S.failures source.new ≡ S.failures source.old) }
+    // A failed read is reported only if a read failed.
+    ensures failed { IfErr result (λ fault. IsFailedRead fault
+        → IsOneMore (S.failures source.old) (S.failures source.new)) }
 {
     let mut bytes = Vec::new(alloc);
     let mut buffer = [0u8; BUFFER];
-    for _ in 0..u64::MAX {
+    while bytes.len() <= limit as usize {
         let room = (limit as usize + 1 - bytes.len()).min(BUFFER);
-        let Some(count) = read_some(reader, &mut buffer[..room])? else {
-            continue;
-        };
+        let count = source.read_some(&mut buffer[..room])?;
         if count == 0 {
             return Ok(bytes);
         }
         if bytes.extend_from_slice(&buffer[..count]).is_err() {
             return Err(ReadFault::Memory);
         }
-        if bytes.len() > limit as usize {
-            return Err(ReadFault::TooBig);
-        }
     }
-    Err(ReadFault::ReadFailed(ReadFailure::Other))
+    Err(ReadFault::TooBig)
 }
 
-/// Whether the writer was flushed. A flush that is interrupted is tried again.
-fn is_flushed<W: Write>(writer: &mut W) -> bool
-    ensures { Keeps (W.contents writer.old) (W.contents writer.new) }
-{
-    for _ in 0..u64::MAX {
-        match writer.flush() {
-            Ok(()) => return true,
-            Err(error) => {
-                if error.kind() != ErrorKind::Interrupted {
-                    return false;
+/// What bytes are written to.
+pub trait Sink {
+    // The bytes that it holds, where they are known.
+    ghost contents: { Self → Option (List ℕ) };
+    // How many writes there were, where they are counted.
+    ghost writes: { Self → Option ℕ };
+    // How many writes and flushes failed, where that is counted.
+    ghost failures: { Self → Option ℕ };
+
+    /// One write: how many bytes were taken, at least one; nothing if it failed.
+    fn write_some(&mut self, text: &[u8]) -> Option<usize>
+        ensures some { IfSome result (λ count. (count ≤ length text.now)
+            × Appends (contents self.old) (contents self.new) (take count text.now)) }
+        ensures more { IfSome result (λ count. 0 < count) }
+        ensures none { IfNone result (Keeps (contents self.old) (contents self.new)) }
+        ensures counted { IsOneMore (writes self.old) (writes self.new) }
+        ensures passed { IfSome result (λ _. failures self.new ≡ failures self.old) }
+        ensures failed { IfNone result (IsOneMore (failures self.old) (failures self.new)) };
+
+    /// Whether all that was written was passed on.
+    fn is_flushed(&mut self) -> bool
+        ensures kept { Keeps (contents self.old) (contents self.new) }
+        ensures counted { writes self.new ≡ writes self.old }
+        ensures passed { result ≡ true → failures self.new ≡ failures self.old }
+        ensures failed { result ≡ false → IsOneMore (failures self.old) (failures self.new) };
+}
+
+/// A writer of std. A write or a flush that is interrupted is tried again, and a write that takes
+/// no byte is a failure.
+impl<W: Write> Sink for W {
+    ghost contents = { W.Write.contents };
+
+    ghost writes = { λ _. None };
+
+    ghost failures = { λ _. None };
+
+    fn write_some(&mut self, text: &[u8]) -> Option<usize> {
+        for _ in 0..u64::MAX {
+            match self.write(text) {
+                Ok(0) => return None,
+                Ok(count) => return Some(count),
+                Err(error) => {
+                    if error.kind() != ErrorKind::Interrupted {
+                        return None;
+                    }
                 }
             }
         }
+        None
     }
-    false
-}
 
-/// One write: how many bytes were taken, 0 where it was interrupted; nothing where it failed or
-/// took no byte.
-fn write_some<W: Write>(writer: &mut W, text: &[u8]) -> Option<usize>
-    ensures some { IfSome result (λ count. (count ≤ length text.now)
-        × Appends (W.contents writer.old) (W.contents writer.new) (take count text.now)) }
-    ensures none { IfNone result (Keeps (W.contents writer.old) (W.contents writer.new)) }
-{
-    match writer.write(text) {
-        Ok(0) => None,
-        Ok(count) => Some(count),
-        Err(error) => {
-            if error.kind() == ErrorKind::Interrupted {
-                Some(0)
-            } else {
-                None
+    fn is_flushed(&mut self) -> bool {
+        for _ in 0..u64::MAX {
+            match self.flush() {
+                Ok(()) => return true,
+                Err(error) => {
+                    if error.kind() != ErrorKind::Interrupted {
+                        return false;
+                    }
+                }
             }
         }
+        false
     }
 }
 
-/// Writes the whole text. A write that is interrupted is tried again, and one that takes no byte is
-/// a failure.
-pub fn write_text<W: Write>(writer: &mut W, text: &[u8]) -> Result<(), WriteFault>
+/// Writes the whole text.
+pub fn write_text<S: Sink>(sink: &mut S, text: &[u8]) -> Result<(), WriteFault>
     // All of the text was appended.
-    ensures whole { OnOk result (Appends (W.contents writer.old) (W.contents writer.new) text.now) }
+    ensures whole { OnOk result (Appends (S.contents sink.old) (S.contents sink.new) text.now) }
     // Else the bytes that the fault counts were.
     ensures cut { IfErr result
-        (λ fault. Appends (W.contents writer.old) (W.contents writer.new)
+        (λ fault. Appends (S.contents sink.old) (S.contents sink.new)
         (take fault.written text.now)) }
     // They are bytes of the text.
     ensures within { IfErr result (λ fault. fault.written ≤ length text.now) }
+    // There are at most as many writes as bytes.
+    ensures often { IsAtMostMore (S.writes sink.old) (S.writes sink.new) (length text.now) }
+    // It is done only if no write and no flush failed.
+    ensures passed { OnOk result (S.failures sink.new ≡ S.failures sink.old) }
+    // A fault is reported only if one failed.
+    ensures failed { OnErr result (IsOneMore (S.failures sink.old) (S.failures sink.new)) }
 {
     let mut written = 0;
-    for _ in 0..u64::MAX {
-        if written == text.len() {
-            return if is_flushed(writer) {
-                Ok(())
-            } else {
-                Err(WriteFault { written })
-            };
-        }
-        let Some(count) = write_some(writer, &text[written..]) else {
+    while written < text.len() {
+        let Some(count) = sink.write_some(&text[written..]) else {
             return Err(WriteFault { written });
         };
         written += count;
     }
-    Err(WriteFault { written })
+    if sink.is_flushed() {
+        Ok(())
+    } else {
+        Err(WriteFault { written })
+    }
 }

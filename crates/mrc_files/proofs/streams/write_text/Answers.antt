@@ -5,6 +5,7 @@ use Rattle.std.proofs.Math.Seq.{take-add}
 use Rattle.std.proofs.lemmas.List.{take_rest}
 use Rattle.std.specs.Io.KnownBytes.{Appends}
 use Rattle.std.proofs.KnownBytes.{Appends-trans}
+use Rattle.mrc_files.proofs.StreamLemmas.{one_call_more}
 use Rattle.mrc_files.proofs.streams.write_text.Goals as goal
 
 -- a write goes on where the last one stopped
@@ -27,10 +28,13 @@ within text written count h k =
     ≡ length (drop written text) = ap length (take_rest text written) in
     omega (arith, length-drop written text)
 
-pub loop-preserved : goal.loop-preserved
-loop-preserved g c = record {
-  within = within c.args.text.now c.loop.written c.in-Some.count c.loop.invariant.within
-      c.in-Some.ensures.some.0;
-  appended = goes_on _ _ _ c.args.text.now c.loop.written c.in-Some.count
-      c.loop.invariant.appended c.in-Some.ensures.some.1;
+pub loop-written-preserved : goal.loop-written-preserved
+loop-written-preserved g c = record {
+  within = within c.args.text.now c.loop-written.written c.in-Some.count
+      c.loop-written.invariant.within c.in-Some.ensures.some.0;
+  appended = goes_on _ _ _ c.args.text.now c.loop-written.written c.in-Some.count
+      c.loop-written.invariant.appended c.in-Some.ensures.some.1;
+  counted = one_call_more _ _ _ c.loop-written.written c.in-Some.count
+      c.loop-written.invariant.counted c.in-Some.ensures.counted c.in-Some.ensures.more;
+  passed = c.in-Some.ensures.passed ∙ c.loop-written.invariant.passed;
 }
