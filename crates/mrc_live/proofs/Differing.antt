@@ -3,6 +3,7 @@ use Rattle.std.proofs.Common.{◌≡◌, ◌≢◌, ◌<◌, ◌≤◌, ℕ, Lis
 use Rattle.std.proofs.Common.{refl, sym, ap, ◌∙◌, subst, arith}
 use Rattle.std.proofs.lemmas.List.{length-take-le}
 use Rattle.std.proofs.lemmas.Option.{slice_get_within}
+use Rattle.mrc_base.specs.Limits.{limit_of_seats}
 use Rattle.mrc_live.proofs.Following.{one_there}
 use Rattle.mrc_live.specs.declared.event.Event.{Event}
 use Rattle.mrc_live.specs.Runs.{part_of}
@@ -30,7 +31,8 @@ continues_here seats next es place mine e follows there is_next =
 -- what continues does so at the place of its seat's number
 pub continues_at : (seats : List SeatState) (places next : List ℕ) (es : List Event) (e : Event)
     → ArePlaced seats places → Follows seats next es → Continues seats es e
-    → (e.seat < 256) × ((s : SeatState) × (slice_get seats (slice_index places e.seat) ≡ Some s)
+    → (e.seat < limit_of_seats)
+    × ((s : SeatState) × (slice_get seats (slice_index places e.seat) ≡ Some s)
     × IsNext e s (slice_index next e.seat))
 continues_at seats places next es e placed follows on =
     let i = on.0 in
@@ -42,7 +44,7 @@ continues_at seats places next es e placed follows on =
     ∙ ap (λ n. slice_index places n) is_next.0 in
     let same : length (part_of s.number es) ≡ slice_index next e.seat = place_is seats next es i s
     follows at ∙ ap (λ n. slice_index next n) is_next.0 in (
-      subst (λ n. n < 256) is_next.0 place.0,
+      subst (λ n. n < limit_of_seats) is_next.0 place.0,
       (
         s,
         ap (λ k. slice_get seats k) (sym here)
@@ -64,7 +66,8 @@ goes_on_there seats next es i s follows at more =
 -- an event whose seat's number has no place, or whose seat's list has another entry there, does
 -- not continue
 pub stops_past : (seats : List SeatState) (places next : List ℕ) (es : List Event) (e : Event)
-    → ArePlaced seats places → Follows seats next es → 256 ≤ e.seat → Continues seats es e → ⊥
+    → ArePlaced seats places → Follows seats next es → limit_of_seats ≤ e.seat
+    → Continues seats es e → ⊥
 stops_past seats places next es e placed follows past on = omega
     (arith, past, (continues_at seats places next es e placed follows on).0)
 

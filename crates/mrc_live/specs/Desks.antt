@@ -1,5 +1,6 @@
 -- What contracts see of a desk and of a seat. This profile's own choice.
 use Rattle.std.specs.Prelude.{◌≡◌, ◌≤◌, ◌+◌, ℕ, List, [], ◌∷◌, ◌++◌, length}
+use Rattle.mrc_base.specs.Limits.{limit_of_events, limit_of_parts, limit_of_seats}
 use Rattle.mrc_check.specs.Verdict.{Case}
 use Rattle.mrc_confine.specs.Guards.{Guard}
 use Rattle.mrc_live.specs.declared.desk.NotTaken.{NotTaken}
@@ -35,10 +36,10 @@ pub record IsKept (guarded : Guard) (events : List Event) (limit made total left
     : Type 0 where
   pub run : IsJournal guarded.confined events guarded.world
   pub few : length events ≤ limit
-  pub limited : limit ≤ 1000000
+  pub limited : limit ≤ limit_of_events
   pub counted : total ≡ length events
-  pub seats : made ≤ 256
-  pub parts : left + made ≡ 257
+  pub seats : made ≤ limit_of_seats
+  pub parts : left + made ≡ limit_of_parts
 
 -- the event of a seat's call
 abbrev pub seat_event : SeatState → Call → Reply → Event
@@ -79,7 +80,7 @@ opened g limit = record {
   limit = limit;
   made = 0;
   total = 0;
-  left = 257;
+  left = limit_of_parts;
 }
 
 -- the call that was not taken

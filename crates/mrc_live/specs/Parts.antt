@@ -1,10 +1,13 @@
--- How the seats' lists stand to the journal. This profile's own choice.
-use Rattle.std.specs.Prelude.{◌≡◌, ◌<◌, ◌≤◌, ◌⊎◌, ℕ, List, Some, length, take, slice_get}
+-- How the seats' lists and the journal belong together. This profile's own choice.
+use Rattle.std.specs.Prelude.{◌≡◌, ◌≢◌, ◌<◌, ◌≤◌, ◌⊎◌, ℕ, List, Some, length, take, slice_get}
 use Rattle.std.specs.Prelude.{slice_index}
+use Rattle.mrc_base.specs.Limits.{limit_of_events, limit_of_seats}
+use Rattle.mrc_check.specs.Verdict.{Case}
 use Rattle.mrc_live.specs.declared.event.Event.{Event}
 use Rattle.mrc_live.specs.declared.event.Made.{Made}
-use Rattle.mrc_live.specs.Runs.{part_of}
+use Rattle.mrc_live.specs.Runs.{IsJournal, part_of}
 use Rattle.mrc_live.specs.Desks.{SeatState}
+use Rattle.mrc_model.specs.World.{World}
 
 -- each seat's list is its part of the journal
 abbrev pub EachIsItsPart : List SeatState → List Event → Type 0
@@ -33,11 +36,11 @@ abbrev pub IsThere : List SeatState → ℕ → Type 0
 IsThere seats number =
     (i : ℕ) × ((s : SeatState) × (slice_get seats i ≡ Some s) × (s.number ≡ number))
 
--- each seat stands at the place that its number has
+-- each seat is at the place that its number has
 abbrev pub ArePlaced : List SeatState → List ℕ → Type 0
 ArePlaced seats places =
     (i : ℕ) (s : SeatState) → slice_get seats i ≡ Some s
-    → (s.number < 256) × (slice_index places s.number ≡ i)
+    → (s.number < limit_of_seats) × (slice_index places s.number ≡ i)
 
 -- what a seat keeps of an event
 abbrev pub made_of : Event → Made
@@ -76,3 +79,24 @@ pub record IsFirstDifference (seats : List SeatState) (events : List Event) (at 
   pub here : ((e : Event) × (slice_get events at ≡ Some e)
       × (Continues seats (take at events) e → ⊥))
       ⊎ ((at ≡ length events) × SomeGoesOn seats events)
+
+-- The journal of a machine, whichever case that runs, first differs from the seats' lists at this
+-- place.
+pub record DifferAt (seats : List SeatState) (at : ℕ) : Type 0 where
+  pub case : Case
+  pub events : List Event
+  pub world : World
+  pub run : IsJournal case events world
+  pub few : length events ≤ limit_of_events
+  pub first : IsFirstDifference seats events at
+
+-- the seats' lists are the parts of the journal of a machine that runs another case than this one
+pub record AreOfAnother (shown : Case) (seats : List SeatState) : Type 0 where
+  pub case : Case
+  pub events : List Event
+  pub world : World
+  pub run : IsJournal case events world
+  pub few : length events ≤ limit_of_events
+  pub other : case ≢ shown
+  pub parts : EachIsItsPart seats events
+  pub owners : AllAreSeated seats events

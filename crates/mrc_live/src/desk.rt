@@ -4,6 +4,7 @@ ghost use Rattle.std.specs.Prelude.{◌≡◌, ◌≢◌, ◌↔◌, ◌<◌, �
 ghost use Rattle.std.specs.Prelude.{IfSome, IfNone, IsNone, IsTrue, OnErr, OnOk, length, Err};
 ghost use Rattle.std.specs.Prelude.{vec_len};
 ghost use Rattle.std.specs.Prelude.{vec_capacity};
+ghost use Rattle.mrc_base.specs.Limits.{limit_of_events, limit_of_parts, limit_of_seats};
 ghost use Rattle.mrc_confine.specs.Guards.{wiring_in};
 ghost use Rattle.mrc_live.specs.declared.desk.NotReceived.TheVariants as nothing;
 ghost use Rattle.mrc_live.specs.declared.desk.NotSeated.TheVariants.{NoSuchTask, TooManySeats};
@@ -20,6 +21,7 @@ ghost use Rattle.mrc_model.specs.Map.{get};
 use crate::event::{Event, Journal, Made};
 use crate::seat::Seat;
 use mrc_base::TaskId;
+use mrc_base::limits::SEATS;
 use mrc_check::Confined;
 use mrc_confine::Guarded;
 use mrc_machine::{Call, Reply, Room};
@@ -27,9 +29,6 @@ use mrc_model::Code;
 use std::alloc::{AllocError, Global};
 use std::marker::Model;
 use std::sync::ledger::{Blank, Book, Ledger, Share};
-
-/// The most seats of a server.
-pub(crate) const MOST_SEATS: u32 = 256;
 
 /// The guarded machine with its journal. The book's total is the number of events, so it is what
 /// the shares of all seats add up to.
@@ -79,7 +78,7 @@ pub enum NotSeated {
 pub enum NotTaken {
     /// The journal has as many events as it may have.
     JournalFull(Call),
-    /// Want of memory.
+    /// Out of memory.
     Memory(Call),
 }
 
@@ -88,7 +87,7 @@ pub enum NotTaken {
 pub enum NotReceived {
     /// The journal has as many events as it may have.
     JournalFull,
-    /// Want of memory.
+    /// Out of memory.
     Memory,
 }
 
@@ -178,9 +177,9 @@ fn note(
 impl<L: Ledger> Desk<L> {
     /// Begins with a machine in its first state, and an empty journal.
     pub(crate) fn new(alloc: Global, guarded: Guarded, limit: usize, blank: Blank) -> Desk<L>
-        requires limit { (1 ≤ limit) × (limit ≤ 1000000) }
+        requires limit { (1 ≤ limit) × (limit ≤ limit_of_events) }
         requires name { blank.name ≡ L.name }
-        requires parts { (blank.parts ≡ L.parts) × (L.parts ≡ 257) }
+        requires parts { (blank.parts ≡ L.parts) × (L.parts ≡ limit_of_parts) }
         requires first { guarded.world ≡ first (wiring_in guarded.confined) }
         ensures { result ≡ opened guarded limit }
     {
@@ -199,19 +198,20 @@ impl<L: Ledger> Desk<L> {
     /// Makes a seat for a task that the machine has now, where there are fewer than 256. The tasks
     /// below `wired` are taken to be wired, and so to be there at all times.
     pub(crate) fn seat(&mut self, task: TaskId, wired: u16) -> Result<Seat<L>, NotSeated>
-        ensures ok { IfOk result (λ s. (s ≡ fresh self.old.made task) × (s.number < 256)) }
+        ensures ok { IfOk result (λ s. s ≡ fresh self.old.made task) }
+        ensures within { IfOk result (λ s. s.number < limit_of_seats) }
         // If so many tasks are wired: exactly where the world has no task of the number.
         ensures no_such_task { wired ≤ (wiring_in self.old.confined).tasks
             → ((result ≡ Err NoSuchTask) ↔ IsNone (get self.old.world.tasks task)) }
         ensures unwired { result ≡ Err NoSuchTask → wired ≤ task }
-        ensures too_many { result ≡ Err TooManySeats → self.old.made ≡ 256 }
+        ensures too_many { result ≡ Err TooManySeats → self.old.made ≡ limit_of_seats }
         ensures err { OnErr result (self.new ≡ self.old) }
     {
         let is_there = self.guarded.has_task(task);
         if u32::from(wired) <= task.0 && !is_there {
             return Err(NotSeated::NoSuchTask);
         }
-        if self.made >= MOST_SEATS {
+        if self.made >= SEATS {
             return Err(NotSeated::TooManySeats);
         }
         let share = self.left.split_off(1, 0);
@@ -313,14 +313,17 @@ impl<L: Ledger> Desk<L> {
     /// The number of seats made.
     pub(crate) fn made(&self) -> u32
         ensures made { result ≡ self.now.made }
-        ensures few { self.now.made ≤ 256 }
+        ensures few { self.now.made ≤ limit_of_seats }
     {
         self.made
     }
 
     /// The events so far.
     pub fn events(&self) -> &[Event]
-        ensures { result.now ≡ self.now.events }
+        ensures exact { result.now ≡ self.now.events }
+        // They are a run of the machine to its world, of no more events than there may be.
+        ensures kept { IsJournal self.now.confined self.now.events self.now.world }
+        ensures within { length self.now.events ≤ limit_of_events }
     {
         self.events.as_slice()
     }

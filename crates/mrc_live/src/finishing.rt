@@ -3,18 +3,24 @@
 ghost use Rattle.std.specs.Prelude.{◌≡◌, ◌≢◌, ◌↔◌, ◌<◌, ◌≤◌, ◌+◌, ◌^◌, ℕ, List, [], ◌∷◌, ◌++◌};
 ghost use Rattle.std.specs.Prelude.{Some, IfNone, IfSome, IsFalse, IsTrue, length, slice_get};
 ghost use Rattle.std.specs.Prelude.{slice_index};
+ghost use Rattle.mrc_base.specs.Limits.{limit_of_events, limit_of_seats};
 ghost use Rattle.mrc_live.specs.declared.event.Event.{Event};
 ghost use Rattle.mrc_live.specs.declared.finishing.Why.TheVariants.{Differs, Swapped};
 ghost use Rattle.mrc_live.specs.Desks.{SeatState};
 ghost use Rattle.mrc_live.specs.Parts.{AllAreSeated, AreApart, ArePlaced, Continues, EachIsItsPart};
 ghost use Rattle.mrc_live.specs.Parts.{Follows, IsFirstDifference, IsNext, IsSeated, IsThere};
 ghost use Rattle.mrc_live.specs.Parts.{made_of};
+ghost use Rattle.mrc_live.specs.Runs.{IsJournal};
 
 use crate::desk::Desk;
 use crate::event::{Event, Made};
 use crate::seat::Seat;
+use mrc_base::limits::SEATS;
 use mrc_check::Confined;
 use std::sync::ledger::Ledger;
+
+/// A place for each number of a seat.
+const PLACES: usize = SEATS as usize;
 
 /// Why a server was not finished.
 #[derive(Clone, Copy, Debug, PartialEq, Eq)]
@@ -22,13 +28,13 @@ pub enum Why {
     /// A seat is absent.
     SeatsMissing,
     /// This event is the first that is not the next one of its seat's list; or the number of
-    /// events, where a list goes on.
+    /// events, if a list goes on.
     Differs(usize),
-    /// The machine's system is not the one that was handed in.
+    /// The machine's system is not the one that the server shows.
     Swapped,
 }
 
-/// Why these seats do not finish this desk, or `None` where they do.
+/// Why these seats do not finish this desk, or `None` if they do.
 pub(crate) fn judge<L: Ledger>(
     desk: &Desk<L>,
     confined: &Confined,
@@ -40,15 +46,19 @@ pub(crate) fn judge<L: Ledger>(
     ensures confined { IfNone result (desk.now.confined ≡ confined.now) }
     ensures there { IfNone result ((number : ℕ) → number < desk.now.made
         → IsThere seats.now number) }
-    ensures swapped { result ≡ Some Swapped → desk.now.confined ≢ confined.now }
+    ensures swapped { result ≡ Some Swapped → (desk.now.confined ≢ confined.now)
+        × EachIsItsPart seats.now desk.now.events × AllAreSeated seats.now desk.now.events }
     ensures differs { (at : ℕ) → result ≡ Some (Differs at)
         → IsFirstDifference seats.now desk.now.events at }
+    ensures kept { IsJournal desk.now.confined desk.now.events desk.now.world }
+    ensures within { length desk.now.events ≤ limit_of_events }
 {
+    let events = desk.events();
     let places = places_of(seats);
     if !are_placed(seats, &places) || !are_all_there(seats, &places, desk.made()) {
         return Some(Why::SeatsMissing);
     }
-    if let Some(at) = first_difference(desk.events(), seats, &places) {
+    if let Some(at) = first_difference(events, seats, &places) {
         return Some(Why::Differs(at));
     }
     if !desk.confined().same(confined) {
@@ -58,24 +68,24 @@ pub(crate) fn judge<L: Ledger>(
 }
 
 /// The place of each seat's number.
-pub(crate) fn places_of<L: Ledger>(seats: &[Seat<L>]) -> [usize; 256] {
-    let mut places = [0usize; 256];
+pub(crate) fn places_of<L: Ledger>(seats: &[Seat<L>]) -> [usize; PLACES] {
+    let mut places = [0usize; PLACES];
     for i in 0..seats.len() {
         let number = seats[i].number() as usize;
-        if number < 256 {
+        if number < PLACES {
             places[number] = i;
         }
     }
     places
 }
 
-/// Whether each seat stands at its place, so that no two have one number.
-pub(crate) fn are_placed<L: Ledger>(seats: &[Seat<L>], places: &[usize; 256]) -> bool
+/// Whether each seat is at its place, so that no two have one number.
+pub(crate) fn are_placed<L: Ledger>(seats: &[Seat<L>], places: &[usize; PLACES]) -> bool
     ensures { IsTrue result → ArePlaced seats.now places.now }
 {
     for i in 0..seats.len() {
         let number = seats[i].number() as usize;
-        if number >= 256 || places[number] != i {
+        if number >= PLACES || places[number] != i {
             return false;
         }
     }
@@ -83,8 +93,12 @@ pub(crate) fn are_placed<L: Ledger>(seats: &[Seat<L>], places: &[usize; 256]) ->
 }
 
 /// Whether there is a seat of each number below this one.
-pub(crate) fn are_all_there<L: Ledger>(seats: &[Seat<L>], places: &[usize; 256], made: u32) -> bool
-    requires { made ≤ 256 }
+pub(crate) fn are_all_there<L: Ledger>(
+    seats: &[Seat<L>],
+    places: &[usize; PLACES],
+    made: u32,
+) -> bool
+    requires { made ≤ limit_of_seats }
     ensures { IsTrue result → ((number : ℕ) → number < made → IsThere seats.now number) }
 {
     for number in 0..made {
@@ -117,18 +131,18 @@ fn is_made(event: &Event, calls: &[Made], at: usize) -> bool
 }
 
 /// The places from which the lists begin.
-fn beginnings() -> [usize; 256]
+fn beginnings() -> [usize; PLACES]
     ensures { (number : ℕ) → slice_index result number ≡ 0 }
 {
-    [0; 256]
+    [0; PLACES]
 }
 
-/// Goes on by one event in the list of its seat, and says whether the event stood there.
+/// Goes on by one event in the list of its seat, and returns whether the event is there.
 fn goes_on<L: Ledger>(
     event: &Event,
     seats: &[Seat<L>],
-    places: &[usize; 256],
-    next: &mut [usize; 256],
+    places: &[usize; PLACES],
+    next: &mut [usize; PLACES],
 ) -> bool
     requires { ArePlaced seats.now places.now }
     ensures seated { IsTrue result → IsSeated seats.now event.now }
@@ -138,7 +152,7 @@ fn goes_on<L: Ledger>(
         → Follows seats.now next.new (events ++ event.now ∷ [])) }
 {
     let number = event.seat as usize;
-    if number >= 256 {
+    if number >= PLACES {
         return false;
     }
     let place = places[number];
@@ -153,12 +167,12 @@ fn goes_on<L: Ledger>(
     true
 }
 
-/// The first event that is not the next one of its seat's list, or the number of events where a
-/// list goes on.
+/// The first event that is not the next one of its seat's list, or the number of events if a list
+/// goes on.
 pub(crate) fn first_difference<L: Ledger>(
     events: &[Event],
     seats: &[Seat<L>],
-    places: &[usize; 256],
+    places: &[usize; PLACES],
 ) -> Option<usize>
     requires { ArePlaced seats.now places.now }
     ensures parts { IfNone result (EachIsItsPart seats.now events.now) }
@@ -178,8 +192,9 @@ pub(crate) fn first_difference<L: Ledger>(
 }
 
 /// Whether no list goes on.
-fn all_end<L: Ledger>(seats: &[Seat<L>], next: &[usize; 256]) -> bool
-    requires { (i : ℕ) (s : SeatState) → slice_get seats.now i ≡ Some s → s.number < 256 }
+fn all_end<L: Ledger>(seats: &[Seat<L>], next: &[usize; PLACES]) -> bool
+    requires { (i : ℕ) (s : SeatState) → slice_get seats.now i ≡ Some s
+        → s.number < limit_of_seats }
     ensures goes_on { IsFalse result → ((i : ℕ) × ((s : SeatState)
         × (slice_get seats.now i ≡ Some s) × (slice_index next.now s.number ≢ length s.calls))) }
     ensures end { IsTrue result → ((i : ℕ) (s : SeatState) → slice_get seats.now i ≡ Some s
@@ -188,7 +203,7 @@ fn all_end<L: Ledger>(seats: &[Seat<L>], next: &[usize; 256]) -> bool
     for i in 0..seats.len() {
         let seat = &seats[i];
         let number = seat.number() as usize;
-        if number >= 256 || next[number] != seat.calls().len() {
+        if number >= PLACES || next[number] != seat.calls().len() {
             return false;
         }
     }

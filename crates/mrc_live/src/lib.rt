@@ -11,7 +11,7 @@ mod seat;
 pub use desk::{Desk, NotReceived, NotSeated, NotTaken};
 pub use event::{Event, Journal, Made};
 pub use finishing::Why;
-pub use live::{Live, Unfinished};
+pub use live::{Live, NotOpened, Unfinished};
 pub use seat::Seat;
 
 #[cfg(test)]

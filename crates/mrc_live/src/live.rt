@@ -1,12 +1,15 @@
 //! The server.
 
 ghost use Rattle.std.specs.Prelude.{◌≡◌, ◌≢◌, ◌↔◌, ◌<◌, ◌≤◌, IfOk, IfErr, IfNone, IfSome, OnErr};
-ghost use Rattle.std.specs.Prelude.{OnOk, Err};
+ghost use Rattle.std.specs.Prelude.{ℕ, OnOk, Err};
+ghost use Rattle.mrc_base.specs.Limits.{limit_of_events, limit_of_parts, limit_of_seats};
 ghost use Rattle.mrc_confine.specs.Guards.{wiring_in};
 ghost use Rattle.mrc_live.specs.declared.desk.NotSeated.TheVariants.{NoSuchTask};
+ghost use Rattle.mrc_live.specs.declared.finishing.Why.TheVariants.{Differs, Swapped};
 ghost use Rattle.mrc_live.specs.Desks.{seat_after, call_in, fresh};
 ghost use Rattle.mrc_live.specs.Runs.{IsJournal};
-ghost use Rattle.mrc_live.specs.Parts.{AllAreSeated, AreApart, EachIsItsPart};
+ghost use Rattle.mrc_live.specs.Parts.{AllAreSeated, AreApart, AreOfAnother, DifferAt};
+ghost use Rattle.mrc_live.specs.Parts.{EachIsItsPart};
 ghost use Rattle.mrc_machine.specs.declared.call.Call.TheVariants.{Receive};
 ghost use Rattle.mrc_machine.specs.declared.reply.Reply.TheVariants.{Refused};
 ghost use Rattle.mrc_model.specs.First.{first};
@@ -27,11 +30,11 @@ use std::sync::atomic::{AtomicBool, Ordering};
 use std::sync::ledger::{Blank, Ledger};
 use std::sync::{Condvar, Mutex, Wait};
 
-/// A machine behind a lock. Contracts see what was checked, as it was handed in.
+/// A machine behind a lock. Contracts see what was checked, as it was passed.
 #[derive(Drop)]
 pub struct Live<L: Ledger> {
     office: Mutex<Office<L>>,
-    /// Told of each event, of each stop, and of each seat that leaves: a seat that waits for a
+    /// Notified of each event, of each stop, and of each seat that leaves: a seat that waits for a
     /// message tries again.
     moved: Condvar,
     confined: Confined,
@@ -46,23 +49,23 @@ impl<L: Ledger> Model for Live<L> {
 }
 
 impl<L: Ledger> Live<L> {
-    /// Puts a machine in its first state behind a lock. Where memory runs out the machine comes
+    /// Puts a machine in its first state behind a lock. If memory runs out, machine and blank come
     /// back.
     pub fn new(
         alloc: Global,
         guarded: Guarded,
         limit: usize,
         blank: Blank,
-    ) -> Result<Live<L>, Guarded>
-        requires limit { (1 ≤ limit) × (limit ≤ 1000000) }
+    ) -> Result<Live<L>, NotOpened>
+        requires limit { (1 ≤ limit) × (limit ≤ limit_of_events) }
         requires name { blank.name ≡ L.name }
-        requires parts { (blank.parts ≡ L.parts) × (L.parts ≡ 257) }
+        requires parts { (blank.parts ≡ L.parts) × (L.parts ≡ limit_of_parts) }
         requires first { guarded.world ≡ first (wiring_in guarded.confined) }
         ensures ok { IfOk result (λ live. live ≡ guarded.confined) }
-        ensures returned { IfErr result (λ back. back ≡ guarded) }
+        ensures returned { IfErr result (λ back. (back.guarded ≡ guarded) × (back.blank ≡ blank)) }
     {
         let Ok(confined) = guarded.confined().copy(alloc) else {
-            return Err(guarded);
+            return Err(NotOpened { guarded, blank });
         };
         Ok(Live {
             office: Mutex::new(Office::new(Desk::new(alloc, guarded, limit, blank))),
@@ -71,11 +74,19 @@ impl<L: Ledger> Live<L> {
         })
     }
 
-    /// What was checked, as it was handed in.
+    /// What was checked, as it was passed.
     pub fn confined(&self) -> &Confined
         ensures { result.now ≡ self.now }
     {
         &self.confined
+    }
+
+    /// What was checked, by itself.
+    pub fn into_confined(self) -> Confined
+        ensures { result ≡ self }
+    {
+        let Live { confined, .. } = self;
+        confined
     }
 
     /// A seat for a task: for a wired one at any time, and for another once a call has made it.
@@ -83,7 +94,7 @@ impl<L: Ledger> Live<L> {
     /// at which the lock is had; that stands at the desk, since no clause of this call can name
     /// what lies behind the lock.
     pub fn seat<R: Wait>(&self, rt: &R, task: TaskId) -> Result<Seat<L>, NotSeated>
-        ensures ok { IfOk result (λ s. (s ≡ fresh s.number task) × (s.number < 256)) }
+        ensures ok { IfOk result (λ s. (s ≡ fresh s.number task) × (s.number < limit_of_seats)) }
         ensures no_such_task { result ≡ Err NoSuchTask → (wiring_in self.now).tasks ≤ task }
     {
         let wired = self.confined.wired().tasks();
@@ -105,7 +116,7 @@ impl<L: Ledger> Live<L> {
 
     /// Waits for a message under a name, and receives it, as one event. A turn that finds none
     /// leaves no event. It waits while the reply would be MACH_RCV_TIMED_OUT: every other refusal
-    /// by the machine is a reply. A full journal is told before it waits, and after each wake.
+    /// by the machine is a reply. A full journal is reported before it waits, and after each wake.
     pub fn receive_wait<R: Wait>(
         &self,
         rt: &R,
@@ -181,7 +192,7 @@ impl<L: Ledger> Live<L> {
         self.moved.notify_all();
     }
 
-    /// Ends the server, once the threads have returned: each seat's calls and replies stand in the
+    /// Ends the server, once the threads have returned: each seat's calls and replies are in the
     /// journal in their order, each once, and no others. With a refusal all comes back.
     pub fn finish(self, seats: Vec<Seat<L>>) -> Result<(Journal, Guarded), Unfinished<L>>
         ensures run { IfOk result (λ r. IsJournal self r.0 r.1.world) }
@@ -189,6 +200,10 @@ impl<L: Ledger> Live<L> {
         ensures parts { IfOk result (λ r. EachIsItsPart seats.items r.0) }
         ensures owners { IfOk result (λ r. AllAreSeated seats.items r.0) }
         ensures apart { OnOk result (AreApart seats.items) }
+        // The journal behind the lock is one of a machine; no clause can name which.
+        ensures differs { (at : ℕ)
+            → IfErr result (λ f. f.why ≡ Differs at → DifferAt seats.items at) }
+        ensures swapped { IfErr result (λ f. f.why ≡ Swapped → AreOfAnother self seats.items) }
         ensures returned { IfErr result (λ f. (f.live ≡ self) × (f.seats.items ≡ seats.items)) }
     {
         let Live {
@@ -212,7 +227,16 @@ impl<L: Ledger> Live<L> {
     }
 }
 
-/// A server that was not finished, with the seats that were handed in.
+/// The values of a server that was not opened.
+#[derive(Drop)]
+pub struct NotOpened {
+    /// The machine.
+    pub guarded: Guarded,
+    /// The blank of the ledger.
+    pub blank: Blank,
+}
+
+/// A server that was not finished, with the seats that were passed to it.
 #[derive(Drop)]
 pub struct Unfinished<L: Ledger> {
     /// Why.

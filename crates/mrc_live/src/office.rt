@@ -6,8 +6,9 @@ ghost use Rattle.mrc_machine.specs.declared.call.Call.TheVariants.{Receive};
 ghost use Rattle.mrc_machine.specs.declared.reply.Reply.TheVariants.{Refused};
 ghost use Rattle.mrc_model.specs.declared.Code.TheVariants.{MachRcvTimedOut};
 
-use crate::desk::{Desk, MOST_SEATS, NotReceived};
+use crate::desk::{Desk, NotReceived};
 use crate::seat::Seat;
+use mrc_base::limits::SEATS;
 use mrc_machine::Reply;
 use std::sync::ledger::Ledger;
 
@@ -28,7 +29,7 @@ pub(crate) enum Idle {
 pub(crate) struct Office<L: Ledger> {
     pub(crate) desk: Desk<L>,
     /// By the numbers of the seats.
-    pub(crate) idle: [Idle; MOST_SEATS as usize],
+    pub(crate) idle: [Idle; SEATS as usize],
 }
 
 impl<L: Ledger> Office<L> {
@@ -36,7 +37,7 @@ impl<L: Ledger> Office<L> {
     pub(crate) fn new(desk: Desk<L>) -> Office<L> {
         Office {
             desk,
-            idle: [Idle::No; MOST_SEATS as usize],
+            idle: [Idle::No; SEATS as usize],
         }
     }
 

@@ -1,7 +1,8 @@
 //! Seats.
 
-ghost use Rattle.std.specs.Prelude.{◌≡◌, IfOk, Ok};
+ghost use Rattle.std.specs.Prelude.{◌≡◌, Err, IfOk, IsOk, Ok};
 ghost use Rattle.mrc_base.specs.Reading.{Gives};
+ghost use Rattle.mrc_base.specs.declared.memory.OrMemory.TheVariants.{Memory};
 ghost use Rattle.mrc_desc.specs.Spelling.{Spells};
 ghost use Rattle.mrc_live.specs.Desks.{SeatState};
 ghost use Rattle.mrc_live.specs.Preparing.{SendsWhat, prepared};
@@ -75,6 +76,8 @@ impl<L: Ledger> Seat<L> {
             → Gives (λ call. call) result (Ok (Send m)) }
         // Which fault it is: the first.
         ensures fault { Gives (λ call. call) result (prepared bytes.now) }
+        // Out of memory comes last: the bytes have no fault.
+        ensures last { result ≡ Err Memory → IsOk (prepared bytes.now) }
     {
         match read_message(alloc, bytes) {
             Ok(message) => Ok(Call::Send(message)),

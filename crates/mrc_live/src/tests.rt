@@ -1,10 +1,12 @@
 //! What no clause says: which answer comes.
 
 ghost use Rattle.std.specs.Prelude.{◌≡◌, IfOk};
+ghost use Rattle.mrc_base.specs.Limits.{limit_of_parts};
 ghost use Rattle.mrc_confine.specs.Guards.{wiring_in};
 ghost use Rattle.mrc_model.specs.First.{first};
 
 use super::*;
+use mrc_base::limits::PARTS;
 use mrc_base::{Right, TaskId};
 use mrc_check::{Confined, check_texts};
 use mrc_confine::Guarded;
@@ -111,7 +113,7 @@ fn one_desk<L: Ledger, R: Threads + Sync>(
     blank: Blank,
 ) -> Result<([bool; 4], usize), AllocError>
     requires name { blank.name ≡ L.name }
-    requires parts { (blank.parts ≡ L.parts) × (L.parts ≡ 257) }
+    requires parts { (blank.parts ≡ L.parts) × (L.parts ≡ limit_of_parts) }
 {
     let mut desk = Desk::<L>::new(alloc, machine(rt, alloc)?, 3, blank);
     let Ok(mut seat) = desk.seat(TaskId(0), 1) else {
@@ -124,7 +126,7 @@ fn one_desk<L: Ledger, R: Threads + Sync>(
 
 #[test]
 fn what_a_desk_receives(rt: HostRuntime) -> Result<(), Fail> {
-    let (right, events) = one_desk::<Brand, _>(&rt, rt.alloc(), Blank::new(257))?;
+    let (right, events) = one_desk::<Brand, _>(&rt, rt.alloc(), Blank::new(PARTS))?;
     assert_eq!(rt; right, [true; 4]);
     assert_eq!(rt; events, 3);
     Ok(())

@@ -5,11 +5,12 @@ use Rattle.mrc_live.proofs.Following.{follows_more, seated}
 use Rattle.mrc_live.proofs.Differing.{continues_here, stops_past, stops_outside, stops_there}
 use Rattle.mrc_live.proofs.finishing.goes_on.Goals as goal
 
-pub returns-then-number-ge256-clause-continues : goal.returns-then-number-ge256-clause-continues
-returns-then-number-ge256-clause-continues g c = λ events follows. (
+pub returns-then-number-ge-PLACES-clause-continues :
+    goal.returns-then-number-ge-PLACES-clause-continues
+returns-then-number-ge-PLACES-clause-continues g c = λ events follows. (
   λ is. absurd cc,
   λ on. absurd (stops_past c.args.seats.now c.args.places.now c.args.next.now events
-      c.args.event.now c.requires follows c.if-number-ge256.true on),
+      c.args.event.now c.requires follows c.if-number-ge-PLACES.true on),
 )
 
 pub returns-then-place-seats-clause-continues : goal.returns-then-place-seats-clause-continues

@@ -1,5 +1,5 @@
-use Rattle.std.proofs.Common.{sym, subst}
-use Rattle.mrc_live.specs.Parts.{AllAreSeated, AreApart, EachIsItsPart}
+use Rattle.std.proofs.Common.{◌≢◌, Some, ap, sym, subst}
+use Rattle.mrc_live.specs.Parts.{AllAreSeated, AreApart, EachIsItsPart, IsFirstDifference}
 use Rattle.mrc_live.proofs.live.Live.finish.Goals as goal
 
 -- the judge saw the seats as a slice, and the events before they were the journal
@@ -18,3 +18,32 @@ returns-in-None-clause-owners g c =
 pub returns-in-None-clause-apart : goal.returns-in-None-clause-apart
 returns-in-None-clause-apart g c =
     subst (λ ss. AreApart ss) c.as_slice.ensures.value c.in-None.ensures.apart
+
+-- what the judge saw is behind the lock
+pub returns-in-Some-clause-differs : goal.returns-in-Some-clause-differs
+returns-in-Some-clause-differs g c = λ at is.
+    let seen = c.into_inner-desk.result.desk in
+    record {
+      case = seen.confined;
+      events = seen.events;
+      world = seen.world;
+      run = c.judge.ensures.kept;
+      few = c.judge.ensures.within;
+      first = subst (λ ss. IsFirstDifference ss seen.events at) c.as_slice.ensures.value
+          (c.in-Some.ensures.differs at (ap Some is));
+    }
+
+pub returns-in-Some-clause-swapped : goal.returns-in-Some-clause-swapped
+returns-in-Some-clause-swapped g c = λ is.
+    let seen = c.into_inner-desk.result.desk in
+    let lists = c.in-Some.ensures.swapped (ap Some is) in
+    record {
+      case = seen.confined;
+      events = seen.events;
+      world = seen.world;
+      run = c.judge.ensures.kept;
+      few = c.judge.ensures.within;
+      other = subst (λ case. seen.confined ≢ case) c.self.view_is lists.0;
+      parts = subst (λ ss. EachIsItsPart ss seen.events) c.as_slice.ensures.value lists.1;
+      owners = subst (λ ss. AllAreSeated ss seen.events) c.as_slice.ensures.value lists.2;
+    }
