@@ -1,7 +1,8 @@
 //! Two threads at one server, each with a seat of its own. A call that is out of memory is not made
 //! once more: the journal must lack it, and no other.
 
-ghost use Rattle.std.specs.Prelude.{◌≡◌, ◌≤◌};
+ghost use Rattle.std.specs.Prelude.{◌≡◌, IfErr};
+ghost use Rattle.mrc_base.specs.Limits.{limit_of_parts};
 ghost use Rattle.mrc_confine.specs.Guards.{wiring_in};
 ghost use Rattle.mrc_model.specs.First.{first};
 
@@ -9,8 +10,9 @@ use crate::starting::machine_of;
 use crate::stop::{Stop, say_memory};
 use crate::systems::ALONE;
 use mrc_base::TaskId;
+use mrc_base::limits::PARTS;
 use mrc_confine::Guarded;
-use mrc_live::{Event, Journal, Live, NotTaken, Seat};
+use mrc_live::{Event, Journal, Live, NotOpened, NotTaken, Seat};
 use mrc_machine::{Call, Reply};
 use mrc_model::Code;
 use std::alloc::Global;
@@ -234,15 +236,46 @@ fn serve<L: Ledger + Send + Sync, R: AllocGlobal + Eprint + Print + Threads + Wa
     judge(rt, &journal, lost)
 }
 
-/// The machine behind a lock, with a journal that has room for all calls.
-fn locked<L: Ledger>(alloc: Global, guarded: Guarded, blank: Blank) -> Result<Live<L>, Stop>
+/// One call of `Live::new`, with a journal that has room for all calls. What it was given comes
+/// back with a refusal.
+fn opened<L: Ledger>(alloc: Global, guarded: Guarded, blank: Blank) -> Result<Live<L>, NotOpened>
     requires name { blank.name ≡ L.name }
-    requires parts { (blank.parts ≡ L.parts) × (L.parts ≡ 257) }
+    requires parts { (blank.parts ≡ L.parts) × (L.parts ≡ limit_of_parts) }
+    requires first { guarded.world ≡ first (wiring_in guarded.confined) }
+    ensures { IfErr result (λ back. (back.guarded ≡ guarded) × (back.blank ≡ blank)) }
+{
+    Live::<L>::new(alloc, guarded, 100, blank)
+}
+
+/// Opens once more what came back.
+fn opened_again<L: Ledger, R: AllocGlobal + Eprint>(
+    rt: &R,
+    back: NotOpened,
+) -> Result<Live<L>, Stop>
+    requires name { back.blank.name ≡ L.name }
+    requires parts { (back.blank.parts ≡ L.parts) × (L.parts ≡ limit_of_parts) }
+    requires first { back.guarded.world ≡ first (wiring_in back.guarded.confined) }
+{
+    say_memory(rt, "Live::new")?;
+    match opened::<L>(rt.alloc(), back.guarded, back.blank) {
+        Ok(live) => Ok(live),
+        Err(_) => Err(Stop::Again),
+    }
+}
+
+/// The machine behind a lock. If `Live::new` was out of memory it is called once more.
+fn locked<L: Ledger, R: AllocGlobal + Eprint>(
+    rt: &R,
+    guarded: Guarded,
+    blank: Blank,
+) -> Result<Live<L>, Stop>
+    requires name { blank.name ≡ L.name }
+    requires parts { (blank.parts ≡ L.parts) × (L.parts ≡ limit_of_parts) }
     requires first { guarded.world ≡ first (wiring_in guarded.confined) }
 {
-    match Live::<L>::new(alloc, guarded, 100, blank) {
+    match opened::<L>(rt.alloc(), guarded, blank) {
         Ok(live) => Ok(live),
-        Err(_) => Err(Stop::Memory),
+        Err(back) => opened_again(rt, back),
     }
 }
 
@@ -252,14 +285,14 @@ fn met_by<L: Ledger + Send + Sync, R: AllocGlobal + Eprint + Print + Threads + W
     blank: Blank,
 ) -> Result<(), Stop>
     requires name { blank.name ≡ L.name }
-    requires parts { (blank.parts ≡ L.parts) × (L.parts ≡ 257) }
+    requires parts { (blank.parts ≡ L.parts) × (L.parts ≡ limit_of_parts) }
 {
     let guarded = machine_of(rt, &ALONE)?;
-    let live = locked::<L>(rt.alloc(), guarded, blank)?;
+    let live = locked::<L, R>(rt, guarded, blank)?;
     serve(rt, live)
 }
 
 /// Runs two threads at a server of a task alone.
 pub fn met<R: AllocGlobal + Eprint + Print + Threads + Wait + Sync>(rt: &R) -> Result<(), Stop> {
-    met_by::<Brand, _>(rt, Blank::new(257))
+    met_by::<Brand, _>(rt, Blank::new(PARTS))
 }

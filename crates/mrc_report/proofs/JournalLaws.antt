@@ -7,6 +7,7 @@ use Rattle.std.proofs.lemmas.Bool.Decides.{eqb_tells}
 use Rattle.std.proofs.lemmas.List.{length-map, map-append, length-take, take_all}
 use Rattle.std.proofs.lemmas.Option.{slice_get_within, slice_get-get_or}
 use Rattle.std.proofs.Math.Seq.{take-suc}
+use Rattle.std.specs.List.Sorted.{IsNonDecreasing}
 use Rattle.std.specs.Prelude.{IfSome, IsPermutation}
 use Rattle.mrc_check.specs.Verdict.{Case}
 use Rattle.mrc_confine.specs.Guards.{wiring_in}
@@ -133,7 +134,7 @@ calls_are seats es t s tasks parts seated apart at =
     ∙ ap (λ made. map call_of (map (λ m. m.call) made)) (parts t s at)
 
 -- an element of a list by a function comes from one of the list
-map_there : {X Y : Type 0} (f : X → Y) (xs : List X) (k : ℕ) (y : Y)
+pub map_there : {X Y : Type 0} (f : X → Y) (xs : List X) (k : ℕ) (y : Y)
     → slice_get (map f xs) k ≡ Some y
     → (x : X) × ((slice_get xs k ≡ Some x) × (f x ≡ y))
 map_there f [] k y at = cc
@@ -213,9 +214,9 @@ pub is_halted : (case : Case) (lines : List (Line TaskCall)) (seats : List SeatS
     → text ≡ journal_text case.claim.table events (len world.store.ports)
     → AreInVain case world lines events
     → IsPermutation (next_numbers lines (map event_of events) (wiring_in case).tasks) told
-    → IsHalted case.claim.table lines told text
+    → IsNonDecreasing told → IsHalted case.claim.table lines told text
 is_halted case lines seats events world told text run parts seated apart says many shown vain
-    numbers =
+    numbers ascending =
     let tasks : AreOfTasks seats = λ t s at. (says t s at).0 in record {
       events = map event_of events;
       world = world;
@@ -229,5 +230,6 @@ is_halted case lines seats events world told text run parts seated apart says ma
       tasks = tasks_are seats events (wiring_in case).tasks tasks seated many;
       halted = vain;
       lines_are = numbers;
+      ascending = ascending;
       printed = printed_are case.claim.table events (len world.store.ports) text shown;
     }

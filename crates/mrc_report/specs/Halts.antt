@@ -3,6 +3,7 @@
 use Rattle.std.specs.Prelude.{◌≡◌, ℕ, ◌<◌, suc, zero, List, [], ◌∷◌, ◌++◌, Some, None, Option}
 use Rattle.std.specs.Prelude.{IfSome, length, map, slice_get, if◌then◌else◌, ◌==◌, IsPermutation}
 use Rattle.std.specs.Prelude.{true}
+use Rattle.std.specs.List.Sorted.{IsNonDecreasing}
 use Rattle.mrc_machine.specs.Calls.{call_of}
 use Rattle.mrc_model.specs.First.{first}
 use Rattle.mrc_model.specs.Map.{len}
@@ -48,7 +49,7 @@ WaitsInVain W w says = (says.waits ≡ true)
 -- The text tells a run from the first state of the wiring, in which each task makes the calls of
 -- its first lines of the script, in order, and no others, and no one else makes any. No task can go
 -- on: each has said all its lines, or says next a line that waits for a message, and there is none.
--- These are the numbers of the lines that wait.
+-- These are the numbers of the lines that wait, ascending.
 pub record IsHalted (table : Table) (script : List (Line TaskCall)) (lines text : List ℕ) : Type 0
   where
     pub events : List Event
@@ -60,5 +61,6 @@ pub record IsHalted (table : Table) (script : List (Line TaskCall)) (lines text 
     pub halted : (task : ℕ) → task < (wiring_of table).tasks
         → IfSome (next_line script events task) (λ l. WaitsInVain (wiring_of table) world l.says)
     pub lines_are : IsPermutation (next_numbers script events (wiring_of table).tasks) lines
+    pub ascending : IsNonDecreasing lines
     pub printed : text ≡ event_lines table 0 events
         ++ end_line (length events) (len world.store.ports)

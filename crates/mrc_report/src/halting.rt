@@ -2,6 +2,7 @@
 
 ghost use Rattle.std.specs.Prelude.{◌≡◌, ◌<◌, ◌==◌, ℕ, ◌++◌, IfNone, IfOk, IfSome, IsTrue};
 ghost use Rattle.std.specs.Prelude.{IsPermutation, None, Some, length, map, slice_get};
+ghost use Rattle.std.specs.List.Sorted.{IsNonDecreasing};
 ghost use Rattle.mrc_confine.specs.Guards.{wiring_in};
 ghost use Rattle.mrc_live.specs.Runs.{event_of};
 ghost use Rattle.mrc_report.specs.Halts.{WaitsInVain, lines_of, next_line, next_numbers, number_in};
@@ -55,11 +56,12 @@ fn line_after(lines: &[Line<TaskCall>], task: TaskId, said: usize) -> Option<&Li
     None
 }
 
-/// Whether a line waits for a message, and there is none: then the machine is as it was.
+/// Whether a line waits for a message, and there is none: then the machine is unchanged.
 fn waits_in_vain(guarded: &mut Guarded, says: &TaskCall) -> Result<bool, AllocError>
     ensures vain { IfOk result (λ is. IsTrue is
         → WaitsInVain (wiring_in guarded.old.confined) guarded.old.world says.now) }
     ensures kept { IfOk result (λ is. IsTrue is → guarded.new ≡ guarded.old) }
+    ensures confined { guarded.new.confined ≡ guarded.old.confined }
 {
     if !says.waits {
         return Ok(false);
@@ -83,6 +85,7 @@ fn add_next(
     ensures added { IfOk result (λ is. IsTrue is → numbers.new.items ≡ numbers.old.items
         ++ number_in (next_line script.now (map event_of events.now) task)) }
     ensures kept { IfOk result (λ is. IsTrue is → guarded.new ≡ guarded.old) }
+    ensures confined { guarded.new.confined ≡ guarded.old.confined }
 {
     let Some(line) = line_after(script, task, calls_made(events, task)) else {
         return Ok(true);
@@ -109,6 +112,7 @@ fn next_lines(
     ensures lines { IfOk result (λ some. IfSome some (λ lines. lines.items ≡
         next_numbers script.now (map event_of events.now)
         (wiring_in guarded.old.confined).tasks)) }
+    ensures confined { guarded.new.confined ≡ guarded.old.confined }
 {
     let tasks = guarded.confined().wired().tasks();
     let mut numbers = Vec::new(alloc);
@@ -134,6 +138,9 @@ pub(crate) fn waiting_lines(
     ensures lines { IfOk result (λ some. IfSome some (λ lines. IsPermutation
         (next_numbers script.now (map event_of events.now)
         (wiring_in guarded.old.confined).tasks) lines.items)) }
+    ensures ascending { IfOk result
+        (λ some. IfSome some (λ lines. IsNonDecreasing lines.items)) }
+    ensures confined { guarded.new.confined ≡ guarded.old.confined }
 {
     let Some(mut lines) = next_lines(alloc, guarded, script, events)? else {
         return Ok(None);

@@ -14,9 +14,10 @@ mod serving;
 mod waiting;
 
 pub use mrc_files::{ReadFault, WriteFault, read_all, read_fault, write_text};
-pub use playing::{Gate, LiveFault};
+pub use parameters::{bytes_of_digits, digit_value, disp_of_word, joined, right_of_word};
+pub use playing::LiveFault;
 pub use printing::{code_word, end_line, event_line, reply_text, waits_text};
 pub use replaying::replay;
 pub use running::{Stopped, run_live};
 pub use script::{Script, TaskCall, read_script};
-pub use serving::{ServeFault, Served, journal_text, serve};
+pub use serving::{NotServed, ServeFault, Served, journal_text, serve};

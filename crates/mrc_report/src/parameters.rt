@@ -11,9 +11,9 @@ use mrc_wiring_text::is_word;
 use mrc_words::number_of_word;
 use std::alloc::{AllocError, Global};
 
-/// The right of a word.
+/// The right of a word: `send`, `receive`, `once`, `set` or `dead`.
 #[tactic(auto, unfolding(crate::specs::Parameters::right_of_word))]
-pub(crate) fn right_of_word(word: &[u8]) -> Option<Right>
+pub fn right_of_word(word: &[u8]) -> Option<Right>
     ensures { result ≡ right_of_word word.now }
 {
     if is_word(word, "send") {
@@ -31,8 +31,8 @@ pub(crate) fn right_of_word(word: &[u8]) -> Option<Right>
     }
 }
 
-/// The disposition of a word, by its number.
-pub(crate) fn disp_of_word(word: &[u8]) -> Option<Disp>
+/// The disposition of a word, by its number: 16 to 21.
+pub fn disp_of_word(word: &[u8]) -> Option<Disp>
     ensures { result ≡ disp_of_word word.now }
 {
     match number_of_word(word)? {
@@ -47,7 +47,7 @@ pub(crate) fn disp_of_word(word: &[u8]) -> Option<Disp>
 }
 
 /// The value of a hexadecimal digit, of either case.
-fn digit_value(digit: u8) -> Option<u8>
+pub fn digit_value(digit: u8) -> Option<u8>
     ensures exact { result ≡ digit_value digit }
     ensures within { IfSome result (λ value. value < 16) }
 {
@@ -59,7 +59,7 @@ fn digit_value(digit: u8) -> Option<u8>
     }
 }
 
-/// The byte that two hexadecimal digits spell.
+/// The byte that two hexadecimal digits encode.
 #[tactic(auto, unfolding(crate::specs::Parameters::byte_of))]
 fn byte_of(high: u8, low: u8) -> Option<u8>
     ensures { result ≡ byte_of high low }
@@ -69,8 +69,9 @@ fn byte_of(high: u8, low: u8) -> Option<u8>
     Some(high * 16 + low)
 }
 
-/// The bytes that hexadecimal digits spell, two digits a byte.
-fn bytes_of_digits(alloc: Global, digits: &[u8]) -> Result<Option<Vec<u8>>, AllocError>
+/// The bytes that hexadecimal digits encode, two digits a byte: `None` if a character is no digit,
+/// or if one digit is left.
+pub fn bytes_of_digits(alloc: Global, digits: &[u8]) -> Result<Option<Vec<u8>>, AllocError>
     ensures { IfOk result (λ found.
         option_map (λ bytes. bytes.items) found ≡ bytes_of_digits digits.now) }
 {
@@ -91,7 +92,7 @@ fn bytes_of_digits(alloc: Global, digits: &[u8]) -> Result<Option<Vec<u8>>, Allo
 }
 
 /// Words one after the other, as one.
-fn joined(alloc: Global, words: &[&[u8]]) -> Result<Vec<u8>, AllocError>
+pub fn joined(alloc: Global, words: &[&[u8]]) -> Result<Vec<u8>, AllocError>
     ensures { IfOk result (λ text.
         text.items ≡ flat_map (λ word. word) (map (λ word. word.now) words.now)) }
 {
@@ -102,7 +103,7 @@ fn joined(alloc: Global, words: &[&[u8]]) -> Result<Vec<u8>, AllocError>
     Ok(text)
 }
 
-/// The message whose bytes the hexadecimal digits of these words spell, one word after the other.
+/// The message whose bytes the hexadecimal digits of these words encode, one word after the other.
 #[tactic(auto, unfolding(crate::specs::Parameters::message_of_words))]
 pub(crate) fn message_of_words(
     alloc: Global,

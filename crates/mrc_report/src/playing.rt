@@ -4,7 +4,7 @@ ghost use Rattle.std.specs.Prelude.{◌≡◌, [], ◌∷◌, ◌++◌, ◌==◌
 ghost use Rattle.mrc_report.specs.Plays.{IsPlayed, calls_of};
 
 use crate::script::{Script, TaskCall};
-use mrc_base::TaskId;
+use mrc_base::{Gate, TaskId};
 use mrc_live::{Live, NotReceived, NotTaken, Seat};
 use mrc_machine::Call;
 use std::alloc::Global;
@@ -12,12 +12,6 @@ use std::sync::Wait;
 use std::sync::atomic::{AtomicBool, Ordering};
 use std::sync::ledger::Ledger;
 use thiserror::Error;
-
-/// What each thread enters once, before its first line.
-pub trait Gate: Sync {
-    /// Lets in the thread of the task of this number.
-    fn enter(&self, number: usize);
-}
 
 /// Why not all lines of a script were said.
 #[derive(Clone, Copy, Debug, PartialEq, Eq, Error)]
@@ -28,7 +22,7 @@ pub enum LiveFault {
     /// The journal has as many events as it may have.
     #[error("JournalFull")]
     JournalFull,
-    /// Want of memory, or of a thread.
+    /// Out of memory, or of threads.
     #[error("Memory")]
     Memory,
     /// All tasks that have lines left wait for messages.
@@ -41,8 +35,10 @@ pub enum LiveFault {
 pub(crate) enum Halt {
     /// The run was stopped: another task had a fault, or all waited.
     Stopped,
-    /// A fault of its own.
-    Fault(LiveFault),
+    /// The journal has as many events as it may have.
+    JournalFull,
+    /// Out of memory, or of threads.
+    Memory,
 }
 
 /// What a thread hands back.
@@ -65,12 +61,12 @@ fn call<L: Ledger, R: Wait>(
     ensures task { seat.new.task ≡ seat.old.task }
 {
     let Ok(copy) = call.copy(alloc) else {
-        return Err(Halt::Fault(LiveFault::Memory));
+        return Err(Halt::Memory);
     };
     match live.call(rt, seat, copy) {
         Ok(_) => Ok(()),
-        Err(NotTaken::JournalFull(_)) => Err(Halt::Fault(LiveFault::JournalFull)),
-        Err(NotTaken::Memory(_)) => Err(Halt::Fault(LiveFault::Memory)),
+        Err(NotTaken::JournalFull(_)) => Err(Halt::JournalFull),
+        Err(NotTaken::Memory(_)) => Err(Halt::Memory),
     }
 }
 
@@ -94,8 +90,8 @@ fn say<L: Ledger, R: Wait>(
         Call::Receive { name, limit } => match live.receive_until(rt, seat, *name, *limit, stop) {
             Ok(Some(_)) => Ok(()),
             Ok(None) => Err(Halt::Stopped),
-            Err(NotReceived::JournalFull) => Err(Halt::Fault(LiveFault::JournalFull)),
-            Err(NotReceived::Memory) => Err(Halt::Fault(LiveFault::Memory)),
+            Err(NotReceived::JournalFull) => Err(Halt::JournalFull),
+            Err(NotReceived::Memory) => Err(Halt::Memory),
         },
         other => call(rt, alloc, live, seat, other),
     }
@@ -153,7 +149,7 @@ pub(crate) fn play<L: Ledger, R: Wait, G: Gate>(
         gate.enter(seat.task().0 as usize);
     }
     let halt = say_lines(rt, alloc, live, stop, &mut seat, script);
-    if matches!(halt, Some(Halt::Fault(_))) {
+    if matches!(halt, Some(Halt::JournalFull | Halt::Memory)) {
         stop.store(true, Ordering::SeqCst);
     }
     live.leave(rt, &seat);

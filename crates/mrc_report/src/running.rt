@@ -1,16 +1,15 @@
 //! Scripts, run by tasks as threads.
 
-ghost use Rattle.std.specs.Prelude.{◌≡◌, ◌≤◌, ◌⊎◌, ℕ, [], IfErr, IfNone, IfOk, IfSome, MatchResult};
-ghost use Rattle.std.specs.Prelude.{None, Some, slice_get, vec_capacity, vec_len};
+ghost use Rattle.std.specs.Prelude.{◌≡◌, ◌<◌, ◌≤◌, ℕ, [], IfErr, IfOk, IsFalse, IsTrue};
+ghost use Rattle.std.specs.Prelude.{MatchResult, Some, slice_get, vec_capacity, vec_len};
+ghost use Rattle.mrc_base.specs.Reading.{UnlessMemory};
 ghost use Rattle.mrc_confine.specs.Guards.{wiring_in};
-ghost use Rattle.mrc_report.specs.Plays.{AreFresh, ArePlayed, IsPlayed, SaysAll, SaysFirst};
-ghost use Rattle.mrc_report.specs.declared.playing.Halt.TheVariants.{Fault, Stopped as Halted};
-ghost use Rattle.mrc_report.specs.declared.playing.LiveFault.TheVariants.{AllWait, Memory};
-ghost use Rattle.mrc_report.specs.declared.playing.LiveFault.TheVariants.{TooManySeats};
+ghost use Rattle.mrc_report.specs.Plays.{AreEnded, AreFresh, IsPlayed, IsRefused, SaysAll};
+ghost use Rattle.mrc_report.specs.Plays.{SaysFirst, earlier, fault_of};
 
-use crate::playing::{Gate, Halt, LiveFault, Played, play};
+use crate::playing::{Halt, LiveFault, Played, play};
 use crate::script::Script;
-use mrc_base::TaskId;
+use mrc_base::{Gate, OrMemory, TaskId};
 use mrc_live::{Live, NotSeated, Seat};
 use std::alloc::Global;
 use std::snapshot::Snapshot;
@@ -64,7 +63,7 @@ fn start<'s, E, L: Ledger + Send + Sync, R: Wait + Sync, G: Gate>(
             let Played { seat, .. } = (refused.value)();
             Err(Played {
                 seat,
-                halt: Some(Halt::Fault(LiveFault::Memory)),
+                halt: Some(Halt::Memory),
             })
         }
     }
@@ -74,27 +73,22 @@ fn start<'s, E, L: Ledger + Send + Sync, R: Wait + Sync, G: Gate>(
 type Running<L> = Result<PromisedHandle<Played<L>, Lines>, Played<L>>;
 
 /// Makes each task's seat, in task order, before any thread is started: so a task that waits knows
-/// that all who may send to it are there.
-fn seat_all<L: Ledger, R: Wait>(
-    rt: &R,
-    live: &Live<L>,
-    seats: &mut Vec<Seat<L>>,
-) -> Option<LiveFault>
+/// that all who may send to it are there. Whether there were enough seats.
+fn seat_all<L: Ledger, R: Wait>(rt: &R, live: &Live<L>, seats: &mut Vec<Seat<L>>) -> bool
     requires empty { seats.old.items ≡ [] }
     requires room { (wiring_in live.now).tasks ≤ vec_capacity seats.old }
     ensures each { AreFresh seats.new.items }
-    ensures all { IfNone result (vec_len seats.new ≡ (wiring_in live.now).tasks) }
-    ensures few { vec_len seats.new ≤ (wiring_in live.now).tasks }
-    ensures fault { IfSome result (λ fault. fault ≡ TooManySeats) }
+    ensures all { IsTrue result → vec_len seats.new ≡ (wiring_in live.now).tasks }
+    ensures few { IsFalse result → vec_len seats.new < (wiring_in live.now).tasks }
 {
     for task in 0..u32::from(live.confined().wired().tasks()) {
         match live.seat(rt, TaskId(task)) {
             Ok(seat) => seats.push_reserved(seat),
-            Err(NotSeated::TooManySeats) => return Some(LiveFault::TooManySeats),
+            Err(NotSeated::TooManySeats) => return false,
             Err(NotSeated::NoSuchTask) => unreachable!(),
         }
     }
-    None
+    true
 }
 
 /// Starts the thread of each seat, in task order.
@@ -134,22 +128,19 @@ fn ended<L: Ledger, R: Threads>(rt: &R, one: Running<L>) -> Played<L>
     }
 }
 
-/// The first fault of two, or else that one was stopped.
+/// Of two in task order: the first that is not a stop, or else a stop, if there is one.
 fn earlier(first: Option<Halt>, next: Option<Halt>) -> Option<Halt>
-    ensures none { IfNone result ((first ≡ None) × (next ≡ None)) }
-    ensures fault { (fault : LiveFault) → first ≡ Some (Fault fault) → result ≡ first }
-    ensures next { (fault : LiveFault) → next ≡ Some (Fault fault)
-        → (first ≡ None) ⊎ (first ≡ Some Halted) → result ≡ next }
+    ensures { result ≡ earlier first next }
 {
     match (first, next) {
-        (Some(Halt::Fault(fault)), _) => Some(Halt::Fault(fault)),
-        (_, Some(halt)) => Some(halt),
-        (halt, None) => halt,
+        (None, next) => next,
+        (Some(Halt::Stopped), Some(next)) => Some(next),
+        (first, _) => first,
     }
 }
 
 /// Joins all threads. The seats come in task order, with the first fault by task number, or else
-/// that one was stopped.
+/// a stop, if there was one.
 fn join_all<L: Ledger, R: Threads>(
     rt: &R,
     running: Vec<Running<L>>,
@@ -162,7 +153,7 @@ fn join_all<L: Ledger, R: Threads>(
     requires empty { seats.items ≡ [] }
     requires room { vec_len running ≤ vec_capacity seats }
     ensures len { vec_len result.0 ≡ vec_len running }
-    ensures played { ArePlayed script.now result.1 result.0.items }
+    ensures ended { AreEnded script.now result.0.items result.1 }
 {
     let mut seats = seats;
     let mut first = None;
@@ -174,6 +165,17 @@ fn join_all<L: Ledger, R: Threads>(
     (seats, first)
 }
 
+/// What a run reports of the halt that came first.
+fn fault_of(halt: Halt) -> LiveFault
+    ensures { result ≡ fault_of halt }
+{
+    match halt {
+        Halt::Stopped => LiveFault::AllWait,
+        Halt::JournalFull => LiveFault::JournalFull,
+        Halt::Memory => LiveFault::Memory,
+    }
+}
+
 /// Why a run was refused: the first fault by task number, with the seats that were made.
 #[derive(Drop)]
 pub struct Stopped<L: Ledger> {
@@ -181,17 +183,6 @@ pub struct Stopped<L: Ledger> {
     pub fault: LiveFault,
     /// The seats, in task order.
     pub seats: Vec<Seat<L>>,
-}
-
-/// No seat was made for want of memory.
-fn nothing<L: Ledger>(alloc: Global) -> Stopped<L>
-    ensures none { result.seats.items ≡ [] }
-    ensures fault { result.fault ≡ Memory }
-{
-    Stopped {
-        fault: LiveFault::Memory,
-        seats: Vec::new(alloc),
-    }
 }
 
 /// Runs all threads in a scope.
@@ -203,28 +194,22 @@ fn run_in<'s, E, L: Ledger + Send + Sync, R: Threads + Wait + Sync, G: Gate>(
     gate: &'s G,
     stop: &'s AtomicBool,
     script: &'s Script,
-) -> Result<Vec<Seat<L>>, Stopped<L>>
+) -> Result<Vec<Seat<L>>, OrMemory<Stopped<L>>>
     ensures all { IfOk result (λ seats. vec_len seats ≡ (wiring_in live.now).tasks) }
     ensures whole { IfOk result (λ seats. SaysAll script.now seats.items) }
-    ensures begun { IfErr result (λ f. SaysFirst script.now f.seats.items) }
-    ensures seated { IfErr result (λ f. f.fault ≡ AllWait
-        → vec_len f.seats ≡ (wiring_in live.now).tasks) }
+    ensures begun { IfErr result (UnlessMemory (λ f. SaysFirst script.now f.seats.items)) }
+    ensures refused { IfErr result (UnlessMemory (λ f. IsRefused
+        (wiring_in live.now).tasks script.now f.fault f.seats.items)) }
 {
     let tasks = usize::from(live.confined().wired().tasks());
-    let Ok(mut fresh) = Vec::with_capacity(alloc, tasks) else {
-        return Err(nothing(alloc));
-    };
-    let Ok(mut running) = Vec::with_capacity(alloc, tasks) else {
-        return Err(nothing(alloc));
-    };
-    let Ok(seats) = Vec::with_capacity(alloc, tasks) else {
-        return Err(nothing(alloc));
-    };
-    if let Some(fault) = seat_all(rt, live, &mut fresh) {
-        return Err(Stopped {
-            fault,
+    let mut fresh = Vec::with_capacity(alloc, tasks)?;
+    let mut running = Vec::with_capacity(alloc, tasks)?;
+    let seats = Vec::with_capacity(alloc, tasks)?;
+    if !seat_all(rt, live, &mut fresh) {
+        return Err(OrMemory::Fault(Stopped {
+            fault: LiveFault::TooManySeats,
             seats: fresh,
-        });
+        }));
     }
     start_all(
         scope,
@@ -239,11 +224,10 @@ fn run_in<'s, E, L: Ledger + Send + Sync, R: Threads + Wait + Sync, G: Gate>(
     );
     let (seats, first) = join_all(rt, running, seats, script);
     match first {
-        Some(Halt::Fault(fault)) => Err(Stopped { fault, seats }),
-        Some(Halt::Stopped) => Err(Stopped {
-            fault: LiveFault::AllWait,
+        Some(halt) => Err(OrMemory::Fault(Stopped {
+            fault: fault_of(halt),
             seats,
-        }),
+        })),
         None => Ok(seats),
     }
 }
@@ -255,47 +239,53 @@ pub(crate) fn run_script<L: Ledger + Send + Sync, R: Threads + Wait + Sync, G: G
     live: &Live<L>,
     script: &Script,
     gate: &G,
-) -> Result<Vec<Seat<L>>, Stopped<L>>
-    ensures all { IfOk result (λ seats. vec_len seats ≡ (wiring_in live.now).tasks) }
+) -> Result<Vec<Seat<L>>, OrMemory<Stopped<L>>>
+    ensures all { IfOk result
+        (λ seats. vec_len seats ≡ (wiring_in live.now).tasks) }
     ensures whole { IfOk result (λ seats. SaysAll script.now seats.items) }
-    ensures begun { IfErr result (λ f. SaysFirst script.now f.seats.items) }
-    // Where all wait there is a seat for each task.
-    ensures seated { IfErr result (λ f. f.fault ≡ AllWait
-        → vec_len f.seats ≡ (wiring_in live.now).tasks) }
+    ensures begun { IfErr result (UnlessMemory (λ f. SaysFirst script.now f.seats.items)) }
+    ensures refused { IfErr result (UnlessMemory (λ f. IsRefused
+        (wiring_in live.now).tasks script.now f.fault f.seats.items)) }
 {
     let stop = AtomicBool::new(false);
     let stop = &stop;
     thread::scope(
         thread::scope_env(),
         rt,
-        |scope| -> Result<Vec<Seat<L>>, Stopped<L>>
+        |scope| -> Result<Vec<Seat<L>>, OrMemory<Stopped<L>>>
             ensures all { IfOk result
                 (λ seats. vec_len seats ≡ (wiring_in live.entry.now).tasks) }
             ensures whole { IfOk result (λ seats. SaysAll script.entry.now seats.items) }
-            ensures begun { IfErr result (λ f. SaysFirst script.entry.now f.seats.items) }
-            ensures seated { IfErr result (λ f. f.fault ≡ AllWait
-                → vec_len f.seats ≡ (wiring_in live.entry.now).tasks) }
+            ensures begun { IfErr result
+                (UnlessMemory (λ f. SaysFirst script.entry.now f.seats.items)) }
+            ensures refused { IfErr result (UnlessMemory (λ f. IsRefused
+                (wiring_in live.entry.now).tasks script.entry.now f.fault f.seats.items)) }
         { run_in(scope, rt, alloc, live, gate, stop, script) },
     )
 }
 
 /// Runs a script at a server: one thread and one seat for each wired task, in task order. Each
-/// thread enters the gate once, with its task's number, before its first line, also where it has no
+/// thread enters the gate once, with its task's number, before its first line, also if it has no
 /// line. A fault of one stops the others, and so does the last that begins to wait for a message
-/// where each other waits or has said all its lines: `AllWait`.
+/// when each other waits or has said all its lines: `AllWait`. Out of memory is reported if there
+/// is none before a seat is made.
 pub fn run_live<L: Ledger + Send + Sync, R: Threads + Wait + Sync, G: Gate>(
     rt: &R,
     alloc: Global,
     live: &Live<L>,
     script: Script,
     gate: &G,
-) -> Result<Vec<Seat<L>>, Stopped<L>>
+) -> Result<Vec<Seat<L>>, OrMemory<Stopped<L>>>
     // One seat for each task.
     ensures all { IfOk result (λ seats. vec_len seats ≡ (wiring_in live.now).tasks) }
     // Each has made the calls of its task's lines, in order, and no others.
     ensures whole { IfOk result (λ seats. SaysAll script seats.items) }
     // With a refusal each that was made has made the first of them.
-    ensures begun { IfErr result (λ f. SaysFirst script f.seats.items) }
+    ensures begun { IfErr result (UnlessMemory (λ f. SaysFirst script f.seats.items)) }
+    // The refusal is the first by task number, and each task's seat comes back; or there are too
+    // few seats, and no call was made.
+    ensures refused { IfErr result (UnlessMemory (λ f. IsRefused
+        (wiring_in live.now).tasks script f.fault f.seats.items)) }
 {
     run_script(rt, alloc, live, &script, gate)
 }

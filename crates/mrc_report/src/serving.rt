@@ -1,6 +1,7 @@
 //! A script, run by tasks as threads from what was checked to what is printed.
 
-ghost use Rattle.std.specs.Prelude.{◌≡◌, ◌≤◌, IfOk, string_bytes, vec_len};
+ghost use Rattle.std.specs.Prelude.{◌≡◌, ◌≤◌, IfErr, IfOk, string_bytes, vec_len};
+ghost use Rattle.mrc_base.specs.Limits.{limit_of_events, limit_of_parts};
 ghost use Rattle.mrc_confine.specs.Guards.{wiring_in};
 ghost use Rattle.mrc_model.specs.Map.{len};
 ghost use Rattle.mrc_report.specs.Journal.{journal_text};
@@ -8,14 +9,14 @@ ghost use Rattle.mrc_report.specs.Plays.{SaysAll, SaysFirst};
 ghost use Rattle.mrc_report.specs.Served.{IsServed};
 
 use crate::halting::waiting_lines;
-use crate::playing::{Gate, LiveFault};
+use crate::playing::LiveFault;
 use crate::printing::{end_line, event_line};
 use crate::running::{Stopped, run_script};
 use crate::script::Script;
-use mrc_base::OrMemory;
+use mrc_base::{Gate, OrMemory};
 use mrc_check::Confined;
 use mrc_confine::Guarded;
-use mrc_live::{Event, Live, Seat, Why};
+use mrc_live::{Event, Live, NotOpened, Seat, Unfinished, Why};
 use mrc_wiring::Wired;
 use std::alloc::{AllocError, Global};
 use std::sync::Wait;
@@ -38,7 +39,7 @@ pub enum ServeFault {
     /// This event of the journal, counted from 0, is not the next one of its seat's list.
     #[error("Differs {0}")]
     Differs(usize),
-    /// The machine runs something else than what was handed in.
+    /// The machine runs something else than what was passed.
     #[error("Swapped")]
     Swapped,
     /// A task was stopped that could go on.
@@ -51,12 +52,26 @@ pub enum ServeFault {
 pub enum Served {
     /// All tasks have said all their lines: what is printed of the journal.
     Whole(String),
-    /// All tasks that have lines left wait for messages: what is printed of the journal as it
-    /// stands, and the numbers of the lines that wait, ascending.
+    /// All tasks that have lines left wait for messages: what is printed of the journal so far, and
+    /// the numbers of the lines that wait, ascending.
     AllWait(String, Vec<u32>),
 }
 
-/// The fault of a run that is not told as a journal.
+/// A script that was not run to its end, with what was passed.
+#[derive(Debug, Drop)]
+pub struct NotServed {
+    /// Why.
+    pub fault: OrMemory<ServeFault>,
+    /// What was checked.
+    pub confined: Confined,
+    /// The script.
+    pub script: Script,
+}
+
+/// Why a script was not run to its end, and what was checked.
+type Unserved = (OrMemory<ServeFault>, Confined);
+
+/// The fault of a run that has no journal to print.
 fn stopped(fault: LiveFault) -> OrMemory<ServeFault> {
     match fault {
         LiveFault::TooManySeats => OrMemory::Fault(ServeFault::TooManySeats),
@@ -66,12 +81,16 @@ fn stopped(fault: LiveFault) -> OrMemory<ServeFault> {
     }
 }
 
-fn unfinished(why: Why) -> ServeFault {
-    match why {
+/// Why a server was not finished, and what was checked.
+fn unfinished<L: Ledger>(refused: Unfinished<L>) -> Unserved
+    ensures { result.1 ≡ refused.live }
+{
+    let fault = match refused.why {
         Why::SeatsMissing => ServeFault::SeatsMissing,
         Why::Differs(at) => ServeFault::Differs(at),
         Why::Swapped => ServeFault::Swapped,
-    }
+    };
+    (OrMemory::Fault(fault), refused.live.into_confined())
 }
 
 /// What is printed of a journal: a line for each event, and the last line.
@@ -110,16 +129,18 @@ fn whole<L: Ledger>(
     live: Live<L>,
     seats: Vec<Seat<L>>,
     script: &Script,
-) -> Result<Served, OrMemory<ServeFault>>
+) -> Result<Served, Unserved>
     requires all { vec_len seats ≡ (wiring_in live).tasks }
     requires said { SaysAll script.now seats.items }
-    ensures { IfOk result (IsServed live.claim.table script.now) }
+    ensures served { IfOk result (IsServed live.claim.table script.now) }
+    ensures returned { IfErr result (λ refused. refused.1 ≡ live) }
 {
     match live.finish(seats) {
-        Ok((journal, guarded)) => {
-            Ok(Served::Whole(journal_of(alloc, &guarded, journal.events())?))
-        }
-        Err(refused) => Err(OrMemory::Fault(unfinished(refused.why))),
+        Ok((journal, guarded)) => match journal_of(alloc, &guarded, journal.events()) {
+            Ok(text) => Ok(Served::Whole(text)),
+            Err(_) => Err((OrMemory::Memory, guarded.into_confined())),
+        },
+        Err(refused) => Err(unfinished(refused)),
     }
 }
 
@@ -129,27 +150,105 @@ fn halted<L: Ledger>(
     live: Live<L>,
     seats: Vec<Seat<L>>,
     script: &Script,
-) -> Result<Served, OrMemory<ServeFault>>
+) -> Result<Served, Unserved>
     requires all { vec_len seats ≡ (wiring_in live).tasks }
     requires said { SaysFirst script.now seats.items }
-    ensures { IfOk result (IsServed live.claim.table script.now) }
+    ensures served { IfOk result (IsServed live.claim.table script.now) }
+    ensures returned { IfErr result (λ refused. refused.1 ≡ live) }
 {
     match live.finish(seats) {
         Ok((journal, mut guarded)) => {
-            let text = journal_of(alloc, &guarded, journal.events())?;
-            match waiting_lines(alloc, &mut guarded, script, journal.events())? {
+            let Ok(text) = journal_of(alloc, &guarded, journal.events()) else {
+                return Err((OrMemory::Memory, guarded.into_confined()));
+            };
+            let Ok(waiting) = waiting_lines(alloc, &mut guarded, script, journal.events()) else {
+                return Err((OrMemory::Memory, guarded.into_confined()));
+            };
+            match waiting {
                 Some(lines) => Ok(Served::AllWait(text, lines)),
-                None => Err(OrMemory::Fault(ServeFault::Awake)),
+                None => Err((OrMemory::Fault(ServeFault::Awake), guarded.into_confined())),
             }
         }
-        Err(refused) => Err(OrMemory::Fault(unfinished(refused.why))),
+        Err(refused) => Err(unfinished(refused)),
+    }
+}
+
+/// What came of a script at a server.
+fn run_at<L: Ledger + Send + Sync, R: Threads + Wait + Sync, G: Gate>(
+    rt: &R,
+    alloc: Global,
+    live: Live<L>,
+    script: &Script,
+    gate: &G,
+) -> Result<Served, Unserved>
+    ensures served { IfOk result (IsServed live.claim.table script.now) }
+    ensures returned { IfErr result (λ refused. refused.1 ≡ live) }
+{
+    match run_script(rt, alloc, &live, script, gate) {
+        Ok(seats) => whole(alloc, live, seats, script),
+        Err(OrMemory::Memory) => Err((OrMemory::Memory, live.into_confined())),
+        Err(
+            OrMemory::Fault(
+                Stopped {
+                    fault: LiveFault::AllWait,
+                    seats,
+                },
+            ),
+        ) => halted(alloc, live, seats, script),
+        Err(OrMemory::Fault(refused)) => Err((stopped(refused.fault), live.into_confined())),
+    }
+}
+
+/// A server of what was checked, in the first state of its wiring.
+fn opened<L: Ledger>(
+    alloc: Global,
+    confined: Confined,
+    limit: usize,
+    blank: Blank,
+) -> Result<Live<L>, Confined>
+    requires limit { (1 ≤ limit) × (limit ≤ limit_of_events) }
+    requires name { blank.name ≡ L.name }
+    requires parts { (blank.parts ≡ L.parts) × (L.parts ≡ limit_of_parts) }
+    ensures ok { IfOk result (λ live. live ≡ confined) }
+    ensures returned { IfErr result (λ back. back ≡ confined) }
+{
+    let guarded = match Guarded::start(alloc, confined) {
+        Ok(guarded) => guarded,
+        Err(back) => return Err(back),
+    };
+    match Live::<L>::new(alloc, guarded, limit, blank) {
+        Ok(live) => Ok(live),
+        Err(NotOpened { guarded, .. }) => Err(guarded.into_confined()),
+    }
+}
+
+/// What came of a script, from the first state of the wiring on.
+fn run<L: Ledger + Send + Sync, R: Threads + Wait + Sync, G: Gate>(
+    rt: &R,
+    alloc: Global,
+    confined: Confined,
+    script: &Script,
+    limit: usize,
+    blank: Blank,
+    gate: &G,
+) -> Result<Served, Unserved>
+    requires limit { (1 ≤ limit) × (limit ≤ limit_of_events) }
+    requires name { blank.name ≡ L.name }
+    requires parts { (blank.parts ≡ L.parts) × (L.parts ≡ limit_of_parts) }
+    ensures served { IfOk result (IsServed confined.claim.table script.now) }
+    ensures returned { IfErr result (λ refused. refused.1 ≡ confined) }
+{
+    match opened::<L>(alloc, confined, limit, blank) {
+        Ok(live) => run_at(rt, alloc, live, script, gate),
+        Err(back) => Err((OrMemory::Memory, back)),
     }
 }
 
 /// Runs a script on what was checked, from the first state of its wiring on: one thread and one
-/// seat for each task, each entering the gate once before its first line. Answers what is printed
-/// of the journal, which is whole, or ends where all tasks that have lines left wait for messages.
-/// The limit is that of the journal, and the blank that of the ledger.
+/// seat for each task, each entering the gate once before its first line. Returns what is printed
+/// of the journal, which is whole, or ends when all tasks that have lines left wait for messages.
+/// The limit is that of the journal, and the blank that of the ledger. With a refusal what was
+/// checked comes back with the script.
 pub fn serve<L: Ledger + Send + Sync, R: Threads + Wait + Sync, G: Gate>(
     rt: &R,
     alloc: Global,
@@ -158,28 +257,22 @@ pub fn serve<L: Ledger + Send + Sync, R: Threads + Wait + Sync, G: Gate>(
     limit: usize,
     blank: Blank,
     gate: &G,
-) -> Result<Served, OrMemory<ServeFault>>
-    requires limit { (1 ≤ limit) × (limit ≤ 1000000) }
+) -> Result<Served, NotServed>
+    requires limit { (1 ≤ limit) × (limit ≤ limit_of_events) }
     requires name { blank.name ≡ L.name }
-    requires parts { (blank.parts ≡ L.parts) × (L.parts ≡ 257) }
-    // What is told is a run of the machine, in which each task makes the calls of its lines, or of
-    // the first of them where no task can go on.
-    ensures { IfOk result (IsServed confined.claim.table script) }
+    requires parts { (blank.parts ≡ L.parts) × (L.parts ≡ limit_of_parts) }
+    // What is printed is a run of the machine, in which each task makes the calls of its lines, or
+    // of the first of them if no task can go on.
+    ensures served { IfOk result (IsServed confined.claim.table script) }
+    ensures returned { IfErr result
+        (λ refused. (refused.confined ≡ confined) × (refused.script ≡ script)) }
 {
-    let Ok(guarded) = Guarded::start(alloc, confined) else {
-        return Err(OrMemory::Memory);
-    };
-    let Ok(live) = Live::<L>::new(alloc, guarded, limit, blank) else {
-        return Err(OrMemory::Memory);
-    };
-    match run_script(rt, alloc, &live, &script, gate) {
-        Ok(seats) => whole(alloc, live, seats, &script),
-        Err(
-            Stopped {
-                fault: LiveFault::AllWait,
-                seats,
-            },
-        ) => halted(alloc, live, seats, &script),
-        Err(refused) => Err(stopped(refused.fault)),
+    match run::<L, R, G>(rt, alloc, confined, &script, limit, blank, gate) {
+        Ok(served) => Ok(served),
+        Err((fault, back)) => Err(NotServed {
+            fault,
+            confined: back,
+            script,
+        }),
     }
 }

@@ -2,6 +2,7 @@
 use Rattle.std.proofs.Common.{◌≡◌, ℕ, suc, Bool, true, false, cond, List, [], ◌∷◌, length}
 use Rattle.std.proofs.Common.{Option, Some, None, refl, sym, ap, ◌∙◌, arith}
 use Rattle.std.specs.Prelude.{◌&&◌, ◌==◌, is_some, nat_le}
+use Rattle.std.proofs.Math.Bool.{and-false, and-true}
 use Rattle.std.proofs.lemmas.Bool.{ne_eqb, le-leb, lt-leb}
 use lib.Dec.{eqb-suc-suc, leb-suc-suc}
 use Rattle.mrc_words.specs.Reading.{◌>>=◌}
@@ -59,12 +60,8 @@ pub both : {A B : Type 0} (o : Option A) (f : A → Option B) (b : Bool)
 both None f b h = refl
 both (Some x) f b h = h x
 
-none_1 : (a : Bool) → (a && false) ≡ false
-none_1 true = refl
-none_1 false = refl
-
 none_2 : (a b : Bool) → (a && (b && false)) ≡ false
-none_2 true b = none_1 b
+none_2 true b = and-false b
 none_2 false b = refl
 
 none_3 : (a b c : Bool) → (a && (b && (c && false))) ≡ false
@@ -90,7 +87,7 @@ receive_fits : (words : List (List ℕ))
 unfolding grammar.receive
 receive_fits [] = refl
 receive_fits (a ∷ []) =
-    sym (none_1 (is_some (number_of_word a)))
+    sym (and-false (is_some (number_of_word a)))
 receive_fits (a ∷ b ∷ []) =
     both (number_of_word a) _ _ (λ x0. both (number_of_word b) _ true (λ x1. refl))
 receive_fits (a ∷ b ∷ more ∷ others) =
@@ -105,7 +102,7 @@ get_refs_fits : (words : List (List ℕ))
 unfolding grammar.get_refs
 get_refs_fits [] = refl
 get_refs_fits (a ∷ []) =
-    sym (none_1 (is_some (number_of_word a)))
+    sym (and-false (is_some (number_of_word a)))
 get_refs_fits (a ∷ b ∷ []) =
     sym (none_2 (is_some (number_of_word a)) (is_some (number_of_word b)))
 get_refs_fits (a ∷ b ∷ c ∷ []) =
@@ -123,7 +120,7 @@ insert_right_fits : (words : List (List ℕ))
 unfolding grammar.insert_right
 insert_right_fits [] = refl
 insert_right_fits (a ∷ []) =
-    sym (none_1 (is_some (number_of_word a)))
+    sym (and-false (is_some (number_of_word a)))
 insert_right_fits (a ∷ b ∷ []) =
     sym (none_2 (is_some (number_of_word a)) (is_some (number_of_word b)))
 insert_right_fits (a ∷ b ∷ c ∷ []) =
@@ -144,7 +141,7 @@ extract_right_fits : (words : List (List ℕ))
 unfolding grammar.extract_right
 extract_right_fits [] = refl
 extract_right_fits (a ∷ []) =
-    sym (none_1 (is_some (number_of_word a)))
+    sym (and-false (is_some (number_of_word a)))
 extract_right_fits (a ∷ b ∷ []) =
     sym (none_2 (is_some (number_of_word a)) (is_some (number_of_word b)))
 extract_right_fits (a ∷ b ∷ c ∷ []) =
@@ -162,7 +159,7 @@ set_qlimit_fits : (words : List (List ℕ))
 unfolding grammar.set_qlimit
 set_qlimit_fits [] = refl
 set_qlimit_fits (a ∷ []) =
-    sym (none_1 (is_some (number_of_word a)))
+    sym (and-false (is_some (number_of_word a)))
 set_qlimit_fits (a ∷ b ∷ []) =
     sym (none_2 (is_some (number_of_word a)) (is_some (number_of_word b)))
 set_qlimit_fits (a ∷ b ∷ c ∷ []) =
@@ -180,7 +177,7 @@ port_type_fits : (words : List (List ℕ))
 unfolding grammar.port_type
 port_type_fits [] = refl
 port_type_fits (a ∷ []) =
-    sym (none_1 (is_some (number_of_word a)))
+    sym (and-false (is_some (number_of_word a)))
 port_type_fits (a ∷ b ∷ []) =
     both (number_of_word a) _ _ (λ x0. both (number_of_word b) _ true (λ x1. refl))
 port_type_fits (a ∷ b ∷ more ∷ others) =
@@ -197,7 +194,7 @@ names_fits [] = refl
 names_fits (a ∷ []) =
     both (number_of_word a) _ true (λ x0. refl)
 names_fits (a ∷ more ∷ others) =
-    sym (none_1 (is_some (number_of_word a)))
+    sym (and-false (is_some (number_of_word a)))
 
 pub names_right : (words : List (List ℕ))
     → is_some (grammar.names words) ≡ are_parameters call.Names words
@@ -208,7 +205,7 @@ rename_fits : (words : List (List ℕ))
 unfolding grammar.rename
 rename_fits [] = refl
 rename_fits (a ∷ []) =
-    sym (none_1 (is_some (number_of_word a)))
+    sym (and-false (is_some (number_of_word a)))
 rename_fits (a ∷ b ∷ []) =
     sym (none_2 (is_some (number_of_word a)) (is_some (number_of_word b)))
 rename_fits (a ∷ b ∷ c ∷ []) =
@@ -226,7 +223,7 @@ move_member_fits : (words : List (List ℕ))
 unfolding grammar.move_member
 move_member_fits [] = refl
 move_member_fits (a ∷ []) =
-    sym (none_1 (is_some (number_of_word a)))
+    sym (and-false (is_some (number_of_word a)))
 move_member_fits (a ∷ b ∷ []) =
     sym (none_2 (is_some (number_of_word a)) (is_some (number_of_word b)))
 move_member_fits (a ∷ b ∷ c ∷ []) =
@@ -244,7 +241,7 @@ request_notification_fits : (words : List (List ℕ))
 unfolding grammar.request_notification
 request_notification_fits [] = refl
 request_notification_fits (a ∷ []) =
-    sym (none_1 (is_some (number_of_word a)))
+    sym (and-false (is_some (number_of_word a)))
 request_notification_fits (a ∷ b ∷ []) =
     sym (none_2 (is_some (number_of_word a)) (is_some (number_of_word b)))
 request_notification_fits (a ∷ b ∷ c ∷ []) =
@@ -272,7 +269,7 @@ deallocate_fits : (words : List (List ℕ))
 unfolding grammar.deallocate
 deallocate_fits [] = refl
 deallocate_fits (a ∷ []) =
-    sym (none_1 (is_some (number_of_word a)))
+    sym (and-false (is_some (number_of_word a)))
 deallocate_fits (a ∷ b ∷ []) =
     both (number_of_word a) _ _ (λ x0. both (number_of_word b) _ true (λ x1. refl))
 deallocate_fits (a ∷ b ∷ more ∷ others) =
@@ -287,7 +284,7 @@ destroy_fits : (words : List (List ℕ))
 unfolding grammar.destroy
 destroy_fits [] = refl
 destroy_fits (a ∷ []) =
-    sym (none_1 (is_some (number_of_word a)))
+    sym (and-false (is_some (number_of_word a)))
 destroy_fits (a ∷ b ∷ []) =
     both (number_of_word a) _ _ (λ x0. both (number_of_word b) _ true (λ x1. refl))
 destroy_fits (a ∷ b ∷ more ∷ others) =
@@ -302,7 +299,7 @@ mod_refs_fits : (words : List (List ℕ))
 unfolding grammar.mod_refs
 mod_refs_fits [] = refl
 mod_refs_fits (a ∷ []) =
-    sym (none_1 (is_some (number_of_word a)))
+    sym (and-false (is_some (number_of_word a)))
 mod_refs_fits (a ∷ b ∷ []) =
     sym (none_2 (is_some (number_of_word a)) (is_some (number_of_word b)))
 mod_refs_fits (a ∷ b ∷ c ∷ []) =
@@ -325,7 +322,7 @@ task_terminate_fits [] = refl
 task_terminate_fits (a ∷ []) =
     both (number_of_word a) _ true (λ x0. refl)
 task_terminate_fits (a ∷ more ∷ others) =
-    sym (none_1 (is_some (number_of_word a)))
+    sym (and-false (is_some (number_of_word a)))
 
 pub task_terminate_right : (words : List (List ℕ))
     → is_some (grammar.task_terminate words) ≡ are_parameters call.TaskTerminate words
@@ -338,15 +335,11 @@ task_create_fits [] = refl
 task_create_fits (a ∷ []) =
     both (number_of_word a) _ true (λ x0. refl)
 task_create_fits (a ∷ more ∷ others) =
-    sym (none_1 (is_some (number_of_word a)))
+    sym (and-false (is_some (number_of_word a)))
 
 pub task_create_right : (words : List (List ℕ))
     → is_some (grammar.task_create words) ≡ are_parameters call.TaskCreate words
 task_create_right words = task_create_fits words ∙ sym (counts_are (parameters call.TaskCreate) words)
-
-pub and_true : (a : Bool) → (a && true) ≡ a
-and_true true = refl
-and_true false = refl
 
 -- one word, of which a right is missing
 short : (a : Bool) → ((cond a 1 0 == 1) && nat_le 2 1) ≡ false
@@ -370,7 +363,7 @@ front true true n len all e =
     ap (λ b. b && nat_le 2 (suc (suc len)))
     (eqb-suc-suc (suc n) (suc len) ∙ eqb-suc-suc n len)
     ∙ (ap (λ b. (n == len) && b) (le-leb 2 (suc (suc len)) (omega arith))
-    ∙ (and_true (n == len) ∙ e))
+    ∙ (and-true (n == len) ∙ e))
 front true false n len all e = ap (λ b. b && nat_le 2 (suc (suc len))) (one_suc len)
 front false b n len all e = ap (λ b. b && nat_le 2 (suc (suc len))) (zero_suc (suc len))
 

@@ -1,6 +1,7 @@
 -- The table of calls says the same as the grammar.
 use Rattle.std.proofs.Common.{◌≡◌, ℕ, Bool, true, false, List, [], ◌∷◌, Option, Some, None}
 use Rattle.std.proofs.Common.{refl, sym, ap, ◌∙◌, subst, inl, inr, cond, ◌++◌}
+use Rattle.std.proofs.Math.Bool.{and-true}
 use Rattle.std.proofs.lemmas.Bool.{false≢true}
 use Rattle.std.specs.Prelude.{◌&&◌, ◌⊎◌, bytes_eq, is_some}
 use Rattle.std.specs.List.{AllByRecursion}
@@ -16,7 +17,7 @@ use Rattle.mrc_script_hints.specs.Table.{call_text, calls, replay_calls, call_am
 use Rattle.mrc_script_hints.specs.Table.{call_named, are_parameters}
 use Rattle.mrc_script_hints.specs.Wrong.{is_caller, are_right, is_right}
 use Rattle.mrc_script_hints.specs.Laws.{TheTableIsTheGrammar}
-use Rattle.mrc_script_hints.proofs.Fitting.{both, and_true, allocate_right}
+use Rattle.mrc_script_hints.proofs.Fitting.{both, allocate_right}
 use Rattle.mrc_script_hints.proofs.Fitting.{receive_right}
 use Rattle.mrc_script_hints.proofs.Fitting.{get_refs_right}
 use Rattle.mrc_script_hints.proofs.Fitting.{insert_right_right}
@@ -38,7 +39,7 @@ send_right : (words : List (List ℕ))
     → is_some (grammar.send words) ≡ is_some (message_of_words words)
 unfolding grammar.send
 send_right words =
-    both (message_of_words words) _ true (λ message. refl) ∙ and_true (is_some (message_of_words words))
+    both (message_of_words words) _ true (λ message. refl) ∙ and-true (is_some (message_of_words words))
 
 -- the call of the grammar that is said by the word of a call
 said : (name : CallName) (words : List (List ℕ))
@@ -71,7 +72,7 @@ pub called : (caller : Option ℕ) (name : List ℕ) (words : List (List ℕ)) (
 unfolding grammar.said_by
 called caller name words b h =
     both caller _ b (λ task. both (grammar.call_named name words) _ true (λ call. refl)
-    ∙ and_true (is_some (grammar.call_named name words)) ∙ h)
+    ∙ and-true (is_some (grammar.call_named name words)) ∙ h)
 
 -- a task that waits
 waited : (tasks : List (List ℕ)) (task : List ℕ) (words : List (List ℕ))
@@ -80,7 +81,7 @@ waited : (tasks : List (List ℕ)) (task : List ℕ) (words : List (List ℕ))
 unfolding wait_says
 waited tasks task words =
     both (number_of tasks task) _ _ (λ t. both (grammar.receive words) _ true (λ call. refl)
-    ∙ and_true (is_some (grammar.receive words)) ∙ receive_right words)
+    ∙ and-true (is_some (grammar.receive words)) ∙ receive_right words)
 
 -- a word is that of a call of these, or of none
 tested : (name : List ℕ) (all : List CallName)

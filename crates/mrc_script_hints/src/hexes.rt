@@ -1,9 +1,9 @@
 //! The hexadecimal digits of a message that is sent.
 
-ghost use Rattle.std.specs.Prelude.{◌≡◌, ◌≤◌, ◌<◌, ◌^◌, length, map, flat_map, option_map};
-ghost use Rattle.std.specs.Prelude.{slice_index_or, IfOk, IfSome};
+ghost use Rattle.std.specs.Prelude.{◌≡◌, ◌≤◌, ◌<◌, ◌^◌, length, map};
+ghost use Rattle.std.specs.Prelude.{slice_index_or, IfOk};
 ghost use Rattle.std.specs.List.{position_or_len};
-ghost use Rattle.mrc_report.specs.Parameters.{digit_value, byte_of, bytes_of_digits};
+ghost use Rattle.mrc_report.specs.Parameters.{bytes_of_digits};
 ghost use Rattle.mrc_script_hints.specs.Hexes.{is_no_digit, bad_disp_byte, fault_byte, is_long_at};
 ghost use Rattle.mrc_script_hints.specs.Hexes.{is_of_desc, fault_at, behind, message_seen};
 ghost use Rattle.mrc_script_hints.specs.Hexes.{bytes_seen, hex_seen, digit_place};
@@ -11,11 +11,10 @@ ghost use Rattle.mrc_script_hints.specs.declared.hexes.HexFault.TheVariants as h
 ghost use Rattle.mrc_desc.specs.Reading.{message_at};
 
 use mrc_base::OrMemory;
+use mrc_base::limits::MESSAGE;
 use mrc_desc::{ReadFault, read_message};
+use mrc_report::{bytes_of_digits, digit_value};
 use std::alloc::{AllocError, Global};
-
-/// How many bytes a message may have.
-const LONGEST: usize = 8192;
 
 /// What is wrong in the digits of a message.
 #[derive(Clone, Copy, Debug, PartialEq, Eq)]
@@ -55,62 +54,6 @@ pub(crate) struct DigitPlace {
     pub word: usize,
     /// How many digits are before it in the word.
     pub offset: usize,
-}
-
-/// The value of a hexadecimal digit, of either case.
-fn digit_value(digit: u8) -> Option<u8>
-    ensures exact { result ≡ digit_value digit }
-    ensures within { IfSome result (λ value. value < 16) }
-{
-    match digit {
-        b'0'..=b'9' => Some(digit - b'0'),
-        b'a'..=b'f' => Some(digit - b'a' + 10),
-        b'A'..=b'F' => Some(digit - b'A' + 10),
-        _ => None,
-    }
-}
-
-/// The byte that two hexadecimal digits encode.
-#[tactic(auto, unfolding(mrc_report::specs::Parameters::byte_of))]
-fn byte_of(high: u8, low: u8) -> Option<u8>
-    ensures { result ≡ byte_of high low }
-{
-    let high = digit_value(high)?;
-    let low = digit_value(low)?;
-    Some(high * 16 + low)
-}
-
-/// The bytes that hexadecimal digits encode, two digits a byte.
-fn bytes_of_digits(alloc: Global, digits: &[u8]) -> Result<Option<Vec<u8>>, AllocError>
-    ensures { IfOk result (λ found.
-        option_map (λ bytes. bytes.items) found ≡ bytes_of_digits digits.now) }
-{
-    let mut bytes = Vec::new(alloc);
-    let mut rest = digits;
-    while let [high, low, after @ ..] = rest {
-        let Some(byte) = byte_of(*high, *low) else {
-            return Ok(None);
-        };
-        bytes.push(byte)?;
-        rest = after;
-    }
-    if rest.is_empty() {
-        Ok(Some(bytes))
-    } else {
-        Ok(None)
-    }
-}
-
-/// Words one after the other, as one.
-pub(crate) fn joined(alloc: Global, words: &[&[u8]]) -> Result<Vec<u8>, AllocError>
-    ensures { IfOk result (λ text.
-        text.items ≡ flat_map (λ word. word) (map (λ word. word.now) words.now)) }
-{
-    let mut text = Vec::new(alloc);
-    for word in words {
-        text.extend_from_slice(word)?;
-    }
-    Ok(text)
 }
 
 fn is_no_digit(digit: u8) -> bool
@@ -153,7 +96,7 @@ fn fault_byte(bytes: &[u8], fault: ReadFault) -> usize
 {
     match fault {
         ReadFault::TooShort => bytes.len(),
-        ReadFault::TooLong => LONGEST,
+        ReadFault::TooLong => MESSAGE,
         ReadFault::BadHeaderDisp => bad_disp_byte(byte_at(bytes, 0)),
         ReadFault::BadDesc(at) | ReadFault::OutOfLine(at) | ReadFault::Truncated(at) => {
             at.min(bytes.len())

@@ -1,11 +1,10 @@
 //! The parameters of calls, as words of a script.
 
-ghost use Rattle.std.specs.Prelude.{◌≡◌, ◌≤◌, is_some, length, map};
-ghost use Rattle.mrc_report.specs.Parameters.{right_of_word, disp_of_word};
+ghost use Rattle.std.specs.Prelude.{◌≡◌, ◌≤◌, length, map};
 ghost use Rattle.mrc_script_hints.specs.Table.{fits, fitting};
 ghost use Rattle.mrc_script_hints.specs.Notes.{phrases};
 
-use mrc_wiring_text::is_word;
+use mrc_report::{disp_of_word, right_of_word};
 use mrc_words::{delta_of_word, number_of_word};
 
 /// The kind of a parameter.
@@ -21,25 +20,6 @@ pub(crate) enum Parameter {
     Delta,
 }
 
-/// Whether a word names a right.
-#[tactic(auto, unfolding(mrc_report::specs::Parameters::right_of_word))]
-fn is_right(word: &[u8]) -> bool
-    ensures { result ≡ is_some (right_of_word word.now) }
-{
-    is_word(word, "send")
-        || is_word(word, "receive")
-        || is_word(word, "once")
-        || is_word(word, "set")
-        || is_word(word, "dead")
-}
-
-/// Whether a word is the number of a disposition.
-fn is_disposition(word: &[u8]) -> bool
-    ensures { result ≡ is_some (disp_of_word word.now) }
-{
-    matches!(number_of_word(word), Some(16 | 17 | 18 | 19 | 20 | 21))
-}
-
 impl Parameter {
     /// Whether a word is a parameter of the kind.
     fn fits(self, word: &[u8]) -> bool
@@ -47,8 +27,8 @@ impl Parameter {
     {
         match self {
             Parameter::Number => number_of_word(word).is_some(),
-            Parameter::HeldRight => is_right(word),
-            Parameter::Disposition => is_disposition(word),
+            Parameter::HeldRight => right_of_word(word).is_some(),
+            Parameter::Disposition => disp_of_word(word).is_some(),
             Parameter::Delta => delta_of_word(word).is_some(),
         }
     }

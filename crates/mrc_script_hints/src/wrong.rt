@@ -11,8 +11,9 @@ ghost use Rattle.mrc_script_hints.specs.declared.wrong.Wrong.TheVariants as wron
 ghost use Rattle.mrc_script_hints.specs.declared.calls.CallName.TheVariants as call;
 
 use crate::calls::{CallName, call_named};
-use crate::hexes::{HexFault, HexSeen, digit_place, hex_seen, joined};
+use crate::hexes::{HexFault, digit_place, hex_seen};
 use crate::parameters::fitting;
+use mrc_report::joined;
 use mrc_wiring_text::is_word;
 use mrc_words::number_of_word;
 use std::alloc::{AllocError, Global};

@@ -1,6 +1,7 @@
 //! What the server answers to calls, and how many events they make.
 
 ghost use Rattle.std.specs.Prelude.{◌≡◌, IfErr};
+ghost use Rattle.mrc_base.specs.Limits.{limit_of_parts};
 ghost use Rattle.mrc_confine.specs.Guards.{wiring_in};
 ghost use Rattle.mrc_model.specs.First.{first};
 
@@ -9,8 +10,9 @@ use crate::server::{
     told_waiting, two_seats, waited,
 };
 use mrc_base::TaskId;
+use mrc_base::limits::PARTS;
 use mrc_confine::Guarded;
-use mrc_live::{Live, NotReceived, NotSeated, NotTaken, Seat, Unfinished, Why};
+use mrc_live::{Live, NotOpened, NotReceived, NotSeated, NotTaken, Seat, Unfinished, Why};
 use mrc_machine::{Call, Reply};
 use mrc_model::Code;
 use std::alloc::{AllocError, Global};
@@ -96,7 +98,7 @@ fn next_calls<L: Ledger, R: Wait>(
     Ok([sent, came, full])
 }
 
-/// Finishes with one seat more than was handed in, where a seat was missing. The number of events.
+/// Finishes with one seat more than was passed, if a seat was missing. The number of events.
 fn finish_with<L: Ledger>(unfinished: Unfinished<L>, other: Seat<L>) -> usize {
     let Unfinished {
         why,
@@ -132,18 +134,18 @@ fn answers<L: Ledger, R: Wait>(
     Ok((first, next, finish_late(live, seats, other)))
 }
 
-/// What a server of two seats answers. Where memory runs out for the server, the machine comes
+/// What a server of two seats answers. If memory runs out for the server, machine and blank come
 /// back.
 fn answers_of<L: Ledger, R: Wait>(
     rt: &R,
     alloc: Global,
     guarded: Guarded,
     blank: Blank,
-) -> Result<Result<([bool; 3], [bool; 3], usize), AllocError>, Guarded>
+) -> Result<Result<([bool; 3], [bool; 3], usize), AllocError>, NotOpened>
     requires name { blank.name ≡ L.name }
-    requires parts { (blank.parts ≡ L.parts) × (L.parts ≡ 257) }
+    requires parts { (blank.parts ≡ L.parts) × (L.parts ≡ limit_of_parts) }
     requires first { guarded.world ≡ first (wiring_in guarded.confined) }
-    ensures returned { IfErr result (λ back. back ≡ guarded) }
+    ensures returned { IfErr result (λ back. (back.guarded ≡ guarded) × (back.blank ≡ blank)) }
 {
     match locked::<L>(alloc, guarded, 5, blank) {
         Ok(live) => Ok(answers(rt, alloc, live)),
@@ -151,14 +153,14 @@ fn answers_of<L: Ledger, R: Wait>(
     }
 }
 
-// Each call that can answer want of memory is made once more where it did: to be run with each
+// Each call that can run out of memory is made once more if it did: to be run with each
 // allocation refused in turn.
 #[test]
 fn answers_of_two_seats(rt: HostRuntime) -> Result<(), Fail> {
     let alloc = rt.alloc();
-    let told = match answers_of::<Brand, _>(&rt, alloc, machine(&rt, alloc)?, Blank::new(257)) {
+    let told = match answers_of::<Brand, _>(&rt, alloc, machine(&rt, alloc)?, Blank::new(PARTS)) {
         Ok(told) => told,
-        Err(back) => match answers_of::<Brand, _>(&rt, alloc, back, Blank::new(257)) {
+        Err(back) => match answers_of::<Brand, _>(&rt, alloc, back.guarded, back.blank) {
             Ok(told) => told,
             Err(_) => Err(AllocError),
         },
@@ -207,14 +209,14 @@ fn told_at_once<L: Ledger, R: Threads + Wait + Sync>(
     blank: Blank,
 ) -> Result<([bool; 3], (bool, usize)), AllocError>
     requires name { blank.name ≡ L.name }
-    requires parts { (blank.parts ≡ L.parts) × (L.parts ≡ 257) }
+    requires parts { (blank.parts ≡ L.parts) × (L.parts ≡ limit_of_parts) }
 {
     one_event(rt, alloc, opened::<L, _>(rt, alloc, 1, blank)?)
 }
 
 #[test]
 fn a_full_journal_is_told_at_once(rt: HostRuntime) -> Result<(), Fail> {
-    let (right, missed) = told_at_once::<Brand, _>(&rt, rt.alloc(), Blank::new(257))?;
+    let (right, missed) = told_at_once::<Brand, _>(&rt, rt.alloc(), Blank::new(PARTS))?;
     assert_eq!(rt; right, [true; 3]);
     assert_eq!(rt; missed, (true, 1));
     Ok(())
@@ -239,14 +241,14 @@ fn count_seats<L: Ledger, R: Threads + Wait + Sync>(
     blank: Blank,
 ) -> Result<Option<usize>, AllocError>
     requires name { blank.name ≡ L.name }
-    requires parts { (blank.parts ≡ L.parts) × (L.parts ≡ 257) }
+    requires parts { (blank.parts ≡ L.parts) × (L.parts ≡ limit_of_parts) }
 {
     Ok(all_seats(rt, &opened::<L, _>(rt, alloc, 1, blank)?))
 }
 
 #[test]
 fn seats_are_256(rt: HostRuntime) -> Result<(), Fail> {
-    let seats = count_seats::<Brand, _>(&rt, rt.alloc(), Blank::new(257))?;
+    let seats = count_seats::<Brand, _>(&rt, rt.alloc(), Blank::new(PARTS))?;
     assert_eq!(rt; seats, Some(256));
     Ok(())
 }
@@ -268,7 +270,7 @@ fn seat_of_nobody<L: Ledger, R: Threads + Wait + Sync>(
     blank: Blank,
 ) -> Result<Option<NotSeated>, AllocError>
     requires name { blank.name ≡ L.name }
-    requires parts { (blank.parts ≡ L.parts) × (L.parts ≡ 257) }
+    requires parts { (blank.parts ≡ L.parts) × (L.parts ≡ limit_of_parts) }
 {
     let machine = started(rt, alloc, "wiring 1\n", &NOBODY)?;
     match locked::<L>(alloc, machine, 1, blank) {
@@ -279,7 +281,7 @@ fn seat_of_nobody<L: Ledger, R: Threads + Wait + Sync>(
 
 #[test]
 fn nobody_has_no_seat(rt: HostRuntime) -> Result<(), Fail> {
-    let refused = seat_of_nobody::<Brand, _>(&rt, rt.alloc(), Blank::new(257))?;
+    let refused = seat_of_nobody::<Brand, _>(&rt, rt.alloc(), Blank::new(PARTS))?;
     assert_eq!(rt; refused, Some(NotSeated::NoSuchTask));
     Ok(())
 }
@@ -354,7 +356,7 @@ fn child_of_two<L: Ledger, R: Threads + Wait + Sync>(
     blank: Blank,
 ) -> Result<([bool; 4], usize), AllocError>
     requires name { blank.name ≡ L.name }
-    requires parts { (blank.parts ≡ L.parts) × (L.parts ≡ 257) }
+    requires parts { (blank.parts ≡ L.parts) × (L.parts ≡ limit_of_parts) }
 {
     let machine = started(rt, alloc, TWO, &TWO_TASKS)?;
     match locked::<L>(alloc, machine, 2, blank) {
@@ -365,7 +367,7 @@ fn child_of_two<L: Ledger, R: Threads + Wait + Sync>(
 
 #[test]
 fn a_child_has_a_seat_once_it_is_made(rt: HostRuntime) -> Result<(), Fail> {
-    let (told, events) = child_of_two::<Brand, _>(&rt, rt.alloc(), Blank::new(257))?;
+    let (told, events) = child_of_two::<Brand, _>(&rt, rt.alloc(), Blank::new(PARTS))?;
     assert_eq!(rt; told, [true; 4]);
     assert_eq!(rt; events, 2);
     Ok(())
@@ -401,7 +403,7 @@ fn two_threads_events<L: Ledger + Send + Sync, R: Threads + Wait + Sync>(
     blank: Blank,
 ) -> Result<usize, AllocError>
     requires name { blank.name ≡ L.name }
-    requires parts { (blank.parts ≡ L.parts) × (L.parts ≡ 257) }
+    requires parts { (blank.parts ≡ L.parts) × (L.parts ≡ limit_of_parts) }
 {
     let live = opened::<L, _>(rt, alloc, 1000, blank)?;
     let seats = two_threads(rt, alloc, &live)?;
@@ -410,7 +412,7 @@ fn two_threads_events<L: Ledger + Send + Sync, R: Threads + Wait + Sync>(
 
 #[test]
 fn two_threads_make_200_events(rt: HostRuntime) -> Result<(), Fail> {
-    let events = two_threads_events::<Brand, _>(&rt, rt.alloc(), Blank::new(257))?;
+    let events = two_threads_events::<Brand, _>(&rt, rt.alloc(), Blank::new(PARTS))?;
     assert_eq!(rt; events, 200);
     Ok(())
 }
@@ -445,7 +447,7 @@ fn eight_threads_events<L: Ledger + Send + Sync, R: Threads + Wait + Sync>(
     blank: Blank,
 ) -> Result<usize, AllocError>
     requires name { blank.name ≡ L.name }
-    requires parts { (blank.parts ≡ L.parts) × (L.parts ≡ 257) }
+    requires parts { (blank.parts ≡ L.parts) × (L.parts ≡ limit_of_parts) }
 {
     let live = opened::<L, _>(rt, alloc, 1_000_000, blank)?;
     let seats = eight_threads(rt, alloc, &live)?;
@@ -455,7 +457,7 @@ fn eight_threads_events<L: Ledger + Send + Sync, R: Threads + Wait + Sync>(
 // The journal has each seat's calls and replies.
 #[test]
 fn eight_threads_make_80000_events(rt: HostRuntime) -> Result<(), Fail> {
-    let events = eight_threads_events::<Brand, _>(&rt, rt.alloc(), Blank::new(257))?;
+    let events = eight_threads_events::<Brand, _>(&rt, rt.alloc(), Blank::new(PARTS))?;
     assert_eq!(rt; events, 80_000);
     Ok(())
 }

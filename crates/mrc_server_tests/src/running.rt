@@ -1,17 +1,17 @@
 //! That the threads of a script run at once, and that a run with waits ends.
 
 ghost use Rattle.std.specs.Prelude.{◌≡◌, ◌≤◌, IfOk};
+ghost use Rattle.mrc_base.specs.Limits.{limit_of_events, limit_of_parts};
 ghost use Rattle.mrc_confine.specs.Guards.{wiring_in};
 ghost use Rattle.mrc_model.specs.First.{first};
 
 use crate::file_server::{CAREFUL, FILE_SERVER, NO_KERNEL_PORT, OF_CAREFUL};
-use mrc_base::{OrMemory, TaskId};
+use mrc_base::limits::PARTS;
+use mrc_base::{Gate, OrMemory, TaskId};
 use mrc_check::{Confined, check_texts};
 use mrc_confine::Guarded;
 use mrc_live::{Live, Seat};
-use mrc_report::{
-    Gate, LiveFault, Script, ServeFault, Served, Stopped, read_script, run_live, serve,
-};
+use mrc_report::{LiveFault, NotServed, Script, Served, Stopped, read_script, run_live, serve};
 use mrc_wiring::Wired;
 use std::alloc::{AllocError, Global};
 use std::marker::Brand;
@@ -107,7 +107,7 @@ fn opened<L: Ledger, R: Threads + Sync>(
     blank: Blank,
 ) -> Result<Live<L>, AllocError>
     requires name { blank.name ≡ L.name }
-    requires parts { (blank.parts ≡ L.parts) × (L.parts ≡ 257) }
+    requires parts { (blank.parts ≡ L.parts) × (L.parts ≡ limit_of_parts) }
 {
     let guarded = started(alloc, file_server(rt, alloc)?)?;
     match Live::<L>::new(alloc, guarded, 8, blank) {
@@ -122,7 +122,7 @@ fn ran<L: Ledger + Send + Sync, R: Threads + Wait + Sync>(
     alloc: Global,
     live: &Live<L>,
     gate: &Holding,
-) -> Result<Result<Vec<Seat<L>>, Stopped<L>>, AllocError> {
+) -> Result<Result<Vec<Seat<L>>, OrMemory<Stopped<L>>>, AllocError> {
     let script = script(alloc, live.confined().wired(), OPENS)?;
     Ok(run_live(rt, alloc, live, script, gate))
 }
@@ -156,7 +156,7 @@ fn run_new<L: Ledger + Send + Sync, R: Threads + Wait + Sync>(
     gate: &Holding,
 ) -> Result<usize, AllocError>
     requires name { blank.name ≡ L.name }
-    requires parts { (blank.parts ≡ L.parts) × (L.parts ≡ 257) }
+    requires parts { (blank.parts ≡ L.parts) × (L.parts ≡ limit_of_parts) }
 {
     run_files(rt, alloc, opened::<L, _>(rt, alloc, blank)?, gate)
 }
@@ -164,7 +164,7 @@ fn run_new<L: Ledger + Send + Sync, R: Threads + Wait + Sync>(
 #[test]
 fn threads_run_at_once(rt: HostRuntime) -> Result<(), Fail> {
     let gate = gate(false);
-    let events = run_new::<Brand, _>(&rt, rt.alloc(), Blank::new(257), &gate)?;
+    let events = run_new::<Brand, _>(&rt, rt.alloc(), Blank::new(PARTS), &gate)?;
     assert_eq!(rt; events, 8);
     assert!(rt; !gate.gave_up.load(Ordering::SeqCst));
     Ok(())
@@ -177,10 +177,10 @@ fn served<L: Ledger + Send + Sync, R: Threads + Wait + Sync>(
     text: &str,
     limit: usize,
     blank: Blank,
-) -> Result<Result<Served, OrMemory<ServeFault>>, AllocError>
-    requires limit { (1 ≤ limit) × (limit ≤ 1000000) }
+) -> Result<Result<Served, NotServed>, AllocError>
+    requires limit { (1 ≤ limit) × (limit ≤ limit_of_events) }
     requires name { blank.name ≡ L.name }
-    requires parts { (blank.parts ≡ L.parts) × (L.parts ≡ 257) }
+    requires parts { (blank.parts ≡ L.parts) × (L.parts ≡ limit_of_parts) }
 {
     let confined = file_server(rt, alloc)?;
     let script = script(alloc, confined.wired(), text)?;
@@ -188,12 +188,17 @@ fn served<L: Ledger + Send + Sync, R: Threads + Wait + Sync>(
 }
 
 /// What is told of it.
-fn told(alloc: Global, served: Result<Served, OrMemory<ServeFault>>) -> Result<String, AllocError> {
+fn told(alloc: Global, served: Result<Served, NotServed>) -> Result<String, AllocError> {
     match served {
         Ok(Served::Whole(text)) => Ok(text),
         Ok(Served::AllWait(text, _)) => Ok(text),
-        Err(OrMemory::Fault(fault)) => fault.to_string(alloc),
-        Err(OrMemory::Memory) => Err(AllocError),
+        Err(
+            NotServed {
+                fault: OrMemory::Fault(fault),
+                ..
+            },
+        ) => fault.to_string(alloc),
+        Err(_) => Err(AllocError),
     }
 }
 
@@ -204,7 +209,7 @@ fn too_many<L: Ledger + Send + Sync, R: Threads + Wait + Sync>(
     blank: Blank,
 ) -> Result<String, AllocError>
     requires name { blank.name ≡ L.name }
-    requires parts { (blank.parts ≡ L.parts) × (L.parts ≡ 257) }
+    requires parts { (blank.parts ≡ L.parts) × (L.parts ≡ limit_of_parts) }
 {
     let served = served::<L, _>(rt, alloc, "app names 1\napp names 1\n", 1, blank)?;
     told(alloc, served)
@@ -212,7 +217,7 @@ fn too_many<L: Ledger + Send + Sync, R: Threads + Wait + Sync>(
 
 #[test]
 fn a_journal_is_full(rt: HostRuntime) -> Result<(), Fail> {
-    let told = too_many::<Brand, _>(&rt, rt.alloc(), Blank::new(257))?;
+    let told = too_many::<Brand, _>(&rt, rt.alloc(), Blank::new(PARTS))?;
     assert_eq!(rt; told.as_str(), "JournalFull");
     Ok(())
 }
@@ -220,7 +225,7 @@ fn a_journal_is_full(rt: HostRuntime) -> Result<(), Fail> {
 /// What is told of it, with the lines that wait, if all do.
 fn waiting(
     alloc: Global,
-    served: Result<Served, OrMemory<ServeFault>>,
+    served: Result<Served, NotServed>,
 ) -> Result<(String, Vec<u32>), AllocError> {
     match served {
         Ok(Served::Whole(text)) => Ok((text, Vec::new(alloc))),
@@ -243,14 +248,14 @@ fn both_wait<L: Ledger + Send + Sync, R: Threads + Wait + Sync>(
     blank: Blank,
 ) -> Result<(String, Vec<u32>), AllocError>
     requires name { blank.name ≡ L.name }
-    requires parts { (blank.parts ≡ L.parts) × (L.parts ≡ 257) }
+    requires parts { (blank.parts ≡ L.parts) × (L.parts ≡ limit_of_parts) }
 {
     waiting(alloc, served::<L, _>(rt, alloc, BOTH_WAIT, 100, blank)?)
 }
 
 #[test]
 fn two_tasks_wait_for_each_other(rt: HostRuntime) -> Result<(), Fail> {
-    let (text, lines) = both_wait::<Brand, _>(&rt, rt.alloc(), Blank::new(257))?;
+    let (text, lines) = both_wait::<Brand, _>(&rt, rt.alloc(), Blank::new(PARTS))?;
     assert_eq!(rt; text.as_str(), "0 app name 3\nend events 1 ports 4\n");
     assert_eq!(rt; lines.as_slice(), [1, 4].as_slice());
     Ok(())
@@ -263,7 +268,7 @@ fn last_waits<L: Ledger + Send + Sync, R: Threads + Wait + Sync>(
     blank: Blank,
 ) -> Result<(String, Vec<u32>), AllocError>
     requires name { blank.name ≡ L.name }
-    requires parts { (blank.parts ≡ L.parts) × (L.parts ≡ 257) }
+    requires parts { (blank.parts ≡ L.parts) × (L.parts ≡ limit_of_parts) }
 {
     let script = "app allocate 1 receive\napp wait 3 40\n";
     waiting(alloc, served::<L, _>(rt, alloc, script, 100, blank)?)
@@ -271,7 +276,7 @@ fn last_waits<L: Ledger + Send + Sync, R: Threads + Wait + Sync>(
 
 #[test]
 fn the_last_line_waits(rt: HostRuntime) -> Result<(), Fail> {
-    let (text, lines) = last_waits::<Brand, _>(&rt, rt.alloc(), Blank::new(257))?;
+    let (text, lines) = last_waits::<Brand, _>(&rt, rt.alloc(), Blank::new(PARTS))?;
     assert_eq!(rt; text.as_str(), "0 app name 3\nend events 1 ports 4\n");
     assert_eq!(rt; lines.as_slice(), [2].as_slice());
     Ok(())
@@ -287,10 +292,7 @@ app send 13150000 5c000000 02000000 03000000 00000000 b80b0000 0c084010 \
 ";
 
 /// Whether the run of this script ended with three events, its second line waiting.
-fn waits_again(
-    alloc: Global,
-    served: Result<Served, OrMemory<ServeFault>>,
-) -> Result<bool, AllocError> {
+fn waits_again(alloc: Global, served: Result<Served, NotServed>) -> Result<bool, AllocError> {
     let (text, lines) = waiting(alloc, served)?;
     Ok(text.as_str().ends_with("end events 3 ports 4\n") && lines.as_slice() == [2].as_slice())
 }
@@ -302,7 +304,7 @@ fn run_again<L: Ledger + Send + Sync, R: Threads + Wait + Sync>(
     blank: Blank,
 ) -> Result<bool, AllocError>
     requires name { blank.name ≡ L.name }
-    requires parts { (blank.parts ≡ L.parts) × (L.parts ≡ 257) }
+    requires parts { (blank.parts ≡ L.parts) × (L.parts ≡ limit_of_parts) }
 {
     waits_again(alloc, served::<L, _>(rt, alloc, AGAIN, 100, blank)?)
 }
@@ -311,19 +313,19 @@ fn run_again<L: Ledger + Send + Sync, R: Threads + Wait + Sync>(
 #[test]
 fn a_wake_before_the_last_waits(rt: HostRuntime) -> Result<(), Fail> {
     for _ in 0..1000 {
-        assert!(rt; run_again::<Brand, _>(&rt, rt.alloc(), Blank::new(257))?);
+        assert!(rt; run_again::<Brand, _>(&rt, rt.alloc(), Blank::new(PARTS))?);
     }
     Ok(())
 }
 
-/// Makes so many seats, and lets them go.
+/// Makes so many seats, and drops them.
 fn take_seats<L: Ledger, R: Wait>(rt: &R, live: &Live<L>, count: u32) {
     for _ in 0..count {
         let _ = live.seat(rt, TaskId(0));
     }
 }
 
-/// Runs a script whose first task waits where there is one seat left. The fault, and how many seats
+/// Runs a script whose first task waits if there is one seat left. The fault, and how many seats
 /// come back.
 fn run_out<L: Ledger + Send + Sync, R: Threads + Wait + Sync>(
     rt: &R,
@@ -333,7 +335,8 @@ fn run_out<L: Ledger + Send + Sync, R: Threads + Wait + Sync>(
     take_seats(rt, live, 255);
     match ran(rt, alloc, live, &gate(true))? {
         Ok(_) => Ok(None),
-        Err(stopped) => Ok(Some((stopped.fault, stopped.seats.len()))),
+        Err(OrMemory::Fault(stopped)) => Ok(Some((stopped.fault, stopped.seats.len()))),
+        Err(OrMemory::Memory) => Err(AllocError),
     }
 }
 
@@ -344,14 +347,14 @@ fn run_out_new<L: Ledger + Send + Sync, R: Threads + Wait + Sync>(
     blank: Blank,
 ) -> Result<Option<(LiveFault, usize)>, AllocError>
     requires name { blank.name ≡ L.name }
-    requires parts { (blank.parts ≡ L.parts) × (L.parts ≡ 257) }
+    requires parts { (blank.parts ≡ L.parts) × (L.parts ≡ limit_of_parts) }
 {
     run_out(rt, alloc, &opened::<L, _>(rt, alloc, blank)?)
 }
 
 #[test]
 fn seats_run_out(rt: HostRuntime) -> Result<(), Fail> {
-    let stopped = run_out_new::<Brand, _>(&rt, rt.alloc(), Blank::new(257))?;
+    let stopped = run_out_new::<Brand, _>(&rt, rt.alloc(), Blank::new(PARTS))?;
     assert_eq!(rt; stopped, Some((LiveFault::TooManySeats, 1)));
     Ok(())
 }

@@ -1,13 +1,14 @@
 //! Servers of a task alone, and their seats.
 
 ghost use Rattle.std.specs.Prelude.{◌≡◌, ◌≤◌, IfOk, IfErr};
+ghost use Rattle.mrc_base.specs.Limits.{limit_of_events, limit_of_parts};
 ghost use Rattle.mrc_confine.specs.Guards.{wiring_in};
 ghost use Rattle.mrc_model.specs.First.{first};
 
 use mrc_base::{Right, TaskId};
 use mrc_check::{Confined, check_texts};
 use mrc_confine::Guarded;
-use mrc_live::{Live, NotReceived, NotTaken, Seat};
+use mrc_live::{Live, NotOpened, NotReceived, NotTaken, Seat};
 use mrc_machine::{Call, Reply};
 use std::alloc::{AllocError, Global};
 use std::sync::Wait;
@@ -85,19 +86,19 @@ pub(crate) fn machine(rt: &(impl Threads + Sync), alloc: Global) -> Result<Guard
     }
 }
 
-/// This machine behind a lock, with a journal of so many events. Where memory runs out the machine
-/// comes back.
+/// This machine behind a lock, with a journal of so many events. If memory runs out, machine and
+/// blank come back.
 pub(crate) fn locked<L: Ledger>(
     alloc: Global,
     guarded: Guarded,
     limit: usize,
     blank: Blank,
-) -> Result<Live<L>, Guarded>
-    requires limit { (1 ≤ limit) × (limit ≤ 1000000) }
+) -> Result<Live<L>, NotOpened>
+    requires limit { (1 ≤ limit) × (limit ≤ limit_of_events) }
     requires name { blank.name ≡ L.name }
-    requires parts { (blank.parts ≡ L.parts) × (L.parts ≡ 257) }
+    requires parts { (blank.parts ≡ L.parts) × (L.parts ≡ limit_of_parts) }
     requires first { guarded.world ≡ first (wiring_in guarded.confined) }
-    ensures returned { IfErr result (λ back. back ≡ guarded) }
+    ensures returned { IfErr result (λ back. (back.guarded ≡ guarded) × (back.blank ≡ blank)) }
 {
     Live::<L>::new(alloc, guarded, limit, blank)
 }
@@ -109,9 +110,9 @@ pub(crate) fn opened<L: Ledger, R: Threads + Sync>(
     limit: usize,
     blank: Blank,
 ) -> Result<Live<L>, AllocError>
-    requires limit { (1 ≤ limit) × (limit ≤ 1000000) }
+    requires limit { (1 ≤ limit) × (limit ≤ limit_of_events) }
     requires name { blank.name ≡ L.name }
-    requires parts { (blank.parts ≡ L.parts) × (L.parts ≡ 257) }
+    requires parts { (blank.parts ≡ L.parts) × (L.parts ≡ limit_of_parts) }
 {
     match locked::<L>(alloc, machine(rt, alloc)?, limit, blank) {
         Ok(live) => Ok(live),

@@ -1,8 +1,10 @@
 //! That a waiter wakes, and that a wait is stopped.
 
 ghost use Rattle.std.specs.Prelude.{◌≡◌, ◌≤◌};
+ghost use Rattle.mrc_base.specs.Limits.{limit_of_events, limit_of_parts};
 
 use crate::server::{TO_2, allocate, events, many, opened, send, told, told_waiting, two_seats};
+use mrc_base::limits::PARTS;
 use mrc_live::{Live, NotReceived, Seat};
 use mrc_machine::{Call, Reply};
 use std::alloc::{AllocError, Global};
@@ -79,16 +81,16 @@ fn wakes<L: Ledger + Send + Sync, R: Threads + Wait + Sync>(
     limit: usize,
     blank: Blank,
 ) -> Result<(End, usize), AllocError>
-    requires limit { (1 ≤ limit) × (limit ≤ 1000000) }
+    requires limit { (1 ≤ limit) × (limit ≤ limit_of_events) }
     requires name { blank.name ≡ L.name }
-    requires parts { (blank.parts ≡ L.parts) × (L.parts ≡ 257) }
+    requires parts { (blank.parts ≡ L.parts) × (L.parts ≡ limit_of_parts) }
 {
     wake(rt, alloc, opened::<L, _>(rt, alloc, limit, blank)?)
 }
 
 #[test]
 fn a_waiting_receive_wakes(rt: HostRuntime) -> Result<(), Fail> {
-    let woken = wakes::<Brand, _>(&rt, rt.alloc(), 2000, Blank::new(257))?;
+    let woken = wakes::<Brand, _>(&rt, rt.alloc(), 2000, Blank::new(PARTS))?;
     assert_eq!(rt; woken, (End::Message, 1003));
     Ok(())
 }
@@ -96,7 +98,7 @@ fn a_waiting_receive_wakes(rt: HostRuntime) -> Result<(), Fail> {
 // The message that the thread waits for is the last event of the journal.
 #[test]
 fn a_waiting_receive_wakes_to_a_full_journal(rt: HostRuntime) -> Result<(), Fail> {
-    let woken = wakes::<Brand, _>(&rt, rt.alloc(), 1002, Blank::new(257))?;
+    let woken = wakes::<Brand, _>(&rt, rt.alloc(), 1002, Blank::new(PARTS))?;
     assert_eq!(rt; woken, (End::JournalFull, 1002));
     Ok(())
 }
@@ -180,14 +182,14 @@ fn flag_stops<L: Ledger + Send + Sync, R: Threads + Wait + Sync>(
     blank: Blank,
 ) -> Result<bool, AllocError>
     requires name { blank.name ≡ L.name }
-    requires parts { (blank.parts ≡ L.parts) × (L.parts ≡ 257) }
+    requires parts { (blank.parts ≡ L.parts) × (L.parts ≡ limit_of_parts) }
 {
     stops(rt, &opened::<L, _>(rt, alloc, 2000, blank)?)
 }
 
 #[test]
 fn a_wait_is_stopped(rt: HostRuntime) -> Result<(), Fail> {
-    let stopped = flag_stops::<Brand, _>(&rt, rt.alloc(), Blank::new(257))?;
+    let stopped = flag_stops::<Brand, _>(&rt, rt.alloc(), Blank::new(PARTS))?;
     assert!(rt; stopped);
     Ok(())
 }
@@ -219,14 +221,14 @@ fn left_alone<L: Ledger + Send + Sync, R: Threads + Wait + Sync>(
     blank: Blank,
 ) -> Result<(bool, bool), AllocError>
     requires name { blank.name ≡ L.name }
-    requires parts { (blank.parts ≡ L.parts) × (L.parts ≡ 257) }
+    requires parts { (blank.parts ≡ L.parts) × (L.parts ≡ limit_of_parts) }
 {
     none_is_left(rt, alloc, &opened::<L, _>(rt, alloc, 2000, blank)?)
 }
 
 #[test]
 fn who_is_left_alone_is_stopped(rt: HostRuntime) -> Result<(), Fail> {
-    let told = left_alone::<Brand, _>(&rt, rt.alloc(), Blank::new(257))?;
+    let told = left_alone::<Brand, _>(&rt, rt.alloc(), Blank::new(PARTS))?;
     assert_eq!(rt; told, (true, true));
     Ok(())
 }

@@ -1,7 +1,7 @@
-use Rattle.std.proofs.Common.{◌≡◌, ◌+◌, MatchResult, None, vec_len, length, rules, sym, subst}
+use Rattle.std.proofs.Common.{◌≡◌, ◌+◌, MatchResult, vec_len, length, rules, sym, subst}
 use Rattle.std.specs.Vec.Iter.{into_iter_items}
 use Rattle.mrc_report.specs.Plays.{IsPlayed}
-use Rattle.mrc_report.proofs.Joining.{each_grown, each_first, each_later, from_both, played_later}
+use Rattle.mrc_report.proofs.Joining.{each_first, each_later, from_both, one_more}
 use Rattle.mrc_report.proofs.running.join_all.Goals as goal
 
 -- the first of the rest has ended with what it promised, and is one more of the seats
@@ -29,9 +29,7 @@ loop-one-preserved g c =
     (λ p this is. subst (λ q. IsPlayed done script q.seat q.halt) (sym is) this)
     keeps c.ended-seat.ensures in
     let next : vec_len c.push_reserved.new.self ≡ done + 1 = search rules in
-    let len : done ≡ length c.loop-one.seats.items = search rules in
-    let this_none : c.earlier-first.result ≡ None → end.halt ≡ None = search rules in
-    let that_none : c.earlier-first.result ≡ None → c.loop-one.first ≡ None = search rules in (
+    let len : done ≡ length c.loop-one.seats.items = search rules in (
       search rules,
       search rules,
       each_later (λ t x. MatchResult x
@@ -39,9 +37,8 @@ loop-one-preserved g c =
           (λ p. IsPlayed t script p.seat p.halt))
           done (vec_len c.push_reserved.new.self) one rest later c.in-Some.ensures.steps.0 was.2
           next,
-      each_grown (λ t s. IsPlayed t script s c.earlier-first.result) c.loop-one.seats.items
-          c.push_reserved.new.self.items end.seat done c.push_reserved.ensures.items len
-          (λ t s at. played_later t script s c.loop-one.first c.earlier-first.result that_none
-          (was.3 t s at))
-          (played_later done script end.seat end.halt c.earlier-first.result this_none played),
+      one_more script c.loop-one.seats.items c.push_reserved.new.self.items c.loop-one.first
+          c.earlier-first.result end.seat end.halt was.3
+          (subst (λ n. IsPlayed n script end.seat end.halt) len played)
+          c.push_reserved.ensures.items c.earlier-first.ensures,
     )

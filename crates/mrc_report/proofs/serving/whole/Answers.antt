@@ -7,18 +7,18 @@ use Rattle.mrc_report.proofs.JournalLaws.{is_live}
 use Rattle.mrc_report.proofs.serving.whole.Goals as goal
 
 -- what is printed is the journal of the server
-pub returns-in_ok-journal_of-in-Ok : goal.returns-in_ok-journal_of-in-Ok
-returns-in_ok-journal_of-in-Ok g c =
+pub returns-in-Ok-journal_of-clause-served : goal.returns-in-Ok-journal_of-clause-served
+returns-in-Ok-journal_of-clause-served g c =
     let live = c.args.live in
     let seats = c.args.seats.items in
     let done = c.in-Ok.ensures in
     let journal = c.in-Ok.journal in
     let world = c.in-Ok.guarded.world in
-    let text = string_bytes c.in_ok-journal_of-in-Ok.field-0 in
+    let text = string_bytes c.in-Ok-journal_of.text in
     let many : length seats ≡ (wiring_in live).tasks = search rules in
     let table = ap (λ (k : Case). k.claim.table) done.confined in
     let shown : text ≡ journal_text live.claim.table journal (len world.store.ports) =
-    c.in_ok-journal_of-in-Ok.ensures
+    c.in-Ok-journal_of.ensures
     ∙ (λ i. journal_text (table i) (c.events.ensures i) (len world.store.ports)) in
     is_live live c.args.script.now seats journal world text done.run done.parts done.owners
     done.apart c.requires.said many shown
