@@ -1,12 +1,12 @@
 -- From what clap says of its matches and errors to what the reader of a command line says.
-use Rattle.std.proofs.Common.{◌≡◌, ◌⊎◌, List, [], ◌∷◌, Option, true, sym, ◌∙◌, ap, ap₂, subst}
-use Rattle.std.proofs.Common.{codes, inl, inr, map, refl}
+use Rattle.std.proofs.Common.{◌≡◌, ◌⊎◌, List, [], Option, true, false, sym, ◌∙◌, ap, ap₂, subst, inl}
+use Rattle.std.proofs.Common.{inr, refl}
 use Rattle.std.specs.Prelude.{IsSomeAnd, unwrap_or}
 use Rattle.std.specs.Option.{option_map}
 use Rattle.clap.proofs.WalkLemmas.{raw_values-rows}
 use Rattle.clap.specs.Words.{App, Text, fault_of, IsAmong, HasMatchesOf, is_simple, rows_of}
-use Rattle.clap.specs.Words.{matched_of, raw_values, subcommand_rows_of, with_subcommand, with_rule}
-use Rattle.clap.specs.Words.{Rule}
+use Rattle.clap.specs.Words.{matched_of, raw_values, subcommand_of, subcommand_rows_of}
+use Rattle.clap.specs.Words.{with_subcommand, with_rule, Row, Rule}
 use Rattle.clap.specs.declared.parser.matches.ArgMatches.{ArgMatches}
 use Rattle.clap.specs.declared.parser.matches.Found.{Found}
 use Rattle.clap.specs.declared.error.kind.ErrorKind.{ErrorKind as ClapKind}
@@ -16,60 +16,42 @@ use Rattle.mrc_command.specs.declared.command.NoCommand.{NoCommand}
 use Rattle.mrc_command.specs.declared.command.NoCommand.TheVariants.{Told as TextTold}
 use Rattle.mrc_command.specs.declared.command.NoCommand.TheVariants.{Memory as NoMemory}
 use Rattle.mrc_command.specs.declared.command.Request.{Request}
-use Rattle.mrc_command.specs.CommandLine.{Choices, Formats, machcheck_app, IsMachcheck}
-use Rattle.mrc_command.specs.CommandLine.{AsksHelp, TellsError, IsNoCommand}
-use Rattle.mrc_command.specs.Meaning.{IsRequestOf, Means, all_values}
+use Rattle.mrc_command.specs.CommandLine.{machcheck_app, AsksHelp, TellsError, IsNoCommand}
+use Rattle.mrc_command.specs.Meaning.{IsBadFormatIfTold, IsRefusal, IsRequestOf, Means}
+use Rattle.mrc_command.specs.Meaning.{all_values, has_format}
 
--- these words, kept at the address 0
-abbrev kept : List Text → Choices
-kept words = record {
-  ref_ptr = (0, 0);
-  now = map (λ word. record { ref_ptr = (0, 0); now = word }) words;
-}
-
--- the lists of the words of `--format`, kept there
-abbrev pub kept_formats : Formats
-kept_formats = record {
-  reports = kept (codes "text" ∷ codes "json" ∷ codes "sarif" ∷ []);
-  answers = kept (codes "text" ∷ codes "json" ∷ []);
-  report_words = refl;
-  answer_words = refl;
-}
-
--- a kind that is not want of memory is among those of the program's own words
-among : (app : App) (words : List Text) (kind wanted : ClapKind) (formats : Formats)
-    → app ≡ machcheck_app formats
+-- a kind that is not out of memory is among those of the program's own words
+among : (app : App) (words : List Text) (kind wanted : ClapKind)
+    → app ≡ machcheck_app
     → (kind ≡ OutOfMemory) ⊎ IsAmong kind (fault_of app words)
     → kind ≡ wanted
     → (wanted ≡ OutOfMemory → ⊥)
-    → IsAmong wanted (fault_of (machcheck_app formats) words)
-among app words kind wanted formats same has is other = elim has [
+    → IsAmong wanted (fault_of machcheck_app words)
+among app words kind wanted same has is other = elim has [
   | inl memory ↦ absurd (other (sym is ∙ memory))
   | inr found ↦ subst (λ (a : App). IsAmong wanted (fault_of a words)) same
       (subst (λ (k : ClapKind). IsAmong k (fault_of app words)) is found)
 ]
 
-asks_help : (app : App) (words : List Text) (kind : ClapKind) (formats : Formats)
-    → app ≡ machcheck_app formats
+asks_help : (app : App) (words : List Text) (kind : ClapKind)
+    → app ≡ machcheck_app
     → (kind ≡ OutOfMemory) ⊎ IsAmong kind (fault_of app words)
     → (kind ≡ DisplayHelp) ⊎ (kind ≡ DisplayVersion)
     → AsksHelp words
-asks_help app words kind formats same has is = elim is [
-  | inl help ↦
-      (formats, inl (among app words kind DisplayHelp formats same has help (λ e. absurd cc)))
-  | inr version ↦
-      (formats, inr (among app words kind DisplayVersion formats same has version (λ e. absurd cc)))
+asks_help app words kind same has is = elim is [
+  | inl help ↦ inl (among app words kind DisplayHelp same has help (λ e. absurd cc))
+  | inr version ↦ inr (among app words kind DisplayVersion same has version (λ e. absurd cc))
 ]
 
 -- what is told of an error of clap is no command
 pub read_told : (app : App) (words : List Text) (kind : ClapKind) (result : NoCommand)
-    → IsMachcheck app
+    → app ≡ machcheck_app
     → (kind ≡ OutOfMemory) ⊎ IsAmong kind (fault_of app words)
     → TellsError kind result
     → IsNoCommand words result
 read_told app words kind NoMemory same has tells = tt
 read_told app words kind (TextTold told) same has tells = elim tells [
-  | inl asked ↦ inl (asked.0, asked.1, asks_help app words kind same.0 same.1 has asked.2)
+  | inl asked ↦ inl (asked.0, asked.1, asks_help app words kind same has asked.2)
   | inr fault ↦ inr fault
 ]
 
@@ -90,18 +72,52 @@ pub values_in_rows : (found : Found) (id : Text) (texts : Option (List Text))
 values_in_rows found id texts is =
     ap (λ (o : Option (List Text)). unwrap_or o []) (is ∙ raw_values-rows found id)
 
-simple : (formats : Formats) → is_simple (machcheck_app formats) ≡ true
-simple formats = refl
+simple : is_simple machcheck_app ≡ true
+simple = refl
 
--- the request of the subcommand that clap matched is what the words mean
+-- the subcommand that clap matched is that of the words
+pub matched : (app : App) (words : List Text) (matches : ArgMatches)
+    → app ≡ machcheck_app
+    → HasMatchesOf app words matches
+    → subcommand_rows_of matches ≡ subcommand_of machcheck_app words
+matched app words matches same has =
+    (subst (λ (a : App). HasMatchesOf a words matches) same has simple).1
+
+-- its request is what the words mean
 pub meaning : (app : App) (words : List Text) (matches : ArgMatches) (request : Request)
-    → IsMachcheck app
+    → app ≡ machcheck_app
     → HasMatchesOf app words matches
     → IsSomeAnd (subcommand_rows_of matches) (λ given. IsRequestOf given.0 given.1 request)
     → Means words request
 meaning app words matches request same has is =
-    let matched = subst (λ (a : App). HasMatchesOf a words matches) same.1 has (simple same.0) in (
-      same.0,
-      subst (λ (o : Option _). IsSomeAnd o (λ given. IsRequestOf given.0 given.1 request))
-          matched.1 is,
-    )
+    subst (λ (o : Option (Text × List Row)).
+    IsSomeAnd o (λ given. IsRequestOf given.0 given.1 request))
+    (matched app words matches same has) is
+
+-- its refusal is that of the words
+pub refused : (app : App) (words : List Text) (matches : ArgMatches) (none : NoCommand)
+    → app ≡ machcheck_app
+    → HasMatchesOf app words matches
+    → IsRefusal (subcommand_rows_of matches) none
+    → IsRefusal (subcommand_of machcheck_app words) none
+refused app words matches none same has is =
+    subst (λ (o : Option (Text × List Row)). IsRefusal o none) (matched app words matches same has)
+    is
+
+-- a refusal is no command
+pub no_command : (given : Option (Text × List Row)) (words : List Text) (none : NoCommand)
+    → IsRefusal given none → IsNoCommand words none
+no_command given words NoMemory is = tt
+no_command given words (TextTold told) is = inr (is.1.status, is.1.out)
+
+-- out of memory refuses any words
+pub memory_refuses : (given : Option (Text × List Row)) (none : NoCommand) → none ≡ NoMemory
+    → IsRefusal given none
+memory_refuses given none is = subst (λ (n : NoCommand). IsRefusal given n) (sym is) tt
+
+-- and a bad format refuses those that have one
+pub format_refuses : (given : Option (Text × List Row)) (none : NoCommand)
+    → IsSomeAnd given (λ asked. has_format asked.0 asked.1 ≡ false)
+    → IsBadFormatIfTold none → IsRefusal given none
+format_refuses given NoMemory other is = tt
+format_refuses given (TextTold told) other is = (other, is)

@@ -1,24 +1,20 @@
 -- What words of command lines mean, by computation.
-use Rattle.std.proofs.Common.{◌≡◌, true, false, List, [], ◌∷◌, Option, Some, None, codes, map}
+use Rattle.std.proofs.Common.{◌≡◌, Bool, true, false, List, [], ◌∷◌, Option, Some, None, codes, map}
 use Rattle.std.proofs.Common.{refl}
 use Rattle.std.specs.Option.{option_map}
-use Rattle.clap.specs.Words.{App, Row, Text, fault_of, first_of, subcommand_of, takes}
-use Rattle.clap.specs.declared.error.kind.ErrorKind.TheVariants.{ArgumentConflict, InvalidValue}
+use Rattle.clap.specs.Words.{Row, Text, fault_of, first_of, subcommand_of, takes}
+use Rattle.clap.specs.declared.error.kind.ErrorKind.TheVariants.{ArgumentConflict}
 use Rattle.clap.specs.declared.error.kind.ErrorKind.TheVariants.{UnknownArgument}
 use Rattle.clap.proofs.OnLiterals.{clap_on_literals}
 use Rattle.mrc_words.specs.Numbers.{number_of_word}
-use Rattle.mrc_command.proofs.CommandLaws.{kept_formats}
 use Rattle.mrc_command.specs.CommandLine.{machcheck_app}
-use Rattle.mrc_command.specs.Meaning.{all_values, format_given, has_flag, number_of}
-use Rattle.mrc_command.specs.Meaning.{number_if_given}
+use Rattle.mrc_command.specs.Meaning.{all_values, format_given, has_flag, has_format}
+use Rattle.mrc_command.specs.Meaning.{number_of, number_if_given}
 use Rattle.mrc_command.specs.declared.command.Format.TheVariants.{Text as Plain, Json, Sarif}
-
-abbrev app : App
-app = machcheck_app kept_formats
 
 -- the name of the subcommand, and what is read of its rows
 abbrev given : {T : Type 0} → (List Row → T) → List Text → Option (Text × T)
-given read words = option_map (λ asked. (asked.0, read asked.1)) (subcommand_of app words)
+given read words = option_map (λ asked. (asked.0, read asked.1)) (subcommand_of machcheck_app words)
 
 -- options and MIG files in any order, and a flag
 abbrev check_words : List Text
@@ -128,7 +124,7 @@ check_json : given format_given json_words ≡ Some (codes "check", Json)
 unfolding clap_on_literals
 check_json = refl
 
-json_taken : takes app json_words ≡ true
+json_taken : takes machcheck_app json_words ≡ true
 unfolding clap_on_literals
 json_taken = refl
 
@@ -142,13 +138,36 @@ unfolding clap_on_literals
 verify_sarif = refl
 
 -- only `verify` has this format
-verify_taken : takes app (sarif_words (codes "verify")) ≡ true
-unfolding clap_on_literals
-verify_taken = refl
+abbrev is_had : List Text → Option Bool
+is_had words = option_map (λ asked. has_format asked.0 asked.1) (subcommand_of machcheck_app words)
 
-mend_refused : fault_of app (sarif_words (codes "mend")) ≡ InvalidValue ∷ []
+verify_has : is_had (sarif_words (codes "verify")) ≡ Some true
 unfolding clap_on_literals
-mend_refused = refl
+verify_has = refl
+
+mend_has : is_had (sarif_words (codes "mend")) ≡ Some false
+unfolding clap_on_literals
+mend_has = refl
+
+-- `clap` takes such words
+mend_taken : takes machcheck_app (sarif_words (codes "mend")) ≡ true
+unfolding clap_on_literals
+mend_taken = refl
+
+-- no command has this one
+abbrev xml_words : List Text
+xml_words =
+    codes "machcheck" ∷ codes "verify" ∷ codes "--wiring" ∷ codes "w" ∷ codes "--policy"
+    ∷ codes "p" ∷ codes "--format" ∷ codes "xml" ∷ []
+
+verify_lacks : is_had xml_words ≡ Some false
+unfolding clap_on_literals
+verify_lacks = refl
+
+-- each has it if it is not named
+slots_has : is_had slots_words ≡ Some true
+unfolding clap_on_literals
+slots_has = refl
 
 -- it is not named
 verify_text : given format_given verify_words ≡ Some (codes "verify", Plain)
@@ -171,7 +190,7 @@ twice_words =
     codes "machcheck" ∷ codes "mig" ∷ codes "--format=json" ∷ codes "--out" ∷ codes "o"
     ∷ codes "--format=text" ∷ codes "a" ∷ []
 
-twice_refused : fault_of app twice_words ≡ ArgumentConflict ∷ []
+twice_refused : fault_of machcheck_app twice_words ≡ ArgumentConflict ∷ []
 unfolding clap_on_literals
 twice_refused = refl
 
@@ -180,6 +199,6 @@ abbrev slots_format : List Text
 slots_format =
     codes "machcheck" ∷ codes "slots" ∷ codes "--format=json" ∷ codes "--wiring" ∷ codes "w" ∷ []
 
-slots_refused : fault_of app slots_format ≡ UnknownArgument ∷ []
+slots_refused : fault_of machcheck_app slots_format ≡ UnknownArgument ∷ []
 unfolding clap_on_literals
 slots_refused = refl

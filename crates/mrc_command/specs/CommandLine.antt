@@ -1,8 +1,6 @@
 -- The command line that `clap` reads, and the words that it comes in. This profile's own choice.
 use Rattle.std.specs.Prelude.{◌≡◌, ◌⊎◌, ℕ, List, [], ◌∷◌, Some, true, codes, string_bytes, false}
-use Rattle.std.specs.Prelude.{map}
 use Rattle.std.specs.Prelude.{bytes_eq, if◌then◌else◌}
-use Rattle.std.specs.Borrow.{Bor}
 use Rattle.std.specs.declared.io.ErrorKind.{ErrorKind}
 use Rattle.std.specs.declared.io.ErrorKind.TheVariants.{InvalidData}
 use Rattle.clap.specs.Words.{App, Rule, Text, new_app, new_rule, with_rule, with_subcommand}
@@ -11,7 +9,7 @@ use Rattle.clap.specs.Simple.{on_top}
 use Rattle.clap.specs.declared.builder.command.Command.{Command}
 use Rattle.clap.specs.declared.builder.command.Command.TheViews.{out-Command}
 use Rattle.clap.specs.declared.builder.action.ArgAction.TheVariants.{Set, SetTrue, Append}
-use Rattle.clap.specs.declared.builder.value_parser.ValueParser.TheVariants.{Unsigned, Names}
+use Rattle.clap.specs.declared.builder.value_parser.ValueParser.TheVariants.{Unsigned}
 use Rattle.clap.specs.declared.error.kind.ErrorKind.{ErrorKind as ClapKind}
 use Rattle.clap.specs.declared.error.kind.ErrorKind.TheVariants.{DisplayHelp, DisplayVersion}
 use Rattle.mrc_command.specs.declared.words.WordsFault.{WordsFault}
@@ -55,25 +53,9 @@ workers_rule = record (free_rule (codes "workers")) {
   parser = Some (Unsigned 0 18446744073709551615);
 }
 
--- words that an option may have, as `clap` keeps them
-abbrev pub Choices : Type 0
-Choices = Bor (List (Bor Text))
-
--- which words these are
-abbrev pub chosen : Choices → List Text
-chosen choices = map (λ word. word.now) choices.now
-
--- The lists of the words that `--format` may have: that of `verify`, and that of other commands.
--- `clap` reads their words alone, and not where they are kept.
-pub record Formats : Type 0 where
-  pub reports : Choices
-  pub answers : Choices
-  pub report_words : chosen reports ≡ codes "text" ∷ codes "json" ∷ codes "sarif" ∷ []
-  pub answer_words : chosen answers ≡ codes "text" ∷ codes "json" ∷ []
-
--- how the answer is printed: `clap` refuses a word that is not of the list
-abbrev pub format_rule : Choices → Rule
-format_rule choices = record (free_rule (codes "format")) { parser = Some (Names choices) }
+-- how the answer is printed: `clap` takes any word
+abbrev pub format_rule : Rule
+format_rule = free_rule (codes "format")
 
 -- the MIG files: arguments without an option's name, as many as there are
 abbrev pub defs_rule : Rule
@@ -110,15 +92,15 @@ facts_of_app name = with_rule (wiring_app name) (free_rule (codes "cert"))
 
 -- `verify --wiring FILE --policy FILE [--tree] [--brief] [--line N] [--format FORMAT] [--verbose]
 -- [DEFS]...`
-abbrev pub verify_app : Choices → App
-verify_app choices = with_last (with_rules (policy_app (codes "verify"))
+abbrev pub verify_app : App
+verify_app = with_last (with_rules (policy_app (codes "verify"))
     (flag_rule (codes "tree") ∷ flag_rule (codes "brief") ∷ free_rule (codes "line")
-    ∷ format_rule choices ∷ []))
+    ∷ format_rule ∷ []))
 
 -- `mend --wiring FILE --policy FILE [--most N] [--format FORMAT] [--verbose] [DEFS]...`
-abbrev pub mend_app : Choices → App
-mend_app choices = with_last (with_rules (policy_app (codes "mend"))
-    (free_rule (codes "most") ∷ format_rule choices ∷ []))
+abbrev pub mend_app : App
+mend_app = with_last (with_rules (policy_app (codes "mend"))
+    (free_rule (codes "most") ∷ format_rule ∷ []))
 
 -- `attack --wiring FILE --policy FILE [--line N] [--most N] [--verbose] [DEFS]...`
 abbrev pub attack_app : App
@@ -126,9 +108,9 @@ attack_app = with_last (with_rules (policy_app (codes "attack"))
     (free_rule (codes "line") ∷ free_rule (codes "most") ∷ []))
 
 -- `check --wiring FILE --policy FILE --cert FILE [--format FORMAT] [--verbose] [DEFS]...`
-abbrev pub check_app : Choices → App
-check_app choices = with_last (with_rules (policy_app (codes "check"))
-    (file_rule (codes "cert") ∷ format_rule choices ∷ []))
+abbrev pub check_app : App
+check_app = with_last (with_rules (policy_app (codes "check"))
+    (file_rule (codes "cert") ∷ format_rule ∷ []))
 
 -- `make --wiring FILE --out FILE [--workers N] [--verbose] [DEFS]...`
 abbrev pub make_app : App
@@ -136,16 +118,16 @@ make_app = with_last (with_rules (wiring_app (codes "make"))
     (file_rule (codes "out") ∷ workers_rule ∷ []))
 
 -- `explain --wiring FILE --fact FACT [--by] [--format FORMAT] [--verbose] [DEFS]...`
-abbrev pub explain_app : Choices → App
-explain_app choices = with_last (with_rules (wiring_app (codes "explain"))
-    (file_rule (codes "fact") ∷ flag_rule (codes "by") ∷ format_rule choices ∷ []))
+abbrev pub explain_app : App
+explain_app = with_last (with_rules (wiring_app (codes "explain"))
+    (file_rule (codes "fact") ∷ flag_rule (codes "by") ∷ format_rule ∷ []))
 
 -- `facts --wiring FILE [--cert FILE] [--task TASK] [--class CLASS] [--right RIGHT]
 -- [--format FORMAT] [--verbose] [DEFS]...`
-abbrev pub facts_app : Choices → App
-facts_app choices = with_last (with_rules (facts_of_app (codes "facts"))
+abbrev pub facts_app : App
+facts_app = with_last (with_rules (facts_of_app (codes "facts"))
     (free_rule (codes "task") ∷ free_rule (codes "class") ∷ free_rule (codes "right")
-    ∷ format_rule choices ∷ []))
+    ∷ format_rule ∷ []))
 
 -- `graph --wiring FILE [--cert FILE] [--policy FILE] [--fact FACT] [--task TASK] [--holds]
 -- [--verbose] [DEFS]...`
@@ -172,10 +154,10 @@ live_app = with_last (with_rules (policy_app (codes "live"))
     (file_rule (codes "cert") ∷ file_rule (codes "script") ∷ []))
 
 -- `mig --out FOLDER [--strict] [--strict-rights] [--format FORMAT] [--verbose] FILE...`
-abbrev pub mig_app : Choices → App
-mig_app choices = with_rules (new_app (codes "mig"))
+abbrev pub mig_app : App
+mig_app = with_rules (new_app (codes "mig"))
     (file_rule (codes "out") ∷ flag_rule (codes "strict") ∷ flag_rule (codes "strict-rights")
-    ∷ format_rule choices ∷ verbose_rule ∷ given_defs_rule ∷ [])
+    ∷ format_rule ∷ verbose_rule ∷ given_defs_rule ∷ [])
 
 -- no option of the command holds for its subcommands too
 abbrev pub HasNoGlobals : Command → Type 0
@@ -198,33 +180,22 @@ with_commands app (command ∷ commands) =
     with_commands (with_subcommand app command.top) commands
 
 -- the program with the commands that answer what can come about
-abbrev pub answer_app : Choices → Choices → App
-answer_app reports answers = with_commands bare_app
-    (verify_app reports ∷ mend_app answers ∷ attack_app ∷ check_app answers ∷ [])
+abbrev pub answer_app : App
+answer_app = with_commands bare_app (verify_app ∷ mend_app ∷ attack_app ∷ check_app ∷ [])
 
 -- the same, and what speaks of facts
-abbrev pub fact_app : Choices → Choices → App
-fact_app reports answers = with_commands (answer_app reports answers)
-    (make_app ∷ explain_app answers ∷ facts_app answers ∷ graph_app ∷ [])
-
--- the program and its commands, with these lists of words of `--format`
-abbrev pub whole_app : Choices → Choices → App
-whole_app reports answers = with_commands (fact_app reports answers)
-    (slots_app ∷ promises_app ∷ replay_app ∷ live_app ∷ mig_app answers ∷ [])
+abbrev pub fact_app : App
+fact_app = with_commands answer_app (make_app ∷ explain_app ∷ facts_app ∷ graph_app ∷ [])
 
 -- the program and its commands
-abbrev pub machcheck_app : Formats → App
-machcheck_app formats = whole_app formats.reports formats.answers
-
--- what `clap` knows of a command line is the program and its commands
-abbrev pub IsMachcheck : App → Type 0
-IsMachcheck app = (formats : Formats) × (app ≡ machcheck_app formats)
+abbrev pub machcheck_app : App
+machcheck_app =
+    with_commands fact_app (slots_app ∷ promises_app ∷ replay_app ∷ live_app ∷ mig_app ∷ [])
 
 -- the words ask for help or for the version, as `clap` reads them; then they are no command
 abbrev pub AsksHelp : List Text → Type 0
-AsksHelp words = (formats : Formats)
-    × (IsAmong DisplayHelp (fault_of (machcheck_app formats) words)
-    ⊎ IsAmong DisplayVersion (fault_of (machcheck_app formats) words))
+AsksHelp words = IsAmong DisplayHelp (fault_of machcheck_app words)
+    ⊎ IsAmong DisplayVersion (fault_of machcheck_app words)
 
 -- what is printed of an error of `clap`: help and the version, with status 0, on standard output;
 -- all else, with status 2, on standard error; or it is out of memory

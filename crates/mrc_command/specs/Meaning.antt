@@ -2,14 +2,19 @@
 -- This profile's own choice. `clap` says which subcommand the words name, and which values they
 -- give to each of its options: a row for each option that has a value.
 use Rattle.std.specs.Prelude.{◌≡◌, ◌&&◌, ℕ, Bool, true, false, List, [], ◌∷◌, Option, Some, None}
-use Rattle.std.specs.Prelude.{map}
+use Rattle.std.specs.Prelude.{map, string_bytes}
 use Rattle.std.specs.Prelude.{codes, bytes_eq, unwrap_or, is_some, if◌then◌else◌, IsSomeAnd}
 use Rattle.std.specs.List.{list_any}
 use Rattle.std.specs.Option.{option_map, option_map_or}
 use Rattle.clap.specs.Words.{Row, Text, all_of, first_of, found_of, rows_of, subcommand_of}
 use Rattle.clap.specs.declared.parser.matches.ArgMatches.{ArgMatches}
 use Rattle.mrc_words.specs.Numbers.{number_of_word}
-use Rattle.mrc_command.specs.CommandLine.{Formats, machcheck_app}
+use Rattle.mrc_command.specs.CommandLine.{machcheck_app}
+use Rattle.mrc_command.specs.Lines.{fault_line}
+use Rattle.mrc_command.specs.declared.command.NoCommand.{NoCommand}
+use Rattle.mrc_command.specs.declared.command.NoCommand.TheVariants.{Told as TextTold}
+use Rattle.mrc_command.specs.declared.command.NoCommand.TheVariants.{Memory as NoMemory}
+use Rattle.mrc_command.specs.declared.told.Told.{Told}
 use Rattle.mrc_command.specs.declared.command.Command.{Command}
 use Rattle.mrc_command.specs.declared.command.Command.TheVariants.{Case, Mig}
 use Rattle.mrc_command.specs.declared.command.FileNames.{FileNames}
@@ -46,6 +51,18 @@ number_of usual (Some text) = unwrap_or (number_of_word text) 0
 abbrev pub number_if_given : Option Text → Option ℕ
 number_if_given None = None
 number_if_given (Some text) = Some (unwrap_or (number_of_word text) 0)
+
+-- the words that `--format` may have, of the subcommand of this name
+abbrev pub format_words : Text → List Text
+format_words name =
+    if bytes_eq name (codes "verify") then codes "text" ∷ codes "json" ∷ codes "sarif" ∷ []
+    else codes "text" ∷ codes "json" ∷ []
+
+-- whether its `--format` has one of them, or is not given
+abbrev pub has_format : Text → List Row → Bool
+has_format name rows =
+    option_map_or (λ given. list_any (λ word. bytes_eq word given) (format_words name))
+    (first_of (codes "format") rows) true
 
 -- the format that a word names, if one is given: text if it names none
 abbrev pub format_of : Option Text → Format
@@ -141,16 +158,38 @@ IsCommandOf name rows (Case files question) =
 IsCommandOf name rows (Mig files) = (name ≡ codes "mig") × AsksMig rows files
 
 -- what a subcommand of this name asks for with these options: its command, and whether the place
--- of a fault is shown
-abbrev pub IsRequestOf : Text → List Row → Request → Type 0
-IsRequestOf name rows request =
-    IsCommandOf name rows request.command × (request.verbose ≡ has_flag (codes "verbose") rows)
+-- of a fault is shown; the format is one that it has
+pub record IsRequestOf (name : Text) (rows : List Row) (request : Request) : Type 0 where
+  pub command : IsCommandOf name rows request.command
+  pub verbose : request.verbose ≡ has_flag (codes "verbose") rows
+  pub format : has_format name rows ≡ true
 
 -- the words mean the request: it is that of the subcommand and the options that they give
 abbrev pub Means : List Text → Request → Type 0
-Means words request = (formats : Formats)
-    × IsSomeAnd (subcommand_of (machcheck_app formats) words)
-    (λ given. IsRequestOf given.0 given.1 request)
+Means words request =
+    IsSomeAnd (subcommand_of machcheck_app words) (λ given. IsRequestOf given.0 given.1 request)
+
+-- the line of a word of `--format` that is none of the subcommand's
+abbrev pub format_line : List ℕ
+format_line = fault_line (codes "--format") (codes "BadFormat")
+
+-- this line is printed, and nothing else
+pub record IsBadFormat (told : Told) : Type 0 where
+  pub status : told.status ≡ 2
+  pub out : string_bytes told.out ≡ []
+  pub err : string_bytes told.err ≡ format_line
+
+-- it is printed, or memory ran out
+abbrev pub IsBadFormatIfTold : NoCommand → Type 0
+IsBadFormatIfTold (TextTold told) = IsBadFormat told
+IsBadFormatIfTold NoMemory = Unit {0}
+
+-- What is returned instead of a command for this subcommand with its options: that the word of
+-- `--format` is none that it has, only if that is so; or that memory ran out.
+abbrev pub IsRefusal : Option (Text × List Row) → NoCommand → Type 0
+IsRefusal given (TextTold told) =
+    IsSomeAnd given (λ asked. has_format asked.0 asked.1 ≡ false) × IsBadFormat told
+IsRefusal given NoMemory = Unit {0}
 
 -- the subcommand that asks a question
 abbrev pub question_word : Question → List ℕ

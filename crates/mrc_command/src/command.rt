@@ -3,16 +3,17 @@
 ghost use Rattle.std.specs.Prelude.{◌≡◌, ◌∷◌, codes, Some, true, map, string_bytes, IfErr, IfOk};
 ghost use Rattle.std.specs.Prelude.{IfSome, IsSomeAnd};
 ghost use Rattle.std.specs.Option.{option_map};
-ghost use Rattle.clap.specs.Words.{first_of, kind_of, subcommand_rows_of, takes};
+ghost use Rattle.clap.specs.Words.{first_of, kind_of, subcommand_of, subcommand_rows_of, takes};
 ghost use Rattle.clap.specs.declared.error.kind.ErrorKind.TheVariants.{OutOfMemory};
-ghost use Rattle.mrc_command.specs.CommandLine.{IsNoCommand, TellsError, Formats, machcheck_app};
+ghost use Rattle.mrc_command.specs.CommandLine.{IsNoCommand, TellsError, machcheck_app};
 ghost use Rattle.mrc_command.specs.Meaning.{all_values, has_flag, number_of, number_if_given};
 ghost use Rattle.mrc_command.specs.Meaning.{strictness_of, format_of, format_given, rows};
 ghost use Rattle.mrc_command.specs.Meaning.{NamesFiles, IsShowing, Asks};
 ghost use Rattle.mrc_command.specs.Meaning.{has_files, AsksMig, IsCommandOf, IsRequestOf, Means};
+ghost use Rattle.mrc_command.specs.Meaning.{has_format, IsBadFormat, IsBadFormatIfTold, IsRefusal};
 
 use crate::options::whole_command;
-use crate::told::Told;
+use crate::told::{Told, fault_of};
 use clap::error::ErrorKind;
 use clap::{ArgMatches, Error};
 use mrc_words::number_of_word;
@@ -162,7 +163,7 @@ pub struct MigFiles<'a> {
 /// Why there is no command to run.
 #[derive(Drop)]
 pub enum NoCommand {
-    /// What `clap` prints: help, the version, or what is wrong with the words.
+    /// What is printed: help, the version, or what is wrong with the words.
     Told(Told),
     /// Out of memory.
     Memory,
@@ -489,14 +490,38 @@ fn command_of<'a>(
     case_asked(alloc, name, matches)
 }
 
+/// Whether the word of `--format`, if it is given, is one that the command of this name has.
+fn has_format(name: &str, matches: &ArgMatches<'_>) -> bool
+    ensures { result ≡ has_format name.now (rows matches.now) }
+{
+    match value_given(matches, "format") {
+        Some("text" | "json") | None => true,
+        Some("sarif") => name == "verify",
+        Some(_) => false,
+    }
+}
+
+/// What is printed of a word of `--format` that is none of the command's.
+fn bad_format(alloc: Global) -> NoCommand
+    ensures { IsBadFormatIfTold result }
+{
+    match fault_of(alloc, "--format", "BadFormat") {
+        Ok(told) => NoCommand::Told(told),
+        Err(AllocError) => NoCommand::Memory,
+    }
+}
+
 fn request_of<'a>(alloc: Global, matches: &ArgMatches<'a>) -> Result<Request<'a>, NoCommand>
     ensures request { IfOk result (λ request. IsSomeAnd (subcommand_rows_of matches.now)
         (λ given. IsRequestOf given.0 given.1 request)) }
-    ensures none { IfErr result (λ none. none ≡ NoCommand.Memory) }
+    ensures none { IfErr result (IsRefusal (subcommand_rows_of matches.now)) }
 {
     let Some((name, matches)) = matches.subcommand() else {
         return Err(NoCommand::Memory);
     };
+    if !has_format(name, matches) {
+        return Err(bad_format(alloc));
+    }
     let verbose = has_flag(matches, "verbose");
     let command = command_of(alloc, name, matches)?;
     Ok(Request { command, verbose })
@@ -506,9 +531,8 @@ fn request_of<'a>(alloc: Global, matches: &ArgMatches<'a>) -> Result<Request<'a>
 pub fn read(alloc: Global, words: &[String]) -> Result<Request<'_>, NoCommand>
     ensures command { IfOk result (Means (map string_bytes words.now)) }
     ensures none { IfErr result (IsNoCommand (map string_bytes words.now)) }
-    ensures taken { (formats : Formats)
-        × (takes (machcheck_app formats) (map string_bytes words.now) ≡ true
-        → IfErr result (λ none. none ≡ NoCommand.Memory)) }
+    ensures taken { takes machcheck_app (map string_bytes words.now) ≡ true
+        → IfErr result (IsRefusal (subcommand_of machcheck_app (map string_bytes words.now))) }
 {
     let command = whole_command(alloc)?;
     let matches = match command.try_get_matches_from(words) {

@@ -39,7 +39,8 @@ Exit status:
   1  NO, with the first reason: the certificate lacks what can come about, another task
      could rewrite a trusted one, or the certificate has what the policy forbids
   2  a fault on standard error, as `machcheck: FILE: FAULT`: a file can't be read or has
-     no meaning, the command line is wrong, the output was not taken, or memory ran out
+     no meaning, --format is not text or json (BadFormat), the command line is wrong, the
+     output was not taken, or memory ran out
 
 Read on in README.md, and in docs/ARCHITECTURE.md.";
 
@@ -80,8 +81,8 @@ Exit status:
   0  a chain was printed
   1  `none` was printed: the fact is not in the least certificate
   2  a fault on standard error, as `machcheck: FILE: FAULT`: a file can't be read or has no
-     meaning, the text of the fact names none of the wiring (BadFact), the command line is
-     wrong, the output was not taken, or memory ran out
+     meaning, the text of the fact names none of the wiring (BadFact), --format is not text or
+     json (BadFormat), the command line is wrong, the output was not taken, or memory ran out
 
 Read on in README.md, and in docs/ARCHITECTURE.md.";
 
@@ -158,7 +159,8 @@ Exit status:
      steps that lead there
   2  a fault on standard error, as `machcheck: FILE: FAULT`: a file can't be read or has
      no meaning, --line is not a number from 1 to 4294967295 (BadLine) or that line is not
-     broken (NotBroken), the command line is wrong, the output was not taken, or memory ran out
+     broken (NotBroken), --format is not text, json or sarif (BadFormat), the command line is
+     wrong, the output was not taken, or memory ran out
 
 Read on in README.md, and in docs/ARCHITECTURE.md.";
 
@@ -185,8 +187,8 @@ Exit status:
   0  changes were printed, or YES: nothing has to be changed
   1  `none` was printed: no such changes were found
   2  a fault on standard error, as `machcheck: FILE: FAULT`: a file can't be read or has
-     no meaning, --most is not a number from 1 to 1000000 (BadMost), the command line is wrong,
-     the output was not taken, or memory ran out
+     no meaning, --most is not a number from 1 to 1000000 (BadMost), --format is not text or
+     json (BadFormat), the command line is wrong, the output was not taken, or memory ran out
 
 Read on in README.md, and in docs/ARCHITECTURE.md.";
 
@@ -241,7 +243,8 @@ Exit status:
   1  `NO counts` was printed: the certificate is not of this wiring
   2  a fault on standard error, as `machcheck: FILE: FAULT`: a file can't be read or has
      no meaning, --task, --class or --right names none of the wiring (BadTask, BadClass,
-     BadRight), the command line is wrong, the output was not taken, or memory ran out
+     BadRight), --format is not text or json (BadFormat), the command line is wrong, the output
+     was not taken, or memory ran out
 
 Read on in README.md, and in docs/ARCHITECTURE.md.";
 
@@ -332,7 +335,7 @@ Exit status:
   0  the files were written: of one of them at least a routine is read
   2  no routine is read, or --strict or --strict=rights refuses one that is left out: nothing was
      written; or a fault on standard error, as `machcheck: FILE: FAULT`: a file can't be read,
-     can't be cut or was not taken, two files have one name (SameName), the command line is wrong,
-     or memory ran out
+     can't be cut or was not taken, two files have one name (SameName), --format is not text or
+     json (BadFormat), the command line is wrong, or memory ran out
 
 Read on in README.md, and in docs/MIG.md.";

@@ -9,23 +9,17 @@ ghost use Rattle.mrc_command.specs.CommandLine.{policy_app, facts_of_app, verify
 ghost use Rattle.mrc_command.specs.CommandLine.{attack_app, check_app, make_app, explain_app};
 ghost use Rattle.mrc_command.specs.CommandLine.{facts_app, graph_app, slots_app, promises_app};
 ghost use Rattle.mrc_command.specs.CommandLine.{replay_app, live_app, mig_app, bare_app};
-ghost use Rattle.mrc_command.specs.CommandLine.{answer_app, fact_app, whole_app, format_rule};
-ghost use Rattle.mrc_command.specs.CommandLine.{IsMachcheck, chosen};
+ghost use Rattle.mrc_command.specs.CommandLine.{answer_app, fact_app, machcheck_app, format_rule};
 
 use crate::help::{
     ATTACK_HELP, CHECK_HELP, EXPLAIN_HELP, FACTS_HELP, GRAPH_HELP, LIVE_HELP, MAKE_HELP, MEND_HELP,
     MIG_HELP, PROGRAM_HELP, PROMISES_HELP, REPLAY_HELP, SLOTS_HELP, VERIFY_HELP,
 };
-use clap::builder::ValueParser;
 use clap::{Arg, ArgAction, value_parser};
 use std::alloc::{AllocError, Global};
 
 /// The help of `--verbose`, if it means no more.
 const VERBOSE: &str = "Shows where a fault is, and what may help to mend it";
-
-static ANSWERS: [&str; 2] = ["text", "json"];
-
-static REPORTS: [&str; 3] = ["text", "json", "sarif"];
 
 /// The help of `--format`.
 const FORMAT: &str = "How the answer is printed: text, or json for one JSON object";
@@ -33,20 +27,6 @@ const FORMAT: &str = "How the answer is printed: text, or json for one JSON obje
 /// That of `verify`.
 const REPORT_FORMAT: &str =
     "How the answer is printed: text, json for one JSON object, or sarif for a code host";
-
-/// The words of `--format`.
-fn answer_words<'a>() -> &'a [&'a str]
-    ensures { chosen result ≡ codes "text" ∷ codes "json" ∷ [] }
-{
-    ANSWERS.as_slice()
-}
-
-/// Those of `verify`.
-fn report_words<'a>() -> &'a [&'a str]
-    ensures { chosen result ≡ codes "text" ∷ codes "json" ∷ codes "sarif" ∷ [] }
-{
-    REPORTS.as_slice()
-}
 
 /// An option that has to be given, with one value.
 fn value_option<'a>(alloc: Global, name: &'a str, value: &'a str, help: &'a str) -> Arg<'a>
@@ -112,12 +92,12 @@ fn workers_option<'a>(alloc: Global) -> Arg<'a>
     .value_parser(value_parser!(usize))
 }
 
-/// How the answer is printed: these are the words that it may have.
-fn format_option<'a>(alloc: Global, choices: &'a [&'a str], help: &'a str) -> Arg<'a>
-    ensures rule { rule_of result ≡ format_rule choices.entry }
+/// How the answer is printed. `read` refuses a word that the command does not have.
+fn format_option<'a>(alloc: Global, help: &'a str) -> Arg<'a>
+    ensures rule { rule_of result ≡ format_rule }
     ensures local { result.global ≡ false }
 {
-    free_option(alloc, "format", "FORMAT", help).value_parser(ValueParser::Names(choices))
+    free_option(alloc, "format", "FORMAT", help)
 }
 
 fn defs_arguments<'a>(alloc: Global) -> Arg<'a>
@@ -261,24 +241,21 @@ fn with_layout<'a>(
     with(command, line)
 }
 
-fn verify_command<'a>(
-    alloc: Global,
-    choices: &'a [&'a str],
-) -> Result<clap::Command<'a>, AllocError>
-    ensures app { IfOk result (λ command. app_of command ≡ verify_app choices.entry) }
+fn verify_command<'a>(alloc: Global) -> Result<clap::Command<'a>, AllocError>
+    ensures app { IfOk result (λ command. app_of command ≡ verify_app) }
     ensures local { IfOk result HasNoGlobals }
 {
     let about = "Says whether a forbidden right can be obtained, and how";
     let command = policy_command(alloc, "verify", about, VERIFY_HELP)?;
     let command = with_layout(alloc, command)?;
-    let format = format_option(alloc, choices, REPORT_FORMAT);
+    let format = format_option(alloc, REPORT_FORMAT);
     let command = with(command, format)?;
     let help = "Prints the text of each broken line too, and shows where a fault is";
     with_last(alloc, command, help)
 }
 
-fn mend_command<'a>(alloc: Global, choices: &'a [&'a str]) -> Result<clap::Command<'a>, AllocError>
-    ensures app { IfOk result (λ command. app_of command ≡ mend_app choices.entry) }
+fn mend_command<'a>(alloc: Global) -> Result<clap::Command<'a>, AllocError>
+    ensures app { IfOk result (λ command. app_of command ≡ mend_app) }
     ensures local { IfOk result HasNoGlobals }
 {
     let about = "Looks for changes of a wiring after which no forbidden right can be obtained";
@@ -290,7 +267,7 @@ fn mend_command<'a>(alloc: Global, choices: &'a [&'a str]) -> Result<clap::Comma
         "How many mends are printed, 1 to 1000000: 10 if it is not given",
     );
     let command = with(command, most)?;
-    let command = with(command, format_option(alloc, choices, FORMAT))?;
+    let command = with(command, format_option(alloc, FORMAT))?;
     with_last(alloc, command, VERBOSE)
 }
 
@@ -317,14 +294,14 @@ fn attack_command<'a>(alloc: Global) -> Result<clap::Command<'a>, AllocError>
     with_last(alloc, command, VERBOSE)
 }
 
-fn check_command<'a>(alloc: Global, choices: &'a [&'a str]) -> Result<clap::Command<'a>, AllocError>
-    ensures app { IfOk result (λ command. app_of command ≡ check_app choices.entry) }
+fn check_command<'a>(alloc: Global) -> Result<clap::Command<'a>, AllocError>
+    ensures app { IfOk result (λ command. app_of command ≡ check_app) }
     ensures local { IfOk result HasNoGlobals }
 {
     let about = "Says whether a certificate shows that no forbidden right can be obtained";
     let command = policy_command(alloc, "check", about, CHECK_HELP)?;
     let command = with(command, certificate_option(alloc))?;
-    let command = with(command, format_option(alloc, choices, FORMAT))?;
+    let command = with(command, format_option(alloc, FORMAT))?;
     let help = "Says what to do with a certificate of another wiring, and shows where a fault is";
     with_last(alloc, command, help)
 }
@@ -341,11 +318,8 @@ fn make_command<'a>(alloc: Global) -> Result<clap::Command<'a>, AllocError>
     with_last(alloc, command, VERBOSE)
 }
 
-fn explain_command<'a>(
-    alloc: Global,
-    choices: &'a [&'a str],
-) -> Result<clap::Command<'a>, AllocError>
-    ensures app { IfOk result (λ command. app_of command ≡ explain_app choices.entry) }
+fn explain_command<'a>(alloc: Global) -> Result<clap::Command<'a>, AllocError>
+    ensures app { IfOk result (λ command. app_of command ≡ explain_app) }
     ensures local { IfOk result HasNoGlobals }
 {
     let about = "Shows how a fact comes to be in the least certificate of a wiring";
@@ -354,7 +328,7 @@ fn explain_command<'a>(
     let command = with(command, fact)?;
     let by = flag(alloc, "by", "Tells where the steps come from in the files");
     let command = with(command, by)?;
-    let command = with(command, format_option(alloc, choices, FORMAT))?;
+    let command = with(command, format_option(alloc, FORMAT))?;
     with_last(alloc, command, VERBOSE)
 }
 
@@ -376,14 +350,14 @@ fn with_parts<'a>(
     with(command, right)
 }
 
-fn facts_command<'a>(alloc: Global, choices: &'a [&'a str]) -> Result<clap::Command<'a>, AllocError>
-    ensures app { IfOk result (λ command. app_of command ≡ facts_app choices.entry) }
+fn facts_command<'a>(alloc: Global) -> Result<clap::Command<'a>, AllocError>
+    ensures app { IfOk result (λ command. app_of command ≡ facts_app) }
     ensures local { IfOk result HasNoGlobals }
 {
     let about = "Prints the facts of a certificate, or of the least one of a wiring";
     let command = facts_of_command(alloc, "facts", about, FACTS_HELP)?;
     let command = with_parts(alloc, command)?;
-    let command = with(command, format_option(alloc, choices, FORMAT))?;
+    let command = with(command, format_option(alloc, FORMAT))?;
     with_last(alloc, command, VERBOSE)
 }
 
@@ -516,15 +490,15 @@ fn with_strictness<'a>(
     with(command, strict_rights)
 }
 
-fn mig_command<'a>(alloc: Global, choices: &'a [&'a str]) -> Result<clap::Command<'a>, AllocError>
-    ensures app { IfOk result (λ command. app_of command ≡ mig_app choices.entry) }
+fn mig_command<'a>(alloc: Global) -> Result<clap::Command<'a>, AllocError>
+    ensures app { IfOk result (λ command. app_of command ≡ mig_app) }
     ensures local { IfOk result HasNoGlobals }
 {
     let command = clap::Command::new(alloc, "mig")
         .about("Cuts MIG files of a system to files that can be read")
         .after_help(MIG_HELP);
     let command = with_strictness(alloc, command)?;
-    let command = with(command, format_option(alloc, choices, FORMAT))?;
+    let command = with(command, format_option(alloc, FORMAT))?;
     with_given(alloc, command)
 }
 
@@ -555,53 +529,32 @@ fn bare_command<'a>(alloc: Global) -> clap::Command<'a>
 }
 
 /// The program with the commands that answer what can come about.
-fn answer_commands<'a>(
-    alloc: Global,
-    reports: &'a [&'a str],
-    answers: &'a [&'a str],
-) -> Result<clap::Command<'a>, AllocError>
-    ensures { IfOk result (λ program. app_of program ≡ answer_app reports.entry answers.entry) }
+fn answer_commands<'a>(alloc: Global) -> Result<clap::Command<'a>, AllocError>
+    ensures { IfOk result (λ program. app_of program ≡ answer_app) }
 {
-    let program = with_command(bare_command(alloc), verify_command(alloc, reports)?)?;
-    let program = with_command(program, mend_command(alloc, answers)?)?;
+    let program = with_command(bare_command(alloc), verify_command(alloc)?)?;
+    let program = with_command(program, mend_command(alloc)?)?;
     let program = with_command(program, attack_command(alloc)?)?;
-    with_command(program, check_command(alloc, answers)?)
+    with_command(program, check_command(alloc)?)
 }
 
 /// The same with the commands that speak of facts.
-fn fact_commands<'a>(
-    alloc: Global,
-    reports: &'a [&'a str],
-    answers: &'a [&'a str],
-) -> Result<clap::Command<'a>, AllocError>
-    ensures { IfOk result (λ program. app_of program ≡ fact_app reports.entry answers.entry) }
+fn fact_commands<'a>(alloc: Global) -> Result<clap::Command<'a>, AllocError>
+    ensures { IfOk result (λ program. app_of program ≡ fact_app) }
 {
-    let program = answer_commands(alloc, reports, answers)?;
-    let program = with_command(program, make_command(alloc)?)?;
-    let program = with_command(program, explain_command(alloc, answers)?)?;
-    let program = with_command(program, facts_command(alloc, answers)?)?;
+    let program = with_command(answer_commands(alloc)?, make_command(alloc)?)?;
+    let program = with_command(program, explain_command(alloc)?)?;
+    let program = with_command(program, facts_command(alloc)?)?;
     with_command(program, graph_command(alloc)?)
-}
-
-/// The program and its commands, with these lists of words of `--format`.
-fn all_commands<'a>(
-    alloc: Global,
-    reports: &'a [&'a str],
-    answers: &'a [&'a str],
-) -> Result<clap::Command<'a>, AllocError>
-    ensures { IfOk result (λ program. app_of program ≡ whole_app reports.entry answers.entry) }
-{
-    let program = fact_commands(alloc, reports, answers)?;
-    let program = with_command(program, slots_command(alloc)?)?;
-    let program = with_command(program, promises_command(alloc)?)?;
-    let program = with_command(program, replay_command(alloc)?)?;
-    let program = with_command(program, live_command(alloc)?)?;
-    with_command(program, mig_command(alloc, answers)?)
 }
 
 /// The program and its commands.
 pub(crate) fn whole_command<'a>(alloc: Global) -> Result<clap::Command<'a>, AllocError>
-    ensures { IfOk result (λ program. IsMachcheck (app_of program)) }
+    ensures { IfOk result (λ program. app_of program ≡ machcheck_app) }
 {
-    all_commands(alloc, report_words(), answer_words())
+    let program = with_command(fact_commands(alloc)?, slots_command(alloc)?)?;
+    let program = with_command(program, promises_command(alloc)?)?;
+    let program = with_command(program, replay_command(alloc)?)?;
+    let program = with_command(program, live_command(alloc)?)?;
+    with_command(program, mig_command(alloc)?)
 }

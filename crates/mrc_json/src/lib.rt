@@ -9,8 +9,6 @@ mod faults;
 mod lines;
 mod mends;
 mod objects;
-#[cfg(test)]
-mod tests;
 mod verdicts;
 
 pub use chains::{chain_json, none_json};

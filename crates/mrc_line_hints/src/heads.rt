@@ -15,7 +15,7 @@ use std::alloc::{AllocError, Global};
 
 /// What a text is: a wiring or a policy.
 #[derive(Clone, Copy, Debug, PartialEq, Eq)]
-pub(crate) enum Role {
+pub enum Role {
     /// A wiring.
     Wiring,
     /// A policy.

@@ -11,6 +11,7 @@ mod parts;
 mod walks;
 mod ways;
 
+pub use heads::Role;
 pub use hints::{policy_line_hint, wiring_line_hint};
 
 #[cfg(test)]

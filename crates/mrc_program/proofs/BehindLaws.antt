@@ -3,7 +3,8 @@ use Rattle.std.proofs.Common.{◌≡◌, ◌⊎◌, ◌∙◌, ℕ, Bool, true, 
 use Rattle.std.proofs.Common.{ap, inl, inr, subst, sym}
 use Rattle.std.specs.Prelude.{None, IfErr, IfOk, String}
 use Rattle.std.specs.declared.alloc.Global.{Global}
-use Rattle.mrc_check.specs.Texts.{Meaningless}
+use Rattle.mrc_check.specs.declared.faults.CaseFault.{CaseFault}
+use Rattle.mrc_check.specs.Texts.{meaningless}
 use Rattle.mrc_command.specs.declared.command.FileNames.{FileNames}
 use Rattle.mrc_command.specs.declared.told.Told.{Told}
 use Rattle.mrc_files.specs.declared.streams.ReadFault.{ReadFault}
@@ -14,6 +15,7 @@ use Rattle.mrc_program.specs.declared.behind.Help.{Help}
 use Rattle.mrc_program.specs.Behind.{all_meant, IsFailure, IsHelp, IsHelpIfAny, IsMade, IsNoHelp}
 use Rattle.mrc_program.specs.Behind.{IsNoteAlone, IsTextOf, IsUnreadHelp}
 use Rattle.mrc_program.specs.Files.{Files}
+use Rattle.mrc_program.specs.Places.{IsHintFor}
 use Rattle.mrc_program.specs.Texts.{file_of}
 use Rattle.mrc_program.specs.Told.{IsFaultOf, UnreadTold}
 
@@ -49,20 +51,23 @@ uncut_made wanted file (Ok help) made asked are same none = elim are [
 
 -- a hint helps with the fault of the first text without a meaning, by the line of its file
 pub help_made : {E : Type 0} (live : Bool) (files : Files) (names : FileNames)
-    (line file : List ℕ) (fault : Meaningless) (result : Result Help E)
-    → all_meant live files.texts ≡ Err fault
+    (line file : List ℕ) (fault : CaseFault) (hint : Hint) (result : Result Help E)
+    → all_meant live files.texts ≡ Err (meaningless fault)
     → names ≡ files.names
-    → file ≡ file_of names fault
+    → file ≡ file_of names (meaningless fault)
     → IsFaultOf file line
+    → IsHintFor live files fault hint
+    → IfOk result (λ help. help.hint ≡ hint)
     → IfOk result (IsTextOf file)
     → IfOk result (λ help. IsNoHelp help ⊎ IsHelp live files line help)
-help_made live files names line file fault (Err e) first same is of_file made = tt
-help_made live files names line file fault (Ok help) first same is of_file made =
-    let so = is ∙ ap (λ n. file_of n fault) same in
+help_made live files names line file fault hint (Err e) first same is of_file helps has made = tt
+help_made live files names line file fault hint (Ok help) first same is of_file helps has made =
+    let so = is ∙ ap (λ n. file_of n (meaningless fault)) same in
     inr record {
       fault = fault;
       first = first;
       of_file = subst (λ f. IsFaultOf f line) so of_file;
+      hint = subst (IsHintFor live files fault) (sym has) helps;
       is = subst (λ f. IsTextOf f help) so made;
     }
 

@@ -16,6 +16,7 @@ use Rattle.mrc_base.specs.declared.memory.OrMemory.TheVariants.{Fault, Memory}
 use Rattle.mrc_base.specs.Reading.{UnlessMemory}
 use Rattle.mrc_files.specs.declared.streams.WriteFault.{WriteFault}
 use Rattle.mrc_files.specs.Files.{Held, HasBytes, AreHeld}
+use Rattle.mrc_files.proofs.FileLaws.{zip_more}
 use Rattle.mrc_mig_cut.specs.declared.routine.LeftOut.{LeftOut}
 use Rattle.mrc_command.specs.Lines.{fault_line, shown}
 use Rattle.mrc_command.specs.declared.told.Told.{Told}
@@ -41,14 +42,6 @@ pub in_parts : {X : Type 0} (xs : List X) (i : ℕ) (d : X)
     → xs ≡ take i xs ++ get_or xs i d ∷ drop (i + 1) xs
 in_parts xs i d less =
     sym (take-append-drop i xs) ∙ ap (λ rest. take i xs ++ rest) (next_left xs i d less)
-
--- what holds of two lists place by place, and of what stands behind them, holds of the whole
-pub zip_more : {A B : Type 0} (R : A → B → Type 0) (xs us : List A) (ys vs : List B)
-    → AllZip R xs ys → AllZip R us vs → AllZip R (xs ++ us) (ys ++ vs)
-zip_more R [] us [] vs h more = more
-zip_more R [] us (y ∷ ys) vs h more = absurd h
-zip_more R (x ∷ xs) us [] vs h more = absurd h
-zip_more R (x ∷ xs) us (y ∷ ys) vs h more = (h.0, zip_more R xs us ys vs h.1 more)
 
 -- a list and one more, seen by a function
 pub map_more : {X Y : Type 0} (f : X → Y) (xs : List X) (i : ℕ) (d : X)

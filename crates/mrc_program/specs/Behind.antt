@@ -6,7 +6,8 @@ use Rattle.std.specs.Prelude.{Option, Some, None, Result, Ok, Err, codes, string
 use Rattle.std.specs.declared.alloc.Global.{Global}
 use Rattle.mrc_base.specs.Reading.{◌>>=◌}
 use Rattle.mrc_certificate.specs.Reading.{draft_from}
-use Rattle.mrc_check.specs.Texts.{Meant, Meaningless, InCertificate, stated_by}
+use Rattle.mrc_check.specs.declared.faults.CaseFault.{CaseFault}
+use Rattle.mrc_check.specs.Texts.{Meant, Meaningless, InCertificate, meaningless, stated_by}
 use Rattle.mrc_command.specs.declared.command.Command.{Command}
 use Rattle.mrc_command.specs.declared.command.Command.TheVariants.{Case, Mig}
 use Rattle.mrc_command.specs.declared.command.Format.{Format}
@@ -27,6 +28,7 @@ use Rattle.mrc_program.specs.declared.behind.Help.{Help}
 use Rattle.mrc_program.specs.Commands.{seen}
 use Rattle.mrc_program.specs.Files.{Files, OfFiles, Texts}
 use Rattle.mrc_program.specs.Hints.{hint_text}
+use Rattle.mrc_program.specs.Places.{IsHintFor}
 use Rattle.mrc_program.specs.Texts.{file_of, script, system}
 use Rattle.mrc_program.specs.Told.{IsFaultOf}
 
@@ -73,12 +75,14 @@ abbrev pub IsTextOf : List ℕ → Help → Type 0
 IsTextOf file help = string_bytes help.text ≡ hint_text file help.hint
 
 -- It helps with the fault of which this is the line: the first text without a meaning is that of
--- the file that the line names, and the text of the hint has the name of this file.
+-- the file that the line names, the hint is that of its fault, and the text of the hint has the
+-- name of this file.
 pub record IsHelp (live : Bool) (files : Files) (line : List ℕ) (help : Help) : Type 0 where
-  pub fault : Meaningless
-  pub first : all_meant live files.texts ≡ Err fault
-  pub of_file : IsFaultOf (file_of files.names fault) line
-  pub is : IsTextOf (file_of files.names fault) help
+  pub fault : CaseFault
+  pub first : all_meant live files.texts ≡ Err (meaningless fault)
+  pub of_file : IsFaultOf (file_of files.names (meaningless fault)) line
+  pub hint : IsHintFor live files fault help.hint
+  pub is : IsTextOf (file_of files.names (meaningless fault)) help
 
 -- the hint is a sentence and nothing else
 pub record IsNoteAlone (hint : Hint) : Type 0 where

@@ -110,8 +110,8 @@ abbrev pub NoOf : Held → Command → Told → Type 0
 NoOf held (Case names question) told = OfFiles (No question) held names told
 NoOf held (Mig files) told = ⊥
 
--- with status 2: memory ran out, a word is none that can be, a file can't be read, or what the files
--- hold has a fault
+-- with status 2: memory ran out, a word is none that can be, a file can't be read, or what the
+-- files hold has a fault
 abbrev pub FaultOf : Held → Command → Told → Type 0
 FaultOf held (Case names question) told =
     ToldMemory told ⊎ (BadWord question told

@@ -46,7 +46,8 @@ all_names names =
     defs_names names ++ (names.wiring.now ∷ (names_if_given names.policy
     ++ (names_if_given names.certificate ++ names_if_given names.script)))
 
--- the text is that of the file, so far as that is known; there is one if and only if a file is named
+-- the text is that of the file, so far as that is known; there is one if and only if a file is
+-- named
 abbrev pub IsHeld : Held → Option (List ℕ) → Option (List ℕ) → Type 0
 IsHeld held None None = Unit {0}
 IsHeld held None (Some text) = ⊥

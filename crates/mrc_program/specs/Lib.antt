@@ -20,5 +20,6 @@ pub mod Attacked
 pub mod VerifiedLaws
 pub mod Cutting
 pub mod Commands
+pub mod Places
 pub mod Behind
 pub mod FaultObjects

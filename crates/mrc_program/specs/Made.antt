@@ -3,6 +3,7 @@
 use Rattle.std.specs.Prelude.{◌≡◌, ◌⊎◌, ◌<◌, ℕ, List, [], ◌++◌, Result, Ok, IfOk, IsOkAnd, codes}
 use Rattle.std.specs.Prelude.{decimal, length, take, string_bytes}
 use Rattle.std.specs.declared.alloc.AllocError.{AllocError}
+use Rattle.mrc_base.specs.Limits.{limit_of_workers}
 use Rattle.mrc_base.specs.declared.memory.OrMemory.{OrMemory}
 use Rattle.mrc_base.specs.declared.memory.OrMemory.TheVariants.{Fault, Memory}
 use Rattle.mrc_base.specs.Reading.{◌>>=◌}
@@ -73,7 +74,7 @@ ToldCut file after files told = OfWiring (OfLeast (ToldPart file after)) files.t
 
 -- it is printed that there can't be so many workers
 pub record ToldWorkers (workers : ℕ) (told : Told) : Type 0 where
-  pub count : (workers ≡ 0) ⊎ (64 < workers)
+  pub count : (workers ≡ 0) ⊎ (limit_of_workers < workers)
   pub is : ToldWord (codes "--workers") (codes "Workers") told
 
 -- it is printed why no certificate was written: the file did not take it, or there can't be so many

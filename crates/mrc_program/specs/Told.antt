@@ -46,8 +46,8 @@ pub record ToldUnread (held : Held) (files : List (List ℕ)) (told : Told) : Ty
   pub first : IsFirstUnread held files file
   pub is : ToldFile file told
 
--- A fault is printed of what texts mean, and it is right: one of them has no meaning, and the file of
--- the first such is named.
+-- A fault is printed of what texts mean, and it is right: one of them has no meaning, and the file
+-- of the first such is named.
 pub record ToldFault {X : Type 0} (made : Result X Meaningless) (names : FileNames) (told : Told)
     : Type 0 where
   pub fault : Meaningless

@@ -122,7 +122,8 @@ fn hint_behind(
     if !is_line_of(alloc, file, fault, line)? {
         return Ok(no_help(alloc));
     }
-    match hint_of(alloc, files, live, fault)? {
+    let hint = hint_of(alloc, files, live, fault)?;
+    match hint {
         Some(hint) => help_of(alloc, file, hint),
         None => Ok(no_help(alloc)),
     }

@@ -6,7 +6,6 @@ ghost use Rattle.std.specs.List.{list_any, count_by};
 ghost use Rattle.mrc_mig_cut.specs.Carrying.{carries};
 ghost use Rattle.std.specs.Option.{option_map};
 ghost use Rattle.mrc_base.specs.Reading.{UnlessMemory};
-ghost use Rattle.mrc_files.specs.Paths.{name};
 ghost use Rattle.mrc_program.specs.Cutting.{is_named_so, same_name, IsCutTo, IsNoFile, AreCuts};
 ghost use Rattle.mrc_program.specs.Cutting.{IsFirstUncut, left_text, left_line, left_lines};
 ghost use Rattle.mrc_program.specs.Cutting.{carries_text, before_text, carrying_count};
@@ -18,6 +17,7 @@ ghost use Rattle.mrc_program.specs.Cutting.{count_text, reason_text, routine_tex
 use crate::left_notices::carriers_text;
 use mrc_base::OrMemory;
 use mrc_command::{Format, Strictness, shown};
+use mrc_files::name_of;
 use mrc_json::{NamedCut, cuts_json};
 use mrc_mig_cut::{Carried, CutFault, CutFile, LeftOut, carried_text, cut};
 use std::alloc::{AllocError, Global};
@@ -27,16 +27,6 @@ use std::alloc::{AllocError, Global};
 pub struct Uncut<'a> {
     pub file: &'a str,
     pub fault: CutFault,
-}
-
-/// The name of a file, behind the last slash of its path.
-pub fn name_of(path: &str) -> &str
-    ensures { result.now ≡ name path.now }
-{
-    match path.rsplit_once('/') {
-        Some((_, name)) => name,
-        None => path,
-    }
 }
 
 /// Whether one of these files has the name of the file.

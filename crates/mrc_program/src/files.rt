@@ -4,7 +4,8 @@ ghost use Rattle.std.specs.Prelude.{◌≡◌, IfOk, IfErr};
 ghost use Rattle.std.specs.List.{All};
 ghost use Rattle.std.specs.Option.{option_map};
 ghost use Rattle.mrc_files.specs.Files.{AreHeld, Exceeds, Fits, IsFirstUnread};
-ghost use Rattle.mrc_program.specs.Files.{given, word_of, names_if_given, all_names, IsHeld, AreRead};
+ghost use Rattle.mrc_program.specs.Files.{given, word_of, names_if_given, all_names, IsHeld};
+ghost use Rattle.mrc_program.specs.Files.{AreRead};
 
 use mrc_command::FileNames;
 use mrc_files::{Folder, ReadFault, Unread, bytes_of, bytes_of_all};

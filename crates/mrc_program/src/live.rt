@@ -1,6 +1,7 @@
 //! What the program prints of a certificate and of a script whose tasks run as threads.
 
 ghost use Rattle.std.specs.Prelude.{false, ◌≡◌, ◌≤◌, ◌⊎◌, [], IfOk, string_bytes};
+ghost use Rattle.mrc_base.specs.Limits.{limit_of_events};
 ghost use Rattle.mrc_command.specs.Lines.{fault_line};
 ghost use Rattle.mrc_command.specs.declared.command.Format.TheVariants as formats;
 ghost use Rattle.mrc_report.specs.Printing.{waits_text};
@@ -16,25 +17,16 @@ use crate::files::Files;
 use crate::script::script_said;
 use crate::tell::unaccepted_told;
 use crate::told::refused;
-use mrc_base::OrMemory;
+use mrc_base::limits::PARTS;
+use mrc_base::{Open, OrMemory};
 use mrc_check::Confined;
 use mrc_command::{FileNames, Format, Told, fault_of, memory, said};
-use mrc_report::{Gate, Script, ServeFault, Served, serve, waits_text};
+use mrc_report::{NotServed, Script, ServeFault, Served, serve, waits_text};
 use std::alloc::{AllocError, Global};
 use std::marker::Brand;
 use std::sync::Wait;
 use std::sync::ledger::Blank;
 use std::thread::Threads;
-
-/// The most events of a journal of the program's own runs.
-pub const EVENTS: usize = 1_000_000;
-
-/// Threads enter at once.
-pub(crate) struct Open;
-
-impl Gate for Open {
-    fn enter(&self, _number: usize) {}
-}
 
 /// The file of the script.
 fn script_name<'a>(names: &FileNames<'a>) -> &'a str
@@ -51,10 +43,13 @@ fn served<R: Threads + Wait + Sync>(
     script: Script,
     limit: usize,
 ) -> Result<Served, OrMemory<ServeFault>>
-    requires limit { (1 ≤ limit) × (limit ≤ 1000000) }
+    requires limit { (1 ≤ limit) × (limit ≤ limit_of_events) }
     ensures { IfOk result (IsServed confined.claim.table script) }
 {
-    serve::<Brand, _, _>(rt, alloc, confined, script, limit, Blank::new(257), &Open)
+    match serve::<Brand, _, _>(rt, alloc, confined, script, limit, Blank::new(PARTS), &Open) {
+        Ok(served) => Ok(served),
+        Err(NotServed { fault, .. }) => Err(fault),
+    }
 }
 
 /// What is printed if all tasks that have lines left wait: the journal so far, and the lines.
@@ -87,7 +82,7 @@ fn run_told<R: Threads + Wait + Sync>(
     script: Script,
     limit: usize,
 ) -> Result<Told, AllocError>
-    requires limit { (1 ≤ limit) × (limit ≤ 1000000) }
+    requires limit { (1 ≤ limit) × (limit ≤ limit_of_events) }
     ensures status { IfOk result (λ told. (told.status ≡ 0) ⊎ (told.status ≡ 2)) }
     ensures done { IfOk result (λ told. told.status ≡ 0
         → ToldRun confined.claim.table script told) }
@@ -114,7 +109,7 @@ fn confined_told<R: Threads + Wait + Sync>(
     limit: usize,
 ) -> Result<Told, AllocError>
     requires accepted { AreAccepted files.now.texts confined }
-    requires limit { (1 ≤ limit) × (limit ≤ 1000000) }
+    requires limit { (1 ≤ limit) × (limit ≤ limit_of_events) }
     ensures status { IfOk result (λ told. (told.status ≡ 0) ⊎ (told.status ≡ 2)) }
     ensures done { IfOk result (λ told. told.status ≡ 0 → ToldLive files.now told) }
     ensures fault { IfOk result (λ told. told.status ≡ 2 → ToldMemory told
@@ -141,7 +136,7 @@ pub fn live_told<R: Threads + Wait + Sync>(
     files: &Files<'_>,
     limit: usize,
 ) -> Result<Told, AllocError>
-    requires limit { (1 ≤ limit) × (limit ≤ 1000000) }
+    requires limit { (1 ≤ limit) × (limit ≤ limit_of_events) }
     ensures status { IfOk result (λ told. told.status ≤ 2) }
     // A journal is right.
     ensures done { IfOk result (λ told. told.status ≡ 0 → ToldLive files.now told) }

@@ -12,22 +12,17 @@ ghost use Rattle.mrc_program.specs.Texts.{system};
 ghost use Rattle.mrc_program.specs.Told.{ToldFault, ToldFile, ToldMemory};
 
 use crate::files::Files;
-use crate::live::Open;
 use crate::told::{refused, room_for_line, write_failed};
-use mrc_base::OrMemory;
+use mrc_base::{Open, OrMemory};
 use mrc_certificate::{Draft, write_draft};
 use mrc_check::{CaseFault, System};
-use mrc_closure::{Gate, MakeFault, make};
+use mrc_closure::{MakeFault, make};
 use mrc_command::{Told, fault_of, memory, said};
 use mrc_files::{Folder, WriteFault};
 use mrc_wiring::Wired;
 use std::alloc::{AllocError, Global};
 use std::sync::Wait;
 use std::thread::Threads;
-
-impl Gate for Open {
-    fn enter(&self, _worker: usize) {}
-}
 
 /// What is printed if the file did not take a certificate, in a line that has room for that. It
 /// takes no memory to print how many bytes the file took.

@@ -1,5 +1,9 @@
 //! What helps with a fault of a text, by the text's role.
 
+ghost use Rattle.std.specs.Prelude.{IfOk, IfSome};
+ghost use Rattle.mrc_program.specs.Places.{IsCallsHint, IsClaimHint, IsHintFor, IsHintOfFile};
+ghost use Rattle.mrc_program.specs.Places.{IsNamesHint, IsPolicyHint, IsWiringHint};
+
 use crate::files::{Files, Texts};
 use mrc_check::{CaseFault, PolicyFault, WiringFault};
 use mrc_interface::{DefsFault, FileFault, LexFault, ParseFault, read_interfaces};
@@ -15,7 +19,10 @@ use std::alloc::{AllocError, Global};
 use std::str;
 
 /// What helps with a fault of a MIG file.
-fn defs_hint(alloc: Global, texts: &Texts, fault: &FileFault) -> Result<Option<Hint>, AllocError> {
+fn defs_hint(alloc: Global, texts: &Texts, fault: &FileFault) -> Result<Option<Hint>, AllocError>
+    ensures { IfOk result (λ hint.
+        IfSome hint (IsHintOfFile texts.now.defs fault.now.file fault.now.fault)) }
+{
     let Some(bytes) = texts.defs.get(fault.file) else {
         return Ok(None);
     };
@@ -28,7 +35,9 @@ fn wiring_names_hint(
     alloc: Global,
     files: &Files<'_>,
     fault: ResolveFault,
-) -> Result<Option<Hint>, AllocError> {
+) -> Result<Option<Hint>, AllocError>
+    ensures { IfOk result (λ hint. IfSome hint (IsNamesHint files.now fault)) }
+{
     let Ok(text) = str::from_utf8(files.texts.wiring.as_slice()) else {
         return Ok(None);
     };
@@ -45,7 +54,9 @@ fn wiring_hint(
     alloc: Global,
     files: &Files<'_>,
     fault: &WiringFault,
-) -> Result<Option<Hint>, AllocError> {
+) -> Result<Option<Hint>, AllocError>
+    ensures { IfOk result (λ hint. IfSome hint (IsWiringHint files.now fault.now)) }
+{
     match fault {
         WiringFault::Text(fault) => {
             let hint = wiring_line_hint(alloc, files.texts.wiring.as_slice(), *fault)?;
@@ -64,7 +75,9 @@ fn policy_names_hint(
     alloc: Global,
     texts: &Texts,
     fault: ClaimFault,
-) -> Result<Option<Hint>, AllocError> {
+) -> Result<Option<Hint>, AllocError>
+    ensures { IfOk result (λ hint. IfSome hint (IsClaimHint texts.now fault)) }
+{
     let Ok(text) = str::from_utf8(texts.policy()) else {
         return Ok(None);
     };
@@ -76,11 +89,9 @@ fn policy_names_hint(
 }
 
 /// What helps with a fault of the policy.
-fn policy_hint(
-    alloc: Global,
-    texts: &Texts,
-    fault: PolicyFault,
-) -> Result<Option<Hint>, AllocError> {
+fn policy_hint(alloc: Global, texts: &Texts, fault: PolicyFault) -> Result<Option<Hint>, AllocError>
+    ensures { IfOk result (λ hint. IfSome hint (IsPolicyHint texts.now fault)) }
+{
     match fault {
         PolicyFault::Text(fault) => {
             let hint = policy_line_hint(alloc, texts.policy(), fault)?;
@@ -96,7 +107,9 @@ fn script_text_hint(
     texts: &Texts,
     live: bool,
     fault: TextFault,
-) -> Result<Option<Hint>, AllocError> {
+) -> Result<Option<Hint>, AllocError>
+    ensures { IfOk result (λ hint. IfSome hint (IsCallsHint live texts.now fault)) }
+{
     let Ok(lines) = read_wiring(alloc, texts.wiring.as_slice()) else {
         return Ok(None);
     };
@@ -111,7 +124,9 @@ pub fn hint_of(
     files: &Files<'_>,
     live: bool,
     fault: &CaseFault,
-) -> Result<Option<Hint>, AllocError> {
+) -> Result<Option<Hint>, AllocError>
+    ensures { IfOk result (λ hint. IfSome hint (IsHintFor live files.now fault.now)) }
+{
     match fault {
         CaseFault::Defs(fault) => defs_hint(alloc, &files.texts, fault),
         CaseFault::Wiring(fault) => wiring_hint(alloc, files, fault),

@@ -7,8 +7,8 @@ use std::io::Write;
 const FIRST: usize = 16;
 
 /// Prints on standard error how many wirings were judged, or how many states were looked at for all
-/// lines of a policy, if that is a terminal: after the first 16, and then each time their number has
-/// doubled.
+/// lines of a policy, if that is a terminal: after the first 16, and then each time their number
+/// has doubled.
 #[derive(Drop)]
 pub(crate) struct Counter<'a, E: Write> {
     pub(crate) err: &'a mut E,

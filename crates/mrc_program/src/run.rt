@@ -19,7 +19,7 @@ use crate::explain::explain_told;
 use crate::facts::facts_told;
 use crate::files::{Files, texts_of};
 use crate::graph::graph_told;
-use crate::live::{EVENTS, live_told};
+use crate::live::live_told;
 use crate::make::make_told;
 use crate::mend::{mend_told, most_told};
 use crate::mig::mig_files;
@@ -29,6 +29,7 @@ use crate::promises::promises_told;
 use crate::replay::replay_told;
 use crate::slots::slots_told;
 use crate::verify::verify_told;
+use mrc_base::limits::EVENTS;
 use mrc_command::{
     Command, FileNames, NoCommand, Question, Showing, Told, WordsFault, asked_format, command_word,
     memory, read, words_line,

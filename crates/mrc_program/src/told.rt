@@ -1,5 +1,5 @@
-//! What is printed of files that can't be read, of texts without a meaning, and of files that do not
-//! take all bytes.
+//! What is printed of files that can't be read, of texts without a meaning, and of files that do
+//! not take all bytes.
 
 ghost use Rattle.std.specs.Prelude.{◌≡◌, ◌≤◌, ◌+◌, [], ◌++◌, IfOk, codes, decimal, length};
 ghost use Rattle.mrc_check.specs.Texts.{meaningless};

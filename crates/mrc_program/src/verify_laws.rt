@@ -4,8 +4,8 @@ ghost use Rattle.mrc_program.specs.VerifiedLaws.{AllowedIsSafe, BrokenHasNoYes};
 ghost use Rattle.mrc_program.specs.VerifiedLaws.{UnattackedIsSafe, AttackedHasNoYes};
 
 /// If `verify` prints a yes of files, in any format, the texts that they hold mean a claim, and no
-/// list of calls from the first state of their wiring ends in a breach of their policy. If it prints
-/// the lines that are broken, no certificate is accepted for these texts.
+/// list of calls from the first state of their wiring ends in a breach of their policy. If it
+/// prints the lines that are broken, no certificate is accepted for these texts.
 pub fn verified_files_are_so()
     ensures safe { AllowedIsSafe }
     ensures no { BrokenHasNoYes }

@@ -8,11 +8,10 @@ ghost use Rattle.mrc_command.specs.Lines.{shown};
 ghost use Rattle.mrc_program.specs.Cutting.{writing_of, AreWritten, IsStopped, refusal_line};
 ghost use Rattle.mrc_program.specs.Cutting.{HasRoom, ToldWritings, ToldRefusal};
 
-use crate::cuts::name_of;
 use crate::told::add_refusal;
 use mrc_base::OrMemory;
 use mrc_command::{Told, shown};
-use mrc_files::{Folder, WriteFault};
+use mrc_files::{Folder, WriteFault, name_of};
 use mrc_json::NamedCut;
 use std::alloc::{AllocError, Global};
 use std::marker::Model;

@@ -127,9 +127,9 @@ fn best_of(wired: &Wired, counts: &BTreeMap<Fact, usize>, broken: &[Broken]) -> 
     found
 }
 
-/// The fact that is in the chains of most of these lines, of two at least: a hold that no line which
-/// makes a task or a port gives, and that no step of K2 or K3 concludes. Of several it is the last in
-/// the first chain that has one.
+/// The fact that is in the chains of most of these lines, of two at least: a hold that no line
+/// which makes a task or a port gives, and that no step of K2 or K3 concludes. Of several it is the
+/// last in the first chain that has one.
 pub fn common_of(
     alloc: Global,
     wired: &Wired,

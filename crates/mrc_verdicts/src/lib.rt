@@ -1,5 +1,5 @@
-//! What is printed of a broken policy: each `NO` with its chain or without it, with the line that it
-//! is about, and first the fact that most chains have in common.
+//! What is printed of a broken policy: each `NO` with its chain or without it, with the line that
+//! it is about, and first the fact that most chains have in common.
 #![tactic(auto)]
 
 mod common;

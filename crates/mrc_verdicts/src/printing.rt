@@ -223,8 +223,8 @@ fn exposed_if(
 
 /// What is printed of a verdict that is no yes: the trusted task that another could rewrite, and
 /// each broken line; or those broken lines alone that have the number which is asked for. Behind
-/// each come its quote and its chain, as is asked for, and before all the fact that most chains have
-/// in common.
+/// each come its quote and its chain, as is asked for, and before all the fact that most chains
+/// have in common.
 pub fn no_text(
     alloc: Global,
     sources: &Sources<'_>,
