@@ -3,6 +3,7 @@
 use Rattle.std.proofs.Common.{◌≡◌, ◌↔◌, ◌==◌, ℕ, Bool, true, false, IsTrue, refl}
 use Rattle.std.specs.Prelude.{◌||◌, ◌&&◌}
 use Rattle.std.proofs.lemmas.Bool.{eqb-true, eq-eqb}
+use Rattle.std.proofs.Math.Bool.{and-false, or-false}
 use Rattle.mrc_base.specs.declared.PortRight.TheVariants.{Send, Receive, SendOnce}
 use Rattle.mrc_base.specs.declared.Fact.{Fact}
 use Rattle.mrc_base.specs.declared.Fact.TheVariants.{Hold}
@@ -55,31 +56,23 @@ same_class c n = (eqb-true c n, eq-eqb c n)
 
 -- what a class takes as each right
 
-and_none : (a : Bool) → (a && false) ≡ false
-and_none true = refl
-and_none false = refl
-
-or_none : (a : Bool) → (a || false) ≡ a
-or_none true = refl
-or_none false = refl
-
 module _ (W : Wiring) (T : Fact → Bool) (d t c : ℕ) where
   pub taken_as_send :
       ((T (Hold t c Send) && passes W d c Send Send)
       || (T (Hold t c Receive) && passes W d c Receive Send)) ≡ is_taken_of W T d t c Send
   taken_as_send =
       rw (
-        and_none (T (Hold t c SendOnce)),
-        or_none (T (Hold t c Receive) && passes W d c Receive Send),
+        and-false (T (Hold t c SendOnce)),
+        or-false (T (Hold t c Receive) && passes W d c Receive Send),
       ) refl
 
   pub taken_as_receive :
       ((T (Hold t c Receive) && passes W d c Receive Receive) || (T (Hold t c Receive) && false))
       ≡ is_taken_of W T d t c Receive
-  taken_as_receive = simp (and_none, or_none)
+  taken_as_receive = simp (and-false, or-false)
 
   pub taken_as_once :
       ((T (Hold t c Receive) && passes W d c Receive SendOnce)
       || (T (Hold t c SendOnce) && passes W d c SendOnce SendOnce))
       ≡ is_taken_of W T d t c SendOnce
-  taken_as_once = simp and_none
+  taken_as_once = simp and-false

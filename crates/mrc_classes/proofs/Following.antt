@@ -1,6 +1,6 @@
 -- What follows from a fact with those of a set stands at the places, with the fact as the only new
 -- one.
-use Rattle.std.proofs.Common.{Bool, true, false, List, [], ◌∷◌, IsTrue, ◌≡◌, ◌⊎◌, inl, inr}
+use Rattle.std.proofs.Common.{Bool, List, [], ◌∷◌, IsTrue, ◌≡◌, ◌⊎◌, inl, inr}
 use Rattle.std.proofs.Common.{refl, sym, subst}
 use Rattle.std.specs.Prelude.{◌||◌}
 use Rattle.std.specs.List.{AllByRecursion}
@@ -23,10 +23,6 @@ pub all_as : (P Q : Fact → Type 0) (fs : List Fact)
     → AllByRecursion Q fs
 all_as P Q [] f all = tt
 all_as P Q (x ∷ xs) f all = (f x all.0, all_as P Q xs f all.1)
-
-pub or_nothing : (b : Bool) → (b || false) ≡ b
-or_nothing true = refl
-or_nothing false = refl
 
 -- the other premises are in another set
 consequence_as : (W : Wiring) (S T : Fact → Bool) (p g : Fact)

@@ -4,6 +4,7 @@ use Rattle.std.proofs.Common.{take, refl, sym, ap, subst, ◌∙◌, get_or}
 use Rattle.std.specs.Prelude.{◌||◌, filter, map, IsTrue, if◌then◌else◌}
 use Rattle.std.proofs.lemmas.List.Folds.{list_any_more}
 use Rattle.std.proofs.lemmas.List.Elements.{filter-append}
+use Rattle.std.proofs.Math.Bool.{or_comm}
 use Rattle.mrc_base.specs.declared.PortRight.{PortRight}
 use Rattle.mrc_base.specs.declared.Fact.{Fact}
 use Rattle.mrc_base.specs.declared.Fact.TheVariants.{Hold}
@@ -22,12 +23,6 @@ use Rattle.mrc_wiring.proofs.Takers.{found, finds}
 use Rattle.mrc_draw.specs.Pictures.{picture_of, holds_in, forbidden_hold, below}
 use Rattle.mrc_draw.proofs.Lists.{below_more}
 
-either : (a b : Bool) → (a || b) ≡ (b || a)
-either true true = refl
-either true false = refl
-either false true = refl
-either false false = refl
-
 -- the set has one more fact of the list
 pub set_more : (facts : List Fact) (i : ℕ) (f : Fact) → i < length facts → f ≡ get_or facts i f
     → (before after : Fact → Bool)
@@ -36,7 +31,7 @@ pub set_more : (facts : List Fact) (i : ℕ) (f : Fact) → i < length facts →
     → (g : Fact) → after g ≡ has (take (i + 1) facts) g
 set_more facts i f low at before after so_far told g =
     told g ∙ (ap (λ b. is_same g f || b) (so_far g)
-    ∙ (either (is_same g f) (has (take i facts) g)
+    ∙ (or_comm (is_same g f) (has (take i facts) g)
     ∙ (ap (λ h. has (take i facts) g || is_same g h) at
     ∙ sym (list_any_more (is_same g) facts i f low))))
 

@@ -1,5 +1,5 @@
 -- Rows of bits that say what classes take.
-use Rattle.std.proofs.Common.{◌≡◌, ℕ, ◌+◌, ◌*◌, ◌/◌, ◌%◌, ◌<◌, ◌≤◌, ◌==◌, lit<, Bool, true, false}
+use Rattle.std.proofs.Common.{◌≡◌, ℕ, ◌+◌, ◌*◌, ◌/◌, ◌%◌, ◌<◌, ◌≤◌, ◌==◌, Bool, true, false}
 use Rattle.std.proofs.Common.{Vec}
 use Rattle.std.proofs.Common.{List, [], ◌∷◌, ◌++◌, length, replicate, Some, Option}
 use Rattle.std.proofs.Common.{refl, ap, sym, subst, ◌∙◌, inl, inr, arith}
@@ -15,7 +15,7 @@ use Rattle.mrc_wiring.specs.Slots.{takes}
 use Rattle.mrc_facts.specs.Order.{right_number}
 use Rattle.mrc_bits.specs.Bits.{is_set}
 use Rattle.mrc_rows.specs.Rows.{words_of}
-use Rattle.mrc_rows.proofs.Rows.{words_at, words_past, no_bit}
+use Rattle.mrc_rows.proofs.Rows.{right_there, words_at, words_past, no_bit}
 use Rattle.mrc_rows.proofs.Joins.{next_below}
 use Rattle.mrc_model.specs.Wiring.{Wiring, classes, label}
 use Rattle.mrc_slots.specs.Passing.{passes, is_passed}
@@ -159,11 +159,6 @@ more_rows m rows longer row len pushed =
     ap length pushed ∙ (length_push rows row ∙ (let h = len in omega arith))
 
 -- numbers of rows
-
-right_there : (r : PortRight) → right_number r < 3
-right_there Send = lit< tt
-right_there Receive = lit< tt
-right_there SendOnce = lit< tt
 
 number_at : (n : ℕ) → right_number (right_at n) ≡ n % 3
 number_at n = elim (cases_eq (n % 3) 0) [

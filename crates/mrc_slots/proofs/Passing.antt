@@ -3,6 +3,7 @@ use Rattle.std.proofs.Common.{◌≡◌, ℕ, Bool, true, false, refl, ap, sym, 
 use Rattle.std.specs.Prelude.{◌||◌, ◌&&◌, nat_lt, flat_map, if◌then◌else◌}
 use Rattle.std.specs.List.{list_any}
 use Rattle.std.proofs.lemmas.Bool.{or_cases, or_right, and_parts, false≢true}
+use Rattle.std.proofs.Math.Bool.{and-false}
 use Rattle.mrc_base.specs.declared.PortRight.{PortRight}
 use Rattle.mrc_base.specs.declared.PortRight.TheVariants.{Send, Receive, SendOnce}
 use Rattle.mrc_base.specs.declared.Disp.{Disp}
@@ -95,14 +96,10 @@ takes_class W d x c e =
     let t = taker W d x c e in
     (and_parts (nat_lt c (classes W)) _ t.admitted).0
 
-pub and_false : (b : Bool) → (b && false) ≡ false
-and_false true = refl
-and_false false = refl
-
 pub takes_below : (W : Wiring) (d : ℕ) (x : Disp) (c : ℕ)
     → takes W d x c ≡ (nat_lt c (classes W) && takes W d x c)
 takes_below W d x c = go (takes W d x c) refl
   where
     go : (b : Bool) → takes W d x c ≡ b → takes W d x c ≡ (nat_lt c (classes W) && takes W d x c)
     go true e = e ∙ sym (rw (takes_class W d x c e, e) refl)
-    go false e = e ∙ sym (rw e (and_false (nat_lt c (classes W))))
+    go false e = e ∙ sym (rw e (and-false (nat_lt c (classes W))))

@@ -2,6 +2,7 @@
 use Rattle.std.proofs.Common.{◌≡◌, ℕ, ◌≤◌, Bool, true, false, List, [], length}
 use Rattle.std.proofs.Common.{refl, ap, sym, ◌∙◌, arith}
 use Rattle.std.specs.Prelude.{◌&&◌, nat_lt, if◌then◌else◌}
+use Rattle.std.proofs.Math.Bool.{and-false}
 use Rattle.mrc_bits.specs.Bits.{is_set}
 use Rattle.mrc_rows.proofs.Rows.{no_bit}
 use Rattle.mrc_model.specs.Wiring.{Wiring, classes, accepts_replier, accepts_routine}
@@ -9,7 +10,6 @@ use Rattle.mrc_slots.specs.Passing.{is_replier}
 use Rattle.mrc_slots.specs.Masks.{IsMask, is_any, replier_words, AreRepliers}
 use Rattle.mrc_slots.specs.declared.repliers.Repliers.{Repliers}
 use Rattle.mrc_slots.specs.declared.repliers.Repliers.TheVariants.{Any, Fitting}
-use Rattle.mrc_slots.proofs.Passing.{and_false}
 
 -- where reply ports need not fit
 unfitting : (W : Wiring) (d c : ℕ) → W.replies_fit ≡ false
@@ -24,7 +24,7 @@ all_come false b s e = cc
 
 none_comes : (a b s : Bool) → (a && s) ≡ false → false ≡ (a && (b && s))
 none_comes true b true e = cc
-none_comes true b false e = sym (and_false b)
+none_comes true b false e = sym (and-false b)
 none_comes false b s e = refl
 
 module _ (W : Wiring) (all : List ℕ) (any : IsMask is_any (classes W) all) (d : ℕ) where

@@ -10,6 +10,7 @@ use Rattle.std.proofs.lemmas.Bool.{false≢true}
 use Rattle.std.specs.List.{All}
 use Rattle.std.proofs.lemmas.List.Elements.{filter_more, All-push}
 use Rattle.std.proofs.lemmas.List.{append-nil, map-append, take_all}
+use Rattle.std.proofs.lemmas.Bool.{false_from_ne_true}
 use Rattle.mrc_base.specs.declared.Fact.{Fact}
 use Rattle.mrc_base.specs.declared.Fact.TheVariants.{Hold}
 use Rattle.mrc_base.specs.declared.PortRight.TheVariants.{Send}
@@ -67,16 +68,12 @@ pub derived_has : (W : Wiring) (facts : List Fact) (f : Fact) (steps : List Step
 derived_has W facts f steps least chain =
     chains_are_least W f steps chain (has facts) least.closed
 
-none_true : (b : Bool) → (b ≡ true → ⊥) → b ≡ false
-none_true true none = absurd (none refl)
-none_true false none = refl
-
 -- and what is not in every closed set is not
 pub outside_lacks : (W : Wiring) (facts : List Fact) (f : Fact)
     → IsLeast W (has facts)
     → (Least W f → ⊥)
     → has facts f ≡ false
-outside_lacks W facts f least none = none_true (has facts f) (λ h. none (least.least f h))
+outside_lacks W facts f least none = false_from_ne_true (has facts f) (λ h. none (least.least f h))
 
 -- a line more
 pub line_told : (p : ForbiddenLine → Bool) (lines told : List ForbiddenLine) (i : ℕ)

@@ -7,7 +7,8 @@ use Rattle.mrc_facts.specs.Order.{is_same}
 use Rattle.mrc_facts.specs.Sets.{has}
 use Rattle.mrc_classes.specs.Growing.{Added, Below}
 use Rattle.mrc_classes.specs.Places.{AtPlace}
-use Rattle.mrc_classes.proofs.Following.{places_listed, or_nothing}
+use Rattle.std.proofs.Math.Bool.{or-false}
+use Rattle.mrc_classes.proofs.Following.{places_listed}
 use Rattle.mrc_classes.proofs.conclude.conclude_from.Goals as goal
 
 pub returns : goal.returns
@@ -19,7 +20,7 @@ returns c =
     places_listed W (has c.args.all.now) all new c.args.fact.now c.in_ok-_added.ensures.members
     (λ g. c.in_ok-_new.ensures.members g
     ∙ (ap (λ (fs : List Fact). is_same g c.args.fact.now || has fs g) c.new-new.ensures
-    ∙ or_nothing (is_same g c.args.fact.now))) found
+    ∙ or-false (is_same g c.args.fact.now))) found
     (subst (λ (fs : List Fact). Added (has fs) (has found)
     (Below (classes W) (AtPlace W all new (has [])))) c.new-found.ensures
     (subst (λ (fs : List Fact). Added (has c.new-found.result) (has found)
