@@ -6,7 +6,7 @@ use Rattle.std.proofs.Common.{◌≡◌}
 use Rattle.std.proofs.lemmas.Bool.{and_from, and_parts, eqb-true, or_cases, or_right}
 use Rattle.std.specs.List.{find, list_any}
 use Rattle.std.specs.Prelude.{flat_map}
-use Rattle.mrc_model.proofs.Members.{any_more, in_append}
+use Rattle.mrc_model.proofs.Members.{any_more, in_append, in_any}
 use Rattle.mrc_model.proofs.Maps.{not_None, same_Some}
 use Rattle.mrc_model.proofs.Tries.{Gives, gives_err, gives_ok}
 use Rattle.mrc_model.specs.CallSend.{by_filter}
@@ -153,20 +153,13 @@ in_map g [] y i = elim i [ ]
 in_map g (x ∷ xs) y (here) = (x, here, refl)
 in_map g (x ∷ xs) y (later i) = let (v, in_xs, is) = in_map g xs y i in (v, later in_xs, is)
 
--- a test that an element passes
-any_in : {X : Type 0} (test : X → Bool) (x : X) (xs : List X) → IsIn x xs → test x ≡ true
-    → list_any test xs ≡ true
-any_in test x [] i e = elim i [ ]
-any_in test x (y ∷ xs) (here) e = rw e
-any_in test x (y ∷ xs) (later i) e = or_right (test y) (list_any test xs) (any_in test x xs i e)
-
 -- a routine's request that is a form of an item of a label is of an interface with a routine
 item_routine : (W : Wiring) (f : RequestForm) (x : LabelItem) → IsIn (OfRequest f) (item_forms W x)
     → is_routine f ≡ true → has_routine W x ≡ true
 item_routine W f (RequestOf s) i e =
     let (g, in_requests, is) = in_map OfRequest (interface W s).requests (OfRequest f) i in
     let same : g ≡ f = cc in
-    any_in is_routine g (interface W s).requests in_requests (ap is_routine same ∙ e)
+    in_any is_routine g (interface W s).requests in_requests (ap is_routine same ∙ e)
 item_routine W f (ReplyOf s) i e =
     let (g, in_replies, is) = in_map OfReply (interface W s).replies (OfRequest f) i in absurd (cc)
 item_routine W f Destroyed i e = elim i [ ]

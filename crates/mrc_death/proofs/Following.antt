@@ -3,6 +3,7 @@ use Rattle.std.proofs.Common.{◌≡◌, ℕ, zero, suc, ◌+◌, ◌-◌, ◌<�
 use Rattle.std.proofs.Common.{false, not, List, [], ◌∷◌, ◌++◌, length, take, get_or, refl, sym, ◌∙◌}
 use Rattle.std.proofs.Common.{ap, subst, arith, ◌==◌, ◌||◌, ◌&&◌, if◌then◌else◌, Some, eq-eqb}
 use Rattle.std.proofs.Common.{T}
+use Rattle.std.proofs.lemmas.Bool.{or_left, or_right}
 use Rattle.std.proofs.lemmas.Bool.{and_parts, both_ways, or_cases, eqb-true}
 use Rattle.std.specs.Cmp.{both_ways as same_tests}
 use Rattle.std.proofs.lemmas.Option.{slice_get-get_or}
@@ -16,7 +17,7 @@ use Rattle.mrc_model.specs.World.{Port, Store, Held, queue_rights}
 use Rattle.mrc_model.specs.Death.{has, has_receive, queued_on, queued_rights, is_lost, backup_of}
 use Rattle.mrc_model.specs.Death.{Doomed, is_kernel_of, dies, dying}
 use Rattle.mrc_model.proofs.Maps.{find_cases, find_later, find_here}
-use Rattle.mrc_model.proofs.Dying.{or_left, or_right, any_append, length_filter, dying_within}
+use Rattle.mrc_model.proofs.Dying.{any_append, length_filter, dying_within}
 use Rattle.mrc_model.proofs.Dying.{queued_more}
 use Rattle.std.proofs.lemmas.Bool.{and_from}
 use Rattle.mrc_death.specs.Losing.{is_losing}

@@ -4,6 +4,7 @@ use Rattle.std.proofs.Common.{List, [], ◌∷◌, ◌++◌, length, take, refl,
 use Rattle.std.proofs.Common.{◌==◌, ◌||◌, if◌then◌else◌, Option, Some, None, eq-eqb, map}
 use Rattle.std.proofs.Common.{option_map}
 use Rattle.std.specs.Option.{is_some}
+use Rattle.std.proofs.lemmas.Bool.{or_left, or_right}
 use Rattle.std.proofs.lemmas.Bool.{both_ways, or_cases, eqb-true, ne_eqb, cases_eq}
 use Rattle.std.proofs.lemmas.List.{take-append-le}
 use Rattle.std.specs.List.{slice_get}
@@ -14,7 +15,7 @@ use Rattle.mrc_model.proofs.Maps.{not_None, find_cases, if_true, if_false}
 use Rattle.mrc_model.specs.World.{Store, Held, Port}
 use Rattle.mrc_model.specs.Death.{has, has_receive, is_lost, backup_of, Doomed, is_kernel_of, dies}
 use Rattle.mrc_model.specs.Death.{rounds, dying}
-use Rattle.mrc_model.proofs.Dying.{or_left, or_right, any_append, has-filter, more_or_same}
+use Rattle.mrc_model.proofs.Dying.{any_append, has-filter, more_or_same}
 use Rattle.mrc_model.proofs.Dying.{dying_closed}
 use Rattle.mrc_death.specs.Heads.{head_at}
 use Rattle.mrc_death.specs.declared.search.Link.{Link}

@@ -4,19 +4,11 @@ use Rattle.std.proofs.Common.{ap, subst, unwrap_or}
 use Rattle.std.specs.Prelude.{IsSome}
 use Rattle.mrc_model.specs.Map.{empty, get}
 use Rattle.mrc_model.specs.World.{Held, Space, Store, set_space, space}
-use Rattle.mrc_model.specs.Destroyed.{all_rights, cleared, task_out}
+use Rattle.mrc_model.specs.Destroyed.{all_rights}
 use Rattle.mrc_model.proofs.Maps.{same_Some}
 use Rattle.mrc_ports.proofs.TableLaws.{put_twice}
 use Rattle.mrc_death.specs.Removing.{left_in, removed, removed_from}
-use Rattle.mrc_death.specs.Taking.{AreTaken}
 use Rattle.mrc_death.specs.declared.removal.Removal.{Removal}
-use Rattle.mrc_death.specs.declared.removal.Removal.TheVariants.{All}
-
--- all entries leave the space, if there is one
-pub all_left : (s : Store) (t : ℕ) (o : Option Space)
-    → record s { spaces = left_in s.spaces t All o } ≡ cleared s t o
-all_left s t None = refl
-all_left s t (Some x) = refl
 
 -- a task without a space has no rights
 pub no_rights : (s : Store) (t : ℕ) (hs : List Held)
@@ -25,24 +17,6 @@ pub no_rights : (s : Store) (t : ℕ) (hs : List Held)
     → hs ≡ all_rights (space s t).list
 unfolding empty
 no_rights s t hs none absent = none ∙ ap (λ o. all_rights (unwrap_or o empty).list) absent
-
--- all that a task has is taken out, with its kernel port
-pub task_taken : (s : Store) (t kernel : ℕ) (hs : List Held)
-    → hs ≡ all_rights (space s t).list
-    → AreTaken s (Some (record {
-      task = t;
-      removal = All;
-      doomed = record { rights = hs; kernel = Some kernel };
-    })) (Some (task_out s t kernel))
-task_taken s t kernel hs are =
-    let left = sym (all_left s t (get s.spaces t)) in
-    let all = sym are in (
-      tt,
-      λ i. Some (record {
-        store = left i;
-        doomed = record { rights = all i; kernel = Some kernel };
-      }),
-    )
 
 module _ (s m : Store) (t : ℕ) (x blank : Space)
     (put : IsSome (get s.spaces t) → (Some x ≡ get s.spaces t) × (m ≡ set_space s t blank))

@@ -14,8 +14,8 @@ use Rattle.mrc_model.specs.Space.{restart, restart_port}
 use Rattle.mrc_model.specs.Death.{has, has_receive, append, append_to, once_notice}
 use Rattle.mrc_model.specs.Death.{destroyed_notice, notify_once, notify_port, notify_backup}
 use Rattle.mrc_model.specs.Death.{notify_destroyed, perished_port}
+use Rattle.std.proofs.lemmas.Bool.{or_left, or_right}
 use Rattle.mrc_model.proofs.Maps.{get-insert_same, same_Some}
-use Rattle.mrc_model.proofs.Dying.{or_left, or_right}
 use Rattle.mrc_map.proofs.Walks.{since, from_first}
 use Rattle.mrc_ports.specs.Queues.{limit_of_waiting, is_full_for, is_out_of_room, with_message}
 use Rattle.mrc_ports.specs.declared.table.NotQueued.{NotQueued}

@@ -19,7 +19,7 @@ use Rattle.mrc_model.specs.Map.{empty, get, insert, remove, len, all_but}
 use Rattle.mrc_model.specs.World.{Space}
 use Rattle.mrc_model.specs.Space.{entry_of, first_entry, is_entry_of, unused, least_from}
 use Rattle.mrc_model.proofs.Maps.{same_Some, not_None, get-insert_same, get-insert_other, get-empty}
-use Rattle.mrc_model.proofs.Maps.{get-remove_same, get-remove_other, find_here, find_is_low}
+use Rattle.mrc_model.proofs.Maps.{get-remove_same, get-remove_other, find_here, find_low}
 use Rattle.mrc_model.proofs.Maps.{rest_rises, if_true, if_false, Each-insert, Each-alter_all}
 use Rattle.mrc_model.proofs.Spaces.{get-unused, least_is_later}
 use Rattle.mrc_map.proofs.EntryLaws.{remove-absent}
@@ -45,7 +45,7 @@ not_low : {X : Type 0} (low n : ℕ) (v : X) (es : List (ℕ × X))
     → find_key n es ≡ Some v
     → n < low
     → ⊥
-not_low low n v es r h l = not_None v (sym h ∙ find_is_low low n es r l)
+not_low low n v es r h l = not_None v (sym h ∙ find_low low n es r l)
 
 -- the first entry of a port in a rising list
 first_at : (low p n : ℕ) (e : Entry) (es : List (ℕ × Entry))
@@ -71,7 +71,7 @@ first_at low p n e (d ∷ es) r h is none = elim (cases_eq n d.0) [
       ∙ first_at (d.0 + 1) p n e es (rest_rises low d es r) later is (λ m l.
       elim (cases_eq m d.0) [
         | inl at ↦
-            ap (is_held_by p) (find_is_low (d.0 + 1) m es (rest_rises low d es r) (omega arith))
+            ap (is_held_by p) (find_low (d.0 + 1) m es (rest_rises low d es r) (omega arith))
         | inr off ↦ ap (is_held_by p) (sym (past d es m off)) ∙ none m l
       ])
 ]
@@ -91,7 +91,7 @@ none_at low p (d ∷ es) r none =
     ∙ none_at (d.0 + 1) p es (rest_rises low d es r) (λ m.
     elim (cases_eq m d.0) [
       | inl at ↦
-          ap (is_held_by p) (find_is_low (d.0 + 1) m es (rest_rises low d es r) (omega arith))
+          ap (is_held_by p) (find_low (d.0 + 1) m es (rest_rises low d es r) (omega arith))
       | inr off ↦ ap (is_held_by p) (sym (past d es m off)) ∙ none m
     ])
 
@@ -179,7 +179,7 @@ least_at low k n (e ∷ es) r le none used =
             | inr (inl less) ↦
                 true_false (is_some (find_key k (e ∷ es))) (used k (omega arith) less)
                 (ap is_some (off k (λ z. absurd (omega arith))
-                ∙ find_is_low (e.0 + 1) k es (rest_rises low e es r) (omega arith)))
+                ∙ find_low (e.0 + 1) k es (rest_rises low e es r) (omega arith)))
             | inr (inr past_it) ↦ absurd (omega arith)
           ]
     ]

@@ -10,7 +10,7 @@ use Rattle.std.specs.Prelude.{IsSome}
 use Rattle.mrc_model.specs.Rising.{is_rising, find_key, put_key, cons_some, alter_list, left_holds}
 use Rattle.mrc_model.specs.Rising.{right_holds, at_least}
 use Rattle.mrc_model.specs.Map.{Map, empty, get, insert, remove, alter_all, all_but, len}
-use Rattle.mrc_model.proofs.Maps.{same_list, not_None, find_is_low, if_true, if_false}
+use Rattle.mrc_model.proofs.Maps.{same_list, not_None, find_low, if_true, if_false}
 use Rattle.mrc_map.specs.Entries.{checked_map, map_of, IsRising, place, at_key, IsAt, IsMissingAt}
 
 -- a list that passed the test is its map's
@@ -72,7 +72,7 @@ find_place {X} low k (e ∷ es) r =
           ∙ find_place (e.0 + 1) k es (right_holds _ _ r)
       | false ↦ λ t. let h : k ≤ e.0 = ltb-false e.0 k t in
           let none : find_key k es ≡ None =
-          find_is_low (e.0 + 1) k es (right_holds _ _ r) (omega arith) in
+          find_low (e.0 + 1) k es (right_holds _ _ r) (omega arith) in
           ap (λ o. if k == e.0 then Some e.1 else o) none
     ] refl
 

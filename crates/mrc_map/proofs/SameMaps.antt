@@ -5,7 +5,7 @@ use Rattle.std.proofs.Common.{ap, ◌∙◌, arith, ◌==◌}
 use Rattle.std.proofs.lemmas.Bool.{cases_eq, cases_order, ne_eqb}
 use Rattle.mrc_model.specs.Rising.{is_rising, find_key, right_holds, both_hold, is_at_least}
 use Rattle.mrc_model.specs.Map.{Map, get, insert, remove}
-use Rattle.mrc_model.proofs.Maps.{same_list, same_Some, not_None, find_is_low, find_here, if_false}
+use Rattle.mrc_model.proofs.Maps.{same_list, same_Some, not_None, find_low, find_here, if_false}
 use Rattle.mrc_model.proofs.Maps.{get-insert_same, get-insert_other, get-remove_same}
 use Rattle.mrc_model.proofs.Maps.{get-remove_other}
 
@@ -28,7 +28,7 @@ module _ {X : Type 0} where
       → ⊥
   unfolding Same
   not_below a b e f es fs r s l =
-      not_None e.1 (sym (find_here e es) ∙ s e.0 ∙ find_is_low f.0 e.0 (f ∷ fs)
+      not_None e.1 (sym (find_here e es) ∙ s e.0 ∙ find_low f.0 e.0 (f ∷ fs)
       (from_first b f fs r) l)
 
   -- behind the first key the rest decides
@@ -47,9 +47,9 @@ module _ {X : Type 0} where
   unfolding Same
   rest_same a b e f es fs r t k s q = elim (cases_eq q e.0) [
     | inl here ↦
-        let left : find_key q es ≡ None = find_is_low (e.0 + 1) q es (right_holds _ _ r) (omega arith) in
+        let left : find_key q es ≡ None = find_low (e.0 + 1) q es (right_holds _ _ r) (omega arith) in
         let right : find_key q fs ≡ None =
-        find_is_low (f.0 + 1) q fs (right_holds _ _ t) (omega arith) in
+        find_low (f.0 + 1) q fs (right_holds _ _ t) (omega arith) in
         left ∙ sym right
     | inr n ↦ sym (past e es q n) ∙ s q ∙ past f fs q (λ z. n (z ∙ sym k))
   ]

@@ -8,7 +8,7 @@ use Rattle.mrc_model.specs.Rising.{is_rising, find_key, at_least, is_at_least, l
 use Rattle.mrc_model.specs.Rising.{right_holds, both_hold}
 use Rattle.mrc_model.specs.Map.{Map, get}
 use Rattle.mrc_model.specs.Death.{has}
-use Rattle.mrc_model.proofs.Maps.{find_is_low, if_true, if_false}
+use Rattle.mrc_model.proofs.Maps.{find_low, if_true, if_false}
 use Rattle.mrc_map.specs.Members.{above, IsMember, IsFirst, of_some}
 
 module _ {X A : Type 0} (f : ℕ → X → List A) (xs : List ℕ) where
@@ -75,7 +75,7 @@ module _ {X A : Type 0} (f : ℕ → X → List A) (xs : List ℕ) where
         let rises = both_hold _ _ (is_at_least e.0 e.0 (omega arith)) (right_holds _ _ r) in
         since_above from (suc p) e.0 (e ∷ es) rises (omega arith) (omega arith)
         ∙ sym (ap (λ o. of_some (f p) o ++ since (suc p) (e ∷ es))
-        (find_is_low e.0 p (e ∷ es) rises less))
+        (find_low e.0 p (e ∷ es) rises less))
     | inr (inr more) ↦
         let beside : find_key p (e ∷ es) ≡ find_key p es =
         if_false (p == e.0) (Some e.1) (find_key p es)

@@ -3,7 +3,7 @@ use Rattle.std.proofs.Common.{◌≡◌, ◌⊎◌, ℕ, ◌+◌, inl, inr, Bool
 use Rattle.std.proofs.Common.{Option, Some, None, Ok, Err, refl, sym, ◌∙◌, ap, subst, ◌==◌, ◌||◌}
 use Rattle.std.proofs.Common.{if◌then◌else◌}
 use Rattle.std.specs.List.{list_any}
-use Rattle.std.proofs.lemmas.Bool.{and_parts, both_ways}
+use Rattle.std.proofs.lemmas.Bool.{and_parts, both_ways, or_right}
 use Rattle.mrc_base.specs.declared.PortRight.{PortRight}
 use Rattle.mrc_base.specs.declared.Disp.{Disp}
 use Rattle.mrc_base.specs.Disposition.{given}
@@ -110,11 +110,7 @@ module _ (W : Wiring) where
   pub all_on : (w : World) (v : Verb) (t u : ℕ) (item : Item)
       → may_on (plain W) w v t u item ≡ true
   all_on w v t u item =
-      or_true (task_class w t == task_class w u) _ (all_items w.store v (task_class w t) item)
-    where
-      or_true : (a b : Bool) → b ≡ true → (a || b) ≡ true
-      or_true true b e = refl
-      or_true false b e = e
+      or_right (task_class w t == task_class w u) _ (all_items w.store v (task_class w t) item)
 
   all_fit_at : (d id : ℕ) (o : Option ℕ) → fits_port (plain W) d id o ≡ true
   unfolding fits_at

@@ -3,7 +3,8 @@ use Rattle.std.proofs.Common.{◌≡◌, ℕ, zero, suc, ◌<◌, ◌≤◌, ◌
 use Rattle.std.proofs.Common.{[], ◌∷◌, ◌++◌, map, length, refl, sym, ◌∙◌, ap, arith, ◌==◌, ◌||◌}
 use Rattle.std.proofs.Common.{◌&&◌, if◌then◌else◌}
 use Rattle.std.specs.List.{filter}
-use Rattle.std.proofs.lemmas.Bool.{and_parts, and_from, both_ways, or_cases, eqb-true}
+use Rattle.std.proofs.lemmas.Bool.{and_parts, and_from, both_ways, or_cases, or_left, or_right}
+use Rattle.std.proofs.lemmas.Bool.{eqb-true}
 use Rattle.mrc_model.specs.Map.{get, len, keys}
 use Rattle.mrc_model.specs.declared.Backup.{Backup}
 use Rattle.mrc_model.specs.declared.Backup.TheVariants.{Absent as NoBackup, Dead as DeadBackup}
@@ -11,13 +12,6 @@ use Rattle.mrc_model.specs.declared.Backup.TheVariants.{Port as BackupPort}
 use Rattle.mrc_model.specs.World.{Port, Store, Held, queue_rights}
 use Rattle.mrc_model.specs.Death.{has, is_receive_of, has_receive, queued_on, queued_rights}
 use Rattle.mrc_model.specs.Death.{is_lost, backup_of, Doomed, is_kernel_of, dies, rounds, dying}
-
-pub or_left : (a b : Bool) → a ≡ true → (a || b) ≡ true
-or_left a b e = rw e
-
-pub or_right : (a b : Bool) → b ≡ true → (a || b) ≡ true
-or_right true b e = refl
-or_right false b e = e
 
 pub any_append : (p : ℕ) (xs ys : List Held)
     → has_receive p (xs ++ ys) ≡ (has_receive p xs || has_receive p ys)

@@ -7,6 +7,7 @@ use Rattle.std.proofs.Common.{nat_lt, if◌then◌else◌, IsTrue}
 use Rattle.std.specs.Prelude.{is_ok, is_some}
 use Rattle.std.specs.List.{list_any}
 use Rattle.std.specs.Option.{unwrap_or}
+use Rattle.std.proofs.lemmas.Bool.{or_left, or_right, not-true, false_from_ne_true}
 use Rattle.std.proofs.lemmas.Bool.{cases_eq, cases_Bool, and_parts, and_from, both_ways, or_cases}
 use Rattle.std.proofs.lemmas.Bool.{ltb-true, ltb-false, lt-ltb, le-ltb, eqb-true, eq-eqb, ne_eqb}
 use Rattle.mrc_base.specs.declared.PortRight.{PortRight}
@@ -41,21 +42,10 @@ use Rattle.mrc_model.proofs.Maps.{get-empty}
 use Rattle.mrc_model.proofs.Maps.{len-insert, len-empty, find_cases, origin-insert}
 use Rattle.mrc_model.proofs.Spaces.{get-unused, entry_of-some}
 
-same_if : (a b : Bool) → (a ≡ true → b ≡ true) → (b ≡ true → a ≡ true) → a ≡ b
+pub same_if : (a b : Bool) → (a ≡ true → b ≡ true) → (b ≡ true → a ≡ true) → a ≡ b
 same_if true b there back = sym (there refl)
 same_if false true there back = back refl
 same_if false false there back = refl
-
-not_both : (a : Bool) → (a ≡ true → ⊥) → a ≡ false
-not_both true n = absurd (n refl)
-not_both false n = refl
-
-or_left : (a b : Bool) → a ≡ true → (a || b) ≡ true
-or_left a b e = rw e refl
-
-or_right : (a b : Bool) → b ≡ true → (a || b) ≡ true
-or_right true b e = refl
-or_right false b e = e
 
 -- ports that a space names
 
@@ -200,7 +190,7 @@ module _ (spaces : Map Space) (y : Space) (before : List Holding) (h : Holding)
   after u = unwrap_or (get (insert spaces h.task y) u) empty
 
   others_named : (u q : ℕ) → (u ≡ h.task → ⊥) → is_named u q h ≡ false
-  others_named u q n = not_both (is_named u q h) (λ e.
+  others_named u q n = false_from_ne_true (is_named u q h) (λ e.
       let z = and_parts (not (is_once h.right)) (h.task == u && h.port == q) e in
       n (sym (eqb-true h.task u (and_parts (h.task == u) (h.port == q) z.1).0)))
 
@@ -237,7 +227,7 @@ below_after : (n : ℕ) (before : List Holding) (h : Holding) (u p m : ℕ) → 
     → ((t q : ℕ) → n ≤ q → list_any (is_named t q) before ≡ false) → m ≤ p
     → list_any (is_named u p) (h ∷ before) ≡ false
 below_after n before h u p m less more below high =
-    let none : is_named u p h ≡ false = not_both (is_named u p h) (λ e.
+    let none : is_named u p h ≡ false = false_from_ne_true (is_named u p h) (λ e.
     let z = and_parts (not (is_once h.right)) (h.task == u && h.port == p) e in
     let same = eqb-true h.port p (and_parts (h.task == u) (h.port == p) z.1).1 in omega arith) in
     rw none (below u p (omega arith))
@@ -466,7 +456,7 @@ module _ (W : Wiring) (f : First) (ls : List FirstLine) where
       (ok_refuse over _ (Ok (after_hold f t p r)) _
       ∙ ap (λ b. not over && b) (ok_go (after_hold f t p r) _))))
 
-at_most_one : (b : Bool) → one_if b ≤ 1
+pub at_most_one : (b : Bool) → one_if b ≤ 1
 at_most_one true = omega arith
 at_most_one false = omega arith
 
@@ -474,11 +464,7 @@ not_over : (x : Space) (n : ℕ) → len x ≡ n → n ≤ 4096 → not (is_over
 not_over x n is few = ap not (le-ltb 4096 (len x) (omega arith))
 
 within : (x : Space) → not (is_over_full x) ≡ true → len x ≤ 4096
-within x fits = ltb-false 4096 (len x) (true_not (is_over_full x) fits)
-  where
-    true_not : (b : Bool) → not b ≡ true → b ≡ false
-    true_not true e = cc
-    true_not false e = refl
+within x fits = ltb-false 4096 (len x) (not-true (is_over_full x) fits)
 
 plain_is : (r : PortRight) → not (is_receive r) ≡ true → is_receive r ≡ false
 plain_is Send e = refl
@@ -627,7 +613,7 @@ no_names t = ap (λ o. len (unwrap_or o empty)) (get-empty t) ∙ len-empty empt
 made_nothing : (W : Wiring) → Made W record { world = no_world; tasks = 0; ports = 0 } []
 made_nothing W = record {
   named =
-      λ t p. not_both (names (space no_world.store t) p)
+      λ t p. false_from_ne_true (names (space no_world.store t) p)
       (the_entry (space no_world.store t) p ⊥ (λ f is.
       let at = entry_of-some (space no_world.store t) p f is in
       not_None f.1 (sym at.0 ∙ ap (λ o. get (unwrap_or o empty) f.0) (get-empty t)

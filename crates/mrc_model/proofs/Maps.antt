@@ -35,7 +35,7 @@ pub rest_rises : {X : Type 0} (low : ℕ) (e : ℕ × X) (es : List (ℕ × X)) 
     → T (is_rising (e.0 + 1) es)
 rest_rises low e es r = right_holds _ _ r
 
-find_low : {X : Type 0} (low q : ℕ) (es : List (ℕ × X)) → T (is_rising low es) → q < low
+pub find_low : {X : Type 0} (low q : ℕ) (es : List (ℕ × X)) → T (is_rising low es) → q < low
     → find_key q es ≡ None
 find_low low q [] r h = refl
 find_low low q (e ∷ es) r h =
@@ -427,10 +427,6 @@ if_true b x y e = rw e
 
 pub if_false : {A : Type 0} (b : Bool) (x y : A) → b ≡ false → (if b then x else y) ≡ y
 if_false b x y e = rw e
-
-pub find_is_low : {X : Type 0} (low q : ℕ) (es : List (ℕ × X)) → T (is_rising low es) → q < low
-    → find_key q es ≡ None
-find_is_low low q es r h = find_low low q es r h
 
 length_sum : {X : Type 0} (es : List (ℕ × X)) → length es ≡ sum_list (λ k v. 1) es
 length_sum [] = refl

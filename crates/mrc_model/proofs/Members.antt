@@ -1,6 +1,6 @@
 -- Members of lists that are joined or filtered.
 use Rattle.std.proofs.Common.{◌≡◌, ◌⊎◌, inl, inr, Bool, true, false, List, [], ◌∷◌, ◌++◌, refl, sym}
-use Rattle.std.proofs.Common.{subst, ap, if◌then◌else◌, ◌∙◌}
+use Rattle.std.proofs.Common.{subst, ap, if◌then◌else◌, ◌∙◌, ℕ, zero, suc, Some, slice_get}
 use Rattle.std.specs.List.{AllByRecursion, filter, list_any}
 use Rattle.std.proofs.lemmas.Bool.{or_cases, or_right}
 use Rattle.mrc_base.specs.declared.Fact.{Fact}
@@ -65,3 +65,24 @@ any_more test other (x ∷ xs) more e = elim (or_cases (test x) (list_any test x
   | inl z ↦ let is = more x z in rw is refl
   | inr z ↦ or_right (other x) (list_any other xs) (any_more test other xs more z)
 ]
+
+-- an element that passes a test is there if and only if the test finds one
+pub in_any : {X : Type 0} (test : X → Bool) (x : X) (xs : List X) → IsIn x xs → test x ≡ true
+    → list_any test xs ≡ true
+in_any test x [] i e = elim i [ ]
+in_any test x (y ∷ xs) (here) e = rw e
+in_any test x (y ∷ xs) (later i) e = or_right (test y) (list_any test xs) (in_any test x xs i e)
+
+pub any_in : {X : Type 0} (test : X → Bool) (xs : List X) → list_any test xs ≡ true
+    → (x : X) × IsIn x xs × (test x ≡ true)
+any_in test [] e = cc
+any_in test (x ∷ xs) e = elim (or_cases (test x) (list_any test xs) e) [
+  | inl at ↦ (x, here, at)
+  | inr more ↦ let rest = any_in test xs more in (rest.0, later rest.1, rest.2)
+]
+
+-- what is at a place is one of the list
+pub in_get : {X : Type 0} (xs : List X) (i : ℕ) (x : X) → slice_get xs i ≡ Some x → IsIn x xs
+in_get [] i x e = absurd cc
+in_get (y ∷ xs) zero x e = subst (λ z. IsIn z (y ∷ xs)) (let same : y ≡ x = cc in same) here
+in_get (y ∷ xs) (suc i) x e = later (in_get xs i x e)

@@ -10,7 +10,7 @@ use Rattle.mrc_model.specs.Map.{empty, get, insert, len}
 use Rattle.mrc_model.specs.World.{Space, Store, set_space, space}
 use Rattle.mrc_model.specs.Space.{least_from, unused, is_entry_of, first_entry, entry_of}
 use Rattle.mrc_model.specs.Space.{put_entry}
-use Rattle.mrc_model.proofs.Maps.{same_Some, not_None, find_later, find_here, find_is_low, if_false}
+use Rattle.mrc_model.proofs.Maps.{same_Some, not_None, find_later, find_here, find_low, if_false}
 use Rattle.mrc_model.proofs.Maps.{get-insert_same, get-insert_other, get-remove_same}
 use Rattle.mrc_model.proofs.Maps.{get-remove_other, len-insert}
 
@@ -49,7 +49,7 @@ least_is_unused low k (e ∷ es) r =
                 (least_is_unused (e.0 + 1) k es (right_holds _ _ r))
             | false ↦ λ u. let h : k ≤ e.0 = ltb-false e.0 k u in
                 apart_find e es k (λ z. eqb-false e.0 k t (sym z))
-                (find_is_low (e.0 + 1) k es (right_holds _ _ r) (omega arith))
+                (find_low (e.0 + 1) k es (right_holds _ _ r) (omega arith))
           ] refl
     ] refl
 

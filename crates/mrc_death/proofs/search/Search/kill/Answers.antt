@@ -3,7 +3,7 @@ use Rattle.std.proofs.lemmas.Bool.{not-false, not-true}
 use Rattle.mrc_model.specs.Death.{has}
 use Rattle.mrc_death.specs.declared.search.Search.{Search}
 use Rattle.mrc_death.proofs.Keeping.{killed, killed_before, has_push}
-use Rattle.mrc_model.proofs.Dying.{or_right}
+use Rattle.std.proofs.lemmas.Bool.{or_right}
 use Rattle.mrc_death.proofs.search.Search.kill.Goals as goal
 
 pub returns-in_ok-push-clause-step : goal.returns-in_ok-push-clause-step
