@@ -6,20 +6,13 @@ use Rattle.std.specs.Int.{bit_at}
 use Rattle.std.proofs.lemmas.Bool.{cases_eq, cases_lt, eq-eqb, ne_eqb, lt-ltb, le-ltb}
 use Rattle.std.proofs.lemmas.Nat.Bits.{bit_at_and, bit_at_or}
 use Rattle.std.proofs.lemmas.List.{get_or-set_same, get_or-set_other}
+use Rattle.std.proofs.Math.Bool.{or-false, and-false}
 use Rattle.mrc_bits.specs.Bits.{is_set}
 use Rattle.mrc_bits.proofs.Words.{bit_cases}
 use Rattle.mrc_bits.proofs.Counts.{past}
 
 abbrev both : List ℕ → List ℕ → ℕ → Bool
 both more mask i = is_set more i && is_set mask i
-
-or_false : (b : Bool) → (b || false) ≡ b
-or_false true = refl
-or_false false = refl
-
-and_false : (b : Bool) → (b && false) ≡ false
-and_false true = refl
-and_false false = refl
 
 -- one word
 word_both : (words more mask : List ℕ) (k i : ℕ) → k < length words
@@ -41,7 +34,7 @@ word_both words more mask k i below = elim (cases_eq (i / 64) k) [
       ∙ sym (ap (λ b. is_set words i || (b && both more mask i)) (eq-eqb (i / 64) k same)))))
   | inr other ↦
       ap (λ w. bit_at w (i % 64) == 1) (get_or-set_other words k (i / 64) put 0 other)
-      ∙ (sym (or_false (is_set words i))
+      ∙ (sym (or-false (is_set words i))
       ∙ sym (ap (λ b. is_set words i || (b && both more mask i)) (ne_eqb (i / 64) k other)))
 ]
   where
@@ -111,7 +104,7 @@ next_both old now more mask k len below was i =
 pub begin_both : (old more mask : List ℕ) (i : ℕ)
     → is_set old i ≡ (is_set old i || (nat_lt i 0 && both more mask i))
 begin_both old more mask i =
-    sym (or_false (is_set old i))
+    sym (or-false (is_set old i))
     ∙ sym (ap (λ b. is_set old i || (b && both more mask i)) (le-ltb i 0 (omega arith)))
 
 -- behind the end of one of the three rows there is nothing more
@@ -122,9 +115,9 @@ end_both old more mask k i (inl all) within = ap (λ n. nat_lt i (64 * n) && bot
 end_both old more mask k i (inr short) within = elim (cases_lt i (64 * k)) [
   | inl before ↦ rw (lt-ltb i (64 * k) before, lt-ltb i (64 * length old) (omega arith)) refl
   | inr behind ↦ rw (le-ltb i (64 * k) behind) (sym (ap (λ b. nat_lt i (64 * length old) && b) (none short behind)
-      ∙ and_false (nat_lt i (64 * length old))))
+      ∙ and-false (nat_lt i (64 * length old))))
 ]
   where
     none : (length more ≤ k) ⊎ (length mask ≤ k) → 64 * k ≤ i → both more mask i ≡ false
     none (inl m) behind = ap (λ b. b && is_set mask i) (past more i (omega arith))
-    none (inr m) behind = ap (λ b. is_set more i && b) (past mask i (omega arith)) ∙ and_false (is_set more i)
+    none (inr m) behind = ap (λ b. is_set more i && b) (past mask i (omega arith)) ∙ and-false (is_set more i)

@@ -4,7 +4,7 @@ use Rattle.std.specs.Prelude.{◌||◌, ◌&&◌, not, nat_lt, bit_or, max}
 use Rattle.std.specs.Int.{bit_at}
 use Rattle.std.specs.Int.Count.{ones, ones_step}
 use Rattle.std.specs.List.{count_by, range_with_len}
-use Rattle.std.proofs.Math.Bool.{cond}
+use Rattle.std.proofs.Math.Bool.{cond, or-false}
 use Rattle.std.proofs.lemmas.Bool.{cases_eq, cases_lt, eq-eqb, ne_eqb, lt-ltb, le-ltb}
 use Rattle.std.proofs.lemmas.List.{get_or-set_same, get_or-set_other, get_or_past}
 use Rattle.std.proofs.lemmas.List.Sums.{count_by-le-length, sum_by-cons}
@@ -13,10 +13,6 @@ use Rattle.std.proofs.lemmas.Nat.{ones-le}
 use Rattle.std.proofs.lemmas.Nat.Bits.{bit_at-suc, bit_at_lowest, bit_at_or, bit_at-zero}
 use Rattle.mrc_bits.specs.Bits.{is_set, is_fresh, fresh_count}
 use Rattle.mrc_bits.proofs.Words.{bit_cases}
-
-or_false : (b : Bool) → (b || false) ≡ b
-or_false true = refl
-or_false false = refl
 
 -- of a range
 
@@ -176,7 +172,7 @@ or_there words more mask k fresh below shown i =
       | inr other ↦
           ap (λ w. bit_at w (i % 64) == 1)
           (get_or-set_other words k (i / 64) (bit_or (slice_index words k) fresh) 0 other)
-          ∙ (sym (or_false (is_set words i))
+          ∙ (sym (or-false (is_set words i))
           ∙ sym (ap (λ b. is_set words i || (b && is_fresh words more mask i))
           (ne_eqb (i / 64) k other)))
     ]
@@ -198,7 +194,7 @@ module _ (old now more mask : List ℕ) (k : ℕ)
   still i behind =
       joined i
       ∙ (ap (λ b. is_set old i || (b && is_fresh old more mask i)) (le-ltb i (64 * k) behind)
-      ∙ or_false (is_set old i))
+      ∙ or-false (is_set old i))
 
   -- one word more
   pub one_more : (after : List ℕ)
@@ -211,7 +207,7 @@ module _ (old now more mask : List ℕ) (k : ℕ)
         put i
         ∙ (ap (λ b. is_set now i || (b && is_fresh now more mask i))
         (ne_eqb (i / 64) k (λ e. omega arith))
-        ∙ (or_false (is_set now i)
+        ∙ (or-false (is_set now i)
         ∙ (joined i
         ∙ ap (λ b. is_set old i || (b && is_fresh old more mask i))
         (lt-ltb i (64 * k) before ∙ sym (lt-ltb i (64 * (k + 1)) (omega arith))))))
@@ -227,9 +223,9 @@ module _ (old now more mask : List ℕ) (k : ℕ)
           put i
           ∙ (ap (λ b. is_set now i || (b && is_fresh now more mask i))
           (ne_eqb (i / 64) k (λ e. omega arith))
-          ∙ (or_false (is_set now i)
+          ∙ (or-false (is_set now i)
           ∙ (still i behind
-          ∙ (sym (or_false (is_set old i))
+          ∙ (sym (or-false (is_set old i))
           ∙ sym (ap (λ b. is_set old i || (b && is_fresh old more mask i))
           (le-ltb i (64 * (k + 1)) far))))))
     ]
@@ -289,5 +285,5 @@ none_of_mask old more mask k short i behind =
 pub none_joined : (old more mask : List ℕ) (i : ℕ)
     → is_set old i ≡ (is_set old i || (nat_lt i 0 && is_fresh old more mask i))
 none_joined old more mask i =
-    sym (or_false (is_set old i))
+    sym (or-false (is_set old i))
     ∙ sym (ap (λ b. is_set old i || (b && is_fresh old more mask i)) (le-ltb i 0 (omega arith)))

@@ -8,12 +8,9 @@ use Rattle.std.proofs.lemmas.Bool.{cases_eq, cases_lt, eq-eqb, ne_eqb, lt-ltb, l
 use Rattle.std.proofs.lemmas.Nat.{mod_below}
 use Rattle.std.proofs.lemmas.Nat.Bits.{bit_at_and, bit_at_not}
 use Rattle.std.proofs.lemmas.List.{get_or-set_same, get_or-set_other}
+use Rattle.std.proofs.Math.Bool.{and-true}
 use Rattle.mrc_bits.specs.Bits.{is_set}
 use Rattle.mrc_bits.proofs.Words.{bit_cases}
-
-and_true : (b : Bool) → (b && true) ≡ b
-and_true true = refl
-and_true false = refl
 
 -- one word
 pub word_less : (words less : List ℕ) (k own : ℕ) → k < length words → own ≡ slice_index less k
@@ -35,7 +32,7 @@ word_less words less k own below is fits i = elim (cases_eq (i / 64) k) [
       ∙ sym (ap (λ b. is_set words i && not (b && is_set less i)) (eq-eqb (i / 64) k same))))))
   | inr other ↦
       ap (λ w. bit_at w (i % 64) == 1) (get_or-set_other words k (i / 64) put 0 other)
-      ∙ (sym (and_true (is_set words i))
+      ∙ (sym (and-true (is_set words i))
       ∙ sym (ap (λ b. is_set words i && not (b && is_set less i)) (ne_eqb (i / 64) k other)))
 ]
   where
@@ -96,5 +93,5 @@ next_less old now then less k was is i =
 pub begin_less : (old less : List ℕ) (i : ℕ)
     → is_set old i ≡ (is_set old i && not (nat_lt i 0 && is_set less i))
 begin_less old less i =
-    sym (and_true (is_set old i))
+    sym (and-true (is_set old i))
     ∙ sym (ap (λ b. is_set old i && not (b && is_set less i)) (le-ltb i 0 (omega arith)))

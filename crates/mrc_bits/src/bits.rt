@@ -65,7 +65,7 @@ pub fn next_bit(words: &[u64], from: usize) -> Option<usize>
 }
 
 /// A word of a row; 0 behind the last.
-fn word_at(words: &[u64], k: usize) -> u64
+pub fn word_at(words: &[u64], k: usize) -> u64
     ensures value { result ≡ slice_index words.now k }
     ensures small { result < 2 ^ 64 }
 {

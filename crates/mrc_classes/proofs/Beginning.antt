@@ -16,8 +16,8 @@ use Rattle.mrc_model.specs.Rules.{InRange, Rule, k1, k2}
 use Rattle.mrc_model.proofs.Members.{in_left, in_right, in_append}
 use Rattle.mrc_model.proofs.FirstHeld.{in_one}
 use Rattle.mrc_wiring.specs.FirstState.{HasFirstHolds}
+use Rattle.mrc_wiring.proofs.Takers.{same_right_is}
 use Rattle.mrc_model.specs.Rights.{same_right}
-use Rattle.mrc_slots.proofs.Passing.{same_right_is}
 use Rattle.mrc_facts.specs.Sets.{has}
 use Rattle.mrc_classes.specs.Growing.{Added, Only, Below, nothing}
 use Rattle.mrc_classes.specs.Following.{IsHeldAtFirst, IsFirstFact, IsListOf}

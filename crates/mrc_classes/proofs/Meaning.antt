@@ -18,9 +18,8 @@ use Rattle.mrc_model.specs.Rules.{Has, InRange, Follows, FactSet, CanSendBy, by_
 use Rattle.mrc_model.specs.Rules.{k1, k2, k3_send, k3_once, k4, k5, k6, k7_up, k7_down, k8, k9, k10}
 use Rattle.mrc_model.specs.declared.Verb.TheVariants.{Takes, Gives, Sends}
 use Rattle.mrc_model.specs.Rights.{same_right}
-use Rattle.mrc_slots.proofs.Passing.{same_right_is}
 use Rattle.mrc_wiring.specs.Slots.{takes}
-use Rattle.mrc_wiring.proofs.Takers.{IsTaker, taken, taker}
+use Rattle.mrc_wiring.proofs.Takers.{IsTaker, taken, taker, same_right_is}
 use Rattle.mrc_slots.specs.Passing.{passes}
 use Rattle.mrc_slots.proofs.Passing.{by_slot, passed_by}
 use Rattle.mrc_classes.specs.declared.rule_names.RuleName.{RuleName}

@@ -4,7 +4,7 @@ use Rattle.std.proofs.Common.{refl, sym}
 use Rattle.std.proofs.Common.{ap, subst, ◌∙◌, arith}
 use Rattle.std.specs.Prelude.{◌||◌, ◌&&◌, nat_lt, not}
 use Rattle.std.proofs.lemmas.Bool.{or_cases, or_left, or_right, and_parts, and_from, ltb-true}
-use Rattle.std.proofs.lemmas.Bool.{lt-ltb}
+use Rattle.std.proofs.lemmas.Bool.{lt-ltb, not-true}
 use Rattle.std.proofs.lemmas.Bool.{cases_eq, true≢false}
 use Rattle.mrc_base.specs.declared.PortRight.{PortRight}
 use Rattle.mrc_base.specs.declared.PortRight.TheVariants.{Send, Receive, SendOnce}
@@ -124,10 +124,6 @@ module _ (W : Wiring) (rule : RuleName) (row : ℕ) (marks : Marks) where
 
 -- what a rule concludes from a new fact
 
-turned : (b : Bool) → not b ≡ true → b ≡ false
-turned true e = cc
-turned false e = refl
-
 module _ (W : Wiring) (S N K : Fact → Bool) (rule : RuleName) (row : ℕ) where
   pub new_both : (n : ℕ) (a b c : ℕ → PortRight → Bool)
       → has_two rule ≡ true
@@ -184,7 +180,7 @@ module _ (W : Wiring) (S N K : Fact → Bool) (rule : RuleName) (row : ℕ) wher
                 | inr y ↦ y
               ];
             };
-            unknown = ap K x.is ∙ turned (K (conclusion rule row x.class x.right)) p.1;
+            unknown = ap K x.is ∙ not-true (K (conclusion rule row x.class x.right)) p.1;
           }
 
       back : (g : Fact) → ByRule W S N K row rule g → InRow W rule row (λ c r. IsTrue (left c r)) g

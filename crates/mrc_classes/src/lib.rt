@@ -39,6 +39,7 @@ pub use instances::{Candidates, FewFacts, Goal, Instance, Premise, RULES, instan
 pub use lacking::{Missing, Search, violation};
 pub use mrc_base::Fact;
 pub use mrc_rows::Facts;
+pub use rights::same_right;
 pub use rule_names::RuleName;
 pub use rules::{Rules, can_send_to};
 pub use searching::violation_by;

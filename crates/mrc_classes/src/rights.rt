@@ -39,8 +39,10 @@ pub(crate) fn backup(class: u16, notify: u16) -> Fact
     }
 }
 
-pub(crate) fn same_right(one: PortRight, other: PortRight) -> bool
-    ensures { result ≡ same_right one other }
+/// Whether the two are one right.
+pub fn same_right(one: PortRight, other: PortRight) -> bool
+    ensures exact { result ≡ same_right one other }
+    ensures equal { IsTrue result → one ≡ other }
 {
     match one {
         PortRight::Send => matches!(other, PortRight::Send),

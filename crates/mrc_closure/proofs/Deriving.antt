@@ -3,7 +3,7 @@ use Rattle.std.proofs.Common.{◌≡◌, Bool, true, false, List, [], ◌∷◌,
 use Rattle.std.proofs.Common.{subst, ◌∙◌, IsTrue, ◌⊎◌, inl, inr}
 use Rattle.std.specs.Prelude.{not, ◌&&◌, ◌||◌}
 use Rattle.std.specs.List.{AllByRecursion}
-use Rattle.std.proofs.lemmas.Bool.{or_cases, or_left, or_right, and_parts, and_from}
+use Rattle.std.proofs.lemmas.Bool.{or_cases, or_left, or_right, and_parts, and_from, cases_Bool}
 use Rattle.mrc_base.specs.declared.Fact.{Fact}
 use Rattle.mrc_model.specs.IsIn.{IsIn, here, later}
 use Rattle.mrc_model.specs.Wiring.{Wiring}
@@ -20,7 +20,7 @@ use Rattle.mrc_closure.specs.Orders.{IsFollowing, IsOnce, IsOrder, HaveSame, lin
 use Rattle.mrc_closure.specs.Orders.{backward, HasLink, IsLinked}
 use Rattle.mrc_closure.proofs.Cuts.{cut_none, cut_append}
 use Rattle.mrc_closure.proofs.Cuts.{cut_longer, has_append, has_left, has_right, once_ascending}
-use Rattle.mrc_closure.proofs.Keeping.{decide, new_found, new_lacked, new_there, old_or_new}
+use Rattle.mrc_closure.proofs.Keeping.{new_found, new_lacked, new_there, old_or_new}
 
 -- what follows from a set follows from a larger one
 following_more : (W : Wiring) (S T : Fact → Bool) (f : Fact)
@@ -381,7 +381,7 @@ module _ (W : Wiring) (fact : Fact) (facts order needed : List Fact) (links : Li
       → IsLinked W (has facts_then) next needed needed_then links links_then
       → IsSearch W fact facts_then rest needed_then links_then
   searched facts_then needed_then links_then same l =
-      elim (decide (has needed next)) [
+      elim (cases_Bool (has needed next)) [
         | inl need ↦ linked facts_then needed_then links_then same need (l.linked need)
         | inr none ↦ let kept = l.idle none in
             subst (λ ls. IsSearch W fact facts_then rest needed_then ls) (sym kept.1)

@@ -6,6 +6,7 @@ use Rattle.std.proofs.Common.{IsTrue, ◌⊎◌, inl, inr}
 use Rattle.std.specs.Prelude.{◌&&◌, ◌||◌, ◌↔◌}
 use Rattle.std.specs.List.{AllByRecursion}
 use Rattle.std.proofs.lemmas.Bool.{and_parts, and_from, or_cases, or_left, or_right, true≢false}
+use Rattle.std.proofs.lemmas.Bool.{cases_Bool}
 use Rattle.mrc_base.specs.declared.Fact.{Fact}
 use Rattle.mrc_model.specs.IsIn.{IsIn, here, later}
 use Rattle.mrc_model.specs.Wiring.{Wiring}
@@ -17,10 +18,6 @@ use Rattle.mrc_classes.proofs.Following.{all_as}
 use Rattle.mrc_closure.specs.Merging.{FromOne, Merged}
 
 -- tests
-
-pub decide : (b : Bool) → (b ≡ true) ⊎ (b ≡ false)
-decide true = inl refl
-decide false = inr refl
 
 not_false : (b : Bool) → b ≡ false → IsTrue (not b)
 not_false b e = subst (λ x. IsTrue (not x)) (sym e) refl
@@ -67,7 +64,7 @@ module _ (before found after new : List Fact) (m : Merged before found after new
   pub old_or_new : (g : Fact) → IsTrue (has after g)
       → IsTrue (has before g) ⊎ (IsTrue (has found g) × IsTrue (has new g))
   old_or_new g h =
-      elim (decide (has before g)) [
+      elim (cases_Bool (has before g)) [
         | inl old ↦ inl old
         | inr lacked ↦ elim (or_cases (has before g) (has found g) (subst IsTrue (m.members g) h)) [
           | inl old ↦ inl old
@@ -126,7 +123,7 @@ find_new : (W : Wiring) (set : Fact → Bool) (new premises : List Fact)
     ⊎ AllByRecursion (λ p. InRange W p × Has set p × (has new p ≡ false)) premises
 find_new W set new [] all = inr tt
 find_new W set new (p ∷ ps) all =
-    elim (decide (has new p)) [
+    elim (cases_Bool (has new p)) [
       | inl at ↦ inl (p, here, at)
       | inr none ↦ elim (find_new W set new ps all.1) [
         | inl found ↦ inl (found.0, later found.1, found.2)
@@ -216,7 +213,7 @@ gone_on W facts new found facts_then new_then round found_is m ascending = recor
     closed k premises g rule within olds (inr old) =
         subst IsTrue (sym (m.members g))
         (or_left (has facts g) (has found g) (round.closed k premises g rule old within))
-    closed k premises g rule within olds (inl x) = elim (decide (has facts g)) [
+    closed k premises g rule within olds (inl x) = elim (cases_Bool (has facts g)) [
       | inl old ↦ subst IsTrue (sym (m.members g)) (or_left (has facts g) (has found g) old)
       | inr lacked ↦
           let from : FromOne W facts new g = record {

@@ -5,4 +5,3 @@ pub mod Within
 pub mod Deriving
 pub mod Placing
 pub mod Dealing
-pub mod Joining

@@ -16,9 +16,10 @@ use Rattle.mrc_model.specs.declared.Verb.{Verb}
 use Rattle.mrc_model.specs.declared.Verb.TheVariants.{Takes, Gives}
 use Rattle.mrc_model.specs.Wiring.{Wiring, classes, is_limited, kernel_class, may, trusts_by}
 use Rattle.mrc_model.specs.Rules.{Has, Closed, k7_up, k7_down}
-use Rattle.mrc_model.proofs.Members.{in_left, in_right, in_append, in_filter, filter_in}
+use Rattle.mrc_model.proofs.Members.{in_left, in_right, in_append, in_filter, filter_in, in_any}
+use Rattle.mrc_model.proofs.Members.{any_in}
 use Rattle.mrc_model.proofs.FirstHeld.{in_cons, in_one}
-use Rattle.mrc_wiring.proofs.Takers.{found, finds}
+use Rattle.mrc_model.proofs.Few.{same_if}
 use Rattle.mrc_wiring.specs.Table.{wiring_of}
 use Rattle.mrc_draw.specs.declared.drawing.Style.{Style}
 use Rattle.mrc_draw.specs.Pictures.{Picture, Edge, Holding, Carrying, Asking, below, are_one}
@@ -29,7 +30,6 @@ use Rattle.mrc_draw.specs.Pictures.{tasks_of, edges_of, has_style, agree, holds_
 use Rattle.mrc_draw.specs.Pictures.{hold_same, all_rights}
 use Rattle.mrc_draw.specs.Laws.{Tells, EachIsDrawn, IsSo, NothingElseIsDrawn, NodesHoldTheSame}
 use Rattle.mrc_draw.specs.Laws.{KernelPortsMakeOne}
-use Rattle.mrc_draw.proofs.Made.{same_answers}
 
 -- members of lists
 
@@ -162,7 +162,7 @@ hold_drawn P t c r at_task at_class is =
     let test = is_held P (members_of P leader) c s in
     let so : has_style P s t c r ≡ true = and_from (agree given given) (agree barred barred)
     (agrees given) (agrees barred) in
-    let held : test r ≡ true = found (λ u. P.facts (Hold u c r) && has_style P s u c r) t
+    let held : test r ≡ true = in_any (λ u. P.facts (Hold u c r) && has_style P s u c r) t
     (members_of P leader) (is_member P t at_task)
     (and_from (P.facts (Hold t c r)) (has_style P s t c r) is so) in
     let right = there test r held in
@@ -215,7 +215,8 @@ hold_so : (P : Picture) (leader c : ℕ) (s : Style)
 hold_so P leader c s r h =
     let test = is_held P (members_of P leader) c s in
     let held = (in_filter test r (all_rights) h).1 in
-    let one = finds (λ u. P.facts (Hold u c r) && has_style P s u c r) (members_of P leader) held in
+    let one = any_in (λ u. P.facts (Hold u c r) && has_style P s u c r) (members_of P leader) held
+    in
     let parts = and_parts (P.facts (Hold one.0 c r)) (has_style P s one.0 c r) one.2 in
     let member = (in_filter (λ u. leader_of P u == leader) one.0 (tasks_of P) one.1).1 in
     (one.0, eqb-true (leader_of P one.0) leader member, parts.0, parts.1)
@@ -352,7 +353,7 @@ kernel_ports_make_one P t u closed takes gives up down =
     (let h = from_range 0 (classes (wiring_of P.table)) c at in omega (arith, h)) in
     all_from (λ q. agree (P.facts (Hold t c q)) (P.facts (Hold u c q))) all_rights
     (λ r _. let same : P.facts (Hold t c r) ≡ P.facts (Hold u c r) =
-    same_answers (P.facts (Hold t c r)) (P.facts (Hold u c r))
+    same_if (P.facts (Hold t c r)) (P.facts (Hold u c r))
     (given P closed t u c r up at_t at_u at_class gives)
     (taken P closed t u c r up at_t at_u at_class takes) in
     ap (λ b. agree (P.facts (Hold t c r)) b) (sym same) ∙ agrees (P.facts (Hold t c r))) in

@@ -1,7 +1,6 @@
 -- The line of what may be carried.
-use Rattle.std.proofs.Common.{◌≡◌, ℕ, Bool, false, List, [], ◌∷◌, length, sym, ap, ◌∙◌, Ok, Err}
-use Rattle.std.proofs.Common.{Result}
-use Rattle.std.specs.Prelude.{◌==◌, flat_map, IfOk}
+use Rattle.std.proofs.Common.{◌≡◌, ℕ, Bool, false, List, [], ◌∷◌, length, sym, ap, ◌∙◌}
+use Rattle.std.specs.Prelude.{◌==◌, flat_map}
 use Rattle.mrc_base.specs.declared.PortRight.{PortRight}
 use Rattle.mrc_base.specs.declared.PortRight.TheVariants.{Send, Receive, SendOnce}
 use Rattle.mrc_wiring.specs.Table.{Table}
@@ -10,12 +9,6 @@ use Rattle.mrc_draw.specs.Pictures.{Edge, Carrying, rights_by, if_any}
 use Rattle.mrc_draw.specs.Dot.{rights_text, arrow_line, edge_line, carry_look}
 use Rattle.mrc_draw.specs.Drawings.{by_three}
 use Rattle.mrc_draw.proofs.Lists.{no_more}
-
--- what holds of each answer holds of what was answered
-pub told : {X E : Type 0} (r : Result X E) (P Q : X → Type 0) → ((x : X) → P x → Q x) → IfOk r P
-    → IfOk r Q
-told (Ok x) P Q f h = f x h
-told (Err e) P Q f h = h
 
 -- three answers are a test's
 three_told : (test : PortRight → Bool) (send receive once : Bool) → send ≡ test Send

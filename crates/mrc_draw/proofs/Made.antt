@@ -1,6 +1,6 @@
 -- Sets from lists, and the picture that a drawing keeps.
-use Rattle.std.proofs.Common.{◌≡◌, ℕ, ◌+◌, ◌<◌, Bool, true, false, List, [], ◌∷◌, ◌++◌, length}
-use Rattle.std.proofs.Common.{take, refl, sym, ap, subst, ◌∙◌, get_or}
+use Rattle.std.proofs.Common.{◌≡◌, ℕ, ◌+◌, ◌<◌, Bool, true, List, [], ◌∷◌, ◌++◌, length}
+use Rattle.std.proofs.Common.{take, sym, ap, subst, ◌∙◌, get_or}
 use Rattle.std.specs.Prelude.{◌||◌, filter, map, IsTrue, if◌then◌else◌}
 use Rattle.std.proofs.lemmas.List.Folds.{list_any_more}
 use Rattle.std.proofs.lemmas.List.Elements.{filter-append}
@@ -15,11 +15,12 @@ use Rattle.mrc_model.specs.IsIn.{IsIn}
 use Rattle.mrc_model.specs.First.{is_sound}
 use Rattle.mrc_model.specs.FirstHoldings.{first_facts}
 use Rattle.mrc_model.proofs.FirstHeld.{first_given}
+use Rattle.mrc_model.proofs.Members.{in_any, any_in}
+use Rattle.mrc_model.proofs.Few.{same_if}
 use Rattle.mrc_wiring.specs.declared.claim.ForbiddenLine.{ForbiddenLine}
 use Rattle.mrc_wiring.specs.FirstState.{HasFirstHolds}
 use Rattle.mrc_wiring.specs.Table.{Table, wiring_of}
 use Rattle.mrc_wiring.proofs.FirstHolds.{facts_are_held}
-use Rattle.mrc_wiring.proofs.Takers.{found, finds}
 use Rattle.mrc_draw.specs.Pictures.{picture_of, holds_in, forbidden_hold, below}
 use Rattle.mrc_draw.proofs.Lists.{below_more}
 
@@ -47,18 +48,12 @@ members_more test n before after so_far grown =
 
 -- a list has the facts that stand in it
 in_has : (facts : List Fact) (f : Fact) → IsIn f facts → has facts f ≡ true
-in_has facts f at = found (is_same f) f facts at (same_itself f)
+in_has facts f at = in_any (is_same f) f facts at (same_itself f)
 
 has_in : (facts : List Fact) (f : Fact) → has facts f ≡ true → IsIn f facts
 has_in facts f h =
-    let one = finds (is_same f) facts h in
+    let one = any_in (is_same f) facts h in
     subst (λ g. IsIn g facts) (sym (equal_from_same f one.0 one.2)) one.1
-
-pub same_answers : (a b : Bool) → (a ≡ true → b ≡ true) → (b ≡ true → a ≡ true) → a ≡ b
-same_answers true true f g = refl
-same_answers true false f g = sym (f refl)
-same_answers false true f g = g refl
-same_answers false false f g = refl
 
 -- what K1 gives, whichever list has it
 first_same : (table : Table) → IsTrue (is_sound (wiring_of table)) → (holds : List Fact)
@@ -69,7 +64,7 @@ first_same table sound holds at_first t c r =
     let W = wiring_of table in
     let given = facts_are_held W (first_given W sound) in
     let f = Hold t c r in
-    same_answers (has holds f) (has (first_facts W) f)
+    same_if (has holds f) (has (first_facts W) f)
     (λ h. in_has (first_facts W) f ((given t c r).1 ((at_first t c r).0 (has_in holds f h))))
     (λ h. in_has holds f ((at_first t c r).1 ((given t c r).0 (has_in (first_facts W) f h))))
 

@@ -1,14 +1,14 @@
 -- The types that lines restrict, one by one, and the lines of rows.
-use Rattle.std.proofs.Common.{◌≡◌, ℕ, suc, ◌+◌, ◌<◌, Bool, true, false, List, [], ◌∷◌, ◌++◌}
-use Rattle.std.proofs.Common.{length, take, refl, sym, ap, ◌∙◌, get_or, Some, None, inl, inr, arith}
-use Rattle.std.proofs.Common.{cond, Result, Ok, Err}
-use Rattle.std.specs.Prelude.{OnOk, ◌||◌, not, nat_lt, bytes_eq, is_some, position, if◌then◌else◌}
-use Rattle.std.specs.List.{list_any, position_or_len}
+use Rattle.std.proofs.Common.{◌≡◌, ℕ, ◌+◌, ◌<◌, Bool, true, false, List, [], ◌∷◌, ◌++◌}
+use Rattle.std.proofs.Common.{length, take, refl, sym, ap, ◌∙◌, get_or}
+use Rattle.std.proofs.Common.{Result, Ok, Err}
+use Rattle.std.specs.Prelude.{OnOk, ◌||◌, bytes_eq, if◌then◌else◌}
+use Rattle.std.specs.List.{list_any}
 use Rattle.std.proofs.Math.Bool.{or-false}
-use Rattle.std.proofs.lemmas.Bool.{cases_lt, lt-ltb, le-ltb}
 use Rattle.std.proofs.lemmas.List.Folds.{list_any_more, list_any-append}
 use Rattle.std.proofs.lemmas.Slice.Eq.{bytes_eq-Decides}
 use Rattle.mrc_name_table.specs.Names.{with_name}
+use Rattle.mrc_name_table.proofs.Tables.{is_placed}
 use Rattle.mrc_wiring_text.specs.declared.reading.Line.{Line}
 use Rattle.mrc_wiring_text.specs.declared.wiring.WiringSays.{WiringSays}
 use Rattle.mrc_wiring.specs.Table.{Table}
@@ -27,32 +27,6 @@ restricted_more lines i line low at before after so_far told word =
     ∙ (ap (λ (l : Line WiringSays). is_restricted (take i lines) word || restricts word l.says) at
     ∙ sym (list_any_more (λ (l : Line WiringSays). restricts word l.says) lines i line low)))
 
-next_lt : (a b : ℕ) → nat_lt (1 + a) (suc b) ≡ nat_lt a b
-next_lt a b = elim (cases_lt a b) [
-  | inl low ↦ lt-ltb (1 + a) (suc b) (omega arith) ∙ sym (lt-ltb a b low)
-  | inr past ↦ le-ltb (1 + a) (suc b) (omega arith) ∙ sym (le-ltb a b past)
-]
-
--- a place is found if one passes
-position_any : {X : Type 0} (test : X → Bool) (xs : List X)
-    → is_some (position test xs) ≡ list_any test xs
-position_any {X = X} test xs =
-    by_place (nat_lt (position_or_len test xs) (length xs)) ∙ sym (any_place xs)
-  where
-    by_place : (b : Bool) → is_some (cond b (Some (position_or_len test xs)) None) ≡ b
-    by_place true = refl
-    by_place false = refl
-
-    any_place : (ys : List X) → list_any test ys ≡ nat_lt (position_or_len test ys) (length ys)
-    any_place [] = refl
-    any_place (y ∷ ys) = by_test (test y) (any_place ys)
-      where
-        by_test : (b : Bool) → list_any test ys ≡ nat_lt (position_or_len test ys) (length ys)
-            → (b || list_any test ys)
-            ≡ nat_lt (cond (not b) (1 + position_or_len test ys) 0) (suc (length ys))
-        by_test true rest = sym (lt-ltb 0 (suc (length ys)) (omega arith))
-        by_test false rest = rest ∙ sym (next_lt (position_or_len test ys) (length ys))
-
 -- one more name
 pub listed_more : (names : List (List ℕ)) (name : List ℕ) (more : List (List ℕ))
     → more ≡ with_name names name
@@ -61,10 +35,10 @@ listed_more names name more is word =
     ap (λ ns. is_listed ns word) is ∙ chosen (is_listed names name) refl
   where
     added : is_listed (names ++ name ∷ []) word ≡ (is_listed names word || bytes_eq word name)
-    added = position_any (bytes_eq word) (names ++ name ∷ [])
+    added = is_placed (bytes_eq word) (names ++ name ∷ [])
         ∙ (list_any-append (bytes_eq word) names (name ∷ [])
         ∙ (ap (λ b. list_any (bytes_eq word) names || b) (or-false (bytes_eq word name))
-        ∙ ap (λ b. b || bytes_eq word name) (sym (position_any (bytes_eq word) names))))
+        ∙ ap (λ b. b || bytes_eq word name) (sym (is_placed (bytes_eq word) names))))
 
     there : (b : Bool) → bytes_eq word name ≡ b → is_listed names name ≡ true
         → is_listed names word ≡ (is_listed names word || b)

@@ -2,10 +2,6 @@
 -- This profile's own choice.
 use Rattle.std.specs.Prelude.{◌≡◌, ℕ, ◌==◌, Bool, List, ◌++◌, Some, codes, is_some, slice_get}
 use Rattle.std.specs.Prelude.{if◌then◌else◌}
-use Rattle.mrc_model.specs.declared.LabelItem.{LabelItem}
-use Rattle.mrc_model.specs.declared.LabelItem.TheVariants as label
-use Rattle.mrc_forms.specs.declared.form.MessageKind.{MessageKind}
-use Rattle.mrc_forms.specs.declared.form.MessageKind.TheVariants as messages
 use Rattle.mrc_forms.specs.Tables.{Row, Table as Interface, AreForms, form_in}
 use Rattle.mrc_wiring.specs.Names.{number_of}
 use Rattle.mrc_wiring.specs.Table.{Table}
@@ -34,11 +30,6 @@ pub record IsMessage (table : Table) (message : Message) : Type 0 where
   pub row : Row
   pub in_interface : IsRow table message.number message.interface.now row
   pub is : form_in message.kind row ≡ Some message.form.now
-
--- the item of a label that stands for these messages of the interface of this number
-abbrev pub item_of : MessageKind → ℕ → LabelItem
-item_of messages.Request number = label.Request number
-item_of messages.Reply number = label.Reply number
 
 -- a class behind a comma and a blank, if it is not the first
 abbrev pub class_piece : Table → ℕ → ℕ → List ℕ

@@ -14,14 +14,13 @@ ghost use Rattle.mrc_draw.specs.SlotLines.{type_word, restricts, is_restricted, 
 ghost use Rattle.mrc_draw.specs.SlotLines.{classes_text, answer, slot_line, has_slot, line_of};
 ghost use Rattle.mrc_draw.specs.SlotLines.{argument_line, form_lines, row_lines, lines_of};
 ghost use Rattle.mrc_draw.specs.SlotLines.{all_lines, slots_text, is_of_type};
-ghost use Rattle.mrc_draw.specs.Restricting.{is_listed, listed, IsRow, IsMessage, item_of};
+ghost use Rattle.mrc_draw.specs.Restricting.{is_listed, listed, IsRow, IsMessage};
 ghost use Rattle.mrc_draw.specs.Restricting.{class_piece};
 
 use mrc_base::ClassId;
 use mrc_forms::{Argument, Form, Interface, MessageKind, Row, Slot};
-use mrc_model::LabelItem;
 use mrc_name_table::NameTable;
-use mrc_wiring::Wired;
+use mrc_wiring::{Wired, item_of};
 use mrc_wiring_text::{WiringLine, WiringSays};
 use mrc_words::class_word;
 use std::alloc::{AllocError, Global};
@@ -222,15 +221,6 @@ fn has_slot(form: Option<&Form>, argument: &str, type_name: &str) -> bool
     match form {
         Some(form) => is_of_type(type_name, form.slot_named(argument)),
         None => false,
-    }
-}
-
-fn item_of(kind: MessageKind, number: usize) -> LabelItem
-    ensures { result ≡ item_of kind number }
-{
-    match kind {
-        MessageKind::Request => LabelItem::Request(number),
-        MessageKind::Reply => LabelItem::Reply(number),
     }
 }
 

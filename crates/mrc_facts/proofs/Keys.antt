@@ -11,6 +11,7 @@ use Rattle.std.specs.declared.ops.Bound.TheVariants.{Excluded, Unbounded}
 use Rattle.std.specs.Ordering.{match_ordering, is_lt}
 use Rattle.std.specs.BTreeSet.{insert_key}
 use Rattle.std.specs.BTreeMap.Range.{range_contains}
+use Rattle.std.proofs.Math.Bool.{and-true}
 use Rattle.mrc_base.specs.declared.Fact.{Fact}
 use Rattle.mrc_base.specs.contracts.FactOrd.TheImpl as facts
 use Rattle.mrc_facts.specs.Order.{fact_cmp, is_before}
@@ -49,10 +50,6 @@ ascending_at (f ∷ fs) sorted =
 pub ascending : (fs : List Fact) → IsStrictlySortedBy (facts.cmp-value).it fs → IsAscending fs
 ascending fs sorted =
     ascending_at fs (subst (λ (R : Fact → Fact → Ordering). IsStrictlySortedBy R fs) derived sorted)
-
-and-true : (b : Bool) → (b && true) ≡ b
-and-true true = refl
-and-true false = refl
 
 first_of_filter : (f : Fact) (fs : List Fact)
     → slice_get (filter (λ g. is_before f g && true) fs) 0 ≡ after fs f

@@ -131,7 +131,7 @@ or_again : (a b : Bool) → (a || b) ≡ (a || (a || b))
 or_again true b = refl
 or_again false b = refl
 
-or_swap : (a b c : Bool) → (a || (b || c)) ≡ (b || (a || c))
+pub or_swap : (a b c : Bool) → (a || (b || c)) ≡ (b || (a || c))
 or_swap true true c = refl
 or_swap true false c = refl
 or_swap false b c = refl
@@ -197,7 +197,7 @@ first_answers set o =
     → IfSome o (λ f. IsLowerBound R set f.now) → IfSome (option_copied o) (IsLeast set.keys))
     (sym derived) (least_by set o)
 
-same_turned : (f g : Fact) → is_same f g ≡ is_same g f
+pub same_turned : (f g : Fact) → is_same f g ≡ is_same g f
 same_turned f g = sym (ap is_eq (fact_total.antisymm g f) ∙ is_eq-reverse (fact_cmp f g))
   where
     is_eq-reverse : (o : Ordering) → is_eq (ordering_reverse o) ≡ is_eq o

@@ -1,11 +1,12 @@
 -- A list of facts without one of them.
-use Rattle.std.proofs.Common.{◌≡◌, ◌+◌, Bool, true, false, cond, List, [], ◌∷◌, length, refl, ap, sym, subst, ◌∙◌, ◌⊎◌, inl, inr, arith}
+use Rattle.std.proofs.Common.{◌≡◌, ◌+◌, true, false, cond, List, [], ◌∷◌, length, refl, ap, sym, subst, ◌∙◌, ◌⊎◌, inl, inr, arith}
 use Rattle.std.specs.Prelude.{IsTrue, not, ◌&&◌, ◌||◌}
 use Rattle.std.specs.Ordering.{is_lt}
 use Rattle.std.specs.declared.cmp.Ordering.TheVariants.{Less}
 use Rattle.std.proofs.lemmas.Bool.{cases_Bool, and_parts, and_from, or_left, or_right}
 use Rattle.std.proofs.lemmas.Bool.{true≢false, false_from_ne_true}
 use Rattle.std.specs.List.Sorted.{IsStrictlySortedBy}
+use Rattle.std.proofs.Math.Bool.{or-false, and-false}
 use Rattle.mrc_base.specs.declared.Fact.{Fact}
 use Rattle.mrc_facts.specs.Order.{fact_cmp, is_before, is_same}
 use Rattle.mrc_facts.specs.Sets.{has, without, begins_after, are_ascending, IsAscending}
@@ -19,11 +20,7 @@ first_once f fs up = false_from_ne_true (has fs f) (λ there.
     true≢false (sym (ap is_lt (at_member (λ g. fact_cmp f g ≡ Less) fs (sorted (f ∷ fs) up).0 f there)) ∙ not_before_itself f))
 
 pub has-without : (fs : List Fact) (f : Fact) → IsAscending fs → (g : Fact) → has (without fs f) g ≡ (not (is_same g f) && has fs g)
-has-without [] f up g = none (not (is_same g f))
-  where
-    none : (b : Bool) → false ≡ (b && false)
-    none true = refl
-    none false = refl
+has-without [] f up g = sym (and-false (not (is_same g f)))
 has-without (x ∷ fs) f up g =
     elim (is_same f x) as (λ b. is_same f x ≡ b → has (cond b fs (x ∷ without fs f)) g ≡ (not (is_same g f) && (is_same g x || has fs g))) [
       | true ↦ λ e. taken e (cases_Bool (is_same g f))
@@ -76,11 +73,7 @@ pub length-together : (a b c : List Fact) → IsAscending a → IsAscending b �
     → ((g : Fact) → IsTrue (has b g) → has a g ≡ false)
     → length c ≡ length a + length b
 length-together a [] c up_a up_b up_c both apart =
-    let e = ap length (one_list c a up_c up_a (λ g. both g ∙ or_false (has a g))) in omega arith
-  where
-    or_false : (b : Bool) → (b || false) ≡ b
-    or_false true = refl
-    or_false false = refl
+    let e = ap length (one_list c a up_c up_a (λ g. both g ∙ or-false (has a g))) in omega arith
 length-together a (f ∷ fs) c up_a up_b up_c both apart =
     let in_c : has c f ≡ true = both f ∙ or_right (has a f) (has (f ∷ fs) f) in_b in
     let one = length-without c f in_c in

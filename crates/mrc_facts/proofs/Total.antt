@@ -25,7 +25,7 @@ then_both Less p e = absurd cc
 then_both Equal p e = (refl, e)
 then_both Greater p e = absurd cc
 
-same_right : (r s : PortRight) → right_number r ≡ right_number s → r ≡ s
+pub same_right : (r s : PortRight) → right_number r ≡ right_number s → r ≡ s
 same_right Send Send e = refl
 same_right Send Receive e = absurd cc
 same_right Send SendOnce e = absurd cc

@@ -1,5 +1,5 @@
 -- From a fact of an ascending list to the next one.
-use Rattle.std.proofs.Common.{◌≡◌, Bool, true, false, ℕ, zero, suc, ◌+◌, ◌-◌, ◌<◌, ◌≤◌, List, [], ◌∷◌, length}
+use Rattle.std.proofs.Common.{◌≡◌, false, ℕ, zero, suc, ◌+◌, ◌-◌, ◌<◌, ◌≤◌, List, [], ◌∷◌, length}
 use Rattle.std.proofs.Common.{◌++◌, take, Some, None, refl, ap, sym, subst, ◌∙◌, IsTrue, arith}
 use Rattle.std.specs.Prelude.{slice_get, filter, Option, ◌||◌}
 use Rattle.std.proofs.lemmas.List.{take_more, take_all, length-append}
@@ -12,7 +12,7 @@ use Rattle.std.specs.declared.cmp.Ordering.TheVariants.{Less}
 use Rattle.mrc_facts.specs.Order.{fact_cmp, is_before, is_same}
 use Rattle.mrc_facts.specs.Sets.{has, after, begins_after, are_ascending, IsAscending}
 use Rattle.mrc_facts.proofs.Total.{not_before_itself, same_itself}
-use Rattle.mrc_facts.proofs.Members.{first_is_least, at_member, sorted}
+use Rattle.mrc_facts.proofs.Members.{first_is_least, at_member, sorted, or_swap}
 
 -- the first of those behind f is the next one
 next_of_first : (f : Fact) (fs : List Fact)
@@ -179,12 +179,7 @@ walk_at fs f is = member_at fs (place fs (Some f)) f (sym is)
 -- what a list has with one more at its end
 pub has_more : (fs : List Fact) (f g : Fact) → has (fs ++ f ∷ []) g ≡ (is_same g f || has fs g)
 has_more [] f g = refl
-has_more (x ∷ fs) f g = ap (λ b. is_same g x || b) (has_more fs f g) ∙ swapped (is_same g x) (is_same g f) (has fs g)
-  where
-    swapped : (a b c : Bool) → (a || (b || c)) ≡ (b || (a || c))
-    swapped true true c = refl
-    swapped true false c = refl
-    swapped false b c = refl
+has_more (x ∷ fs) f g = ap (λ b. is_same g x || b) (has_more fs f g) ∙ or_swap (is_same g x) (is_same g f) (has fs g)
 
 pub walk_less : (fs : List Fact) (f : Fact) (next : Option Fact) → IsStep fs f next → length fs - place fs next < length fs - place fs (Some f)
 walk_less fs f next step = let a = step.moved in let b = step.within in omega (arith, a, b)

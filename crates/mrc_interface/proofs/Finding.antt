@@ -1,5 +1,5 @@
 -- The rows of a table, and the statements that they are of.
-use Rattle.std.proofs.Common.{◌≡◌, ℕ, zero, suc, ◌+◌, ◌-◌, true, List, [], ◌∷◌, Option}
+use Rattle.std.proofs.Common.{◌≡◌, ℕ, zero, suc, ◌+◌, ◌-◌, true, List, [], ◌∷◌}
 use Rattle.std.proofs.Common.{Some, None, Ok, refl, sym, ap, ◌∙◌, subst, arith, nat_le}
 use Rattle.std.specs.Prelude.{slice_get, ◌↔◌}
 use Rattle.std.specs.Option.{option_map}
@@ -7,6 +7,7 @@ use Rattle.std.proofs.lemmas.Bool.{leb-true, le-leb}
 use Rattle.mrc_base.specs.Limits.{limit_of_number}
 use Rattle.mrc_base.specs.Reading.{◌>>=◌}
 use Rattle.mrc_base.proofs.Steps.{bind_ok, passed, ok_is}
+use Rattle.mrc_base.proofs.Lists.{map_is}
 use Rattle.mrc_model.proofs.Maps.{same_Some, not_None}
 use Rattle.mrc_model.specs.IsIn.{IsIn, here, later}
 use Rattle.mrc_mig_parse.proofs.PhraseLemmas.{in_two, where_true}
@@ -19,12 +20,6 @@ use Rattle.mrc_forms.specs.Tables.{Row, Table, form_in, form_at, form_of, first_
 use Rattle.mrc_forms.specs.Tables.{message_of, AreForms}
 use Rattle.mrc_interface.specs.Subsystems.{row_of, last_id, row_at, rows_at, table_of}
 use Rattle.mrc_interface.specs.Laws.{forms_at, HasForm}
-
--- what is found by a function of what is found
-pub by_function : {A B : Type 0} (f : A → B) (o : Option A) (b : B) → option_map f o ≡ Some b
-    → (a : A) × (o ≡ Some a) × (f a ≡ b)
-by_function f None b e = absurd (not_None b (sym e))
-by_function f (Some a) b e = (a, refl, same_Some (f a) b e)
 
 -- the first row and those behind it
 at_place : (id : ℕ) (s : Statement) (ss : List Statement) (row : Row) (more : List Row)
@@ -106,7 +101,7 @@ pub statement_of_place : (m : Meaning) (rows : List Row) → rows_at m.base m.ro
     → (s : Statement) × (slice_get m.rows i ≡ Some s) × IsOf kind (m.base + i) s form
 statement_of_place m rows all kind i form e =
     let (row, there, stands) = in_two (slice_get rows i) (form_in kind) form e in
-    let (s, at, is) = by_function (row_of (m.base + i)) (slice_get m.rows i) row
+    let (s, at, is) = map_is (row_of (m.base + i)) (slice_get m.rows i) row
     (sym (row_of_statement m.base m.rows rows all i) ∙ there) in
     (s, at, form_of_statement kind (m.base + i) s form (ap (form_in kind) is ∙ stands))
 

@@ -7,6 +7,7 @@ use Rattle.std.proofs.lemmas.Option.{slice_get-map}
 use Rattle.mrc_base.specs.declared.Disp.{Disp}
 use Rattle.mrc_model.specs.IsIn.{IsIn, here, later}
 use Rattle.mrc_base.specs.Disposition.{disp_of_number}
+use Rattle.mrc_base.proofs.Lists.{map_is}
 use Rattle.mrc_model.proofs.Maps.{same_Some, not_None}
 use Rattle.mrc_mig_parse.specs.Arguments.{Item}
 use Rattle.mrc_forms.specs.declared.form.FormKind.{FormKind}
@@ -14,7 +15,6 @@ use Rattle.mrc_forms.specs.declared.form.FormKind.TheVariants.{Request, Reply}
 use Rattle.mrc_forms.specs.Forms.{Argument, Slot, slot_by}
 use Rattle.mrc_interface.specs.Bodies.{argument_of, slots_from, body, form_of}
 use Rattle.mrc_interface.specs.Laws.{HasSlot}
-use Rattle.mrc_interface.proofs.Finding.{by_function}
 
 -- a slot of this number and disposition is among these
 abbrev HasSlotIn : List Slot → ℕ → Disp → Type 0
@@ -73,7 +73,7 @@ IsPortArgument arguments i d = (argument : Argument) × (slice_get arguments i �
 item_of_argument : (items : List Item) (j : ℕ) (d : Disp)
     → IsPortArgument (map argument_of items) j d → IsPortAt items j d
 item_of_argument items j d p =
-    let (item, at, is) = by_function argument_of (slice_get items j) p.0
+    let (item, at, is) = map_is argument_of (slice_get items j) p.0
     (sym (slice_get-map argument_of items j) ∙ p.1) in
     (item, at, ap (λ (a : Argument). disp_of_number a.shape.name) is ∙ p.2)
 

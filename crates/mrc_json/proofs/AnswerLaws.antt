@@ -1,9 +1,9 @@
 -- No answer has a number with a fraction.
 use Rattle.std.proofs.Common.{◌≡◌, ◌∙◌, ℕ, List, [], ◌∷◌, ◌++◌, ap, sym, subst, refl, true, false}
-use Rattle.std.proofs.Common.{map, Bool}
-use Rattle.std.specs.Prelude.{Option, Some, None, filter, flat_map, ◌||◌}
+use Rattle.std.proofs.Common.{Bool}
+use Rattle.std.specs.Prelude.{Option, Some, None, filter, flat_map}
 use Rattle.std.specs.List.{AllZip}
-use Rattle.std.proofs.lemmas.Bool.{true≢false}
+use Rattle.std.proofs.lemmas.Bool.{or_from, or_parts}
 use Rattle.std.proofs.lemmas.List.Concat.{flat_map-cons}
 use Rattle.serde_json.specs.Data.{Data, string}
 use Rattle.serde_json.specs.View.{items_of}
@@ -31,7 +31,7 @@ use Rattle.mrc_mend.specs.declared.answers.Mends.{Mends}
 use Rattle.mrc_mend.specs.Mending.{admit_lines}
 use Rattle.mrc_mig_cut.specs.declared.routine.LeftOut.{LeftOut}
 use Rattle.mrc_json.specs.declared.cuts.NamedCut.{NamedCut}
-use Rattle.mrc_json.specs.Objects.{number_of, or_null, owned_data}
+use Rattle.mrc_json.specs.Objects.{number_of, owned_data}
 use Rattle.mrc_json.specs.Facts.{source_data, places_of, step_data, IsStepData, IsChainData}
 use Rattle.mrc_json.specs.Facts.{fact_data}
 use Rattle.mrc_json.specs.Lines.{notices_data}
@@ -42,7 +42,7 @@ use Rattle.mrc_json.specs.Mends.{added_data, change_data, mend_data, cause_data}
 use Rattle.mrc_json.specs.Cuts.{carried_data, left_data, cut_data}
 use Rattle.mrc_json.specs.Answers.{yes_data, broken_data, refused_data, explained_data, facts_data}
 use Rattle.mrc_json.specs.Answers.{mends_data, mended_data, cuts_data, IsBrokenAnswer}
-use Rattle.mrc_json.proofs.PlainLaws.{IsPlain, neither, each_plain, or_null_plain, fact_plain}
+use Rattle.mrc_json.proofs.PlainLaws.{IsPlain, each_plain, or_null_plain, fact_plain}
 
 -- each of these value has no number with a fraction
 abbrev ArePlain : List Data → Type 0
@@ -55,19 +55,14 @@ zip_plain R plain [] [] all = refl
 zip_plain R plain [] (d ∷ ds) all = absurd all
 zip_plain R plain (x ∷ xs) [] all = absurd all
 zip_plain R plain (x ∷ xs) (d ∷ ds) all =
-    neither _ _ (plain x d all.0) (zip_plain R plain xs ds all.1)
-
--- neither of the two is, if not one of them is
-both_false : (a b : Bool) → (a || b) ≡ false → (a ≡ false) × (b ≡ false)
-both_false false b none = (refl, none)
-both_false true b none = absurd (true≢false none)
+    or_from _ _ (plain x d all.0) (zip_plain R plain xs ds all.1)
 
 -- two lists of such
 append_plain : (xs ys : List Data) → ArePlain xs → ArePlain ys → ArePlain (xs ++ ys)
 append_plain [] ys first more = more
 append_plain (x ∷ xs) ys first more =
-    let parts = both_false (has_float x) (items_have_float (items_of xs)) first in
-    neither _ _ parts.0 (append_plain xs ys parts.1 more)
+    let parts = or_parts (has_float x) (items_have_float (items_of xs)) first in
+    or_from _ _ parts.0 (append_plain xs ys parts.1 more)
 
 notices_plain : (notices : List ℕ) → IsPlain (notices_data notices)
 notices_plain notices = each_plain string (λ _. refl) (lines notices)
@@ -80,9 +75,9 @@ source_plain (KernelPort name) = refl
 
 step_plain : (table : Table) (source : Option Source) (s : Step) → IsPlain (step_data table source s)
 step_plain table source s =
-    neither _ _ (or_null_plain source_data source_plain source)
-    (neither _ _ (fact_plain table s.fact)
-    (neither _ _ (each_plain number_of (λ _. refl) (places_of s.premises)) refl))
+    or_from _ _ (or_null_plain source_data source_plain source)
+    (or_from _ _ (fact_plain table s.fact)
+    (or_from _ _ (each_plain number_of (λ _. refl) (places_of s.premises)) refl))
 
 step_data_plain : (numbered : Numbered) (steps : List Step) (s : Step) (value : Data)
     → IsStepData numbered steps s value → IsPlain value
@@ -104,8 +99,8 @@ breach_plain : (with_steps : Bool) (numbered : Numbered) (breach : Breach) (valu
     → IsBreachData with_steps numbered breach value → IsPlain value
 breach_plain with_steps numbered breach value is =
     subst IsPlain (sym is.is)
-    (neither _ _ (fact_plain numbered.table breach.fact)
-    (neither _ _ (chain_if_plain with_steps numbered breach.steps is.chain is.tells) refl))
+    (or_from _ _ (fact_plain numbered.table breach.fact)
+    (or_from _ _ (chain_if_plain with_steps numbered breach.steps is.chain is.tells) refl))
 
 broken_plain : (with_steps : Bool) (policy : List (List ℕ)) (numbered : Numbered)
     (broken : BrokenLine) (value : Data)
@@ -121,7 +116,7 @@ exposed_plain with_steps wiring numbered (Some x) value is =
     breach_plain with_steps numbered (exposure_of wiring x) value is
 
 common_plain : (table : Table) (common : Common) → IsPlain (common_data table common)
-common_plain table common = neither _ _ (fact_plain table common.fact) refl
+common_plain table common = or_from _ _ (fact_plain table common.fact) refl
 
 common_asked_plain : (only : Option ℕ) (table : Table) (broken : List BrokenLine)
     → IsPlain (common_asked only table broken)
@@ -137,11 +132,11 @@ pub no_plain : (with_steps : Bool) (only : Option ℕ) (policy wiring : List (Li
     → IsExposedData with_steps wiring numbered exposed task
     → IsPlain (broken_data told (common_asked only numbered.table broken) task notices)
 no_plain with_steps only policy wiring numbered lines broken exposed told task notices are of_task =
-    neither _ _ (zip_plain (IsBrokenData with_steps policy numbered)
+    or_from _ _ (zip_plain (IsBrokenData with_steps policy numbered)
     (broken_plain with_steps policy numbered) lines told are)
-    (neither _ _ (common_asked_plain only numbered.table broken)
-    (neither _ _ (exposed_plain with_steps wiring numbered exposed task of_task)
-    (neither _ _ (notices_plain notices) refl)))
+    (or_from _ _ (common_asked_plain only numbered.table broken)
+    (or_from _ _ (exposed_plain with_steps wiring numbered exposed task of_task)
+    (or_from _ _ (notices_plain notices) refl)))
 
 pub answer_plain : (asked : Asked) (numbered : Numbered) (exposed : Option ExposedTask)
     (broken : List BrokenLine) (notices : List ℕ) (value : Data)
@@ -177,27 +172,27 @@ answer_made asked numbered exposed broken notices policy wiring table told commo
     }
 
 pub yes_plain : (command notices : List ℕ) → IsPlain (yes_data command notices)
-yes_plain command notices = neither _ _ (notices_plain notices) refl
+yes_plain command notices = or_from _ _ (notices_plain notices) refl
 
 reason_plain : (table : Table) (why : Why) → IsPlain (reason_data table why)
 reason_plain table Counts = refl
-reason_plain table (MissingFirst fact) = neither _ _ (fact_plain table fact) refl
-reason_plain table (NotClosed rule fact) = neither _ _ (fact_plain table fact) refl
-reason_plain table (Trusted line fact) = neither _ _ (fact_plain table fact) refl
+reason_plain table (MissingFirst fact) = or_from _ _ (fact_plain table fact) refl
+reason_plain table (NotClosed rule fact) = or_from _ _ (fact_plain table fact) refl
+reason_plain table (Trusted line fact) = or_from _ _ (fact_plain table fact) refl
 reason_plain table (Forbidden line) = refl
 
 pub refused_plain : (table : Table) (why : Why) (notices : List ℕ)
     → IsPlain (refused_data table why notices)
 refused_plain table why notices =
-    neither _ _ (notices_plain notices) (neither _ _ (reason_plain table why) refl)
+    or_from _ _ (notices_plain notices) (or_from _ _ (reason_plain table why) refl)
 
 pub explained_plain : (answer : List ℕ) (fact steps : Data) → IsPlain fact → IsPlain steps
     → IsPlain (explained_data answer fact steps)
-explained_plain answer fact steps first second = neither _ _ first (neither _ _ second refl)
+explained_plain answer fact steps first second = or_from _ _ first (or_from _ _ second refl)
 
 pub facts_plain : (table : Table) (facts : List Fact) → IsPlain (facts_data table facts)
 facts_plain table facts =
-    neither _ _ (each_plain (fact_data table) (fact_plain table) facts) refl
+    or_from _ _ (each_plain (fact_data table) (fact_plain table) facts) refl
 
 change_plain : (wiring : List (List ℕ)) (change : Change) → ArePlain (change_data wiring change)
 change_plain wiring (Remove n) = refl
@@ -215,24 +210,24 @@ changes_plain wiring (change ∷ others) =
     (change_plain wiring change) (changes_plain wiring others))
 
 mend_plain : (wiring : List (List ℕ)) (mend : Mend) → IsPlain (mend_data wiring mend)
-mend_plain wiring mend = neither _ _ (changes_plain wiring mend.changes.items) refl
+mend_plain wiring mend = or_from _ _ (changes_plain wiring mend.changes.items) refl
 
 mends_plain : (wiring : List (List ℕ)) (found : Mends) → IsPlain (mends_data wiring found)
 mends_plain wiring found =
-    neither _ _ (or_null_plain cause_data (λ _. refl) found.cause)
-    (neither _ _ (each_plain (mend_data wiring) (mend_plain wiring) found.mends.items) refl)
+    or_from _ _ (or_null_plain cause_data (λ _. refl) found.cause)
+    (or_from _ _ (each_plain (mend_data wiring) (mend_plain wiring) found.mends.items) refl)
 
 pub mended_plain : (wiring : List (List ℕ)) (answer : Answer) → IsPlain (mended_data wiring answer)
 mended_plain wiring Nothing = refl
 mended_plain wiring (Found found) = mends_plain wiring found
 
 left_plain : (left : LeftOut) → IsPlain (left_data left)
-left_plain left = neither _ _ (each_plain carried_data (λ _. refl) left.carried.items) refl
+left_plain left = or_from _ _ (each_plain carried_data (λ _. refl) left.carried.items) refl
 
 cut_plain : (cut : NamedCut) → IsPlain (cut_data cut)
 cut_plain cut =
-    neither _ _ (each_plain owned_data (λ _. refl) cut.cut.before.items)
-    (neither _ _ (each_plain left_data left_plain cut.cut.left_out.items) refl)
+    or_from _ _ (each_plain owned_data (λ _. refl) cut.cut.before.items)
+    (or_from _ _ (each_plain left_data left_plain cut.cut.left_out.items) refl)
 
 pub cuts_plain : (written : Bool) (cuts : List NamedCut) → IsPlain (cuts_data written cuts)
-cuts_plain written cuts = neither _ _ (each_plain cut_data cut_plain cuts) refl
+cuts_plain written cuts = or_from _ _ (each_plain cut_data cut_plain cuts) refl

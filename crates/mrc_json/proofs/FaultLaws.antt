@@ -3,22 +3,22 @@ use Rattle.std.proofs.Common.{◌≡◌, ◌∙◌, ◌+◌, ◌<◌, ◌≤◌,
 use Rattle.std.proofs.Common.{refl, arith, length, take, drop, true, false}
 use Rattle.std.specs.Prelude.{Option, Some, None, codes, if◌then◌else◌}
 use Rattle.std.specs.Str.Pattern.{LacksTextAt}
-use Rattle.std.proofs.lemmas.Bool.{and_parts, eqb-true, false_from_ne_true}
+use Rattle.std.proofs.lemmas.Bool.{and_parts, eqb-true, false_from_ne_true, or_from}
 use Rattle.serde_json.specs.Data.{string}
 use Rattle.mrc_place.specs.declared.spots.Hint.{Hint}
 use Rattle.mrc_json.specs.Objects.{number_of, owned_data}
 use Rattle.mrc_json.specs.Faults.{column, whole_line, fault_with, has_colon, around_last}
 use Rattle.mrc_json.specs.Faults.{around_colon}
-use Rattle.mrc_json.proofs.PlainLaws.{IsPlain, neither, each_plain, or_null_plain}
+use Rattle.mrc_json.proofs.PlainLaws.{IsPlain, each_plain, or_null_plain}
 
 pub fault_plain : (command : List ℕ) (parts : Option (List ℕ) × List ℕ) (hint : Hint)
     → IsPlain (fault_with command parts hint)
 fault_plain command parts hint =
-    neither _ _ (or_null_plain (λ spot. number_of (column spot)) (λ _. refl) hint.spot)
-    (neither _ _ (or_null_plain string (λ _. refl) parts.0)
-    (neither _ _ (or_null_plain (λ spot. number_of spot.line) (λ _. refl) hint.spot)
-    (neither _ _ (each_plain owned_data (λ _. refl) hint.notes.items)
-    (neither _ _ (or_null_plain (λ spot. string (whole_line spot)) (λ _. refl) hint.spot) refl))))
+    or_from _ _ (or_null_plain (λ spot. number_of (column spot)) (λ _. refl) hint.spot)
+    (or_from _ _ (or_null_plain string (λ _. refl) parts.0)
+    (or_from _ _ (or_null_plain (λ spot. number_of spot.line) (λ _. refl) hint.spot)
+    (or_from _ _ (each_plain owned_data (λ _. refl) hint.notes.items)
+    (or_from _ _ (or_null_plain (λ spot. string (whole_line spot)) (λ _. refl) hint.spot) refl))))
 
 -- a text that does not begin with `: `
 no_colon : (text : List ℕ) → LacksTextAt (codes ": ") text 0 → has_colon text ≡ false

@@ -1,10 +1,10 @@
 -- Values that are made of a list one after the other.
 use Rattle.std.proofs.Common.{◌≡◌, ◌<◌, ◌+◌, ◌∙◌, ℕ, List, [], ◌∷◌, ◌++◌, ap, sym, subst, map}
 use Rattle.std.proofs.Common.{append_assoc, length, take, true, false, Bool}
-use Rattle.std.specs.Prelude.{filter, if◌then◌else◌, slice_index_or}
-use Rattle.std.proofs.lemmas.List.{map_push, append-nil, take_more}
-use Rattle.std.proofs.lemmas.List.Elements.{filter-append}
+use Rattle.std.specs.Prelude.{filter, slice_index_or}
+use Rattle.std.proofs.lemmas.List.{map_push, take_more}
 use Rattle.std.specs.List.{AllZip}
+use Rattle.mrc_base.proofs.Lists.{filter_push, filter_skip}
 use Rattle.serde_json.specs.Data.{Data}
 use Rattle.serde_json.specs.View.{view}
 use Rattle.serde_json.specs.declared.value.Value.{Value}
@@ -43,20 +43,6 @@ zip_value R xs old new x value pushed all one =
     subst (AllZip R (xs ++ x ∷ []))
     (sym (ap (map view) pushed ∙ map_push view old value))
     (zip_push R xs (map view old) x (view value) all one)
-
--- those of a list that pass a test, with one more that passes it
-pub filter_push : {A : Type 0} (p : A → Bool) (xs : List A) (x : A)
-    → p x ≡ true → filter p (xs ++ x ∷ []) ≡ filter p xs ++ x ∷ []
-filter_push p xs x passes =
-    filter-append p xs (x ∷ [])
-    ∙ ap (λ b. filter p xs ++ (if b then x ∷ [] else [])) passes
-
--- with one more that does not
-pub filter_skip : {A : Type 0} (p : A → Bool) (xs : List A) (x : A)
-    → p x ≡ false → filter p (xs ++ x ∷ []) ≡ filter p xs
-filter_skip p xs x fails =
-    filter-append p xs (x ∷ [])
-    ∙ (ap (λ b. filter p xs ++ (if b then x ∷ [] else [])) fails ∙ append-nil (filter p xs))
 
 -- a list up to one more of its places
 taken_more : {A : Type 0} (xs : List A) (i : ℕ) (x : A)

@@ -1,30 +1,24 @@
 -- No answer has a number with a fraction.
-use Rattle.std.proofs.Common.{◌≡◌, ◌∙◌, ℕ, List, [], ◌∷◌, ap, sym, subst, refl, true, false}
-use Rattle.std.proofs.Common.{map, Bool}
-use Rattle.std.specs.Prelude.{Option, Some, None, ◌||◌, flat_map}
-use Rattle.std.specs.List.{AllZip}
+use Rattle.std.proofs.Common.{◌≡◌, List, [], ◌∷◌, refl, false}
+use Rattle.std.specs.Prelude.{Option, Some, None}
+use Rattle.std.proofs.lemmas.Bool.{or_from}
 use Rattle.serde_json.specs.Data.{Data}
-use Rattle.serde_json.specs.View.{items_of}
-use Rattle.serde_json.specs.Written.{has_float, items_have_float}
+use Rattle.serde_json.specs.Written.{has_float}
 use Rattle.mrc_base.specs.declared.Fact.{Fact}
 use Rattle.mrc_base.specs.declared.Fact.TheVariants.{Hold, Carry, Backup}
 use Rattle.mrc_wiring.specs.Table.{Table}
-use Rattle.mrc_json.specs.Objects.{each, number_of, or_null, owned_data}
+use Rattle.mrc_json.specs.Objects.{each, or_null}
 use Rattle.mrc_json.specs.Facts.{fact_data}
 
 -- the value has no number with a fraction
 abbrev pub IsPlain : Data → Type 0
 IsPlain value = has_float value ≡ false
 
--- neither of the two is so
-pub neither : (a b : Bool) → a ≡ false → b ≡ false → (a || b) ≡ false
-neither a b is_not nor = ap (λ x. x || b) is_not ∙ nor
-
 -- a list of such
 pub each_plain : {A : Type 0} (f : A → Data) → ((x : A) → IsPlain (f x)) → (xs : List A)
     → IsPlain (each f xs)
 each_plain f plain [] = refl
-each_plain f plain (x ∷ xs) = neither _ _ (plain x) (each_plain f plain xs)
+each_plain f plain (x ∷ xs) = or_from _ _ (plain x) (each_plain f plain xs)
 
 -- such, or `null`
 pub or_null_plain : {A : Type 0} (f : A → Data) → ((x : A) → IsPlain (f x)) → (x : Option A)

@@ -57,9 +57,9 @@ broken_data broken common exposed notices = object_of (
     ∷ codes "schema" ⇒ number_of 1
     ∷ [])
 
--- The value is that of a policy that is broken: the broken lines that are asked for, what the chains
--- of all broken lines have in common, and the trusted task that another could rewrite, each as it is
--- asked for; and what is printed on standard error.
+-- The value is that of a policy that is broken: the broken lines that are asked for, what the
+-- chains of all broken lines have in common, and the trusted task that another could rewrite, each
+-- as it is asked for; and what is printed on standard error.
 pub record IsBrokenAnswer (asked : Asked) (numbered : Numbered) (exposed : Option ExposedTask)
     (broken : List BrokenLine) (notices : List ℕ) (value : Data) : Type 0 where
   pub told : List Data

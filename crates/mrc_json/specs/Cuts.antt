@@ -13,8 +13,8 @@ carried_data carried = object_of (
     ∷ codes "type" ⇒ string (string_bytes carried.type_name)
     ∷ [])
 
--- a routine that is left out: the arguments that carry rights, its id, the line of the file where it
--- begins, its name, and the word of the file for which it is left out
+-- a routine that is left out: the arguments that carry rights, its id, the line of the file where
+-- it begins, its name, and the word of the file for which it is left out
 abbrev pub left_data : LeftOut → Data
 left_data left = object_of (
     codes "carries" ⇒ each carried_data left.carried.items

@@ -23,8 +23,8 @@ has_colon [] = false
 has_colon (first ∷ []) = false
 has_colon (first ∷ next ∷ others) = first == 58 && next == 32
 
--- A text in two around its last `: `, if there is one behind its first byte. Else, if it begins with
--- one, nothing is before it. Else all of it is behind.
+-- A text in two around its last `: `, if there is one behind its first byte. Else, if it begins
+-- with one, nothing is before it. Else all of it is behind.
 abbrev pub around_last : ℕ → List ℕ → Option (List ℕ) × List ℕ → Option (List ℕ) × List ℕ
 around_last byte rest (Some front, back) = (Some (byte ∷ front), back)
 around_last byte rest (None, back) =

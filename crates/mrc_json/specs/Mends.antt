@@ -22,8 +22,8 @@ abbrev pub added_data : List ℕ → Data
 added_data line = object_of (
     codes "kind" ⇒ string (codes "add") ∷ codes "text" ⇒ string line ∷ [])
 
--- a change of the wiring that has these lines: a line that is removed, with its text, or one that is changed, with its
--- new text; or a line for each that is added
+-- a change of the wiring that has these lines: a line that is removed, with its text, or one that
+-- is changed, with its new text; or a line for each that is added
 abbrev pub change_data : List (List ℕ) → Change → List Data
 change_data wiring (Remove n) = line_change (codes "remove") n (line_among wiring n) ∷ []
 change_data wiring (Narrow c) = line_change (codes "change") c.number (string_bytes c.text) ∷ []

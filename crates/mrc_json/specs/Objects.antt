@@ -48,8 +48,8 @@ or_null data_of (Some x) = data_of x
 abbrev pub json_text : Data → List ℕ
 json_text value = compact_text value ++ codes "\n"
 
--- the text without its line feed is JSON that reads as the value, unless the value nests deeper than
--- what is read
+-- the text without its line feed is JSON that reads as the value, unless the value nests deeper
+-- than what is read
 pub record IsReadAs (value : Data) (text : List ℕ) : Type 0 where
   pub front : List ℕ
   pub line : text ≡ front ++ codes "\n"

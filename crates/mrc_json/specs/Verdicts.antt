@@ -16,8 +16,8 @@ use Rattle.mrc_json.specs.Objects.{◌⇒◌, object_of, list_of, number_of, or_
 use Rattle.mrc_json.specs.Facts.{fact_data, rule_word, IsChainData}
 use Rattle.mrc_json.specs.Lines.{line_among}
 
--- what is asked for of a policy that is broken: whether chains have their steps, and the number of a
--- line of the policy, if that line alone is asked for; and the texts whose lines are quoted
+-- what is asked for of a policy that is broken: whether chains have their steps, and the number of
+-- a line of the policy, if that line alone is asked for; and the texts whose lines are quoted
 pub record Asked : Type 0 where
   pub steps : Bool
   pub only : Option ℕ
@@ -71,8 +71,8 @@ abbrev pub IsBrokenData : Bool → List (List ℕ) → Numbered → BrokenLine �
 IsBrokenData with_steps policy numbered broken value =
     IsBreachData with_steps numbered (breach_of policy broken) value
 
--- the value is that of a trusted task that another could rewrite, by its line of the wiring that has
--- these lines; `null` if there is none
+-- the value is that of a trusted task that another could rewrite, by its line of the wiring that
+-- has these lines; `null` if there is none
 abbrev pub IsExposedData : Bool → List (List ℕ) → Numbered → Option ExposedTask → Data → Type 0
 IsExposedData with_steps wiring numbered None value = value ≡ null
 IsExposedData with_steps wiring numbered (Some x) value =

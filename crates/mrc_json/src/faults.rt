@@ -10,9 +10,8 @@ ghost use Rattle.mrc_json.specs.Faults.{behind_program, around_colon, column, wh
 ghost use Rattle.mrc_json.specs.Faults.{fault_with};
 ghost use Rattle.mrc_json.specs.Answers.{fault_json};
 
-use crate::lines::cut_line;
 use crate::objects::{SCHEMA, json_text, number_value, text_or_null, texts_value};
-use mrc_place::{Hint, Spot};
+use mrc_place::{Hint, Spot, cut_line};
 use serde_json::{Value, json};
 use std::alloc::{AllocError, Global};
 

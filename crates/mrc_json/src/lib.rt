@@ -1,7 +1,6 @@
 //! The answers of commands as JSON: one object each, and a line feed.
 #![tactic(auto)]
 
-mod adding;
 mod chains;
 mod cuts;
 mod facts;

@@ -1,12 +1,13 @@
 //! Lines of a text as an answer has them.
 
-ghost use Rattle.std.specs.Prelude.{◌≡◌, ◌<◌, ◌∷◌, IfOk, length, map, slice_get};
+ghost use Rattle.std.specs.Prelude.{◌≡◌, IfOk, map, slice_get};
 ghost use Rattle.std.specs.Option.{option_map};
 ghost use Rattle.mrc_wiring_text.specs.Lexis.{lines};
 ghost use Rattle.serde_json.specs.View.{view};
 ghost use Rattle.mrc_json.specs.Lines.{trimmed, trimmed_if, line_among, line_text, notices_data};
 
-use mrc_wiring_text::first_line;
+use mrc_place::cut_line;
+use mrc_wiring_text::{first_line, lines_of};
 use serde_json::Value;
 use std::alloc::{AllocError, Global};
 use std::marker::Model;
@@ -59,14 +60,9 @@ impl<'a> TextLines<'a> {
     pub fn of(alloc: Global, text: &'a [u8]) -> Result<TextLines<'a>, AllocError>
         ensures { IfOk result (λ known. known ≡ lines text.now) }
     {
-        let mut found = Vec::new(alloc);
-        let mut rest = text;
-        while !rest.is_empty() {
-            let (line, after) = first_line(rest);
-            found.push(line)?;
-            rest = after;
-        }
-        Ok(TextLines { lines: found })
+        Ok(TextLines {
+            lines: lines_of(alloc, text)?,
+        })
     }
 
     /// The line of this number, from 1, without white space at its ends. Nothing, if there is none
@@ -107,18 +103,6 @@ pub fn line_text(text: &[u8], number: u32) -> &str
         return "";
     }
     trimmed_if(line_behind(text, number as usize - 1))
-}
-
-/// The first line of a text, without its line feed, and the text after it.
-pub(crate) fn cut_line(text: &str) -> (&str, &str)
-    requires { 0 < length text.now }
-    ensures cut { lines text.now ≡ result.0.now ∷ lines result.1.now }
-    ensures shorter { length result.1.now < length text.now }
-{
-    match text.split_once('\n') {
-        Some(parts) => parts,
-        None => (text, ""),
-    }
 }
 
 /// The lines of what is printed on standard error.

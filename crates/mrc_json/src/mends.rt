@@ -9,10 +9,11 @@ ghost use Rattle.mrc_json.specs.Mends.{cause_data};
 ghost use Rattle.mrc_json.specs.Answers as definitions;
 ghost use Rattle.mrc_json.specs.Answers.{nothing_data, mends_word, mends_data, mended_data};
 
-use crate::adding::{admit_line, class_line, trust_line};
 use crate::lines::TextLines;
 use crate::objects::{SCHEMA, json_text};
-use mrc_mend::{Answer, Cause, Change, Mend, Mends, Restriction};
+use mrc_mend::{
+    Answer, Cause, Change, Mend, Mends, Restriction, admit_line, class_line, trust_line,
+};
 use serde_json::{Value, json};
 use std::alloc::{AllocError, Global};
 

@@ -18,7 +18,7 @@ use crate::lines::{TextLines, notices_value};
 use crate::objects::{SCHEMA, json_text, number_value};
 use mrc_base::Fact;
 use mrc_check::Why;
-use mrc_verdicts::{Common, common_of};
+use mrc_verdicts::{Common, common_of, is_asked};
 use mrc_why::{Broken, Exposed, Sources, Step, Verdict, forbidden_fact};
 use mrc_wiring::Wired;
 use serde_json::{Value, json};
@@ -129,16 +129,6 @@ fn broken_value(
         fact,
         broken.steps(),
     )
-}
-
-/// Whether the broken line is asked for: all are, or those of one number.
-fn is_asked(only: Option<u32>, broken: &Broken) -> bool
-    ensures { result ≡ is_asked only broken.now }
-{
-    match only {
-        None => true,
-        Some(number) => broken.line().line == number,
-    }
 }
 
 /// The broken lines that are asked for, in their order.

@@ -1,6 +1,6 @@
 //! Lines of a text, what its first line with words says, and how far a line is one of the grammar.
 
-ghost use Rattle.std.specs.Prelude.{◌≡◌, ◌-◌, map, IfOk, slice_index_or, []};
+ghost use Rattle.std.specs.Prelude.{◌≡◌, ◌-◌, map, IfOk};
 ghost use Rattle.mrc_wiring_text.specs.Lexis.{lines, words, decimal};
 ghost use Rattle.mrc_line_hints.specs.Walks.{walk};
 ghost use Rattle.mrc_line_hints.specs.Heads.{has_words, lines_before, edition_numbered, edition_in};
@@ -10,7 +10,7 @@ ghost use Rattle.mrc_line_hints.specs.Heads.{version_place, seen};
 use crate::parts::capped;
 use crate::walks::{Walked, walk};
 use crate::ways::Place;
-use mrc_wiring_text::{Edition, between_blanks, first_line, spaced};
+use mrc_wiring_text::{Edition, between_blanks, first_line, nth_line, spaced};
 use std::alloc::{AllocError, Global};
 
 /// What a text is: a wiring or a policy.
@@ -102,23 +102,6 @@ pub(crate) fn lines_before(alloc: Global, text: &[u8]) -> Result<usize, AllocErr
         rest = after;
     }
     Ok(count)
-}
-
-/// The line behind so many others: empty if there is none.
-pub(crate) fn nth_line(text: &[u8], above: usize) -> &[u8]
-    ensures { result.now ≡ slice_index_or (lines text.now) above [] }
-{
-    let mut rest = text;
-    let mut left = above;
-    while !rest.is_empty() {
-        let (line, after) = first_line(rest);
-        if left == 0 {
-            return line;
-        }
-        left -= 1;
-        rest = after;
-    }
-    &[]
 }
 
 /// The edition of the version that decimal digits encode: the first, if there is none.

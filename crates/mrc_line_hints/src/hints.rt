@@ -11,11 +11,11 @@ ghost use Rattle.mrc_line_hints.specs.declared.heads.Role.TheVariants as roles;
 ghost use Rattle.mrc_wiring_text.specs.declared.faults.TextFault.TheVariants.{Version};
 
 use crate::expected::{expected, first_notes, one};
-use crate::heads::{Role, Seen, lines_before, nth_line, see_line};
+use crate::heads::{Role, Seen, lines_before, see_line};
 use crate::notes::other_notes;
 use mrc_base::limits::LINES;
 use mrc_place::{Hint, Spot, word_spot};
-use mrc_wiring_text::{Edition, TextFault};
+use mrc_wiring_text::{Edition, TextFault, nth_line};
 use std::alloc::{AllocError, Global};
 use std::str;
 

@@ -1,15 +1,14 @@
 //! The words of lines: those that are written as they are, and kinds of words.
 
-ghost use Rattle.std.specs.Prelude.{◌≡◌, ◌==◌, min, IfOk};
-ghost use Rattle.std.specs.List.{position_or_len, before_first, after_first};
+ghost use Rattle.std.specs.Prelude.{◌≡◌, min, IfOk};
 ghost use Rattle.std.specs.Option.{is_some};
-ghost use Rattle.mrc_wiring_text.specs.Lexis.{decimal, is_dot};
+ghost use Rattle.mrc_wiring_text.specs.Lexis.{decimal};
 ghost use Rattle.mrc_wiring_text.specs.Names.{is_name};
 ghost use Rattle.mrc_wiring_text.specs.Kinds.{kind_of};
 ghost use Rattle.mrc_line_hints.specs.Ways.{keyword_text, is_slot, fits};
 
 use mrc_base::limits::KINDS;
-use mrc_wiring_text::{Name, is_number, is_word};
+use mrc_wiring_text::{Name, around_dot, is_number, is_word};
 use std::alloc::{AllocError, Global};
 
 /// A word that is written as it is.
@@ -143,28 +142,6 @@ fn is_name(alloc: Global, word: &[u8]) -> Result<bool, AllocError>
     ensures { IfOk result (λ is. is ≡ is_name word.now) }
 {
     Ok(Name::new(alloc, word)?.is_some())
-}
-
-/// Where a byte is for the first time, or the length if it is nowhere.
-fn place_of(text: &[u8], wanted: u8) -> usize
-    ensures { result ≡ position_or_len (λ b. b == wanted) text.now }
-{
-    text.iter()
-        .position(|byte| *byte == wanted)
-        .unwrap_or(text.len())
-}
-
-/// What is before the first dot of a word, and what is behind it.
-fn around_dot(word: &[u8]) -> (&[u8], &[u8])
-    ensures before { result.0.now ≡ before_first is_dot word.now }
-    ensures after { result.1.now ≡ after_first is_dot word.now }
-{
-    let dot = place_of(word, b'.');
-    if dot < word.len() {
-        (&word[..dot], &word[dot + 1..])
-    } else {
-        (word, &[])
-    }
 }
 
 /// Whether a word is a name, a dot and a name.

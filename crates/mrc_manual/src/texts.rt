@@ -3,8 +3,10 @@
 /// The day on which its words were last changed.
 pub const DAY: &str = "2026-11-28";
 
+/// What the program does.
 pub const NAME: &str = "decide whether a task of a Mach 3 system can ever obtain a forbidden right";
 
+/// What the program is for, and what its answer means.
 pub const DESCRIPTION: &str = "machcheck is for builders of systems of servers on Mach 3.
 It reads the MIG files of the interfaces, a wiring (tasks, ports, what they accept, and the
 rights that are held at first) and a policy (who must never hold what). It answers whether any
@@ -19,20 +21,24 @@ tasks that are kept from their work.
 
 Each function of the program is proved to meet its contract before it is built.";
 
+/// What is above the list of commands.
 pub const COMMANDS: &str = "Each takes the MIG files of the interfaces last.
 `machcheck COMMAND --help` prints what is said here of a command, `machcheck --help` lists the
 commands, and `machcheck --version` prints the version.";
 
+/// How the preprocessor reads MIG files.
 pub const MIG: &str = "The C preprocessor of the system, cpp(1), first works out the conditions,
 macros and includes of each file.
 Files are included from the folders that -I names, and from no folder of the system. A macro is
 defined if -D names it. `mach/std_types.defs` stays included: its types are known.";
 
+/// What each exit status means.
 pub const EXIT_STATUS: &str = "  0  `YES` was printed, or what was asked for was done
   1  `NO` was printed, or `none`, since there is nothing to print
   2  a fault was printed on standard error, as `machcheck: FILE: FAULT`: a file cannot be read
      or has no meaning, the command line is wrong, the output was not taken, or memory ran out";
 
+/// The kinds of files, and where the documents are: the whole section.
 pub const FILES: &str = ".SH FILES
 Files may have any name. The names below are as the examples have them.
 .TP
@@ -60,6 +66,7 @@ are read (MIG.md); in
 the files of the examples.
 ";
 
+/// An example, and the pages to see: two whole sections.
 pub const EXAMPLE: &str = ".SH EXAMPLE
 A client may ask a file server to open files. Can it ever obtain the server\\(aqs kernel port?
 .PP

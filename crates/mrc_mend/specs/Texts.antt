@@ -1,6 +1,6 @@
 -- What is told of the mends of a wiring. This profile's own choice.
 use Rattle.std.specs.Prelude.{ℕ, ◌+◌, ◌-◌, List, [], ◌∷◌, ◌++◌, map, flat_map, codes, decimal}
-use Rattle.std.specs.Prelude.{Option, Some, None, slice_get, unwrap_or, string_bytes, if◌then◌else◌}
+use Rattle.std.specs.Prelude.{Option, Some, None, slice_index_or, string_bytes, if◌then◌else◌}
 use Rattle.std.specs.Str.{is_utf8}
 use Rattle.mrc_wiring_text.specs.Lexis.{lines, words}
 use Rattle.mrc_mend.specs.declared.causes.Cause.{Cause}
@@ -24,7 +24,7 @@ if_text bytes = if is_utf8 bytes then bytes else []
 -- the words of the line of this number, each behind a blank, where they are text
 abbrev pub line_words : List ℕ → ℕ → List ℕ
 line_words wiring n =
-    if_text (flat_map behind_blank (words (unwrap_or (slice_get (lines wiring) (n - 1)) [])))
+    if_text (flat_map behind_blank (words (slice_index_or (lines wiring) (n - 1) [])))
 
 -- a line that is left out: its number and its words
 abbrev pub removed_line : List ℕ → ℕ → List ℕ

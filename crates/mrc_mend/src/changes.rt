@@ -100,8 +100,8 @@ pub(crate) fn type_word(alloc: Global, restriction: &Restriction) -> Result<Stri
     format!(in alloc; "{subsystem}.{type_name}")
 }
 
-/// A line that says of the type what it admits.
-fn admit_line(
+/// A line that states of the type what it admits.
+pub fn admit_line(
     alloc: Global,
     restriction: &Restriction,
     admitted: &str,
@@ -111,6 +111,18 @@ fn admit_line(
 {
     let restricted = type_word(alloc, restriction)?;
     format!(in alloc; "admit {restricted} {admitted}")
+}
+
+/// A line that states of the type that it admits the class.
+pub fn class_line(
+    alloc: Global,
+    restriction: &Restriction,
+    class: &NamedClass,
+) -> Result<String, AllocError>
+    ensures { IfOk result (λ text. string_bytes text ≡ class_line restriction.now class.now) }
+{
+    let words = class_words(alloc, class)?;
+    admit_line(alloc, restriction, words.as_str())
 }
 
 /// Adds a line for each class that a type is to admit.
@@ -123,8 +135,7 @@ fn add_class_lines(
         ++ map (class_line restriction.now) restriction.now.classes.items) }
 {
     for class in &restriction.classes {
-        let words = class_words(alloc, class)?;
-        added.push(admit_line(alloc, restriction, words.as_str())?)?;
+        added.push(class_line(alloc, restriction, class)?)?;
     }
     Ok(())
 }
@@ -159,7 +170,7 @@ fn verb_word(verb: Verb) -> &'static str
 }
 
 /// A line that trusts a task to do something with no right.
-pub(crate) fn trust_line(alloc: Global, limitation: &Limitation) -> Result<String, AllocError>
+pub fn trust_line(alloc: Global, limitation: &Limitation) -> Result<String, AllocError>
     ensures { IfOk result (λ text. string_bytes text ≡ trust_line limitation.now) }
 {
     let task = limitation.task.as_str();

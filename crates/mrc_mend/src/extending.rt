@@ -2,7 +2,7 @@
 
 use crate::carrying::TypeNames;
 use crate::changes::{Change, Limitation, NamedClass, Narrowing, Restriction, added_lines};
-use mrc_model::Verb;
+use mrc_wiring::verb_number;
 use std::alloc::{AllocError, Global};
 
 /// How many changes a mend has at most.
@@ -39,16 +39,6 @@ pub(crate) fn narrowing_of(changes: &[Change], number: u32) -> Option<&Narrowing
         }
     }
     None
-}
-
-/// A number for each verb.
-fn verb_number(verb: Verb) -> u8 {
-    match verb {
-        Verb::Takes => 0,
-        Verb::Gives => 1,
-        Verb::Sends => 2,
-        Verb::Replies => 3,
-    }
 }
 
 /// Whether the limitation is printed before the other: by the names of tasks, and then by verbs.

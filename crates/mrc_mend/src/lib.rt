@@ -20,5 +20,8 @@ mod trusting;
 
 pub use answers::{Answer, Mend, Mends, Progress, find_mends};
 pub use causes::Cause;
-pub use changes::{Change, Limitation, NamedClass, Narrowing, Restriction, mended};
+pub use changes::{
+    Change, Limitation, NamedClass, Narrowing, Restriction, admit_line, class_line, mended,
+    trust_line,
+};
 pub use printing::mends_text;

@@ -1,8 +1,8 @@
 //! What is told of mends.
 
-ghost use Rattle.std.specs.Prelude.{◌≡◌, ◌++◌, [], flat_map, slice_get, unwrap_or, IfOk, OnOk, map};
+ghost use Rattle.std.specs.Prelude.{◌≡◌, ◌++◌, [], flat_map, IfOk, OnOk, map};
 ghost use Rattle.std.specs.Prelude.{string_bytes};
-ghost use Rattle.mrc_wiring_text.specs.Lexis.{lines, words};
+ghost use Rattle.mrc_wiring_text.specs.Lexis.{words};
 ghost use Rattle.mrc_mend.specs.Texts as definitions;
 ghost use Rattle.mrc_mend.specs.Texts.{behind_blank, if_text, line_words, removed_line};
 ghost use Rattle.mrc_mend.specs.Texts.{narrowed_line, added_line, restricting_line, change_lines};
@@ -16,7 +16,7 @@ use crate::causes::Cause;
 use crate::changes::{
     Change, Limitation, Narrowing, Restriction, admit_lines, trust_line, type_word,
 };
-use mrc_wiring_text::{between_blanks, first_line, spaced};
+use mrc_wiring_text::{between_blanks, nth_line, spaced};
 use std::alloc::{AllocError, Global};
 use std::str;
 
@@ -34,23 +34,6 @@ fn behind_blanks(alloc: Global, line: &[u8]) -> Result<Vec<u8>, AllocError>
     Ok(text)
 }
 
-/// The line of a text that has so many before it; nothing where there is none.
-fn line_behind(text: &[u8], before: usize) -> &[u8]
-    ensures { result.now ≡ unwrap_or (slice_get (lines text.now) before) [] }
-{
-    let mut rest = text;
-    let mut left = before;
-    while !rest.is_empty() {
-        let (line, after) = first_line(rest);
-        if left == 0 {
-            return line;
-        }
-        left -= 1;
-        rest = after;
-    }
-    &[]
-}
-
 /// The bytes, where they are text; nothing where they are not.
 fn if_text(alloc: Global, bytes: &[u8]) -> Result<String, AllocError>
     ensures { IfOk result (λ text. string_bytes text ≡ if_text bytes.now) }
@@ -65,7 +48,7 @@ fn if_text(alloc: Global, bytes: &[u8]) -> Result<String, AllocError>
 fn line_words(alloc: Global, wiring: &[u8], number: u32) -> Result<String, AllocError>
     ensures { IfOk result (λ text. string_bytes text ≡ line_words wiring.now number) }
 {
-    let line = line_behind(wiring, number.saturating_sub(1) as usize);
+    let line = nth_line(wiring, number.saturating_sub(1) as usize);
     let words = behind_blanks(alloc, line)?;
     if_text(alloc, words.as_slice())
 }

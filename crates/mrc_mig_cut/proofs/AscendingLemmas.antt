@@ -1,14 +1,10 @@
 -- Ids that ascend.
 use Rattle.std.proofs.Common.{◌≡◌, ℕ, suc, ◌+◌, ◌<◌, ◌≤◌, ◌⊎◌, List, [], ◌∷◌, length, map, drop, get_or}
-use Rattle.std.proofs.Common.{Bool, true, false, ◌&&◌, refl, sym, drop-cons, arith}
+use Rattle.std.proofs.Common.{Bool, true, false, ◌&&◌, sym, drop-cons, arith}
 use Rattle.std.proofs.lemmas.Bool.Decides.{nat_tests}
+use Rattle.std.proofs.lemmas.Bool.{and_parts}
 use Rattle.std.proofs.lemmas.List.{drop_all}
 use Rattle.mrc_mig_cut.specs.Cuts.{most, follows, ascend_from, AreBehind, AreAscending}
-
-both : (p q : Bool) → (p && q) ≡ true → (p ≡ true) × (q ≡ true)
-both true true e = (refl, refl)
-both true false e = absurd cc
-both false q e = absurd cc
 
 -- an id that follows another
 after : (a b : ℕ) → follows (a + 1) b ≡ true → (a < b) ⊎ (b ≡ most)
@@ -17,14 +13,14 @@ after a b e = grind (arith, nat_tests)
 behind : (id : ℕ) (ids : List ℕ) → ascend_from (id + 1) ids ≡ true → AreBehind id ids
 behind id [] e = tt
 behind id (next ∷ ids) e =
-    let parts = both (follows (id + 1) next) (ascend_from (next + 1) ids) e in
+    let parts = and_parts (follows (id + 1) next) (ascend_from (next + 1) ids) e in
     (after id next parts.0, behind next ids parts.1)
 
 -- ids that ascend, one by one
 pub ascends : (least : ℕ) (ids : List ℕ) → ascend_from least ids ≡ true → AreAscending ids
 ascends least [] e = tt
 ascends least (id ∷ ids) e =
-    behind id ids (both (follows least id) (ascend_from (id + 1) ids) e).1
+    behind id ids (and_parts (follows least id) (ascend_from (id + 1) ids) e).1
 
 -- one more id
 pub goes_on : {X : Type 0} (id : X → ℕ) (least : ℕ) (xs : List X) (i : ℕ) (x : X) (all : Bool)

@@ -120,10 +120,3 @@ pub tokens_end : (tokens : List Lexeme) (names total : List (List ℕ)) → no_t
     → names ++ carriers_among tokens ≡ total → names ++ [] ≡ total
 tokens_end [] names total none so_far = so_far
 tokens_end (token ∷ tokens) names total none so_far = absurd cc
-
--- one token fewer is left
-pub fewer : (tokens : List Lexeme) → no_tokens tokens ≡ false
-    → length (tail_of tokens) < length tokens
-unfolding tail_of
-fewer [] some = absurd cc
-fewer (token ∷ tokens) some = omega arith

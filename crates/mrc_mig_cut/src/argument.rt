@@ -2,6 +2,7 @@
 
 use crate::flags::{Flags, flags_of, options};
 use crate::kinds::{Kind, Ports};
+use crate::structure::any_name;
 use crate::table::Table;
 use crate::types::{kind, named};
 use mrc_base::{OrMemory, is_port_number};
@@ -61,14 +62,6 @@ fn way_of(rest: Rest<'_>) -> (Way, Rest<'_>) {
         _ => return (Way::Unmarked, rest),
     };
     (way, rest.next())
-}
-
-/// Takes a name of any length.
-fn any_name(rest: Rest<'_>) -> Result<(&str, Rest<'_>), Stop> {
-    match rest.first() {
-        Symbol::Name => Ok((rest.text(), rest.next())),
-        _ => Err(rest.unexpected()),
-    }
 }
 
 /// Reads an argument up to its type, and what follows that.

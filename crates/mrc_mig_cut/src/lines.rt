@@ -1,6 +1,7 @@
 //! The lines of the source that a preprocessed text came from.
 
 use mrc_base::limits;
+use mrc_mig_symbols::without_blanks;
 use std::alloc::{AllocError, Global};
 
 /// The largest number of a line.
@@ -27,15 +28,6 @@ pub(crate) struct Line {
 }
 
 const LINE: &[u8; 4] = b"line";
-
-/// What follows the blanks at the front.
-fn without_blanks(line: &[u8]) -> &[u8] {
-    let mut rest = line;
-    while let [b' ' | b'\t', after @ ..] = rest {
-        rest = after;
-    }
-    rest
-}
 
 /// The number that the digits at the front spell, at most 2,147,483,647, and what follows them.
 fn number_of(line: &[u8]) -> (u32, &[u8]) {

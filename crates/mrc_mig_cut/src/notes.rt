@@ -101,7 +101,7 @@ fn push_carrier(alloc: Global, names: &mut Vec<String>, rest: Rest<'_>) -> Resul
 }
 
 /// The names of the routines that the tokens say were left out.
-#[tactic(auto, using(crate::proofs::CarryLemmas::token_on, crate::proofs::CarryLemmas::tokens_end, crate::proofs::CarryLemmas::fewer))]
+#[tactic(auto, using(crate::proofs::CarryLemmas::token_on, crate::proofs::CarryLemmas::tokens_end, mrc_mig_symbols::proofs::ReadingLemmas::tail_is_shorter))]
 pub(crate) fn carriers_among(alloc: Global, tokens: &Tokens<'_>) -> Result<Vec<String>, AllocError>
     ensures { IfOk result (λ names. map string_bytes names.items ≡ carriers_among tokens.now) }
 {

@@ -17,7 +17,7 @@ use mrc_mig_symbols::{Rest, Stop, Symbol, sign};
 
 /// Takes a name of any length.
 #[tactic(auto, unfolding(crate::specs::Types::any_name_at))]
-fn any_name(rest: Rest<'_>) -> Result<(&str, Rest<'_>), Stop>
+pub(crate) fn any_name(rest: Rest<'_>) -> Result<(&str, Rest<'_>), Stop>
     ensures { Means (λ x. (x.0.now, left x.1)) result (any_name_at (left rest.entry)) }
 {
     match rest.first() {

@@ -7,7 +7,7 @@ use Rattle.std.proofs.lemmas.Slice.Eq.{bytes_eq-Decides}
 use Rattle.mrc_model.specs.IsIn.{IsIn, here, later}
 use Rattle.mrc_model.proofs.FirstHeld.{in_cons, in_one}
 use Rattle.mrc_model.proofs.Members.{in_left, in_right, in_append}
-use Rattle.std.proofs.lemmas.Bool.{or_right, le-leb}
+use Rattle.std.proofs.lemmas.Bool.{or_right, le-leb, cases_Bool}
 use Rattle.mrc_mig_hints.specs.declared.seen.Naming.TheVariants.{OfType}
 use Rattle.mrc_mig_hints.specs.Sights.{Sight, named, first_place, has_bytes}
 use Rattle.mrc_mig_hints.specs.Standing.{Candidate, may_be, reserved_words, others, new_name, if_so}
@@ -15,11 +15,6 @@ use Rattle.mrc_mig_hints.specs.Standing.{limit_of_tries, expected, shown_of, nam
 use Rattle.mrc_mig_hints.specs.Standing.{number_shown}
 use Rattle.mrc_mig_hints.specs.Known.{declared_at}
 use Rattle.mrc_mig_hints.specs.Laws.{IsTried, tried_types}
-
--- a test is true or false
-pub is_or : (b : Bool) → (b ≡ true) ⊎ (b ≡ false)
-is_or true = inl refl
-is_or false = inr refl
 
 -- nothing is in an empty list
 none_in : {X : Type 0} {A : Type 0} (x : X) → IsIn x [] → A
@@ -64,7 +59,7 @@ may_shown text at (d ∷ cs) c i may = elim (in_cons c d cs i) [
 one_passes : (p : List ℕ → Bool) (xs : List (List ℕ)) → list_any p xs ≡ true
     → (x : List ℕ) × IsIn x xs × (p x ≡ true)
 one_passes p [] none = absurd cc
-one_passes p (x ∷ xs) any = elim (is_or (p x)) [
+one_passes p (x ∷ xs) any = elim (cases_Bool (p x)) [
   | inl holds ↦ (x, here, holds)
   | inr fails ↦
       let (found, among, passes) = one_passes p xs
@@ -85,7 +80,7 @@ passes_any p (y ∷ ys) x i holds = elim (in_cons x y ys i) [
 name_may : (text : List ℕ) (at : ℕ) (types : List (List ℕ)) (word : List ℕ)
     → IsIn word (name_shown text at types)
     → (token : List ℕ) × IsTried types token word × (may_be text at token ≡ true)
-name_may text at types word i = elim (is_or (may_be text at new_name)) [
+name_may text at types word i = elim (cases_Bool (may_be text at new_name)) [
   | inl holds ↦
       let only : IsIn word (codes "a name" ∷ []) =
       subst (λ b. IsIn word (if b then codes "a name" ∷ []
@@ -98,7 +93,7 @@ name_may text at types word i = elim (is_or (may_be text at new_name)) [
       subst (λ b. IsIn word (if b then codes "a name" ∷ []
       else if list_any (may_be text at) (tried_types types) then codes "the name of a type" ∷ []
       else [])) fails i in
-      elim (is_or (list_any (may_be text at) (tried_types types))) [
+      elim (cases_Bool (list_any (may_be text at) (tried_types types))) [
         | inl some ↦
             let only : IsIn word (codes "the name of a type" ∷ []) =
             subst (λ b. IsIn word (if b then codes "the name of a type" ∷ [] else [])) some
@@ -116,7 +111,7 @@ name_may text at types word i = elim (is_or (may_be text at new_name)) [
 number_may : (text : List ℕ) (at : ℕ) (types : List (List ℕ)) (word : List ℕ)
     → IsIn word (number_shown text at)
     → (token : List ℕ) × IsTried types token word × (may_be text at token ≡ true)
-number_may text at types word i = elim (is_or (list_any (may_be text at) numbers)) [
+number_may text at types word i = elim (cases_Bool (list_any (may_be text at) numbers)) [
   | inl some ↦
       let only : IsIn word (codes "a number" ∷ []) =
       subst (λ b. IsIn word (if_so b (codes "a number"))) some i in
@@ -166,7 +161,7 @@ all_may text at types word i =
 pub each_may_be : (text : List ℕ) (at : ℕ) (types : List (List ℕ)) (word : List ℕ)
     → IsIn word (expected text at types)
     → (token : List ℕ) × IsTried types token word × (may_be text at token ≡ true)
-each_may_be text at types word i = elim (is_or (nat_le at limit_of_tries)) [
+each_may_be text at types word i = elim (cases_Bool (nat_le at limit_of_tries)) [
   | inl within ↦
       all_may text at types word
       (subst (λ b. IsIn word (if b then all_shown text at types else [])) within i)
@@ -254,7 +249,7 @@ no_number_is_missing text at types number le i may =
 first_there : (p : Sight → Bool) (tokens : List Sight) (at : ℕ) → first_place p tokens ≡ Some at
     → (token : Sight) × IsIn token tokens × (p token ≡ true) × (token.at ≡ at)
 first_there p [] at none = absurd cc
-first_there p (token ∷ rest) at found = elim (is_or (p token)) [
+first_there p (token ∷ rest) at found = elim (cases_Bool (p token)) [
   | inl holds ↦
       let here_is : Some token.at ≡ Some at =
       subst (λ b. (if b then Some token.at else first_place p rest) ≡ Some at) holds found in

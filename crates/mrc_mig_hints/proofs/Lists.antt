@@ -1,7 +1,7 @@
 -- Lists that are gone through from an index on.
 use Rattle.std.proofs.Common.{◌≡◌, ℕ, ◌+◌, ◌<◌, ◌≤◌, List, [], ◌∷◌, ◌++◌, length, map, Bool, true}
 use Rattle.std.proofs.Common.{false, drop, get_or, drop-cons, add-one, append_assoc, refl, sym, ap}
-use Rattle.std.proofs.Common.{◌∙◌, Option, Some, None, Result, Ok, Err, IfOk}
+use Rattle.std.proofs.Common.{◌∙◌, Option, Some, None}
 use Rattle.std.specs.Prelude.{flat_map, if◌then◌else◌, ◌||◌}
 use Rattle.std.specs.List.{list_any}
 use Rattle.std.proofs.lemmas.List.{append-nil, drop_all}
@@ -104,15 +104,3 @@ pub last_end : (p : Sight → Bool) (xs : List Seen) (i : ℕ) (found total : Op
     → length xs ≤ i → last_from p found (map sight_of (drop i xs)) ≡ total → found ≡ total
 last_end p xs i found total all so_far =
     sym (ap (last_from p found) (at_end sight_of xs i all)) ∙ so_far
-
--- a test of what each element is seen as
-pub any_map : {X Y : Type 0} (p : Y → Bool) (view : X → Y) (xs : List X)
-    → list_any p (map view xs) ≡ list_any (λ x. p (view x)) xs
-any_map p view [] = refl
-any_map p view (x ∷ xs) = ap (λ b. p (view x) || b) (any_map p view xs)
-
--- what holds of a result, by what holds of it otherwise
-pub if_ok : {X E : Type 0} (r : Result X E) (P Q : X → Type 0) → ((x : X) → P x → Q x) → IfOk r P
-    → IfOk r Q
-if_ok (Ok x) P Q step h = step x h
-if_ok (Err e) P Q step h = h

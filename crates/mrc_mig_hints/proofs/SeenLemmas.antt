@@ -1,12 +1,13 @@
 -- What is seen of tokens, one after the other.
 use Rattle.std.proofs.Common.{◌≡◌, ℕ, ◌+◌, ◌-◌, ◌<◌, ◌≤◌, List, [], ◌∷◌, ◌++◌, length, map, Bool}
 use Rattle.std.proofs.Common.{true, false, drop, get_or, append_assoc, refl, sym, ap, ap₂, ◌∙◌}
-use Rattle.std.proofs.Common.{Some, arith, length-append}
+use Rattle.std.proofs.Common.{arith, length-append}
 use Rattle.std.specs.Prelude.{slice_get, if◌then◌else◌, ◌||◌}
 use Rattle.std.proofs.lemmas.List.Folds.{list_any-append}
 use Rattle.std.specs.List.{prefix_len}
 use Rattle.std.specs.Option.{option_map_or}
 use Rattle.std.proofs.lemmas.List.{append-nil, map-append}
+use Rattle.mrc_base.proofs.Lists.{at_seam}
 use Rattle.mrc_mig_lex.specs.Tokens.{Lexeme}
 use Rattle.mrc_mig_symbols.specs.Places.{place_of, last_end}
 use Rattle.mrc_mig_symbols.specs.Symbols.{no_tokens, tail_of, first_of, text_of, symbol_of}
@@ -25,12 +26,6 @@ pub record AllSeen (tokens : List Lexeme) (seen : List Seen) (rest : List Lexeme
 -- none was seen
 pub none_seen : (tokens rest : List Lexeme) → rest ≡ tokens → AllSeen tokens [] rest
 none_seen tokens rest is = record { front = []; parts = sym is; same = refl }
-
--- the element behind a front
-at_seam : {X : Type 0} (front : List X) (x : X) (after : List X)
-    → slice_get (front ++ x ∷ after) (length front) ≡ Some x
-at_seam [] x after = refl
-at_seam (y ∷ front) x after = at_seam front x after
 
 -- where the first token that is left is
 place_at : (front : List Lexeme) (token : Lexeme) (after : List Lexeme)
@@ -75,13 +70,6 @@ pub all_are_seen : (tokens rest : List Lexeme) (seen : List Seen) → no_tokens 
 all_are_seen tokens [] seen none before =
     before.same ∙ ap (map sight) (sym (before.parts ∙ append-nil before.front))
 all_are_seen tokens (token ∷ after) seen none before = absurd cc
-
--- one token fewer is left
-pub fewer : (tokens : List Lexeme) → no_tokens tokens ≡ false
-    → length (tail_of tokens) < length tokens
-unfolding tail_of
-fewer [] some = absurd cc
-fewer (token ∷ tokens) some = omega arith
 
 -- how many come first, by what each is seen as
 pub prefix_map : {X Y : Type 0} (p : Y → Bool) (view : X → Y) (xs : List X)

@@ -7,7 +7,6 @@ pub mod InnerTypePhrases
 pub mod TypePhrases
 pub mod TypeLemmas
 pub mod FileLemmas
-pub mod ListLemmas
 pub mod ArgumentPhrases
 pub mod ArgumentListPhrases
 pub mod LinePhrases

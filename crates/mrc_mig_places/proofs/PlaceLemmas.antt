@@ -4,9 +4,8 @@ use Rattle.std.proofs.Common.{append_assoc, refl, sym, ap, ◌∙◌, Some, None
 use Rattle.std.proofs.Common.{length-append}
 use Rattle.std.specs.Prelude.{slice_get, if◌then◌else◌, option_map}
 use Rattle.std.specs.Option.{option_map_or}
-use Rattle.std.specs.Str.{IsUtf8, is_utf8}
-use Rattle.std.proofs.lemmas.Str.{IsUtf8-from_is_utf8}
-use Rattle.std.proofs.lemmas.Bool.{false_from_ne_true}
+use Rattle.std.proofs.lemmas.Bool.{cond-true, cond-false}
+use Rattle.mrc_base.proofs.Lists.{at_seam}
 use Rattle.mrc_mig_lex.specs.Tokens.{Lexeme}
 use Rattle.mrc_mig_symbols.specs.Places.{place_of, last_end}
 use Rattle.mrc_mig_symbols.specs.Symbols.{no_tokens, tail_of, first_of, symbol_of}
@@ -43,12 +42,6 @@ end_behind tokens name (token ∷ rest) before =
     if_end (begins_routine name (token ∷ rest)) tokens (tail_of rest) (behind_routine name rest)
     (end_of_tail tokens rest next) (end_behind tokens name rest next)
 
--- the element behind a front
-at_seam : {X : Type 0} (front : List X) (x : X) (after : List X)
-    → slice_get (front ++ x ∷ after) (length front) ≡ Some x
-at_seam [] x after = refl
-at_seam (y ∷ front) x after = at_seam front x after
-
 -- where the first token that is left is
 pub place_at : (tokens : List Lexeme) (token : Lexeme) (after : List Lexeme)
     → IsEndOf tokens (token ∷ after) → place_of tokens (length (token ∷ after)) ≡ token.at
@@ -59,29 +52,13 @@ place_at tokens token after end =
     ∙ ap (λ o. option_map_or (λ (t : Lexeme). t.at) o (last_end tokens))
     (ap (λ l. slice_get l (length end.front)) end.parts ∙ at_seam end.front token after)
 
--- one token fewer is left
-pub fewer : (tokens : List Lexeme) → no_tokens tokens ≡ false
-    → length (tail_of tokens) < length tokens
-unfolding tail_of
-fewer [] some = absurd cc
-fewer (token ∷ tokens) some = omega arith
-
--- a choice, by its test
-if_true : {X : Type 0} (b : Bool) (x y : X) → b ≡ true → (if b then x else y) ≡ x
-if_true true x y is = refl
-if_true false x y is = absurd cc
-
-if_false : {X : Type 0} (b : Bool) (x y : X) → b ≡ false → (if b then x else y) ≡ y
-if_false true x y is = absurd cc
-if_false false x y is = refl
-
 -- the routine comes first
 pub routine_here : (name : List ℕ) (rest : List Lexeme) → no_tokens rest ≡ false
     → begins_routine name rest ≡ true → behind_routine name rest ≡ tail_of (tail_of rest)
 unfolding tail_of
 routine_here name [] some is = absurd cc
 routine_here name (token ∷ rest) some is =
-    if_true (begins_routine name (token ∷ rest)) (tail_of rest) (behind_routine name rest) is
+    cond-true (begins_routine name (token ∷ rest)) (tail_of rest) (behind_routine name rest) is
 
 -- it does not
 pub routine_later : (name : List ℕ) (rest : List Lexeme) → no_tokens rest ≡ false
@@ -90,7 +67,8 @@ pub routine_later : (name : List ℕ) (rest : List Lexeme) → no_tokens rest �
 unfolding tail_of
 routine_later name [] some is = absurd cc
 routine_later name (token ∷ rest) some is =
-    sym (if_false (begins_routine name (token ∷ rest)) (tail_of rest) (behind_routine name rest) is)
+    sym (cond-false (begins_routine name (token ∷ rest)) (tail_of rest) (behind_routine name rest)
+    is)
 
 -- the next routine comes first
 pub argument_ends : (name : List ℕ) (rest : List Lexeme) → no_tokens rest ≡ false
@@ -98,7 +76,7 @@ pub argument_ends : (name : List ℕ) (rest : List Lexeme) → no_tokens rest �
 unfolding first_of
 argument_ends name [] some is = absurd cc
 argument_ends name (token ∷ rest) some is =
-    if_true (is_routine (symbol_of token)) None
+    cond-true (is_routine (symbol_of token)) None
     (if begins_argument name (token ∷ rest) then Some token else argument_in name rest) is
 
 -- the argument comes first
@@ -111,9 +89,9 @@ argument_here tokens name [] end some no_routine is = absurd cc
 argument_here tokens name (token ∷ rest) end some no_routine is =
     ap Some (place_at tokens token rest end)
     ∙ sym (ap (option_map place)
-    (if_false (is_routine (symbol_of token)) None
+    (cond-false (is_routine (symbol_of token)) None
     (if begins_argument name (token ∷ rest) then Some token else argument_in name rest) no_routine
-    ∙ if_true (begins_argument name (token ∷ rest)) (Some token) (argument_in name rest) is))
+    ∙ cond-true (begins_argument name (token ∷ rest)) (Some token) (argument_in name rest) is))
 
 -- it does not
 pub argument_later : (name : List ℕ) (rest : List Lexeme) → no_tokens rest ≡ false
@@ -122,9 +100,9 @@ pub argument_later : (name : List ℕ) (rest : List Lexeme) → no_tokens rest �
 unfolding first_of tail_of
 argument_later name [] some no_routine is = absurd cc
 argument_later name (token ∷ rest) some no_routine is =
-    sym (if_false (is_routine (symbol_of token)) None
+    sym (cond-false (is_routine (symbol_of token)) None
     (if begins_argument name (token ∷ rest) then Some token else argument_in name rest) no_routine
-    ∙ if_false (begins_argument name (token ∷ rest)) (Some token) (argument_in name rest) is)
+    ∙ cond-false (begins_argument name (token ∷ rest)) (Some token) (argument_in name rest) is)
 
 -- the word `subsystem` comes first
 pub subsystem_here : (tokens rest : List Lexeme) → IsEndOf tokens rest → no_tokens rest ≡ false
@@ -135,7 +113,7 @@ subsystem_here tokens [] end some is = absurd cc
 subsystem_here tokens (token ∷ rest) end some is =
     ap Some (place_at tokens token rest end)
     ∙ sym (ap (option_map place)
-    (if_true (is_subsystem (symbol_of token)) (Some token) (subsystem_token rest) is))
+    (cond-true (is_subsystem (symbol_of token)) (Some token) (subsystem_token rest) is))
 
 -- it does not
 pub subsystem_later : (rest : List Lexeme) → no_tokens rest ≡ false
@@ -144,9 +122,4 @@ pub subsystem_later : (rest : List Lexeme) → no_tokens rest ≡ false
 unfolding first_of tail_of
 subsystem_later [] some is = absurd cc
 subsystem_later (token ∷ rest) some is =
-    sym (if_false (is_subsystem (symbol_of token)) (Some token) (subsystem_token rest) is)
-
--- bytes that are no text
-pub no_text : (bytes : List ℕ) → (IsUtf8 bytes → ⊥) → is_utf8 bytes ≡ false
-no_text bytes not_text =
-    false_from_ne_true (is_utf8 bytes) (λ e. not_text (IsUtf8-from_is_utf8 bytes e))
+    sym (cond-false (is_subsystem (symbol_of token)) (Some token) (subsystem_token rest) is)

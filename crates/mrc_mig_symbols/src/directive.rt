@@ -77,8 +77,9 @@ fn after_bytes<'l>(line: &'l [u8], bytes: &[u8]) -> Option<&'l [u8]>
     line.strip_prefix(bytes)
 }
 
+/// What follows the blanks at the front of a line.
 #[tactic(auto, unfolding(crate::specs::Directives::without_blanks))]
-fn without_blanks(line: &[u8]) -> &[u8]
+pub fn without_blanks(line: &[u8]) -> &[u8]
     ensures { result.now ≡ without_blanks line.now }
 {
     let mut rest = line;

@@ -11,7 +11,7 @@ mod symbol;
 mod tokens;
 mod word;
 
-pub use directive::Directive;
+pub use directive::{Directive, without_blanks};
 pub use expressions::expression;
 pub use fault::{Feature, ParseFault, Stop, Why, fault_of, place_of, stop_at};
 pub use laws::expressions_by_grammar;

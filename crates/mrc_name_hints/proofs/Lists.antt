@@ -3,7 +3,7 @@ use Rattle.std.proofs.Common.{◌≡◌, ℕ, ◌+◌, ◌<◌, Bool, false, Lis
 use Rattle.std.proofs.Common.{refl, sym, ap, ◌∙◌, subst, get_or, take, arith}
 use Rattle.std.proofs.Common.{Option, Some, None, inl, inr}
 use Rattle.std.specs.Prelude.{◌||◌, ◌==◌, codes}
-use Rattle.std.specs.List.{list_any, filter_map, cons_option}
+use Rattle.std.specs.List.{filter_map, cons_option}
 use Rattle.std.specs.Option.{option_to_list}
 use Rattle.std.proofs.lemmas.Bool.{eqb-false, cases_lt}
 use Rattle.std.proofs.lemmas.List.{take_more, length-map}
@@ -19,12 +19,6 @@ use Rattle.mrc_name_hints.specs.Notes.{subsystem_note, types_part}
 one_option : {X : Type 0} (o : Option X) → option_to_list o ≡ cons_option o []
 one_option None = refl
 one_option (Some x) = refl
-
--- a test of the changed elements
-pub any_of_map : {X Y : Type 0} (p : Y → Bool) (f : X → Y) (xs : List X)
-    → list_any p (map f xs) ≡ list_any (λ x. p (f x)) xs
-any_of_map p f [] = refl
-any_of_map p f (x ∷ xs) = ap (λ b. p (f x) || b) (any_of_map p f xs)
 
 -- a number that is not 0
 not_zero : (n : ℕ) → (n == 0) ≡ false → 0 < n

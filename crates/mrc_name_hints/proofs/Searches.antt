@@ -4,7 +4,7 @@ use Rattle.std.proofs.Common.{Option, Some, None}
 use Rattle.std.proofs.Common.{refl, sym, ap, ◌∙◌, subst, inl, inr}
 use Rattle.std.specs.Prelude.{◌&&◌, not, find, is_some}
 use Rattle.std.specs.Option.{option_map}
-use Rattle.std.proofs.lemmas.Bool.{and_parts, ltb-true, lt-ltb, false≢true}
+use Rattle.std.proofs.lemmas.Bool.{and_parts, ltb-true, lt-ltb, false≢true, not-true}
 use Rattle.std.proofs.lemmas.Option.{none-some, same_Some}
 use Rattle.mrc_model.specs.IsIn.{IsIn, here, later as behind}
 use Rattle.mrc_model.proofs.FirstHeld.{in_cons}
@@ -72,18 +72,13 @@ earlier_above lines given number named e =
       subst (λ k. k < given) n.2 (ltb-true n.0.number given w.0),
     )
 
--- what is not so
-negated : (b : Bool) → not b ≡ true → b ≡ false
-negated true e = sym e
-negated false e = refl
-
 pub unknown_undeclared : UnknownIsUndeclared
 unknown_undeclared lines given interfaces mentions mention e =
     let f = found_in (λ (m : Mention). not (is_known lines (Some given) interfaces m.named))
     mentions mention e in
     record {
       named = f.there;
-      unknown = negated (is_known lines (Some given) interfaces mention.named) f.passes;
+      unknown = not-true (is_known lines (Some given) interfaces mention.named) f.passes;
     }
 
 -- one of two that do not both hold

@@ -2,7 +2,7 @@
 use Rattle.std.proofs.Common.{◌≡◌, ℕ, zero, suc, ◌+◌, Bool, true, false, List, [], ◌∷◌, ◌++◌, length}
 use Rattle.std.proofs.Common.{map, take, slice_get, arith}
 use Rattle.std.specs.Prelude.{unwrap_or, is_some}
-use Rattle.std.proofs.Common.{position, Option, Some, None, bytes_eq, string_bytes, String, cond}
+use Rattle.std.proofs.Common.{position, Some, None, bytes_eq, string_bytes, String, cond}
 use Rattle.std.proofs.Common.{refl, ap, sym, subst, ◌∙◌, inl, inr, nat_lt, not, if◌then◌else◌, ◌||◌}
 use Rattle.std.specs.Bool.{Decides}
 use Rattle.std.specs.Cmp.Lexicographic.{pointwise}
@@ -16,6 +16,7 @@ use Rattle.std.proofs.lemmas.Slice.Eq.{bytes_eq-Decides, slice_eq-Decides}
 use Rattle.std.proofs.Math.Seq.{take-suc}
 use Rattle.std.proofs.lemmas.Option.{get_or_from_slice_get, slice_get_within}
 use Rattle.std.proofs.lemmas.List.{length-map, map-append}
+use Rattle.mrc_base.proofs.Lists.{any_map}
 use Rattle.indexmap.specs.IndexSet.{insert_key}
 use Rattle.mrc_name_table.specs.Names.{with_name}
 
@@ -40,13 +41,6 @@ position_mapped test v xs =
     ∙ ap (λ m. cond (nat_lt (prefix_len (λ x. not (test (v x))) xs) m)
     (Some (prefix_len (λ x. not (test (v x))) xs)) None) (length-map xs v)
 
--- one more key is one more name
-
-any_mapped : {X Y : Type 0} (test : Y → Bool) (v : X → Y) (xs : List X)
-    → list_any test (map v xs) ≡ list_any (λ x. test (v x)) xs
-any_mapped test v [] = refl
-any_mapped test v (x ∷ xs) = ap (λ b. test (v x) || b) (any_mapped test v xs)
-
 -- a test finds a place if and only if some element passes it
 
 next_lt : (a b : ℕ) → nat_lt (1 + a) (suc b) ≡ nat_lt a b
@@ -66,7 +60,7 @@ any_place test (x ∷ xs) = by_test (test x) (any_place test xs)
     by_test true rest = sym (lt-ltb 0 (suc (length xs)) (omega arith))
     by_test false rest = rest ∙ sym (next_lt (position_or_len test xs) (length xs))
 
-is_placed : {X : Type 0} (test : X → Bool) (xs : List X)
+pub is_placed : {X : Type 0} (test : X → Bool) (xs : List X)
     → is_some (position test xs) ≡ list_any test xs
 is_placed test xs =
     by_test (nat_lt (position_or_len test xs) (length xs)) ∙ sym (any_place test xs)
@@ -75,12 +69,13 @@ is_placed test xs =
     by_test true = refl
     by_test false = refl
 
+-- one more key is one more name
 pub added : (keys : List Key) (key : Key) (name : List ℕ) → text key ≡ name
     → map text (insert_key string_eq keys key) ≡ with_name (map text keys) name
 added keys key name is =
     by_test (list_any (string_eq key) keys)
     ∙ (ap (λ b. if b then map text keys else map text keys ++ text key ∷ [])
-    (sym (any_mapped (bytes_eq (text key)) text keys)
+    (sym (any_map (bytes_eq (text key)) text keys)
     ∙ sym (is_placed (bytes_eq (text key)) (map text keys)))
     ∙ ap (with_name (map text keys)) is)
   where
@@ -124,7 +119,7 @@ next_added keys i key distinct at =
     let next : suc i ≡ i + 1 = omega arith in
     ap (λ b. if b then map text (take i keys) else map text (take i keys) ++ text key ∷ [])
     (is_placed (bytes_eq (text key)) (map text (take i keys))
-    ∙ (any_mapped (bytes_eq (text key)) text (take i keys) ∙ fresh keys i key distinct at))
+    ∙ (any_map (bytes_eq (text key)) text (take i keys) ∙ fresh keys i key distinct at))
     ∙ (sym (map-append text (take i keys) (key ∷ [])) ∙ ap (map text)
     (ap (λ last. take i keys ++ last ∷ []) (sym (get_or_from_slice_get keys i key key at))
     ∙ (sym (take-suc keys i key (slice_get_within keys i key at))

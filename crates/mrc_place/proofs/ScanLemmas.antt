@@ -1,6 +1,6 @@
 -- A line without a comment, read word by word.
 use Rattle.std.proofs.Common.{◌≡◌, ℕ, ◌+◌, ◌-◌, ◌<◌, ◌≤◌, ◌⊎◌, Bool, true, false, cond, eqb, not}
-use Rattle.std.proofs.Common.{List, [], ◌∷◌, ◌++◌, length, take, drop, get_or, Some, refl, sym}
+use Rattle.std.proofs.Common.{List, [], ◌∷◌, ◌++◌, length, take, drop, get_or, refl, sym}
 use Rattle.std.proofs.Common.{ap, ◌∙◌, subst, inl, inr, arith}
 use Rattle.std.specs.Prelude.{All, slice_get}
 use Rattle.std.specs.List.{position_or_len, before_first}
@@ -14,6 +14,7 @@ use Rattle.std.proofs.lemmas.List.{get_or_append_left}
 use Rattle.std.proofs.lemmas.List.Elements.{All-from_get_or}
 use Rattle.std.proofs.lemmas.List.Sums.{prefix_len-le-length, position_or_len_is}
 use Rattle.std.proofs.lemmas.List.Sums.{fails_before_first, passes_at_first}
+use Rattle.mrc_base.proofs.Lists.{at_seam}
 use Rattle.mrc_wiring_text.specs.Lexis.{is_blank, is_hash, words}
 use Rattle.mrc_place.specs.Scan.{is_inked, is_separator, word_len, IsSeam}
 use Rattle.mrc_place.specs.Spots.{IsWordAt, IsBehindWords, IsMissingAt}
@@ -204,11 +205,6 @@ no_comment_before pre more none =
     (λ h. absurd (omega arith)) in
     take_all (position_or_len is_hash pre) pre (omega arith)
 
-slice_get_at : {X : Type 0} (xs : List X) (y : X) (ys : List X)
-    → slice_get (xs ++ y ∷ ys) (length xs) ≡ Some y
-slice_get_at [] y ys = refl
-slice_get_at (x ∷ xs) y ys = slice_get_at xs y ys
-
 word_at : (said pre rest : List ℕ) (ws : List (List ℕ)) (bl w after : List ℕ)
     → HasNoComment said
     → IsPast said pre rest ws
@@ -223,7 +219,7 @@ word_at said pre rest ws bl w after none past step =
       after = after;
       parts = parts;
       word_of_line = ap (λ found. slice_get found (length ws)) all
-          ∙ slice_get_at ws w (said_words after);
+          ∙ at_seam ws w (said_words after);
       earlier = words_said (pre ++ bl) (no_comment_before (pre ++ bl) (w ++ after)
           (subst (λ s. HasNoComment s) (sym parts) none))
           ∙ words_before said pre rest ws bl w after past step

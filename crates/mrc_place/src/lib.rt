@@ -10,5 +10,6 @@ mod spots;
 mod words;
 
 pub use distance::nearest;
+pub use lines::cut_line;
 pub use lists::{alternatives, listed};
 pub use spots::{Hint, Spot, byte_spot, word_spot};

@@ -7,7 +7,7 @@ ghost use Rattle.mrc_wiring_text.specs.Lexis.{lines};
 ghost use Rattle.mrc_place.specs.Spots.{is_feed, line_after};
 
 /// The first line of a text, without its line feed, and the text after it.
-fn cut_line(text: &str) -> (&str, &str)
+pub fn cut_line(text: &str) -> (&str, &str)
     requires { 0 < length text.now }
     ensures cut { lines text.now ≡ result.0.now ∷ lines result.1.now }
     ensures shorter { length result.1.now < length text.now }

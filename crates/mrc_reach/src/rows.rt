@@ -1,19 +1,11 @@
 //! Rows of bits, side by side.
 
-use mrc_bits::has_bit;
+use mrc_bits::{has_bit, word_at};
 use std::alloc::{AllocError, Global};
 
 /// A row of zeros with room for so many places.
 pub(crate) fn zeros(alloc: Global, places: usize) -> Result<Vec<u64>, AllocError> {
     vec![in alloc; 0u64; places / 64 + 1]
-}
-
-/// A word of a row; 0 behind the last.
-fn word_at(row: &[u64], number: usize) -> u64 {
-    match row.get(number) {
-        Some(word) => *word,
-        None => 0,
-    }
 }
 
 /// A word of what lets bits pass: without a row all pass.

@@ -4,6 +4,7 @@ use Rattle.std.proofs.Common.{refl, ap, sym, ◌∙◌, inl, inr, arith}
 use Rattle.std.specs.Prelude.{◌||◌, ◌&&◌, nat_lt, not}
 use Rattle.std.proofs.lemmas.Bool.{cases_eq, cases_order, cases_lt, cases_Bool, eq-eqb, ne_eqb}
 use Rattle.std.proofs.lemmas.Bool.{lt-ltb, le-ltb, true≢false, false≢true}
+use Rattle.std.proofs.Math.Bool.{and-false, or-false}
 use Rattle.mrc_base.specs.declared.Fact.{Fact}
 use Rattle.mrc_rows.specs.Limits.{limit_of_rows}
 use Rattle.mrc_rows.specs.Rows.{is_within, row_of}
@@ -69,29 +70,17 @@ nothing_joined true of both within set shown none = refl
 nothing_joined false false both within set shown none = refl
 nothing_joined false true false within set shown none = refl
 nothing_joined false true true within set shown none =
-    absurd (true≢false (sym (fresh set (shown refl ∙ and_false within)) ∙ none))
+    absurd (true≢false (sym (fresh set (shown refl ∙ and-false within)) ∙ none))
   where
     fresh : (set : Bool) → set ≡ false → (true && not set) ≡ true
     fresh set e = rw e refl
-
-    and_false : (b : Bool) → (b && false) ≡ false
-    and_false true = refl
-    and_false false = refl
 
 -- the rows before one that are joined
 
 pub none_before : (g : Fact) (had there : Bool) → had ≡ (had || (is_kept_before 0 g && there))
 none_before g had there =
     sym (ap (λ b. had || ((is_within g && b) && there)) (le-ltb (row_of g) 0 (omega arith))
-    ∙ (ap (λ b. had || (b && there)) (and_nothing (is_within g)) ∙ or_nothing had))
-  where
-    and_nothing : (b : Bool) → (b && false) ≡ false
-    and_nothing true = refl
-    and_nothing false = refl
-
-    or_nothing : (b : Bool) → (b || false) ≡ b
-    or_nothing true = refl
-    or_nothing false = refl
+    ∙ (ap (λ b. had || (b && there)) (and-false (is_within g)) ∙ or-false had))
 
 pub next_below : (p n : ℕ) → (p ≡ n → ⊥) → nat_lt p (n + 1) ≡ nat_lt p n
 next_below p n other = elim (cases_lt p n) [

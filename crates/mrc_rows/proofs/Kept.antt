@@ -8,6 +8,7 @@ use Rattle.std.proofs.lemmas.Bool.{cases_lt, cases_order, cases_Bool, and_from, 
 use Rattle.std.proofs.lemmas.List.{length-set}
 use Rattle.std.proofs.lemmas.Bool.{cases_eq, ne_eqb, eq-eqb, lt-ltb, le-ltb, or_cases, or_left, or_right}
 use Rattle.std.proofs.lemmas.Bool.{true≢false, false≢true, false_from_ne_true}
+use Rattle.std.proofs.Math.Bool.{or-false}
 use Rattle.mrc_base.specs.declared.Fact.{Fact}
 use Rattle.mrc_base.specs.declared.PortRight.{PortRight}
 use Rattle.mrc_base.specs.declared.PortRight.TheVariants.{Send, Receive, SendOnce}
@@ -113,7 +114,7 @@ joined_bits rows k row more mask below as_long put = record {
   same = λ j i. elim (cases_eq j k) [
     | inl e ↦ rw (eq-eqb j k e, e, words_set rows k row below) (put i)
     | inr other ↦ rw (ne_eqb j k other, words_other rows k j row other)
-        (sym (or_false (is_set (words_of rows j) i)))
+        (sym (or-false (is_set (words_of rows j) i)))
   ];
   sized = λ s j. elim (cases_eq j k) [
     | inl e ↦ subst (λ n. n ≤ limit_of_words)
@@ -125,10 +126,6 @@ joined_bits rows k row more mask below as_long put = record {
   ];
   few_rows = λ h. let e = length-set rows k row in omega arith;
 }
-  where
-    or_false : (b : Bool) → (b || false) ≡ b
-    or_false true = refl
-    or_false false = refl
 
 -- what is joined of the places before one
 record JoinedBefore
@@ -168,14 +165,10 @@ shown_there : (rows : List Row) (count : ℕ) (facts : List Fact) → Shows rows
     → (g : Fact) (row : ℕ) → is_in_row row g ≡ true
     → has facts g ≡ is_set (words_of rows row) (place_of g)
 shown_there rows count facts shows g row there =
-    let parts = in_parts (is_within g) (row_of g == row) there in
+    let parts = and_parts (is_within g) (row_of g == row) there in
     shows.same g
     ∙ (ap (λ b. b && is_set (words_of rows (row_of g)) (place_of g)) parts.0
     ∙ ap (λ k. is_set (words_of rows k) (place_of g)) (eqb-true (row_of g) row parts.1))
-  where
-    in_parts : (a b : Bool) → (a && b) ≡ true → (a ≡ true) × (b ≡ true)
-    in_parts true b e = (refl, e)
-    in_parts false b e = absurd (false≢true e)
 
 -- one place more, of which nothing is new
 passed : (had now in_row in_more : Bool) (p at : ℕ)
@@ -345,7 +338,7 @@ whole_of : (rows others : List Fact) → IsAscending rows → IsAscending others
 whole_of rows [] up up_others within outside = (
   rows,
   record {
-    same = λ f. sym (or_false (has rows f));
+    same = λ f. sym (or-false (has rows f));
     within = within;
     outside = outside;
     len = omega arith;
@@ -354,10 +347,6 @@ whole_of rows [] up up_others within outside = (
     others_ascending = refl;
   },
 )
-  where
-    or_false : (b : Bool) → (b || false) ≡ b
-    or_false true = refl
-    or_false false = refl
 whole_of rows (f ∷ fs) up up_others within outside =
     let parts = and_parts (begins_after f fs) (are_ascending fs) up_others in
     let rest = whole_of rows fs up parts.1 within

@@ -11,6 +11,7 @@ use Rattle.std.proofs.lemmas.Bool.{cases_eq, cases_order, cases_lt, cases_Bool, 
 use Rattle.std.proofs.lemmas.Option.{slice_get-get_or, slice_get_past}
 use Rattle.std.proofs.lemmas.Nat.Bits.{bit_at-zero}
 use Rattle.std.proofs.lemmas.List.{get_or-set_same, get_or-set_other, length-set, get_or_past, get_or-replicate, length-replicate, get_or_append_left, get_or_push, length_push, length-append}
+use Rattle.std.proofs.Math.Bool.{and-false}
 use Rattle.mrc_base.specs.declared.Fact.{Fact}
 use Rattle.mrc_base.specs.declared.Fact.TheVariants.{Hold, Carry, Backup}
 use Rattle.mrc_base.specs.declared.PortRight.{PortRight}
@@ -18,6 +19,7 @@ use Rattle.mrc_base.specs.declared.PortRight.TheVariants.{Send, Receive, SendOnc
 use Rattle.mrc_facts.specs.Order.{fact_cmp, is_same, is_before, right_number, kind, first_number, second_number, last_byte}
 use Rattle.mrc_facts.specs.Sets.{has, with_fact, without, first, after, begins_after, are_ascending, IsAscending}
 use Rattle.mrc_facts.proofs.Total.{fact_total, exact, not_before, not_before_itself, equal_from_same, same_itself}
+use Rattle.mrc_facts.proofs.Total.{same_right}
 use Rattle.mrc_facts.proofs.Members.{one_list, has-with_fact, first_is_least, after_is_next, none_after}
 use Rattle.mrc_facts.specs.Laws.{IsLeast, IsNext}
 use Rattle.mrc_facts.proofs.Comparing.{cmp_less, three_less}
@@ -188,17 +190,6 @@ right_there Send = lit< tt
 right_there Receive = lit< tt
 right_there SendOnce = lit< tt
 
-pub one_right : (r q : PortRight) → right_number r ≡ right_number q → r ≡ q
-one_right Send Send e = refl
-one_right Send Receive e = absurd (omega arith)
-one_right Send SendOnce e = absurd (omega arith)
-one_right Receive Send e = absurd (omega arith)
-one_right Receive Receive e = refl
-one_right Receive SendOnce e = absurd (omega arith)
-one_right SendOnce Send e = absurd (omega arith)
-one_right SendOnce Receive e = absurd (omega arith)
-one_right SendOnce SendOnce e = refl
-
 -- the numbers of a fact that has a place
 pub record IsPlaced (f : Fact) : Type 0 where
   pub row : row_of f < limit_of_rows
@@ -217,7 +208,7 @@ one_place (Hold t c r) (Hold u d q) a b e h =
     let x = right_there r in
     let y = right_there q in
     let same : t ≡ u = omega arith in
-    let s = one_right r q (omega arith) in
+    let s = same_right r q (omega arith) in
     cc
 one_place (Hold t c r) (Carry u d q) a b e h = let p = both t limit_of_tasks c limit_of_classes a in let x = right_there r in absurd (omega arith)
 one_place (Hold t c r) (Backup u d) a b e h = let p = both t limit_of_tasks c limit_of_classes a in let x = right_there r in absurd (omega arith)
@@ -226,7 +217,7 @@ one_place (Carry t c r) (Carry u d q) a b e h =
     let x = right_there r in
     let y = right_there q in
     let same : t ≡ u = omega arith in
-    let s = one_right r q (omega arith) in
+    let s = same_right r q (omega arith) in
     cc
 one_place (Carry t c r) (Backup u d) a b e h = let p = both t limit_of_classes c limit_of_classes a in let x = right_there r in absurd (omega arith)
 one_place (Backup t c) (Hold u d q) a b e h = let p = both u limit_of_tasks d limit_of_classes b in let y = right_there q in absurd (omega arith)
@@ -256,12 +247,8 @@ pub shown_less : (before after : List Row) (f : Fact) → IsWithin f → OneLess
 shown_less before after f within less g =
     elim (cases_Bool (is_within g)) [
       | inl there ↦ rw there (less.same (row_of g) (place_of g) ∙ ap (λ b. not b && is_set (words_of before (row_of g)) (place_of g)) (same_place f g within there))
-      | inr outside ↦ rw outside (none (not (is_same g f)))
+      | inr outside ↦ rw outside (sym (and-false (not (is_same g f))))
     ]
-  where
-    none : (b : Bool) → false ≡ (b && false)
-    none true = refl
-    none false = refl
 
 -- sets
 
@@ -419,7 +406,7 @@ one_key (Hold t c r) (Hold u d q) a b e h =
     let x = right_there r in
     let y = right_there q in
     let same : c ≡ d = omega arith in
-    let s = one_right r q (omega arith) in
+    let s = same_right r q (omega arith) in
     cc
 one_key (Hold t c r) (Carry u d q) a b e h = let p = both t limit_of_tasks c limit_of_classes a in absurd (omega arith)
 one_key (Hold t c r) (Backup u d) a b e h = let p = both t limit_of_tasks c limit_of_classes a in absurd (omega arith)
@@ -429,7 +416,7 @@ one_key (Carry t c r) (Carry u d q) a b e h =
     let y = right_there q in
     let same : c ≡ d = omega arith in
     let same_row : t ≡ u = omega arith in
-    let s = one_right r q (omega arith) in
+    let s = same_right r q (omega arith) in
     cc
 one_key (Carry t c r) (Backup u d) a b e h = let p = both t limit_of_classes c limit_of_classes a in absurd (omega arith)
 one_key (Backup t c) (Hold u d q) a b e h = let p = both u limit_of_tasks d limit_of_classes b in absurd (omega arith)
@@ -538,6 +525,9 @@ first_from_key rows n fs shows group key f within next = record {
 pub none_from_key : (rows : List Row) (n : ℕ) (fs : List Fact) → Shows rows n fs → (group key : ℕ) → NoKey rows group key → NoneFrom fs group key
 none_from_key rows n fs shows group key none h there from = let bit = shown_bit rows n fs shows h there in true≢false (sym bit.1 ∙ none (group_of h) (key_of h) (group_there h bit.0) from)
 
+any_place : (k i : ℕ) → (0 < k) ⊎ ((0 ≡ k) × (0 ≤ i))
+any_place k i = elim (cases_eq k 0) [ inl e ↦ inr (sym e, omega arith) | inr other ↦ inl (omega (arith, other)) ]
+
 -- the least fact
 pub is_first : (fs : List Fact) → IsAscending fs → (o : Option Fact) → IfSome o (IsFirstFrom fs 0 0) → IfNone o (NoneFrom fs 0 0) → o ≡ first fs
 is_first fs ascending (Some f) found none = some_first fs f ascending (first_is_least fs ascending) found
@@ -545,14 +535,8 @@ is_first fs ascending (Some f) found none = some_first fs f ascending (first_is_
     some_first : (fs : List Fact) (f : Fact) → IsAscending fs → IfSome (first fs) (IsLeast fs) → IsFirstFrom fs 0 0 f → Some f ≡ first fs
     some_first [] f ascending least found = absurd (true≢false (sym found.member))
     some_first (g ∷ fs) f ascending least found = ap (λ (x : Fact). Some x) (neither_before f g (least.least f found.member) (found.least g least.member (any_place (group_of g) (key_of g))))
-      where
-        any_place : (k i : ℕ) → (0 < k) ⊎ ((0 ≡ k) × (0 ≤ i))
-        any_place k i = elim (cases_eq k 0) [ inl e ↦ inr (sym e, omega arith) | inr other ↦ inl (omega (arith, other)) ]
 is_first [] ascending None found none = refl
 is_first (g ∷ fs) ascending None found none = absurd (none g (or_left (is_same g g) (has fs g) (same_itself g)) (any_place (group_of g) (key_of g)))
-  where
-    any_place : (k i : ℕ) → (0 < k) ⊎ ((0 ≡ k) × (0 ≤ i))
-    any_place k i = elim (cases_eq k 0) [ inl e ↦ inr (sym e, omega arith) | inr other ↦ inl (omega (arith, other)) ]
 
 -- where those behind f begin
 

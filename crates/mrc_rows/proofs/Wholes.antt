@@ -4,12 +4,14 @@ use Rattle.std.specs.Prelude.{IsTrue, not, ◌&&◌, ◌||◌, Option, Some, Non
 use Rattle.std.specs.Ordering.{is_lt}
 use Rattle.std.specs.declared.cmp.Ordering.TheVariants.{Less, Equal, Greater}
 use Rattle.std.proofs.lemmas.Bool.{cases_Bool, and_parts, and_from, or_cases, or_left, or_right, true≢false, false≢true, false_from_ne_true}
+use Rattle.std.proofs.Math.Bool.{or-false, or_assoc}
 use Rattle.mrc_base.specs.declared.Fact.{Fact}
 use Rattle.mrc_facts.specs.Order.{fact_cmp, is_before, is_same}
 use Rattle.mrc_facts.specs.Sets.{has, with_fact, without, first, after, IsAscending}
 use Rattle.mrc_facts.specs.Laws.{IsLeast, IsNext}
 use Rattle.mrc_facts.proofs.Total.{fact_total, equal_from_same, same_itself}
 use Rattle.mrc_facts.proofs.Members.{one_list, has-with_fact, first_is_least, after_is_next, none_after}
+use Rattle.mrc_facts.proofs.Members.{or_swap}
 use Rattle.mrc_facts.proofs.Walking.{place, IsStep, has_more, walk_ends}
 use Rattle.mrc_facts.proofs.Removing.{has-without, ascending-without, length-without}
 use Rattle.mrc_rows.specs.Rows.{is_within, IsWithin}
@@ -35,10 +37,6 @@ whole_new rows others a b =
       others_ascending = refl;
     }))
 
-pub or_false : (b : Bool) → (b || false) ≡ b
-or_false true = refl
-or_false false = refl
-
 module _ (rows others facts : List Fact) (is : IsWhole rows others facts) where
   others_lack : (f : Fact) → IsWithin f → has others f ≡ false
   others_lack f within = false_from_ne_true (has others f) (λ there. true≢false (sym within ∙ is.outside f there))
@@ -48,21 +46,12 @@ module _ (rows others facts : List Fact) (is : IsWhole rows others facts) where
 
   -- a fact with a place in rows stands there or nowhere
   pub has_row : (f : Fact) → IsWithin f → has facts f ≡ has rows f
-  has_row f within = is.same f ∙ (ap (λ b. has rows f || b) (others_lack f within) ∙ or_false (has rows f))
+  has_row f within = is.same f ∙ (ap (λ b. has rows f || b) (others_lack f within) ∙ or-false (has rows f))
 
   pub has_other : (f : Fact) → is_within f ≡ false → has facts f ≡ has others f
   has_other f outside = is.same f ∙ ap (λ b. b || has others f) (rows_lack f outside)
 
   -- one more
-  assoc : (a b c : Bool) → (a || (b || c)) ≡ ((a || b) || c)
-  assoc true b c = refl
-  assoc false b c = refl
-
-  swap : (a b c : Bool) → (a || (b || c)) ≡ (b || (a || c))
-  swap true true c = refl
-  swap true false c = refl
-  swap false b c = refl
-
   more : (half : List Fact) (f : Fact) → IsAscending half → has facts f ≡ has half f → (n : ℕ) → length facts ≡ length half + n → length (with_fact facts f) ≡ length (with_fact half f) + n
   more half f up same n len = elim (cases_Bool (has half f)) [
     | inl there ↦
@@ -77,7 +66,7 @@ module _ (rows others facts : List Fact) (is : IsWhole rows others facts) where
 
   pub whole_with_row : (f : Fact) → IsWithin f → IsWhole (with_fact rows f) others (with_fact facts f)
   whole_with_row f within = record {
-    same = λ g. has-with_fact facts f g ∙ (ap (λ b. is_same g f || b) (is.same g) ∙ (assoc (is_same g f) (has rows g) (has others g) ∙ ap (λ b. b || has others g) (sym (has-with_fact rows f g))));
+    same = λ g. has-with_fact facts f g ∙ (ap (λ b. is_same g f || b) (is.same g) ∙ (sym (or_assoc (is_same g f) (has rows g) (has others g)) ∙ ap (λ b. b || has others g) (sym (has-with_fact rows f g))));
     within = λ g h. elim (or_cases (is_same g f) (has rows g) (sym (has-with_fact rows f g) ∙ h)) [
       | inl same ↦ subst IsWithin (sym (equal_from_same g f same)) within
       | inr there ↦ is.within g there
@@ -91,7 +80,7 @@ module _ (rows others facts : List Fact) (is : IsWhole rows others facts) where
 
   pub whole_with_other : (f : Fact) → is_within f ≡ false → IsWhole rows (with_fact others f) (with_fact facts f)
   whole_with_other f outside = record {
-    same = λ g. has-with_fact facts f g ∙ (ap (λ b. is_same g f || b) (is.same g) ∙ (swap (is_same g f) (has rows g) (has others g) ∙ ap (λ b. has rows g || b) (sym (has-with_fact others f g))));
+    same = λ g. has-with_fact facts f g ∙ (ap (λ b. is_same g f || b) (is.same g) ∙ (or_swap (is_same g f) (has rows g) (has others g) ∙ ap (λ b. has rows g || b) (sym (has-with_fact others f g))));
     within = is.within;
     outside = λ g h. elim (or_cases (is_same g f) (has others g) (sym (has-with_fact others f g) ∙ h)) [
       | inl same ↦ subst (λ x. is_within x ≡ false) (sym (equal_from_same g f same)) outside
@@ -225,29 +214,22 @@ one_least_of S None (Some g) a b = absurd (true≢false (sym b.0 ∙ a g))
 one_least_of S (Some f) None a b = absurd (true≢false (sym a.0 ∙ b f))
 one_least_of S (Some f) (Some g) a b = ap (λ (x : Fact). Some x) (neither_before f g (b.1 f a.0) (a.1 g b.0))
 
+less_is : (a b : Fact) → is_before a b ≡ true → fact_cmp a b ≡ Less
+less_is a b e = elim (fact_cmp a b) as (λ o. is_lt o ≡ true → o ≡ Less) [
+  | Less ↦ λ h. refl
+  | Equal ↦ λ h. absurd (false≢true h)
+  | Greater ↦ λ h. absurd (false≢true h)
+] e
+
 before_either : (f g h : Fact) → is_before g f ≡ true → is_before h f ≡ false → is_before h g ≡ false
 before_either f g h less not_less = false_from_ne_true (is_before h g) (λ low.
     true≢false (sym (ap is_lt (fact_total.trans h g f (less_is h g low) (less_is g f less))) ∙ not_less))
-  where
-    less_is : (a b : Fact) → is_before a b ≡ true → fact_cmp a b ≡ Less
-    less_is a b e = elim (fact_cmp a b) as (λ o. is_lt o ≡ true → o ≡ Less) [
-      | Less ↦ λ h. refl
-      | Equal ↦ λ h. absurd (false≢true h)
-      | Greater ↦ λ h. absurd (false≢true h)
-    ] e
 
 not_after_either : (f g h : Fact) → is_before g f ≡ false → is_before h g ≡ false → is_before h f ≡ false
 not_after_either f g h a b = false_from_ne_true (is_before h f) (λ low. elim (cases_Bool (is_before f g)) [
   | inl less ↦ true≢false (sym (ap is_lt (fact_total.trans h f g (less_is h f low) (less_is f g less))) ∙ b)
   | inr other ↦ true≢false (sym (subst (λ x. is_before h x ≡ true) (neither_before f g other a) low) ∙ b)
 ])
-  where
-    less_is : (a b : Fact) → is_before a b ≡ true → fact_cmp a b ≡ Less
-    less_is a b e = elim (fact_cmp a b) as (λ o. is_lt o ≡ true → o ≡ Less) [
-      | Less ↦ λ h. refl
-      | Equal ↦ λ h. absurd (false≢true h)
-      | Greater ↦ λ h. absurd (false≢true h)
-    ] e
 
 least_of_both : (A B S : Fact → Bool) → ((g : Fact) → S g ≡ (A g || B g)) → (o p : Option Fact) → IsLeastOf A o → IsLeastOf B p → IsLeastOf S (earlier o p)
 least_of_both A B S same None None a b = λ g. same g ∙ rw (a g, b g) refl
@@ -365,7 +347,7 @@ same_lists fs gs a b to from = one_list fs gs a b (λ g. equal (has fs g) (has g
 pub begins_joined : (list had : List Fact) (next : Option Fact) → place list next ≡ 0
     → (g : Fact) → has had g ≡ (has had g || has (take (place list next) list) g)
 begins_joined list had next e g =
-    sym (ap (λ n. has had g || has (take n list) g) e ∙ or_false (has had g))
+    sym (ap (λ n. has had g || has (take n list) g) e ∙ or-false (has had g))
 
 pub more_joined : (list had now then : List Fact) (next : Option Fact) (f : Fact)
     (after_it : Option Fact) → next ≡ Some f → IsStep list f after_it
@@ -375,14 +357,9 @@ pub more_joined : (list had now then : List Fact) (next : Option Fact) (f : Fact
 more_joined list had now then next f after_it is step so_far put g =
     put g ∙ (ap (λ b. is_same g f || b) (so_far g)
     ∙ (ap (λ o. is_same g f || (has had g || has (take (place list o) list) g)) is
-    ∙ (swapped (is_same g f) (has had g) (has (take (place list (Some f)) list) g)
+    ∙ (or_swap (is_same g f) (has had g) (has (take (place list (Some f)) list) g)
     ∙ ap (λ b. has had g || b)
     (sym (ap (λ fs. has fs g) step.taken ∙ has_more (take (place list (Some f)) list) f g)))))
-  where
-    swapped : (a b c : Bool) → (a || (b || c)) ≡ (b || (a || c))
-    swapped true true c = refl
-    swapped true false c = refl
-    swapped false b c = refl
 
 pub all_joined : (list had now : List Fact) (next : Option Fact) → next ≡ None
     → ((g : Fact) → has now g ≡ (has had g || has (take (place list next) list) g))
@@ -399,8 +376,8 @@ both_joined rows others facts is g had now then in_rows beside =
     beside ∙ (ap (λ b. b || has others g) in_rows ∙ elim (cases_Bool (is_within g)) [
       | inl within ↦ rw within (
           ap (λ b. (had || has facts g) || b) (others_lack rows others facts is g within)
-          ∙ or_false (had || has facts g))
+          ∙ or-false (had || has facts g))
       | inr outside ↦ rw outside (
-          ap (λ b. b || has others g) (or_false had)
+          ap (λ b. b || has others g) (or-false had)
           ∙ ap (λ b. had || b) (sym (has_other rows others facts is g outside)))
     ])

@@ -1,7 +1,7 @@
 //! The places of the facts of a group, in their order.
 
 ghost use Rattle.std.specs.Prelude.{◌≡◌, ◌+◌, ◌*◌, ◌^◌, ◌<◌, ◌==◌, ℕ, true, false};
-ghost use Rattle.std.specs.Prelude.{slice_index, IfSome, IfNone};
+ghost use Rattle.std.specs.Prelude.{IfSome, IfNone};
 ghost use Rattle.std.specs.Int.{bit_at};
 ghost use Rattle.mrc_facts.specs.Order.{right_number};
 ghost use Rattle.mrc_bits.specs.Bits.{is_set};
@@ -12,20 +12,10 @@ ghost use Rattle.mrc_rows.specs.Planes.{IsFirstBy, NoneBy, IsFirstRight};
 use crate::limits::WORDS;
 use crate::planes::Planes;
 use mrc_base::PortRight;
-use mrc_bits::{has_bit, next_bit};
+use mrc_bits::{has_bit, next_bit, word_at};
 
 /// A right on a class: the place of a fact in its group.
 pub(crate) type Place = (usize, PortRight);
-
-/// A word of a row; 0 behind the last.
-fn word_at(words: &[u64], k: usize) -> u64
-    ensures { result ≡ slice_index words.now k }
-{
-    match words.get(k) {
-        Some(word) => *word,
-        None => 0,
-    }
-}
 
 impl<'a> Planes<'a> {
     /// The bits of the three words of this number, together.

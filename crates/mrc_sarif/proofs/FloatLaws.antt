@@ -1,6 +1,7 @@
 -- No number of a log has a fraction.
 use Rattle.std.proofs.Common.{◌≡◌, ◌+◌, ℕ, Bool, true, false, ◌||◌, cond, List, [], ◌∷◌, Option}
 use Rattle.std.proofs.Common.{Some, None, refl, ap, ◌∙◌}
+use Rattle.std.proofs.lemmas.Bool.{or_from}
 use Rattle.serde_json.specs.Data.{Data}
 use Rattle.serde_json.specs.View.{items_of}
 use Rattle.serde_json.specs.Written.{has_float, items_have_float}
@@ -14,9 +15,6 @@ use Rattle.mrc_sarif.specs.Steps.{Finding, IsStep, AreOf, IsResult, AreResults}
 use Rattle.mrc_sarif.specs.Answers.{broken_log, is_option, fault_locations, fault_notification}
 use Rattle.mrc_sarif.specs.Answers.{fault_log}
 
-neither : (a b : Bool) → a ≡ false → b ≡ false → (a || b) ≡ false
-neither a b is_not nor = ap (λ x. x || b) is_not ∙ nor
-
 -- objects of elements have none if each of them has none
 each_none : {A : Type 0} (IsOf : ℕ → A → Data → Type 0)
     → ((n : ℕ) (x : A) (d : Data) → IsOf n x d → has_float d ≡ false)
@@ -26,7 +24,7 @@ each_none IsOf none n [] [] are = refl
 each_none IsOf none n [] (d ∷ ds) are = absurd are
 each_none IsOf none n (x ∷ xs) [] are = absurd are
 each_none IsOf none n (x ∷ xs) (d ∷ ds) are =
-    neither (has_float d) (items_have_float (items_of ds)) (none n x d are.0)
+    or_from (has_float d) (items_have_float (items_of ds)) (none n x d are.0)
     (each_none IsOf none (n + 1) xs ds are.1)
 
 step_none : (system : System) (place : Place) (chain : List Step) (n : ℕ) (s : Step) (d : Data)
@@ -37,9 +35,9 @@ flow_none : (locations : List Data) → items_have_float (items_of locations) �
     → has_float (code_flow (thread_flow locations)) ≡ false
 flow_none locations none =
     let flow : has_float (thread_flow locations) ≡ false =
-    neither (items_have_float (items_of locations)) false none refl in
-    neither (has_float (thread_flow locations) || false) false
-    (neither (has_float (thread_flow locations)) false flow refl) refl
+    or_from (items_have_float (items_of locations)) false none refl in
+    or_from (has_float (thread_flow locations) || false) false
+    (or_from (has_float (thread_flow locations)) false flow refl) refl
 
 result_none : (system : System) (n : ℕ) (finding : Finding) (d : Data)
     → IsResult system finding d → has_float d ≡ false
@@ -49,18 +47,18 @@ result_none system n finding d is =
     flow_none is.locations (each_none (IsStep system finding.place finding.steps)
     (step_none system finding.place finding.steps) 0 finding.steps is.locations is.are) in
     ap has_float is.is
-    ∙ neither (has_float flow || false) false (neither (has_float flow) false none refl) refl
+    ∙ or_from (has_float flow || false) false (or_from (has_float flow) false none refl) refl
 
 log_none : (invoked : Data) (results : List Data) → has_float invoked ≡ false
     → items_have_float (items_of results) ≡ false
     → has_float (log (run invoked results)) ≡ false
 log_none invoked results one all =
     let ran : has_float (run invoked results) ≡ false =
-    neither (has_float invoked || false) (items_have_float (items_of results) || false)
-    (neither (has_float invoked) false one refl)
-    (neither (items_have_float (items_of results)) false all refl) in
-    neither (has_float (run invoked results) || false) false
-    (neither (has_float (run invoked results)) false ran refl) refl
+    or_from (has_float invoked || false) (items_have_float (items_of results) || false)
+    (or_from (has_float invoked) false one refl)
+    (or_from (items_have_float (items_of results)) false all refl) in
+    or_from (has_float (run invoked results) || false) false
+    (or_from (has_float (run invoked results)) false ran refl) refl
 
 -- the log of what is broken has none
 pub broken_none : (system : System) (found : List Finding) (results : List Data)
@@ -83,13 +81,13 @@ locations_none (Some file) spot = places_none (is_option file) file spot
 notification_none : (err : List ℕ) (spot : Option Spot)
     → has_float (fault_notification err spot) ≡ false
 notification_none err spot =
-    neither (items_have_float (items_of (fault_locations (fault_parts err).0 spot))) false
+    or_from (items_have_float (items_of (fault_locations (fault_parts err).0 spot))) false
     (locations_none (fault_parts err).0 spot) refl
 
 -- nor has that of a fault
 pub fault_none : (err : List ℕ) (spot : Option Spot) → has_float (fault_log err spot) ≡ false
 fault_none err spot =
     log_none (invocation false 2 (fault_notification err spot ∷ [])) []
-    (neither (has_float (fault_notification err spot) || false) false
-    (neither (has_float (fault_notification err spot)) false (notification_none err spot) refl)
+    (or_from (has_float (fault_notification err spot) || false) false
+    (or_from (has_float (fault_notification err spot)) false (notification_none err spot) refl)
     refl) refl

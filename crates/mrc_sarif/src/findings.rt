@@ -10,6 +10,7 @@ use crate::places::Place;
 use mrc_base::Fact;
 use mrc_closure::Step;
 use mrc_command::FileNames;
+use mrc_verdicts::is_asked;
 use mrc_why::{Broken, Exposed, forbidden_fact};
 use std::alloc::{AllocError, Global};
 use std::marker::Model;
@@ -117,16 +118,6 @@ pub(crate) fn broken_finding<'a>(names: &FileNames<'a>, broken: &'a Broken) -> F
         },
         fact: forbidden_fact(broken.line()),
         steps: broken.steps(),
-    }
-}
-
-/// Whether the broken line is asked for: all are, or those of one number.
-fn is_asked(only: Option<u32>, broken: &Broken) -> bool
-    ensures { result ≡ is_asked only broken.now }
-{
-    match only {
-        None => true,
-        Some(number) => broken.line().line == number,
     }
 }
 

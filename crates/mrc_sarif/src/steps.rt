@@ -2,7 +2,7 @@
 
 ghost use Rattle.std.specs.Prelude.{◌≡◌, IfOk, map, string_bytes};
 ghost use Rattle.serde_json.specs.View.{view};
-ghost use Rattle.mrc_why.specs.Texts.{rule_text, places_text};
+ghost use Rattle.mrc_why.specs.Texts.{rule_text};
 ghost use Rattle.mrc_sarif.specs.Objects.{flow_location, step_location};
 ghost use Rattle.mrc_sarif.specs.Steps.{finding_text, step_text, step_place, step_data, IsStep};
 ghost use Rattle.mrc_sarif.specs.Steps.{AreSteps, result_data, IsResult, AreResults};
@@ -10,8 +10,8 @@ ghost use Rattle.mrc_sarif.specs.Steps.{AreSteps, result_data, IsResult, AreResu
 use crate::findings::Finding;
 use crate::objects::{code_flow, flow_location, place_location, result_object};
 use crate::places::{Place, System, source_place};
-use mrc_closure::{Places, Step};
-use mrc_why::{Source, source_text};
+use mrc_closure::Step;
+use mrc_why::{Source, places_text, source_text};
 use mrc_wiring::Wired;
 use mrc_words::fact_text;
 use serde_json::Value;
@@ -24,23 +24,6 @@ fn rule_text(alloc: Global, wired: &Wired, step: &Step) -> Result<String, AllocE
     let rule = step.rule.number();
     let fact = fact_text(alloc, wired, step.fact)?;
     format!(in alloc; "K{rule} {fact}")
-}
-
-/// The places of a step's premises. A place that is both premises is printed once.
-fn places_text(alloc: Global, places: Places) -> Result<String, AllocError>
-    ensures { IfOk result (λ text. string_bytes text ≡ places_text places) }
-{
-    match places {
-        Places::Empty => Ok(String::new(alloc)),
-        Places::One(one) => format!(in alloc; " from {one}"),
-        Places::Two(one, other) => {
-            if one == other {
-                format!(in alloc; " from {one}")
-            } else {
-                format!(in alloc; " from {one} {other}")
-            }
-        }
-    }
 }
 
 /// The text of a step, as in the lines of a chain.

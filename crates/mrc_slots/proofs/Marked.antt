@@ -8,6 +8,7 @@ use Rattle.std.specs.declared.alloc.Global.{Global}
 use Rattle.std.proofs.lemmas.Bool.{cases_eq, cases_lt, eq-eqb, ne_eqb, lt-ltb, le-ltb}
 use Rattle.std.proofs.lemmas.Option.{slice_get-get_or}
 use Rattle.std.proofs.lemmas.List.{get_or_append_left, get_or_push, length_push, length-replicate}
+use Rattle.std.proofs.Math.Bool.{or-false}
 use Rattle.mrc_base.specs.declared.PortRight.{PortRight}
 use Rattle.mrc_base.specs.declared.PortRight.TheVariants.{Send, Receive, SendOnce}
 use Rattle.mrc_base.specs.declared.Disp.{Disp}
@@ -40,10 +41,6 @@ none_marked test n row e p =
 pub zeros_long : (n : ℕ) (row : List ℕ) → row ≡ replicate n 0 → length row ≡ n
 zeros_long n row e = ap length e ∙ length-replicate {A = ℕ} n 0
 
-or_nothing : (b : Bool) → (b || false) ≡ b
-or_nothing true = refl
-or_nothing false = refl
-
 pub one_marked : (test : ℕ → Bool) (n : ℕ) (row marked : List ℕ)
     → ((p : ℕ) → is_set row p ≡ (nat_lt p n && test p))
     → ((p : ℕ) → is_set marked p ≡ ((p == n && test n) || is_set row p))
@@ -53,7 +50,7 @@ one_marked test n row marked so_far put p = elim (cases_eq p n) [
       put p ∙ (ap (λ b. (b && test n) || is_set row p) (eq-eqb p n same)
       ∙ (ap (λ b. test n || b)
       (so_far p ∙ ap (λ b. b && test p) (le-ltb p n (omega (arith, same))))
-      ∙ (or_nothing (test n)
+      ∙ (or-false (test n)
       ∙ (ap test (sym same)
       ∙ sym (ap (λ b. b && test p) (lt-ltb p (n + 1) (omega (arith, same))))))))
   | inr other ↦

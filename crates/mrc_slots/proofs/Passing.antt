@@ -10,23 +10,11 @@ use Rattle.mrc_base.specs.declared.Disp.{Disp}
 use Rattle.mrc_base.specs.declared.Disp.TheVariants.{MoveReceive, MoveSend, MoveSendOnce, CopySend}
 use Rattle.mrc_base.specs.declared.Disp.TheVariants.{MakeSend, MakeSendOnce}
 use Rattle.mrc_base.specs.Disposition.{needed, given}
-use Rattle.mrc_model.specs.Rights.{same_right}
 use Rattle.mrc_model.specs.Wiring.{Wiring, classes, label, forms, item_forms, admits}
 use Rattle.mrc_model.specs.Wiring.{accepts_replier, accepts_routine, has_routine, is_answered}
 use Rattle.mrc_wiring.specs.Slots.{takes, form_takes}
 use Rattle.mrc_wiring.proofs.Takers.{taker}
 use Rattle.mrc_slots.specs.Passing.{passes}
-
-pub same_right_is : (r q : PortRight) → same_right r q ≡ true → r ≡ q
-same_right_is Send Send e = refl
-same_right_is Receive Receive e = refl
-same_right_is SendOnce SendOnce e = refl
-same_right_is Send Receive e = cc
-same_right_is Send SendOnce e = cc
-same_right_is Receive Send e = cc
-same_right_is Receive SendOnce e = cc
-same_right_is SendOnce Send e = cc
-same_right_is SendOnce Receive e = cc
 
 -- what a slot takes passes
 pub by_slot : (W : Wiring) (d c : ℕ) (x : Disp) → takes W d x c ≡ true

@@ -1,14 +1,11 @@
 -- How often facts are counted, step by step.
 use Rattle.std.proofs.Common.{◌≡◌, ◌+◌, ◌<◌, ◌≤◌, ℕ, Bool, true, false, cond, List, [], ◌∷◌, ◌++◌}
-use Rattle.std.proofs.Common.{Option, Some, None, Bor, refl, sym, ap, subst, ◌∙◌, length, take}
+use Rattle.std.proofs.Common.{Option, Some, refl, sym, ap, subst, ◌∙◌, length, take}
 use Rattle.std.proofs.Common.{arith, filter, length-append, slice_index_or}
-use Rattle.std.specs.Prelude.{IsTrue, not, ◌||◌, if◌then◌else◌}
-use Rattle.std.specs.List.{list_any}
-use Rattle.std.specs.Option.{option_copied, unwrap_or}
+use Rattle.std.specs.Prelude.{not, ◌||◌, if◌then◌else◌}
+use Rattle.std.specs.Option.{unwrap_or}
 use Rattle.std.specs.BTreeMap.{BTreeMap, Updates, get}
 use Rattle.std.specs.declared.cmp.Ordering.{Ordering}
-use Rattle.std.specs.declared.cmp.Ordering.TheVariants.{Less, Equal, Greater}
-use Rattle.std.specs.Ordering.{ordering_reverse, is_eq}
 use Rattle.std.proofs.lemmas.List.{take_more, length-take-le}
 use Rattle.std.proofs.lemmas.List.Elements.{filter-append}
 use Rattle.std.proofs.lemmas.List.Folds.{list_any_more}
@@ -16,7 +13,8 @@ use Rattle.mrc_base.specs.declared.Fact.{Fact}
 use Rattle.mrc_base.specs.contracts.FactOrd.TheImpl as facts
 use Rattle.mrc_facts.specs.Order.{fact_cmp, is_same}
 use Rattle.mrc_facts.proofs.Derived.{derived}
-use Rattle.mrc_facts.proofs.Total.{fact_total, same_itself, equal_from_same}
+use Rattle.mrc_facts.proofs.Total.{equal_from_same}
+use Rattle.mrc_facts.proofs.Members.{same_turned}
 use Rattle.mrc_closure.specs.declared.chains.Step.{Step}
 use Rattle.mrc_why.specs.Broken.{BrokenLine}
 use Rattle.mrc_verdicts.specs.Counts.{times, one_if}
@@ -47,15 +45,7 @@ counted_once before later fact n updates is f =
           ∙ ap (λ (g : Fact). times before g + 1) (equal_from_same fact f e)
       | false ↦ λ e. omega arith
     ] refl
-    ∙ ap (λ b. times before f + one_if b) (turned fact f))
-  where
-    reversed : (o : Ordering) → is_eq (ordering_reverse o) ≡ is_eq o
-    reversed Less = refl
-    reversed Equal = refl
-    reversed Greater = refl
-
-    turned : (g h : Fact) → is_same g h ≡ is_same h g
-    turned g h = sym (ap is_eq (fact_total.antisymm h g) ∙ reversed (fact_cmp g h))
+    ∙ ap (λ b. times before f + one_if b) (same_turned fact f))
 
 -- one more step of a chain
 pub concluded_more : (steps : List Step) (i : ℕ) (s : Step)

@@ -8,5 +8,5 @@ mod printing;
 mod quoting;
 
 pub use common::{Common, common_of};
-pub use printing::{Manner, no_text};
+pub use printing::{Manner, is_asked, no_text};
 pub use quoting::Quoted;

@@ -9,9 +9,7 @@ ghost use Rattle.mrc_verdicts.specs.Verdicts.{IsExposedPart, IsExposedIf, IsNoTe
 use crate::common::common_if;
 use crate::quoting::Quoted;
 use mrc_rows::Facts;
-use mrc_why::{Broken, Exposed, Layout, Sources, Verdict, forbidden_fact, verify_text};
-use mrc_wiring::{ForbiddenLine, Wired};
-use mrc_words::fact_text;
+use mrc_why::{Broken, Exposed, Layout, Sources, Verdict, broken_line, exposed_line, verify_text};
 use std::alloc::{AllocError, Global};
 
 /// How a `NO` is printed.
@@ -32,15 +30,6 @@ fn behind<'a>(text: &'a str, head: &str) -> &'a str
     ensures { (rest : List ℕ) → text.now ≡ head.now ++ rest → result.now ≡ rest }
 {
     text.strip_prefix(head).unwrap_or("")
-}
-
-/// That a line is broken.
-fn broken_line(alloc: Global, wired: &Wired, line: &ForbiddenLine) -> Result<String, AllocError>
-    ensures { IfOk result (λ text. string_bytes text ≡ broken_line wired.now line.now) }
-{
-    let number = line.line;
-    let fact = fact_text(alloc, wired, forbidden_fact(line))?;
-    format!(in alloc; "NO forbidden line {number} {fact}\n")
 }
 
 /// The chain of a broken line in this layout, behind two blanks.
@@ -100,7 +89,7 @@ fn broken_part(
 }
 
 /// Whether the broken line is asked for: all are, or those of one number.
-fn is_asked(only: Option<u32>, broken: &Broken) -> bool
+pub fn is_asked(only: Option<u32>, broken: &Broken) -> bool
     ensures { result ≡ is_asked only broken.now }
 {
     match only {
@@ -128,15 +117,6 @@ fn broken_parts(
         }
     }
     Ok(text)
-}
-
-/// That another task could rewrite a trusted one.
-fn exposed_line(alloc: Global, wired: &Wired, exposed: &Exposed) -> Result<String, AllocError>
-    ensures { IfOk result (λ text. string_bytes text ≡ exposed_line wired.now exposed.now) }
-{
-    let number = exposed.line();
-    let fact = fact_text(alloc, wired, exposed.fact())?;
-    format!(in alloc; "NO trusted line {number} {fact}\n")
 }
 
 /// The chain of a trusted task in this layout, behind two blanks.

@@ -6,7 +6,7 @@ ghost use Rattle.mrc_wiring_text.specs.Lexis.{lines};
 ghost use Rattle.mrc_verdicts.specs.Quotes.{shown_line, quote};
 
 use mrc_command::shown;
-use mrc_wiring_text::first_line;
+use mrc_wiring_text::lines_of;
 use std::alloc::{AllocError, Global};
 use std::marker::Model;
 use std::str;
@@ -24,20 +24,6 @@ impl<'a> Model for Quoted<'a> {
     ghost Value = { Option (List (List ℕ)) };
 
     ghost view = { λ q. option_map (λ lines. map (λ line. line.now) lines.items) q.lines };
-}
-
-/// The lines of a text.
-fn lines_of(alloc: Global, text: &[u8]) -> Result<Vec<&[u8]>, AllocError>
-    ensures { IfOk result (λ found. map (λ line. line.now) found.items ≡ lines text.now) }
-{
-    let mut found = Vec::new(alloc);
-    let mut rest = text;
-    while !rest.is_empty() {
-        let (line, after) = first_line(rest);
-        found.push(line)?;
-        rest = after;
-    }
-    Ok(found)
 }
 
 /// A line as it is shown, without blanks at its ends; nothing, if it is no text.

@@ -1,15 +1,10 @@
 -- Elements of lists by their places.
-use Rattle.std.proofs.Common.{◌≡◌, ℕ, zero, suc, ◌<◌, List, [], ◌∷◌, length, get_or, Some}
-use Rattle.std.proofs.Common.{refl, subst}
+use Rattle.std.proofs.Common.{◌≡◌, ℕ, suc, ◌<◌, List, [], ◌∷◌, length, get_or, Some}
+use Rattle.std.proofs.Common.{refl}
 use Rattle.std.specs.Prelude.{slice_get}
-use Rattle.std.proofs.lemmas.Option.{slice_get_read, slice_get-get_or, same_Some}
+use Rattle.std.proofs.lemmas.Option.{slice_get_read, slice_get-get_or}
 use Rattle.mrc_model.specs.IsIn.{IsIn, here, later}
-
--- what stands at a place is an element
-pub in_get : {X : Type 0} (xs : List X) (i : ℕ) (x : X) → slice_get xs i ≡ Some x → IsIn x xs
-in_get [] i x e = absurd cc
-in_get (y ∷ xs) zero x e = subst (λ z. IsIn z (y ∷ xs)) (same_Some y x e) here
-in_get (y ∷ xs) (suc i) x e = later (in_get xs i x e)
+use Rattle.mrc_model.proofs.Members.{in_get}
 
 -- and so is what is read there
 pub in_read : {X : Type 0} (xs : List X) (i : ℕ) (x : X) → i < length xs → x ≡ get_or xs i x

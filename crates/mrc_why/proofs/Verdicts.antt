@@ -2,7 +2,7 @@
 -- rewrite by it, and what follows for the verdict.
 use Rattle.std.proofs.Common.{◌≡◌, ℕ, ◌+◌, ◌<◌, ◌≤◌, Bool, true, false, List, [], ◌∷◌, ◌++◌}
 use Rattle.std.proofs.Common.{inl, inr, length}
-use Rattle.std.proofs.Common.{map, take, get_or, refl, sym, ap, subst, ◌∙◌, IsTrue, arith}
+use Rattle.std.proofs.Common.{map, take, get_or, refl, sym, ap, subst, ◌∙◌, arith}
 use Rattle.std.proofs.Common.{Option, Some, None, not}
 use Rattle.std.proofs.Math.Path.{fun_ext}
 use Rattle.std.specs.Prelude.{filter, if◌then◌else◌, IfSome, ◌==◌, ◌&&◌, nat_lt}
@@ -19,6 +19,7 @@ use Rattle.mrc_model.specs.Wiring.{Wiring, kernel_class}
 use Rattle.mrc_model.specs.Breach.{Forbid}
 use Rattle.mrc_model.specs.Rules.{Has, IsLeast, ForbidsNone, Least}
 use Rattle.mrc_model.proofs.Members.{in_filter, filter_in, in_right}
+use Rattle.mrc_model.proofs.Few.{same_if}
 use Rattle.mrc_wiring.specs.declared.claim.ForbiddenLine.{ForbiddenLine}
 use Rattle.mrc_wiring.specs.Claims.{Claimed, holding_of, policy_of}
 use Rattle.mrc_wiring.specs.Table.{Table, wiring_of}
@@ -32,16 +33,10 @@ use Rattle.mrc_why.specs.Broken.{AreBroken, IsDerivedIn, HasYes, HasNoYes, IsJud
 use Rattle.mrc_why.specs.Broken.{IsFirstExposed, IsExposedOf, IsReached, IsFound, is_yes}
 use Rattle.mrc_why.specs.Derived.{Derived}
 
-same : (p q : Bool) → (IsTrue p → IsTrue q) → (IsTrue q → IsTrue p) → p ≡ q
-same true true f g = refl
-same true false f g = absurd (false≢true (f refl))
-same false true f g = absurd (false≢true (g refl))
-same false false f g = refl
-
 -- there is one least set
 pub least_one : (W : Wiring) (S T : Fact → Bool) → IsLeast W S → IsLeast W T → S ≡ T
 least_one W S T x y =
-    fun_ext (λ f. same (S f) (T f) (λ h. x.least f h T y.closed) (λ h. y.least f h S x.closed))
+    fun_ext (λ f. same_if (S f) (T f) (λ h. x.least f h T y.closed) (λ h. y.least f h S x.closed))
 
 -- what is told of one least set is so of each
 pub told_of_each : (claim : Claimed) (facts : List Fact) (told : List BrokenLine)
@@ -167,22 +162,22 @@ no_of_some claim facts least some set says secure =
     says.allowed (holding_of first.0) (map_in holding_of first.0 claim.lines at.0)
     (least.least (forbidden_fact first.0) at.1 set says.closed)
 
-all_still : (low same bound held after : Bool)
-    → (low && (not same && (not bound && held))) ≡ true
+all_still : (low same_if bound held after : Bool)
+    → (low && (not same_if && (not bound && held))) ≡ true
     → (held ≡ true → after ≡ true)
-    → (low && (not same && (not bound && after))) ≡ true
+    → (low && (not same_if && (not bound && after))) ≡ true
 all_still true false false true after all more = more refl
 all_still true false false false after all more = absurd (false≢true all)
 all_still true false true held after all more = absurd (false≢true all)
 all_still true true bound held after all more = absurd (false≢true all)
-all_still false same bound held after all more = absurd (false≢true all)
+all_still false same_if bound held after all more = absurd (false≢true all)
 
-held_by : (low same bound held : Bool) → (low && (not same && (not bound && held))) ≡ true
+held_by : (low same_if bound held : Bool) → (low && (not same_if && (not bound && held))) ≡ true
     → held ≡ true
 held_by true false false held all = all
 held_by true false true held all = absurd (false≢true all)
 held_by true true bound held all = absurd (false≢true all)
-held_by false same bound held all = absurd (false≢true all)
+held_by false same_if bound held all = absurd (false≢true all)
 
 -- a task that may rewrite another by a set may do so by a larger one
 may_still : (W : Wiring) (S T : Fact → Bool) (t u : ℕ) → may_rewrite W S t u ≡ true

@@ -13,13 +13,13 @@ use Rattle.mrc_model.specs.declared.LabelItem.TheVariants as label
 use Rattle.mrc_model.specs.declared.RequestKind.TheVariants.{Routine}
 use Rattle.mrc_model.specs.Wiring.{Wiring, label as label_of, admits, kernel_class}
 use Rattle.mrc_forms.specs.declared.form.MessageKind.{MessageKind}
-use Rattle.mrc_forms.specs.declared.form.MessageKind.TheVariants as messages
 use Rattle.mrc_forms.specs.declared.form.FormKind.TheVariants as kinds
 use Rattle.mrc_forms.specs.Forms.{Argument, Slot, Form}
 use Rattle.mrc_forms.specs.Tables.{Row, Table as Interface, form_in}
 use Rattle.mrc_wiring.specs.ModelForms.{is_at}
 use Rattle.mrc_wiring.specs.Sorts.{sorts_of, sort_number}
 use Rattle.mrc_wiring.specs.Table.{Table, wiring_of}
+use Rattle.mrc_wiring.specs.Finding.{item_of}
 use Rattle.mrc_classes.specs.declared.rule_names.RuleName.TheVariants as rules
 use Rattle.mrc_closure.specs.declared.chains.Places.{Places}
 use Rattle.mrc_closure.specs.declared.chains.Step.{Step}
@@ -29,11 +29,6 @@ use Rattle.mrc_why.specs.declared.origins.Source.{Source}
 use Rattle.mrc_why.specs.declared.origins.Source.TheVariants.{Line, Slot as SlotSource}
 use Rattle.mrc_why.specs.declared.origins.Source.TheVariants.{Subsystem, KernelPort}
 use Rattle.mrc_why.specs.Lines.{Numbered, IsGivenBy}
-
--- the item of a label that stands for these messages of the interface of this number
-abbrev pub item_of : MessageKind → ℕ → LabelItem
-item_of messages.Request number = label.Request number
-item_of messages.Reply number = label.Reply number
 
 -- A form of an interface, and an argument of it that is a slot: which of the two messages it is of,
 -- the number of the interface, and the place of the argument, which counts from 0.

@@ -7,6 +7,7 @@ ghost use Rattle.mrc_wiring.specs.Table.{wiring_of};
 ghost use Rattle.mrc_why.specs.Lines.{is_first, first_numbers, holding_of, Gives};
 
 use mrc_base::{ClassId, Fact, PortRight};
+use mrc_classes::same_right;
 use mrc_model::FirstLine;
 use mrc_wiring::Wired;
 use mrc_wiring_text::{WiringLine, WiringSays};
@@ -107,16 +108,6 @@ pub(crate) fn number_at(numbers: &[u32], place: usize) -> Option<u32>
     ensures { result ≡ slice_get numbers.now place }
 {
     numbers.get(place).copied()
-}
-
-fn same_right(one: PortRight, other: PortRight) -> bool
-    ensures { IsTrue result → one ≡ other }
-{
-    match one {
-        PortRight::Send => matches!(other, PortRight::Send),
-        PortRight::Receive => matches!(other, PortRight::Receive),
-        PortRight::SendOnce => matches!(other, PortRight::SendOnce),
-    }
 }
 
 /// Whether the line gives the task the right on a port of the class.

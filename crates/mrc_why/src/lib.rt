@@ -18,5 +18,8 @@ pub use derivation::Derivations;
 pub use judging::{Broken, Exposed, Verdict, forbidden_fact, verify};
 pub use mrc_closure::{Places, Step};
 pub use origins::{SlotNames, Source};
-pub use printing::{Layout, chain_text, plain_lines, source_text, verify_text};
+pub use printing::{
+    Layout, broken_line, chain_text, exposed_line, places_text, plain_lines, source_text,
+    verify_text,
+};
 pub use sources::Sources;

@@ -53,7 +53,7 @@ pub fn source_text(alloc: Global, source: Option<Source<'_>>) -> Result<String, 
 }
 
 /// The places of a step's premises. A place that is both premises is told once.
-fn places_text(alloc: Global, places: Places) -> Result<String, AllocError>
+pub fn places_text(alloc: Global, places: Places) -> Result<String, AllocError>
     ensures { IfOk result (λ text. string_bytes text ≡ places_text places) }
 {
     match places {
@@ -262,7 +262,7 @@ pub fn plain_lines(alloc: Global, wired: &Wired, steps: &[Step]) -> Result<Strin
 }
 
 /// That a line is broken.
-fn broken_line(alloc: Global, wired: &Wired, line: &ForbiddenLine) -> Result<String, AllocError>
+pub fn broken_line(alloc: Global, wired: &Wired, line: &ForbiddenLine) -> Result<String, AllocError>
     ensures { IfOk result (λ text. string_bytes text ≡ broken_line wired.now line.now) }
 {
     let number = line.line;
@@ -305,7 +305,7 @@ fn all_broken(
 }
 
 /// That another task could rewrite a trusted one.
-fn exposed_line(alloc: Global, wired: &Wired, exposed: &Exposed) -> Result<String, AllocError>
+pub fn exposed_line(alloc: Global, wired: &Wired, exposed: &Exposed) -> Result<String, AllocError>
     ensures { IfOk result (λ text. string_bytes text ≡ exposed_line wired.now exposed.now) }
 {
     let number = exposed.line();

@@ -7,16 +7,18 @@ ghost use Rattle.mrc_model.specs.IsIn.{IsIn};
 ghost use Rattle.mrc_model.specs.declared.LabelItem.TheVariants as label;
 ghost use Rattle.mrc_model.specs.Wiring.{label as label_of};
 ghost use Rattle.mrc_wiring.specs.ModelForms.{is_at};
+ghost use Rattle.mrc_wiring.specs.Finding.{item_of};
 ghost use Rattle.mrc_wiring.specs.Table.{wiring_of};
-ghost use Rattle.mrc_why.specs.Sources.{item_of, IsPassing, IsItemSlot, IsSlot};
+ghost use Rattle.mrc_why.specs.Sources.{IsPassing, IsItemSlot, IsSlot};
 ghost use Rattle.mrc_why.specs.Sources.{HasRoutine, IsRoutineItem, AcceptsRoutine};
 ghost use Rattle.mrc_why.specs.Slots.{IsFormPlace, IsRoutineForm};
 
 use crate::origins::SlotNames;
 use mrc_base::{ClassId, PortRight, give, need};
+use mrc_classes::same_right;
 use mrc_forms::{Form, FormKind, Interface, MessageKind, RequestKind, Row, Slot};
 use mrc_model::LabelItem;
-use mrc_wiring::{TypedForm, Wired};
+use mrc_wiring::{TypedForm, Wired, item_of};
 
 /// What is to pass through a slot: what its sender holds, on a port of which class, and what its
 /// receiver gets.
@@ -25,25 +27,6 @@ pub(crate) struct Passing {
     pub(crate) class: ClassId,
     pub(crate) held: PortRight,
     pub(crate) right: PortRight,
-}
-
-fn same_right(one: PortRight, other: PortRight) -> bool
-    ensures { IsTrue result → one ≡ other }
-{
-    match one {
-        PortRight::Send => matches!(other, PortRight::Send),
-        PortRight::Receive => matches!(other, PortRight::Receive),
-        PortRight::SendOnce => matches!(other, PortRight::SendOnce),
-    }
-}
-
-fn item_of(kind: MessageKind, number: usize) -> LabelItem
-    ensures { result ≡ item_of kind number }
-{
-    match kind {
-        MessageKind::Request => LabelItem::Request(number),
-        MessageKind::Reply => LabelItem::Reply(number),
-    }
 }
 
 /// The slot that is the argument of this number.

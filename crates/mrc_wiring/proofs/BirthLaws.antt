@@ -11,6 +11,7 @@ use Rattle.std.proofs.lemmas.Bool.{cases_Bool, and_parts, and_from, eqb-true, eq
 use Rattle.std.proofs.lemmas.Bool.{ltb-true, ltb-false, lt-ltb, le-ltb, false≢true, cases_lt}
 use Rattle.std.proofs.lemmas.Option.{none-some, same_Some}
 use Rattle.std.proofs.lemmas.List.Folds.{list_any-append}
+use Rattle.std.proofs.Math.Bool.{or-true}
 use Rattle.mrc_model.specs.declared.LabelItem.{LabelItem}
 use Rattle.mrc_model.specs.Wiring.{births_from, births_class}
 use Rattle.mrc_wiring.specs.declared.births.BirthRow.{BirthRow}
@@ -196,10 +197,6 @@ few_births n (row ∷ rows) are small =
 
 -- ---- one more row
 
-or_true : (b : Bool) → (b || true) ≡ true
-or_true true = refl
-or_true false = refl
-
 each_more : {X : Type 0} (P : X → Type 0) (xs : List X) (y : X)
     → AllByRecursion P xs
     → P y
@@ -238,7 +235,7 @@ zeroth_more n rows t zeroth less =
           let there : is_row t 0 (new_row n 0) ≡ true = rw (eq-eqb n t same) refl in
           list_any-append (is_row t 0) rows (new_row n 0 ∷ [])
           ∙ ap (λ b. list_any (is_row t 0) rows || (b || false)) there
-          ∙ or_true (list_any (is_row t 0) rows)
+          ∙ or-true (list_any (is_row t 0) rows)
     ]
 
 -- the births of one more task
@@ -335,7 +332,7 @@ before_from a b (inl less) =
 before_from a b (inr (same, less)) =
     ap (λ x. nat_lt a.task b.task || (x && nat_lt a.kind b.kind)) (eq-eqb a.task b.task same)
     ∙ ap (λ x. nat_lt a.task b.task || x) (lt-ltb a.kind b.kind less)
-    ∙ or_true (nat_lt a.task b.task)
+    ∙ or-true (nat_lt a.task b.task)
 
 pub before_then : (a b c : BirthRow) → IsBefore a b → IsBefore b c → IsBefore a c
 before_then a b c first second =
@@ -425,7 +422,7 @@ has_put (row ∷ rows) t kind label u k e =
                 (eqb-true row.kind kind p.1))
                 ∙ e
             | false ↦ λ other. ap (λ b. (t == u && kind == k) || b) e
-                ∙ or_true (t == u && kind == k)
+                ∙ or-true (t == u && kind == k)
           ] refl
     ]
 

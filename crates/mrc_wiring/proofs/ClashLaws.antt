@@ -1,11 +1,12 @@
 -- When two items of a label clash.
-use Rattle.std.proofs.Common.{◌≡◌, ◌⊎◌, inl, inr, ℕ, zero, suc, ◌<◌, Bool, true, false}
+use Rattle.std.proofs.Common.{◌≡◌, ◌⊎◌, inl, inr, ℕ, zero, suc, ◌<◌, true, false}
 use Rattle.std.proofs.Common.{List, [], ◌∷◌, ◌++◌, map, Option, Some, None, refl, ap, sym}
 use Rattle.std.proofs.Common.{subst}
 use Rattle.std.proofs.Common.{◌∙◌, arith, ◌==◌, ◌||◌}
 use Rattle.std.specs.Prelude.{slice_get}
 use Rattle.std.specs.List.{list_any}
 use Rattle.std.proofs.lemmas.Bool.{eqb-true, eq-eqb}
+use Rattle.std.proofs.Math.Bool.{or-true}
 use Rattle.mrc_model.specs.IsIn.{IsIn, here, later}
 use Rattle.mrc_model.specs.declared.LabelItem.{LabelItem}
 use Rattle.mrc_model.specs.declared.LabelItem.TheVariants as label
@@ -88,11 +89,7 @@ is_known_in : (known : List ℕ) (id : ℕ) → IsIn id known → is_known known
 is_known_in [] id at = elim at [ ]
 is_known_in (n ∷ ns) id here = ap (λ b. b || is_known ns n) (eq-eqb n n refl)
 is_known_in (n ∷ ns) id (later at) =
-    ap (λ b. (n == id) || b) (is_known_in ns id at) ∙ or_true (n == id)
-  where
-    or_true : (a : Bool) → (a || true) ≡ true
-    or_true true = refl
-    or_true false = refl
+    ap (λ b. (n == id) || b) (is_known_in ns id at) ∙ or-true (n == id)
 
 any_is : (known ids : List ℕ)
     → list_any (is_known known) ids ≡ true
@@ -114,11 +111,7 @@ is_any known [] id at among = elim at [ ]
 is_any known (n ∷ ns) id here among =
     ap (λ b. b || list_any (is_known known) ns) (is_known_in known n among)
 is_any known (n ∷ ns) id (later at) among =
-    ap (λ b. is_known known n || b) (is_any known ns id at among) ∙ or_true (is_known known n)
-  where
-    or_true : (a : Bool) → (a || true) ≡ true
-    or_true true = refl
-    or_true false = refl
+    ap (λ b. is_known known n || b) (is_any known ns id at among) ∙ or-true (is_known known n)
 
 in_left : (id : ℕ) (xs ys : List ℕ) → IsIn id xs → IsIn id (xs ++ ys)
 in_left id [] ys at = elim at [ ]
@@ -227,10 +220,6 @@ finds is known (item ∷ items) e =
       ]
     ] refl e
 
-or_true : (a : Bool) → (a || true) ≡ true
-or_true true = refl
-or_true false = refl
-
 -- an item whose id is known is found
 found_known : (is : List Text) (known : List ℕ) (items : List LabelItem) (k : ℕ) (item : LabelItem)
     (id : ℕ)
@@ -247,7 +236,7 @@ found_known is known (x ∷ xs) (suc k) item id e of_item among =
     ap (λ b. list_any (is_known known) (ids_of is x) || b)
     (found_known is (known ++ ids_of is x) xs k item id e of_item
     (in_left id known (ids_of is x) among))
-    ∙ or_true (list_any (is_known known) (ids_of is x))
+    ∙ or-true (list_any (is_known known) (ids_of is x))
 
 -- two items with a common id are found
 found_item : (is : List Text) (known : List ℕ) (items : List LabelItem) (j k : ℕ)
@@ -265,11 +254,11 @@ found_item is known (x ∷ xs) zero (suc k) one other id less e f of_one of_othe
     ap (λ b. list_any (is_known known) (ids_of is x) || b)
     (found_known is (known ++ ids_of is x) xs k other id f of_other
     (in_right id known (ids_of is x) (subst (λ y. IsIn id (ids_of is y)) (sym same) of_one)))
-    ∙ or_true (list_any (is_known known) (ids_of is x))
+    ∙ or-true (list_any (is_known known) (ids_of is x))
 found_item is known (x ∷ xs) (suc j) (suc k) one other id less e f of_one of_other =
     ap (λ b. list_any (is_known known) (ids_of is x) || b)
     (found_item is (known ++ ids_of is x) xs j k one other id (omega arith) e f of_one of_other)
-    ∙ or_true (list_any (is_known known) (ids_of is x))
+    ∙ or-true (list_any (is_known known) (ids_of is x))
 
 no_known : (is : List Text) (items : List LabelItem) → MeetsKnown is [] items → ⊥
 no_known is items m = nothing m.id m.in_known

@@ -1,24 +1,17 @@
 -- What a class accepts and what a type admits, by the table.
-use Rattle.std.proofs.Common.{◌≡◌, ℕ, zero, suc, ◌+◌, ◌-◌, ◌<◌, ◌≤◌, Bool, true, false, List, []}
+use Rattle.std.proofs.Common.{◌≡◌, ℕ, zero, suc, ◌+◌, ◌-◌, ◌<◌, ◌≤◌, true, false, List, []}
 use Rattle.std.proofs.Common.{◌∷◌}
 use Rattle.std.proofs.Common.{◌++◌, length, map, refl, ap, sym, ◌∙◌, arith}
 use Rattle.std.proofs.Common.{◌||◌}
 use Rattle.std.proofs.Common.{get_or, nat_lt, if◌then◌else◌}
 use Rattle.std.proofs.lemmas.List.{length-map}
 use Rattle.std.specs.Prelude.{slice_get, unwrap_or}
-use Rattle.std.specs.List.{list_any}
 use Rattle.std.proofs.lemmas.Bool.{lt-ltb, le-ltb, ltb-true, ltb-false}
 use Rattle.std.proofs.lemmas.Option.{unwrap_or-slice_get}
 use Rattle.std.proofs.lemmas.List.{get_or_append_left, get_or_past}
 use Rattle.mrc_model.specs.Wiring.{label, classes}
 use Rattle.mrc_wiring.specs.Births.{of_row, pair_of}
 use Rattle.mrc_wiring.specs.Table.{Table, IsTable, wiring_of, labels_of, of_kernel}
-
--- a test of what is made of the elements
-pub any_of_map : {X Y : Type 0} (p : Y → Bool) (f : X → Y) (xs : List X)
-    → list_any p (map f xs) ≡ list_any (λ x. p (f x)) xs
-any_of_map p f [] = refl
-any_of_map p f (x ∷ xs) = ap (λ b. p (f x) || b) (any_of_map p f xs)
 
 -- what is read behind a first part
 pub behind : {X : Type 0} (xs ys : List X) (i j : ℕ) (d : X)

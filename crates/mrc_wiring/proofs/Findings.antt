@@ -8,6 +8,8 @@ use Rattle.std.specs.Option.{option_map, option_to_list, option_or}
 use Rattle.std.specs.List.{filter_map, cons_option, list_any}
 use Rattle.std.proofs.lemmas.Bool.{eq-eqb, ne_eqb, leb-true, leb-false}
 use Rattle.std.proofs.lemmas.Simd.{map-map}
+use Rattle.std.proofs.lemmas.Option.{cond_some}
+use Rattle.mrc_base.proofs.Lists.{any_map}
 use Rattle.mrc_model.specs.declared.LabelItem.{LabelItem}
 use Rattle.mrc_model.specs.declared.LabelItem.TheVariants as label
 use Rattle.mrc_model.specs.Wiring.{Wiring, Form, Interface, OfRequest, OfReply, ReplyForm, form_id}
@@ -21,7 +23,6 @@ use Rattle.mrc_wiring.specs.Sorts.{Sort, sorts_of}
 use Rattle.mrc_wiring.specs.ModelForms.{request_of, reply_of, model_form, typed_forms, typed_from}
 use Rattle.mrc_wiring.specs.Table.{Table, wiring_of}
 use Rattle.mrc_wiring.specs.Finding.{has_id, message_forms, typed_at, placed, is_of_routine}
-use Rattle.mrc_wiring.proofs.Classes.{any_of_map}
 use Rattle.mrc_wiring.proofs.Forms.{interface_there, interface_not}
 
 -- ---- the forms of a message
@@ -188,17 +189,12 @@ pub found_there : (table : Table) (kind : MessageKind) (s id place : ℕ) (i : T
     ≡ placed (typed_at kind table.interfaces s) place
 found_there table kind s id place i e are at =
     let sorts = sorts_of table.interfaces in
-    let is = where_some (nat_le (first_id kind i) id) (id - first_id kind i) place at in
+    let is = cond_some (nat_le (first_id kind i) id) (id - first_id kind i) place at in
     let above = leb-true (first_id kind i) id is.0 in
     ap (find (has_id id)) (messages_there table kind s i e)
     ∙ at_place (model_form kind sorts s) (keeps_id kind sorts s) (form_in kind) id (first_id kind i)
     place i.rows (λ place form there. (are kind place form there).1) (omega (arith, is.1, above))
     ∙ ap (λ forms. placed forms place) (sym (typed_there table kind s i e))
-  where
-    where_some : (b : Bool) (x y : ℕ) → (if b then Some x else None) ≡ Some y
-        → (b ≡ true) × (x ≡ y)
-    where_some true x y e = (refl, cc)
-    where_some false x y e = cc
 
 -- and an id below all is that of none
 pub none_below : (table : Table) (kind : MessageKind) (s id : ℕ) (i : Text)
@@ -240,7 +236,7 @@ no_routine (form ∷ forms) = no_routine forms
 -- the item stands for requests of an interface that has a routine
 pub routine_item : (W : Wiring) (item : LabelItem)
     → list_any is_of_routine (item_forms W item) ≡ has_routine W item
-routine_item W (label.Request s) = any_of_map is_of_routine OfRequest (interface W s).requests
+routine_item W (label.Request s) = any_map is_of_routine OfRequest (interface W s).requests
 routine_item W (label.Reply s) = no_routine (interface W s).replies
 routine_item W label.Destroyed = refl
 

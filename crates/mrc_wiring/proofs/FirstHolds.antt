@@ -9,25 +9,9 @@ use Rattle.mrc_model.specs.Breach.{Holding}
 use Rattle.mrc_model.specs.Wiring.{Wiring}
 use Rattle.mrc_model.specs.FirstHoldings.{facts_by, fact_at, first_facts, given_classes}
 use Rattle.mrc_model.specs.FirstHoldings.{given_holdings, HasGiven}
+use Rattle.mrc_model.proofs.Members.{in_left, in_right, in_append}
 use Rattle.mrc_wiring.specs.FirstState.{IsFirstHold, HasFirstHolds, AreHolds}
 use Rattle.mrc_wiring.proofs.Lines.{held}
-
-in_left : {X : Type 0} (x : X) (xs ys : List X) → IsIn x xs → IsIn x (xs ++ ys)
-in_left x [] ys at = elim at [ ]
-in_left x (y ∷ xs) ys here = here
-in_left x (y ∷ xs) ys (later at) = later (in_left x xs ys at)
-
-in_right : {X : Type 0} (x : X) (xs ys : List X) → IsIn x ys → IsIn x (xs ++ ys)
-in_right x [] ys at = at
-in_right x (y ∷ xs) ys at = later (in_right x xs ys at)
-
-in_either : {X : Type 0} (x : X) (xs ys : List X) → IsIn x (xs ++ ys) → IsIn x xs ⊎ IsIn x ys
-in_either x [] ys at = inr at
-in_either x (y ∷ xs) ys here = inl here
-in_either x (y ∷ xs) ys (later at) = elim (in_either x xs ys at) [
-  | inl h ↦ inl (later h)
-  | inr h ↦ inr h
-]
 
 -- a holding on a port of the class
 record Gives (cs : List ℕ) (hs : List Holding) (t c : ℕ) (r : PortRight) : Type 0 where
@@ -62,7 +46,7 @@ from_facts : (cs : List ℕ) (hs : List Holding) (t c : ℕ) (r : PortRight)
     → Gives cs hs t c r
 from_facts cs [] t c r at = elim at [ ]
 from_facts cs (h ∷ hs) t c r at =
-    elim (in_either (Hold t c r) (fact_at h (slice_get cs h.port)) (facts_by cs hs) at) [
+    elim (in_append (Hold t c r) (fact_at h (slice_get cs h.port)) (facts_by cs hs) at) [
       | inl one ↦ more_gives cs h hs t c r (of_one cs h (slice_get cs h.port) t c r refl one)
       | inr rest ↦ later_gives cs h hs t c r (from_facts cs hs t c r rest)
     ]
@@ -87,7 +71,7 @@ of_hold h (Some c) fact (later at) = elim at [ ]
 pub facts_are_holds : (cs : List ℕ) (hs : List Holding) → AreHolds (facts_by cs hs)
 facts_are_holds cs [] fact at = elim at [ ]
 facts_are_holds cs (h ∷ hs) fact at =
-    elim (in_either fact (fact_at h (slice_get cs h.port)) (facts_by cs hs) at) [
+    elim (in_append fact (fact_at h (slice_get cs h.port)) (facts_by cs hs) at) [
       | inl one ↦ of_hold h (slice_get cs h.port) fact one
       | inr rest ↦ facts_are_holds cs hs fact rest
     ]

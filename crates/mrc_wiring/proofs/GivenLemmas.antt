@@ -9,6 +9,7 @@ use Rattle.std.specs.Prelude.{◌&&◌, slice_index, slice_index_or, slice_set}
 use Rattle.std.specs.List.{list_any}
 use Rattle.std.proofs.lemmas.Bool.{eq-eqb, eqb-true, eqb-false}
 use Rattle.std.proofs.lemmas.Option.{slice_get-get_or}
+use Rattle.std.proofs.Math.Bool.{or-false, or-true}
 use mir.Val.{bool_byte}
 use Rattle.mrc_base.specs.declared.PortRight.{PortRight}
 use Rattle.mrc_base.specs.declared.PortRight.TheVariants.{Send, Receive, SendOnce}
@@ -68,14 +69,6 @@ place_apart : (t p u q : ℕ)
     → (t ≡ u) × (p ≡ q)
 place_apart t p u q less few e = (omega arith, omega arith)
 
-or_true : (a : Bool) → (a || true) ≡ true
-or_true true = refl
-or_true false = refl
-
-or_false : (a : Bool) → (a || false) ≡ a
-or_false true = refl
-or_false false = refl
-
 and_false : (a b : Bool) → (b ≡ true → a ≡ true → ⊥) → (a && b) ≡ false
 and_false true true h = absurd (h refl refl)
 and_false true false h = refl
@@ -106,7 +99,7 @@ mark_set given hs t p right is places low near plain u q less few =
           ) refl in
           get_or-set_at given.marks (mark_place t p) (mark_place u q) true false same at
           ∙ sym (any_end (is_named u q) hs (held t p right)
-          ∙ ap (λ b. list_any (is_named u q) hs || b) named ∙ or_true (list_any (is_named u q) hs))
+          ∙ ap (λ b. list_any (is_named u q) hs || b) named ∙ or-true (list_any (is_named u q) hs))
       | inr other ↦
           let unnamed : is_named u q (held t p right) ≡ false = rw plain (and_false (t == u) (p ==
           q) (λ f g. other (let e = eqb-true t u g in let z = eqb-true p q f in omega arith)))
@@ -115,7 +108,7 @@ mark_set given hs t p right is places low near plain u q less few =
           ∙ is.marked u q less few
           ∙ sym (any_end (is_named u q) hs (held t p right)
           ∙ ap (λ b. list_any (is_named u q) hs || b) unnamed
-          ∙ or_false (list_any (is_named u q) hs))
+          ∙ or-false (list_any (is_named u q) hs))
     ]
 
 -- the marks with the right
@@ -133,7 +126,7 @@ marks_after given hs t p Receive is places low near u q less few =
     mark_set given hs t p Receive is places low near refl u q less few
 marks_after given hs t p SendOnce is places low near u q less few =
     is.marked u q less few
-    ∙ sym (any_end (is_named u q) hs (held t p SendOnce) ∙ or_false (list_any (is_named u q) hs))
+    ∙ sym (any_end (is_named u q) hs (held t p SendOnce) ∙ or-false (list_any (is_named u q) hs))
 
 -- one more right
 pub given_more : (old new : Given) (t p : ℕ) (right : PortRight) (value : ℕ)

@@ -6,11 +6,12 @@ use Rattle.std.specs.Prelude.{slice_get, position, option_and_then}
 use Rattle.std.specs.Option.{option_map}
 use Rattle.std.proofs.lemmas.Bool.{false≢true}
 use Rattle.std.proofs.lemmas.List.{length-append}
-use Rattle.std.proofs.lemmas.Option.{none-some, same_Some, cond_some, slice_get_within}
+use Rattle.std.proofs.lemmas.Option.{same_Some, cond_some, slice_get_within}
+use Rattle.mrc_base.proofs.Lists.{filter_push, filter_skip, map_is, then_is}
 use Rattle.mrc_model.specs.IsIn.{IsIn, here}
 use Rattle.mrc_model.specs.declared.LabelItem.{LabelItem}
 use Rattle.mrc_model.proofs.FirstHeld.{in_one}
-use Rattle.mrc_model.proofs.Members.{in_left, in_right, in_append}
+use Rattle.mrc_model.proofs.Members.{in_left, in_right, in_append, in_get}
 use Rattle.mrc_forms.specs.Tables.{Table as Interface}
 use Rattle.mrc_wiring_text.specs.declared.reading.Line.{Line}
 use Rattle.mrc_wiring_text.specs.declared.policy.ClassName.{ClassName}
@@ -32,8 +33,8 @@ use Rattle.mrc_wiring.specs.Resolving.{with_admit}
 use Rattle.mrc_wiring.specs.GivenLines.{is_admit}
 use Rattle.mrc_wiring.specs.GivenLines.{admit_lines, HasBirthsLine, IsClassOf, IsAdmitOf}
 use Rattle.mrc_wiring.specs.GivenLines.{AreAdmitsOf}
-use Rattle.mrc_wiring.proofs.GivenRows.{snoc_get, get_in}
-use Rattle.mrc_wiring.proofs.GivenRows.{filter_quiet, filter_more, put_own}
+use Rattle.mrc_wiring.proofs.GivenRows.{snoc_get}
+use Rattle.mrc_wiring.proofs.GivenRows.{put_own}
 use Rattle.mrc_wiring.proofs.GivenRows.{put_other, put_from, not_said, has_put}
 use Rattle.mrc_wiring.proofs.GivenRows.{row_is}
 
@@ -124,11 +125,11 @@ once_more table lines line are new i j one other task kind items others first se
       | inl early ↦ elim (snoc_get lines line j other second) [
         | inl before ↦ are.once i j one other task kind items others early before says also
         | inr end ↦ absurd (new task kind others (ap (λ (l : Line WiringSays). l.says) end.1
-            ∙ also) one items (get_in lines i one early) says)
+            ∙ also) one items (in_get lines i one early) says)
       ]
       | inr last ↦ elim (snoc_get lines line j other second) [
         | inl before ↦ absurd (new task kind items (ap (λ (l : Line WiringSays). l.says) last.1
-            ∙ says) other others (get_in lines j other before) also)
+            ∙ says) other others (in_get lines j other before) also)
         | inr end ↦ last.0 ∙ sym end.0
       ]
     ]
@@ -290,32 +291,20 @@ rows_said table lines line task kind items t label says number means none are = 
 
 -- ---- admit lines
 
-option_map_is : {X Y : Type 0} (f : X → Y) (o : Option X) (y : Y)
-    → option_map f o ≡ Some y
-    → (x : X) × (o ≡ Some x) × (f x ≡ y)
-option_map_is f None y e = absurd (none-some y e)
-option_map_is f (Some x) y e = (x, refl, same_Some _ _ e)
-
-and_then_both : {X Y : Type 0} (f : X → Option Y) (o : Option X) (y : Y)
-    → option_and_then f o ≡ Some y
-    → (x : X) × (o ≡ Some x) × (f x ≡ Some y)
-and_then_both f None y e = absurd (none-some y e)
-and_then_both f (Some x) y e = (x, refl, e)
-
 class_said_kept : (table u : Table) (name : ClassName) (class : NumberedClass)
     → IsGrown table u
     → class_said table.names table.ports table.births name ≡ Some class
     → class_said u.names u.ports u.births name ≡ Some class
 class_said_kept table u (said.Port name) class grown e =
-    let is = option_map_is (numbered kinds.Port) (number_of table.ports name) class e in
+    let is = map_is (numbered kinds.Port) (number_of table.ports name) class e in
     ap (option_map (numbered kinds.Port)) (grown.ports_kept name is.0 is.1)
     ∙ ap (λ (c : NumberedClass). Some c) is.2
 class_said_kept table u (said.Task name) class grown e =
-    let is = option_map_is (numbered kinds.Task) (number_of table.names name) class e in
+    let is = map_is (numbered kinds.Task) (number_of table.names name) class e in
     ap (option_map (numbered kinds.Task)) (grown.names_kept name is.0 is.1)
     ∙ ap (λ (c : NumberedClass). Some c) is.2
 class_said_kept table u (said.Births name kind) class grown e =
-    let is = and_then_both (births_said table.births kind) (number_of table.names name) class e in
+    let is = then_is (births_said table.births kind) (number_of table.names name) class e in
     let there = cond_some (has_row table.births is.0 kind) (numbered (kinds.Births kind) is.0) class
     is.2 in
     ap (option_and_then (births_said u.births kind)) (grown.names_kept name is.0 is.1)
@@ -356,7 +345,7 @@ pub admits_quiet : (table u : Table) (lines : List (Line WiringSays)) (line : Li
     → AreAdmitsOf u (lines ++ line ∷ [])
 admits_quiet table u lines line grown quiet same are =
     let no_more : admit_lines (lines ++ line ∷ []) ≡ admit_lines lines =
-    filter_quiet (λ (l : Line WiringSays). is_admit l.says) lines line quiet in
+    filter_skip (λ (l : Line WiringSays). is_admit l.says) lines line quiet in
     record {
       many = ap (λ (xs : List AdmitLine). length xs) (sym same) ∙ are.many
           ∙ ap (λ (xs : List (Line WiringSays)). length xs) (sym no_more);
@@ -374,7 +363,7 @@ pub admits_more : (table : Table) (lines : List (Line WiringSays)) (line : Line 
     → AreAdmitsOf (with_admit table admit) (lines ++ line ∷ [])
 admits_more table lines line admit verb is are =
     let more : admit_lines (lines ++ line ∷ []) ≡ admit_lines lines ++ line ∷ [] =
-    filter_more (λ (l : Line WiringSays). is_admit l.says) lines line verb in
+    filter_push (λ (l : Line WiringSays). is_admit l.says) lines line verb in
     let one_line = length-append (admit_lines lines) (line ∷ []) in
     let one_admit = length-append table.admits (admit ∷ []) in
     let before = are.many in

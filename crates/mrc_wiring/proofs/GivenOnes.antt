@@ -1,8 +1,9 @@
 -- Two tables that are of the same lines have the same births and the same admit lines.
-use Rattle.std.proofs.Common.{◌≡◌, ◌⊎◌, inl, inr, ℕ, zero, suc, ◌<◌, List, [], ◌∷◌, length}
+use Rattle.std.proofs.Common.{◌≡◌, ◌⊎◌, inl, inr, ℕ, suc, ◌<◌, List, [], ◌∷◌, length}
 use Rattle.std.proofs.Common.{Option, Some, None, Ok, refl, ap, sym, subst, ◌∙◌, arith}
 use Rattle.std.specs.Prelude.{position, slice_get}
 use Rattle.std.proofs.lemmas.Option.{same_Some, slice_get_within}
+use Rattle.mrc_base.proofs.Lists.{element_there}
 use Rattle.mrc_model.specs.IsIn.{IsIn, here, later}
 use Rattle.mrc_model.specs.declared.LabelItem.{LabelItem}
 use Rattle.mrc_model.proofs.FirstHeld.{in_cons}
@@ -38,14 +39,6 @@ same_by_places {X = X} (x ∷ xs) (y ∷ ys) long same =
     ap (λ (z : X). z ∷ xs) (same 0 x y refl refl)
     ∙ ap (λ (zs : List X). y ∷ zs) (same_by_places xs ys (omega arith)
     (λ i one other first second. same (suc i) one other first second))
-
--- there is an element at each place
-element_there : {X : Type 0} (xs : List X) (i : ℕ)
-    → i < length xs
-    → (x : X) × (slice_get xs i ≡ Some x)
-element_there [] i less = absurd (omega arith)
-element_there (x ∷ xs) zero less = (x, refl)
-element_there (x ∷ xs) (suc i) less = element_there xs i (omega arith)
 
 -- ---- rows
 

@@ -3,17 +3,18 @@ use Rattle.std.proofs.Common.{◌≡◌, ◌⊎◌, inl, inr, ℕ, zero, suc, �
 use Rattle.std.proofs.Common.{List, [], ◌∷◌, ◌++◌, length, Option, Some, None, refl, ap, sym, subst}
 use Rattle.std.proofs.Common.{◌∙◌, arith, ◌==◌, ◌||◌, if◌then◌else◌, nat_lt}
 use Rattle.std.specs.Prelude.{slice_get, position, is_some}
-use Rattle.std.specs.List.{list_any, AllByRecursion, position_or_len, filter, filter_map}
+use Rattle.std.specs.List.{AllByRecursion, position_or_len, filter_map}
 use Rattle.std.specs.List.{cons_option}
-use Rattle.std.proofs.lemmas.Bool.{cases_Bool, and_parts, and_from, or_cases, or_right, eqb-true}
+use Rattle.std.proofs.lemmas.Bool.{cases_Bool, and_parts, and_from, eqb-true}
 use Rattle.std.proofs.lemmas.Bool.{eq-eqb, ltb-true, lt-ltb, false≢true}
 use Rattle.std.proofs.lemmas.List.{append-nil, length-append}
-use Rattle.std.proofs.lemmas.List.Elements.{filter-append, filter_map-append}
+use Rattle.std.proofs.lemmas.List.Elements.{filter_map-append}
 use Rattle.std.proofs.lemmas.List.Folds.{position_or_len_push}
 use Rattle.std.proofs.lemmas.Option.{none-some, same_Some}
 use Rattle.mrc_model.specs.IsIn.{IsIn, here, later}
 use Rattle.mrc_model.specs.declared.LabelItem.{LabelItem}
 use Rattle.mrc_model.proofs.FirstHeld.{in_cons}
+use Rattle.mrc_model.proofs.Members.{in_any, any_in}
 use Rattle.mrc_wiring.specs.declared.births.BirthRow.{BirthRow}
 use Rattle.mrc_wiring.specs.Births.{is_row, is_said, comes_before, has_row, has_said, said_row}
 use Rattle.mrc_wiring.specs.Births.{put_row, AreAscending}
@@ -32,12 +33,6 @@ snoc_get (x ∷ xs) y (suc i) z e = elim (snoc_get xs y i z e) [
   | inl h ↦ inl h
   | inr h ↦ inr (omega (arith, h.0), h.1)
 ]
-
--- what is read is one of them
-pub get_in : {X : Type 0} (xs : List X) (i : ℕ) (x : X) → slice_get xs i ≡ Some x → IsIn x xs
-get_in [] i x e = absurd (none-some x e)
-get_in (y ∷ ys) zero x e = subst (λ v. IsIn v (y ∷ ys)) (same_Some _ _ e) here
-get_in (y ∷ ys) (suc i) x e = later (get_in ys i x e)
 
 -- the first place that passes stays the first
 pub place_kept : {X : Type 0} (p : X → Bool) (xs : List X) (y : X) (t : ℕ)
@@ -79,38 +74,7 @@ pub map_more : {X Y : Type 0} (h : X → Option Y) (xs : List X) (x : X) (y : Y)
 map_more h xs x y e =
     filter_map-append h xs (x ∷ []) ∙ ap (λ o. filter_map h xs ++ cons_option o []) e
 
-pub filter_quiet : {X : Type 0} (p : X → Bool) (xs : List X) (x : X)
-    → p x ≡ false
-    → filter p (xs ++ x ∷ []) ≡ filter p xs
-filter_quiet p xs x e =
-    filter-append p xs (x ∷ [])
-    ∙ ap (λ b. filter p xs ++ cond b (x ∷ []) []) e
-    ∙ append-nil (filter p xs)
-
-pub filter_more : {X : Type 0} (p : X → Bool) (xs : List X) (x : X)
-    → p x ≡ true
-    → filter p (xs ++ x ∷ []) ≡ filter p xs ++ x ∷ []
-filter_more p xs x e =
-    filter-append p xs (x ∷ []) ∙ ap (λ b. filter p xs ++ cond b (x ∷ []) []) e
-
 -- ---- elements that pass
-
-pub in_any : {X : Type 0} (p : X → Bool) (x : X) (xs : List X)
-    → IsIn x xs
-    → p x ≡ true
-    → list_any p xs ≡ true
-in_any p x [] at e = elim at [ ]
-in_any p x (y ∷ ys) here e = ap (λ b. b || list_any p ys) e
-in_any p x (y ∷ ys) (later at) e = or_right (p y) (list_any p ys) (in_any p x ys at e)
-
-pub any_in : {X : Type 0} (p : X → Bool) (xs : List X)
-    → list_any p xs ≡ true
-    → (x : X) × IsIn x xs × (p x ≡ true)
-any_in p [] e = absurd (false≢true e)
-any_in p (x ∷ xs) e = elim (or_cases (p x) (list_any p xs) e) [
-  | inl is ↦ (x, here, is)
-  | inr other ↦ let rest = any_in p xs other in (rest.0, later rest.1, rest.2)
-]
 
 pub each_in : {X : Type 0} (P : X → Type 0) (x : X) (xs : List X)
     → AllByRecursion P xs

@@ -17,7 +17,7 @@ use Rattle.mrc_model.specs.declared.LabelItem.{LabelItem}
 use Rattle.mrc_model.specs.declared.FirstLine.{FirstLine}
 use Rattle.mrc_model.specs.declared.FirstLine.TheVariants.{Hold as HoldLine}
 use Rattle.mrc_model.proofs.FirstHeld.{in_one}
-use Rattle.mrc_model.proofs.Members.{in_left, in_append}
+use Rattle.mrc_model.proofs.Members.{in_left, in_append, any_in}
 use Rattle.mrc_forms.specs.Tables.{Table as Interface}
 use Rattle.mrc_wiring_text.specs.declared.reading.Line.{Line}
 use Rattle.mrc_wiring_text.specs.declared.policy.ClassName.{ClassName}
@@ -51,7 +51,7 @@ use Rattle.mrc_wiring.specs.GivenLines.{task_named, port_named, is_admit, task_n
 use Rattle.mrc_wiring.specs.GivenLines.{HasBirthsLine, AreBirthsOf, IsClassOf, IsAdmitOf}
 use Rattle.mrc_wiring.specs.GivenLines.{AreAdmitsOf}
 use Rattle.mrc_wiring.specs.GivenLines.{HasRow, TablesAreOfLines}
-use Rattle.mrc_wiring.proofs.GivenRows.{place_kept, map_quiet, map_more, any_in, each_in}
+use Rattle.mrc_wiring.proofs.GivenRows.{place_kept, map_quiet, map_more, each_in}
 use Rattle.mrc_wiring.proofs.GivenRows.{is_row_of, row_once}
 use Rattle.mrc_wiring.proofs.GivenLines.{IsGrown, AreRows, IsRowOf, IsOther, rows_quiet}
 use Rattle.mrc_wiring.proofs.GivenLines.{rows_said, births_grown, admits_quiet, admits_more}

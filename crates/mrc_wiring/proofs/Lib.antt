@@ -19,6 +19,7 @@ pub mod SortLaws
 pub mod SortPlaceLaws
 pub mod Takers
 pub mod Findings
+pub mod FormSorts
 pub mod LabelForms
 pub mod ClashLaws
 pub mod GivenRows

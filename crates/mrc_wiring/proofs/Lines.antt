@@ -5,6 +5,7 @@ use Rattle.std.proofs.Common.{zero-add, ◌||◌, not}
 use Rattle.std.specs.Prelude.{slice_get, ◌&&◌}
 use Rattle.std.specs.List.{list_any}
 use Rattle.std.proofs.lemmas.Bool.{lt-ltb, and_from, ne_eqb, eq-eqb}
+use Rattle.std.proofs.Math.Bool.{or-false, or_assoc}
 use Rattle.mrc_base.specs.declared.PortRight.{PortRight}
 use Rattle.mrc_base.specs.declared.PortRight.TheVariants.{Send, Receive}
 use Rattle.mrc_model.specs.declared.FirstLine.{FirstLine}
@@ -213,18 +214,10 @@ any_onto P [] before = refl
 any_onto P (h ∷ hs) before =
     any_onto P hs (h ∷ before) ∙ or_moves (list_any P hs) (P h) (list_any P before)
 
-or_nothing : (a : Bool) → (a || false) ≡ a
-or_nothing true = refl
-or_nothing false = refl
-
 pub any_end : (P : Holding → Bool) (hs : List Holding) (h : Holding)
     → list_any P (hs ++ h ∷ []) ≡ (list_any P hs || P h)
-any_end P [] h = or_nothing (P h)
-any_end P (g ∷ gs) h = rw (any_end P gs h) (or_groups (P g) (list_any P gs) (P h))
-  where
-    or_groups : (a b c : Bool) → (a || (b || c)) ≡ ((a || b) || c)
-    or_groups true b c = refl
-    or_groups false b c = refl
+any_end P [] h = or-false (P h)
+any_end P (g ∷ gs) h = rw (any_end P gs h) (sym (or_assoc (P g) (list_any P gs) (P h)))
 
 -- it is a name more for the task where the right is send-once or nothing of the task's on the port
 -- has a name
@@ -235,7 +228,7 @@ names_more t p right hs =
     names_end t hs [] (held t p right) ∙ ap (λ b. names_given t [] hs + one_if b)
     (ap (λ b. b && takes_name (onto hs []) (held t p right)) (eq-eqb t t refl)
     ∙ ap (λ b. is_once right || not b)
-    (any_onto (is_named t p) hs [] ∙ or_nothing (list_any (is_named t p) hs)))
+    (any_onto (is_named t p) hs [] ∙ or-false (list_any (is_named t p) hs)))
 
 -- and none for another task
 pub names_other : (u t p : ℕ) (right : PortRight) (hs : List Holding)

@@ -13,7 +13,9 @@ use Rattle.std.proofs.lemmas.List.{get_or-set_other, length-set, length_push}
 use Rattle.std.proofs.lemmas.Option.{slice_get-get_or, slice_get_past}
 use Rattle.std.proofs.lemmas.Nat.Bits.{bit_at-zero}
 use Rattle.std.proofs.lemmas.List.Folds.{list_any-append}
+use Rattle.std.proofs.Math.Bool.{and-false}
 use Rattle.mrc_bits.specs.Bits.{is_set}
+use Rattle.mrc_bits.proofs.Counts.{past}
 use Rattle.mrc_model.specs.Wiring.{is_line_of, admits_by}
 use Rattle.mrc_wiring.specs.Marks.{AreMarked, AreWide, IsWide, MarksMore, is_marked, words_at}
 
@@ -72,20 +74,12 @@ words_push rows row empty k =
       ]
     ]
 
-no_bit_in : (words : List ℕ) (p : ℕ) → length words ≡ 0 → is_set words p ≡ false
-no_bit_in [] p e = ap (λ b. b == 1) (bit_at-zero (p % 64))
-no_bit_in (w ∷ words) p e = absurd (omega arith)
-
-and_nothing : (a : Bool) → (a && false) ≡ false
-and_nothing true = refl
-and_nothing false = refl
-
 -- no line yet
 
 pub none_marked : (width places : ℕ) (rows : List Row) → rows ≡ [] → AreMarked width places [] rows
 none_marked width places rows e = subst (AreMarked width places []) (sym e) (record {
   wide = λ k. refl;
-  bits = λ k p. no_bit_in [] p refl ∙ sym (and_nothing (nat_lt p places));
+  bits = λ k p. past [] p (omega arith) ∙ sym (and-false (nat_lt p places));
 })
 
 pub none_wide : (width : ℕ) (rows : List Row) → rows ≡ [] → AreWide width rows
@@ -193,4 +187,4 @@ joined_bit row more p wide few = ap (λ b. is_set row p || b) (both (is_set more
         let below : p < 64 * length row =
         let w = set_within more p e in omega (arith, w, wide, few) in
         rw (lt-ltb p (64 * length row) below, e) refl
-    both false e = rw e (and_nothing (nat_lt p (64 * length row)))
+    both false e = rw e (and-false (nat_lt p (64 * length row)))

@@ -7,6 +7,7 @@ use Rattle.std.specs.Prelude.{slice_get, position, is_some, nat_lt}
 use Rattle.std.specs.List.{list_any, AllByRecursion, position_or_len, slice_index_or}
 use Rattle.std.specs.List.Sorted.{IsPartitionPoint, IsPartitionedBy}
 use Rattle.std.proofs.lemmas.Bool.{cases_Bool, and_parts, eqb-true, lt-ltb, le-ltb, false≢true}
+use Rattle.std.proofs.Math.Bool.{or-false}
 use Rattle.mrc_wiring.specs.declared.births.BirthRow.{BirthRow}
 use Rattle.mrc_wiring.specs.Births.{is_row, comes_before, is_said, has_row, has_said, new_row}
 use Rattle.mrc_wiring.specs.RowPlaces.{place_of, is_there, stands_at, is_said_there, said_at}
@@ -63,10 +64,6 @@ row_place t kind (row ∷ rows) (suc i) h p =
 abbrev pub passes : (BirthRow → Bool) → Option BirthRow → Bool
 passes test None = false
 passes test (Some row) = test row
-
-or_false : (b : Bool) → (b || false) ≡ b
-or_false true = refl
-or_false false = refl
 
 -- a row that comes before is not the row
 not_before : (row : BirthRow) (t kind : ℕ)
@@ -131,7 +128,7 @@ any_placed test t kind (row ∷ rows) up fails =
       | false ↦ λ past.
           ap (λ b. test row || b)
           (none_behind test t kind rows fails (all_behind t kind row rows past up.0))
-          ∙ or_false (test row)
+          ∙ or-false (test row)
     ] refl
 
 there_passes : (t kind : ℕ) (o : Option BirthRow) → passes (is_row t kind) o ≡ is_there t kind o

@@ -1,5 +1,5 @@
 -- A table that lines can mean stays one, with what one more line adds.
-use Rattle.std.proofs.Common.{◌≡◌, inl, inr, ℕ, ◌+◌, ◌<◌, ◌≤◌, Bool, true, false, List, []}
+use Rattle.std.proofs.Common.{◌≡◌, inl, inr, ℕ, ◌+◌, ◌<◌, ◌≤◌, false, List, []}
 use Rattle.std.proofs.Common.{◌∷◌, ◌++◌, length, Some, None, refl, ap, sym, arith}
 use Rattle.std.proofs.Common.{length-append, ◌||◌, not, subst}
 use Rattle.std.specs.Prelude.{Option, option_and_then}
@@ -11,8 +11,9 @@ use Rattle.mrc_model.specs.declared.FirstLine.TheVariants.{Task as TaskLine, Por
 use Rattle.mrc_model.specs.declared.FirstLine.TheVariants.{Hold as HoldLine}
 use Rattle.mrc_model.specs.Rights.{is_receive, is_once}
 use Rattle.mrc_model.specs.Breach.{Holding}
-use Rattle.mrc_model.specs.FirstHoldings.{line_holdings, line_births, names_given, one_if}
+use Rattle.mrc_model.specs.FirstHoldings.{line_holdings, line_births, names_given}
 use Rattle.mrc_model.specs.FirstHoldings.{is_named}
+use Rattle.mrc_model.proofs.Few.{at_most_one}
 use Rattle.mrc_forms.specs.Tables.{Table as Interface}
 use Rattle.mrc_wiring.specs.declared.table.AdmitLine.{AdmitLine}
 use Rattle.mrc_wiring.specs.declared.table.TrustedLine.{TrustedLine}
@@ -62,15 +63,11 @@ few_own hs new u t p right e own same =
     let two = ap (names_given t []) e in
     omega arith
 
-one_at_most : (b : Bool) → one_if b ≤ 1
-one_at_most true = omega arith
-one_at_most false = omega arith
-
 -- one more right is one more name at most
 pub names_at_most : (t p : ℕ) (right : PortRight) (hs : List Holding)
     → names_given t [] (held_more hs t p right) ≤ names_given t [] hs + 1
 names_at_most t p right hs =
-    let one = one_at_most (is_once right || not (list_any (is_named t p) hs)) in
+    let one = at_most_one (is_once right || not (list_any (is_named t p) hs)) in
     let more = names_more t p right hs in
     omega arith
 

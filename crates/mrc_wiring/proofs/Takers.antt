@@ -1,33 +1,31 @@
 -- A slot that takes a right is one of a form of the label.
-use Rattle.std.proofs.Common.{◌≡◌, ℕ, Bool, true, List, [], ◌∷◌, Some, refl, ap}
-use Rattle.std.proofs.Common.{◌∙◌, inl, inr, rules, ◌==◌}
-use Rattle.std.specs.List.{list_any}
-use Rattle.std.proofs.lemmas.Bool.{and_parts, and_from, or_cases, or_left, or_right, eqb-true}
+use Rattle.std.proofs.Common.{◌≡◌, ℕ, true, [], ◌∷◌, Some, refl, ap}
+use Rattle.std.proofs.Common.{◌∙◌, rules, ◌==◌}
+use Rattle.std.proofs.lemmas.Bool.{and_parts, and_from, eqb-true}
 use Rattle.std.proofs.lemmas.Bool.{eq-eqb}
 use Rattle.mrc_base.specs.declared.Disp.{Disp}
 use Rattle.mrc_base.specs.declared.Disp.TheVariants.{MoveReceive, MoveSend, MoveSendOnce, CopySend}
 use Rattle.mrc_base.specs.declared.Disp.TheVariants.{MakeSend, MakeSendOnce}
 use Rattle.mrc_base.specs.Disposition.{disp_number, disp_of_number}
-use Rattle.mrc_model.specs.IsIn.{IsIn, here, later}
+use Rattle.mrc_base.specs.declared.PortRight.{PortRight}
+use Rattle.mrc_base.specs.declared.PortRight.TheVariants.{Send, Receive, SendOnce}
+use Rattle.mrc_model.specs.IsIn.{IsIn}
 use Rattle.mrc_model.specs.Wiring.{Wiring, Shape, Form, form_shapes, forms, admits, type_numbers}
+use Rattle.mrc_model.proofs.Members.{in_any, any_in}
+use Rattle.mrc_model.specs.Rights.{same_right}
 use Rattle.mrc_wiring.specs.Slots.{is_type_of, shape_takes, form_takes, takes}
 
--- one that passes a test is there exactly where the test finds one
-
-pub found : {X : Type 0} (test : X → Bool) (x : X) (xs : List X) → IsIn x xs → test x ≡ true
-    → list_any test xs ≡ true
-found test x [] at e = elim at [ ]
-found test x (y ∷ xs) here e = or_left (test y) (list_any test xs) e
-found test x (y ∷ xs) (later at) e =
-    or_right (test y) (list_any test xs) (found test x xs at e)
-
-pub finds : {X : Type 0} (test : X → Bool) (xs : List X) → list_any test xs ≡ true
-    → (x : X) × IsIn x xs × (test x ≡ true)
-finds test [] e = cc
-finds test (x ∷ xs) e = elim (or_cases (test x) (list_any test xs) e) [
-  | inl at ↦ (x, here, at)
-  | inr more ↦ let rest = finds test xs more in (rest.0, later rest.1, rest.2)
-]
+-- equal rights are the same
+pub same_right_is : (r q : PortRight) → same_right r q ≡ true → r ≡ q
+same_right_is Send Send e = refl
+same_right_is Receive Receive e = refl
+same_right_is SendOnce SendOnce e = refl
+same_right_is Send Receive e = cc
+same_right_is Send SendOnce e = cc
+same_right_is Receive Send e = cc
+same_right_is Receive SendOnce e = cc
+same_right_is SendOnce Send e = cc
+same_right_is SendOnce Receive e = cc
 
 number_of_disp : (n : ℕ) (x : Disp) → disp_of_number n ≡ Some x → n ≡ disp_number x
 number_of_disp n x e = search rules
@@ -55,20 +53,20 @@ pub taken : (W : Wiring) (d : ℕ) (x : Disp) (c : ℕ) → IsTaker W d x c → 
 unfolding takes
 taken W d x c t =
     let number : is_type_of t.slot (disp_number x) ≡ true =
-    found (λ m. m == disp_number x) t.number (type_numbers t.slot.types) t.typed
+    in_any (λ m. m == disp_number x) t.number (type_numbers t.slot.types) t.typed
     (eq-eqb t.number (disp_number x) (number_of_disp t.number x t.disposition)) in
     let one : shape_takes W x c t.slot ≡ true = and_from (is_type_of t.slot (disp_number x))
     (admits W t.slot.sort c) number t.admitted in
-    found (form_takes W x c) t.form (forms W d) t.labelled
-    (found (shape_takes W x c) t.slot (form_shapes t.form) t.among one)
+    in_any (form_takes W x c) t.form (forms W d) t.labelled
+    (in_any (shape_takes W x c) t.slot (form_shapes t.form) t.among one)
 
 pub taker : (W : Wiring) (d : ℕ) (x : Disp) (c : ℕ) → takes W d x c ≡ true → IsTaker W d x c
 unfolding takes
 taker W d x c e =
-    let form = finds (form_takes W x c) (forms W d) e in
-    let slot = finds (shape_takes W x c) (form_shapes form.0) form.2 in
+    let form = any_in (form_takes W x c) (forms W d) e in
+    let slot = any_in (shape_takes W x c) (form_shapes form.0) form.2 in
     let parts = and_parts (is_type_of slot.0 (disp_number x)) (admits W slot.0.sort c) slot.2 in
-    let number = finds (λ m. m == disp_number x) (type_numbers slot.0.types) parts.0 in
+    let number = any_in (λ m. m == disp_number x) (type_numbers slot.0.types) parts.0 in
     record {
       form = form.0;
       slot = slot.0;

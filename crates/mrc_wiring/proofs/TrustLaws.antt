@@ -7,6 +7,7 @@ use Rattle.std.specs.List.{list_any}
 use Rattle.std.specs.Option.{option_map}
 use Rattle.std.specs.declared.alloc.Global.{Global}
 use Rattle.std.proofs.lemmas.Bool.{cases_eq, cases_lt, eq-eqb, ne_eqb, lt-ltb, le-ltb, ltb-true}
+use Rattle.std.proofs.Math.Bool.{and-false}
 use Rattle.mrc_base.specs.declared.PortRight.{PortRight}
 use Rattle.mrc_base.specs.declared.PortRight.TheVariants.{Send, Receive, SendOnce}
 use Rattle.mrc_bits.specs.Bits.{is_set}
@@ -22,10 +23,6 @@ use Rattle.mrc_wiring.specs.Marks.{words_at}
 use Rattle.mrc_wiring.specs.Table.{class_within, kind_class, right_by, trusted_by, trusted_of}
 use Rattle.mrc_wiring.specs.Trusting.{trust_row, place_on, trust_mark, trust_marks}
 use Rattle.mrc_wiring.specs.Trusting.{IsTrusting, right_words, right_place, limit_of_classes}
-
-and_false : (b : Bool) → (b && false) ≡ false
-and_false true = refl
-and_false false = refl
 
 -- ---- a line is of its row
 
@@ -113,14 +110,14 @@ on_place c d r q within = elim (cases_lt c limit_of_classes) [
   | inr past ↦
       ap (λ b. b && (right_place q d == right_place r c)) (le-ltb c limit_of_classes past)
       ∙ sym (ap (λ b. same_right r q && b) (ne_eqb d c (λ e. omega (arith, e, within, past)))
-      ∙ and_false (same_right r q))
+      ∙ and-false (same_right r q))
 ]
 
 right_marks : (c : ℕ) (r : PortRight) (right : Option (PortRight × ℕ))
     → Within limit_of_classes right
     → (nat_lt c limit_of_classes && unwrap_or (option_map (λ (p : ℕ). p == right_place r c)
     (option_map place_on right)) false) ≡ is_right_on r c right
-right_marks c r None within = and_false (nat_lt c limit_of_classes)
+right_marks c r None within = and-false (nat_lt c limit_of_classes)
 right_marks c r (Some on) within = on_place c on.1 r on.0 within
 
 -- ---- all lines
@@ -129,7 +126,7 @@ swapped : (a b x y z : Bool) → a ≡ b → (z && x) ≡ y → (z && (a && x)) 
 swapped true true x y z e f = f
 swapped true false x y z e f = absurd cc
 swapped false true x y z e f = absurd cc
-swapped false false x y z e f = and_false z
+swapped false false x y z e f = and-false z
 
 either_of : (z a b x y : Bool) → (z && a) ≡ x → (z && b) ≡ y → (z && (a || b)) ≡ (x || y)
 either_of true a b x y e f = ap (λ c. c || b) e ∙ ap (λ c. x || c) f
@@ -164,7 +161,7 @@ module _ (ports tasks : ℕ) (births : List BirthRow)
       && list_any (admits_by (trust_row v t) (right_place r c))
       (trust_marks ports tasks births lines))
       ≡ list_any (trusts_by v t r c) (trusted_of ports tasks births lines)
-  places_marked v t r c [] = and_false (nat_lt c limit_of_classes)
+  places_marked v t r c [] = and-false (nat_lt c limit_of_classes)
   places_marked v t r c (line ∷ lines) =
       either_of (nat_lt c limit_of_classes) _ _ _ _ (line_marks v t r c line)
       (places_marked v t r c lines)

@@ -3,6 +3,8 @@
 use Rattle.std.specs.Prelude.{ℕ, ◌==◌, Bool, false, List, [], drop, find, map, slice_get, Option}
 use Rattle.std.specs.Prelude.{Some, None, option_and_then, unwrap_or}
 use Rattle.mrc_model.specs.CallSend.{first_sort}
+use Rattle.mrc_model.specs.declared.LabelItem.{LabelItem}
+use Rattle.mrc_model.specs.declared.LabelItem.TheVariants as items
 use Rattle.mrc_model.specs.Wiring.{Wiring, Shape, Form, OfRequest, OfReply}
 use Rattle.mrc_model.specs.Wiring.{form_id, interface, item_forms, label, is_routine}
 use Rattle.mrc_model.specs.Wiring.{is_routine_of}
@@ -18,6 +20,11 @@ use Rattle.mrc_wiring.specs.ModelForms.{typed_from}
 abbrev pub form_by : FormKind → ℕ → List Shape → Form
 form_by (Request kind) id shapes = OfRequest record { id = id; kind = kind; shapes = shapes }
 form_by Reply id shapes = OfReply record { id = id; shapes = shapes }
+
+-- the item of this message of the subsystem of this number
+abbrev pub item_of : MessageKind → ℕ → LabelItem
+item_of messages.Request s = items.Request s
+item_of messages.Reply s = items.Reply s
 
 -- the form has this id
 abbrev pub has_id : ℕ → Form → Bool

@@ -4,13 +4,23 @@ ghost use Rattle.std.specs.Prelude.{◌≡◌, find, flat_map, IfSome, Some};
 ghost use Rattle.std.specs.Option.{option_map, option_to_list};
 ghost use Rattle.mrc_model.specs.Wiring.{forms, item_forms};
 ghost use Rattle.mrc_wiring.specs.Table.{wiring_of};
-ghost use Rattle.mrc_wiring.specs.Finding.{has_id, form_at, message_forms, placed};
+ghost use Rattle.mrc_wiring.specs.Finding.{item_of, has_id, form_at, message_forms, placed};
 
 use crate::typed::TypedForm;
 use crate::wired::Wired;
 use mrc_base::ClassId;
 use mrc_forms::MessageKind;
 use mrc_model::LabelItem;
+
+/// The item of a label that stands for these messages of the subsystem of this number.
+pub fn item_of(kind: MessageKind, number: usize) -> LabelItem
+    ensures { result ≡ item_of kind number }
+{
+    match kind {
+        MessageKind::Request => LabelItem::Request(number),
+        MessageKind::Reply => LabelItem::Reply(number),
+    }
+}
 
 /// The form at a place, if there is one.
 fn placed(forms: &[Option<TypedForm>], place: usize) -> Option<&TypedForm>

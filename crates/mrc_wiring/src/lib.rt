@@ -24,10 +24,12 @@ mod wired;
 
 pub use claim::{Claim, ForbiddenLine};
 pub use faults::{ClaimFault, ResolveFault};
+pub use finding::item_of;
 pub use interfaces::Interfaces;
 pub use laws::{births_are_numbered, clashes_are_two_items, sorts_are_types, tables_are_of_lines};
 pub use names::{ClassKind, ClassLabel, kind_word};
 pub use resolving::NotResolved;
 pub use table::TrustedLine;
+pub use trusting::verb_number;
 pub use typed::{TypedArgument, TypedForm};
 pub use wired::Wired;

@@ -57,7 +57,8 @@ pub(crate) fn right_part(row: &[u64], right: PortRight) -> &[u64]
     &row[start..start + CLASS_WORDS]
 }
 
-fn verb_number(verb: Verb) -> usize
+/// A number for each verb.
+pub fn verb_number(verb: Verb) -> usize
     ensures exact { result ≡ verb_number verb }
     ensures small { result ≤ 3 }
 {

@@ -12,6 +12,7 @@ use Rattle.std.proofs.lemmas.List.Folds.{flat_map-map}
 use Rattle.std.proofs.lemmas.List.Splits.{length-slice_split, slice_split_at, slice_split_none}
 use Rattle.std.proofs.lemmas.Option.{none-some, same_Some}
 use Rattle.std.proofs.lemmas.Slice.Eq.{bytes_eq-Decides}
+use Rattle.mrc_base.proofs.Lists.{map_is}
 use Rattle.mrc_wiring_text.specs.declared.items.Item.{Item}
 use Rattle.mrc_wiring_text.specs.declared.items.Item.TheVariants.{Request, Reply, Destroyed}
 use Rattle.mrc_wiring_text.specs.Lexis.{is_comma}
@@ -33,12 +34,6 @@ pub either : {X : Type 0} (b : Bool) (o p : Option X) (x : X)
     → ((b ≡ true) × (o ≡ Some x)) ⊎ ((b ≡ false) × (p ≡ Some x))
 either true o p x e = inl (refl, e)
 either false o p x e = inr (refl, e)
-
-pub mapped : {X Y : Type 0} (f : X → Y) (o : Option X) (y : Y)
-    → option_map f o ≡ Some y
-    → (x : X) × (o ≡ Some x) × (f x ≡ y)
-mapped f (Some x) y e = (x, refl, same_Some _ _ e)
-mapped f None y e = absurd (none-some y e)
 
 pub word_is : (word wanted : List ℕ) → bytes_eq word wanted ≡ true → word ≡ wanted
 word_is word wanted e = (bytes_eq-Decides word wanted).0 e
@@ -64,7 +59,7 @@ item_of_name : (kind : List ℕ → Item) (key word subsystem : List ℕ) (item 
     → option_map kind (name_of subsystem) ≡ Some item
     → (key ∷ subsystem ∷ [] ≡ item_words item) × HasName item
 item_of_name kind key word subsystem item spelled named is e =
-    let m = mapped kind (name_of subsystem) item e in
+    let m = map_is kind (name_of subsystem) item e in
     let n = name_found subsystem m.0 m.1 in
     let same : key ∷ subsystem ∷ [] ≡ item_words (kind m.0) =
     ap (λ k. k ∷ subsystem ∷ []) (word_is key word is) ∙ ap (λ s. word ∷ s ∷ []) n.0

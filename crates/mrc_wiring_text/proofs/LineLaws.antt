@@ -26,6 +26,7 @@ use Rattle.mrc_wiring_text.specs.declared.trust.TrustedRight.{TrustedRight}
 use Rattle.mrc_wiring_text.specs.Lexis.{is_dot, decimal}
 use Rattle.mrc_wiring_text.specs.Names.{is_name, name_of}
 use Rattle.mrc_base.specs.Limits.{limit_of_kinds}
+use Rattle.mrc_base.proofs.Lists.{map_is}
 use Rattle.mrc_wiring_text.specs.Kinds.{is_number, kind_numbered, kind_of}
 use Rattle.mrc_wiring_text.specs.Items.{items_of}
 use Rattle.mrc_wiring_text.specs.Policy.{named, births_of, plain_class, births_with_kind, class_of}
@@ -43,7 +44,7 @@ use Rattle.mrc_wiring_text.specs.Grammar.{has_kinds, verb_word, AreNamedWords, A
 use Rattle.mrc_wiring_text.specs.Grammar.{AreTrustedWords}
 use Rattle.mrc_wiring_text.specs.Grammar.{AreForbidWords, EachLineIsSpelled}
 use Rattle.mrc_wiring_text.specs.Grammar.{EachPolicyLineIsSpelled}
-use Rattle.mrc_wiring_text.proofs.ItemLaws.{chosen, either, mapped, word_is, name_found}
+use Rattle.mrc_wiring_text.proofs.ItemLaws.{chosen, either, word_is, name_found}
 use Rattle.mrc_wiring_text.proofs.ItemLaws.{items_found, items_again}
 use Rattle.mrc_wiring_text.proofs.SlotLaws.{slot_found, slot_again}
 
@@ -55,7 +56,7 @@ task_found : (d : Edition) (words : List (List ℕ)) (says : WiringSays)
 unfolding task_line
 task_found d [] says e = absurd (none-some says e)
 task_found d (task ∷ []) says e =
-    let m = mapped Task (name_of task) says e in
+    let m = map_is Task (name_of task) says e in
     let n = name_found task m.0 m.1 in
     subst (AreWordsOf d (codes "task" ∷ task ∷ [])) m.2 (ap (λ t. codes "task" ∷ t ∷ []) n.0, n.1)
 task_found d (a ∷ b ∷ rest) says e = absurd (none-some says e)
@@ -403,14 +404,14 @@ admitted_found : (d : Edition) (words : List (List ℕ)) (class : Option ClassNa
     → AreAdmittedWords d words class
 unfolding admitted
 admitted_found d [] class e =
-    let m = mapped (λ c. Some c) (class_of d []) class e in
+    let m = map_is (λ c. Some c) (class_of d []) class e in
     subst (AreAdmittedWords d []) m.2 (class_found d [] m.0 m.1)
 admitted_found d (word ∷ []) class e =
     let c = chosen (bytes_eq word (codes "none")) (Some None) class e in
     subst (AreAdmittedWords d (word ∷ [])) (same_Some _ _ c.1)
     (ap (λ w. w ∷ []) (word_is word (codes "none") c.0))
 admitted_found d (a ∷ b ∷ rest) class e =
-    let m = mapped (λ c. Some c) (class_of d (a ∷ b ∷ rest)) class e in
+    let m = map_is (λ c. Some c) (class_of d (a ∷ b ∷ rest)) class e in
     subst (AreAdmittedWords d (a ∷ b ∷ rest)) m.2 (class_found d (a ∷ b ∷ rest) m.0 m.1)
 
 -- one word is no class
@@ -521,7 +522,7 @@ once_found : (d : Edition) (words : List (List ℕ)) (right : Option TrustedRigh
     → option_map once_on (admitted d words) ≡ Some right
     → AreOnceWords d words right
 once_found d words right e =
-    let m = mapped once_on (admitted d words) right e in
+    let m = map_is once_on (admitted d words) right e in
     subst (AreOnceWords d words) m.2 (once_words d words m.0 (admitted_found d words m.0 m.1))
 
 trusted_found : (d : Edition) (verb : TrustVerb) (words : List (List ℕ))

@@ -1,7 +1,7 @@
 //! Lines and words.
 
 ghost use Rattle.std.specs.Prelude.{◌≡◌, ◌<◌, ◌==◌, ◌∷◌, ◌++◌, length, map, bytes_eq, vec_len};
-ghost use Rattle.std.specs.Prelude.{IfOk, OnOk};
+ghost use Rattle.std.specs.Prelude.{IfOk, OnOk, slice_index_or, []};
 ghost use Rattle.std.specs.List.{position_or_len, before_first, after_first};
 ghost use Rattle.mrc_wiring_text.specs.Lexis.{lines, is_blank, is_hash, spaced_byte, spaced};
 ghost use Rattle.mrc_wiring_text.specs.Lexis.{between_blanks, is_dot};
@@ -29,6 +29,37 @@ pub fn first_line(text: &[u8]) -> (&[u8], &[u8])
     } else {
         (text, &[])
     }
+}
+
+/// The lines of a text.
+pub fn lines_of(alloc: Global, text: &[u8]) -> Result<Vec<&[u8]>, AllocError>
+    ensures { IfOk result (λ found. map (λ line. line.now) found.items ≡ lines text.now) }
+{
+    let mut found = Vec::new(alloc);
+    let mut rest = text;
+    while !rest.is_empty() {
+        let (line, after) = first_line(rest);
+        found.push(line)?;
+        rest = after;
+    }
+    Ok(found)
+}
+
+/// The line behind so many others: empty if there is none.
+pub fn nth_line(text: &[u8], above: usize) -> &[u8]
+    ensures { result.now ≡ slice_index_or (lines text.now) above [] }
+{
+    let mut rest = text;
+    let mut left = above;
+    while !rest.is_empty() {
+        let (line, after) = first_line(rest);
+        if left == 0 {
+            return line;
+        }
+        left -= 1;
+        rest = after;
+    }
+    &[]
 }
 
 #[tactic(auto, unfolding(crate::specs::Lexis::is_blank))]
@@ -81,7 +112,7 @@ pub fn between_blanks(alloc: Global, text: &[u8]) -> Result<Vec<&[u8]>, AllocErr
 }
 
 /// What stands before a word's first dot, and what stands after it.
-pub(crate) fn around_dot(word: &[u8]) -> (&[u8], &[u8])
+pub fn around_dot(word: &[u8]) -> (&[u8], &[u8])
     ensures before { result.0.now ≡ before_first is_dot word.now }
     ensures after { result.1.now ≡ after_first is_dot word.now }
 {

@@ -16,7 +16,7 @@ mod wiring;
 pub use faults::TextFault;
 pub use items::{Item, Items};
 pub use kinds::{Kind, is_number};
-pub use lexis::{between_blanks, first_line, is_word, spaced};
+pub use lexis::{around_dot, between_blanks, first_line, is_word, lines_of, nth_line, spaced};
 pub use names::Name;
 pub use policy::{ClassName, Forbid, PolicyLine, read_policy};
 pub use reading::{Edition, Line};

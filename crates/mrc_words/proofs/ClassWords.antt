@@ -10,6 +10,7 @@ use Rattle.std.proofs.lemmas.Bool.{ltb-true, ltb-false, lt-ltb, le-ltb, eqb-true
 use Rattle.std.proofs.lemmas.Option.{slice_get_within}
 use Rattle.std.proofs.lemmas.List.Sums.{split_at_first, passes_at_first}
 use Rattle.std.proofs.lemmas.Slice.Eq.{bytes_eq-Decides}
+use Rattle.mrc_base.proofs.Lists.{element_there, then_is}
 use Rattle.mrc_model.specs.Wiring.{classes}
 use Rattle.mrc_wiring_text.specs.Names.{is_name, is_letter, is_name_byte}
 use Rattle.mrc_wiring.specs.declared.births.BirthRow.{BirthRow}
@@ -34,13 +35,6 @@ AreNamed table =
 pub classes_are : (table : Table)
     → classes (wiring_of table) ≡ length table.ports + length table.names + length table.births
 classes_are table = omega (arith, length-map table.births pair_of)
-
--- a number of the list's has an element
-pub element : {X : Type 0} (names : List X) (t : ℕ) → t < length names
-    → (name : X) × (slice_get names t ≡ Some name)
-element [] t h = absurd (omega arith)
-element (x ∷ xs) zero h = (x, refl)
-element (x ∷ xs) (suc t) h = element xs t (omega arith)
 
 -- the label of a wired port's class
 port_label : (table : Table) (t : ℕ) (name : List ℕ)
@@ -101,15 +95,15 @@ is_task_class table c are high h =
     as (λ b. nat_lt c (length table.ports + length table.names) ≡ b → IsClassOf table c) [
       | true ↦ λ e.
           let low = ltb-true _ _ e in
-          let found = element table.names (c - length table.ports) (omega arith) in
+          let found = element_there table.names (c - length table.ports) (omega arith) in
           subst (IsClassOf table) (omega arith) (is_task (c - length table.ports) found.0 found.1)
       | false ↦ λ e.
           let past = ltb-false _ _ e in
           let k = c - (length table.ports + length table.names) in
-          let found = element table.births k (omega arith) in
+          let found = element_there table.births k (omega arith) in
           let low = each_get (λ (r : BirthRow). r.task < length table.names) table.births k found.0
           are.2.each found.1 in
-          let name = element table.names found.0.task low in
+          let name = element_there table.names found.0.task low in
           subst (IsClassOf table) (omega arith) (is_births k found.0 name.0 found.1 name.1)
     ] refl
 
@@ -120,7 +114,8 @@ is_class : (table : Table) (c : ℕ)
 is_class table c are h =
     elim (nat_lt c (length table.ports))
     as (λ b. nat_lt c (length table.ports) ≡ b → IsClassOf table c) [
-      | true ↦ λ e. let found = element table.ports c (ltb-true _ _ e) in is_port c found.0 found.1
+      | true ↦ λ e.
+          let found = element_there table.ports c (ltb-true _ _ e) in is_port c found.0 found.1
       | false ↦ λ e. is_task_class table c are (ltb-false _ _ e) h
     ] refl
 
@@ -391,12 +386,6 @@ task_back table rest (Some u) c at e =
           ∙ ap (class_text (length table.ports + u)) (task_label table u rest here),
     )
 
-then_some : {X Y : Type 0} (f : X → Option Y) (o : Option X) (y : Y)
-    → option_and_then f o ≡ Some y
-    → (x : X) × (o ≡ Some x) × (f x ≡ Some y)
-then_some f None y e = cc
-then_some f (Some x) y e = (x, refl, e)
-
 -- what is found among numbers above 0 passes, and is above 0
 found_passes : (p : ℕ → Bool) (ks : List ℕ) (k : ℕ)
     → list_all (nat_lt 0) ks ≡ true
@@ -428,7 +417,7 @@ births_found_back : (table : Table) (name : List ℕ) (kind c : ℕ)
     → births_class_named table name (Some kind) ≡ Some c
     → IsWordOf table c (codes "births:" ++ (name ++ behind_name kind))
 births_found_back table name kind c e =
-    let number = then_some (class_numbered table (Births kind)) (number_of table.names name) c e in
+    let number = then_is (class_numbered table (Births kind)) (number_of table.names name) c e in
     let u = number.0 in
     let here = named_at table.names name u number.1 in
     let is = births_are (length table.ports + length table.names) u kind table.births c number.2 in

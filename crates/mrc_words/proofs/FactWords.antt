@@ -7,6 +7,7 @@ use Rattle.mrc_base.specs.declared.PortRight.{PortRight}
 use Rattle.mrc_base.specs.declared.PortRight.TheVariants.{Send, Receive, SendOnce}
 use Rattle.mrc_base.specs.declared.Fact.{Fact}
 use Rattle.mrc_base.specs.declared.Fact.TheVariants.{Hold, Carry, Backup}
+use Rattle.mrc_base.proofs.Lists.{element_there}
 use Rattle.mrc_model.specs.Wiring.{classes}
 use Rattle.mrc_model.specs.Rules.{InRange}
 use Rattle.mrc_wiring.specs.Table.{Table, wiring_of}
@@ -17,7 +18,7 @@ use Rattle.mrc_words.specs.Reading.{◌>>=◌, cut, right_named, hold_named, car
 use Rattle.mrc_words.specs.Reading.{fact_of_kind, fact_named}
 use Rattle.mrc_words.specs.Laws.{PrintedIsRead, ReadIsPrinted, NamesOneFact}
 use Rattle.mrc_words.proofs.Cuts.{HasNoBlank, no_blanks, no_blank_name, cut_joined, cut_back}
-use Rattle.mrc_words.proofs.ClassWords.{AreNamed, element, class_word_read, class_word_no_blank}
+use Rattle.mrc_words.proofs.ClassWords.{AreNamed, class_word_read, class_word_no_blank}
 use Rattle.mrc_words.proofs.ClassWords.{class_word_back}
 
 right_read : (right : PortRight) → right_named (right_word right) ≡ Some right
@@ -76,7 +77,7 @@ backup_read table c d are g h =
 pub printed_is_read : PrintedIsRead
 printed_is_read table tasks ports births kinds (Hold t c right) range =
     let are : AreNamed table = (tasks, ports, births, kinds) in
-    let found = element table.names t range.0 in
+    let found = element_there table.names t range.0 in
     let task = task_read table t found.0 are found.1 in
     then_is _ _ _ _ (cut_joined (codes "hold") (task_word table t ␣ class_word table c ␣ right_word right) (no_blanks (codes "hold") refl))
     (ap (λ name. hold_named table (name ␣ class_word table c ␣ right_word right)) task.0

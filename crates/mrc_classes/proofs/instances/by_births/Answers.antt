@@ -8,7 +8,7 @@ returns-clause-premises c = λ S T.
     let last = no_last birth (c.when.ensures.premises S T) in
     let inner = side (same_class c.args.class c.args.source)
     (within (c.when-at_source.ensures.premises S T) last) in
-    let outer = rw c.same_right-is_receive.ensures at (c.when-2.ensures.premises S T) in
+    let outer = rw c.same_right-is_receive.ensures.exact at (c.when-2.ensures.premises S T) in
     no_first (both_sides (within outer inner))
 
 pub returns-clause-count : goal.returns-clause-count

@@ -7,7 +7,7 @@ returns-clause-premises c = λ S T.
     let inner = rw (c.may-may_reply.ensures, c.sender.ensures S, c.hold.ensures)
     at (c.when.ensures.premises S T) in
     let middle = rw c.accepts_replier-fits.ensures at (c.when-2.ensures.premises S T) in
-    let outer = rw c.same_right-is_once.ensures at (c.when-3.ensures.premises S T) in
+    let outer = rw c.same_right-is_once.ensures.exact at (c.when-3.ensures.premises S T) in
     first_before_three (within outer (within middle inner))
 
 pub returns-clause-count : goal.returns-clause-count

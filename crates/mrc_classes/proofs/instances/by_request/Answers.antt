@@ -6,7 +6,7 @@ pub returns-clause-premises : goal.returns-clause-premises
 returns-clause-premises c = λ S T.
     let inner = rw (c.is_notified.ensures, c.hold.ensures, c.hold-2.ensures)
     at (c.when.ensures.premises S T) in
-    let outer = rw c.same_right-is_send.ensures at (c.when-2.ensures.premises S T) in
+    let outer = rw c.same_right-is_send.ensures.exact at (c.when-2.ensures.premises S T) in
     first_before_two (within outer inner)
 
 pub returns-clause-count : goal.returns-clause-count

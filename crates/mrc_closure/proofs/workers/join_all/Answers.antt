@@ -1,11 +1,11 @@
 use Rattle.std.proofs.Common.{◌≡◌, ◌+◌, ◌-◌, ◌≤◌, vec_len, rules, sym, subst}
 use Rattle.std.specs.Vec.Iter.{into_iter_items, into_iter_len}
+use Rattle.mrc_base.proofs.Places.{each_first, each_later}
 use Rattle.mrc_wiring.specs.Table.{wiring_of}
 use Rattle.mrc_classes.specs.Following.{IsListOf}
 use Rattle.mrc_closure.specs.Dealing.{FromFirst}
 use Rattle.mrc_closure.specs.Working.{IsWorking}
 use Rattle.mrc_closure.proofs.Dealing.{first_taken, promised}
-use Rattle.mrc_closure.proofs.Joining.{each_first, each_later}
 use Rattle.mrc_closure.proofs.workers.join_all.Goals as goal
 
 -- the first of the rest has ended with what it promised

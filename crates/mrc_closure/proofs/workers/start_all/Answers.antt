@@ -1,6 +1,6 @@
 use Rattle.std.proofs.Common.{◌≡◌, length, rules}
+use Rattle.mrc_base.proofs.Places.{each_grown}
 use Rattle.mrc_closure.specs.Working.{IsWorking}
-use Rattle.mrc_closure.proofs.Joining.{each_grown}
 use Rattle.mrc_closure.proofs.workers.start_all.Goals as goal
 
 pub loop-worker-preserved : goal.loop-worker-preserved

@@ -2,10 +2,10 @@
 use Rattle.std.proofs.Common.{◌≡◌, ◌∷◌, [], ◌∙◌, map, string_bytes, subst, sym, IfOk, None}
 use Rattle.std.specs.Str.Lossy.{utf8_valid_len}
 use Rattle.std.proofs.lemmas.Str.{is_utf8-from_IsUtf8}
+use Rattle.std.proofs.lemmas.Result.{IfOk-weaker}
 use Rattle.mrc_interface.proofs.ReadingLaws.{no_text}
 use Rattle.mrc_mig_hints.specs.Hints.{part_in, part_by, IsSpotOf, AreTextNotes, AreNotesBy}
 use Rattle.mrc_mig_hints.specs.Hints.{utf8_note}
-use Rattle.mrc_mig_hints.proofs.Lists.{if_ok}
 use Rattle.mrc_mig_hints.proofs.hint.mig_hint.Goals as goal
 
 pub returns-in-Ok-clause-spot : goal.returns-in-Ok-clause-spot
@@ -37,7 +37,8 @@ returns-in-Err-clause-spot c =
     let is = sym (no_text bytes c.in-Err.ensures.cases.0) in
     subst (λ b. IfOk c.utf8_hint.result (λ hint. IsSpotOf bytes (part_by b bytes fault) hint.spot))
     is
-    (if_ok c.utf8_hint.result (λ hint. hint.spot ≡ None) (λ hint. IsSpotOf bytes None hint.spot)
+    (IfOk-weaker c.utf8_hint.result (λ hint. hint.spot ≡ None)
+    (λ hint. IsSpotOf bytes None hint.spot)
     (λ hint none. subst (IsSpotOf bytes None) (sym none) tt)
     c.utf8_hint.ensures.spot)
 

@@ -1,9 +1,9 @@
 use Rattle.std.proofs.Common.{◌≡◌, ◌∙◌, ap, map, string_bytes, subst, sym, take, drop}
 use Rattle.std.proofs.lemmas.List.{take-map, drop-map}
+use Rattle.std.proofs.lemmas.Result.{IfOk-weaker}
 use Rattle.mrc_mig_hints.specs.Sights.{sight_of}
 use Rattle.mrc_mig_hints.specs.Standing.{parse_place}
 use Rattle.mrc_mig_hints.specs.Hints.{before_place, from_place, AreNotesAt, AreParseNotes}
-use Rattle.mrc_mig_hints.proofs.Lists.{if_ok}
 use Rattle.mrc_mig_hints.proofs.hint.seen_hint.Goals as goal
 
 -- the notes are about the tokens before the place, and those from it on
@@ -29,7 +29,7 @@ returns-clause-notes c =
     subst (λ f. AreNotesAt text (before_place (parse_place fault) tokens) f fault notes) from
     (subst (λ b. AreNotesAt text b (map sight_of c.split_at.result.1.now) fault notes) before
     c.in_ok-notes.ensures) in
-    if_ok c.about.result (λ hint. hint.notes ≡ c.in_ok-notes.notes)
+    IfOk-weaker c.about.result (λ hint. hint.notes ≡ c.in_ok-notes.notes)
     (λ hint. AreParseNotes text tokens fault (map string_bytes hint.notes.items))
     (λ hint same. subst (AreParseNotes text tokens fault)
     (sym (ap (λ v. map string_bytes v.items) same)) said)

@@ -2,7 +2,7 @@ use Rattle.std.proofs.Common.{sym, ◌∙◌, rules, tests}
 use Rattle.std.specs.Str.{bytes_eq}
 use Rattle.std.proofs.lemmas.Iterator.{YieldsList-from_slice}
 use Rattle.std.proofs.lemmas.Iterator.Search.{any_from_yields_List}
-use Rattle.mrc_mig_hints.proofs.Lists.{any_map}
+use Rattle.mrc_base.proofs.Lists.{any_map}
 use Rattle.mrc_mig_hints.proofs.known.is_among.Goals as goal
 
 pub returns : goal.returns

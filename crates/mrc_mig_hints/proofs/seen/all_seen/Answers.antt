@@ -1,6 +1,7 @@
 use Rattle.std.proofs.Common.{sym, ◌∙◌, subst, length, ◌<◌}
 use Rattle.mrc_mig_symbols.specs.Readers.{left}
-use Rattle.mrc_mig_hints.proofs.SeenLemmas.{AllSeen, one_more_seen, fewer}
+use Rattle.mrc_mig_symbols.proofs.ReadingLemmas.{tail_is_shorter}
+use Rattle.mrc_mig_hints.proofs.SeenLemmas.{AllSeen, one_more_seen}
 use Rattle.mrc_mig_hints.proofs.seen.all_seen.Goals as goal
 
 -- one token more is seen
@@ -18,4 +19,4 @@ pub loop-rest-smaller : goal.loop-rest-smaller
 loop-rest-smaller c =
     let some = sym c.is_empty.ensures ∙ c.loop-rest-test.true in
     subst (λ rest. length rest < length (left c.loop-rest.rest)) (sym c.next-rest.ensures)
-    (fewer (left c.loop-rest.rest) some)
+    (tail_is_shorter (left c.loop-rest.rest) some)

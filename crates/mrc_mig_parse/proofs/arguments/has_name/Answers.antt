@@ -2,8 +2,8 @@ use Rattle.std.proofs.Common.{sym, ◌∙◌, rules, tests}
 use Rattle.std.specs.Str.{bytes_eq}
 use Rattle.std.proofs.lemmas.Iterator.{YieldsList-from_slice}
 use Rattle.std.proofs.lemmas.Iterator.Search.{any_from_yields_List}
+use Rattle.mrc_base.proofs.Lists.{any_map}
 use Rattle.mrc_mig_parse.specs.Readers.{parameter_of}
-use Rattle.mrc_mig_parse.proofs.ListLemmas.{any_map}
 use Rattle.mrc_mig_parse.proofs.arguments.has_name.Goals as goal
 
 pub returns : goal.returns

@@ -1,9 +1,9 @@
 use Rattle.std.proofs.Common.{sym, ◌∙◌, rules, tests}
 use Rattle.std.proofs.lemmas.Iterator.{YieldsList-from_slice}
 use Rattle.std.proofs.lemmas.Iterator.Search.{any_from_yields_List}
+use Rattle.mrc_base.proofs.Lists.{any_map}
 use Rattle.mrc_mig_parse.specs.Files.{is_named}
 use Rattle.mrc_mig_parse.specs.Meanings.{row_of}
-use Rattle.mrc_mig_parse.proofs.ListLemmas.{any_map}
 use Rattle.mrc_mig_parse.proofs.file.is_routine.Goals as goal
 
 pub returns : goal.returns

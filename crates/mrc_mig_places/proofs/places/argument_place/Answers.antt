@@ -2,10 +2,11 @@ use Rattle.std.proofs.Common.{◌≡◌, ◌∙◌, ◌<◌, Some, ap, length, s
 use Rattle.std.specs.Prelude.{option_map}
 use Rattle.mrc_mig_symbols.specs.Places.{place_of}
 use Rattle.mrc_mig_symbols.specs.Readers.{left}
+use Rattle.mrc_mig_symbols.proofs.ReadingLemmas.{tail_is_shorter}
 use Rattle.mrc_mig_places.specs.Ends.{IsEndOf}
 use Rattle.mrc_mig_places.specs.Places.{is_routine, argument_in, place}
 use Rattle.mrc_mig_places.proofs.PlaceLemmas.{argument_ends, argument_here, argument_later}
-use Rattle.mrc_mig_places.proofs.PlaceLemmas.{end_of_tail, fewer}
+use Rattle.mrc_mig_places.proofs.PlaceLemmas.{end_of_tail}
 use Rattle.mrc_mig_places.proofs.places.argument_place.Goals as goal
 
 -- the next routine comes first
@@ -34,7 +35,7 @@ pub loop-rest-smaller : goal.loop-rest-smaller
 loop-rest-smaller c =
     let some = sym c.is_empty.ensures ∙ c.loop-rest-test.true in
     subst (λ rest. length rest < length (left c.loop-rest.rest)) (sym c.next-rest.ensures)
-    (fewer (left c.loop-rest.rest) some)
+    (tail_is_shorter (left c.loop-rest.rest) some)
 
 -- the argument is further behind
 pub loop-rest-preserved : goal.loop-rest-preserved

@@ -1,8 +1,9 @@
 use Rattle.std.proofs.Common.{◌≡◌, ◌∙◌, ◌<◌, ap, length, subst, sym}
 use Rattle.mrc_mig_symbols.specs.Readers.{left}
 use Rattle.mrc_mig_symbols.specs.Symbols.{tail_of}
+use Rattle.mrc_mig_symbols.proofs.ReadingLemmas.{tail_is_shorter}
 use Rattle.mrc_mig_places.specs.Places.{behind_routine}
-use Rattle.mrc_mig_places.proofs.PlaceLemmas.{routine_here, routine_later, fewer}
+use Rattle.mrc_mig_places.proofs.PlaceLemmas.{routine_here, routine_later}
 use Rattle.mrc_mig_places.proofs.places.behind_routine.Goals as goal
 
 -- the routine comes first
@@ -20,7 +21,7 @@ pub loop-rest-smaller : goal.loop-rest-smaller
 loop-rest-smaller c =
     let some = sym c.is_empty.ensures ∙ c.loop-rest-test.true in
     subst (λ rest. length rest < length (left c.loop-rest.rest)) (sym c.next-rest.ensures)
-    (fewer (left c.loop-rest.rest) some)
+    (tail_is_shorter (left c.loop-rest.rest) some)
 
 -- the routine is further behind
 pub loop-rest-preserved : goal.loop-rest-preserved

@@ -2,9 +2,10 @@ use Rattle.std.proofs.Common.{◌≡◌, ◌∙◌, ◌<◌, Some, ap, length, s
 use Rattle.std.specs.Prelude.{option_map}
 use Rattle.mrc_mig_symbols.specs.Places.{place_of}
 use Rattle.mrc_mig_symbols.specs.Readers.{left}
+use Rattle.mrc_mig_symbols.proofs.ReadingLemmas.{tail_is_shorter}
 use Rattle.mrc_mig_places.specs.Ends.{IsEndOf}
 use Rattle.mrc_mig_places.specs.Places.{is_subsystem, subsystem_token, place}
-use Rattle.mrc_mig_places.proofs.PlaceLemmas.{subsystem_here, subsystem_later, end_of_tail, fewer}
+use Rattle.mrc_mig_places.proofs.PlaceLemmas.{subsystem_here, subsystem_later, end_of_tail}
 use Rattle.mrc_mig_places.proofs.places.subsystem_place.Goals as goal
 
 -- the word comes first
@@ -22,7 +23,7 @@ pub loop-rest-smaller : goal.loop-rest-smaller
 loop-rest-smaller c =
     let some = sym c.is_empty.ensures ∙ c.loop-rest-test.true in
     subst (λ rest. length rest < length (left c.loop-rest.rest)) (sym c.next-rest.ensures)
-    (fewer (left c.loop-rest.rest) some)
+    (tail_is_shorter (left c.loop-rest.rest) some)
 
 -- the word is further behind
 pub loop-rest-preserved : goal.loop-rest-preserved

@@ -1,11 +1,12 @@
 use Rattle.std.proofs.Common.{List, ◌∙◌, ap, sym, subst, rules}
 use Rattle.std.specs.Prelude.{◌||◌, ◌&&◌}
+use Rattle.std.proofs.Math.Bool.{or-false}
 use Rattle.mrc_facts.specs.Sets.{has}
 use Rattle.mrc_rows.specs.Rows.{place_of}
 use Rattle.mrc_rows.specs.Joining.{is_in_both}
 use Rattle.mrc_base.specs.declared.Fact.{Fact}
 use Rattle.mrc_rows.specs.Halves.{IsWhole}
-use Rattle.mrc_rows.proofs.Wholes.{whole_as, one_whole, or_false}
+use Rattle.mrc_rows.proofs.Wholes.{whole_as, one_whole}
 use Rattle.mrc_rows.proofs.Kept.{whole_joined, kept_joined}
 use Rattle.mrc_rows.proofs.facts.Facts.join.Goals as goal
 
@@ -40,7 +41,7 @@ pub returns-clause-others : goal.returns-clause-others
 returns-clause-others c = λ g of.
     returns-clause-ok c g
     ∙ (ap (λ b. has c.args.self.now g || (b && is_in_both c.args.more.now c.args.mask.now (place_of g)))
-    of ∙ or_false (has c.args.self.now g))
+    of ∙ or-false (has c.args.self.now g))
 
 pub returns-clause-before : goal.returns-clause-before
 returns-clause-before c =

@@ -1,7 +1,7 @@
--- the lines so far, and those of the rest
+-- The lines so far, and those of the rest.
 use Rattle.std.proofs.Common.{◌≡◌, ◌++◌, map, length}
 use Rattle.mrc_wiring_text.specs.Lexis.{lines}
-use Rattle.mrc_verdicts.proofs.quoting.lines_of.Given as goal
+use Rattle.mrc_wiring_text.proofs.lexis.lines_of.Given as goal
 
 abbrev pub invariant-loop-rest : goal.invariant-loop-rest
 invariant-loop-rest l = map (λ line. line.now) l.found.items ++ lines l.rest ≡ lines l.text
