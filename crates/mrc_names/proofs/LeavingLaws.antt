@@ -9,7 +9,7 @@ use Rattle.mrc_model.specs.Map.{Map, empty, get, insert}
 use Rattle.mrc_model.specs.World.{Space}
 use Rattle.mrc_model.specs.Space.{put_entry}
 use Rattle.mrc_model.proofs.Maps.{get-insert_same, get-insert_other, get-empty}
-use Rattle.mrc_model.proofs.Maps.{find_here, find_later, find_is_low, if_false}
+use Rattle.mrc_model.proofs.Maps.{find_here, find_later, find_low, if_false}
 use Rattle.mrc_model.proofs.Maps.{not_None, Each-insert}
 use Rattle.mrc_model.proofs.Spaces.{put_entry_same, put_entry_other}
 use Rattle.mrc_map.proofs.SameMaps.{same_map}
@@ -31,7 +31,7 @@ get_by low (c ∷ cs) x q r =
     ∙ elim (cases_eq q c.0) [
       | inl same ↦
           let late : find_key q cs ≡ None =
-          find_is_low (c.0 + 1) q cs (right_holds _ _ r) (omega arith) in
+          find_low (c.0 + 1) q cs (right_holds _ _ r) (omega arith) in
           ap (λ o. over o (get (put_entry x c.0 c.1) q)) late
           ∙ ap (get (put_entry x c.0 c.1)) same ∙ put_entry_same x c.0 c.1
           ∙ sym (ap (λ o. over o (get x q)) (ap (λ k. find_key k (c ∷ cs)) same ∙ find_here c cs))
@@ -124,7 +124,7 @@ can_each low (c ∷ cs) x r each = (
   can_each (c.0 + 1) cs (put_entry x c.0 c.1) (right_holds _ _ r) (λ n rest at.
       let apart : n ≡ c.0 → ⊥ = λ s. not_None rest
       (sym at ∙ ap (λ k. find_key k cs) s
-      ∙ find_is_low (c.0 + 1) c.0 cs (right_holds _ _ r) (omega arith)) in
+      ∙ find_low (c.0 + 1) c.0 cs (right_holds _ _ r) (omega arith)) in
       let old = each n rest (find_later low c cs n rest r at) in
       (old.0, put_entry_other x c.0 n c.1 apart ∙ old.1, old.2)),
 )

@@ -1,10 +1,9 @@
 //! The names of a space, with what each stands for.
 
-ghost use Rattle.std.specs.Prelude.{◌≡◌, ◌≤◌, ◌↔◌, [], length, vec_capacity, IsTrue};
+ghost use Rattle.std.specs.Prelude.{◌≡◌, ◌≤◌, ◌↔◌, length, IfOk, IsTrue};
 ghost use Rattle.mrc_base.specs.Limits.{limit_of_names};
 
 use crate::types::PortType;
-use mrc_base::limits::NAMES;
 use std::alloc::{AllocError, Global};
 use std::marker::Model;
 
@@ -53,16 +52,15 @@ impl Listing {
         Listing { names }
     }
 
-    /// An equal list, in a room that was made for it. It takes no memory; what is left of the room
-    /// goes back.
+    /// An equal list, in a room that was made for it. It takes no memory.
     pub fn fill(&self, room: NamesRoom) -> Listing
+        requires { length self.now ≤ room }
         ensures { result ≡ self.now }
     {
         let NamesRoom { names: mut copy } = room;
         for name in &self.names {
             copy.push_reserved(*name);
         }
-        copy.shrink_to_fit();
         Listing { names: copy }
     }
 
@@ -101,18 +99,29 @@ impl NamedType {
     }
 }
 
-/// Room for the names of any space.
+/// Room for a number of names.
 #[derive(Debug, Drop)]
 pub struct NamesRoom {
     names: Vec<NamedType>,
-    ghost empty: { names.items ≡ [] },
-    ghost roomy: { vec_capacity names ≡ limit_of_names },
+}
+
+impl Model for NamesRoom {
+    ghost use Rattle.std.specs.Prelude.{◌≡◌, ℕ, [], vec_capacity};
+
+    ghost Value = { ℕ };
+
+    ghost view = { λ a. vec_capacity a.names };
+
+    ghost invariant = { λ a. a.names.items ≡ [] };
 }
 
 impl NamesRoom {
-    /// Makes the room.
-    pub fn new(alloc: Global) -> Result<NamesRoom, AllocError> {
-        let names = Vec::with_capacity(alloc, NAMES)?;
-        Ok(NamesRoom { names })
+    /// Makes room for so many names; for none it takes no memory.
+    pub fn new(alloc: Global, names: usize) -> Result<NamesRoom, AllocError>
+        ensures { IfOk result (λ room. room ≡ names) }
+    {
+        Ok(NamesRoom {
+            names: Vec::with_capacity(alloc, names)?,
+        })
     }
 }

@@ -83,11 +83,18 @@ impl Space {
         self.entries.iter()
     }
 
+    /// How many entries there are.
+    pub fn len(&self) -> usize
+        ensures { result ≡ len self.now }
+    {
+        self.entries.len()
+    }
+
     /// Whether there is no entry.
     pub fn is_empty(&self) -> bool
         ensures { result ≡ (len self.now == 0) }
     {
-        self.entries.len() == 0
+        self.len() == 0
     }
 
     /// What the type keeps: there are at most 4,096 entries, under names of 32 bits.
