@@ -11,5 +11,6 @@ pub mod ReceiveGrowth
 pub mod ReceiveSizes
 pub mod ReceiveWalks
 pub mod ReceiveCalls
+pub mod ReceiveNext
 pub mod RoomLaws
 pub mod CarriedLaws

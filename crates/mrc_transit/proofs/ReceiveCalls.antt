@@ -203,6 +203,25 @@ module _ (tasks : Map Task) (s : Store) (t n limit : ℕ) where
             ∙ ap (λ k. Err (TooLarge k)) size
 
         module _ (fits : nat_lt limit (carried_size m.args) ≡ false) where
+          pub over_full : is_over_full (space
+              (received (set_port s found.1 (after_receipt x ms)) t found.0 x.receipts m).0 t)
+              ≡ true
+              → call_receive (record { tasks = tasks; store = s }) t n limit
+              ≡ Err (Refused ProfileNoSpace)
+          over_full over = ends ∙ ends_full _ t limit _ (ap (nat_lt limit) size ∙ fits) over
+
+          pub answered : is_over_full (space
+              (received (set_port s found.1 (after_receipt x ms)) t found.0 x.receipts m).0 t)
+              ≡ false
+              → call_receive (record { tasks = tasks; store = s }) t n limit
+              ≡ Ok (
+                with_store (record { tasks = tasks; store = s })
+                    (received (set_port s found.1 (after_receipt x ms)) t found.0 x.receipts m).0,
+                Bytes (written
+                    (received (set_port s found.1 (after_receipt x ms)) t found.0 x.receipts m).1),
+              )
+          answered room = ends ∙ ends_done _ t limit _ (ap (nat_lt limit) size ∙ fits) room
+
           module _ (old : Space) (there : get s.spaces t ≡ Some old) where
             -- what is given to the space is given to the task
             given_to : received (set_port s found.1 (after_receipt x ms)) t found.0 x.receipts m
@@ -218,8 +237,7 @@ module _ (tasks : Map Task) (s : Store) (t n limit : ℕ) where
                 → call_receive (record { tasks = tasks; store = s }) t n limit
                 ≡ Err (Refused ProfileNoSpace)
             full over =
-                ends ∙ ends_full _ t limit _ (ap (nat_lt limit) size ∙ fits)
-                (ap (λ (z : Store × Message). is_over_full (space z.0 t)) given_to ∙ over)
+                over_full (ap (λ (z : Store × Message). is_over_full (space z.0 t)) given_to ∙ over)
 
             granted : is_over_full (space
                 (received (set_space (set_port s found.1 (after_receipt x ms)) t old) t found.0
@@ -227,7 +245,7 @@ module _ (tasks : Map Task) (s : Store) (t n limit : ℕ) where
                 → IsOk (call_receive (record { tasks = tasks; store = s }) t n limit)
             granted room =
                 subst (λ (k : Try (World × Reply)). IsOk k)
-                (sym (ends ∙ ends_done _ t limit _ (ap (nat_lt limit) size ∙ fits)
+                (sym (answered
                 (ap (λ (z : Store × Message). is_over_full (space z.0 t)) given_to ∙ room))) refl
 
             -- what is told where not all was given

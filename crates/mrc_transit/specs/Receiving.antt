@@ -1,14 +1,16 @@
 -- What a received message leaves, and why none is received. From Mach 3 Kernel Interfaces, mach_msg
 -- (MACH_RCV_MSG, MACH_RCV_LARGE).
 use Rattle.std.specs.Prelude.{◌≡◌, ℕ, true, false, List, Some, Ok, Err, IsOk, is_some, nat_lt}
+use Rattle.std.specs.Prelude.{if◌then◌else◌}
 use Rattle.mrc_base.specs.declared.memory.OrMemory.{OrMemory}
 use Rattle.mrc_base.specs.declared.memory.OrMemory.TheVariants.{Fault, Memory}
 use Rattle.mrc_model.specs.declared.Code.{Code}
 use Rattle.mrc_model.specs.declared.Code.TheVariants.{KernNoSpace, ProfileNoSpace}
+use Rattle.mrc_model.specs.declared.Code.TheVariants.{MachRcvInvalidName, MachRcvTimedOut}
 use Rattle.mrc_model.specs.Map.{get}
 use Rattle.mrc_model.specs.World.{Space, Parcel, Port, Store, space as space_of}
 use Rattle.mrc_model.specs.Reply as model
-use Rattle.mrc_model.specs.Reply.{Try}
+use Rattle.mrc_model.specs.Reply.{Try, Refused, ◌>>=◌, or_refuse}
 use Rattle.mrc_model.specs.Space.{is_over_full}
 use Rattle.mrc_model.specs.CallReceive.{Source, source_at, first_parcel}
 use Rattle.mrc_ports.specs.Parcels.{carried_size}
@@ -28,9 +30,18 @@ pub record IsFirst (s : Store) (p : ℕ) (x : Port) (m : Parcel) (ms : List Parc
 abbrev pub HasFirst : Store → ℕ → Type 0
 HasFirst s p = (x : Port) × (m : Parcel) × (ms : List Parcel) × IsFirst s p x m ms
 
--- a task with a space receives from this name and port, by a name of its own: a message waits there
--- that is within the limit
-pub record IsReceivable (s : Store) (t n limit : ℕ) (found : ℕ × ℕ) : Type 0 where
+-- How many bytes a receive by this name would answer: 0 if the message is larger than the limit. It
+-- is refused if there is no message to receive. Whether there is room for the rights is not asked.
+unfoldable pub next_size : Store → ℕ → ℕ → ℕ → Try ℕ
+next_size s t name limit = do
+  from ← source_at s t name (get (space_of s t) name)
+  x ← or_refuse (get s.ports from.port) (Refused MachRcvInvalidName)
+  (m, ms) ← or_refuse (first_parcel x.queue) (Refused MachRcvTimedOut)
+  Ok (if nat_lt limit (carried_size m.args) then 0 else carried_size m.args)
+
+-- a task with a space receives from this name and port, by a name of its own: a message of this
+-- size waits there
+pub record IsNext (s : Store) (t n : ℕ) (found : ℕ × ℕ) (size : ℕ) : Type 0 where
   pub space : Space
   pub there : get s.spaces t ≡ Some space
   pub from : source_at s t n (get (space_of s t) n) ≡ Ok (found_source found)
@@ -38,7 +49,13 @@ pub record IsReceivable (s : Store) (t n limit : ℕ) (found : ℕ × ℕ) : Typ
   pub parcel : Parcel
   pub others : List Parcel
   pub waits : IsFirst s found.1 port parcel others
-  pub fits : nat_lt limit (carried_size parcel.args) ≡ false
+  pub sized : size ≡ carried_size parcel.args
+
+-- and the message is within the limit
+pub record IsReceivable (s : Store) (t n limit : ℕ) (found : ℕ × ℕ) : Type 0 where
+  pub size : ℕ
+  pub next : IsNext s t n found size
+  pub fits : nat_lt limit (carried_size next.parcel.args) ≡ false
 
 -- no task gains or loses a space, and no port is born
 pub record AreHousedAlike (s z : Store) : Type 0 where

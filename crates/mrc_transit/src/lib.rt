@@ -15,7 +15,7 @@ mod written;
 
 pub use giving::give_item;
 pub use laws::taken_is_carried;
-pub use receiving::{ReceiveFault, receive};
+pub use receiving::{ReceiveFault, next_size, receive};
 pub use send_plan::{SendPlan, copy_in};
 pub use sending::{SendFault, Slot, admit, may_item};
 pub use taking::{NotHeld, Taking};

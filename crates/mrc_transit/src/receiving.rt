@@ -22,7 +22,7 @@ ghost use Rattle.mrc_ports.specs.Parcels.{queued_of, unnamed};
 ghost use Rattle.mrc_transit.specs.Giving.{IsNotGiven};
 ghost use Rattle.mrc_transit.specs.Receiving.{found_source, receive_reply, IsOverFilled};
 ghost use Rattle.mrc_transit.specs.Receiving.{IsReceiveRefusal, IsReceivable, IsFirst, HasFirst};
-ghost use Rattle.mrc_transit.specs.Receiving.{AreHousedAlike, no_space};
+ghost use Rattle.mrc_transit.specs.Receiving.{AreHousedAlike, no_space, next_size, IsNext};
 
 use crate::giving::give_item;
 use crate::room::has_room;
@@ -362,29 +362,56 @@ fn no_space(fault: OrMemory<Code>) -> OrMemory<ReceiveFault>
     }
 }
 
+/// The name and the port that a task receives from by a name of its own, and the size of the
+/// message that waits there. The name is that of a receive right, or of a port set: then the port
+/// is that of the first member, by ascending name, that has a message.
+fn next_message(store: &Store, task: TaskId, name: u32) -> Result<((u32, PortId), u32), Code>
+    ensures found { IfOk result (λ next. IsNext store.now task name next.0 next.1) }
+    ensures refused { IfErr result (λ code. (limit : ℕ)
+        → next_size store.now task name limit ≡ Err (Refused code)) }
+{
+    let Some(space) = store.space(task) else {
+        return Err(Code::MachRcvInvalidName);
+    };
+    let found = source_at(store, task, space, name)?;
+    let Some(port) = store.ports().get(found.1) else {
+        return Err(Code::MachRcvInvalidName);
+    };
+    let Some(parcel) = port.queue().first() else {
+        return Err(Code::MachRcvTimedOut);
+    };
+    Ok((found, parcel.written_size()))
+}
+
+/// How many bytes a receive of at most `limit` bytes by a name of the task would answer: 0 if the
+/// message is larger than the limit. It takes no memory. Refused are a name that is neither a
+/// receive right nor a port set (MACH_RCV_INVALID_NAME), a member of a set (MACH_RCV_IN_SET), and a
+/// name by which no message waits (MACH_RCV_TIMED_OUT). Whether the space has room for the rights
+/// is not asked.
+pub fn next_size(store: &Store, task: TaskId, name: u32, limit: u32) -> Result<usize, Code>
+    ensures ok { IfOk result (λ size. next_size store.now task name limit ≡ Ok size) }
+    ensures refused { IfErr result (λ code.
+        next_size store.now task name limit ≡ Err (Refused code)) }
+{
+    let (_, size) = next_message(store, task, name)?;
+    if size <= limit {
+        return Ok(size as usize);
+    }
+    Ok(0)
+}
+
 /// The name and the port that a message of at most `limit` bytes is received from, by a name of the
-/// task: a receive right, or a port set, of whose members it is the first one by ascending name
-/// that has a message. All refusals but that for want of room in the space.
+/// task. All refusals except that the space has no room.
 fn judge(store: &Store, task: TaskId, name: u32, limit: u32) -> Result<(u32, PortId), ReceiveFault>
     ensures found { IfOk result (λ found. IsReceivable store.now task name limit found) }
     ensures refused { IfErr result (λ fault. (tasks : Map TTask)
         → call_receive (record { tasks = tasks; store = store.now }) task name limit
         ≡ Err (receive_reply fault)) }
 {
-    let Some(space) = store.space(task) else {
-        return Err(ReceiveFault::Refused(Code::MachRcvInvalidName));
-    };
-    let found = match source_at(store, task, space, name) {
-        Ok(found) => found,
+    let (found, size) = match next_message(store, task, name) {
+        Ok(next) => next,
         Err(code) => return Err(ReceiveFault::Refused(code)),
     };
-    let Some(port) = store.ports().get(found.1) else {
-        return Err(ReceiveFault::Refused(Code::MachRcvInvalidName));
-    };
-    let Some(parcel) = port.queue().first() else {
-        return Err(ReceiveFault::Refused(Code::MachRcvTimedOut));
-    };
-    let size = parcel.written_size();
     if limit < size {
         return Err(ReceiveFault::TooLarge(size));
     }

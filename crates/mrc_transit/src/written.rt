@@ -1,10 +1,9 @@
 //! The bytes of a received message.
 
-ghost use Rattle.std.specs.Prelude.{◌≡◌, ◌≤◌, ◌↔◌, [], length, vec_capacity, IfOk, IsTrue};
+ghost use Rattle.std.specs.Prelude.{◌≡◌, ◌≤◌, ◌↔◌, length, IfOk, IsTrue};
 ghost use Rattle.mrc_base.specs.Limits.{limit_of_message};
 ghost use Rattle.mrc_model.specs.Message.{written};
 
-use mrc_base::limits::MESSAGE;
 use mrc_desc::{Message, write_message, written_size};
 use std::alloc::{AllocError, Global};
 use std::marker::Model;
@@ -45,16 +44,15 @@ impl Written {
         &self.bytes
     }
 
-    /// Equal bytes, in a room that was made for them. It takes no memory; what is left of the room
-    /// goes back.
+    /// Equal bytes, in a room that was made for them. It takes no memory.
     pub fn fill(&self, room: WrittenRoom) -> Written
+        requires { length self.now ≤ room }
         ensures { result ≡ self.now }
     {
         let WrittenRoom { bytes: mut copy } = room;
         for byte in &self.bytes {
             copy.push_reserved(*byte);
         }
-        copy.shrink_to_fit();
         Written { bytes: copy }
     }
 
@@ -66,18 +64,28 @@ impl Written {
     }
 }
 
-/// Room for the bytes of any message.
+/// Room for a number of bytes.
 #[derive(Debug, Drop)]
 pub struct WrittenRoom {
     bytes: Vec<u8>,
-    ghost empty: { bytes.items ≡ [] },
-    ghost roomy: { vec_capacity bytes ≡ limit_of_message },
+}
+
+impl Model for WrittenRoom {
+    ghost use Rattle.std.specs.Prelude.{ℕ, ◌≡◌, [], vec_capacity};
+
+    ghost Value = { ℕ };
+
+    ghost view = { λ a. vec_capacity a.bytes };
+
+    ghost invariant = { λ a. a.bytes.items ≡ [] };
 }
 
 impl WrittenRoom {
-    /// Makes the room.
-    pub fn new(alloc: Global) -> Result<WrittenRoom, AllocError> {
-        let bytes = Vec::with_capacity(alloc, MESSAGE)?;
+    /// Makes room for so many bytes.
+    pub fn new(alloc: Global, bytes: usize) -> Result<WrittenRoom, AllocError>
+        ensures { IfOk result (λ room. room ≡ bytes) }
+    {
+        let bytes = Vec::with_capacity(alloc, bytes)?;
         Ok(WrittenRoom { bytes })
     }
 }

@@ -16,7 +16,7 @@ pub returns-in-Ok-told-clause-ok : goal.returns-in-Ok-told-clause-ok
 returns-in-Ok-told-clause-ok c = λ tasks.
     let s = c.args.store.now in
     let t = c.args.task in
-    let j = c.in-Ok.ensures.found in
+    let j = c.in-Ok.ensures.found.next in
     let y = c.give_first-space.result.0 in
     let both = put_twice s c.put_space-space.new.self c.put_space.new.self t
     c.put_space-space.result y c.new.result (ap is_some j.there) c.put_space-space.ensures.put
@@ -28,7 +28,7 @@ returns-in-Ok-told-clause-ok c = λ tasks.
     j.parcel j.others c.dequeue.result j.waits both.1 c.dequeue.ensures in
     let l = set_port s c.in-Ok.found.1 (after_receipt j.port j.others) in
     done tasks s t c.args.name c.args.limit c.in-Ok.found j.from j.port j.waits.live j.parcel
-    j.others j.waits.first j.fits c.put_space-space.result both.0 y c.in-Ok-told.bytes
+    j.others j.waits.first c.in-Ok.ensures.found.fits c.put_space-space.result both.0 y c.in-Ok-told.bytes
     (told_ok _ c.give_first-space.result.1 c.in-Ok-told.bytes c.in-Ok-told.is
     (c.give_first-space.ensures.given j.port j.parcel j.others waits) l t)
     (told_ok _ c.give_first-space.result.1 c.in-Ok-told.bytes c.in-Ok-told.is
@@ -41,7 +41,7 @@ pub returns-in-Ok-told-clause-housed : goal.returns-in-Ok-told-clause-housed
 returns-in-Ok-told-clause-housed c =
     let s = c.args.store.now in
     let t = c.args.task in
-    let j = c.in-Ok.ensures.found in
+    let j = c.in-Ok.ensures.found.next in
     let y = c.give_first-space.result.0 in
     let both = put_twice s c.put_space-space.new.self c.put_space.new.self t
     c.put_space-space.result y c.new.result (ap is_some j.there) c.put_space-space.ensures.put
@@ -55,7 +55,7 @@ pub returns-in-Err-told-clause-refused : goal.returns-in-Err-told-clause-refused
 returns-in-Err-told-clause-refused c = λ tasks.
     let s = c.args.store.now in
     let t = c.args.task in
-    let j = c.in-Ok.ensures.found in
+    let j = c.in-Ok.ensures.found.next in
     let y = c.give_first-space.result.0 in
     let both = put_twice s c.put_space-space.new.self c.put_space.new.self t
     c.put_space-space.result y c.new.result (ap is_some j.there) c.put_space-space.ensures.put
@@ -67,7 +67,7 @@ returns-in-Err-told-clause-refused c = λ tasks.
     subst (λ k. IsReceiveRefusal k (call_receive (record { tasks = tasks; store = s }) t
     c.args.name c.args.limit)) (sym c.no_space.ensures)
     (refused_so tasks s t c.args.name c.args.limit c.in-Ok.found j.from j.port j.waits.live
-    j.parcel j.others j.waits.first j.fits c.put_space-space.result both.0 c.in-Err-told.e
+    j.parcel j.others j.waits.first c.in-Ok.ensures.found.fits c.put_space-space.result both.0 c.in-Err-told.e
     (told_err _ c.give_first-space.result.1 c.in-Err-told.e c.in-Err-told.is
     (c.give_first-space.ensures.refused j.port j.parcel j.others waits) l t))
 
@@ -75,7 +75,7 @@ pub returns-in-Err-told-clause-err : goal.returns-in-Err-told-clause-err
 returns-in-Err-told-clause-err c =
     let s = c.args.store.now in
     let t = c.args.task in
-    let j = c.in-Ok.ensures.found in
+    let j = c.in-Ok.ensures.found.next in
     let y = c.give_first-space.result.0 in
     let both = put_twice s c.put_space-space.new.self c.put_space.new.self t
     c.put_space-space.result y c.new.result (ap is_some j.there) c.put_space-space.ensures.put
@@ -89,7 +89,7 @@ pub returns-in-Err-told-clause-housed : goal.returns-in-Err-told-clause-housed
 returns-in-Err-told-clause-housed c =
     let s = c.args.store.now in
     let t = c.args.task in
-    let j = c.in-Ok.ensures.found in
+    let j = c.in-Ok.ensures.found.next in
     let y = c.give_first-space.result.0 in
     let both = put_twice s c.put_space-space.new.self c.put_space.new.self t
     c.put_space-space.result y c.new.result (ap is_some j.there) c.put_space-space.ensures.put
