@@ -1,15 +1,18 @@
 //! The machine that runs what was checked.
 
-ghost use Rattle.std.specs.Prelude.{◌≡◌, ◌<◌, IfOk, IfErr, IsTrue, OnErr, is_some};
+ghost use Rattle.std.specs.Prelude.{◌≡◌, ◌<◌, ◌↔◌, IfOk, IfErr, IsTrue, OnErr, is_some};
+ghost use Rattle.mrc_model.specs.declared.Code.TheVariants.{MachRcvTimedOut};
 ghost use Rattle.mrc_model.specs.Map.{get};
+ghost use Rattle.mrc_model.specs.Reply.{ReceiveMessage, Refused};
 ghost use Rattle.mrc_model.specs.Step.{step};
 ghost use Rattle.mrc_machine.specs.Calls.{call_of, reply_of, IsRefused, IsGranted};
+ghost use Rattle.mrc_machine.specs.Rooms.{size_of_call, Fits};
 ghost use Rattle.mrc_confine.specs.Safety.{IsSafe};
 ghost use Rattle.mrc_confine.specs.Guards.{IsGuarded, started, wiring_in};
 
 use mrc_base::TaskId;
 use mrc_check::Confined;
-use mrc_machine::{Call, Reply, World};
+use mrc_machine::{Call, Reply, Room, World};
 use std::alloc::{AllocError, Global};
 use std::marker::Model;
 
@@ -57,12 +60,31 @@ impl Guarded {
             step (wiring_in self.old.confined) self.old.world caller (call_of call.now)
             ≡ (self.new.world, reply_of reply)) }
         ensures confined { self.new.confined ≡ self.old.confined }
+        ensures fits { IfOk result (λ reply.
+            Fits (size_of_call self.old.world caller call.now) reply) }
         ensures refused { IfOk result (λ reply. IsRefused reply → self.new ≡ self.old) }
         ensures err { OnErr result (self.new ≡ self.old) }
         ensures last { OnErr result (IsGranted
             (wiring_in self.old.confined) self.old.world caller (call_of call.now)) }
     {
         self.world.step(self.confined.wired(), caller, call)
+    }
+
+    /// Room for what the call would be answered now.
+    pub fn room(&self, alloc: Global, task: TaskId, call: &Call) -> Result<Room, AllocError>
+        ensures { IfOk result (λ room. room ≡ size_of_call self.now.world task call.now) }
+    {
+        Room::for_call(alloc, &self.world, task, call)
+    }
+
+    /// Whether a receive by a name of the task would be refused because no message waits
+    /// (MACH_RCV_TIMED_OUT). It takes no memory.
+    pub fn would_wait(&self, task: TaskId, name: u32, limit: u32) -> bool
+        ensures exact { IsTrue result
+            ↔ (step (wiring_in self.now.confined) self.now.world task (ReceiveMessage name limit)
+            ≡ (self.now.world, Refused MachRcvTimedOut)) }
+    {
+        self.world.would_wait(task, name, limit)
     }
 
     /// Whether the machine has a task of this number now, alive or ended.

@@ -1,7 +1,7 @@
 -- What the list of holdings says of tasks that count as one of a class.
 use Rattle.std.proofs.Common.{◌≡◌, ℕ, suc, Bool, true, false, ◌&&◌, ◌||◌, not, ◌==◌, List, [], ◌∷◌}
 use Rattle.std.proofs.Common.{Option, Some, None, if◌then◌else◌, ◌≤◌, ◌<◌, ◌↔◌, IsTrue, refl, sym}
-use Rattle.std.proofs.Common.{◌∙◌, ap, subst, arith, drop, zero, ◌+◌}
+use Rattle.std.proofs.Common.{◌∙◌, ap, subst, arith, drop, zero}
 use Rattle.std.proofs.lemmas.Bool.{and_parts, false≢true, or_left, or_parts, or_right}
 use Rattle.std.proofs.lemmas.Bool.Decides.{nat_tests}
 use Rattle.std.specs.List.{AllByRecursion, list_any}
@@ -16,7 +16,8 @@ use Rattle.mrc_model.specs.Wiring.{Wiring, is_limited}
 use Rattle.mrc_model.specs.World.{Task, World, task_class, class_of}
 use Rattle.mrc_model.specs.Breach.{Breach, Counts, Forbid, Holding, Holds, holdings, itself, also}
 use Rattle.mrc_model.proofs.HoldingLists.{is_held, held_is}
-use Rattle.mrc_wiring.proofs.GivenRows.{any_in}
+use Rattle.mrc_model.proofs.Members.{in_any, any_in}
+use Rattle.mrc_wiring.proofs.Takers.{same_right_is}
 use Rattle.mrc_machine.specs.declared.holding.Holding.{Holding as CodeHolding}
 use Rattle.mrc_machine.specs.Holdings.{holding_of, holdings_of}
 use Rattle.mrc_machine.specs.Breaching.{is_reached, is_counted, is_new, is_of_class, breaks}
@@ -39,24 +40,7 @@ none_in p [] x m h = elim m [ ]
 none_in p (y ∷ xs) x (here) h = (or_parts (p y) (list_any p xs) h).0
 none_in p (y ∷ xs) x (later m) h = none_in p xs x m (or_parts (p y) (list_any p xs) h).1
 
-in_any : {X : Type 0} (p : X → Bool) (xs : List X) (x : X) → IsIn x xs → p x ≡ true
-    → list_any p xs ≡ true
-in_any p [] x m h = elim m [ ]
-in_any p (y ∷ xs) x (here) h = or_left (p y) (list_any p xs) h
-in_any p (y ∷ xs) x (later m) h = or_right (p y) (list_any p xs) (in_any p xs x m h)
-
 -- tests
-
-same_is : (r q : PortRight) → same_right r q ≡ true → r ≡ q
-same_is Send Send h = refl
-same_is Receive Receive h = refl
-same_is SendOnce SendOnce h = refl
-same_is Send Receive h = absurd (false≢true h)
-same_is Send SendOnce h = absurd (false≢true h)
-same_is Receive Send h = absurd (false≢true h)
-same_is Receive SendOnce h = absurd (false≢true h)
-same_is SendOnce Send h = absurd (false≢true h)
-same_is SendOnce Receive h = absurd (false≢true h)
 
 same_self : (r : PortRight) → same_right r r ≡ true
 same_self Send = refl
@@ -122,7 +106,7 @@ module _ (W : Wiring) (w : World) (class : ℕ) where
   reached_more ports more h new held reached put q there =
       let parts = new_parts (same_right h.right Send) (has ports h.port)
       (is_counted w class ports h.task) (is_limited W Takes (task_class w h.task)) new in
-      let holds = subst (λ r. Holds w h.task h.port r) (same_is h.right Send parts.0) held in
+      let holds = subst (λ r. Holds w h.task h.port r) (same_right_is h.right Send parts.0) held in
       let go : (b : Bool) → (h.port == q) ≡ b → (b || has ports q) ≡ true
       → (t : ℕ) × IsCounted W w class t × Holds w t q Send
       × (is_limited W Takes (task_class w t) ≡ false) = elim [
@@ -182,7 +166,7 @@ broken_is W w line ports reached closed is =
       of_class = counted.1;
       counts = counted.2;
       port = h.port;
-      held = subst (λ r. Holds w h.task h.port r) (same_is h.right line.right parts.0)
+      held = subst (λ r. Holds w h.task h.port r) (same_right_is h.right line.right parts.0)
           (is_held w h.task h.port h.right found.1);
       class = of_class_is line.class (class_of w.store h.port) parts.1;
     }
@@ -193,8 +177,8 @@ is_broken_by : (W : Wiring) (w : World) (line : Forbid) (ports : List ℕ)
     → Holds w holder port line.right → class_of w.store port ≡ Some line.class
     → list_any (breaks w line ports) (holdings w) ≡ true
 is_broken_by W w line ports closed holder named port of counts held class =
-    in_any (breaks w line ports) (holdings w)
-    record { task = holder; port = port; right = line.right }
+    in_any (breaks w line ports)
+    record { task = holder; port = port; right = line.right } (holdings w)
     (held_is w holder port line.right held)
     (all_three (same_right line.right line.right)
     (is_of_class line.class (class_of w.store port))

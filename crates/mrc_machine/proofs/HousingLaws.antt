@@ -11,7 +11,7 @@ use Rattle.mrc_model.specs.World.{Space, Store, Task, World, set_space}
 use Rattle.mrc_model.specs.Target.{first_task, has_kernel, with_space}
 use Rattle.mrc_model.proofs.Maps.{get-insert, get-insert_same, get-insert_other, get-empty}
 use Rattle.mrc_model.proofs.Maps.{Each-insert, same_Some, not_None, find_here, find_later}
-use Rattle.mrc_model.proofs.Maps.{next_key-same, below-next_key, origin-insert, find_is_low}
+use Rattle.mrc_model.proofs.Maps.{next_key-same, below-next_key, origin-insert, find_low}
 use Rattle.mrc_model.proofs.Maps.{rest_rises}
 use Rattle.std.proofs.lemmas.Bool.{cases_lt}
 use Rattle.mrc_map.proofs.SameMaps.{same_map}
@@ -360,7 +360,7 @@ key_is_late : (low k : ℕ) (v : Task) (es : List (ℕ × Task))
     → find_key k es ≡ Some v
     → low ≤ k
 key_is_late low k v es r at = elim (cases_lt k low) [
-  | inl below ↦ absurd (not_None v (sym at ∙ find_is_low low k es r below))
+  | inl below ↦ absurd (not_None v (sym at ∙ find_low low k es r below))
   | inr above ↦ above
 ]
 

@@ -16,5 +16,7 @@ pub mod TakeLaws
 pub mod RequestLaws
 pub mod MoveLaws
 pub mod StepLaws
+pub mod RoomLaws
+mod RoomExamples
 pub mod StartLaws
 pub mod BreachLaws

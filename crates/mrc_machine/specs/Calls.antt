@@ -93,7 +93,7 @@ IsRefusedBy Memory m = IsOk m
 
 -- What a call is answered in the world w, of which it leaves z: the definition's reply, which is no
 -- refusal; or why it is refused, and then z is w
-abbrev pub Answers : Result Reply (OrMemory Refusal) → World → World → model.Try (World × model.Reply)
-    → Type 0
+abbrev pub Answers : Result Reply (OrMemory Refusal) → World → World
+    → model.Try (World × model.Reply) → Type 0
 Answers (Ok reply) w z m = (m ≡ Ok (z, reply_of reply)) × (IsRefused reply → ⊥)
 Answers (Err fault) w z m = IsRefusedBy fault m × (z ≡ w)

@@ -6,4 +6,5 @@ pub mod Holdings
 pub mod Housing
 pub mod Moves
 pub mod Requests
+pub mod Rooms
 pub mod Starts

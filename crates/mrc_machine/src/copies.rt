@@ -1,6 +1,7 @@
 //! Equal calls and replies, and whether two are equal.
 
 ghost use Rattle.std.specs.Prelude.{◌≡◌, ◌↔◌, IfOk, IsTrue};
+ghost use Rattle.mrc_machine.specs.Rooms.{Fits};
 
 use crate::call::Call;
 use crate::reply::Reply;
@@ -83,6 +84,7 @@ impl Call {
 impl Reply {
     /// An equal reply, in a room that was made for it. It takes no memory.
     pub fn fill(&self, room: Room) -> Reply
+        requires { Fits room self.now }
         ensures { result ≡ self.now }
     {
         match self {

@@ -145,8 +145,8 @@ impl State {
         Ok(given)
     }
 
-    /// Gives a right of a task to the caller, which has to be trusted to take it from tasks of other
-    /// classes.
+    /// Gives a right of a task to the caller, which has to be trusted to take it from tasks of
+    /// other classes.
     #[tactic(auto, using(crate::proofs::MoveLaws::extract_no_task))]
     pub(crate) fn extract_right(
         &mut self,

@@ -1,15 +1,18 @@
 //! Receiving a message.
 
-ghost use Rattle.std.specs.Prelude.{◌≡◌, Ok, OnErr, IfOk, IfErr};
-ghost use Rattle.mrc_model.specs.Reply.{Bytes};
+ghost use Rattle.std.specs.Prelude.{◌≡◌, ◌↔◌, Ok, Err, OnErr, IfOk, IfErr, IsTrue};
+ghost use Rattle.mrc_model.specs.declared.Code.TheVariants.{MachRcvTimedOut};
+ghost use Rattle.mrc_model.specs.Reply.{Bytes, Refused};
 ghost use Rattle.mrc_model.specs.CallReceive.{call_receive};
+ghost use Rattle.mrc_transit.specs.Receiving.{next_size};
 ghost use Rattle.mrc_machine.specs.Calls.{Answers};
 
 use crate::refusal::Refusal;
 use crate::reply::Reply;
 use crate::state::State;
 use mrc_base::{OrMemory, TaskId};
-use mrc_transit::{ReceiveFault, receive};
+use mrc_model::Code;
+use mrc_transit::{ReceiveFault, next_size, receive};
 
 impl State {
     /// Receives a message of at most `limit` bytes by a name of the caller: its bytes.
@@ -30,6 +33,17 @@ impl State {
             Err(OrMemory::Fault(ReceiveFault::TooLarge(size))) => {
                 Err(OrMemory::Fault(Refusal::TooLarge(size)))
             }
+        }
+    }
+
+    /// Whether no message waits that a name of the caller receives.
+    pub(crate) fn would_wait(&self, caller: TaskId, name: u32, limit: u32) -> bool
+        ensures exact { IsTrue result
+            ↔ (next_size self.now.store caller name limit ≡ Err (Refused MachRcvTimedOut)) }
+    {
+        match next_size(&self.store, caller, name, limit) {
+            Ok(_) => false,
+            Err(code) => code == Code::MachRcvTimedOut,
         }
     }
 }

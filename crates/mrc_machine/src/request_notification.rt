@@ -348,7 +348,8 @@ impl State {
     ) -> Result<Reply, OrMemory<Refusal>>
         requires { IsSome (get self.old.tasks caller) }
         ensures { Answers result self.old self.new
-            (call_request_notification (wiring_of wired.now) self.old caller task name id sync notify disp) }
+            (call_request_notification (wiring_of wired.now) self.old caller task name id sync
+            notify disp) }
     {
         let Some(target) = self.target(caller, task) else {
             return Err(OrMemory::Fault(Refusal::Refused(Code::KernInvalidTask)));

@@ -5,12 +5,16 @@ ghost use Rattle.mrc_model.specs.Covers.{IsWellFormed};
 ghost use Rattle.mrc_model.specs.Map.{get, len};
 ghost use Rattle.mrc_model.specs.First.{first};
 ghost use Rattle.mrc_model.specs.Step.{step};
+ghost use Rattle.mrc_model.specs.declared.Code.TheVariants.{MachRcvTimedOut};
+ghost use Rattle.mrc_model.specs.Reply.{ReceiveMessage, Refused};
+ghost use Rattle.mrc_model.specs.Wiring.{Wiring};
 ghost use Rattle.mrc_model.specs.Wiring.{numbers_of};
 ghost use Rattle.mrc_wiring.specs.Table.{wiring_of};
 ghost use Rattle.mrc_wiring.specs.Claims.{holding_of as forbidden_of};
 ghost use Rattle.mrc_model.specs.Breach.{Breach, holdings};
 ghost use Rattle.mrc_machine.specs.Holdings.{holdings_of};
 ghost use Rattle.mrc_machine.specs.Calls.{call_of, reply_of, IsRefused, IsGranted};
+ghost use Rattle.mrc_machine.specs.Rooms.{size_of_call, Fits};
 
 use crate::call::Call;
 use crate::first::built;
@@ -59,12 +63,13 @@ impl World {
     }
 
     /// One call of a task, made whole: the reply, with the machine as the call leaves it. A reply
-    /// that is a refusal leaves it as it was, and so does want of memory, which is told only where
+    /// that is a refusal leaves it unchanged, and so does out of memory, which is reported only if
     /// the call is not refused.
     pub fn step(&mut self, wired: &Wired, caller: TaskId, call: &Call) -> Result<Reply, AllocError>
         ensures step { IfOk result (λ reply.
             step (wiring_of wired.now) self.old caller (call_of call.now)
             ≡ (self.new, reply_of reply)) }
+        ensures fits { IfOk result (λ reply. Fits (size_of_call self.old caller call.now) reply) }
         ensures refused { IfOk result (λ reply. IsRefused reply → self.new ≡ self.old) }
         ensures err { OnErr result (self.new ≡ self.old) }
         ensures last { OnErr result
@@ -81,6 +86,29 @@ impl World {
             Err(OrMemory::Fault(refusal)) => Ok(refusal.reply()),
             Err(OrMemory::Memory) => Err(AllocError),
         }
+    }
+
+    /// How many names, and how many bytes, a call of a task would be answered.
+    pub(crate) fn size_of_call(&self, caller: TaskId, call: &Call) -> (usize, usize)
+        ensures names { result.0 ≡ (size_of_call self.now caller call.now).names }
+        ensures bytes { result.1 ≡ (size_of_call self.now caller call.now).bytes }
+    {
+        if self.state.is_alive(caller) {
+            self.state.size_of_live(caller, call)
+        } else {
+            (0, 0)
+        }
+    }
+
+    /// Whether a receive by a name of the task would be refused because no message waits
+    /// (MACH_RCV_TIMED_OUT). It takes no memory.
+    pub fn would_wait(&self, task: TaskId, name: u32, limit: u32) -> bool
+        // A receive needs no wiring, so this holds for every one.
+        ensures exact { (W : Wiring) → IsTrue result
+            ↔ (step W self.now task (ReceiveMessage name limit)
+            ≡ (self.now, Refused MachRcvTimedOut)) }
+    {
+        self.state.is_alive(task) && self.state.would_wait(task, name, limit)
     }
 
     /// Whether there is a task of this number, alive or ended: a wired one, or one that a call has

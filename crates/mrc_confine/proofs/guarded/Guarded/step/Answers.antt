@@ -33,3 +33,6 @@ returns-clause-last c =
     (subst (λ (table : Table). OnErr c.step.result (IsGranted
     (wiring_of table) c.self.inside.world c.args.caller (call_of c.args.call.now)))
     c.wired.ensures.exact c.step.ensures.last)
+
+pub returns-clause-fits : goal.returns-clause-fits
+returns-clause-fits c = rw (← c.self.view_is) c.step.ensures.fits

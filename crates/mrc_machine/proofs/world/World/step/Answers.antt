@@ -7,6 +7,8 @@ use Rattle.mrc_model.specs.Covers.{HasSpaces, IsWellFormed}
 use Rattle.mrc_model.specs.Wiring.{numbers_of}
 use Rattle.mrc_wiring.specs.Table.{wiring_of}
 use Rattle.mrc_machine.specs.Calls.{call_of, refusal_reply, IsRefusedBy}
+use Rattle.mrc_machine.specs.Rooms.{size_of_call, Fits}
+use Rattle.mrc_machine.proofs.RoomLaws.{answer_fits, refusal_fits}
 use Rattle.mrc_machine.proofs.StepLaws.{step_dead, step_done, step_refused}
 use Rattle.mrc_machine.proofs.StepLaws.{formed_after, spaces_after}
 use Rattle.mrc_machine.proofs.world.World.step.Goals.{in-Ok, in-Err-Fault, in-Err-Memory}
@@ -50,6 +52,19 @@ returns-clause-step c =
           ∙ ap (λ (v : World). (v, refusal_reply w.in-Err-Fault.refusal))
           (sym w.in-Err-Fault.ensures.1)
           ∙ ap (λ e. (c.call.new.self, e)) (sym w.reply.ensures.exact))
+      | in-Err-Memory w ↦ rw w.result-is tt
+    ]
+
+pub returns-clause-fits : goal.returns-clause-fits
+returns-clause-fits c =
+    let alive = sym c.is_alive.ensures.exact ∙ c.if-not-is_alive.false in
+    elim c.match-call.branch [
+      | in-Ok w ↦ rw w.result-is (subst
+          (λ (v : World). Fits (size_of_call v c.args.caller c.args.call.now) w.in-Ok.reply)
+          c.self.view_is
+          (answer_fits (wiring_of c.args.wired.now) c.self.inside.state c.args.caller
+          c.args.call.now _ w.in-Ok.reply alive w.in-Ok.ensures.0))
+      | in-Err-Fault w ↦ rw w.result-is (refusal_fits _ _ w.reply.ensures.refused)
       | in-Err-Memory w ↦ rw w.result-is tt
     ]
 
