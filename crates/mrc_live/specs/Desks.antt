@@ -41,6 +41,13 @@ pub record IsKept (guarded : Guard) (events : List Event) (limit made total left
   pub seats : made ≤ limit_of_seats
   pub parts : left + made ≡ limit_of_parts
 
+-- of two desks the machine, the journal and its limit are the same
+pub record AreAlike (d e : DeskState) : Type 0 where
+  pub confined : e.confined ≡ d.confined
+  pub world : e.world ≡ d.world
+  pub events : e.events ≡ d.events
+  pub limit : e.limit ≡ d.limit
+
 -- the event of a seat's call
 abbrev pub seat_event : SeatState → Call → Reply → Event
 seat_event s call reply =

@@ -9,9 +9,11 @@ ghost use Rattle.mrc_confine.specs.Guards.{wiring_in};
 ghost use Rattle.mrc_live.specs.declared.desk.NotReceived.TheVariants as nothing;
 ghost use Rattle.mrc_live.specs.declared.desk.NotSeated.TheVariants.{NoSuchTask, TooManySeats};
 ghost use Rattle.mrc_live.specs.declared.desk.NotTaken.TheVariants.{JournalFull};
-ghost use Rattle.mrc_live.specs.Desks.{desk_after, seat_after, call_in, fresh, opened};
+ghost use Rattle.mrc_live.specs.Desks.{AreAlike, desk_after, seat_after, call_in, fresh, opened};
 ghost use Rattle.mrc_live.specs.Runs.{IsJournal, reply_to, world_after};
+ghost use Rattle.mrc_live.specs.Waits.{FindsNone};
 ghost use Rattle.mrc_machine.specs.Calls.{IsRefused, reply_of};
+ghost use Rattle.mrc_machine.specs.Rooms.{Fits, size_of_call};
 ghost use Rattle.mrc_machine.specs.declared.call.Call.TheVariants.{Receive};
 ghost use Rattle.mrc_machine.specs.declared.reply.Reply.TheVariants.{Refused};
 ghost use Rattle.mrc_model.specs.declared.Code.TheVariants.{MachRcvTimedOut};
@@ -99,11 +101,14 @@ struct Rooms {
     theirs: Room,
 }
 
-/// Makes room for an event, for a seat's call, and for what they hold. The spare places are named
+/// Makes room for an event, for a seat's call, and for what they hold: of a reply, as much as this
+/// call can answer in the world as it is. The spare places are named
 /// by these clauses alone: a model of the desk or of the seat does not speak of them, so this is a
 /// function over the fields.
 fn make_ready(
     alloc: Global,
+    guarded: &Guarded,
+    task: TaskId,
     events: &mut Vec<Event>,
     calls: &mut Vec<Made>,
     call: &Call,
@@ -111,12 +116,14 @@ fn make_ready(
     ensures events { events.new.items ≡ events.old.items }
     ensures calls { calls.new.items ≡ calls.old.items }
     ensures copy { IfOk result (λ r. r.copy ≡ call.now) }
+    ensures ours { IfOk result (λ r. r.ours ≡ size_of_call guarded.now.world task call.now) }
+    ensures theirs { IfOk result (λ r. r.theirs ≡ size_of_call guarded.now.world task call.now) }
     ensures event_room { OnOk result (vec_len events.new < vec_capacity events.new) }
     ensures call_room { OnOk result (vec_len calls.new < vec_capacity calls.new) }
 {
     let copy = call.copy(alloc)?;
-    let ours = Room::new(alloc)?;
-    let theirs = Room::new(alloc)?;
+    let ours = guarded.room(alloc, task, call)?;
+    let theirs = guarded.room(alloc, task, call)?;
     events.reserve(1)?;
     calls.reserve(1)?;
     Ok(Rooms { copy, ours, theirs })
@@ -129,6 +136,7 @@ fn step(guarded: &mut Guarded, task: TaskId, call: &Call) -> Result<Reply, Alloc
     ensures world { IfOk result (λ _.
         guarded.new.world ≡ world_after guarded.old.confined guarded.old.world task call.now) }
     ensures confined { guarded.new.confined ≡ guarded.old.confined }
+    ensures fits { IfOk result (λ r. Fits (size_of_call guarded.old.world task call.now) r) }
     ensures refused { IfOk result (λ r. IsRefused r → guarded.new ≡ guarded.old) }
     ensures err { OnErr result (guarded.new ≡ guarded.old) }
 {
@@ -156,6 +164,8 @@ fn note(
     requires event_room { vec_len events.old < vec_capacity events.old }
     requires call_room { vec_len calls.old < vec_capacity calls.old }
     requires copy { rooms.copy ≡ call }
+    requires ours { Fits rooms.ours reply.now }
+    requires theirs { Fits rooms.theirs reply.now }
     ensures events { events.new.items ≡ events.old.items
         ++ record { seat = seat; task = task; call = call; reply = reply.now } ∷ [] }
     ensures calls { calls.new.items ≡ calls.old.items
@@ -205,6 +215,7 @@ impl<L: Ledger> Desk<L> {
             → ((result ≡ Err NoSuchTask) ↔ IsNone (get self.old.world.tasks task)) }
         ensures unwired { result ≡ Err NoSuchTask → wired ≤ task }
         ensures too_many { result ≡ Err TooManySeats → self.old.made ≡ limit_of_seats }
+        ensures kept { AreAlike self.old self.new }
         ensures err { OnErr result (self.new ≡ self.old) }
     {
         let is_there = self.guarded.has_task(task);
@@ -240,7 +251,14 @@ impl<L: Ledger> Desk<L> {
         if self.events.len() >= self.limit {
             return Err(NotTaken::JournalFull(call));
         }
-        let Ok(rooms) = make_ready(self.alloc, &mut self.events, &mut seat.calls, &call) else {
+        let Ok(rooms) = make_ready(
+            self.alloc,
+            &self.guarded,
+            seat.task,
+            &mut self.events,
+            &mut seat.calls,
+            &call,
+        ) else {
             return Err(NotTaken::Memory(call));
         };
         let Ok(reply) = step(&mut self.guarded, seat.task, &call) else {
@@ -287,7 +305,14 @@ impl<L: Ledger> Desk<L> {
             return Err(NotReceived::JournalFull);
         }
         let call = Call::Receive { name, limit };
-        let Ok(rooms) = make_ready(self.alloc, &mut self.events, &mut seat.calls, &call) else {
+        let Ok(rooms) = make_ready(
+            self.alloc,
+            &self.guarded,
+            seat.task,
+            &mut self.events,
+            &mut seat.calls,
+            &call,
+        ) else {
             return Err(NotReceived::Memory);
         };
         let Ok(reply) = step(&mut self.guarded, seat.task, &call) else {
@@ -308,6 +333,13 @@ impl<L: Ledger> Desk<L> {
             &reply,
         );
         Ok(Some(reply))
+    }
+
+    /// Whether the journal has room for an event, and a receive of this task would find no message.
+    pub(crate) fn finds_none(&self, task: TaskId, name: u32, limit: u32) -> bool
+        ensures { IsTrue result → FindsNone self.now task name limit }
+    {
+        self.events.len() < self.limit && self.guarded.would_wait(task, name, limit)
     }
 
     /// The number of seats made.

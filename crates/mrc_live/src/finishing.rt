@@ -20,7 +20,7 @@ use mrc_check::Confined;
 use std::sync::ledger::Ledger;
 
 /// A place for each number of a seat.
-const PLACES: usize = SEATS as usize;
+pub(crate) const PLACES: usize = SEATS as usize;
 
 /// Why a server was not finished.
 #[derive(Clone, Copy, Debug, PartialEq, Eq)]

@@ -18,13 +18,14 @@ ghost use Rattle.mrc_model.specs.declared.Code.TheVariants.{MachRcvTimedOut};
 use crate::desk::{Desk, NotReceived, NotSeated, NotTaken};
 use crate::event::Journal;
 use crate::finishing::{Why, judge};
-use crate::office::{Idle, Office};
+use crate::office::{Bells, Office, ring_all};
 use crate::seat::Seat;
 use mrc_base::TaskId;
 use mrc_check::Confined;
 use mrc_confine::Guarded;
 use mrc_machine::{Call, Reply};
 use std::alloc::Global;
+use std::array;
 use std::marker::Model;
 use std::sync::atomic::{AtomicBool, Ordering};
 use std::sync::ledger::{Blank, Ledger};
@@ -34,9 +35,9 @@ use std::sync::{Condvar, Mutex, Wait};
 #[derive(Drop)]
 pub struct Live<L: Ledger> {
     office: Mutex<Office<L>>,
-    /// Notified of each event, of each stop, and of each seat that leaves: a seat that waits for a
-    /// message tries again.
-    moved: Condvar,
+    /// Each seat sleeps on its own while it waits for a message: an event wakes those that would go
+    /// on by then, a stop and a seat that leaves wake all. Who is woken tries again.
+    bells: Bells,
     confined: Confined,
 }
 
@@ -69,7 +70,7 @@ impl<L: Ledger> Live<L> {
         };
         Ok(Live {
             office: Mutex::new(Office::new(Desk::new(alloc, guarded, limit, blank))),
-            moved: Condvar::new(),
+            bells: array::from_fn(|_| Condvar::new()),
             confined,
         })
     }
@@ -107,11 +108,7 @@ impl<L: Ledger> Live<L> {
         ensures returned { IfErr result (λ fault. call_in fault ≡ call) }
         ensures err { OnErr result (seat.new ≡ seat.old) }
     {
-        let taken = self.office.lock(rt).desk.take(seat, call);
-        if taken.is_ok() {
-            self.moved.notify_all();
-        }
-        taken
+        self.office.lock(rt).call(&self.bells, seat, call)
     }
 
     /// Waits for a message under a name, and receives it, as one event. A turn that finds none
@@ -128,16 +125,17 @@ impl<L: Ledger> Live<L> {
         ensures came { IfOk result (λ r. r ≢ Refused MachRcvTimedOut) }
         ensures err { OnErr result (seat.new ≡ seat.old) }
     {
+        let bell = &self.bells[seat.number() as usize];
         let mut office = self.office.lock(rt);
         for _ in rt.forever() {
-            let received = office.receive(seat, name, limit)?;
-            if received.is_some() || office.are_all_idle() {
-                self.moved.notify_all();
-            }
-            if let Some(reply) = received {
+            let waited = office.waits(seat);
+            if let Some(reply) = office.receive(&self.bells, seat, name, limit)? {
                 return Ok(reply);
             }
-            office = self.moved.wait(rt, office);
+            if !waited && office.are_all_idle() {
+                ring_all(&self.bells);
+            }
+            office = bell.wait(rt, office);
         }
         unreachable!()
     }
@@ -160,20 +158,20 @@ impl<L: Ledger> Live<L> {
         ensures none { IfOk result (λ some. IfNone some (seat.new ≡ seat.old)) }
         ensures err { OnErr result (seat.new ≡ seat.old) }
     {
+        let bell = &self.bells[seat.number() as usize];
         let mut office = self.office.lock(rt);
         for _ in rt.forever() {
-            let received = office.receive(seat, name, limit)?;
+            let received = office.receive(&self.bells, seat, name, limit)?;
             if received.is_some() {
-                self.moved.notify_all();
                 return Ok(received);
             }
             if stop.load(Ordering::SeqCst) || office.are_all_idle() {
                 stop.store(true, Ordering::SeqCst);
-                office.mark(seat, Idle::No);
-                self.moved.notify_all();
+                office.go_on(seat);
+                ring_all(&self.bells);
                 return Ok(None);
             }
-            office = self.moved.wait(rt, office);
+            office = bell.wait(rt, office);
         }
         unreachable!()
     }
@@ -182,14 +180,14 @@ impl<L: Ledger> Live<L> {
     pub fn wake_all<R: Wait>(&self, rt: &R) {
         // Who has found `stop` unset waits by the time the lock is free.
         drop(self.office.lock(rt));
-        self.moved.notify_all();
+        ring_all(&self.bells);
     }
 
     /// Says that a seat makes no more calls: so none waits for a message of it. Wakes all that
     /// wait.
     pub fn leave<R: Wait>(&self, rt: &R, seat: &Seat<L>) {
-        self.office.lock(rt).mark(seat, Idle::Left);
-        self.moved.notify_all();
+        self.office.lock(rt).leave(seat);
+        ring_all(&self.bells);
     }
 
     /// Ends the server, once the threads have returned: each seat's calls and replies are in the
@@ -208,17 +206,17 @@ impl<L: Ledger> Live<L> {
     {
         let Live {
             office,
-            moved,
+            bells,
             confined,
         } = self;
-        let Office { desk, idle } = office.into_inner();
+        let Office { desk, idle, bound } = office.into_inner();
         match judge(&desk, &confined, seats.as_slice()) {
             None => Ok(desk.into_parts()),
             Some(why) => Err(Unfinished {
                 why,
                 live: Live {
-                    office: Mutex::new(Office { desk, idle }),
-                    moved,
+                    office: Mutex::new(Office { desk, idle, bound }),
+                    bells,
                     confined,
                 },
                 seats,

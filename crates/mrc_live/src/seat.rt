@@ -1,6 +1,7 @@
 //! Seats.
 
-ghost use Rattle.std.specs.Prelude.{◌≡◌, Err, IfOk, IsOk, Ok};
+ghost use Rattle.std.specs.Prelude.{◌≡◌, ◌<◌, Err, IfOk, IsOk, Ok};
+ghost use Rattle.mrc_base.specs.Limits.{limit_of_seats};
 ghost use Rattle.mrc_base.specs.Reading.{Gives};
 ghost use Rattle.mrc_base.specs.declared.memory.OrMemory.TheVariants.{Memory};
 ghost use Rattle.mrc_desc.specs.Spelling.{Spells};
@@ -29,7 +30,8 @@ pub struct Seat<L: Ledger> {
 }
 
 impl<L: Ledger> Model for Seat<L> {
-    ghost use Rattle.std.specs.Prelude.{◌≡◌, vec_len};
+    ghost use Rattle.std.specs.Prelude.{◌≡◌, ◌<◌, vec_len};
+    ghost use Rattle.mrc_base.specs.Limits.{limit_of_seats};
     ghost use Rattle.mrc_live.specs.Desks.{SeatState};
 
     ghost Value = { SeatState };
@@ -41,13 +43,15 @@ impl<L: Ledger> Model for Seat<L> {
       share = s.share.amount;
     } };
 
-    ghost invariant = { λ s. (s.share.parts ≡ 1) × (s.share.amount ≡ vec_len s.calls) };
+    ghost invariant = { λ s. (s.share.parts ≡ 1) × (s.share.amount ≡ vec_len s.calls)
+        × (s.number < limit_of_seats) };
 }
 
 impl<L: Ledger> Seat<L> {
     /// Its number at its server.
     pub fn number(&self) -> u32
-        ensures { result ≡ self.now.number }
+        ensures exact { result ≡ self.now.number }
+        ensures within { self.now.number < limit_of_seats }
     {
         self.number
     }
