@@ -5,6 +5,7 @@ use anyhow::Result;
 use mrc_check::System;
 use mrc_report::{read_script, replay};
 use std::alloc::{AllocError, Global};
+use std::str;
 
 /// Lines on one line, with `; ` between them.
 fn on_one_line(alloc: Global, lines: &str) -> Result<String, AllocError> {
@@ -43,6 +44,7 @@ pub fn events(alloc: Global, text: &str) -> Result<String> {
         Ok(script) => script,
         Err(fault) => return Ok(fault.to_string(alloc)?),
     };
-    let printed = replay(alloc, &wired, &script)?;
-    Ok(on_one_line(alloc, printed.as_str())?)
+    let mut printed = Vec::new(alloc);
+    replay(alloc, &wired, &script, &mut printed)?;
+    Ok(on_one_line(alloc, str::from_utf8(printed.as_slice())?)?)
 }

@@ -1,11 +1,11 @@
 -- Files whose texts are cut one after the other, and files that are written so.
 use Rattle.std.proofs.Common.{◌≡◌, ◌⊎◌, ℕ, ◌+◌, ◌<◌, ◌≤◌, List, [], ◌∷◌, ◌++◌, ap, ap₂, sym}
 use Rattle.std.proofs.Common.{subst, ◌∙◌}
-use Rattle.std.proofs.Common.{append_assoc, length, map, take, drop, get_or, drop-cons}
-use Rattle.std.proofs.Common.{add-one, Bor, Vec, Global, true, false, inl, inr, arith, refl}
-use Rattle.std.proofs.Common.{string_bytes, Bool}
-use Rattle.std.specs.Prelude.{Some, Result, Ok, Err, IfOk, codes, ◌||◌}
-use Rattle.std.specs.List.{All, AllZip, list_any}
+use Rattle.std.proofs.Common.{append_assoc, length, map, take, drop, get_or}
+use Rattle.std.proofs.Common.{Bor, Vec, Global, true, false, inl, inr, arith}
+use Rattle.std.proofs.Common.{string_bytes}
+use Rattle.std.specs.Prelude.{Some, Result, Ok, Err, IfOk, codes}
+use Rattle.std.specs.List.{All, AllZip}
 use Rattle.std.proofs.lemmas.Bool.{cond-true, cond-false}
 use Rattle.std.proofs.lemmas.List.{take_more, take_all, take-append-drop, map-append}
 use Rattle.std.proofs.lemmas.List.{length-map}
@@ -17,6 +17,7 @@ use Rattle.mrc_base.specs.Reading.{UnlessMemory}
 use Rattle.mrc_files.specs.declared.streams.WriteFault.{WriteFault}
 use Rattle.mrc_files.specs.Files.{Held, HasBytes, AreHeld}
 use Rattle.mrc_files.proofs.FileLaws.{zip_more}
+use Rattle.mrc_wiring.proofs.Steps.{next_is}
 use Rattle.mrc_mig_cut.specs.declared.routine.LeftOut.{LeftOut}
 use Rattle.mrc_command.specs.Lines.{fault_line, shown}
 use Rattle.mrc_command.specs.declared.told.Told.{Told}
@@ -29,19 +30,12 @@ use Rattle.mrc_program.specs.Cutting.{left_line, left_lines, same_name, mig_name
 use Rattle.mrc_program.specs.Cutting.{ToldNoCuts, AreCuts, CutsLess, CutsRefused}
 use Rattle.mrc_program.specs.declared.cuts.Uncut.{Uncut}
 
--- the next of those that are left
-pub next_left : {X : Type 0} (xs : List X) (i : ℕ) (d : X)
-    → i < length xs
-    → drop i xs ≡ get_or xs i d ∷ drop (i + 1) xs
-next_left xs i d less =
-    drop-cons xs i d less ∙ ap (λ n. get_or xs i d ∷ drop n xs) (sym (add-one i))
-
 -- those before, the one at a place, and those behind
 pub in_parts : {X : Type 0} (xs : List X) (i : ℕ) (d : X)
     → i < length xs
     → xs ≡ take i xs ++ get_or xs i d ∷ drop (i + 1) xs
 in_parts xs i d less =
-    sym (take-append-drop i xs) ∙ ap (λ rest. take i xs ++ rest) (next_left xs i d less)
+    sym (take-append-drop i xs) ∙ ap (λ rest. take i xs ++ rest) (next_is xs i d less)
 
 -- a list and one more, seen by a function
 pub map_more : {X Y : Type 0} (f : X → Y) (xs : List X) (i : ℕ) (d : X)
@@ -121,7 +115,7 @@ other_name files i d less isnt =
     let names = map (λ (file : Bor (List ℕ)). file.now) (take i files) in
     let rest = map (λ (file : Bor (List ℕ)). file.now) (drop (i + 1) files) in
     ap (λ xs. same_name_behind names (map (λ (file : Bor (List ℕ)). file.now) xs))
-    (next_left files i d less)
+    (next_is files i d less)
     ∙ cond-false _ _ _ isnt
     ∙ ap (λ xs. same_name_behind xs rest)
     (sym (map_more (λ (file : Bor (List ℕ)). file.now) files i d less))
@@ -136,7 +130,7 @@ pub name_again : (files : List (Bor (List ℕ))) (i : ℕ) (d : Bor (List ℕ))
     ≡ Some (get_or files i d).now
 name_again files i d less same =
     ap (λ xs. same_name_behind (map (λ (file : Bor (List ℕ)). file.now) (take i files))
-    (map (λ (file : Bor (List ℕ)). file.now) xs)) (next_left files i d less)
+    (map (λ (file : Bor (List ℕ)). file.now) xs)) (next_is files i d less)
     ∙ cond-true _ _ _ same
 
 -- there is room for the line of a file whose writing was refused
@@ -190,14 +184,8 @@ left_more file text line new left_out i d less so is added =
     ap (λ t. t ++ rest) added
     ∙ append_assoc text line rest
     ∙ ap (λ l. text ++ (l ++ rest)) is
-    ∙ ap (λ ls. text ++ left_lines file ls) (sym (next_left left_out i d less))
+    ∙ ap (λ ls. text ++ left_lines file ls) (sym (next_is left_out i d less))
     ∙ so
-
--- a test of what a function gives of each
-pub any_map : {X Y : Type 0} (p : Y → Bool) (f : X → Y) (xs : List X)
-    → list_any p (map f xs) ≡ list_any (λ x. p (f x)) xs
-any_map p f [] = refl
-any_map p f (x ∷ xs) = ap (λ b. p (f x) || b) (any_map p f xs)
 
 -- that two files have one name is a fault
 pub same_told : {E : Type 0} (held : Held) (files : MigFiles) (file : List ℕ)

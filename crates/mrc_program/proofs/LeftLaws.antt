@@ -4,12 +4,12 @@ use Rattle.std.proofs.Common.{append_assoc, ap, sym, ◌∙◌, Vec, Global}
 use Rattle.std.specs.Prelude.{String, string_bytes}
 use Rattle.std.specs.List.{join_by}
 use Rattle.std.proofs.lemmas.List.{append-nil, drop_all, length-map}
+use Rattle.mrc_wiring.proofs.Steps.{next_is}
 use Rattle.mrc_mig_cut.specs.Carrying.{carriers}
 use Rattle.mrc_mig_cut.proofs.CarryLemmas.{by_texts}
 use Rattle.mrc_command.specs.declared.command.FileNames.{FileNames}
 use Rattle.mrc_program.specs.Files.{defs_name}
 use Rattle.mrc_program.specs.LeftNotices.{left_notice, left_notices_from}
-use Rattle.mrc_program.proofs.CutLaws.{next_left}
 
 -- names that are joined, by their bytes
 pub names_joined : (names : List (String Global)) (between : List ℕ)
@@ -37,7 +37,7 @@ notice_more files defs i d text line new total less so is added =
     ap (λ t. t ++ rest) added
     ∙ (append_assoc text line rest
     ∙ (ap (λ l. text ++ (l ++ rest)) is
-    ∙ (ap (λ ds. text ++ left_notices_from files i (texts_of ds)) (sym (next_left defs i d less))
+    ∙ (ap (λ ds. text ++ left_notices_from files i (texts_of ds)) (sym (next_is defs i d less))
     ∙ so)))
 
 -- no file is left

@@ -1,5 +1,6 @@
 pub mod ToldLaws
 mod RunLaws
+mod FrontLaws
 mod BehindLaws
 mod HintExamples
 mod CheckedLaws

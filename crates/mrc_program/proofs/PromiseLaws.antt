@@ -3,7 +3,7 @@ use Rattle.std.proofs.Common.{◌≡◌, ◌∙◌, ℕ, Bool, true, false, List
 use Rattle.std.proofs.Common.{sym, Bor}
 use Rattle.std.specs.Prelude.{◌||◌, ◌&&◌, Option, bytes_eq}
 use Rattle.std.specs.List.{list_any}
-use Rattle.std.proofs.lemmas.Bool.{false≢true}
+use Rattle.std.proofs.lemmas.Bool.{and_parts, false≢true}
 use Rattle.std.proofs.lemmas.List.Folds.{list_any-append}
 use Rattle.std.proofs.lemmas.Slice.Eq.{bytes_eq-Decides}
 use Rattle.mrc_wiring_text.specs.declared.reading.Line.{Line}
@@ -31,11 +31,6 @@ either : (a b : Bool) → (b ≡ true → a ≡ true) → a ≡ (a || (b || fals
 either true b needs = refl
 either false false needs = refl
 either false true needs = absurd (false≢true (needs refl))
-
-both : (a b : Bool) → (a && b) ≡ true → (a ≡ true) × (b ≡ true)
-both true true e = (refl, refl)
-both true false e = absurd cc
-both false b e = absurd cc
 
 -- verbs that are the same are equal
 verbs_equal : (verb other : TrustVerb) → same_verb verb other ≡ true → verb ≡ other
@@ -73,7 +68,7 @@ pub limited_again : (some : List (Line WiringSays)) (line : Line WiringSays) (ta
     → LimitTheSame some (some ++ line ∷ [])
 limited_again some line task verb right said is =
     same_with some line (λ other by e.
-    let parts = both (bytes_eq task other) (same_verb verb by)
+    let parts = and_parts (bytes_eq task other) (same_verb verb by)
     (sym (ap (limits other by) said) ∙ e) in
     let tasks : task ≡ other = (bytes_eq-Decides task other).0 parts.0 in
     let verbs : verb ≡ by = verbs_equal verb by parts.1 in

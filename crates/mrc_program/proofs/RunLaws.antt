@@ -1,12 +1,16 @@
 -- From what is printed of files that were read to what is printed of a command.
-use Rattle.std.proofs.Common.{◌≡◌, ◌⊎◌, ◌<◌, ◌≤◌, ◌∙◌, ℕ, Bool, true, false, List, [], arith, ap}
-use Rattle.std.proofs.Common.{Result, Ok, Err, Option, inl, inr, refl, string_bytes, subst, sym}
+use Rattle.std.proofs.Common.{◌≡◌, ◌⊎◌, ◌<◌, ◌≤◌, ◌∙◌, ◌++◌, ℕ, Bool, true, false, List}
+use Rattle.std.proofs.Common.{[], Result, Ok, Err, Option, inl, inr, refl, string_bytes, subst, sym}
+use Rattle.std.proofs.Common.{ap, arith}
 use Rattle.std.specs.Prelude.{IfOk, ◌||◌}
 use Rattle.std.specs.Io.KnownBytes.{Appends}
+use Rattle.mrc_command.specs.CommandLine.{IsNoCommand}
+use Rattle.mrc_command.specs.declared.command.NoCommand.TheVariants.{Told as TextTold}
 use Rattle.mrc_command.specs.declared.command.Command.{Command}
 use Rattle.mrc_command.specs.declared.command.Command.TheVariants.{Case, Mig}
 use Rattle.mrc_command.specs.declared.command.FileNames.{FileNames}
 use Rattle.mrc_command.specs.declared.command.Format.{Format}
+use Rattle.mrc_command.specs.declared.command.Format.TheVariants.{Text}
 use Rattle.mrc_command.specs.declared.command.MigFiles.{MigFiles}
 use Rattle.mrc_command.specs.declared.command.Question.{Question}
 use Rattle.mrc_command.specs.declared.command.Question.TheVariants.{Verify, Mend, Attack, Check}
@@ -21,26 +25,127 @@ use Rattle.mrc_place.specs.declared.spots.Hint.{Hint}
 use Rattle.mrc_program.specs.declared.behind.Help.{Help}
 use Rattle.mrc_program.specs.Behind.{IsBehind, IsBehindWords, IsHelp, IsMade, IsMadeFor, HelpsWith}
 use Rattle.mrc_program.specs.Behind.{IsUncutHelp, IsUnreadHelp, is_live}
-use Rattle.mrc_program.specs.Commands.{BadWord, Fault, FaultOf, Halted, OfWords, WentOut, seen}
-use Rattle.mrc_program.specs.FaultObjects.{IsFaultObject, IsOutOfFault, IsOutOfWords, fault_object}
+use Rattle.mrc_program.specs.Commands.{BadWord, Done, DoneOf, Fault, FaultOf, Halted, HaltedOf}
+use Rattle.mrc_program.specs.Commands.{IsRest, No, NoOf, OfWords, Streams, WentOut, seen}
+use Rattle.mrc_program.specs.Cutting.{CutsOfFiles}
+use Rattle.mrc_program.specs.FaultObjects.{IsFaultObject, IsOutOfFault, IsOutOfWords}
+use Rattle.mrc_program.specs.FaultObjects.{ToldObject, fault_object}
 use Rattle.mrc_program.specs.Files.{AreRead, Files, OfFiles, Texts, all_names, word_of}
+use Rattle.mrc_program.specs.Played.{ToldHalted}
 use Rattle.mrc_program.specs.Told.{ToldMemory, ToldUnread, UnreadTold}
 use Rattle.mrc_program.proofs.GraphLaws.{unlisted_silent, undrawn_silent}
 use Rattle.mrc_program.proofs.ToldLaws.{unread_told}
 
 -- a fault of texts that were read, among all that may be printed with status 2
-pub fault_of_files : (question : Question) (held : Held) (names : FileNames) (texts : Texts)
-    (told : Told)
+pub fault_of_files : (rest : List ℕ) (question : Question) (held : Held) (names : FileNames)
+    (texts : Texts) (told : Told)
     → AreRead held names texts
     → (told.status ≡ 2
-    → ToldMemory told ⊎ Fault question record { names = names; texts = texts } told)
+    → ToldMemory told ⊎ Fault rest question record { names = names; texts = texts } told)
     → told.status ≡ 2
     → ToldMemory told ⊎ (BadWord question told ⊎ (ToldUnread held (all_names names) told
-    ⊎ OfFiles (Fault question) held names told))
-fault_of_files question held names texts told are tells two = elim (tells two) [
+    ⊎ OfFiles (Fault rest question) held names told))
+fault_of_files rest question held names texts told are tells two = elim (tells two) [
   | inl memory ↦ inl memory
   | inr fault ↦ inr (inr (inr record { texts = texts; are_read = are; tells = fault }))
 ]
+
+-- an answer to a question about texts that were read, with what may be printed behind it
+pub done_of_files : (rest : List ℕ) (question : Question) (held after : Held) (names : FileNames)
+    (texts : Texts) (told : Told)
+    → AreRead held names texts
+    → IsRest rest question record { names = names; texts = texts } told
+    → (told.status ≡ 0 → Done after rest question record { names = names; texts = texts } told)
+    → told.status ≡ 0
+    → DoneOf held after rest (Case names question) told
+done_of_files rest question held after names texts told are may tells nought = (
+  record { texts = texts; are_read = are; tells = tells nought },
+  elim may [
+    | inl nothing ↦ inl nothing
+    | inr (inl goes) ↦ inr goes.1
+    | inr (inr halts) ↦ let two = halts.0 in absurd (omega (arith, nought, two))
+  ],
+)
+
+pub no_of_files : (rest : List ℕ) (question : Question) (held : Held) (names : FileNames)
+    (texts : Texts) (told : Told)
+    → AreRead held names texts
+    → IsRest rest question record { names = names; texts = texts } told
+    → (told.status ≡ 1 → No question record { names = names; texts = texts } told)
+    → told.status ≡ 1
+    → NoOf held rest (Case names question) told
+no_of_files rest question held names texts told are may tells one = (
+  record { texts = texts; are_read = are; tells = tells one },
+  elim may [
+    | inl nothing ↦ nothing
+    | inr (inl goes) ↦ let nought = goes.0 in absurd (omega (arith, nought, one))
+    | inr (inr halts) ↦ let two = halts.0 in absurd (omega (arith, one, two))
+  ],
+)
+
+pub rest_of_files : (rest : List ℕ) (question : Question) (held : Held) (names : FileNames)
+    (texts : Texts) (told : Told)
+    → AreRead held names texts
+    → IsRest rest question record { names = names; texts = texts } told
+    → told.status ≡ 2
+    → (rest ≡ []) ⊎ HaltedOf held rest (Case names question) told
+rest_of_files rest question held names texts told are may two = elim may [
+  | inl nothing ↦ inl nothing
+  | inr (inl goes) ↦ let nought = goes.0 in absurd (omega (arith, nought, two))
+  | inr (inr halts) ↦ inr record { texts = texts; are_read = are; tells = halts.1 }
+]
+
+-- if nothing is printed behind an answer
+pub no_rest : {E : Type 0} (rest : List ℕ) (question : Question) (files : Files)
+    (result : Result Told E)
+    → rest ≡ []
+    → IfOk result (IsRest rest question files)
+no_rest rest question files (Ok told) none = inl none
+no_rest rest question files (Err e) none = tt
+
+pub none_or : {E : Type 0} (A : Type 0) (B : Told → Type 0) (result : Result Told E)
+    → A
+    → IfOk result (λ told. told.status ≡ 2 → A ⊎ B told)
+none_or A B (Ok told) none = λ two. inl none
+none_or A B (Err e) none = tt
+
+-- what is printed behind the answer of a replay, and of a run
+pub replay_rest : {E : Type 0} (rest : List ℕ) (question : Question) (files : Files)
+    (result : Result Told E)
+    → question ≡ Replay
+    → IfOk result (λ told. (told.status ≡ 0) ⊎ (told.status ≡ 2))
+    → IfOk result (λ told. told.status ≡ 2 → rest ≡ [])
+    → IfOk result (IsRest rest question files)
+replay_rest rest question files (Err e) is status none = tt
+replay_rest rest question files (Ok told) is status none = elim status [
+  | inl nought ↦ inr (inl (nought, subst Streams (sym is) tt))
+  | inr two ↦ inl (none two)
+]
+
+pub live_rest : {E : Type 0} (rest : List ℕ) (question : Question) (files : Files)
+    (result : Result Told E)
+    → question ≡ Live
+    → IfOk result (λ told. (rest ≡ [])
+    ⊎ ((told.status ≡ 0) ⊎ ((told.status ≡ 2) × ToldHalted rest files told)))
+    → IfOk result (IsRest rest question files)
+live_rest rest question files (Err e) is may = tt
+live_rest rest question files (Ok told) is may = elim may [
+  | inl nothing ↦ inl nothing
+  | inr (inl nought) ↦ inr (inl (nought, subst Streams (sym is) tt))
+  | inr (inr halts) ↦
+      inr (inr (halts.0, subst (λ q. Halted rest q files told) (sym is) halts.1))
+]
+
+-- what MIG files are cut to: nothing is printed behind it
+pub done_of_mig : {E : Type 0} (held after : Held) (rest : List ℕ) (command : Command)
+    (files : MigFiles) (result : Result Told E)
+    → command ≡ Mig files
+    → rest ≡ []
+    → IfOk result (λ told. told.status ≡ 0 → CutsOfFiles held after files told)
+    → IfOk result (λ told. told.status ≡ 0 → DoneOf held after rest command told)
+done_of_mig held after rest command files (Err e) is none done = tt
+done_of_mig held after rest command files (Ok told) is none done = λ nought.
+    subst (λ c. DoneOf held after rest c told) (sym is) (done nought, none)
 
 -- what helps with a fault of texts that were read
 pub made_files : (wanted : Bool) (held : Held) (names : FileNames) (texts : Texts)
@@ -92,36 +197,36 @@ made_uncut wanted held files help (Ok told) made = elim made [
 
 -- with a fault of files nothing goes to standard output, except a journal after which no task can
 -- go on
-files_silent : (question : Question) (files : Files) (told : Told)
-    → Fault question files told
-    → (string_bytes told.out ≡ []) ⊎ Halted question files told
-files_silent (Verify showing) files told fault = inl (elim fault [
+files_silent : (rest : List ℕ) (question : Question) (files : Files) (told : Told)
+    → Fault rest question files told
+    → (string_bytes told.out ≡ []) ⊎ Halted rest question files told
+files_silent rest (Verify showing) files told fault = inl (elim fault [
   | inl texts ↦ texts.is.out
   | inr line ↦ line.is.out
 ])
-files_silent (Mend most format) files told fault = inl fault.is.out
-files_silent (Attack line most) files told fault = inl (elim fault [
+files_silent rest (Mend most format) files told fault = inl fault.is.out
+files_silent rest (Attack line most) files told fault = inl (elim fault [
   | inl texts ↦ texts.is.out
   | inr line ↦ line.is.out
 ])
-files_silent (Check verbose format) files told fault = inl fault.is.out
-files_silent (Make out workers) files told fault = inl (elim fault [
+files_silent rest (Check verbose format) files told fault = inl fault.is.out
+files_silent rest (Make out workers) files told fault = inl (elim fault [
   | inl texts ↦ texts.is.out
   | inr (inl unwritten) ↦ unwritten.out
   | inr (inr many) ↦ many.is.out
 ])
-files_silent (Explain fact by format) files told fault = inl (elim fault [
+files_silent rest (Explain fact by format) files told fault = inl (elim fault [
   | inl texts ↦ texts.is.out
   | inr bad ↦ bad.tells.out
 ])
-files_silent (Facts task class right format) files told fault =
+files_silent rest (Facts task class right format) files told fault =
     inl (unlisted_silent (word_of task) (word_of class) (word_of right) files told fault)
-files_silent (Graph fact task holds) files told fault =
+files_silent rest (Graph fact task holds) files told fault =
     inl (undrawn_silent (word_of fact) (word_of task) files told fault)
-files_silent Slots files told fault = inl fault.is.out
-files_silent Promises files told fault = inl fault.is.out
-files_silent Replay files told fault = inl fault.is.out
-files_silent Live files told fault = elim fault [
+files_silent rest Slots files told fault = inl fault.is.out
+files_silent rest Promises files told fault = inl fault.is.out
+files_silent rest Replay files told fault = inl fault.is.out
+files_silent rest Live files told fault = elim fault [
   | inl texts ↦ inl texts.is.out
   | inr (inl script) ↦ inl script.is.out
   | inr (inr halted) ↦ inr halted
@@ -146,38 +251,53 @@ word_silent Promises told bad = absurd bad
 word_silent Replay told bad = absurd bad
 word_silent Live told bad = absurd bad
 
--- what goes to standard output with a fault of a command, without the object of the fault
-silent : (shows : Bool) (held : Held) (command : Command) (behind : List ℕ) (told : Told)
-    → FaultOf held command told
-    → IsOutOfFault shows held command behind told
-silent shows held (Case names question) behind told fault = elim fault [
-  | inl memory ↦ inl memory.out
-  | inr (inl word) ↦ inl (word_silent question told word)
-  | inr (inr (inl unread)) ↦ inl unread.is.out
-  | inr (inr (inr files)) ↦ elim (files_silent question
-      record { names = names; texts = files.texts } told files.tells) [
-        | inl nothing ↦ inl nothing
-        | inr halted ↦ inr (inl record {
-          texts = files.texts;
-          are_read = files.are_read;
-          tells = halted;
-        })
+-- texts of which neither has anything
+none_at_all : (text rest : List ℕ) → text ≡ [] → rest ≡ [] → text ++ rest ≡ []
+none_at_all text rest none also = ap (λ x. x ++ rest) none ∙ also
+
+-- what goes to standard output with a fault of a command, without the object of the fault, if
+-- nothing is printed behind it
+silent : (shows : Bool) (held : Held) (command : Command) (behind rest : List ℕ) (told : Told)
+    → rest ≡ []
+    → FaultOf held rest command told
+    → IsOutOfFault shows held command behind rest told
+silent shows held (Case names question) behind rest told none fault =
+    let quiet : string_bytes told.out ≡ [] → string_bytes told.out ++ rest ≡ [] =
+    λ out. none_at_all (string_bytes told.out) rest out none in
+    elim fault [
+      | inl memory ↦ inl (quiet memory.out)
+      | inr (inl word) ↦ inl (quiet (word_silent question told word))
+      | inr (inr (inl unread)) ↦ inl (quiet unread.is.out)
+      | inr (inr (inr files)) ↦ elim (files_silent rest question
+          record { names = names; texts = files.texts } told files.tells) [
+            | inl nothing ↦ inl (quiet nothing)
+            | inr halted ↦ inr (inl record {
+              texts = files.texts;
+              are_read = files.are_read;
+              tells = halted;
+            })
+          ]
+    ]
+silent shows held (Mig files) behind rest told none fault =
+    let quiet : string_bytes told.out ≡ [] → string_bytes told.out ++ rest ≡ [] =
+    λ out. none_at_all (string_bytes told.out) rest out none in
+    elim fault [
+      | inl memory ↦ inl (quiet memory.out)
+      | inr (inl unread) ↦ inl (quiet unread.is.out)
+      | inr (inr (inl texts)) ↦ elim texts.tells [
+        | inl uncut ↦ inl (quiet uncut.out)
+        | inr (inl less) ↦ inr (inr (inl (
+          record {
+            texts = texts.texts;
+            are_held = texts.are_held;
+            tells = less;
+          },
+          none,
+        )))
+        | inr (inr refused) ↦ inl (quiet refused.1.tells.tells.out)
       ]
-]
-silent shows held (Mig files) behind told fault = elim fault [
-  | inl memory ↦ inl memory.out
-  | inr (inl unread) ↦ inl unread.is.out
-  | inr (inr (inl texts)) ↦ elim texts.tells [
-    | inl uncut ↦ inl uncut.out
-    | inr (inl less) ↦ inr (inr (inl record {
-      texts = texts.texts;
-      are_held = texts.are_held;
-      tells = less;
-    }))
-    | inr (inr refused) ↦ inl refused.1.tells.tells.out
-  ]
-  | inr (inr (inr same)) ↦ inl same.out
-]
+      | inr (inr (inr same)) ↦ inl (quiet same.out)
+    ]
 
 -- with the object of a fault another status than 2 is that of an answer which is not changed
 pub same_answer : (P : Told → Type 0) (status : ℕ) (format : Format) (word : List ℕ) (hint : Hint)
@@ -232,25 +352,36 @@ helps_same held (Mig files) told new help same helps = elim helps [
   | inr uncut ↦ inr (subst (λ line. IsUncutHelp line help) (sym same) uncut)
 ]
 
--- what goes to standard output with status 2, once the object of the fault is there
-pub out_of_fault : (shows wanted : Bool) (held : Held) (command : Command) (format : Format)
+-- a journal after which no task can go on is for people
+halted_is_text : (held : Held) (rest : List ℕ) (command : Command) (told : Told)
+    → HaltedOf held rest command told
+    → asked_format command ≡ Text
+halted_is_text held rest (Case names (Verify showing)) told halted = absurd halted.tells
+halted_is_text held rest (Case names (Mend most format)) told halted = absurd halted.tells
+halted_is_text held rest (Case names (Attack line most)) told halted = absurd halted.tells
+halted_is_text held rest (Case names (Check verbose format)) told halted = absurd halted.tells
+halted_is_text held rest (Case names (Make out workers)) told halted = absurd halted.tells
+halted_is_text held rest (Case names (Explain fact by format)) told halted = absurd halted.tells
+halted_is_text held rest (Case names (Facts task class right format)) told halted =
+    absurd halted.tells
+halted_is_text held rest (Case names (Graph fact task holds)) told halted = absurd halted.tells
+halted_is_text held rest (Case names Slots) told halted = absurd halted.tells
+halted_is_text held rest (Case names Promises) told halted = absurd halted.tells
+halted_is_text held rest (Case names Replay) told halted = absurd halted.tells
+halted_is_text held rest (Case names Live) told halted = refl
+halted_is_text held rest (Mig files) told halted = absurd halted
+
+-- the object of a fault is printed, with what helps with it
+object_told : (shows wanted : Bool) (held : Held) (command : Command) (format : Format)
     (word behind : List ℕ) (help : Help) (told new : Told)
     → format ≡ asked_format command
     → word ≡ command_word command
     → IsMadeFor wanted held command help told
-    → (told.status ≡ 2 → FaultOf held command told)
-    → (new ≡ told) ⊎ IsFaultObject format word help.hint told new
+    → IsFaultObject format word help.hint told new
     → (shows ≡ true → behind ≡ string_bytes help.text)
-    → new.status ≡ 2
-    → IsOutOfFault shows held command behind new
-out_of_fault shows wanted held command format word behind help told new form named made fault
-    (inl same) text two =
-    subst (IsOutOfFault shows held command behind) (sym same)
-    (silent shows held command behind told
-    (fault (ap (λ (t : Told). t.status) (sym same) ∙ two)))
-out_of_fault shows wanted held command format word behind help told new form named made fault
-    (inr object) text two =
-    inr (inr (inr record {
+    → ToldObject shows held command behind new
+object_told shows wanted held command format word behind help told new form named made object
+    text = record {
       help = help;
       helps = elim made [
         | inl none ↦ inl none
@@ -261,26 +392,77 @@ out_of_fault shows wanted held command format word behind help told new form nam
           ∙ ap (λ err. fault_object format word err help.hint) (sym object.err)
           ∙ ap (λ f. fault_object f word (string_bytes new.err) help.hint) form
           ∙ ap (λ w. fault_object (asked_format command) w (string_bytes new.err) help.hint) named;
-    }))
+    }
+
+-- what goes to standard output with status 2, once the object of the fault is there
+pub out_of_fault : (shows wanted : Bool) (held : Held) (command : Command) (format : Format)
+    (word behind rest : List ℕ) (help : Help) (told new : Told)
+    → format ≡ asked_format command
+    → word ≡ command_word command
+    → IsMadeFor wanted held command help told
+    → (told.status ≡ 2 → FaultOf held rest command told)
+    → (told.status ≡ 2 → (rest ≡ []) ⊎ HaltedOf held rest command told)
+    → (new ≡ told) ⊎ IsFaultObject format word help.hint told new
+    → (format ≡ Text → new ≡ told)
+    → (shows ≡ true → behind ≡ string_bytes help.text)
+    → new.status ≡ 2
+    → IsOutOfFault shows held command behind rest new
+out_of_fault shows wanted held command format word behind rest help told new form named made fault
+    may is people text two =
+    let was = sym (same_status format word help.hint told new is) ∙ two in
+    elim (may was) [
+      | inl none ↦ elim is [
+        | inl same ↦ subst (IsOutOfFault shows held command behind rest) (sym same)
+            (silent shows held command behind rest told none (fault was))
+        | inr object ↦ inr (inr (inr (
+          object_told shows wanted held command format word behind help told new form named made
+              object text,
+          none,
+        )))
+      ]
+      | inr halted ↦
+          let same = people (form ∙ halted_is_text held rest command told halted) in
+          inr (inl (subst (HaltedOf held rest command) (sym same) halted))
+    ]
 
 -- the same of the words that ask for the command
 pub out_of_words : {E : Type 0} (out err : Bool) (held : Held) (words : List (List ℕ))
-    (behind : List ℕ) (request : Request) (shows : Bool) (command : Command)
+    (behind rest : List ℕ) (request : Request) (shows : Bool) (command : Command)
     (result : Result Told E)
     → Means words request
     → shows ≡ (request.verbose || err)
     → command ≡ seen out request.command
-    → IfOk result (λ told. told.status ≡ 2 → IsOutOfFault shows held command behind told)
-    → IfOk result (λ told. told.status ≡ 2 → (string_bytes told.out ≡ [])
-    ⊎ IsOutOfWords out err held words behind told)
-out_of_words out err held words behind request shows command (Err e) means is so fault = tt
-out_of_words out err held words behind request shows command (Ok told) means is so fault =
+    → IfOk result (λ told. told.status ≡ 2 → IsOutOfFault shows held command behind rest told)
+    → IfOk result (λ told. told.status ≡ 2 → (string_bytes told.out ++ rest ≡ [])
+    ⊎ IsOutOfWords out err held words behind rest told)
+out_of_words out err held words behind rest request shows command (Err e) means is so fault = tt
+out_of_words out err held words behind rest request shows command (Ok told) means is so fault =
     λ two. inr (
       request,
       means,
-      subst (λ s. IsOutOfFault s held (seen out request.command) behind told) is
-          (subst (λ c. IsOutOfFault shows held c behind told) so (fault two)),
+      subst (λ s. IsOutOfFault s held (seen out request.command) behind rest told) is
+          (subst (λ c. IsOutOfFault shows held c behind rest told) so (fault two)),
     )
+
+-- a fault of which nothing goes to standard output
+pub no_text : {E : Type 0} (rest : List ℕ) (Other : Told → Type 0) (result : Result Told E)
+    → rest ≡ []
+    → IfOk result (λ told. string_bytes told.out ≡ [])
+    → IfOk result (λ told. told.status ≡ 2 → (string_bytes told.out ++ rest ≡ []) ⊎ Other told)
+no_text rest Other (Err e) none out = tt
+no_text rest Other (Ok told) none out =
+    λ two. inl (none_at_all (string_bytes told.out) rest out none)
+
+-- nor with one of the words
+pub no_command : (rest : List ℕ) (words : List (List ℕ)) (Other : Told → Type 0) (told : Told)
+    → rest ≡ []
+    → IsNoCommand words (TextTold told)
+    → told.status ≡ 2
+    → (string_bytes told.out ++ rest ≡ []) ⊎ Other told
+no_command rest words Other told none is two = elim is [
+  | inl help ↦ let nought = help.0 in absurd (omega (arith, nought, two))
+  | inr fault ↦ inl (none_at_all (string_bytes told.out) rest fault.1 none)
+]
 
 -- what is printed behind a fault of what helps with it, if that is shown
 pub behind_shown : (shows wanted : Bool) (held : Held) (command : Command) (format : Format)
@@ -308,15 +490,15 @@ behind_shown true wanted held command format word help told new text made is sho
     ]
 
 -- what is printed of the first file that can't be read, among all that may be printed with status 2
-pub unread_of_files : {E : Type 0} (question : Question) (held : Held) (names : FileNames)
-    (file : List ℕ) (fault : ReadFault) (result : Result Told E)
+pub unread_of_files : {E : Type 0} (rest : List ℕ) (question : Question) (held : Held)
+    (names : FileNames) (file : List ℕ) (fault : ReadFault) (result : Result Told E)
     → IsFirstUnread held (all_names names) file
     → IfOk result (UnreadTold file fault)
     → IfOk result (λ told. told.status ≡ 2
     → ToldMemory told ⊎ (BadWord question told ⊎ (ToldUnread held (all_names names) told
-    ⊎ OfFiles (Fault question) held names told)))
-unread_of_files question held names file fault (Err e) first is = tt
-unread_of_files question held names file fault (Ok told) first is =
+    ⊎ OfFiles (Fault rest question) held names told)))
+unread_of_files rest question held names file fault (Err e) first is = tt
+unread_of_files rest question held names file fault (Ok told) first is =
     λ two. elim (unread_told held (all_names names) file fault told first is) [
       | inl memory ↦ inl memory
       | inr unread ↦ inr (inr (inl unread))
@@ -372,9 +554,10 @@ behind_seen out err held words text request shows command (Ok told) means is so 
     )
 
 -- what is printed of a command goes out
-pub went_out : (watched : Bool) (words : List (List ℕ)) (Tells : Command → Told → Type 0)
-    (told : Told) (old new : Option (List ℕ))
-    → OfWords watched words Tells told
-    → Appends old new (string_bytes told.out)
+pub went_out : (watched : Bool) (words : List (List ℕ)) (Tells : List ℕ → Command → Told → Type 0)
+    (told : Told) (rest : List ℕ) (old new : Option (List ℕ))
+    → OfWords watched words (Tells rest) told
+    → Appends old new (string_bytes told.out ++ rest)
     → WentOut watched words Tells old new
-went_out watched words Tells told old new said out = record { told = told; tells = said; out = out }
+went_out watched words Tells told rest old new said out =
+    record { told = told; rest = rest; tells = said; out = out }

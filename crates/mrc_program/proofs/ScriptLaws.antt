@@ -1,6 +1,6 @@
 -- From what a reader of scripts answers to what a script says.
-use Rattle.std.proofs.Common.{◌≡◌, ◌⊎◌, ◌∙◌, ℕ, Bool, List, [], Result, Ok, Err, inl, inr, refl}
-use Rattle.std.proofs.Common.{ap, sym, subst, string_bytes}
+use Rattle.std.proofs.Common.{◌≡◌, ◌⊎◌, ◌∙◌, ◌++◌, ℕ, Bool, List, [], Result, Ok, Err, inl, inr}
+use Rattle.std.proofs.Common.{ap, refl, sym, subst, string_bytes}
 use Rattle.std.specs.Prelude.{IfOk}
 use Rattle.std.specs.Str.{IsUtf8, is_utf8}
 use Rattle.std.proofs.lemmas.Bool.{false_from_ne_true}
@@ -22,12 +22,19 @@ use Rattle.mrc_check.specs.Verdict.{Case}
 use Rattle.mrc_command.specs.Lines.{fault_line}
 use Rattle.mrc_command.specs.declared.command.FileNames.{FileNames}
 use Rattle.mrc_command.specs.declared.told.Told.{Told}
+use Rattle.mrc_report.proofs.ReplayLaws.{replay_told}
+use Rattle.mrc_report.specs.Halts.{IsHalted}
+use Rattle.mrc_report.specs.Journal.{IsLive}
+use Rattle.mrc_report.specs.Printing.{waits_text}
+use Rattle.mrc_report.specs.Replay.{IsReplay, replay_text}
 use Rattle.mrc_report.specs.declared.script.TaskCall.{TaskCall}
 use Rattle.mrc_report.specs.Scripts.{script_of}
+use Rattle.mrc_program.specs.declared.replay.WiredScript.{WiredScript}
 use Rattle.mrc_program.specs.Files.{Texts, Files, given}
 use Rattle.mrc_program.specs.Texts.{script, file_of, AreAccepted}
 use Rattle.mrc_program.specs.Told.{ToldMemory, ToldFile, RefusalTold}
-use Rattle.mrc_program.specs.Played.{script_name, ToldOfScript, ToldHalted}
+use Rattle.mrc_program.specs.Played.{ToldHalted, ToldOfScript, ToldReplay, ToldRun, ToldWaits}
+use Rattle.mrc_program.specs.Played.{script_name, scripted}
 
 -- what bytes say
 abbrev said_by : Bool → Table → List ℕ → Result (List (Line TaskCall)) TextFault
@@ -101,7 +108,7 @@ in_script {A} (Err f) fault names e =
     subst (λ m. file_of names m ≡ script_name names) (one_fault {A = A} (InScript f) fault e) refl
 
 -- a fault of the script of texts that the checker accepts is one of its file
-pub of_script : {E : Type 0} (files : Files) (judged : Case) (names : FileNames)
+pub of_script : {E : Type 0} (rest : List ℕ) (files : Files) (judged : Case) (names : FileNames)
     (said : Result (List (Line TaskCall)) TextFault) (refusal : OrMemory CaseFault)
     (r : Result Told E)
     → names ≡ files.names
@@ -109,16 +116,16 @@ pub of_script : {E : Type 0} (files : Files) (judged : Case) (names : FileNames)
     → UnlessMemory (λ f. step InScript said ≡ Err (meaningless f)) refusal
     → IfOk r (RefusalTold names refusal)
     → IfOk r (λ told. told.status ≡ 2
-    → ToldMemory told ⊎ (ToldOfScript files told ⊎ ToldHalted files told))
-of_script files judged names said (Fault f) (Ok told) same accepted says is = λ two.
+    → ToldMemory told ⊎ (ToldOfScript files told ⊎ ToldHalted rest files told))
+of_script rest files judged names said (Fault f) (Ok told) same accepted says is = λ two.
     let file = in_script said (meaningless f) names says ∙ ap script_name same in
     inr (inl record {
       judged = judged;
       accepted = accepted;
       is = subst (λ (name : List ℕ). ToldFile name told) file is;
     })
-of_script files judged names said Memory (Ok told) same accepted says is = λ two. inl is
-of_script files judged names said refusal (Err e) same accepted says is = tt
+of_script rest files judged names said Memory (Ok told) same accepted says is = λ two. inl is
+of_script rest files judged names said refusal (Err e) same accepted says is = tt
 
 -- a fault of a file, whatever else may be printed
 pub of_run : {E : Type 0} (file fault : List ℕ) (Other : Told → Type 0) (r : Result Told E)
@@ -128,3 +135,94 @@ pub of_run : {E : Type 0} (file fault : List ℕ) (Other : Told → Type 0) (r :
 of_run file fault Other (Ok told) out err =
     λ two. inr (inl record { out = out; err = (fault, err) })
 of_run file fault Other (Err e) out err = tt
+
+-- a text that is printed behind none
+behind_none : (text rest whole : List ℕ) → text ≡ [] → rest ≡ whole → text ++ rest ≡ whole
+behind_none text rest whole none is = ap (λ x. x ++ rest) none ∙ is
+
+-- the replay of texts is printed
+pub replay_so : (files : Files) (told : Told) (rest : List ℕ) (both : WiredScript)
+    → scripted files.texts ≡ Ok both
+    → rest ≡ replay_text both.wired both.script
+    → string_bytes told.out ≡ []
+    → string_bytes told.err ≡ []
+    → ToldReplay rest files told
+replay_so files told rest both says is out err = record {
+  both = both;
+  says = says;
+  out = subst (IsReplay both.wired both.script)
+      (sym (behind_none (string_bytes told.out) rest (replay_text both.wired both.script) out is))
+      (replay_told both.wired both.script);
+  err = err;
+}
+
+-- the journal of a run is printed
+pub run_so : (table : Table) (lines : List (Line TaskCall)) (told : Told) (rest ran : List ℕ)
+    → IsLive table lines ran
+    → rest ≡ ran
+    → string_bytes told.out ≡ []
+    → string_bytes told.err ≡ []
+    → ToldRun rest table lines told
+run_so table lines told rest ran live is out err = record {
+  out = subst (IsLive table lines)
+      (sym (behind_none (string_bytes told.out) rest ran out is)) live;
+  err = err;
+}
+
+-- and that of one after which no task can go on
+waits_so : (table : Table) (lines : List (Line TaskCall)) (told : Told) (rest ran file : List ℕ)
+    (waits : List ℕ)
+    → IsHalted table lines waits ran
+    → rest ≡ ran
+    → string_bytes told.out ≡ []
+    → string_bytes told.err ≡ fault_line file (waits_text waits)
+    → ToldWaits rest file table lines told
+waits_so table lines told rest ran file waits halted is out err = record {
+  waits = waits;
+  out = subst (IsHalted table lines waits)
+      (sym (behind_none (string_bytes told.out) rest ran out is)) halted;
+  err = err;
+}
+
+pub waits_fault : {E : Type 0} (table : Table) (lines : List (Line TaskCall))
+    (rest ran file waits : List ℕ) (r : Result Told E)
+    → IsHalted table lines waits ran
+    → rest ≡ ran
+    → IfOk r (λ told. string_bytes told.out ≡ [])
+    → IfOk r (λ told. string_bytes told.err ≡ fault_line file (waits_text waits))
+    → IfOk r (λ told. told.status ≡ 2 → ToldMemory told
+    ⊎ (ToldFile file told ⊎ ToldWaits rest file table lines told))
+waits_fault table lines rest ran file waits (Err e) halted is out err = tt
+waits_fault table lines rest ran file waits (Ok told) halted is out err =
+    λ two. inr (inr (waits_so table lines told rest ran file waits halted is out err))
+
+pub waits_rest : {E : Type 0} (table : Table) (lines : List (Line TaskCall))
+    (rest ran file waits : List ℕ) (r : Result Told E)
+    → IsHalted table lines waits ran
+    → rest ≡ ran
+    → IfOk r (λ told. string_bytes told.out ≡ [])
+    → IfOk r (λ told. string_bytes told.err ≡ fault_line file (waits_text waits))
+    → IfOk r (λ told. told.status ≡ 2 → (rest ≡ []) ⊎ ToldWaits rest file table lines told)
+waits_rest table lines rest ran file waits (Err e) halted is out err = tt
+waits_rest table lines rest ran file waits (Ok told) halted is out err =
+    λ two. inr (waits_so table lines told rest ran file waits halted is out err)
+
+-- what may be printed behind an answer of a `live`
+pub live_may : {E : Type 0} (rest : List ℕ) (Halts : Told → Type 0) (r : Result Told E)
+    → IfOk r (λ told. (told.status ≡ 0) ⊎ (told.status ≡ 2))
+    → IfOk r (λ told. told.status ≡ 2 → (rest ≡ []) ⊎ Halts told)
+    → IfOk r (λ told. (rest ≡ []) ⊎ ((told.status ≡ 0) ⊎ ((told.status ≡ 2) × Halts told)))
+live_may rest Halts (Err e) status may = tt
+live_may rest Halts (Ok told) status may = elim status [
+  | inl nought ↦ inr (inl nought)
+  | inr two ↦ elim (may two) [
+    | inl none ↦ inl none
+    | inr halts ↦ inr (inr (two, halts))
+  ]
+]
+
+pub none_may : {E : Type 0} (rest : List ℕ) (Other : Told → Type 0) (r : Result Told E)
+    → rest ≡ []
+    → IfOk r (λ told. (rest ≡ []) ⊎ Other told)
+none_may rest Other (Ok told) none = inl none
+none_may rest Other (Err e) none = tt

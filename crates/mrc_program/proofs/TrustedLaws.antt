@@ -3,10 +3,10 @@ use Rattle.std.proofs.Common.{◌≡◌, ◌∙◌, ℕ, ◌+◌, ◌<◌, ◌�
 use Rattle.std.proofs.Common.{append_assoc, ap, sym}
 use Rattle.std.proofs.lemmas.List.{append-nil, drop_all}
 use Rattle.std.proofs.lemmas.Option.{slice_get-get_or}
+use Rattle.mrc_wiring.proofs.Steps.{next_is}
 use Rattle.mrc_wiring.specs.Table.{Table}
 use Rattle.mrc_words.specs.Words.{task_text, task_word}
 use Rattle.mrc_program.specs.Trusted.{is_trusted, name_if, trusted_from, trusted_names}
-use Rattle.mrc_program.proofs.CutLaws.{next_left}
 
 -- the task of a number is printed by its name
 word_is : (table : Table) (t : ℕ) → t < length table.names
@@ -25,7 +25,7 @@ name_more table names new t less so added =
     ap (λ ns. ns ++ rest) added
     ∙ (append_assoc names (one (task_word table t)) rest
     ∙ (ap (λ name. names ++ (one name ++ rest)) (word_is table t less)
-    ∙ (ap (λ ns. names ++ trusted_from table.trusts t ns) (sym (next_left table.names t [] less))
+    ∙ (ap (λ ns. names ++ trusted_from table.trusts t ns) (sym (next_is table.names t [] less))
     ∙ so)))
 
 -- no task is left

@@ -1,6 +1,6 @@
 -- What the program prints of a command, by its status: 0 of what was asked for, 1 of a no, 2 of a
 -- fault; and what it is asked for at a terminal. This profile's own choice.
-use Rattle.std.specs.Prelude.{◌⊎◌, List, [], ℕ, Bool, Option, false, ◌||◌, codes}
+use Rattle.std.specs.Prelude.{◌≡◌, ◌⊎◌, List, [], ◌++◌, ℕ, Bool, Option, false, ◌||◌, codes}
 use Rattle.std.specs.Prelude.{string_bytes}
 use Rattle.std.specs.Io.KnownBytes.{Appends}
 use Rattle.mrc_command.specs.declared.told.Told.{Told}
@@ -30,23 +30,24 @@ use Rattle.mrc_program.specs.Played.{scripted, ToldReplay, ToldLive, ToldUnserve
 use Rattle.mrc_program.specs.Cutting.{CutsOfFiles, RefusedOfFiles, FaultOfMig}
 
 -- with status 0 of files: a yes, mends, the making of a certificate, a chain, facts, a drawing,
--- slots, what has to be found in the code of trusted tasks, a replay, or a journal
-abbrev pub Done : Held → Question → Files → Told → Type 0
-Done after (Verify showing) files told =
+-- slots, what has to be found in the code of trusted tasks, a replay, or a journal. `rest` is what
+-- is printed behind the text of a replay or of a journal, as it is made.
+abbrev pub Done : Held → List ℕ → Question → Files → Told → Type 0
+Done after rest (Verify showing) files told =
     ToldAllowed (codes "verify") showing.format files told
-Done after (Mend most format) files told = ToldMends most format files told
-Done after (Attack line most) files told = ToldUnattacked line files told
-Done after (Check verbose format) files told = ToldYes format files told
-Done after (Make out workers) files told = ToldMade out.now after files told
-Done after (Explain fact by format) files told = ToldChain fact.now by format files told
-Done after (Facts task class right format) files told =
+Done after rest (Mend most format) files told = ToldMends most format files told
+Done after rest (Attack line most) files told = ToldUnattacked line files told
+Done after rest (Check verbose format) files told = ToldYes format files told
+Done after rest (Make out workers) files told = ToldMade out.now after files told
+Done after rest (Explain fact by format) files told = ToldChain fact.now by format files told
+Done after rest (Facts task class right format) files told =
     ToldFacts (word_of task) (word_of class) (word_of right) format files told
-Done after (Graph fact task holds) files told =
+Done after rest (Graph fact task holds) files told =
     ToldGraph (word_of fact) (word_of task) holds files told
-Done after Slots files told = ToldSlots files told
-Done after Promises files told = ToldPromises files told
-Done after Replay files told = ToldReplay files told
-Done after Live files told = ToldLive files told
+Done after rest Slots files told = ToldSlots files told
+Done after rest Promises files told = ToldPromises files told
+Done after rest Replay files told = ToldReplay rest files told
+Done after rest Live files told = ToldLive rest files told
 
 -- with status 1 of files: a no, attacks, that no chain leads to a fact, or that no mend was found;
 -- never of a `make`, a `slots`, a `promises` or a `replay`
@@ -65,25 +66,26 @@ No Replay files told = ⊥
 No Live files told = ToldNo [] false Text files told
 
 -- with status 2 of files that were read, unless memory ran out: a text has no meaning, a word names
--- nothing, or what was asked for can't be done
-abbrev pub Fault : Question → Files → Told → Type 0
-Fault (Verify showing) files told =
+-- nothing, or what was asked for can't be done. `rest` is what is printed of a journal after which
+-- no task can go on.
+abbrev pub Fault : List ℕ → Question → Files → Told → Type 0
+Fault rest (Verify showing) files told =
     ToldFault (stated files.texts) files.names told ⊎ ToldNotBroken showing.line files told
-Fault (Mend most format) files told = ToldFault (stated files.texts) files.names told
-Fault (Attack line most) files told =
+Fault rest (Mend most format) files told = ToldFault (stated files.texts) files.names told
+Fault rest (Attack line most) files told =
     ToldFault (stated files.texts) files.names told ⊎ ToldNotBroken line files told
-Fault (Check verbose format) files told = ToldFault (case files.texts) files.names told
-Fault (Make out workers) files told =
+Fault rest (Check verbose format) files told = ToldFault (case files.texts) files.names told
+Fault rest (Make out workers) files told =
     ToldFault (system files.texts) files.names told ⊎ ToldUnmade out.now workers told
-Fault (Explain fact by format) files told =
+Fault rest (Explain fact by format) files told =
     ToldFault (system files.texts) files.names told ⊎ ToldBadFact fact.now files told
-Fault (Facts task class right format) files told =
+Fault rest (Facts task class right format) files told =
     ToldUnlisted (word_of task) (word_of class) (word_of right) files told
-Fault (Graph fact task holds) files told = ToldNoGraph (word_of fact) (word_of task) files told
-Fault Slots files told = ToldFault (system files.texts) files.names told
-Fault Promises files told = ToldFault (system files.texts) files.names told
-Fault Replay files told = ToldFault (scripted files.texts) files.names told
-Fault Live files told = ToldUnserved files told
+Fault rest (Graph fact task holds) files told = ToldNoGraph (word_of fact) (word_of task) files told
+Fault rest Slots files told = ToldFault (system files.texts) files.names told
+Fault rest Promises files told = ToldFault (system files.texts) files.names told
+Fault rest Replay files told = ToldFault (scripted files.texts) files.names told
+Fault rest Live files told = ToldUnserved rest files told
 
 -- a word can't be what it is asked to be: that is printed before any file is read
 abbrev pub BadWord : Question → Told → Type 0
@@ -100,23 +102,31 @@ BadWord Promises told = ⊥
 BadWord Replay told = ⊥
 BadWord Live told = ⊥
 
--- with status 0: what was asked of the files, or what MIG files are cut to
-abbrev pub DoneOf : Held → Held → Command → Told → Type 0
-DoneOf before after (Case names question) told = OfFiles (Done after question) before names told
-DoneOf before after (Mig files) told = CutsOfFiles before after files told
+-- a question of which more may be printed than what is told at once
+abbrev pub Streams : Question → Type 0
+Streams Replay = Unit {0}
+Streams Live = Unit {0}
+Streams question = ⊥
+
+-- with status 0: what was asked of the files, or what MIG files are cut to. Only of a replay and of
+-- a journal something is printed behind what is told.
+abbrev pub DoneOf : Held → Held → List ℕ → Command → Told → Type 0
+DoneOf before after rest (Case names question) told =
+    OfFiles (Done after rest question) before names told × ((rest ≡ []) ⊎ Streams question)
+DoneOf before after rest (Mig files) told = CutsOfFiles before after files told × (rest ≡ [])
 
 -- with status 1
-abbrev pub NoOf : Held → Command → Told → Type 0
-NoOf held (Case names question) told = OfFiles (No question) held names told
-NoOf held (Mig files) told = ⊥
+abbrev pub NoOf : Held → List ℕ → Command → Told → Type 0
+NoOf held rest (Case names question) told = OfFiles (No question) held names told × (rest ≡ [])
+NoOf held rest (Mig files) told = ⊥
 
 -- with status 2: memory ran out, a word is none that can be, a file can't be read, or what the
 -- files hold has a fault
-abbrev pub FaultOf : Held → Command → Told → Type 0
-FaultOf held (Case names question) told =
+abbrev pub FaultOf : Held → List ℕ → Command → Told → Type 0
+FaultOf held rest (Case names question) told =
     ToldMemory told ⊎ (BadWord question told
-    ⊎ (ToldUnread held (all_names names) told ⊎ OfFiles (Fault question) held names told))
-FaultOf held (Mig files) told = FaultOfMig held files told
+    ⊎ (ToldUnread held (all_names names) told ⊎ OfFiles (Fault rest question) held names told))
+FaultOf held rest (Mig files) told = FaultOfMig held files told
 
 -- what is left of a certificate whose file did not take all bytes
 abbrev pub Cut : Held → Question → Files → Told → Type 0
@@ -130,14 +140,22 @@ CutOf before after (Case names question) told = OfFiles (Cut after question) bef
 CutOf before after (Mig files) told = RefusedOfFiles before after files told
 
 -- with status 2 and a text on standard output: that no task of a `live` can go on
-abbrev pub Halted : Question → Files → Told → Type 0
-Halted Live files told = ToldHalted files told
-Halted question files told = ⊥
+abbrev pub Halted : List ℕ → Question → Files → Told → Type 0
+Halted rest Live files told = ToldHalted rest files told
+Halted rest question files told = ⊥
 
 -- the same of a command
-abbrev pub HaltedOf : Held → Command → Told → Type 0
-HaltedOf held (Case names question) told = OfFiles (Halted question) held names told
-HaltedOf held (Mig files) told = ⊥
+abbrev pub HaltedOf : Held → List ℕ → Command → Told → Type 0
+HaltedOf held rest (Case names question) told = OfFiles (Halted rest question) held names told
+HaltedOf held rest (Mig files) told = ⊥
+
+-- What may be printed behind what is told of a question: with status 0 the rest of a replay or of a
+-- journal, and with status 2 that of a journal after which no task can go on.
+abbrev pub IsRest : List ℕ → Question → Files → Told → Type 0
+IsRest rest question files told =
+    (rest ≡ [])
+    ⊎ (((told.status ≡ 0) × Streams question)
+    ⊎ ((told.status ≡ 2) × Halted rest question files told))
 
 -- a question whose answer may change a file
 abbrev pub Changes : Question → Type 0
@@ -168,9 +186,10 @@ OfWords watched words Tells told =
     (request : Request) × Means words request × Tells (seen watched request.command) told
 
 -- what the program printed of the command that the words ask for, and that standard output took all
--- of it: it held `old`, and holds `new`
-pub record WentOut (watched : Bool) (words : List (List ℕ)) (Tells : Command → Told → Type 0)
-    (old new : Option (List ℕ)) : Type 0 where
+-- of it: it held `old`, and holds `new`. `rest` was printed behind what was told.
+pub record WentOut (watched : Bool) (words : List (List ℕ))
+    (Tells : List ℕ → Command → Told → Type 0) (old new : Option (List ℕ)) : Type 0 where
   pub told : Told
-  pub tells : OfWords watched words Tells told
-  pub out : Appends old new (string_bytes told.out)
+  pub rest : List ℕ
+  pub tells : OfWords watched words (Tells rest) told
+  pub out : Appends old new (string_bytes told.out ++ rest)

@@ -1,6 +1,8 @@
 -- Believe. The object of a fault, which goes to standard output if the answer is for programs, and
 -- all that may go there with status 2. This profile's own choice.
-use Rattle.std.specs.Prelude.{◌≡◌, ◌⊎◌, ℕ, Bool, true, ◌||◌, List, [], string_bytes}
+use Rattle.std.specs.Prelude.{◌≡◌, ◌⊎◌, ℕ, Bool, true, ◌||◌, List, [], ◌++◌, Option, take}
+use Rattle.std.specs.Prelude.{string_bytes}
+use Rattle.std.specs.Io.KnownBytes.{Appends}
 use Rattle.mrc_command.specs.declared.command.Command.{Command}
 use Rattle.mrc_command.specs.declared.command.Command.TheVariants.{Case, Mig}
 use Rattle.mrc_command.specs.declared.command.Format.{Format}
@@ -14,7 +16,7 @@ use Rattle.mrc_json.specs.Answers.{fault_json}
 use Rattle.mrc_sarif.specs.Answers.{fault_sarif}
 use Rattle.mrc_program.specs.declared.behind.Help.{Help}
 use Rattle.mrc_program.specs.Behind.{IsNoHelp, HelpsWith}
-use Rattle.mrc_program.specs.Commands.{HaltedOf, seen}
+use Rattle.mrc_program.specs.Commands.{DoneOf, HaltedOf, NoOf, OfWords, seen}
 use Rattle.mrc_program.specs.Cutting.{CutsLess, OfCuts, OfTexts}
 
 -- The object of a fault, by the word of the command, what is printed on standard error, and the
@@ -51,16 +53,36 @@ LessOf held (Mig files) told = OfTexts (OfCuts (CutsLess files) files) held file
 
 -- What goes to standard output with status 2: nothing, the journal of a `live` after which no task
 -- can go on, what MIG files would be cut to of which too little is read, or the object of the
--- fault, behind whose line `behind` is printed.
-abbrev pub IsOutOfFault : Bool → Held → Command → List ℕ → Told → Type 0
-IsOutOfFault shows held command behind told = (string_bytes told.out ≡ [])
-    ⊎ (HaltedOf held command told
-    ⊎ (LessOf held command told
-    ⊎ ToldObject shows held command behind told))
+-- fault, behind whose line `behind` is printed. `rest` is printed behind what is told.
+abbrev pub IsOutOfFault : Bool → Held → Command → (behind rest : List ℕ) → Told → Type 0
+IsOutOfFault shows held command behind rest told = (string_bytes told.out ++ rest ≡ [])
+    ⊎ (HaltedOf held rest command told
+    ⊎ ((LessOf held command told × (rest ≡ []))
+    ⊎ (ToldObject shows held command behind told × (rest ≡ []))))
 
 -- the same of the words: the places of faults are shown if they ask for them or a person looks at
 -- standard error (`err`)
-abbrev pub IsOutOfWords : (out err : Bool) → Held → List (List ℕ) → List ℕ → Told → Type 0
-IsOutOfWords out err held words behind told =
+abbrev pub IsOutOfWords : (out err : Bool) → Held → List (List ℕ) → (behind rest : List ℕ) → Told
+    → Type 0
+IsOutOfWords out err held words behind rest told =
     (request : Request) × Means words request
-    × IsOutOfFault (request.verbose || err) held (seen out request.command) behind told
+    × IsOutOfFault (request.verbose || err) held (seen out request.command) behind rest told
+
+-- What is printed of the command that the words ask for, on standard output: the right answer with
+-- status 0 or 1, or with status 2 what goes there with a fault.
+abbrev pub IsToldOfWords : (out err : Bool) → (before after : Held) → List (List ℕ) → List ℕ → Told
+    → Type 0
+IsToldOfWords out err before after words rest told =
+    OfWords out words (DoneOf before after rest) told
+    ⊎ (OfWords out words (NoOf before rest) told
+    ⊎ ((behind : List ℕ) × IsOutOfWords out err before words behind rest told))
+
+-- The front of what is printed of the words went to standard output, which held `old` and holds
+-- `new`: so many bytes. All of it did, or memory ran out, or no more was taken.
+pub record WentInPart (out err : Bool) (words : List (List ℕ)) (before after : Held)
+    (old new : Option (List ℕ)) : Type 0 where
+  pub told : Told
+  pub rest : List ℕ
+  pub tells : IsToldOfWords out err before after words rest told
+  pub count : ℕ
+  pub front : Appends old new (take count (string_bytes told.out ++ rest))

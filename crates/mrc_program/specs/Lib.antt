@@ -6,6 +6,7 @@ pub mod Formats
 pub mod Checked
 pub mod Made
 pub mod Played
+pub mod Pending
 pub mod Notices
 pub mod LeftNotices
 pub mod PolicyNotices

@@ -1,6 +1,7 @@
 -- Believe. What is printed of a script: of its replay, and of its run by tasks as threads. This
 -- profile's own choice.
-use Rattle.std.specs.Prelude.{◌≡◌, ◌⊎◌, ℕ, true, false, List, [], Result, Ok, string_bytes}
+use Rattle.std.specs.Prelude.{◌≡◌, ◌⊎◌, ℕ, true, false, List, [], ◌++◌, Result, Ok}
+use Rattle.std.specs.Prelude.{string_bytes}
 use Rattle.mrc_base.specs.Reading.{◌>>=◌}
 use Rattle.mrc_wiring_text.specs.declared.reading.Line.{Line}
 use Rattle.mrc_wiring.specs.Table.{Table}
@@ -27,11 +28,11 @@ scripted texts = do
   Ok (record { wired = meant.table; script = lines })
 
 -- A replay is printed, and it is right: all texts have a meaning, and what is printed is the run of
--- the script's calls from the first state of the wiring.
-pub record ToldReplay (files : Files) (told : Told) : Type 0 where
+-- the script's calls from the first state of the wiring. `rest` is printed behind what is told.
+pub record ToldReplay (rest : List ℕ) (files : Files) (told : Told) : Type 0 where
   pub both : WiredScript
   pub says : scripted files.texts ≡ Ok both
-  pub out : IsReplay both.wired both.script (string_bytes told.out)
+  pub out : IsReplay both.wired both.script (string_bytes told.out ++ rest)
   pub err : string_bytes told.err ≡ []
 
 -- this is printed of a script: the checker accepts the texts, and the script has a meaning
@@ -44,29 +45,30 @@ pub record OfScript (Tells : Table → List (Line TaskCall) → Told → Type 0)
   pub tells : Tells judged.claim.table lines told
 
 -- a run from the first state is printed in which each task makes the calls of its lines
-pub record ToldRun (table : Table) (lines : List (Line TaskCall)) (told : Told) : Type 0 where
-  pub out : IsLive table lines (string_bytes told.out)
+pub record ToldRun (rest : List ℕ) (table : Table) (lines : List (Line TaskCall)) (told : Told)
+    : Type 0 where
+  pub out : IsLive table lines (string_bytes told.out ++ rest)
   pub err : string_bytes told.err ≡ []
 
 -- A run from the first state is printed after which no task can go on, and the lines of the file
 -- that wait for messages.
-pub record ToldWaits (file : List ℕ) (table : Table) (lines : List (Line TaskCall)) (told : Told)
-    : Type 0 where
+pub record ToldWaits (rest file : List ℕ) (table : Table) (lines : List (Line TaskCall))
+    (told : Told) : Type 0 where
   pub waits : List ℕ
-  pub out : IsHalted table lines waits (string_bytes told.out)
+  pub out : IsHalted table lines waits (string_bytes told.out ++ rest)
   pub err : string_bytes told.err ≡ fault_line file (waits_text waits)
 
 -- the journal of a script is printed, and it is right
-abbrev pub ToldLive : Files → Told → Type 0
-ToldLive files told = OfScript ToldRun files.texts told
+abbrev pub ToldLive : List ℕ → Files → Told → Type 0
+ToldLive rest files told = OfScript (ToldRun rest) files.texts told
 
 -- the file of the script
 abbrev pub script_name : FileNames → List ℕ
 script_name names = given (word_of names.script)
 
 -- it is printed that all tasks that have lines left wait for messages, and it is right
-abbrev pub ToldHalted : Files → Told → Type 0
-ToldHalted files told = OfScript (ToldWaits (script_name files.names)) files.texts told
+abbrev pub ToldHalted : List ℕ → Files → Told → Type 0
+ToldHalted rest files told = OfScript (ToldWaits rest (script_name files.names)) files.texts told
 
 -- a fault of the script, or of its run, is printed of texts that the checker accepts
 pub record ToldOfScript (files : Files) (told : Told) : Type 0 where
@@ -76,7 +78,7 @@ pub record ToldOfScript (files : Files) (told : Told) : Type 0 where
 
 -- a fault is printed: a text that the checker reads has no meaning, the fault is the script's, or
 -- no task can go on
-abbrev pub ToldUnserved : Files → Told → Type 0
-ToldUnserved files told =
+abbrev pub ToldUnserved : List ℕ → Files → Told → Type 0
+ToldUnserved rest files told =
     ToldFault (case files.texts) files.names told
-    ⊎ (ToldOfScript files told ⊎ ToldHalted files told)
+    ⊎ (ToldOfScript files told ⊎ ToldHalted rest files told)

@@ -20,6 +20,7 @@ mod mend;
 mod mig;
 mod notices;
 mod objects;
+mod pending;
 mod places;
 mod policy_notices;
 mod progress;
@@ -37,4 +38,5 @@ mod writing;
 
 pub use files::{Files, Texts};
 pub use live::live_told;
+pub use pending::Pending;
 pub use run::{Watched, start};

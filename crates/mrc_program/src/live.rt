@@ -14,6 +14,7 @@ ghost use Rattle.mrc_program.specs.Played.{ToldUnserved, script_name};
 
 use crate::check::answer_of;
 use crate::files::Files;
+use crate::pending::Pending;
 use crate::script::script_said;
 use crate::tell::unaccepted_told;
 use crate::told::refused;
@@ -52,28 +53,18 @@ fn served<R: Threads + Wait + Sync>(
     }
 }
 
-/// What is printed if all tasks that have lines left wait: the journal so far, and the lines.
-fn halted_told(
-    alloc: Global,
-    file: &str,
-    journal: String,
-    lines: &[u32],
-) -> Result<Told, AllocError>
+/// What is printed of a file's script if all tasks that have lines left wait: these lines.
+fn waits_told(alloc: Global, file: &str, lines: &[u32]) -> Result<Told, AllocError>
     ensures status { IfOk result (λ told. told.status ≡ 2) }
-    ensures out { IfOk result (λ told. string_bytes told.out ≡ string_bytes journal) }
+    ensures out { IfOk result (λ told. string_bytes told.out ≡ []) }
     ensures err { IfOk result (λ told. string_bytes told.err
         ≡ fault_line file.now (waits_text lines.now)) }
 {
     let text = waits_text(alloc, lines)?;
-    let Told { err, status, .. } = fault_of(alloc, file, text.as_str())?;
-    Ok(Told {
-        out: journal,
-        err,
-        status,
-    })
+    fault_of(alloc, file, text.as_str())
 }
 
-/// What is printed of the run of a file's script.
+/// What is printed of the run of a file's script: the journal is pending.
 fn run_told<R: Threads + Wait + Sync>(
     rt: &R,
     alloc: Global,
@@ -81,17 +72,28 @@ fn run_told<R: Threads + Wait + Sync>(
     confined: Confined,
     script: Script,
     limit: usize,
+    pending: &mut Pending,
 ) -> Result<Told, AllocError>
     requires limit { (1 ≤ limit) × (limit ≤ limit_of_events) }
+    requires nothing { pending.old ≡ [] }
     ensures status { IfOk result (λ told. (told.status ≡ 0) ⊎ (told.status ≡ 2)) }
     ensures done { IfOk result (λ told. told.status ≡ 0
-        → ToldRun confined.claim.table script told) }
+        → ToldRun pending.new confined.claim.table script told) }
     ensures fault { IfOk result (λ told. told.status ≡ 2 → ToldMemory told
-        ⊎ (ToldFile file.now told ⊎ ToldWaits file.now confined.claim.table script told)) }
+        ⊎ (ToldFile file.now told
+        ⊎ ToldWaits pending.new file.now confined.claim.table script told)) }
+    ensures rest { IfOk result (λ told. told.status ≡ 2 → (pending.new ≡ [])
+        ⊎ ToldWaits pending.new file.now confined.claim.table script told) }
 {
     match served(rt, alloc, confined, script, limit) {
-        Ok(Served::Whole(text)) => Ok(said(alloc, text, 0)),
-        Ok(Served::AllWait(text, lines)) => halted_told(alloc, file, text, lines.as_slice()),
+        Ok(Served::Whole(ran)) => {
+            *pending = Pending::journal(ran);
+            Ok(said(alloc, String::new(alloc), 0))
+        }
+        Ok(Served::AllWait(ran, lines)) => {
+            *pending = Pending::journal(ran);
+            waits_told(alloc, file, lines.as_slice())
+        }
         Err(OrMemory::Fault(fault)) => {
             let text = fault.to_string(alloc)?;
             fault_of(alloc, file, text.as_str())
@@ -107,13 +109,17 @@ fn confined_told<R: Threads + Wait + Sync>(
     files: &Files<'_>,
     confined: Confined,
     limit: usize,
+    pending: &mut Pending,
 ) -> Result<Told, AllocError>
     requires accepted { AreAccepted files.now.texts confined }
     requires limit { (1 ≤ limit) × (limit ≤ limit_of_events) }
+    requires nothing { pending.old ≡ [] }
     ensures status { IfOk result (λ told. (told.status ≡ 0) ⊎ (told.status ≡ 2)) }
-    ensures done { IfOk result (λ told. told.status ≡ 0 → ToldLive files.now told) }
+    ensures done { IfOk result (λ told. told.status ≡ 0 → ToldLive pending.new files.now told) }
     ensures fault { IfOk result (λ told. told.status ≡ 2 → ToldMemory told
-        ⊎ (ToldOfScript files.now told ⊎ ToldHalted files.now told)) }
+        ⊎ (ToldOfScript files.now told ⊎ ToldHalted pending.new files.now told)) }
+    ensures rest { IfOk result (λ told. told.status ≡ 2 → (pending.new ≡ [])
+        ⊎ ToldHalted pending.new files.now told) }
 {
     match script_said(alloc, confined.wired(), true, &files.texts) {
         Ok(script) => run_told(
@@ -123,33 +129,40 @@ fn confined_told<R: Threads + Wait + Sync>(
             confined,
             script,
             limit,
+            pending,
         ),
         Err(refusal) => refused(alloc, &files.names, &refusal),
     }
 }
 
-/// What is printed of the files of a `live`, whose journal has so many events at most. A script has
-/// fewer lines than [`EVENTS`], so with that limit its journal is never full.
+/// What is printed of the files of a `live`, whose journal has so many events at most: the journal
+/// itself is pending. A script has fewer lines than [`EVENTS`], so with that limit its journal is
+/// never full.
 pub fn live_told<R: Threads + Wait + Sync>(
     rt: &R,
     alloc: Global,
     files: &Files<'_>,
     limit: usize,
+    pending: &mut Pending,
 ) -> Result<Told, AllocError>
     requires limit { (1 ≤ limit) × (limit ≤ limit_of_events) }
+    requires nothing { pending.old ≡ [] }
     ensures status { IfOk result (λ told. told.status ≤ 2) }
     // A journal is right.
-    ensures done { IfOk result (λ told. told.status ≡ 0 → ToldLive files.now told) }
+    ensures done { IfOk result (λ told. told.status ≡ 0 → ToldLive pending.new files.now told) }
     // A no is right, and its reason is printed.
     ensures no { IfOk result (λ told. told.status ≡ 1
         → ToldNo [] false formats.Text files.now told) }
     // A fault is one of the first text that has no meaning, or of the script's run, unless memory
     // ran out.
     ensures fault { IfOk result (λ told. told.status ≡ 2
-        → ToldMemory told ⊎ ToldUnserved files.now told) }
+        → ToldMemory told ⊎ ToldUnserved pending.new files.now told) }
+    // A journal alone is pending: with status 0, or with status 2 if no task can go on.
+    ensures rest { IfOk result (λ told. (pending.new ≡ []) ⊎ ((told.status ≡ 0)
+        ⊎ ((told.status ≡ 2) × ToldHalted pending.new files.now told))) }
 {
     match answer_of(rt, alloc, &files.texts) {
-        Ok(confined) => confined_told(rt, alloc, files, confined, limit),
+        Ok(confined) => confined_told(rt, alloc, files, confined, limit, pending),
         Err(refusal) => unaccepted_told(
             alloc,
             files,

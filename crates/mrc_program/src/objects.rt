@@ -1,6 +1,7 @@
 //! The objects of faults, for programs that read them.
 
 ghost use Rattle.std.specs.Prelude.{◌≡◌, ◌⊎◌, [], IfOk, IsTrue, string_bytes};
+ghost use Rattle.mrc_command.specs.declared.command.Format.TheVariants as formats;
 ghost use Rattle.mrc_program.specs.FaultObjects.{IsFaultObject, fault_object};
 
 use mrc_command::{Format, Told};
@@ -39,9 +40,11 @@ fn has_room(told: &Told) -> bool
 /// What is printed, with the object of the fault if it is one, and if nothing else goes to standard
 /// output. If memory runs out for the object, nothing does.
 pub fn with_object(alloc: Global, format: Format, word: &str, hint: &Hint, told: Told) -> Told
-    ensures { (result ≡ told) ⊎ IsFaultObject format word.now hint.now told result }
+    ensures object { (result ≡ told) ⊎ IsFaultObject format word.now hint.now told result }
+    // An answer for people is not changed.
+    ensures text { format ≡ formats.Text → result ≡ told }
 {
-    if !has_room(&told) {
+    if matches!(format, Format::Text) || !has_room(&told) {
         return told;
     }
     match fault_object(alloc, format, word, told.err.as_str(), hint) {

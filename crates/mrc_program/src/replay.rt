@@ -1,20 +1,20 @@
 //! What the program prints of a wiring and a script.
 
-ghost use Rattle.std.specs.Prelude.{◌≡◌, ◌⊎◌, [], Ok, IfOk, string_bytes};
+ghost use Rattle.std.specs.Prelude.{◌≡◌, ◌⊎◌, [], Ok, IfOk};
 ghost use Rattle.mrc_check.specs.Texts.{meaningless};
 ghost use Rattle.mrc_interface.specs.Reading.{GivesAs};
-ghost use Rattle.mrc_report.specs.Replay.{IsReplay};
 ghost use Rattle.mrc_program.specs.declared.replay.WiredScript.{WiredScript};
 ghost use Rattle.mrc_program.specs.Played.{scripted, ToldReplay};
 ghost use Rattle.mrc_program.specs.Told.{ToldFault, ToldMemory};
 
 use crate::files::{Files, Texts};
+use crate::pending::Pending;
 use crate::script::script_said;
 use crate::told::refused;
 use mrc_base::OrMemory;
 use mrc_check::{CaseFault, System};
 use mrc_command::{Told, said};
-use mrc_report::{Script, replay};
+use mrc_report::Script;
 use mrc_wiring::Wired;
 use std::alloc::{AllocError, Global};
 
@@ -34,22 +34,18 @@ fn scripted(alloc: Global, texts: &Texts) -> Result<WiredScript, OrMemory<CaseFa
     Ok(WiredScript { wired, script })
 }
 
-/// What is printed of a replay.
-fn replay_said(alloc: Global, both: &WiredScript) -> Result<Told, AllocError>
-    ensures status { IfOk result (λ told. told.status ≡ 0) }
-    ensures out { IfOk result
-        (λ told. IsReplay both.now.wired both.now.script (string_bytes told.out)) }
-    ensures err { IfOk result (λ told. string_bytes told.err ≡ []) }
-{
-    let text = replay(alloc, &both.wired, &both.script)?;
-    Ok(said(alloc, text, 0))
-}
-
-/// What is printed of the files of a `replay`.
-pub fn replay_told(alloc: Global, files: &Files<'_>) -> Result<Told, AllocError>
+/// What is printed of the files of a `replay`: the replay itself is pending.
+pub fn replay_told(
+    alloc: Global,
+    files: &Files<'_>,
+    pending: &mut Pending,
+) -> Result<Told, AllocError>
+    requires nothing { pending.old ≡ [] }
     ensures status { IfOk result (λ told. (told.status ≡ 0) ⊎ (told.status ≡ 2)) }
     // What is printed with status 0 is the replay.
-    ensures done { IfOk result (λ told. told.status ≡ 0 → ToldReplay files.now told) }
+    ensures done { IfOk result (λ told. told.status ≡ 0 → ToldReplay pending.new files.now told) }
+    // With a fault nothing is pending.
+    ensures rest { IfOk result (λ told. told.status ≡ 2 → pending.new ≡ []) }
     // If all texts have a meaning the replay is printed, unless memory runs out.
     ensures only { (both : WiredScript) → scripted files.now.texts ≡ Ok both
         → IfOk result (λ told. (told.status ≡ 0) ⊎ ToldMemory told) }
@@ -58,7 +54,10 @@ pub fn replay_told(alloc: Global, files: &Files<'_>) -> Result<Told, AllocError>
         → ToldMemory told ⊎ ToldFault (scripted files.now.texts) files.now.names told) }
 {
     match scripted(alloc, &files.texts) {
-        Ok(both) => replay_said(alloc, &both),
+        Ok(both) => {
+            *pending = Pending::replay(both);
+            Ok(said(alloc, String::new(alloc), 0))
+        }
         Err(refusal) => refused(alloc, &files.names, &refusal),
     }
 }

@@ -1,16 +1,16 @@
 //! The program from its words to its status.
 
-ghost use Rattle.std.specs.Prelude.{◌≡◌, ◌≢◌, ◌≤◌, ◌⊎◌, [], ◌++◌, ◌||◌, IfOk, IfErr, IfSome, map};
-ghost use Rattle.std.specs.Prelude.{IsOkAnd, string_bytes};
+ghost use Rattle.std.specs.Prelude.{◌≡◌, ◌≢◌, ◌≤◌, ◌⊎◌, ℕ, [], ◌++◌, ◌||◌, IfOk, IfErr, IfSome};
+ghost use Rattle.std.specs.Prelude.{IsOkAnd, OnErr, OnOk, map, string_bytes, take};
 ghost use Rattle.std.specs.Io.KnownBytes.{Appends};
 ghost use Rattle.mrc_command.specs.CommandLine.{AsksHelp};
 ghost use Rattle.mrc_program.specs.Behind.{IsBehind, IsBehindWords, IsMadeFor, IsNoHelp};
 ghost use Rattle.mrc_program.specs.Files.{OfFiles, all_names};
 ghost use Rattle.mrc_program.specs.Told.{ToldMemory, ToldUnread};
 ghost use Rattle.mrc_program.specs.Commands.{Done, No, Fault, BadWord, Cut, Changes, HasOut};
-ghost use Rattle.mrc_program.specs.Commands.{DoneOf, NoOf, FaultOf, CutOf, OfWords};
-ghost use Rattle.mrc_program.specs.Commands.{WentOut, seen, seen_question};
-ghost use Rattle.mrc_program.specs.FaultObjects.{IsOutOfFault, IsOutOfWords};
+ghost use Rattle.mrc_program.specs.Commands.{DoneOf, NoOf, FaultOf, CutOf, HaltedOf, OfWords};
+ghost use Rattle.mrc_program.specs.Commands.{IsRest, WentOut, seen, seen_question};
+ghost use Rattle.mrc_program.specs.FaultObjects.{IsOutOfFault, IsOutOfWords, WentInPart};
 
 use crate::attack::{attack_told, bounds_told, line_told};
 use crate::behind::{Help, files_behind, help_text, is_wanted, no_help, unread_helped};
@@ -24,6 +24,7 @@ use crate::make::make_told;
 use crate::mend::{mend_told, most_told};
 use crate::mig::mig_files;
 use crate::objects::with_object;
+use crate::pending::Pending;
 use crate::progress::Counter;
 use crate::promises::promises_told;
 use crate::replay::replay_told;
@@ -35,6 +36,7 @@ use mrc_command::{
     memory, read, words_line,
 };
 use mrc_files::{Folder, write_text};
+use mrc_report::Unprinted;
 use std::alloc::{AllocError, Global};
 use std::io::Write;
 use std::sync::Wait;
@@ -69,14 +71,17 @@ fn question_told<F: Folder, R: Threads + Wait + Sync, P: mrc_mend::Progress + mr
     alloc: Global,
     files: &Files<'_>,
     question: Question<'_>,
+    pending: &mut Pending,
     progress: &mut P,
 ) -> Result<Told, AllocError>
+    requires nothing { pending.old ≡ [] }
     ensures status { IfOk result (λ told. told.status ≤ 2) }
     ensures done { IfOk result (λ told. told.status ≡ 0
-        → Done (F.held folder.new) question.entry files.now told) }
+        → Done (F.held folder.new) pending.new question.entry files.now told) }
     ensures no { IfOk result (λ told. told.status ≡ 1 → No question.entry files.now told) }
     ensures fault { IfOk result (λ told. told.status ≡ 2
-        → ToldMemory told ⊎ Fault question.entry files.now told) }
+        → ToldMemory told ⊎ Fault pending.new question.entry files.now told) }
+    ensures rest { IfOk result (IsRest pending.new question.entry files.now) }
     ensures kept { IsOkAnd result (λ told. (told.status ≡ 0) × Changes question.entry)
         ⊎ (IsOkAnd result (Cut (F.held folder.new) question.entry files.now)
         ⊎ (F.held folder.new ≡ F.held folder.old)) }
@@ -97,8 +102,8 @@ fn question_told<F: Folder, R: Threads + Wait + Sync, P: mrc_mend::Progress + mr
         Question::Graph { fact, task, holds } => graph_told(alloc, files, fact, task, holds),
         Question::Slots => slots_told(alloc, files),
         Question::Promises => promises_told(alloc, files),
-        Question::Replay => replay_told(alloc, files),
-        Question::Live => live_told(rt, alloc, files, EVENTS),
+        Question::Replay => replay_told(alloc, files, pending),
+        Question::Live => live_told(rt, alloc, files, EVENTS, pending),
     }
 }
 
@@ -112,18 +117,24 @@ fn case_told<F: Folder, R: Threads + Wait + Sync, P: mrc_mend::Progress + mrc_at
     question: Question<'_>,
     wanted: bool,
     help: &mut Help,
+    pending: &mut Pending,
     progress: &mut P,
 ) -> Result<Told, AllocError>
     requires empty { IsNoHelp help.old }
+    requires nothing { pending.old ≡ [] }
     ensures status { IfOk result (λ told. told.status ≤ 2) }
     ensures done { IfOk result (λ told. told.status ≡ 0
-        → OfFiles (Done (F.held folder.new) question.entry) (F.held folder.old) names.entry told) }
+        → DoneOf (F.held folder.old) (F.held folder.new) pending.new
+        (Command.Case names.entry question.entry) told) }
     ensures no { IfOk result (λ told. told.status ≡ 1
-        → OfFiles (No question.entry) (F.held folder.old) names.entry told) }
+        → NoOf (F.held folder.old) pending.new (Command.Case names.entry question.entry) told) }
     ensures fault { IfOk result (λ told. told.status ≡ 2
         → ToldMemory told ⊎ (BadWord question.entry told
         ⊎ (ToldUnread (F.held folder.old) (all_names names.entry) told
-        ⊎ OfFiles (Fault question.entry) (F.held folder.old) names.entry told))) }
+        ⊎ OfFiles (Fault pending.new question.entry) (F.held folder.old) names.entry told))) }
+    ensures rest { IfOk result (λ told. told.status ≡ 2 → (pending.new ≡ [])
+        ⊎ HaltedOf (F.held folder.old) pending.new (Command.Case names.entry question.entry)
+        told) }
     ensures kept { IsOkAnd result (λ told. (told.status ≡ 0) × Changes question.entry)
         ⊎ (IsOkAnd result (OfFiles (Cut (F.held folder.new) question.entry) (F.held folder.old)
         names.entry)
@@ -137,7 +148,7 @@ fn case_told<F: Folder, R: Threads + Wait + Sync, P: mrc_mend::Progress + mrc_at
     match texts_of(folder, alloc, &names) {
         Ok(texts) => {
             let files = Files { names, texts };
-            let told = question_told(rt, folder, alloc, &files, question, progress)?;
+            let told = question_told(rt, folder, alloc, &files, question, pending, progress)?;
             *help = files_behind(alloc, wanted, &files, question, &told);
             Ok(told)
         }
@@ -154,16 +165,21 @@ fn answer<F: Folder, R: Threads + Wait + Sync, P: mrc_mend::Progress + mrc_attac
     command: Command<'_>,
     wanted: bool,
     help: &mut Help,
+    pending: &mut Pending,
     progress: &mut P,
 ) -> Result<Told, AllocError>
     requires empty { IsNoHelp help.old }
+    requires nothing { pending.old ≡ [] }
     ensures status { IfOk result (λ told. told.status ≤ 2) }
     ensures done { IfOk result (λ told. told.status ≡ 0
-        → DoneOf (F.held folder.old) (F.held folder.new) command.entry told) }
+        → DoneOf (F.held folder.old) (F.held folder.new) pending.new command.entry told) }
     ensures no { IfOk result (λ told. told.status ≡ 1
-        → NoOf (F.held folder.old) command.entry told) }
+        → NoOf (F.held folder.old) pending.new command.entry told) }
     ensures fault { IfOk result (λ told. told.status ≡ 2
-        → FaultOf (F.held folder.old) command.entry told) }
+        → FaultOf (F.held folder.old) pending.new command.entry told) }
+    // With a fault a journal alone is pending, after which no task can go on.
+    ensures rest { IfOk result (λ told. told.status ≡ 2 → (pending.new ≡ [])
+        ⊎ HaltedOf (F.held folder.old) pending.new command.entry told) }
     // A file is changed only if a certificate is made, or the file took so many of its bytes and
     // has these; or if MIG files are cut, or the writing of one was refused.
     ensures kept { IsOkAnd result (λ told. (told.status ≡ 0) × HasOut command.entry)
@@ -173,7 +189,9 @@ fn answer<F: Folder, R: Threads + Wait + Sync, P: mrc_mend::Progress + mrc_attac
 {
     match command {
         Command::Case(names, question) => {
-            case_told(rt, folder, alloc, names, question, wanted, help, progress)
+            case_told(
+                rt, folder, alloc, names, question, wanted, help, pending, progress,
+            )
         }
         Command::Mig(files) => mig_files(folder, alloc, &files, wanted, help),
     }
@@ -222,15 +240,18 @@ fn command_told<F: Folder, R: Threads + Wait + Sync, P: mrc_mend::Progress + mrc
     command: Command<'_>,
     shows: bool,
     behind: &mut String,
+    pending: &mut Pending,
     progress: &mut P,
 ) -> Result<Told, AllocError>
+    requires nothing { pending.old ≡ [] }
     ensures status { IfOk result (λ told. told.status ≤ 2) }
     ensures done { IfOk result (λ told. told.status ≡ 0
-        → DoneOf (F.held folder.old) (F.held folder.new) command.entry told) }
+        → DoneOf (F.held folder.old) (F.held folder.new) pending.new command.entry told) }
     ensures no { IfOk result (λ told. told.status ≡ 1
-        → NoOf (F.held folder.old) command.entry told) }
+        → NoOf (F.held folder.old) pending.new command.entry told) }
     ensures fault { IfOk result (λ told. told.status ≡ 2
-        → IsOutOfFault shows (F.held folder.old) command.entry (string_bytes behind.new) told) }
+        → IsOutOfFault shows (F.held folder.old) command.entry (string_bytes behind.new)
+        pending.new told) }
     ensures behind { IfOk result (IsBehind shows (F.held folder.old) command.entry
         (string_bytes behind.new)) }
 {
@@ -238,7 +259,9 @@ fn command_told<F: Folder, R: Threads + Wait + Sync, P: mrc_mend::Progress + mrc
     let word = command_word(&command);
     let mut help = no_help(alloc);
     let wanted = is_wanted(shows, format);
-    let told = answer(rt, folder, alloc, command, wanted, &mut help, progress)?;
+    let told = answer(
+        rt, folder, alloc, command, wanted, &mut help, pending, progress,
+    )?;
     let told = with_object(alloc, format, word, &help.hint, told);
     *behind = help_text(alloc, shows, help);
     Ok(told)
@@ -253,23 +276,27 @@ fn told<F: Folder, R: Threads + Wait + Sync, P: mrc_mend::Progress + mrc_attack:
     words: &[String],
     watched: Watched,
     behind: &mut String,
+    pending: &mut Pending,
     progress: &mut P,
 ) -> Result<Told, AllocError>
     requires empty { string_bytes behind.old ≡ [] }
+    requires nothing { pending.old ≡ [] }
     ensures status { IfOk result (λ told. told.status ≤ 2) }
     // Status 0 is that of what the words ask for, unless they ask for help or the version.
     ensures yes { IfOk result (λ told. told.status ≡ 0
         → OfWords watched.out (map string_bytes words.now)
-        (DoneOf (F.held folder.old) (F.held folder.new)) told
+        (DoneOf (F.held folder.old) (F.held folder.new) pending.new) told
         ⊎ AsksHelp (map string_bytes words.now)) }
     ensures no { IfOk result (λ told. told.status ≡ 1
-        → OfWords watched.out (map string_bytes words.now) (NoOf (F.held folder.old)) told) }
+        → OfWords watched.out (map string_bytes words.now)
+        (NoOf (F.held folder.old) pending.new) told) }
     // With status 2 nothing goes to standard output, except the journal of a `live` after which no
     // task can go on, and, if the answer is for programs, what MIG files would be cut to of which
     // too little is read, or the object of the fault.
-    ensures fault { IfOk result (λ told. told.status ≡ 2 → (string_bytes told.out ≡ [])
+    ensures fault { IfOk result (λ told. told.status ≡ 2
+        → (string_bytes told.out ++ pending.new ≡ [])
         ⊎ IsOutOfWords watched.out watched.err (F.held folder.old) (map string_bytes words.now)
-        (string_bytes behind.new) told) }
+        (string_bytes behind.new) pending.new told) }
     ensures behind { IfOk result (IsBehindWords watched.out watched.err (F.held folder.old)
         (map string_bytes words.now) (string_bytes behind.new)) }
 {
@@ -277,7 +304,7 @@ fn told<F: Folder, R: Threads + Wait + Sync, P: mrc_mend::Progress + mrc_attack:
         Ok(request) => {
             let shows = is_shown(request.verbose, watched.err);
             let command = seen(watched.out, request.command);
-            command_told(rt, folder, alloc, command, shows, behind, progress)
+            command_told(rt, folder, alloc, command, shows, behind, pending, progress)
         }
         Err(NoCommand::Told(told)) => Ok(told),
         Err(NoCommand::Memory) => memory(alloc),
@@ -299,32 +326,69 @@ fn write_both<E: Write>(err: &mut E, text: &str, behind: &str, status: u8) -> u8
     }
 }
 
+/// Writes the text for standard output, and behind it what is pending. Only behind an empty text
+/// something is.
+fn write_out<O: Write>(
+    alloc: Global,
+    told: &Told,
+    pending: &Pending,
+    out: &mut O,
+) -> Result<(), Unprinted>
+    ensures whole { OnOk result (Appends (O.contents out.old) (O.contents out.new)
+        (string_bytes told.now.out ++ pending.now)) }
+    // Else the front of both was appended.
+    ensures front { OnErr result ((count : ℕ) × Appends (O.contents out.old) (O.contents out.new)
+        (take count (string_bytes told.now.out ++ pending.now))) }
+{
+    match write_text(out, told.out.as_bytes()) {
+        Ok(()) => pending.print(alloc, out),
+        Err(fault) => Err(Unprinted::WriteFailed(fault.written as u128)),
+    }
+}
+
+/// Writes that standard output took so many bytes and then no more.
+fn write_failed<E: Write>(alloc: Global, err: &mut E, written: u128) {
+    if let Ok(line) = format!(in alloc; "machcheck: -: WriteFailed {written}\n") {
+        let _ = write_text(err, line.as_bytes());
+    }
+}
+
+/// Writes that memory ran out. Returns the status.
+fn write_memory<E: Write>(err: &mut E) -> u8
+    ensures { result ≡ 2 }
+{
+    let _ = write_text(err, b"machcheck: Memory\n");
+    2
+}
+
 /// Writes what is printed, and this text behind it on standard error. If standard output does not
-/// take its text, that is printed on standard error too.
+/// take its text, that is printed on standard error too; and if memory runs out for it, that alone.
 fn write_told<O: Write, E: Write>(
     alloc: Global,
     told: &Told,
     behind: &str,
+    pending: &Pending,
     out: &mut O,
     err: &mut E,
 ) -> u8
     ensures status { (result ≡ told.now.status) ⊎ (result ≡ 2) }
     // Another status than 2 says that all went out.
     ensures out { result ≢ 2 → Appends (O.contents out.old) (O.contents out.new)
-        (string_bytes told.now.out) }
+        (string_bytes told.now.out ++ pending.now) }
     ensures err { result ≢ 2 → Appends (E.contents err.old) (E.contents err.new)
         (string_bytes told.now.err ++ behind.now) }
+    // At all events a front of it did.
+    ensures front { (count : ℕ) × Appends (O.contents out.old) (O.contents out.new)
+        (take count (string_bytes told.now.out ++ pending.now)) }
 {
-    let status = match write_text(out, told.out.as_bytes()) {
-        Ok(()) => told.status,
-        Err(fault) => {
-            if let Ok(line) = format!(in alloc; "machcheck: -: {fault}\n") {
-                let _ = write_text(err, line.as_bytes());
-            }
-            2
+    match write_out(alloc, told, pending, out) {
+        Ok(()) => write_both(err, told.err.as_str(), behind, told.status),
+        Err(Unprinted::WriteFailed(written)) => {
+            write_failed(alloc, err, written);
+            write_both(err, told.err.as_str(), behind, 2)
         }
-    };
-    write_both(err, told.err.as_str(), behind, status)
+        Err(Unprinted::Memory(_)) => write_memory(err),
+    }
 }
 
 /// Runs the program on the words of a command line, its own name first, and on the files of a
@@ -359,8 +423,16 @@ pub fn run<F: Folder, R: Threads + Wait + Sync, O: Write, E: Write>(
     ensures no { result ≡ 1
         → WentOut watched.out (map string_bytes words.now) (NoOf (F.held folder.old))
         (O.contents out.old) (O.contents out.new) }
+    // With status 2 nothing went out, or a front of what is printed of the words: of the right
+    // answer, if memory ran out for the rest or no more was taken, or of what goes to standard
+    // output with a fault; or they ask for help or the version.
+    ensures front { result ≡ 2 → Appends (O.contents out.old) (O.contents out.new) []
+        ⊎ (WentInPart watched.out watched.err (map string_bytes words.now) (F.held folder.old)
+        (F.held folder.new) (O.contents out.old) (O.contents out.new)
+        ⊎ AsksHelp (map string_bytes words.now)) }
 {
     let mut behind = String::new(alloc);
+    let mut pending = Pending::nothing();
     let told = told(
         rt,
         folder,
@@ -368,6 +440,7 @@ pub fn run<F: Folder, R: Threads + Wait + Sync, O: Write, E: Write>(
         words,
         watched,
         &mut behind,
+        &mut pending,
         &mut Counter {
             err,
             watched: watched.err,
@@ -375,11 +448,8 @@ pub fn run<F: Folder, R: Threads + Wait + Sync, O: Write, E: Write>(
         },
     );
     match told {
-        Ok(told) => write_told(alloc, &told, behind.as_str(), out, err),
-        Err(AllocError) => {
-            let _ = write_text(err, b"machcheck: Memory\n");
-            2
-        }
+        Ok(told) => write_told(alloc, &told, behind.as_str(), &pending, out, err),
+        Err(AllocError) => write_memory(err),
     }
 }
 
@@ -410,6 +480,14 @@ pub fn start<F: Folder, R: Threads + Wait + Sync, O: Write, E: Write>(
     ensures no { result ≡ 1 → IsOkAnd words (λ given.
         WentOut watched.out (map string_bytes given.items) (NoOf (F.held folder.old))
         (O.contents out.old) (O.contents out.new)) }
+    // With status 2 nothing went out, or a front of what is printed of the words: of the right
+    // answer, if memory ran out for the rest or no more was taken, or of what goes to standard
+    // output with a fault; or they ask for help or the version.
+    ensures front { result ≡ 2 → Appends (O.contents out.old) (O.contents out.new) []
+        ⊎ IsOkAnd words (λ given.
+        WentInPart watched.out watched.err (map string_bytes given.items) (F.held folder.old)
+        (F.held folder.new) (O.contents out.old) (O.contents out.new)
+        ⊎ AsksHelp (map string_bytes given.items)) }
 {
     match words {
         Ok(words) => run(rt, folder, alloc, words.as_slice(), out, err, watched),

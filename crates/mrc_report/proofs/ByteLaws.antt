@@ -1,7 +1,7 @@
--- Bytes of hexadecimal digits, one after the other.
-use Rattle.std.proofs.Common.{ℕ, List, ◌++◌, Option}
+-- What stands before others that may be missing.
+use Rattle.std.proofs.Common.{List, ◌++◌, Option}
 use Rattle.std.specs.Prelude.{option_map}
 
 -- these stand before the others
-abbrev pub with_front : List ℕ → Option (List ℕ) → Option (List ℕ)
-with_front front o = option_map (λ bytes. front ++ bytes) o
+abbrev pub with_front : {A : Type 0} → List A → Option (List A) → Option (List A)
+with_front front o = option_map (λ items. front ++ items) o

@@ -16,10 +16,8 @@ use Rattle.mrc_machine.specs.declared.call.Call.TheVariants as call
 use Rattle.mrc_report.specs.declared.script.TaskCall.{TaskCall}
 use Rattle.mrc_words.specs.Numbers.{number_of_word}
 use Rattle.mrc_report.specs.Parameters.{byte_of, bytes_of_digits}
-use Rattle.mrc_report.specs.Calls.{insert_right, names, port_call_named, dropping_call_named}
-use Rattle.mrc_report.specs.Calls.{call_named}
-use Rattle.mrc_report.specs.Calls.{child_of_word, caller_of_word, said_by, script_says, receive}
-use Rattle.mrc_report.specs.Waiting.{live_says, wait_says}
+use Rattle.mrc_report.specs.Calls.{numbers_made, made, port_call, child_of_word, caller_of_word}
+use Rattle.mrc_report.specs.Calls.{said_by}
 use Rattle.mrc_report.specs.Scripts.{script_of}
 use Rattle.mrc_report.specs.Printing.{reply_text, event_line, end_line}
 
@@ -38,25 +36,24 @@ at n task call = record { number = n; says = record { task = task; call = call; 
 two_calls : script_of false tasks (text (
     codes "l insert_right 2 009 1 19" ∷ [] ∷ codes "f names 1 #" ∷ []))
     ≡ Ok (at 1 0 (call.InsertRight 2 9 1 CopySend) ∷ at 3 1 (call.Names 1) ∷ [])
-unfolding body line_of words between_blanks is_blank script_says said_by caller_of_word call_named
-    port_call_named insert_right names number_of_word
+unfolding body line_of words between_blanks is_blank caller_of_word said_by port_call made
+    numbers_made number_of_word
 two_calls = refl
 
 -- a task that is not wired calls by its number, with zeros in front or not; a wired one, and each
 -- where tasks run as threads, by its name alone
 child : script_of false tasks (codes "@002 names 1") ≡ Ok (at 1 2 (call.Names 1) ∷ [])
-unfolding body line_of words between_blanks is_blank script_says said_by caller_of_word
-    child_of_word call_named port_call_named names number_of_word
+unfolding body line_of words between_blanks is_blank caller_of_word child_of_word said_by port_call
+    made numbers_made number_of_word
 child = refl
 
 wired_by_number : script_of false tasks (codes "@1 names 1") ≡ Err (BadLine 1)
-unfolding body line_of words between_blanks is_blank script_says said_by caller_of_word
-    child_of_word call_named port_call_named names number_of_word
+unfolding body line_of words between_blanks is_blank caller_of_word child_of_word said_by port_call
+    made numbers_made number_of_word
 wired_by_number = refl
 
 child_as_thread : script_of true tasks (codes "@2 names 1") ≡ Err (BadLine 1)
-unfolding body line_of words between_blanks is_blank live_says said_by call_named
-    port_call_named names number_of_word
+unfolding body line_of words between_blanks is_blank said_by
 child_as_thread = refl
 
 -- a line that waits, where tasks run as threads; and the same in a replay
@@ -65,12 +62,12 @@ waiting : script_of true tasks (codes "f wait 2 24")
       number = 1;
       says = record { task = 1; call = call.Receive 2 24; waits = true };
     } ∷ [])
-unfolding body line_of words between_blanks is_blank live_says wait_says receive number_of_word
+unfolding body line_of words between_blanks is_blank said_by port_call made numbers_made
+    number_of_word
 waiting = refl
 
 no_waiting : script_of false tasks (codes "f wait 2 24") ≡ Err (BadLine 1)
-unfolding body line_of words between_blanks is_blank script_says said_by caller_of_word call_named
-    port_call_named dropping_call_named
+unfolding body line_of words between_blanks is_blank caller_of_word said_by
 no_waiting = refl
 
 -- a text without words
@@ -81,8 +78,8 @@ nothing = refl
 -- the first wrong line is told
 another_task : script_of false tasks (text (codes "f names 1" ∷ codes "g names 1" ∷ codes "f" ∷ []))
     ≡ Err (BadLine 2)
-unfolding body line_of words between_blanks is_blank script_says said_by caller_of_word call_named
-    port_call_named names number_of_word
+unfolding body line_of words between_blanks is_blank caller_of_word said_by port_call made
+    numbers_made number_of_word
 another_task = refl
 
 -- digits of either case; one that is over spells no byte
@@ -117,9 +114,9 @@ listed_child : event_line table 9 2 DeadTask ≡ codes "9 @2 dead task\n"
 unfolding digits
 listed_child = refl
 
-made : reply_text (Created 2 3) ≡ codes "task 2 name 3"
+created : reply_text (Created 2 3) ≡ codes "task 2 name 3"
 unfolding digits
-made = refl
+created = refl
 
 ends : end_line 2 2 ≡ codes "end events 2 ports 2\n"
 unfolding digits

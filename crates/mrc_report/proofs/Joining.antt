@@ -1,9 +1,10 @@
--- Facts of the element at each place of a list that grows at its end, or is taken from the front.
+-- The threads of a script, joined one after the other, and what they have done.
 use Rattle.std.proofs.Common.{◌≡◌, ◌+◌, ℕ, zero, suc, List, [], ◌∷◌, ◌++◌, Option, Some, None}
-use Rattle.std.proofs.Common.{length, map, slice_get, refl, sym, ap, ◌∙◌, subst, arith, MatchResult}
+use Rattle.std.proofs.Common.{length, map, slice_get, refl, sym, ap, ◌∙◌, subst, MatchResult}
 use Rattle.std.proofs.Common.{IfOk, IfErr}
 use Rattle.std.proofs.lemmas.List.{length-map, map-append}
 use Rattle.std.specs.Prelude.{Result, Ok, Err}
+use Rattle.mrc_base.proofs.Places.{each_pushed}
 use Rattle.mrc_live.proofs.Following.{one_there}
 use Rattle.mrc_live.specs.Desks.{SeatState}
 use Rattle.mrc_live.specs.declared.event.Made.{Made}
@@ -15,44 +16,6 @@ use Rattle.mrc_report.specs.declared.playing.Halt.TheVariants.{Stopped as Halted
 use Rattle.mrc_report.specs.declared.playing.Halt.TheVariants.{JournalFull, Memory}
 use Rattle.mrc_report.specs.declared.script.TaskCall.{TaskCall}
 use Rattle.mrc_wiring_text.specs.declared.reading.Line.{Line}
-
--- the one element of a list
-only_there : {X : Type 0} (P : ℕ → X → Type 0) (x : X) → P 0 x
-    → (k : ℕ) (y : X) → slice_get (x ∷ []) k ≡ Some y → P k y
-only_there P x holds zero y at = subst (P 0) (one_there (x ∷ []) 0 0 x y refl at refl) holds
-only_there P x holds (suc k) y at = absurd cc
-
--- one element more at the end
-pub each_pushed : {X : Type 0} (P : ℕ → X → Type 0) (xs : List X) (x : X)
-    → ((k : ℕ) (y : X) → slice_get xs k ≡ Some y → P k y) → P (length xs) x
-    → (k : ℕ) (y : X) → slice_get (xs ++ x ∷ []) k ≡ Some y → P k y
-each_pushed P [] x each holds k y at = only_there P x holds k y at
-each_pushed P (z ∷ xs) x each holds zero y at = each zero y at
-each_pushed P (z ∷ xs) x each holds (suc k) y at =
-    each_pushed (λ j. P (suc j)) xs x (λ j w. each (suc j) w) holds k y at
-
--- the same, where the list and its length have names of their own
-pub each_grown : {X : Type 0} (P : ℕ → X → Type 0) (xs zs : List X) (x : X) (n : ℕ)
-    → zs ≡ xs ++ x ∷ [] → n ≡ length xs
-    → ((k : ℕ) (y : X) → slice_get xs k ≡ Some y → P k y) → P n x
-    → (k : ℕ) (y : X) → slice_get zs k ≡ Some y → P k y
-each_grown P xs zs x n longer len each holds k y at =
-    each_pushed P xs x each (subst (λ m. P m x) len holds) k y
-    (ap (λ ws. slice_get ws k) (sym longer) ∙ at)
-
--- the first element, and those behind it, where places are counted from n
-pub each_first : {X : Type 0} (P : ℕ → X → Type 0) (n : ℕ) (x : X) (xs ys : List X)
-    → xs ≡ x ∷ ys → ((k : ℕ) (y : X) → slice_get xs k ≡ Some y → P (n + k) y) → P n x
-each_first P n x xs ys is each =
-    let same : n + 0 ≡ n = omega arith in
-    subst (λ m. P m x) same (each zero x (ap (λ ws. slice_get ws 0) is))
-
-pub each_later : {X : Type 0} (P : ℕ → X → Type 0) (n m : ℕ) (x : X) (xs ys : List X)
-    → xs ≡ x ∷ ys → ((k : ℕ) (y : X) → slice_get xs k ≡ Some y → P (n + k) y) → m ≡ n + 1
-    → (k : ℕ) (y : X) → slice_get ys k ≡ Some y → P (m + k) y
-each_later P n m x xs ys is each next k y at =
-    let same : n + suc k ≡ m + k = omega (arith, next) in
-    subst (λ j. P j y) same (each (suc k) y (ap (λ ws. slice_get ws (suc k)) is ∙ at))
 
 -- by cases on two facts of one result
 pub from_both : {H X : Type 0} (x : Result H X) (A B : H → Type 0) (C D : X → Type 0) (Q : Type 0)

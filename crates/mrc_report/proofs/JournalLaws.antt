@@ -1,12 +1,12 @@
 -- From a journal and the seats that have played a script to what is printed of it.
 use Rattle.std.proofs.Common.{◌≡◌, ◌<◌, ◌≤◌, ◌+◌, ℕ, zero, suc, Bool, true, false, List, []}
 use Rattle.std.proofs.Common.{◌∷◌, ◌++◌}
-use Rattle.std.proofs.Common.{length, map, take, get_or, slice_get, Some, refl, sym, ap, ◌∙◌}
-use Rattle.std.proofs.Common.{subst, arith, ◌==◌, cond, inl, inr}
+use Rattle.std.proofs.Common.{length, map, get_or, slice_get, Some, refl, sym, ap, ◌∙◌}
+use Rattle.std.proofs.Common.{subst, arith, ◌==◌, cond, inl, inr, drop, drop-cons, add-one}
+use Rattle.std.proofs.Common.{append_assoc}
 use Rattle.std.proofs.lemmas.Bool.Decides.{eqb_tells}
-use Rattle.std.proofs.lemmas.List.{length-map, map-append, length-take, take_all}
+use Rattle.std.proofs.lemmas.List.{append-nil, drop_all, length-map, map-append}
 use Rattle.std.proofs.lemmas.Option.{slice_get_within, slice_get-get_or}
-use Rattle.std.proofs.Math.Seq.{take-suc}
 use Rattle.std.specs.List.Sorted.{IsNonDecreasing}
 use Rattle.std.specs.Prelude.{IfSome, IsPermutation}
 use Rattle.mrc_check.specs.Verdict.{Case}
@@ -21,7 +21,6 @@ use Rattle.mrc_machine.specs.declared.call.Call.{Call as LiveCall}
 use Rattle.mrc_model.specs.Map.{len}
 use Rattle.mrc_model.specs.Runs.{Event}
 use Rattle.mrc_model.specs.World.{World}
-use Rattle.mrc_report.proofs.ReplayLaws.{line_on}
 use Rattle.mrc_report.specs.Halts.{IsHalted, WaitsInVain, next_line, next_numbers}
 use Rattle.mrc_report.specs.Journal.{IsLive, calls_by, journal_text}
 use Rattle.mrc_report.specs.Plays.{Begins, SaysAll, SaysFirst, asked_of, calls_of}
@@ -31,40 +30,28 @@ use Rattle.mrc_report.specs.declared.script.TaskCall.{TaskCall}
 use Rattle.mrc_wiring.specs.Table.{Table}
 use Rattle.mrc_wiring_text.specs.declared.reading.Line.{Line}
 
--- the line of one more event
-pub printed_next : (table : Table) (all : List LiveEvent) (n : ℕ) (e : LiveEvent)
-    (before after : List ℕ)
-    → before ≡ event_lines table 0 (map event_of (take n all))
-    → n < length all → e ≡ get_or all n e
-    → after ≡ before ++ event_line table n e.task (reply_of e.reply)
-    → after ≡ event_lines table 0 (map event_of (take (n + 1) all))
-printed_next table all n e before after was within is shown =
-    let front = map event_of (take n all) in
-    let few : 0 + length front ≡ n =
-    omega (arith, length-map (take n all) event_of, length-take n all) in
-    let place : suc n ≡ n + 1 = omega arith in
-    let more : take (n + 1) all ≡ take n all ++ e ∷ [] =
-    ap (λ k. take k all) (sym place) ∙ take-suc all n e within
-    ∙ ap (λ x. take n all ++ x ∷ []) (sym is) in
-    let line = event_line table n e.task (reply_of e.reply) in
-    shown
-    ∙ ap (λ text. text ++ line) was
-    ∙ ap (λ k. event_lines table 0 front ++ event_line table k e.task (reply_of e.reply)) (sym few)
-    ∙ sym (line_on table 0 front (event_of e))
-    ∙ ap (event_lines table 0) (sym (map-append event_of (take n all) (e ∷ [])))
-    ∙ ap (λ es. event_lines table 0 (map event_of es)) (sym more)
+-- what is printed from a place in the events on, where an event is
+pub journal_next : (table : Table) (all : List LiveEvent) (n : ℕ) (e : LiveEvent) (end : List ℕ)
+    → n < length all
+    → e ≡ get_or all n e
+    → event_lines table n (map event_of (drop n all)) ++ end
+    ≡ event_line table n e.task (reply_of e.reply)
+    ++ (event_lines table (n + 1) (map event_of (drop (n + 1) all)) ++ end)
+journal_next table all n e end within is =
+    let parts : drop n all ≡ e ∷ drop (n + 1) all =
+    drop-cons all n e within
+    ∙ (λ i. sym is i ∷ drop (sym (add-one n) i) all) in
+    ap (λ es. event_lines table n (map event_of es) ++ end) parts
+    ∙ append_assoc (event_line table n e.task (reply_of e.reply))
+    (event_lines table (n + 1) (map event_of (drop (n + 1) all))) end
 
--- the last line
-pub printed_whole : (table : Table) (all : List LiveEvent) (n ports : ℕ) (before after : List ℕ)
-    → before ≡ event_lines table 0 (map event_of (take n all))
+-- and behind all events
+pub journal_end : (table : Table) (all : List LiveEvent) (n : ℕ) (end : List ℕ)
     → length all ≤ n
-    → after ≡ before ++ end_line (length all) ports
-    → after ≡ journal_text table all ports
-printed_whole table all n ports before after was past shown =
-    shown
-    ∙ ap (λ text. text ++ end_line (length all) ports) was
-    ∙ ap (λ es. event_lines table 0 (map event_of es) ++ end_line (length all) ports)
-    (take_all n all past)
+    → event_lines table n (map event_of (drop n all)) ++ end ≡ end ++ []
+journal_end table all n end past =
+    ap (λ es. event_lines table n (map event_of es) ++ end) (drop_all n all past)
+    ∙ sym (append-nil end)
 
 -- the events of a task are those of a seat
 abbrev pub IsOne : ℕ → ℕ → List LiveEvent → Type 0

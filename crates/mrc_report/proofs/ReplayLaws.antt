@@ -1,7 +1,9 @@
 -- Runs that go on by one call after the other.
 use Rattle.std.proofs.Common.{◌≡◌, ℕ, suc, ◌+◌, ◌<◌, ◌≤◌, List, [], ◌∷◌, ◌++◌, length, map, take}
-use Rattle.std.proofs.Common.{get_or, sym, ap, subst, ◌∙◌, arith, append_assoc}
-use Rattle.std.proofs.lemmas.List.{append-nil, length-map, map-append, length-take, take_all}
+use Rattle.std.proofs.Common.{get_or, sym, ap, subst, ◌∙◌, arith, append_assoc, drop, drop-cons}
+use Rattle.std.proofs.Common.{add-one, refl}
+use Rattle.std.proofs.lemmas.List.{append-nil, drop_all, length-append, length-map, length-take}
+use Rattle.std.proofs.lemmas.List.{map-append}
 use Rattle.std.proofs.Math.Seq.{take-suc}
 use Rattle.mrc_model.specs.Map.{len}
 use Rattle.mrc_model.specs.Wiring.{Wiring}
@@ -15,7 +17,7 @@ use Rattle.mrc_wiring.specs.Table.{Table, wiring_of}
 use Rattle.mrc_machine.specs.Calls.{call_of}
 use Rattle.mrc_report.specs.declared.script.TaskCall.{TaskCall}
 use Rattle.mrc_report.specs.Printing.{event_line, end_line}
-use Rattle.mrc_report.specs.Replay.{asked, made, event_lines, IsReplay}
+use Rattle.mrc_report.specs.Replay.{IsReplay, asked, event_lines, made, replay_from, replay_text}
 
 -- a run that leads on by one event
 run_on : (W : Wiring) (v w x : World) (es : List Event) (e : Event)
@@ -118,13 +120,63 @@ played_next table all n line before after text printed reply p within is next sh
     subst (λ ls. Played table ls after printed) front
     (subst (Played table (take n all ++ line ∷ []) after) (sym shown) on)
 
--- the loop has come to the end
-pub played_whole : (table : Table) (all : List (Line TaskCall)) (n : ℕ) (world : World)
-    (text printed : List ℕ)
-    → Played table (take n all) world text
+-- what is printed from a place in the lines on, where a line is
+pub told_next : (table : Table) (all : List (Line TaskCall)) (n : ℕ) (line : Line TaskCall)
+    (world : World)
+    → n < length all
+    → line ≡ get_or all n line
+    → replay_from table n world (drop n all)
+    ≡ event_line table n line.says.task
+    (step (wiring_of table) world line.says.task (call_of line.says.call)).1
+    ++ replay_from table (n + 1)
+    (step (wiring_of table) world line.says.task (call_of line.says.call)).0 (drop (n + 1) all)
+told_next table all n line world within is =
+    let parts : drop n all ≡ line ∷ drop (n + 1) all =
+    drop-cons all n line within
+    ∙ (λ i. sym is i ∷ drop (sym (add-one n) i) all) in
+    ap (replay_from table n world) parts
+
+-- and behind all lines
+pub told_end : (table : Table) (all : List (Line TaskCall)) (n : ℕ) (world : World)
+    → n ≤ length all
     → length all ≤ n
-    → printed ≡ text ++ end_line (length all) (len world.store.ports)
-    → IsReplay table all printed
-played_whole table all n world text printed p past shown =
-    subst (IsReplay table all) (sym shown) (all_played table all world text
-    (subst (λ ls. Played table ls world text) (take_all n all past) p))
+    → replay_from table n world (drop n all) ≡ end_line (length all) (len world.store.ports) ++ []
+told_end table all n world within past =
+    let same : n ≡ length all = omega (arith, within, past) in
+    ap (replay_from table n world) (drop_all n all past)
+    ∙ ap (λ k. end_line k (len world.store.ports)) same
+    ∙ sym (append-nil (end_line (length all) (len world.store.ports)))
+
+-- the run of some lines goes on by the others
+told_on : (table : Table) (before after : List (Line TaskCall)) (world : World) (text : List ℕ)
+    → Played table before world text
+    → IsReplay table (before ++ after) (text ++ replay_from table (length before) world after)
+told_on table before [] world text played =
+    subst (λ ls. IsReplay table ls
+    (text ++ end_line (length before) (len world.store.ports))) (sym (append-nil before))
+    (all_played table before world text played)
+told_on table before (l ∷ ls) world text played =
+    let next = step (wiring_of table) world l.says.task (call_of l.says.call) in
+    let line = event_line table (length before) l.says.task next.1 in
+    let more : length (before ++ l ∷ []) ≡ length before + 1 = length-append before (l ∷ []) in
+    let lines : (before ++ l ∷ []) ++ ls ≡ before ++ l ∷ ls = append_assoc before (l ∷ []) ls in
+    let shown : (text ++ line) ++ replay_from table (length (before ++ l ∷ [])) next.0 ls
+    ≡ text ++ (line ++ replay_from table (length before + 1) next.0 ls) =
+    ap (λ k. (text ++ line) ++ replay_from table k next.0 ls) more
+    ∙ append_assoc text line (replay_from table (length before + 1) next.0 ls) in
+    subst (λ s. IsReplay table s
+    (text ++ replay_from table (length before) world (l ∷ ls))) lines
+    (subst (IsReplay table ((before ++ l ∷ []) ++ ls)) shown
+    (told_on table (before ++ l ∷ []) ls next.0 (text ++ line)
+    (played_on table before l world next.0 text next.1 (length before) played refl refl)))
+
+-- what is printed of a script is the run of its calls
+pub replay_told : (table : Table) (script : List (Line TaskCall))
+    → IsReplay table script (replay_text table script)
+replay_told table script =
+    told_on table [] script (first (wiring_of table)) [] record {
+      events = [];
+      calls = refl;
+      run = refl;
+      printed = refl;
+    }

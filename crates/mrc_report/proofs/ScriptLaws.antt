@@ -9,7 +9,7 @@ use Rattle.mrc_wiring_text.specs.declared.reading.Line.{Line}
 use Rattle.mrc_wiring_text.specs.Lexis.{lines}
 use Rattle.mrc_wiring_text.proofs.TextLaws.{body_says, says_body}
 use Rattle.mrc_report.specs.declared.script.TaskCall.{TaskCall}
-use Rattle.mrc_report.specs.Waiting.{line_says}
+use Rattle.mrc_report.specs.Calls.{line_says}
 use Rattle.mrc_report.specs.Scripts.{IsScript, script_of}
 
 -- what was read is said by the text

@@ -1,8 +1,9 @@
 pub mod Parameters
+pub mod Table
 pub mod Calls
-pub mod Waiting
 pub mod Scripts
 pub mod Printing
+pub mod Output
 pub mod Replay
 pub mod Plays
 pub mod Journal

@@ -6,6 +6,7 @@ use Rattle.mrc_model.specs.World.{World}
 use Rattle.mrc_model.specs.Reply.{Call}
 use Rattle.mrc_model.specs.First.{first}
 use Rattle.mrc_model.specs.Runs.{Event, Run}
+use Rattle.mrc_model.specs.Step.{step}
 use Rattle.mrc_wiring_text.specs.declared.reading.Line.{Line}
 use Rattle.mrc_wiring.specs.Table.{Table, wiring_of}
 use Rattle.mrc_machine.specs.Calls.{call_of}
@@ -34,3 +35,23 @@ pub record IsReplay (table : Table) (script : List (Line TaskCall)) (text : List
   pub run : Run (wiring_of table) (first (wiring_of table)) events world
   pub printed : text ≡ event_lines table 0 events
       ++ end_line (length events) (len world.store.ports)
+
+-- what is printed of the calls of these lines from a world on, the first event having this number:
+-- a line for each event, and then how many there were and how many ports are live
+abbrev pub replay_from : Table → ℕ → World → List (Line TaskCall) → List ℕ
+replay_from table n world [] = end_line n (len world.store.ports)
+replay_from table n world (l ∷ ls) =
+    event_line table n l.says.task
+    (step (wiring_of table) world l.says.task (call_of l.says.call)).1
+    ++ replay_from table (n + 1)
+    (step (wiring_of table) world l.says.task (call_of l.says.call)).0 ls
+
+-- what is printed of a script
+abbrev pub replay_text : Table → List (Line TaskCall) → List ℕ
+replay_text table script = replay_from table 0 (first (wiring_of table)) script
+
+-- it tells the run of the script's calls
+abbrev pub ReplaysAreTold : Type 0
+ReplaysAreTold =
+    (table : Table) (script : List (Line TaskCall))
+    → IsReplay table script (replay_text table script)

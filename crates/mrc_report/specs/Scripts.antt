@@ -9,7 +9,7 @@ use Rattle.mrc_wiring_text.specs.Lexis.{lines}
 use Rattle.mrc_wiring_text.specs.Reading.{body}
 use Rattle.mrc_wiring_text.specs.Texts.{Say}
 use Rattle.mrc_report.specs.declared.script.TaskCall.{TaskCall}
-use Rattle.mrc_report.specs.Waiting.{line_says}
+use Rattle.mrc_report.specs.Calls.{line_says}
 
 -- a text that is a script of tasks with these names, which run as threads (`live`) or do not, and
 -- what it says

@@ -1,5 +1,5 @@
 -- What came of a script whose tasks run as threads. This profile's own choice.
-use Rattle.std.specs.Prelude.{List, string_bytes}
+use Rattle.std.specs.Prelude.{List}
 use Rattle.mrc_report.specs.Halts.{IsHalted}
 use Rattle.mrc_report.specs.Journal.{IsLive}
 use Rattle.mrc_report.specs.declared.script.TaskCall.{TaskCall}
@@ -10,6 +10,5 @@ use Rattle.mrc_wiring_text.specs.declared.reading.Line.{Line}
 
 -- a journal of all lines of all tasks, or of the first of them where no task can go on
 abbrev pub IsServed : Table → List (Line TaskCall) → Served → Type 0
-IsServed table script (Whole text) = IsLive table script (string_bytes text)
-IsServed table script (AllWait text lines) =
-    IsHalted table script lines.items (string_bytes text)
+IsServed table script (Whole ran) = IsLive table script ran
+IsServed table script (AllWait ran lines) = IsHalted table script lines.items ran

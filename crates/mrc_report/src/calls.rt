@@ -2,246 +2,100 @@
 
 ghost use Rattle.std.specs.Prelude.{◌≡◌, map, IfOk};
 ghost use Rattle.mrc_wiring.specs.Names.{number_of};
-ghost use Rattle.mrc_report.specs.Calls.{allocate, get_refs, insert_right, extract_right};
-ghost use Rattle.mrc_report.specs.Calls.{set_qlimit, port_type, names, rename, call_named};
-ghost use Rattle.mrc_report.specs.Calls.{receive, send, port_call_named};
-ghost use Rattle.mrc_report.specs.Calls.{child_of_word, caller_of_word, said_by};
-ghost use Rattle.mrc_report.specs.Calls.{script_says, dropping_call_named};
-ghost use Rattle.mrc_report.specs.Calls.{move_member, request_notification, deallocate, destroy};
-ghost use Rattle.mrc_report.specs.Calls.{mod_refs, task_terminate, task_create};
+ghost use Rattle.mrc_report.specs.Calls.{numbers_made, made, send, port_call, call_of};
+ghost use Rattle.mrc_report.specs.Calls.{child_of_word, caller_of_word, caller, said_by, line_says};
 
-use crate::parameters::{disp_of_word, message_of_words, right_of_word};
+use crate::parameters::{
+    Value, delta_at, disp_at, message_of_words, number_at, right_at, values_of,
+};
 use crate::script::TaskCall;
+use crate::table::CallName;
 use mrc_base::TaskId;
 use mrc_machine::Call;
 use mrc_wiring::Wired;
-use mrc_wiring_text::is_word;
-use mrc_words::{delta_of_word, number_of_word};
+use mrc_words::number_of_word;
 use std::alloc::{AllocError, Global};
 use std::str;
 
-#[tactic(auto, unfolding(crate::specs::Calls::receive))]
-pub(crate) fn receive(words: &[&[u8]]) -> Option<Call>
-    ensures { result ≡ receive (map (λ word. word.now) words.now) }
+/// A call whose parameters are numbers, with their values.
+#[tactic(auto, unfolding(crate::specs::Calls::numbers_made))]
+fn numbers_made(call: CallName, values: &[Value]) -> Option<Call>
+    ensures { result ≡ numbers_made call values.now }
 {
-    match *words {
-        [name, limit] => Some(Call::Receive {
-            name: number_of_word(name)?,
-            limit: number_of_word(limit)?,
-        }),
-        _ => None,
-    }
+    let task = number_at(values, 0);
+    let name = number_at(values, 1);
+    let limit = number_at(values, 2);
+    Some(match call {
+        CallName::Receive | CallName::Wait => Call::Receive {
+            name: number_at(values, 0),
+            limit: number_at(values, 1),
+        },
+        CallName::SetQlimit => Call::SetQlimit { task, name, limit },
+        CallName::PortType => Call::PortType { task, name },
+        CallName::Names => Call::Names { task },
+        CallName::Rename => Call::Rename {
+            task,
+            old: number_at(values, 1),
+            new: number_at(values, 2),
+        },
+        CallName::Deallocate => Call::Deallocate { task, name },
+        CallName::Destroy => Call::Destroy { task, name },
+        CallName::MoveMember => Call::MoveMember {
+            task,
+            member: number_at(values, 1),
+            set: number_at(values, 2),
+        },
+        CallName::TaskCreate => Call::CreateTask { task },
+        CallName::TaskTerminate => Call::Terminate { task },
+        _ => return None,
+    })
 }
 
-#[tactic(auto, unfolding(crate::specs::Calls::allocate))]
-fn allocate(words: &[&[u8]]) -> Option<Call>
-    ensures { result ≡ allocate (map (λ word. word.now) words.now) }
+/// A call with the values of its parameters: none of `send`, whose HEX is no value.
+#[tactic(auto, unfolding(crate::specs::Calls::made))]
+fn made(call: CallName, values: &[Value]) -> Option<Call>
+    ensures { result ≡ made call values.now }
 {
-    match *words {
-        [task, right] => Some(Call::Allocate {
-            task: number_of_word(task)?,
-            right: right_of_word(right)?,
-            kind: 0,
-        }),
-        [task, right, kind] => Some(Call::Allocate {
-            task: number_of_word(task)?,
-            right: right_of_word(right)?,
-            kind: number_of_word(kind)?,
-        }),
-        _ => None,
-    }
-}
-
-#[tactic(auto, unfolding(crate::specs::Calls::get_refs))]
-fn get_refs(words: &[&[u8]]) -> Option<Call>
-    ensures { result ≡ get_refs (map (λ word. word.now) words.now) }
-{
-    match *words {
-        [task, name, right] => Some(Call::GetRefs {
-            task: number_of_word(task)?,
-            name: number_of_word(name)?,
-            right: right_of_word(right)?,
-        }),
-        _ => None,
-    }
-}
-
-#[tactic(auto, unfolding(crate::specs::Calls::insert_right))]
-fn insert_right(words: &[&[u8]]) -> Option<Call>
-    ensures { result ≡ insert_right (map (λ word. word.now) words.now) }
-{
-    match *words {
-        [task, name, right, disp] => Some(Call::InsertRight {
-            task: number_of_word(task)?,
-            name: number_of_word(name)?,
-            right: number_of_word(right)?,
-            disp: disp_of_word(disp)?,
-        }),
-        _ => None,
-    }
-}
-
-#[tactic(auto, unfolding(crate::specs::Calls::extract_right))]
-fn extract_right(words: &[&[u8]]) -> Option<Call>
-    ensures { result ≡ extract_right (map (λ word. word.now) words.now) }
-{
-    match *words {
-        [task, name, disp] => Some(Call::ExtractRight {
-            task: number_of_word(task)?,
-            name: number_of_word(name)?,
-            disp: disp_of_word(disp)?,
-        }),
-        _ => None,
-    }
-}
-
-#[tactic(auto, unfolding(crate::specs::Calls::set_qlimit))]
-fn set_qlimit(words: &[&[u8]]) -> Option<Call>
-    ensures { result ≡ set_qlimit (map (λ word. word.now) words.now) }
-{
-    match *words {
-        [task, name, limit] => Some(Call::SetQlimit {
-            task: number_of_word(task)?,
-            name: number_of_word(name)?,
-            limit: number_of_word(limit)?,
-        }),
-        _ => None,
-    }
-}
-
-#[tactic(auto, unfolding(crate::specs::Calls::port_type))]
-fn port_type(words: &[&[u8]]) -> Option<Call>
-    ensures { result ≡ port_type (map (λ word. word.now) words.now) }
-{
-    match *words {
-        [task, name] => Some(Call::PortType {
-            task: number_of_word(task)?,
-            name: number_of_word(name)?,
-        }),
-        _ => None,
-    }
-}
-
-#[tactic(auto, unfolding(crate::specs::Calls::names))]
-fn names(words: &[&[u8]]) -> Option<Call>
-    ensures { result ≡ names (map (λ word. word.now) words.now) }
-{
-    match *words {
-        [task] => Some(Call::Names {
-            task: number_of_word(task)?,
-        }),
-        _ => None,
-    }
-}
-
-#[tactic(auto, unfolding(crate::specs::Calls::rename))]
-fn rename(words: &[&[u8]]) -> Option<Call>
-    ensures { result ≡ rename (map (λ word. word.now) words.now) }
-{
-    match *words {
-        [task, old, new] => Some(Call::Rename {
-            task: number_of_word(task)?,
-            old: number_of_word(old)?,
-            new: number_of_word(new)?,
-        }),
-        _ => None,
-    }
-}
-
-#[tactic(auto, unfolding(crate::specs::Calls::move_member))]
-fn move_member(words: &[&[u8]]) -> Option<Call>
-    ensures { result ≡ move_member (map (λ word. word.now) words.now) }
-{
-    match *words {
-        [task, member, set] => Some(Call::MoveMember {
-            task: number_of_word(task)?,
-            member: number_of_word(member)?,
-            set: number_of_word(set)?,
-        }),
-        _ => None,
-    }
-}
-
-#[tactic(auto, unfolding(crate::specs::Calls::request_notification))]
-fn request_notification(words: &[&[u8]]) -> Option<Call>
-    ensures { result ≡ request_notification (map (λ word. word.now) words.now) }
-{
-    match *words {
-        [task, name, id, sync, notify, disp] => Some(Call::RequestNotification {
-            task: number_of_word(task)?,
-            name: number_of_word(name)?,
-            id: number_of_word(id)?,
-            sync: number_of_word(sync)?,
-            notify: number_of_word(notify)?,
-            disp: disp_of_word(disp)?,
-        }),
-        _ => None,
-    }
-}
-
-#[tactic(auto, unfolding(crate::specs::Calls::deallocate))]
-fn deallocate(words: &[&[u8]]) -> Option<Call>
-    ensures { result ≡ deallocate (map (λ word. word.now) words.now) }
-{
-    match *words {
-        [task, name] => Some(Call::Deallocate {
-            task: number_of_word(task)?,
-            name: number_of_word(name)?,
-        }),
-        _ => None,
-    }
-}
-
-#[tactic(auto, unfolding(crate::specs::Calls::destroy))]
-fn destroy(words: &[&[u8]]) -> Option<Call>
-    ensures { result ≡ destroy (map (λ word. word.now) words.now) }
-{
-    match *words {
-        [task, name] => Some(Call::Destroy {
-            task: number_of_word(task)?,
-            name: number_of_word(name)?,
-        }),
-        _ => None,
-    }
-}
-
-#[tactic(auto, unfolding(crate::specs::Calls::mod_refs))]
-fn mod_refs(words: &[&[u8]]) -> Option<Call>
-    ensures { result ≡ mod_refs (map (λ word. word.now) words.now) }
-{
-    match *words {
-        [task, name, right, delta] => Some(Call::ModRefs {
-            task: number_of_word(task)?,
-            name: number_of_word(name)?,
-            right: right_of_word(right)?,
-            delta: delta_of_word(delta)?,
-        }),
-        _ => None,
-    }
-}
-
-#[tactic(auto, unfolding(crate::specs::Calls::task_terminate))]
-fn task_terminate(words: &[&[u8]]) -> Option<Call>
-    ensures { result ≡ task_terminate (map (λ word. word.now) words.now) }
-{
-    match *words {
-        [task] => Some(Call::Terminate {
-            task: number_of_word(task)?,
-        }),
-        _ => None,
-    }
-}
-
-#[tactic(auto, unfolding(crate::specs::Calls::task_create))]
-fn task_create(words: &[&[u8]]) -> Option<Call>
-    ensures { result ≡ task_create (map (λ word. word.now) words.now) }
-{
-    match *words {
-        [task] => Some(Call::CreateTask {
-            task: number_of_word(task)?,
-        }),
-        _ => None,
-    }
+    let task = number_at(values, 0);
+    let name = number_at(values, 1);
+    Some(match call {
+        CallName::Allocate => Call::Allocate {
+            task,
+            right: right_at(values, 1),
+            kind: number_at(values, 2),
+        },
+        CallName::GetRefs => Call::GetRefs {
+            task,
+            name,
+            right: right_at(values, 2),
+        },
+        CallName::InsertRight => Call::InsertRight {
+            task,
+            name,
+            right: number_at(values, 2),
+            disp: disp_at(values, 3),
+        },
+        CallName::ExtractRight => Call::ExtractRight {
+            task,
+            name,
+            disp: disp_at(values, 2),
+        },
+        CallName::ModRefs => Call::ModRefs {
+            task,
+            name,
+            right: right_at(values, 2),
+            delta: delta_at(values, 3),
+        },
+        CallName::RequestNotification => Call::RequestNotification {
+            task,
+            name,
+            id: number_at(values, 2),
+            sync: number_at(values, 3),
+            notify: number_at(values, 4),
+            disp: disp_at(values, 5),
+        },
+        _ => return numbers_made(call, values),
+    })
 }
 
 /// The message of the words is sent.
@@ -255,73 +109,32 @@ fn send(alloc: Global, words: &[&[u8]]) -> Result<Option<Call>, AllocError>
     }
 }
 
-/// A call that drops references, a name or a task, by its name.
-#[tactic(auto, unfolding(crate::specs::Calls::dropping_call_named))]
-fn dropping_call_named(name: &[u8], parameters: &[&[u8]]) -> Option<Call>
-    ensures { result ≡ dropping_call_named name.now (map (λ word. word.now) parameters.now) }
+/// A call but sending, with the words of its parameters.
+#[tactic(auto, unfolding(crate::specs::Calls::port_call))]
+fn port_call(alloc: Global, name: CallName, words: &[&[u8]]) -> Result<Option<Call>, AllocError>
+    ensures { IfOk result (λ call. call ≡ port_call name (map (λ word. word.now) words.now)) }
 {
-    if is_word(name, "deallocate") {
-        deallocate(parameters)
-    } else if is_word(name, "destroy") {
-        destroy(parameters)
-    } else if is_word(name, "mod_refs") {
-        mod_refs(parameters)
-    } else if is_word(name, "task_terminate") {
-        task_terminate(parameters)
-    } else {
-        None
+    if words.len() < name.least() {
+        return Ok(None);
+    }
+    match values_of(alloc, name.parameters(), words)? {
+        Some(values) => Ok(made(name, &values)),
+        None => Ok(None),
     }
 }
 
-/// A call but sending by its name, with the words of its parameters.
-#[tactic(auto, unfolding(crate::specs::Calls::port_call_named))]
-fn port_call_named(name: &[u8], parameters: &[&[u8]]) -> Option<Call>
-    ensures { result ≡ port_call_named name.now (map (λ word. word.now) parameters.now) }
+/// A call with the words of its parameters.
+fn call_of(alloc: Global, name: CallName, words: &[&[u8]]) -> Result<Option<Call>, AllocError>
+    ensures { IfOk result (λ call. call ≡ call_of name (map (λ word. word.now) words.now)) }
 {
-    if is_word(name, "receive") {
-        receive(parameters)
-    } else if is_word(name, "allocate") {
-        allocate(parameters)
-    } else if is_word(name, "get_refs") {
-        get_refs(parameters)
-    } else if is_word(name, "insert_right") {
-        insert_right(parameters)
-    } else if is_word(name, "extract_right") {
-        extract_right(parameters)
-    } else if is_word(name, "set_qlimit") {
-        set_qlimit(parameters)
-    } else if is_word(name, "type") {
-        port_type(parameters)
-    } else if is_word(name, "names") {
-        names(parameters)
-    } else if is_word(name, "rename") {
-        rename(parameters)
-    } else if is_word(name, "task_create") {
-        task_create(parameters)
-    } else if is_word(name, "move_member") {
-        move_member(parameters)
-    } else if is_word(name, "request_notification") {
-        request_notification(parameters)
-    } else {
-        dropping_call_named(name, parameters)
-    }
-}
-
-/// A call by its name, with the words of its parameters.
-#[tactic(auto, unfolding(crate::specs::Calls::call_named))]
-fn call_named(alloc: Global, name: &[u8], parameters: &[&[u8]]) -> Result<Option<Call>, AllocError>
-    ensures { IfOk result
-        (λ call. call ≡ call_named name.now (map (λ word. word.now) parameters.now)) }
-{
-    if is_word(name, "send") {
-        send(alloc, parameters)
-    } else {
-        Ok(port_call_named(name, parameters))
+    match name {
+        CallName::Send => send(alloc, words),
+        _ => port_call(alloc, name, words),
     }
 }
 
 /// The wired task of a name.
-pub(crate) fn task_of_word(wired: &Wired, word: &[u8]) -> Option<TaskId>
+fn task_of_word(wired: &Wired, word: &[u8]) -> Option<TaskId>
     ensures { result ≡ number_of wired.now.names word.now }
 {
     let _tasks = wired.tasks();
@@ -356,43 +169,58 @@ fn caller_of_word(wired: &Wired, word: &[u8]) -> Option<TaskId>
     }
 }
 
-/// The call of this task, if there is one.
+/// Who calls: where tasks run as threads (`live`) a wired task alone.
+fn caller(wired: &Wired, live: bool, word: &[u8]) -> Option<TaskId>
+    ensures { result ≡ caller live wired.now.names word.now }
+{
+    if live {
+        task_of_word(wired, word)
+    } else {
+        caller_of_word(wired, word)
+    }
+}
+
+/// The call of this name by this task, if both are there.
 #[tactic(auto, unfolding(crate::specs::Calls::said_by))]
-pub(crate) fn said_by(
+fn said_by(
     alloc: Global,
-    caller: Option<TaskId>,
-    name: &[u8],
+    task: Option<TaskId>,
+    name: Option<CallName>,
     parameters: &[&[u8]],
 ) -> Result<Option<TaskCall>, AllocError>
     ensures { IfOk result
-        (λ says. says ≡ said_by caller name.now (map (λ word. word.now) parameters.now)) }
+        (λ says. says ≡ said_by task name (map (λ word. word.now) parameters.now)) }
 {
-    let Some(task) = caller else {
+    let Some(task) = task else {
         return Ok(None);
     };
-    let Some(call) = call_named(alloc, name, parameters)? else {
+    let Some(name) = name else {
+        return Ok(None);
+    };
+    let Some(call) = call_of(alloc, name, parameters)? else {
         return Ok(None);
     };
     Ok(Some(TaskCall {
         task,
         call,
-        waits: false,
+        waits: name.is_wait(),
     }))
 }
 
-/// What the words of a line say in a replay: the call of a task.
-#[tactic(auto, unfolding(crate::specs::Calls::script_says))]
-pub(crate) fn script_says(
+/// What the words of a line say: the call of a task.
+pub(crate) fn line_says(
     alloc: Global,
     wired: &Wired,
+    live: bool,
     words: &[&[u8]],
 ) -> Result<Option<TaskCall>, AllocError>
     ensures { IfOk result
-        (λ says. says ≡ script_says wired.now.names (map (λ word. word.now) words.now)) }
+        (λ says. says ≡ line_says live wired.now.names (map (λ word. word.now) words.now)) }
 {
     match *words {
         [task, name, ref parameters @ ..] => {
-            said_by(alloc, caller_of_word(wired, task), name, parameters)
+            let caller = caller(wired, live, task);
+            said_by(alloc, caller, CallName::named(live, name), parameters)
         }
         _ => Ok(None),
     }

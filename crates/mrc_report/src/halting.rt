@@ -112,6 +112,7 @@ fn next_lines(
     ensures lines { IfOk result (λ some. IfSome some (λ lines. lines.items ≡
         next_numbers script.now (map event_of events.now)
         (wiring_in guarded.old.confined).tasks)) }
+    ensures kept { IfOk result (λ some. IfSome some (λ _. guarded.new ≡ guarded.old)) }
     ensures confined { guarded.new.confined ≡ guarded.old.confined }
 {
     let tasks = guarded.confined().wired().tasks();
@@ -140,6 +141,7 @@ pub(crate) fn waiting_lines(
         (wiring_in guarded.old.confined).tasks) lines.items)) }
     ensures ascending { IfOk result
         (λ some. IfSome some (λ lines. IsNonDecreasing lines.items)) }
+    ensures kept { IfOk result (λ some. IfSome some (λ _. guarded.new ≡ guarded.old)) }
     ensures confined { guarded.new.confined ≡ guarded.old.confined }
 {
     let Some(mut lines) = next_lines(alloc, guarded, script, events)? else {

@@ -4,6 +4,7 @@
 
 mod calls;
 mod halting;
+mod outgoing;
 mod parameters;
 mod playing;
 mod printing;
@@ -11,13 +12,15 @@ mod replaying;
 mod running;
 mod script;
 mod serving;
-mod waiting;
+mod table;
 
 pub use mrc_files::{ReadFault, WriteFault, read_all, read_fault, write_text};
-pub use parameters::{bytes_of_digits, digit_value, disp_of_word, joined, right_of_word};
+pub use outgoing::Unprinted;
+pub use parameters::{Parameter, Value, bytes_of_digits, digit_value, joined};
 pub use playing::LiveFault;
 pub use printing::{code_word, end_line, event_line, reply_text, waits_text};
-pub use replaying::replay;
+pub use replaying::{replay, replays_are_told};
 pub use running::{Stopped, run_live};
 pub use script::{Script, TaskCall, read_script};
-pub use serving::{NotServed, ServeFault, Served, journal_text, serve};
+pub use serving::{NotServed, Ran, ServeFault, Served, serve};
+pub use table::CallName;

@@ -7,10 +7,10 @@ ghost use Rattle.mrc_wiring_text.specs.declared.reading.Line.{Line};
 ghost use Rattle.mrc_wiring_text.specs.Lexis.{lines};
 ghost use Rattle.mrc_wiring_text.specs.Reading.{line_of, body};
 ghost use Rattle.mrc_report.specs.declared.script.TaskCall.{TaskCall};
-ghost use Rattle.mrc_report.specs.Waiting.{line_says};
+ghost use Rattle.mrc_report.specs.Calls.{line_says};
 ghost use Rattle.mrc_report.specs.Scripts.{IsScript, script_of};
 
-use crate::waiting::line_says;
+use crate::calls::line_says;
 use mrc_base::limits::LINES;
 use mrc_base::{OrMemory, TaskId};
 use mrc_machine::Call;

@@ -1,14 +1,16 @@
 //! A script, run by tasks as threads from what was checked to what is printed.
 
-ghost use Rattle.std.specs.Prelude.{◌≡◌, ◌≤◌, IfErr, IfOk, string_bytes, vec_len};
+ghost use Rattle.std.specs.Prelude.{◌≡◌, ◌≤◌, IfErr, IfOk, OnOk, length, take, vec_len};
+ghost use Rattle.std.specs.Io.KnownBytes.{Appends};
 ghost use Rattle.mrc_base.specs.Limits.{limit_of_events, limit_of_parts};
 ghost use Rattle.mrc_confine.specs.Guards.{wiring_in};
-ghost use Rattle.mrc_model.specs.Map.{len};
 ghost use Rattle.mrc_report.specs.Journal.{journal_text};
+ghost use Rattle.mrc_report.specs.Output.{HasFailed, written};
 ghost use Rattle.mrc_report.specs.Plays.{SaysAll, SaysFirst};
 ghost use Rattle.mrc_report.specs.Served.{IsServed};
 
 use crate::halting::waiting_lines;
+use crate::outgoing::{Unprinted, nothing, pass_on, print};
 use crate::playing::LiveFault;
 use crate::printing::{end_line, event_line};
 use crate::running::{Stopped, run_script};
@@ -16,9 +18,11 @@ use crate::script::Script;
 use mrc_base::{Gate, OrMemory};
 use mrc_check::Confined;
 use mrc_confine::Guarded;
-use mrc_live::{Event, Live, NotOpened, Seat, Unfinished, Why};
+use mrc_files::Sink;
+use mrc_live::{Event, Journal, Live, NotOpened, Seat, Unfinished, Why};
 use mrc_wiring::Wired;
-use std::alloc::{AllocError, Global};
+use std::alloc::Global;
+use std::marker::Model;
 use std::sync::Wait;
 use std::sync::ledger::{Blank, Ledger};
 use std::thread::Threads;
@@ -47,14 +51,53 @@ pub enum ServeFault {
     Awake,
 }
 
+/// A journal, and the machine in the world after it. Contracts see it as what is printed of it.
+#[derive(Debug, Drop)]
+pub struct Ran {
+    journal: Journal,
+    guarded: Guarded,
+}
+
+impl Model for Ran {
+    ghost use Rattle.std.specs.Prelude.{List, ℕ};
+    ghost use Rattle.mrc_model.specs.Map.{len};
+    ghost use Rattle.mrc_report.specs.Journal.{journal_text};
+
+    ghost Value = { List ℕ };
+
+    ghost view = { λ r. journal_text r.guarded.confined.claim.table r.journal
+        (len r.guarded.world.store.ports) };
+}
+
+impl Ran {
+    /// Prints a line for each event of the journal, and the last line. Some of it is kept back, so
+    /// that short lines go out together; it takes memory for some lines and this.
+    pub fn print<S: Sink>(&self, alloc: Global, sink: &mut S) -> Result<(), Unprinted>
+        // All of it was appended.
+        ensures whole { OnOk result (Appends (S.contents sink.old) (S.contents sink.new) self.now) }
+        // Else its first bytes were, as many as the fault counts.
+        ensures cut { IfErr result (λ fault. Appends (S.contents sink.old) (S.contents sink.new)
+            (take (written fault) self.now)) }
+        ensures within { IfErr result (λ fault. written fault ≤ length self.now) }
+        // It is done only if no write and no flush failed.
+        ensures passed { OnOk result (S.failures sink.new ≡ S.failures sink.old) }
+        // A failed write is reported if and only if one failed.
+        ensures failed { IfErr result (HasFailed (S.failures sink.old) (S.failures sink.new)) }
+    {
+        let wired = self.guarded.confined().wired();
+        let ports = self.guarded.world().live_ports();
+        print_journal(alloc, wired, self.journal.events(), ports, sink)
+    }
+}
+
 /// What came of a script.
 #[derive(Debug, Drop)]
 pub enum Served {
-    /// All tasks have said all their lines: what is printed of the journal.
-    Whole(String),
-    /// All tasks that have lines left wait for messages: what is printed of the journal so far, and
-    /// the numbers of the lines that wait, ascending.
-    AllWait(String, Vec<u32>),
+    /// All tasks have said all their lines: the journal.
+    Whole(Ran),
+    /// All tasks that have lines left wait for messages: the journal so far, and the numbers of the
+    /// lines that wait, ascending.
+    AllWait(Ran, Vec<u32>),
 }
 
 /// A script that was not run to its end, with what was passed.
@@ -93,53 +136,46 @@ fn unfinished<L: Ledger>(refused: Unfinished<L>) -> Unserved
     (OrMemory::Fault(fault), refused.live.into_confined())
 }
 
-/// What is printed of a journal: a line for each event, and the last line.
-pub fn journal_text(
+/// Prints a journal: a line for each event, and the last line.
+fn print_journal<S: Sink>(
     alloc: Global,
     wired: &Wired,
     events: &[Event],
     ports: usize,
-) -> Result<String, AllocError>
-    ensures { IfOk result
-        (λ text. string_bytes text ≡ journal_text wired.now events.now ports) }
+    sink: &mut S,
+) -> Result<(), Unprinted>
+    ensures whole { OnOk result (Appends (S.contents sink.old) (S.contents sink.new)
+        (journal_text wired.now events.now ports)) }
+    ensures cut { IfErr result (λ fault. Appends (S.contents sink.old) (S.contents sink.new)
+        (take (written fault) (journal_text wired.now events.now ports))) }
+    ensures within { IfErr result
+        (λ fault. written fault ≤ length (journal_text wired.now events.now ports)) }
+    ensures passed { OnOk result (S.failures sink.new ≡ S.failures sink.old) }
+    ensures failed { IfErr result (HasFailed (S.failures sink.old) (S.failures sink.new)) }
 {
-    let mut text = String::new(alloc);
+    let mut out = nothing(alloc);
     for (number, event) in events.iter().enumerate() {
-        let line = event_line(alloc, wired, number, event.task, &event.reply)?;
-        text.push_str(line.as_str())?;
+        let Ok(line) = event_line(alloc, wired, number, event.task, &event.reply) else {
+            return Err(Unprinted::Memory(out.written));
+        };
+        print(sink, &mut out, line.as_str())?;
     }
-    let end = end_line(alloc, events.len(), ports)?;
-    text.push_str(end.as_str())?;
-    Ok(text)
-}
-
-/// What is printed of the journal of a server.
-fn journal_of(alloc: Global, guarded: &Guarded, events: &[Event]) -> Result<String, AllocError>
-    ensures { IfOk result (λ text. string_bytes text ≡ journal_text guarded.now.confined.claim.table
-        events.now (len guarded.now.world.store.ports)) }
-{
-    let wired = guarded.confined().wired();
-    let ports = guarded.world().live_ports();
-    journal_text(alloc, wired, events, ports)
+    let Ok(end) = end_line(alloc, events.len(), ports) else {
+        return Err(Unprinted::Memory(out.written));
+    };
+    print(sink, &mut out, end.as_str())?;
+    pass_on(sink, &mut out)
 }
 
 /// What came of a script of which each task has said all its lines.
-fn whole<L: Ledger>(
-    alloc: Global,
-    live: Live<L>,
-    seats: Vec<Seat<L>>,
-    script: &Script,
-) -> Result<Served, Unserved>
+fn whole<L: Ledger>(live: Live<L>, seats: Vec<Seat<L>>, script: &Script) -> Result<Served, Unserved>
     requires all { vec_len seats ≡ (wiring_in live).tasks }
     requires said { SaysAll script.now seats.items }
     ensures served { IfOk result (IsServed live.claim.table script.now) }
     ensures returned { IfErr result (λ refused. refused.1 ≡ live) }
 {
     match live.finish(seats) {
-        Ok((journal, guarded)) => match journal_of(alloc, &guarded, journal.events()) {
-            Ok(text) => Ok(Served::Whole(text)),
-            Err(_) => Err((OrMemory::Memory, guarded.into_confined())),
-        },
+        Ok((journal, guarded)) => Ok(Served::Whole(Ran { journal, guarded })),
         Err(refused) => Err(unfinished(refused)),
     }
 }
@@ -158,14 +194,11 @@ fn halted<L: Ledger>(
 {
     match live.finish(seats) {
         Ok((journal, mut guarded)) => {
-            let Ok(text) = journal_of(alloc, &guarded, journal.events()) else {
-                return Err((OrMemory::Memory, guarded.into_confined()));
-            };
             let Ok(waiting) = waiting_lines(alloc, &mut guarded, script, journal.events()) else {
                 return Err((OrMemory::Memory, guarded.into_confined()));
             };
             match waiting {
-                Some(lines) => Ok(Served::AllWait(text, lines)),
+                Some(lines) => Ok(Served::AllWait(Ran { journal, guarded }, lines)),
                 None => Err((OrMemory::Fault(ServeFault::Awake), guarded.into_confined())),
             }
         }
@@ -185,7 +218,7 @@ fn run_at<L: Ledger + Send + Sync, R: Threads + Wait + Sync, G: Gate>(
     ensures returned { IfErr result (λ refused. refused.1 ≡ live) }
 {
     match run_script(rt, alloc, &live, script, gate) {
-        Ok(seats) => whole(alloc, live, seats, script),
+        Ok(seats) => whole(live, seats, script),
         Err(OrMemory::Memory) => Err((OrMemory::Memory, live.into_confined())),
         Err(
             OrMemory::Fault(
@@ -245,10 +278,10 @@ fn run<L: Ledger + Send + Sync, R: Threads + Wait + Sync, G: Gate>(
 }
 
 /// Runs a script on what was checked, from the first state of its wiring on: one thread and one
-/// seat for each task, each entering the gate once before its first line. Returns what is printed
-/// of the journal, which is whole, or ends when all tasks that have lines left wait for messages.
-/// The limit is that of the journal, and the blank that of the ledger. With a refusal what was
-/// checked comes back with the script.
+/// seat for each task, each entering the gate once before its first line. Returns the journal,
+/// which is whole, or ends when all tasks that have lines left wait for messages. The limit is that
+/// of the journal, and the blank that of the ledger. With a refusal what was checked comes back
+/// with the script.
 pub fn serve<L: Ledger + Send + Sync, R: Threads + Wait + Sync, G: Gate>(
     rt: &R,
     alloc: Global,

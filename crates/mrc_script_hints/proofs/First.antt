@@ -1,7 +1,7 @@
 -- The parameters before the first wrong one are right, and it is not.
 use Rattle.std.proofs.Common.{◌≡◌, ℕ, zero, suc, ◌<◌, true, false, cond, List, [], ◌∷◌, refl}
 use Rattle.std.proofs.Common.{arith}
-use Rattle.mrc_script_hints.specs.declared.parameters.Parameter.{Parameter}
+use Rattle.mrc_report.specs.declared.parameters.Parameter.{Parameter}
 use Rattle.mrc_script_hints.specs.Table.{fits, fitting}
 use Rattle.mrc_script_hints.specs.Laws.{fits_at, IsFirstWrong, TheFirstIsWrong}
 

@@ -1,7 +1,6 @@
 -- What loops have passed, and what is left.
 use Rattle.std.proofs.Common.{◌≡◌, ℕ, ◌+◌, ◌<◌, List, [], ◌∷◌, ◌++◌, length, get_or, take}
 use Rattle.std.proofs.Common.{Option, Some, None, refl, sym, ap, ◌∙◌}
-use Rattle.std.specs.Prelude.{option_map}
 use Rattle.std.specs.List.{filter_map, cons_option}
 use Rattle.std.specs.Option.{option_to_list}
 use Rattle.std.proofs.lemmas.List.{take_more}
@@ -10,10 +9,6 @@ use Rattle.mrc_wiring_text.specs.declared.reading.Line.{Line}
 use Rattle.mrc_wiring_text.specs.declared.wiring.WiringSays.{WiringSays}
 use Rattle.mrc_wiring.specs.GivenLines.{task_named, task_names}
 use Rattle.mrc_script_hints.specs.declared.hexes.DigitPlace.{DigitPlace}
-
--- bytes before others
-abbrev pub with_front : List ℕ → Option (List ℕ) → Option (List ℕ)
-with_front front o = option_map (λ bytes. front ++ bytes) o
 
 -- a place behind so many words more
 abbrev pub moved : ℕ → DigitPlace → DigitPlace

@@ -1,5 +1,5 @@
 -- Which word of a line is the first wrong one, by computation: the values were worked out by hand.
-use Rattle.std.proofs.Common.{◌≡◌, ℕ, Bool, true, false, List, [], ◌∷◌, Some, None, refl}
+use Rattle.std.proofs.Common.{◌≡◌, ℕ, true, false, List, [], ◌∷◌, Some, None, refl}
 use Rattle.std.specs.Prelude.{codes, decimal, ◌++◌}
 use Rattle.mrc_desc.specs.declared.fault.ReadFault.TheVariants.{TooShort, BadHeaderDisp, Truncated}
 use Rattle.mrc_desc.specs.Reading.{message_at, args_at, arg_at, desc_at, said_at, judged, data_at}
@@ -7,7 +7,7 @@ use Rattle.mrc_report.specs.Calls.{caller_of_word, child_of_word}
 use Rattle.mrc_report.specs.Parameters.{right_of_word, byte_of}
 use Rattle.mrc_words.specs.Numbers.{number_of_word}
 use Rattle.mrc_wiring_text.specs.Lexis.{is_blank, between_blanks, words}
-use Rattle.mrc_script_hints.specs.declared.calls.CallName.TheVariants as call
+use Rattle.mrc_report.specs.declared.table.CallName.TheVariants as call
 use Rattle.mrc_script_hints.specs.declared.hexes.HexFault.TheVariants as hex
 use Rattle.mrc_script_hints.specs.declared.wrong.Found.{Found}
 use Rattle.mrc_script_hints.specs.declared.wrong.Wrong.TheVariants as wrong

@@ -1,8 +1,8 @@
 -- Believe. What is wrong in the HEX of a message, and behind how many of its digits. The faults of
 -- a message are those of its reading; the byte of each is this profile's own choice.
-use Rattle.std.specs.Prelude.{ℕ, suc, ◌+◌, ◌-◌, ◌*◌, ◌/◌, ◌%◌, ◌&&◌, Bool, true, false, not, min, nat_lt, nat_le, ◌==◌}
-use Rattle.std.specs.Prelude.{is_some, List, [], ◌∷◌, length, slice_index_or, Option, Some, None}
-use Rattle.std.specs.Prelude.{Result, Ok, Err, if◌then◌else◌}
+use Rattle.std.specs.Prelude.{ℕ, suc, ◌+◌, ◌-◌, ◌*◌, ◌/◌, ◌%◌, ◌&&◌, Bool, true, false, not, min}
+use Rattle.std.specs.Prelude.{nat_lt, nat_le, ◌==◌, is_some, List, [], ◌∷◌, length}
+use Rattle.std.specs.Prelude.{slice_index_or, Option, Some, None, Result, Ok, Err, if◌then◌else◌}
 use Rattle.std.specs.List.{position_or_len}
 use Rattle.mrc_base.specs.Limits.{limit_of_message}
 use Rattle.mrc_model.specs.Message.{Message}

@@ -9,7 +9,7 @@ use Rattle.mrc_place.specs.declared.spots.Hint.{Hint}
 use Rattle.mrc_place.specs.declared.spots.Spot.{Spot}
 use Rattle.mrc_wiring.specs.GivenLines.{task_names}
 use Rattle.mrc_wiring_text.specs.declared.faults.TextFault.{TextFault}
-use Rattle.mrc_wiring_text.specs.declared.faults.TextFault.TheVariants.{NotUtf8, BadLine, Version}
+use Rattle.mrc_wiring_text.specs.declared.faults.TextFault.TheVariants.{BadLine}
 use Rattle.mrc_wiring_text.specs.declared.reading.Line.{Line}
 use Rattle.mrc_wiring_text.specs.declared.wiring.WiringSays.{WiringSays}
 use Rattle.mrc_wiring_text.specs.Lexis.{lines, words}

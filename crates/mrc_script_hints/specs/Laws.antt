@@ -2,9 +2,9 @@
 -- wrong word is the first that does not fit.
 use Rattle.std.specs.Prelude.{ℕ, ◌≡◌, ◌<◌, ◌≤◌, Bool, true, false, is_some, List, [], length}
 use Rattle.std.specs.Prelude.{slice_index_or}
-use Rattle.mrc_report.specs.Waiting.{line_says}
-use Rattle.mrc_script_hints.specs.declared.parameters.Parameter.{Parameter}
-use Rattle.mrc_script_hints.specs.declared.parameters.Parameter.TheVariants.{Number}
+use Rattle.mrc_report.specs.Calls.{line_says}
+use Rattle.mrc_report.specs.declared.parameters.Parameter.{Parameter}
+use Rattle.mrc_report.specs.declared.parameters.Parameter.TheVariants.{Number}
 use Rattle.mrc_script_hints.specs.Table.{fits, fitting}
 use Rattle.mrc_script_hints.specs.Wrong.{is_right}
 

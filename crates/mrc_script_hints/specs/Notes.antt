@@ -1,26 +1,26 @@
 -- Believe. What is said of the first wrong word of a line of a script: what may be there, and what
 -- may be meant. This profile's own choice.
-use Rattle.std.specs.Prelude.{ℕ, Bool, true, false, ◌≡◌, ◌&&◌, bytes_eq, codes, decimal, nat_le, ◌==◌}
-use Rattle.std.specs.Prelude.{nat_eq, map, length, drop, slice_get, List, [], ◌∷◌, ◌++◌}
+use Rattle.std.specs.Prelude.{ℕ, Bool, true, false, ◌≡◌, ◌&&◌, bytes_eq, codes, decimal, nat_le}
+use Rattle.std.specs.Prelude.{◌==◌, nat_eq, map, length, drop, slice_get, List, [], ◌∷◌, ◌++◌}
 use Rattle.std.specs.Prelude.{Option, Some, None, MatchOption, if◌then◌else◌}
 use Rattle.std.specs.List.{starts_with}
-use Rattle.std.specs.Option.{option_map, option_to_list}
+use Rattle.std.specs.Option.{option_to_list}
 use Rattle.mrc_desc.specs.declared.fault.ReadFault.{ReadFault}
 use Rattle.mrc_desc.specs.declared.fault.ReadFault.TheVariants.{TooShort, TooLong, BadHeaderDisp}
 use Rattle.mrc_desc.specs.declared.fault.ReadFault.TheVariants.{BadDesc, OutOfLine, Truncated}
 use Rattle.mrc_desc.specs.declared.fault.ReadFault.TheVariants.{ComplexDiffers}
 use Rattle.mrc_place.specs.Distance.{AreFar, IsNearest}
 use Rattle.mrc_place.specs.Lists.{alternatives, listed}
-use Rattle.mrc_script_hints.specs.declared.calls.CallName.{CallName}
-use Rattle.mrc_script_hints.specs.declared.calls.CallName.TheVariants as call
+use Rattle.mrc_report.specs.declared.table.CallName.{CallName}
+use Rattle.mrc_report.specs.declared.table.CallName.TheVariants as call
 use Rattle.mrc_script_hints.specs.declared.hexes.HexFault.{HexFault}
 use Rattle.mrc_script_hints.specs.declared.hexes.HexFault.TheVariants as hex
-use Rattle.mrc_script_hints.specs.declared.parameters.Parameter.{Parameter}
-use Rattle.mrc_script_hints.specs.declared.parameters.Parameter.TheVariants.{Number, HeldRight}
-use Rattle.mrc_script_hints.specs.declared.parameters.Parameter.TheVariants.{Disposition, Delta}
+use Rattle.mrc_report.specs.declared.parameters.Parameter.{Parameter}
+use Rattle.mrc_report.specs.declared.parameters.Parameter.TheVariants.{Number, HeldRight}
+use Rattle.mrc_report.specs.declared.parameters.Parameter.TheVariants.{Disposition, Delta}
 use Rattle.mrc_script_hints.specs.declared.wrong.Wrong.{Wrong}
 use Rattle.mrc_script_hints.specs.declared.wrong.Wrong.TheVariants as wrong
-use Rattle.mrc_script_hints.specs.Table.{call_text, parameters, least, calls}
+use Rattle.mrc_report.specs.Table.{call_text, parameters, least, calls}
 
 -- the words of rights
 abbrev pub right_words : List (List ℕ)
@@ -174,7 +174,8 @@ fault_name ComplexDiffers = codes "ComplexDiffers"
 -- what the disposition of a header has to be
 abbrev pub disp_meaning : ℕ → List ℕ
 disp_meaning byte =
-    if byte == 0 then codes "the disposition of the destination has to be 17 to 21 (digits 11 to 15)"
+    if byte == 0
+    then codes "the disposition of the destination has to be 17 to 21 (digits 11 to 15)"
     else codes "the disposition of the reply port has to be 17 to 21, or 0 if its name is 0"
 
 -- what the fault means, if it is at this byte

@@ -1,12 +1,11 @@
 -- Believe. The first word of a line of a script that is wrong, by the table of the calls. This
 -- profile's own choice.
-use Rattle.std.specs.Prelude.{ℕ, ◌+◌, Bool, true, false, is_some, flat_map, List, [], ◌∷◌, drop}
+use Rattle.std.specs.Prelude.{ℕ, ◌+◌, Bool, false, is_some, flat_map, List, [], ◌∷◌}
 use Rattle.std.specs.Prelude.{Option, Some, None, ◌&&◌, if◌then◌else◌}
-use Rattle.mrc_name_table.specs.Names.{number_of}
-use Rattle.mrc_report.specs.Calls.{caller_of_word}
+use Rattle.mrc_report.specs.Calls.{caller}
 use Rattle.mrc_report.specs.Parameters.{message_of_words}
-use Rattle.mrc_script_hints.specs.declared.calls.CallName.{CallName}
-use Rattle.mrc_script_hints.specs.declared.calls.CallName.TheVariants as call
+use Rattle.mrc_report.specs.declared.table.CallName.{CallName}
+use Rattle.mrc_report.specs.declared.table.CallName.TheVariants as call
 use Rattle.mrc_script_hints.specs.declared.hexes.HexFault.{HexFault}
 use Rattle.mrc_script_hints.specs.declared.hexes.HexFault.TheVariants as hex
 use Rattle.mrc_script_hints.specs.declared.hexes.HexSeen.{HexSeen}
@@ -14,14 +13,14 @@ use Rattle.mrc_script_hints.specs.declared.hexes.DigitPlace.{DigitPlace}
 use Rattle.mrc_script_hints.specs.declared.wrong.Found.{Found}
 use Rattle.mrc_script_hints.specs.declared.wrong.Wrong.{Wrong}
 use Rattle.mrc_script_hints.specs.declared.wrong.Wrong.TheVariants as wrong
-use Rattle.mrc_script_hints.specs.Table.{call_named, parameters, fitting, are_parameters}
+use Rattle.mrc_report.specs.Table.{call_named, parameters}
+use Rattle.mrc_script_hints.specs.Table.{fitting, are_parameters}
 use Rattle.mrc_script_hints.specs.Hexes.{hex_seen, digit_place}
 
 -- a word is a task that may call: of a script that tasks run as threads (`live`) the name of a
 -- wired one
 abbrev pub is_caller : Bool → List (List ℕ) → List ℕ → Bool
-is_caller true tasks word = is_some (number_of tasks word)
-is_caller false tasks word = is_some (caller_of_word tasks word)
+is_caller live tasks word = is_some (caller live tasks word)
 
 -- this is wrong behind so many words that are right
 abbrev pub behind_words : ℕ → Wrong → Found

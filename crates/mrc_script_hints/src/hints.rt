@@ -17,7 +17,7 @@ use crate::notes::{notes, text_note};
 use crate::wrong::{Found, Wrong, found_in};
 use mrc_base::limits::LINES;
 use mrc_place::{Hint, Spot, byte_spot, word_spot};
-use mrc_wiring_text::{TextFault, WiringLine, WiringSays, between_blanks, first_line, spaced};
+use mrc_wiring_text::{TextFault, WiringLine, WiringSays, between_blanks, nth_line, spaced};
 use std::alloc::{AllocError, Global};
 use std::str;
 
@@ -79,23 +79,6 @@ fn word_of(spot: &Option<Spot>) -> &str
         Some(spot) => spot.word.as_str(),
         None => "",
     }
-}
-
-/// The line behind so many others: empty if there is none.
-fn nth_line(text: &[u8], above: usize) -> &[u8]
-    ensures { result.now ≡ slice_index_or (lines text.now) above [] }
-{
-    let mut rest = text;
-    let mut left = above;
-    while !rest.is_empty() {
-        let (line, after) = first_line(rest);
-        if left == 0 {
-            return line;
-        }
-        left -= 1;
-        rest = after;
-    }
-    &[]
 }
 
 fn task_named(line: &WiringLine) -> Option<&str>

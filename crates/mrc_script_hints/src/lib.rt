@@ -2,7 +2,6 @@
 //! place.
 #![tactic(auto)]
 
-mod calls;
 mod hexes;
 mod hints;
 pub mod laws;

@@ -4,7 +4,7 @@ ghost use Rattle.std.specs.Prelude.{◌≡◌, ◌∷◌, [], map, nat_le, slice
 ghost use Rattle.std.specs.Prelude.{string_bytes};
 ghost use Rattle.std.specs.Option.{option_map, option_to_list};
 ghost use Rattle.mrc_script_hints.specs.declared.wrong.Wrong.TheVariants as wrong;
-ghost use Rattle.mrc_script_hints.specs.Table.{parameters, least};
+ghost use Rattle.mrc_report.specs.Table.{parameters, least};
 ghost use Rattle.mrc_script_hints.specs.Notes.{phrases_of, expected_at, proposals, call_words};
 ghost use Rattle.mrc_script_hints.specs.Notes.{did_you_mean, expected, child_note, tasks_note};
 ghost use Rattle.mrc_script_hints.specs.Notes.{near_task, is_child, task_notes, without_prefix};
@@ -13,12 +13,12 @@ ghost use Rattle.mrc_script_hints.specs.Notes.{word_notes, fault_name, disp_mean
 ghost use Rattle.mrc_script_hints.specs.Notes.{fault_meaning, fault_place, message_notes};
 ghost use Rattle.mrc_script_hints.specs.Notes.{hex_notes, IsNear, AreNotes};
 
-use crate::calls::{CallName, calls};
 use crate::hexes::HexFault;
-use crate::parameters::Parameter;
+use crate::parameters::{phrases, usage};
 use crate::wrong::Wrong;
 use mrc_desc::ReadFault;
 use mrc_place::{alternatives, listed, nearest};
+use mrc_report::{CallName, Parameter};
 use std::alloc::{AllocError, Global};
 
 /// One note.
@@ -90,7 +90,7 @@ fn phrases_of(parameter: Option<Parameter>) -> &'static [&'static str]
     ensures { map (λ text. text.now) result.now ≡ phrases_of parameter }
 {
     match parameter {
-        Some(parameter) => parameter.phrases(),
+        Some(parameter) => phrases(parameter),
         None => &[],
     }
 }
@@ -130,7 +130,7 @@ fn proposals(parameter: Option<Parameter>) -> &'static [&'static str]
     ensures { map (λ text. text.now) result.now ≡ proposals parameter }
 {
     match parameter {
-        Some(Parameter::HeldRight) => Parameter::HeldRight.phrases(),
+        Some(Parameter::HeldRight) => phrases(Parameter::HeldRight),
         _ => &[],
     }
 }
@@ -140,7 +140,7 @@ fn call_words(alloc: Global, live: bool) -> Result<Vec<&'static str>, AllocError
     ensures { IfOk result (λ words. map (λ text. text.now) words.items ≡ call_words live) }
 {
     let mut words = Vec::new(alloc);
-    for call in calls(live) {
+    for call in CallName::all(live) {
         words.push(call.text())?;
     }
     Ok(words)
@@ -285,7 +285,7 @@ fn call_notes(
 fn usage_note(alloc: Global, call: CallName) -> Result<String, AllocError>
     ensures { IfOk result (λ note. string_bytes note ≡ usage_note call) }
 {
-    let usage = call.usage();
+    let usage = usage(call);
     format!(in alloc; "the call is written: {usage}")
 }
 

@@ -2,47 +2,52 @@
 
 ghost use Rattle.std.specs.Prelude.{◌≡◌, ◌≤◌, length, map};
 ghost use Rattle.mrc_script_hints.specs.Table.{fits, fitting};
-ghost use Rattle.mrc_script_hints.specs.Notes.{phrases};
+ghost use Rattle.mrc_script_hints.specs.Notes.{phrases, usage};
 
-use mrc_report::{disp_of_word, right_of_word};
-use mrc_words::{delta_of_word, number_of_word};
+use mrc_report::{CallName, Parameter};
 
-/// The kind of a parameter.
-#[derive(Clone, Copy, Debug, PartialEq, Eq)]
-pub(crate) enum Parameter {
-    /// A number without a sign.
-    Number,
-    /// The word of a right.
-    HeldRight,
-    /// The number of a disposition.
-    Disposition,
-    /// A number with or without a sign.
-    Delta,
+/// Whether a word is a parameter of the kind.
+fn fits(kind: Parameter, word: &[u8]) -> bool
+    ensures { result ≡ fits kind word.now }
+{
+    kind.value_of(word).is_some()
 }
 
-impl Parameter {
-    /// Whether a word is a parameter of the kind.
-    fn fits(self, word: &[u8]) -> bool
-        ensures { result ≡ fits self word.now }
-    {
-        match self {
-            Parameter::Number => number_of_word(word).is_some(),
-            Parameter::HeldRight => right_of_word(word).is_some(),
-            Parameter::Disposition => disp_of_word(word).is_some(),
-            Parameter::Delta => delta_of_word(word).is_some(),
-        }
+/// A kind in words.
+pub(crate) fn phrases(kind: Parameter) -> &'static [&'static str]
+    ensures { map (λ text. text.now) result.now ≡ phrases kind }
+{
+    match kind {
+        Parameter::Number => &["a number to 4,294,967,295"],
+        Parameter::HeldRight => &["send", "receive", "once", "set", "dead"],
+        Parameter::Disposition => &["a disposition from 16 to 21"],
+        Parameter::Delta => &["a number from -2,147,483,648 to 2,147,483,647"],
     }
+}
 
-    /// The kind in words.
-    pub(crate) fn phrases(self) -> &'static [&'static str]
-        ensures { map (λ text. text.now) result.now ≡ phrases self }
-    {
-        match self {
-            Parameter::Number => &["a number to 4,294,967,295"],
-            Parameter::HeldRight => &["send", "receive", "once", "set", "dead"],
-            Parameter::Disposition => &["a disposition from 16 to 21"],
-            Parameter::Delta => &["a number from -2,147,483,648 to 2,147,483,647"],
-        }
+/// How a call is written.
+pub(crate) fn usage(call: CallName) -> &'static str
+    ensures { result.now ≡ usage call }
+{
+    match call {
+        CallName::Send => "send HEX",
+        CallName::Allocate => "allocate TASK RIGHT [KIND]",
+        CallName::GetRefs => "get_refs TASK NAME RIGHT",
+        CallName::InsertRight => "insert_right TASK NAME RIGHT_NAME DISP",
+        CallName::ExtractRight => "extract_right TASK NAME DISP",
+        CallName::SetQlimit => "set_qlimit TASK NAME LIMIT",
+        CallName::PortType => "type TASK NAME",
+        CallName::Names => "names TASK",
+        CallName::Rename => "rename TASK OLD NEW",
+        CallName::Deallocate => "deallocate TASK NAME",
+        CallName::Destroy => "destroy TASK NAME",
+        CallName::ModRefs => "mod_refs TASK NAME RIGHT DELTA",
+        CallName::MoveMember => "move_member TASK MEMBER SET",
+        CallName::RequestNotification => "request_notification TASK NAME ID SYNC NOTIFY DISP",
+        CallName::TaskCreate => "task_create TASK",
+        CallName::TaskTerminate => "task_terminate TASK",
+        CallName::Receive => "receive NAME LIMIT",
+        CallName::Wait => "wait NAME LIMIT",
     }
 }
 
@@ -58,7 +63,7 @@ pub(crate) fn fitting(kinds: &[Parameter], words: &[&[u8]]) -> usize
         let [word, behind @ ..] = rest else {
             return count;
         };
-        if !kind.fits(word) {
+        if !fits(*kind, word) {
             return count;
         }
         count += 1;

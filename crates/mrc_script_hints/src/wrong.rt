@@ -4,16 +4,16 @@ ghost use Rattle.std.specs.Prelude.{◌≡◌, ◌+◌, ◌<◌, ◌^◌, Some, 
 ghost use Rattle.std.specs.Prelude.{bytes_eq, IfOk};
 ghost use Rattle.mrc_name_table.specs.Names.{number_of};
 ghost use Rattle.mrc_report.specs.Calls.{child_of_word, caller_of_word};
-ghost use Rattle.mrc_script_hints.specs.Table.{parameters, fitting};
+ghost use Rattle.mrc_report.specs.Table.{parameters};
+ghost use Rattle.mrc_script_hints.specs.Table.{fitting};
 ghost use Rattle.mrc_script_hints.specs.Wrong.{is_caller, behind_words, found_behind};
 ghost use Rattle.mrc_script_hints.specs.Wrong.{found_behind_task, found_in};
 ghost use Rattle.mrc_script_hints.specs.declared.wrong.Wrong.TheVariants as wrong;
-ghost use Rattle.mrc_script_hints.specs.declared.calls.CallName.TheVariants as call;
+ghost use Rattle.mrc_report.specs.declared.table.CallName.TheVariants as call;
 
-use crate::calls::{CallName, call_named};
 use crate::hexes::{HexFault, digit_place, hex_seen};
 use crate::parameters::fitting;
-use mrc_report::joined;
+use mrc_report::{CallName, joined};
 use mrc_wiring_text::is_word;
 use mrc_words::number_of_word;
 use std::alloc::{AllocError, Global};
@@ -123,7 +123,8 @@ fn found_in_hex(alloc: Global, words: &[&[u8]]) -> Result<Found, AllocError>
 
 /// The first wrong word behind that of a call without HEX.
 fn found_in_words(call: CallName, words: &[&[u8]]) -> Found
-    ensures { result ≡ behind_words (2 + fitting (parameters call) (map (λ word. word.now) words.now))
+    ensures { result
+        ≡ behind_words (2 + fitting (parameters call) (map (λ word. word.now) words.now))
         (wrong.Word call (fitting (parameters call) (map (λ word. word.now) words.now))) }
 {
     let count = fitting(call.parameters(), words);
@@ -151,7 +152,7 @@ fn found_behind_task(alloc: Global, live: bool, words: &[&[u8]]) -> Result<Found
 {
     match *words {
         [] => Ok(behind_words(1, Wrong::Call)),
-        [name, ref words @ ..] => found_behind(alloc, call_named(live, name), words),
+        [name, ref words @ ..] => found_behind(alloc, CallName::named(live, name), words),
     }
 }
 

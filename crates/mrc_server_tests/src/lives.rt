@@ -4,7 +4,7 @@ use crate::file_server::{CAREFUL, FILE_SERVER, NO_KERNEL_PORT, OF_CAREFUL};
 use crate::shelf::{of_shelf, shelf_of};
 use crate::told::{Outcome, wants};
 use mrc_command::{FileNames, Told};
-use mrc_program::{Files, Texts, live_told};
+use mrc_program::{Files, Pending, Texts, live_told};
 use std::alloc::{AllocError, Global};
 use std::process::Abort;
 use std::sync::Wait;
@@ -138,7 +138,7 @@ fn lived_once(
     alloc: Global,
     files: &Files<'_>,
 ) -> Result<Told, AllocError> {
-    live_told(rt, alloc, files, 1)
+    live_told(rt, alloc, files, 1, &mut Pending::nothing())
 }
 
 /// What is printed of a script of the file server, whose journal has one event at most.

@@ -101,7 +101,9 @@ fn codes(rt: HostRuntime) {
 fn replayed(alloc: Global, text: &str) -> Result<String, Fail> {
     let wired = two_tasks(alloc)?;
     let script = script(alloc, text)?.map_err(|_| "no script")?;
-    Ok(replay(alloc, &wired, &script)?)
+    let mut printed = Vec::new(alloc);
+    replay(alloc, &wired, &script, &mut printed).map_err(|_| "not printed")?;
+    Ok(String::from_utf8(printed).map_err(|_| "no text")?)
 }
 
 // l puts its own kernel port into the space of f.

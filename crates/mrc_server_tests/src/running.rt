@@ -11,7 +11,9 @@ use mrc_base::{Gate, OrMemory, TaskId};
 use mrc_check::{Confined, check_texts};
 use mrc_confine::Guarded;
 use mrc_live::{Live, Seat};
-use mrc_report::{LiveFault, NotServed, Script, Served, Stopped, read_script, run_live, serve};
+use mrc_report::{
+    LiveFault, NotServed, Ran, Script, Served, Stopped, read_script, run_live, serve,
+};
 use mrc_wiring::Wired;
 use std::alloc::{AllocError, Global};
 use std::marker::Brand;
@@ -187,11 +189,18 @@ fn served<L: Ledger + Send + Sync, R: Threads + Wait + Sync>(
     Ok(serve::<L, _, _>(rt, alloc, confined, script, limit, blank, &gate(true)))
 }
 
+/// What is printed of a run.
+fn printed(alloc: Global, ran: &Ran) -> Result<String, AllocError> {
+    let mut bytes = Vec::new(alloc);
+    ran.print(alloc, &mut bytes).map_err(|_| AllocError)?;
+    String::from_utf8(bytes).map_err(|_| AllocError)
+}
+
 /// What is told of it.
 fn told(alloc: Global, served: Result<Served, NotServed>) -> Result<String, AllocError> {
     match served {
-        Ok(Served::Whole(text)) => Ok(text),
-        Ok(Served::AllWait(text, _)) => Ok(text),
+        Ok(Served::Whole(ran)) => printed(alloc, &ran),
+        Ok(Served::AllWait(ran, _)) => printed(alloc, &ran),
         Err(
             NotServed {
                 fault: OrMemory::Fault(fault),
@@ -228,8 +237,8 @@ fn waiting(
     served: Result<Served, NotServed>,
 ) -> Result<(String, Vec<u32>), AllocError> {
     match served {
-        Ok(Served::Whole(text)) => Ok((text, Vec::new(alloc))),
-        Ok(Served::AllWait(text, lines)) => Ok((text, lines)),
+        Ok(Served::Whole(ran)) => Ok((printed(alloc, &ran)?, Vec::new(alloc))),
+        Ok(Served::AllWait(ran, lines)) => Ok((printed(alloc, &ran)?, lines)),
         Err(_) => Err(AllocError),
     }
 }

@@ -2,8 +2,8 @@ use Rattle.std.proofs.Common.{sym, ◌∙◌, rules, tests, List, ℕ, Bor}
 use Rattle.std.specs.Prelude.{bytes_eq}
 use Rattle.std.proofs.lemmas.Iterator.{YieldsList-from_slice}
 use Rattle.std.proofs.lemmas.Iterator.Search.{any_from_yields_List}
+use Rattle.mrc_base.proofs.Lists.{any_map}
 use Rattle.mrc_files.specs.Paths.{name}
-use Rattle.mrc_program.proofs.CutLaws.{any_map}
 use Rattle.mrc_program.proofs.cuts.is_named_so.Goals as goal
 
 pub returns : goal.returns

@@ -1,7 +1,8 @@
 use Rattle.std.proofs.Common.{◌≡◌, ◌+◌, MatchResult, vec_len, length, rules, sym, subst}
 use Rattle.std.specs.Vec.Iter.{into_iter_items}
 use Rattle.mrc_report.specs.Plays.{IsPlayed}
-use Rattle.mrc_report.proofs.Joining.{each_first, each_later, from_both, one_more}
+use Rattle.mrc_base.proofs.Places.{each_first, each_later}
+use Rattle.mrc_report.proofs.Joining.{from_both, one_more}
 use Rattle.mrc_report.proofs.running.join_all.Goals as goal
 
 -- the first of the rest has ended with what it promised, and is one more of the seats

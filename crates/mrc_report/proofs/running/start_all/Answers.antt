@@ -1,7 +1,8 @@
 use Rattle.std.proofs.Common.{◌≡◌, ◌+◌, [], MatchResult, length, rules, subst, vec_len}
 use Rattle.std.specs.Vec.Iter.{into_iter_items}
 use Rattle.mrc_report.specs.Plays.{IsPlayed}
-use Rattle.mrc_report.proofs.Joining.{each_grown, each_first, each_later, both_of}
+use Rattle.mrc_base.proofs.Places.{each_grown, each_first, each_later}
+use Rattle.mrc_report.proofs.Joining.{both_of}
 use Rattle.mrc_report.proofs.running.start_all.Goals as goal
 
 pub loop-seat-preserved : goal.loop-seat-preserved

@@ -7,7 +7,7 @@ use Rattle.mrc_wiring_text.specs.Reading.{body}
 use Rattle.mrc_wiring_text.proofs.HeadingLemmas.{is_nil}
 use Rattle.mrc_wiring_text.proofs.BodyLemmas.{with_front, more, body_same, body_goes_on, body_fails}
 use Rattle.mrc_wiring_text.proofs.BodyLemmas.{body_ends}
-use Rattle.mrc_report.specs.Waiting.{line_says}
+use Rattle.mrc_report.specs.Calls.{line_says}
 use Rattle.mrc_report.specs.Scripts.{script_of}
 use Rattle.mrc_report.proofs.script.lines_of.Goals as goal
 use Rattle.mrc_report.proofs.script.lines_of.Goals.{in-Some+in_ok-push, in_default}

@@ -4,7 +4,7 @@ use Rattle.mrc_base.specs.Limits.{limit_of_lines}
 use Rattle.mrc_wiring_text.specs.Lexis.{lines}
 use Rattle.mrc_wiring_text.specs.Reading.{body}
 use Rattle.mrc_wiring_text.proofs.BodyLemmas.{with_front}
-use Rattle.mrc_report.specs.Waiting.{line_says}
+use Rattle.mrc_report.specs.Calls.{line_says}
 use Rattle.mrc_report.specs.Scripts.{script_of}
 use Rattle.mrc_report.proofs.script.lines_of.Given as goal
 

@@ -1,4 +1,4 @@
-use Rattle.std.proofs.Common.{◌≡◌, ◌∙◌, ap, length, rules, string_bytes}
+use Rattle.std.proofs.Common.{◌≡◌, ap, length, rules}
 use Rattle.mrc_check.specs.Verdict.{Case}
 use Rattle.mrc_confine.specs.Guards.{wiring_in}
 use Rattle.mrc_model.specs.Map.{len}
@@ -7,18 +7,15 @@ use Rattle.mrc_report.proofs.JournalLaws.{is_live}
 use Rattle.mrc_report.proofs.serving.whole.Goals as goal
 
 -- what is printed is the journal of the server
-pub returns-in-Ok-journal_of-clause-served : goal.returns-in-Ok-journal_of-clause-served
-returns-in-Ok-journal_of-clause-served g c =
+pub returns-in-Ok-clause-served : goal.returns-in-Ok-clause-served
+returns-in-Ok-clause-served g c =
     let live = c.args.live in
     let seats = c.args.seats.items in
     let done = c.in-Ok.ensures in
     let journal = c.in-Ok.journal in
     let world = c.in-Ok.guarded.world in
-    let text = string_bytes c.in-Ok-journal_of.text in
     let many : length seats ≡ (wiring_in live).tasks = search rules in
-    let table = ap (λ (k : Case). k.claim.table) done.confined in
-    let shown : text ≡ journal_text live.claim.table journal (len world.store.ports) =
-    c.in-Ok-journal_of.ensures
-    ∙ (λ i. journal_text (table i) (c.events.ensures i) (len world.store.ports)) in
-    is_live live c.args.script.now seats journal world text done.run done.parts done.owners
+    let shown = ap (λ (k : Case). journal_text k.claim.table journal (len world.store.ports))
+    done.confined in
+    is_live live c.args.script.now seats journal world _ done.run done.parts done.owners
     done.apart c.requires.said many shown

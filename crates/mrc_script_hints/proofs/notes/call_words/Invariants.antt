@@ -1,5 +1,5 @@
 use Rattle.std.proofs.Common.{◌≡◌, map, take}
-use Rattle.mrc_script_hints.specs.Table.{call_text}
+use Rattle.mrc_report.specs.Table.{call_text}
 use Rattle.mrc_script_hints.proofs.notes.call_words.Given as goal
 
 -- the words so far

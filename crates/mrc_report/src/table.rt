@@ -1,16 +1,15 @@
 //! The calls that a line of a script may have.
 
 ghost use Rattle.std.specs.Prelude.{◌≡◌, ◌≤◌};
-ghost use Rattle.mrc_script_hints.specs.Table.{call_text, parameters, least, calls, call_among};
-ghost use Rattle.mrc_script_hints.specs.Table.{call_named};
-ghost use Rattle.mrc_script_hints.specs.Notes.{usage};
+ghost use Rattle.mrc_report.specs.Table.{call_text, parameters, least, is_wait, calls, call_among};
+ghost use Rattle.mrc_report.specs.Table.{call_named};
 
 use crate::parameters::Parameter;
 use mrc_wiring_text::is_word;
 
-/// A call.
+/// A call of a script, by the word that is written for it.
 #[derive(Clone, Copy, Debug, PartialEq, Eq)]
-pub(crate) enum CallName {
+pub enum CallName {
     /// `send`.
     Send,
     /// `allocate`.
@@ -73,7 +72,7 @@ const CALLS: [CallName; 18] = [
 
 impl CallName {
     /// The word of the call.
-    pub(crate) fn text(self) -> &'static str
+    pub fn text(self) -> &'static str
         ensures { result.now ≡ call_text self }
     {
         match self {
@@ -98,34 +97,8 @@ impl CallName {
         }
     }
 
-    /// How the call is written.
-    pub(crate) fn usage(self) -> &'static str
-        ensures { result.now ≡ usage self }
-    {
-        match self {
-            CallName::Send => "send HEX",
-            CallName::Allocate => "allocate TASK RIGHT [KIND]",
-            CallName::GetRefs => "get_refs TASK NAME RIGHT",
-            CallName::InsertRight => "insert_right TASK NAME RIGHT_NAME DISP",
-            CallName::ExtractRight => "extract_right TASK NAME DISP",
-            CallName::SetQlimit => "set_qlimit TASK NAME LIMIT",
-            CallName::PortType => "type TASK NAME",
-            CallName::Names => "names TASK",
-            CallName::Rename => "rename TASK OLD NEW",
-            CallName::Deallocate => "deallocate TASK NAME",
-            CallName::Destroy => "destroy TASK NAME",
-            CallName::ModRefs => "mod_refs TASK NAME RIGHT DELTA",
-            CallName::MoveMember => "move_member TASK MEMBER SET",
-            CallName::RequestNotification => "request_notification TASK NAME ID SYNC NOTIFY DISP",
-            CallName::TaskCreate => "task_create TASK",
-            CallName::TaskTerminate => "task_terminate TASK",
-            CallName::Receive => "receive NAME LIMIT",
-            CallName::Wait => "wait NAME LIMIT",
-        }
-    }
-
     /// The kinds of its parameters, except HEX.
-    pub(crate) fn parameters(self) -> &'static [Parameter]
+    pub fn parameters(self) -> &'static [Parameter]
         ensures { result.now ≡ parameters self }
     {
         use crate::parameters::Parameter::{Delta, Disposition, HeldRight, Number};
@@ -152,7 +125,7 @@ impl CallName {
     }
 
     /// How many of them there have to be.
-    pub(crate) fn least(self) -> usize
+    pub fn least(self) -> usize
         ensures { result ≡ least self }
     {
         match self {
@@ -160,13 +133,27 @@ impl CallName {
             _ => self.parameters().len(),
         }
     }
-}
 
-/// The calls of a script that tasks run as threads (`live`), or of a replay.
-pub(crate) fn calls(live: bool) -> &'static [CallName]
-    ensures { result.now ≡ calls live }
-{
-    if live { &CALLS } else { &CALLS[..17] }
+    /// Whether the call waits for a message.
+    pub(crate) fn is_wait(self) -> bool
+        ensures { result ≡ is_wait self }
+    {
+        matches!(self, CallName::Wait)
+    }
+
+    /// The calls of a script that tasks run as threads (`live`), or of a replay.
+    pub fn all(live: bool) -> &'static [CallName]
+        ensures { result.now ≡ calls live }
+    {
+        if live { &CALLS } else { &CALLS[..17] }
+    }
+
+    /// The call of a word.
+    pub fn named(live: bool, word: &[u8]) -> Option<CallName>
+        ensures { result ≡ call_named live word.now }
+    {
+        call_among(CallName::all(live), word)
+    }
 }
 
 /// The first of these calls that has this word.
@@ -181,11 +168,4 @@ fn call_among(all: &[CallName], word: &[u8]) -> Option<CallName>
         rest = others;
     }
     None
-}
-
-/// The call of a word.
-pub(crate) fn call_named(live: bool, word: &[u8]) -> Option<CallName>
-    ensures { result ≡ call_named live word.now }
-{
-    call_among(calls(live), word)
 }
