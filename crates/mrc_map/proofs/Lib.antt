@@ -5,5 +5,6 @@ pub mod Changing
 pub mod LookupLaws
 pub mod MemberLaws
 pub mod NextKeys
+pub mod RoomLaws
 pub mod TreeLaws
 pub mod Walks

@@ -54,7 +54,8 @@ gathered_remove {X} k es fs m shown h = same_map _ _ (λ q.
           ∙ sym (get-remove_other m k q apart)
     ])
 
-fresh : {X : Type 0} (k : ℕ) (es : List (ℕ × X))
+-- no entry is the key's
+pub fresh : {X : Type 0} (k : ℕ) (es : List (ℕ × X))
     → AllByRecursion (λ q. nat_eq k q ≡ false) (keys_of es)
     → lookup (nat_eq k) es ≡ None
 fresh k [] h = refl

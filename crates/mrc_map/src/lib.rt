@@ -5,9 +5,11 @@
 mod lookup;
 mod map;
 mod ports;
+mod roomy;
 mod tree;
 
 pub use lookup::Lookup;
 pub use map::Map;
 pub use ports::Ports;
+pub use roomy::Roomy;
 pub use tree::Tree;
