@@ -13,6 +13,7 @@ pub mod DestroyLaws
 pub mod TerminateLaws
 pub mod CreateLaws
 pub mod TakeLaws
+pub mod SentLaws
 pub mod RequestLaws
 pub mod MoveLaws
 pub mod StepLaws

@@ -10,7 +10,7 @@ use crate::state::State;
 use mrc_base::{ClassId, OrMemory, PortId, PortRight, TaskId};
 use mrc_model::{Code, FirstLine};
 use mrc_wiring::Wired;
-use std::alloc::Global;
+use std::alloc::{AllocError, Global};
 use std::marker::Model;
 
 /// The state after some lines, and how many of them were task lines and port lines.
@@ -38,14 +38,16 @@ impl Model for Start {
 
 impl Start {
     /// Before the first line.
-    fn new(alloc: Global) -> Start
-        ensures { result ≡ record { world = no_world; tasks = 0; ports = 0 } }
+    fn new(alloc: Global) -> Result<Start, AllocError>
+        ensures { IfOk result
+            (λ start. start ≡ record { world = no_world; tasks = 0; ports = 0 }) }
     {
-        Start {
-            state: State::new(alloc),
+        let state = State::new(alloc)?;
+        Ok(Start {
+            state,
             tasks: 0,
             ports: 0,
-        }
+        })
     }
 
     /// The next task, of the class that has its number.
@@ -150,9 +152,10 @@ pub(crate) fn built(alloc: Global, wired: &Wired) -> Result<Start, OrMemory<Code
     ensures ok { IfOk result (λ start. built (wiring_of wired.now) ≡ Ok start) }
     ensures refused { IfErr result (λ e. IsFaultOf e (built (wiring_of wired.now))) }
 {
-    let mut start = Start::new(alloc);
+    let mut start = Start::new(alloc)?;
     for line in wired.first_lines() {
-        start = start.add_line(wired, line)?;
+        let next = start.add_line(wired, line)?;
+        start = next;
     }
     Ok(start)
 }

@@ -43,18 +43,20 @@ use mrc_map::{Map, Ports};
 use mrc_model::{Backup, Code, Entry, Item, Verb};
 use mrc_names::{Listing, Space};
 use mrc_ports::Store;
-use mrc_transit::may_item;
+use mrc_transit::{Scratch, may_item};
 use mrc_wiring::Wired;
 use std::alloc::{AllocError, Global};
 use std::marker::Model;
 
-/// All tasks, and the store with their spaces and all ports. Each task has a space, and of two
+/// All tasks, and the store with their spaces and all ports; and room for what the names of one
+/// message give, so that no message takes memory to be judged. Each task has a space, and of two
 /// tasks the later one's kernel port was born later.
 #[derive(Debug, Drop)]
 pub(crate) struct State {
     pub(crate) alloc: Global,
     tasks: Map<Task>,
     pub(crate) store: Store,
+    pub(crate) scratch: Scratch,
 }
 
 impl Model for State {
@@ -132,14 +134,16 @@ fn add_home(store: &mut Store, space: Space, class: ClassId) -> Result<(), Alloc
 
 impl State {
     /// No task and no port.
-    pub(crate) fn new(alloc: Global) -> State
-        ensures { result ≡ no_world }
+    pub(crate) fn new(alloc: Global) -> Result<State, AllocError>
+        ensures { IfOk result (λ state. state ≡ no_world) }
     {
-        State {
+        let scratch = Scratch::new(alloc)?;
+        Ok(State {
             alloc,
             tasks: Map::new(alloc),
             store: Store::new(alloc),
-        }
+            scratch,
+        })
     }
 
     /// Whether the number is that of a live task.

@@ -1,17 +1,21 @@
 -- What changes beside a space come to, and what takings leave.
 use Rattle.std.proofs.Common.{◌≡◌, ℕ, ◌+◌, List, [], ◌∷◌, Option, Some, None, T, inl, inr}
-use Rattle.std.proofs.Common.{refl, sym, ◌∙◌, ap, subst, arith, ◌==◌}
-use Rattle.std.proofs.lemmas.Bool.{cases_eq, ne_eqb}
+use Rattle.std.proofs.Common.{refl, sym, ◌∙◌, ap, subst, arith, ◌==◌, cond, nat_eq}
+use Rattle.std.proofs.lemmas.Bool.{cases_eq, eq-eqb, ne_eqb}
 use Rattle.std.specs.Prelude.{IsSome}
+use Rattle.std.specs.Map.{lookup, keys_of}
+use Rattle.std.specs.List.{IsDistinct}
 use Rattle.mrc_model.specs.declared.Entry.{Entry}
 use Rattle.mrc_model.specs.Rising.{is_rising, find_key, right_holds}
 use Rattle.mrc_model.specs.Map.{Map, empty, get, insert}
 use Rattle.mrc_model.specs.World.{Space}
 use Rattle.mrc_model.specs.Space.{put_entry}
 use Rattle.mrc_model.proofs.Maps.{get-insert_same, get-insert_other, get-empty}
-use Rattle.mrc_model.proofs.Maps.{find_here, find_later, find_low, if_false}
+use Rattle.mrc_model.proofs.Maps.{find_here, find_low, if_false}
 use Rattle.mrc_model.proofs.Maps.{not_None, Each-insert}
 use Rattle.mrc_model.proofs.Spaces.{put_entry_same, put_entry_other}
+use Rattle.mrc_map.specs.Rooms.{AreEntries}
+use Rattle.mrc_map.proofs.LookupLaws.{gathered_get, fresh}
 use Rattle.mrc_map.proofs.SameMaps.{same_map}
 use Rattle.mrc_index.specs.Names.{HoldsAlike, IsRestOf}
 use Rattle.mrc_index.specs.Undo.{CanPut}
@@ -113,40 +117,72 @@ rests_more x c n rest rests has =
     Each-insert (HasRest x) c n rest rests
     (origin x c n has.0 rest (get c n) refl rests (sym (get_patched x c n) ∙ has.1) has.2)
 
--- changes can be made one after the other
-can_each : (low : ℕ) (cs : List (ℕ × Option Entry)) (x : Space)
-    → T (is_rising low cs)
-    → ((n : ℕ) (rest : Option Entry) → find_key n cs ≡ Some rest → HasRest x n rest)
+-- what many changes of different names give, in any order
+lookup_here : (c : ℕ × Option Entry) (cs : List (ℕ × Option Entry))
+    → lookup (nat_eq c.0) (c ∷ cs) ≡ Some c.1
+lookup_here c cs = ap (λ b. cond b (Some c.1) (lookup (nat_eq c.0) cs)) (eq-eqb c.0 c.0 refl)
+
+lookup_past : (c : ℕ × Option Entry) (cs : List (ℕ × Option Entry)) (q : ℕ)
+    → (q ≡ c.0 → ⊥)
+    → lookup (nat_eq q) (c ∷ cs) ≡ lookup (nat_eq q) cs
+lookup_past c cs q other =
+    ap (λ b. cond b (Some c.1) (lookup (nat_eq q) cs)) (ne_eqb q c.0 other)
+
+get_each : (cs : List (ℕ × Option Entry)) (x : Space) (q : ℕ)
+    → IsDistinct nat_eq (keys_of cs)
+    → get (patched_by cs x) q ≡ over (lookup (nat_eq q) cs) (get x q)
+unfolding IsDistinct
+get_each [] x q once = refl
+get_each (c ∷ cs) x q once =
+    get_each cs (put_entry x c.0 c.1) q once.1
+    ∙ elim (cases_eq q c.0) [
+      | inl same ↦
+          ap (λ k. over (lookup (nat_eq k) cs) (get (put_entry x c.0 c.1) k)) same
+          ∙ ap (λ o. over o (get (put_entry x c.0 c.1) c.0)) (fresh c.0 cs once.0)
+          ∙ put_entry_same x c.0 c.1 ∙ sym (ap (λ o. over o (get x q)) (lookup_here c cs))
+          ∙ ap (λ k. over (lookup (nat_eq k) (c ∷ cs)) (get x q)) (sym same)
+      | inr other ↦
+          ap (over (lookup (nat_eq q) cs)) (put_entry_other x c.0 q c.1 other)
+          ∙ sym (ap (λ o. over o (get x q)) (lookup_past c cs q other))
+    ]
+
+pub patched_is : (x : Space) (c : Map (Option Entry)) (cs : List (ℕ × Option Entry))
+    → AreEntries cs c
+    → patched_by cs x ≡ patched x c
+patched_is x c cs are = same_map _ _ (λ q.
+    get_each cs x q are.once
+    ∙ ap (λ o. over o (get x q)) (gathered_get q cs ∙ ap (λ m. get m q) are.shown)
+    ∙ sym (get_patched x c q))
+
+-- they can be made one after the other
+can_each : (cs : List (ℕ × Option Entry)) (x : Space)
+    → IsDistinct nat_eq (keys_of cs)
+    → ((n : ℕ) (rest : Option Entry) → lookup (nat_eq n) cs ≡ Some rest → HasRest x n rest)
     → CanPatch cs x
-can_each low [] x r each = tt
-can_each low (c ∷ cs) x r each = (
-  each c.0 c.1 (find_here c cs),
-  can_each (c.0 + 1) cs (put_entry x c.0 c.1) (right_holds _ _ r) (λ n rest at.
+unfolding IsDistinct
+can_each [] x once each = tt
+can_each (c ∷ cs) x once each = (
+  each c.0 c.1 (lookup_here c cs),
+  can_each cs (put_entry x c.0 c.1) once.1 (λ n rest at.
       let apart : n ≡ c.0 → ⊥ = λ s. not_None rest
-      (sym at ∙ ap (λ k. find_key k cs) s
-      ∙ find_low (c.0 + 1) c.0 cs (right_holds _ _ r) (omega arith)) in
-      let old = each n rest (find_later low c cs n rest r at) in
+      (sym at ∙ ap (λ k. lookup (nat_eq k) cs) s ∙ fresh c.0 cs once.0) in
+      let old = each n rest (lookup_past c cs n apart ∙ at) in
       (old.0, put_entry_other x c.0 n c.1 apart ∙ old.1, old.2)),
 )
 
 pub can_patch : (x : Space) (c : Map (Option Entry)) (cs : List (ℕ × Option Entry))
     → AreRests x c
-    → cs ≡ c.list
+    → AreEntries cs c
     → CanPatch cs x
-unfolding get
-can_patch x c cs rests is = subst (λ l. CanPatch l x) (sym is) (can_each 0 c.list x c.rising rests)
+can_patch x c cs rests are =
+    can_each cs x are.once (λ n rest at.
+    rests n rest (ap (λ m. get m n) (sym are.shown) ∙ sym (gathered_get n cs) ∙ at))
 
 pub patch_end : (cs : List (ℕ × Option Entry)) (x z : Space)
     → cs ≡ []
     → patched_by cs x ≡ z
     → x ≡ z
 patch_end cs x z none was = sym (ap (λ l. patched_by l x) none) ∙ was
-
-pub patched_is : (x : Space) (c : Map (Option Entry)) (cs : List (ℕ × Option Entry))
-    → cs ≡ c.list
-    → patched_by cs x ≡ patched x c
-unfolding patched
-patched_is x c cs is = ap (λ l. patched_by l x) is
 
 -- what is left can be put there
 pub can_leave : (x : Space) (n : ℕ) (rest : Option Entry) → HasRest x n rest → CanPut x n rest

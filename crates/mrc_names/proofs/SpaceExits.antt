@@ -8,7 +8,7 @@ use Rattle.mrc_base.specs.declared.Disp.{Disp}
 use Rattle.mrc_model.specs.declared.Entry.{Entry}
 use Rattle.mrc_model.specs.declared.Code.TheVariants.{KernNameExists, KernRightExists}
 use Rattle.mrc_model.specs.declared.Code.TheVariants.{KernUrefsOverflow, KernNoSpace}
-use Rattle.mrc_model.specs.Map.{get, insert, remove}
+use Rattle.mrc_model.specs.Map.{get, insert}
 use Rattle.mrc_model.specs.World.{Space}
 use Rattle.mrc_model.specs.Reply.{Try, Refused, ◌>>=◌, ◌>>◌, check, refuse_if, or_refuse}
 use Rattle.mrc_model.specs.Space.{Taken, taken, take_from, put_entry, insert_new, insert_joined}
@@ -147,44 +147,6 @@ pub at_sent_once : (x : Space) (n p : ℕ) (r : PortRight)
     → r ≡ SendOnce
     → insert_at x n p r ≡ insert_new x n p r (get x n)
 at_sent_once x n p r e = rw e (at_once x n p)
-
--- the whole of a taking, from what each step of code tells
-pub take_leaves : (x inside y : Space) (n m p q : ℕ) (d : Disp) (e left : Entry) (o : Option
-    (ℕ × Option Entry)) (rest : Option Entry)
-    → get x n ≡ Some e
-    → option_map (λ (t : ℕ × Option Entry). taken t.0 t.1) o ≡ take_from e d
-    → o ≡ Some (q, rest)
-    → q ≡ p
-    → rest ≡ Some left
-    → inside ≡ x
-    → m ≡ n
-    → y ≡ insert inside m left
-    → take_right x n d ≡ Ok (y, p)
-take_leaves x inside y n m p q d e left o rest has what is port some view name set =
-    let done = take_done x n d e (taken q rest) has (taken_some o _ q rest what is) in
-    let kept : insert inside m left ≡ insert x n left =
-    ap (λ z. insert z m left) view ∙ ap (λ z. insert x z left) name in
-    done ∙ ap (λ r. Ok (put_entry x n r, q)) some ∙ ap (λ z. Ok (z, q)) (sym (set ∙ kept))
-    ∙ ap (λ z. Ok (y, z)) port
-
--- a taking that leaves nothing, from what each step of code tells
-pub take_spends : (x inside y : Space) (n m p q : ℕ) (d : Disp) (e : Entry) (o : Option
-    (ℕ × Option Entry)) (rest : Option Entry)
-    → get x n ≡ Some e
-    → option_map (λ (t : ℕ × Option Entry). taken t.0 t.1) o ≡ take_from e d
-    → o ≡ Some (q, rest)
-    → q ≡ p
-    → rest ≡ None
-    → inside ≡ x
-    → m ≡ n
-    → y ≡ remove inside m
-    → take_right x n d ≡ Ok (y, p)
-take_spends x inside y n m p q d e o rest has what is port none view name gone =
-    let done = take_done x n d e (taken q rest) has (taken_some o _ q rest what is) in
-    let kept : remove inside m ≡ remove x n =
-    ap (λ z. remove z m) view ∙ ap (λ z. remove x z) name in
-    done ∙ ap (λ r. Ok (put_entry x n r, q)) none ∙ ap (λ z. Ok (z, q)) (sym (gone ∙ kept))
-    ∙ ap (λ z. Ok (y, z)) port
 
 -- a right and what is left of its entry, from what each step of code tells
 pub parted : (x : Space) (n q : ℕ) (d : Disp) (e : Entry) (o : Option (ℕ × Option Entry))

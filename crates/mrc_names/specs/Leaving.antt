@@ -1,4 +1,4 @@
--- What takings leave of a space that stands still: the changes of its names stand beside it. This
+-- What takings leave of a space that stays: the changes of its names are kept next to it. This
 -- profile's own choice.
 use Rattle.std.specs.Prelude.{◌≡◌, ℕ, List, [], ◌∷◌, Option, Some, ⊤}
 use Rattle.mrc_model.specs.declared.Entry.{Entry}
@@ -7,10 +7,10 @@ use Rattle.mrc_model.specs.World.{Space}
 use Rattle.mrc_model.specs.Space.{put_entry}
 use Rattle.mrc_index.specs.Names.{IsRestOf}
 
--- the space that stands still, and what it is after the takings
-pub record Leaving : Type 0 where
-  pub base : Space
-  pub space : Space
+-- what is left of names, and of how many names that can be kept
+pub record Rests : Type 0 where
+  pub changes : Map (Option Entry)
+  pub names : ℕ
 
 -- the space after these changes, one after the other
 abbrev pub patched_by : List (ℕ × Option Entry) → Space → Space

@@ -16,7 +16,7 @@ mod types;
 
 pub use dropping::Dropped;
 pub use giving::Giving;
-pub use leaving::{Changes, Leaving};
+pub use leaving::Rests;
 pub use listing::{Listing, NamedType, NamesRoom};
 pub use space::Space;
 pub use types::PortType;

@@ -182,23 +182,9 @@ impl Space {
             (λ code. take_right self.old name disp ≡ Err (Refused code)) }
         ensures err { OnErr result (self.new ≡ self.old) }
     {
-        let Some(held) = self.get(name) else {
-            return Err(Code::KernInvalidName);
-        };
-        let Some(taken) = entry::take_from(held, disp) else {
-            return Err(Code::KernInvalidRight);
-        };
-        let (port, rest) = taken;
-        match rest {
-            Some(left) => {
-                self.entries.set(name, left);
-                Ok(port)
-            }
-            None => {
-                let _ = self.entries.remove(name);
-                Ok(port)
-            }
-        }
+        let (port, rest) = self.parting(name, disp)?;
+        self.leave(name, rest);
+        Ok(port)
     }
 
     /// Puts an entry under a name that has none, where the space has room for one more.

@@ -6,13 +6,14 @@ use Rattle.std.specs.Prelude.{IsOk, is_err}
 use Rattle.std.proofs.lemmas.Bool.{cases_eq}
 use Rattle.std.proofs.lemmas.List.{drop_all}
 use Rattle.mrc_model.specs.Map.{get, insert}
-use Rattle.mrc_model.specs.World.{Port, Parcel, Store, set_space, set_port}
+use Rattle.mrc_model.specs.World.{Space, Port, Parcel, Store, set_space, set_port}
 use Rattle.mrc_model.specs.Space.{restart, restart_port}
 use Rattle.mrc_model.specs.Death.{append, append_to}
 use Rattle.mrc_model.proofs.Maps.{same_Some, get-insert_same, get-insert_other}
 use Rattle.mrc_model.proofs.KeptCalls.{restart_spaces as same_spaces}
 use Rattle.mrc_ports.specs.Queues.{is_full_for, is_out_of_room, with_message}
-use Rattle.mrc_transit.specs.Staging.{restart_each, staged}
+use Rattle.mrc_names.specs.Leaving.{patched}
+use Rattle.mrc_transit.specs.Staging.{Scratch, restart_each, staged, taken_of}
 use Rattle.mrc_transit.specs.SendPlans.{SendPlan, sent, taking_of, IsReady}
 
 -- the receipts of ports, one after the other
@@ -23,16 +24,16 @@ pub restart_done : (s z : Store) (k : ℕ) (ps : List ℕ)
     → restart_each s ps ≡ z
 restart_done s z k ps far most = far ∙ ap (restart_each z) (drop_all k ps most)
 
--- what is put and restarted is what the plan leaves of the takings
-pub put_staged : (s m z : Store) (plan : SendPlan)
-    → m ≡ set_space s plan.sender (taking_of s plan).space
+-- what is put and restarted is what the scratch leaves of the takings
+pub put_staged : (s m z : Store) (t : ℕ) (x : Space) (scratch : Scratch)
+    → m ≡ set_space s t (patched x scratch.rests)
     → (ps : List ℕ)
     → z ≡ restart_each m ps
-    → ps ≡ plan.moved
-    → z ≡ staged s plan.sender (taking_of s plan)
+    → ps ≡ scratch.moved
+    → z ≡ staged s t (taken_of x scratch)
 unfolding staged
-put_staged s m z plan put ps left same =
-    left ∙ ap (restart_each m) same ∙ ap (λ k. restart_each k plan.moved) put
+put_staged s m z t x scratch put ps left same =
+    left ∙ ap (restart_each m) same ∙ ap (λ k. restart_each k scratch.moved) put
 
 -- no space but the sender's changes
 

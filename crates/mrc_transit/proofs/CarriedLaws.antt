@@ -21,7 +21,7 @@ use Rattle.mrc_ports.specs.Parcels.{unnamed, no_names, AreCarried}
 use Rattle.mrc_transit.proofs.ReceiveSizes.{ports_least, ports_most, no_names_len}
 
 -- what a step of two was done by
-bind_ok : {A B : Type 0} (m : Try A) (f : A → Try B) (b : B)
+pub bind_ok : {A B : Type 0} (m : Try A) (f : A → Try B) (b : B)
     → (m >>= f) ≡ Ok b
     → (a : A) × ((m ≡ Ok a) × (f a ≡ Ok b))
 unfolding ◌>>=◌
@@ -33,11 +33,11 @@ unfolding ◌>>◌
 then_ok (Ok a) r b is = is
 then_ok (Err e) r b is = cc
 
-same_ok : {A : Type 0} (a b : A) → ◌≡◌ {A = Try A} (Ok a) (Ok b) → a ≡ b
+pub same_ok : {A : Type 0} (a b : A) → ◌≡◌ {A = Try A} (Ok a) (Ok b) → a ≡ b
 same_ok a b is = ap (λ r. result_unwrap_or r a) is
 
 -- as many items are taken as there are names
-items_taken : (W : Wiring) (own t : ℕ) (x : Disp) (sort i : ℕ) (s s2 : Store) (ns : List ℕ)
+pub items_taken : (W : Wiring) (own t : ℕ) (x : Disp) (sort i : ℕ) (s s2 : Store) (ns : List ℕ)
     (items : List Item)
     → take_items W own t x sort i s ns ≡ Ok (s2, items)
     → length items ≡ length ns

@@ -1,23 +1,21 @@
 -- What a message carries for a name, from what each step of code tells.
 use Rattle.std.proofs.Common.{◌≡◌, ℕ, Option, Some, None, Ok, Err, refl, sym}
-use Rattle.std.proofs.Common.{◌∙◌, ap, subst}
-use Rattle.std.specs.Prelude.{IsOk}
+use Rattle.std.proofs.Common.{◌∙◌, ap}
 use Rattle.std.proofs.lemmas.Bool.{eq-eqb, ne_eqb}
 use Rattle.mrc_base.specs.declared.PortRight.{PortRight}
 use Rattle.mrc_base.specs.declared.Disp.{Disp}
-use Rattle.mrc_base.specs.declared.memory.OrMemory.{OrMemory}
-use Rattle.mrc_base.specs.declared.memory.OrMemory.TheVariants.{Fault, Memory}
 use Rattle.mrc_base.specs.Disposition.{given}
 use Rattle.mrc_model.specs.declared.Entry.{Entry}
-use Rattle.mrc_model.specs.declared.Item.{Item}
 use Rattle.mrc_model.specs.declared.Item.TheVariants.{Null as NullItem, Dead as DeadItem}
 use Rattle.mrc_model.specs.declared.Item.TheVariants.{Right as RightItem}
-use Rattle.mrc_model.specs.Map.{get}
-use Rattle.mrc_model.specs.World.{Store, space, set_space, port_dead}
-use Rattle.mrc_model.specs.Reply.{Reply, Try, ◌>>=◌}
+use Rattle.mrc_model.specs.Map.{get, insert}
+use Rattle.mrc_model.specs.World.{Space, Store, space, set_space, port_dead}
+use Rattle.mrc_model.specs.Reply.{Reply, ◌>>=◌}
 use Rattle.mrc_model.specs.Space.{take, put_entry}
 use Rattle.mrc_model.specs.CallSend.{dead_taken, take_item, take_named}
-use Rattle.mrc_transit.specs.Staging.{Taking, staged, IsRefusedBy}
+use Rattle.mrc_names.specs.Leaving.{patched}
+use Rattle.mrc_names.proofs.LeavingLaws.{patched_more}
+use Rattle.mrc_transit.specs.Staging.{Taking, Scratch, staged, taken_of}
 use Rattle.mrc_transit.proofs.StagingLaws.{space_staged, set_staged}
 
 -- MACH_PORT_NULL
@@ -65,12 +63,6 @@ module _ (s : Store) (t n : ℕ) (d : Disp) (g : Taking)
       ∙ ap (λ z. Ok (z, DeadItem))
       (set_staged s t g (put_entry g.space n rest) ∙ ap (staged s t) (sym left))
 
-  -- memory may run out for it
-  pub dead_granted : (rest : Option Entry) (e : Reply)
-      → dead_taken (get g.space n) d ≡ Some rest
-      → IsOk (take_item (staged s t g) t n d e)
-  dead_granted rest e is = subst IsOk (sym (named e (Some rest) is)) refl
-
   module _ (none : dead_taken (get g.space n) d ≡ None) where
     pub item_of_live : (e : Reply) (h : Taking) (p : ℕ) (r : PortRight)
         → take (staged s t g) t n d e e ≡ Ok (staged s t h, p)
@@ -80,16 +72,19 @@ module _ (s : Store) (t n : ℕ) (d : Disp) (g : Taking)
     item_of_live e h p r took right =
         named e None none ∙ rw took (ap (λ q. Ok (staged s t h, RightItem p q)) (sym right))
 
-    pub item_refused : {F : Type 0} (fault : OrMemory F)
-        → IsRefusedBy fault (λ e. take (staged s t g) t n d e e)
-        → IsRefusedBy fault (λ e. take_item (staged s t g) t n d e)
+    pub item_refused : (e : Reply)
+        → take (staged s t g) t n d e e ≡ Err e
+        → take_item (staged s t g) t n d e ≡ Err e
     unfolding ◌>>=◌
-    item_refused (Fault f) refused = λ e. named e None none ∙ rw (refused e) refl
-    item_refused Memory ok = λ e.
-        subst IsOk (sym (named e None none)) (goes e (take (staged s t g) t n d e e) (ok e))
-      where
-        goes : (e : Reply) (m : Try (Store × ℕ))
-            → IsOk m
-            → IsOk {T = Store × Item} (m >>= λ (z, p). Ok (z, RightItem p (given d)))
-        goes e (Ok got) h = refl
-        goes e (Err k) h = h
+    item_refused e refused = named e None none ∙ rw refused refl
+
+-- what the scratch has after a dead right
+pub dead_left : (x : Space) (old new : Scratch) (n : ℕ) (rest : Option Entry)
+    → new ≡ record old { rests = insert old.rests n rest }
+    → taken_of x new ≡ record {
+      space = put_entry (patched x old.rests) n rest;
+      moved = old.moved;
+    }
+dead_left x old new n rest left =
+    ap (taken_of x) left
+    ∙ ap (λ (y : Space). record { space = y; moved = old.moved }) (patched_more x old.rests n rest)

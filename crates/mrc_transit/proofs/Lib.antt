@@ -3,9 +3,9 @@ pub mod ItemLaws
 pub mod AdmitLaws
 pub mod GiveLaws
 pub mod ArgumentLaws
+pub mod QueueLaws
 pub mod SendLaws
 pub mod PlanLaws
-pub mod JudgingLaws
 pub mod ApplyLaws
 pub mod ReceiveGrowth
 pub mod ReceiveSizes

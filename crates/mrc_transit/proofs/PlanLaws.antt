@@ -1,12 +1,11 @@
 -- What the plan of a message is to sending it, from what each step of code tells.
-use Rattle.std.proofs.Common.{◌≡◌, ℕ, Bool, true, false, List, [], Option, Some, None, Ok, Err}
+use Rattle.std.proofs.Common.{◌≡◌, ℕ, Bool, true, false, List, Option, Some, None, Ok, Err}
 use Rattle.std.proofs.Common.{refl, sym, ◌∙◌, ap, subst}
 use Rattle.std.specs.Prelude.{unwrap_or, is_some, IsOk}
 use Rattle.mrc_base.specs.declared.Disp.{Disp}
 use Rattle.mrc_base.specs.declared.Disp.TheVariants.{MoveReceive, MoveSend, MoveSendOnce, CopySend}
 use Rattle.mrc_base.specs.declared.Disp.TheVariants.{MakeSend, MakeSendOnce}
-use Rattle.mrc_base.specs.declared.memory.OrMemory.{OrMemory}
-use Rattle.mrc_base.specs.declared.memory.OrMemory.TheVariants.{Fault, Memory}
+use Rattle.mrc_base.specs.declared.memory.OrMemory.TheVariants.{Memory}
 use Rattle.mrc_base.specs.Disposition.{given, disp_of_number}
 use Rattle.mrc_model.specs.declared.Item.{Item}
 use Rattle.mrc_model.specs.declared.Entry.{Entry}
@@ -19,38 +18,40 @@ use Rattle.mrc_model.specs.Message.{Message, Arg}
 use Rattle.mrc_model.specs.Wiring.{Wiring, form_shapes}
 use Rattle.mrc_model.specs.Filter.{judge}
 use Rattle.mrc_model.specs.World.{Space, QueuedArg, Port, Store, World, space, set_space}
-use Rattle.mrc_model.specs.World.{task_class}
 use Rattle.mrc_model.specs.Reply.{Reply, Refused, Done, Try, ◌>>=◌, or_refuse}
 use Rattle.mrc_model.specs.Death.{append}
 use Rattle.mrc_model.specs.Space.{take, take_from, Taken, put_entry, restart_if}
 use Rattle.mrc_model.specs.Target.{with_store}
-use Rattle.mrc_model.specs.CallSend.{not_receive, take_reply_by, take_args, call_send}
+use Rattle.mrc_model.specs.CallSend.{not_receive, take_reply_by, take_args}
 use Rattle.mrc_model.proofs.Maps.{get-empty}
 use Rattle.mrc_desc.specs.declared.message.Header.{Header}
 use Rattle.mrc_desc.specs.View.{HasHeader}
 use Rattle.mrc_ports.specs.Queues.{is_full_for, is_out_of_room}
 use Rattle.mrc_filter.specs.declared.form.Form.{Form}
 use Rattle.mrc_filter.specs.Places.{IsJudged}
-use Rattle.mrc_transit.specs.declared.taking.NotHeld.{NotHeld}
 use Rattle.mrc_transit.specs.declared.sending.SendFault.{SendFault}
 use Rattle.mrc_transit.specs.declared.sending.SendFault.TheVariants as faults
-use Rattle.mrc_names.specs.Leaving.{patched, AreRests}
-use Rattle.mrc_transit.specs.Staging.{Taking, staged, restart_each, IsRefusedBy}
-use Rattle.mrc_transit.specs.Sending.{IsSendRefusal, refused_by, fault_reply, judge_reply}
-use Rattle.mrc_transit.specs.SendPlans.{SendPlan, sent, IsReady, IsPlanOf, IsNotPlanned, IsNoRoom}
-use Rattle.mrc_transit.specs.SendPlans.{destination_disp}
+use Rattle.mrc_names.specs.Leaving.{AreRests}
+use Rattle.mrc_names.proofs.LeavingLaws.{patched_none}
+use Rattle.mrc_transit.specs.Staging.{Scratch, no_scratch, staged, taken_of}
+use Rattle.mrc_transit.specs.Queueing.{queued_from}
+use Rattle.mrc_transit.specs.Sending.{fault_reply, judge_reply}
+use Rattle.mrc_transit.specs.SendPlans.{SendPlan, sent, IsReady, IsPlanOf, IsRefused, IsNotSent}
+use Rattle.mrc_transit.specs.SendPlans.{destination_disp, judged_as}
 use Rattle.mrc_transit.proofs.StagingLaws.{put_same}
 use Rattle.mrc_transit.proofs.SendLaws.{bad_destination, plain, send_no_disp, send_no_right}
 use Rattle.mrc_transit.proofs.SendLaws.{send_no_port, send_denied, send_no_reply, send_no_args}
 use Rattle.mrc_transit.proofs.SendLaws.{send_unfit, send_full, send_done}
 
 -- nothing was taken yet
-begun : (s : Store) (t : ℕ) (x : Space) (g : Taking)
+begun : (s : Store) (t : ℕ) (x : Space) (scratch : Scratch)
     → get s.spaces t ≡ Some x
-    → g ≡ record { base = x; space = x; moved = [] }
-    → staged s t g ≡ s
+    → scratch ≡ no_scratch
+    → staged s t (taken_of x scratch) ≡ s
 unfolding staged
-begun s t x g at is = ap (staged s t) is ∙ put_same s t x at
+begun s t x scratch at is =
+    ap (λ k. staged s t (taken_of x k)) is
+    ∙ ap (set_space s t) (patched_none x empty refl) ∙ put_same s t x at
 
 -- a right that is no receive right changes no port
 
@@ -110,12 +111,18 @@ take_none s t n x e none =
     let at : get (space s t) n ≡ None = ap (λ o. get (unwrap_or o empty) n) none ∙ get-empty n in
     rw at refl
 
+-- what has a plan is not refused: so memory may run out for it
+pub granted : (W : Wiring) (s : Store) (own t : ℕ) (m : Message) (plan : SendPlan)
+    → IsPlanOf W s own t m plan
+    → IsNotSent Memory W s own t m
+granted W s own t m plan is w of_class = subst IsOk (sym (is w of_class)) refl
+
 -- each exit
 
 module _ (W : Wiring) (s : Store) (own t : ℕ) (m : Message) (h : Header)
     (has : HasHeader m h) where
   pub plan_no_disp : destination_disp h.remote_disp ≡ None
-      → IsNotPlanned (Fault (faults.Refused MachSendInvalidDest)) W s own t m
+      → IsRefused (faults.Refused MachSendInvalidDest) W s own t m
   plan_no_disp none = λ w of_class.
       send_no_disp W (with_store w s) t m (ap destination_disp (sym has.remote_disp) ∙ none)
 
@@ -124,54 +131,56 @@ module _ (W : Wiring) (s : Store) (own t : ℕ) (m : Message) (h : Header)
     disp_of = ap destination_disp (sym has.remote_disp) ∙ disp
 
     pub plan_no_space : get s.spaces t ≡ None
-        → IsNotPlanned (Fault (faults.Refused MachSendInvalidDest)) W s own t m
+        → IsRefused (faults.Refused MachSendInvalidDest) W s own t m
     plan_no_space none = λ w of_class.
         send_no_right W (with_store w s) t m x disp_of
         (take_none s t m.remote x bad_destination none)
 
-    module _ (y : Space) (there : get s.spaces t ≡ Some y) (g : Taking)
-        (g_is : g ≡ record { base = y; space = y; moved = [] }) where
+    module _ (y : Space) (there : get s.spaces t ≡ Some y) (k0 : Scratch)
+        (blank : k0 ≡ no_scratch) where
+      -- the store after what the scratch has
+      abbrev pub after : Scratch → Store
+      after k = staged s t (taken_of y k)
+
       from_start : (e : Reply) (r : Try (Store × ℕ))
-          → take (staged s t g) t h.remote_port x e e ≡ r
+          → take (after k0) t h.remote_port x e e ≡ r
           → take s t m.remote x e e ≡ r
       from_start e r is =
-          ap (λ z. take z t m.remote x e e) (sym (begun s t y g there g_is))
-          ∙ ap (λ n. take (staged s t g) t n x e e) (sym has.remote_port) ∙ is
+          ap (λ z. take z t m.remote x e e) (sym (begun s t y k0 there blank))
+          ∙ ap (λ n. take (after k0) t n x e e) (sym has.remote_port) ∙ is
 
-      pub plan_no_right : (fault : OrMemory NotHeld)
-          → IsRefusedBy fault (λ e. take (staged s t g) t h.remote_port x e e)
-          → IsNotPlanned (refused_by MachSendInvalidDest fault) W s own t m
-      plan_no_right (Fault held) refused = λ w of_class.
+      pub plan_no_right : ((e : Reply) → take (after k0) t h.remote_port x e e ≡ Err e)
+          → IsRefused (faults.Refused MachSendInvalidDest) W s own t m
+      plan_no_right refused = λ w of_class.
           send_no_right W (with_store w s) t m x disp_of
           (from_start bad_destination _ (refused bad_destination))
-      plan_no_right Memory refused = λ w of_class. tt
 
-      module _ (g1 : Taking) (d : ℕ)
+      module _ (k1 : Scratch) (d : ℕ)
           (given_up : (e : Reply)
-          → take (staged s t g) t h.remote_port x e e ≡ Ok (staged s t g1, d)) where
-        took : take s t m.remote x bad_destination bad_destination ≡ Ok (staged s t g1, d)
+          → take (after k0) t h.remote_port x e e ≡ Ok (after k1, d)) where
+        took : take s t m.remote x bad_destination bad_destination ≡ Ok (after k1, d)
         took = from_start bad_destination _ (given_up bad_destination)
 
         at_port : (w : World) (o : Option Port)
             → get s.ports d ≡ o
-            → get (staged s t g1).ports d ≡ o
+            → get (after k1).ports d ≡ o
         at_port w o is =
             ap (λ (ps : Map Port). get ps d) (same_ports s t m.remote x
-            (plain W (with_store w s) t m x disp_of) bad_destination (staged s t g1) d took) ∙ is
+            (plain W (with_store w s) t m x disp_of) bad_destination (after k1) d took) ∙ is
 
         pub plan_no_port : get s.ports d ≡ None
-            → IsNotPlanned (Fault (faults.Refused MachSendInvalidDest)) W s own t m
+            → IsRefused (faults.Refused MachSendInvalidDest) W s own t m
         plan_no_port none = λ w of_class.
-            send_no_port W (with_store w s) t m x disp_of (staged s t g1) d took
+            send_no_port W (with_store w s) t m x disp_of (after k1) d took
             (at_port w None none)
 
         module _ (dest : Port) (live : get s.ports d ≡ Some dest) (class : ℕ)
             (class_is : class ≡ dest.class) where
           pub plan_denied : (denied : Denied)
               → IsJudged W class m (Err denied)
-              → IsNotPlanned (Fault (faults.Denied denied)) W s own t m
+              → IsRefused (faults.Denied denied) W s own t m
           plan_denied denied judged = λ w of_class.
-              send_denied W (with_store w s) t m x disp_of (staged s t g1) d took dest
+              send_denied W (with_store w s) t m x disp_of (after k1) d took dest
               (at_port w (Some dest) live) denied
               (ap (λ c. judge W c m) (sym class_is) ∙ judged)
 
@@ -181,30 +190,29 @@ module _ (W : Wiring) (s : Store) (own t : ℕ) (m : Message) (h : Header)
 
             module _ (o : Option Disp) (o_is : o ≡ disp_of_number h.local_disp) where
               of_reply : (e : Reply) (r : Try (Store × Item))
-                  → take_reply_by (staged s t g1) t h.local_port o e ≡ r
-                  → take_reply_by (staged s t g1) t m.local (disp_of_number m.local_disp) e ≡ r
+                  → take_reply_by (after k1) t h.local_port o e ≡ r
+                  → take_reply_by (after k1) t m.local (disp_of_number m.local_disp) e ≡ r
               of_reply e r is =
-                  ap (λ n. take_reply_by (staged s t g1) t m.local (disp_of_number n) e)
+                  ap (λ n. take_reply_by (after k1) t m.local (disp_of_number n) e)
                   (sym has.local_disp)
-                  ∙ ap (λ k. take_reply_by (staged s t g1) t m.local k e) (sym o_is)
-                  ∙ ap (λ n. take_reply_by (staged s t g1) t n o e) (sym has.local_port) ∙ is
+                  ∙ ap (λ k. take_reply_by (after k1) t m.local k e) (sym o_is)
+                  ∙ ap (λ n. take_reply_by (after k1) t n o e) (sym has.local_port) ∙ is
 
-              pub plan_no_reply : (fault : OrMemory NotHeld)
-                  → IsRefusedBy fault (λ e. take_reply_by (staged s t g1) t h.local_port o e)
-                  → IsNotPlanned (refused_by MachSendInvalidReply fault) W s own t m
-              plan_no_reply (Fault held) refused = λ w of_class.
-                  send_no_reply W (with_store w s) t m x disp_of (staged s t g1) d took dest
+              pub plan_no_reply :
+                  ((e : Reply) → take_reply_by (after k1) t h.local_port o e ≡ Err e)
+                  → IsRefused (faults.Refused MachSendInvalidReply) W s own t m
+              plan_no_reply refused = λ w of_class.
+                  send_no_reply W (with_store w s) t m x disp_of (after k1) d took dest
                   (at_port w (Some dest) live) form.found.now form_is
                   (of_reply (Refused MachSendInvalidReply) _
                   (refused (Refused MachSendInvalidReply)))
-              plan_no_reply Memory refused = λ w of_class. tt
 
-              module _ (g2 : Taking) (reply : Item)
+              module _ (k2 : Scratch) (reply : Item)
                   (answered : (e : Reply)
-                  → take_reply_by (staged s t g1) t h.local_port o e
-                  ≡ Ok (staged s t g2, reply)) where
-                replied : take_reply_by (staged s t g1) t m.local (disp_of_number m.local_disp)
-                    (Refused MachSendInvalidReply) ≡ Ok (staged s t g2, reply)
+                  → take_reply_by (after k1) t h.local_port o e
+                  ≡ Ok (after k2, reply)) where
+                replied : take_reply_by (after k1) t m.local (disp_of_number m.local_disp)
+                    (Refused MachSendInvalidReply) ≡ Ok (after k2, reply)
                 replied =
                     of_reply (Refused MachSendInvalidReply) _
                     (answered (Refused MachSendInvalidReply))
@@ -218,127 +226,80 @@ module _ (W : Wiring) (s : Store) (own t : ℕ) (m : Message) (h : Header)
 
                 pub plan_unfit : (fault : SendFault)
                     → judge_reply W s own class h.id reply ≡ Err (fault_reply fault)
-                    → IsNotPlanned (Fault fault) W s own t m
+                    → IsRefused fault W s own t m
                 plan_unfit fault refused = λ w of_class.
-                    send_unfit W (with_store w s) t m x disp_of (staged s t g1) d took dest
-                    (at_port w (Some dest) live) form.found.now form_is (staged s t g2)
+                    send_unfit W (with_store w s) t m x disp_of (after k1) d took dest
+                    (at_port w (Some dest) live) form.found.now form_is (after k2)
                     reply replied own of_class (fault_reply fault) (of_judged _ refused)
 
                 module _ (good : judge_reply W s own class h.id reply ≡ Ok tt) (args : List Arg)
                     (args_are : args ≡ m.args) where
                   of_args : (r : Try (Store × List QueuedArg))
-                      → take_args W own t 0 (form_shapes form.found.now) (staged s t g2) args ≡ r
-                      → take_args W own t 0 (form_shapes form.found.now) (staged s t g2) m.args ≡ r
+                      → take_args W own t 0 (form_shapes form.found.now) (after k2) args ≡ r
+                      → take_args W own t 0 (form_shapes form.found.now) (after k2) m.args ≡ r
                   of_args r is =
-                      ap (take_args W own t 0 (form_shapes form.found.now) (staged s t g2)) (sym
+                      ap (take_args W own t 0 (form_shapes form.found.now) (after k2)) (sym
                       args_are)
                       ∙ is
 
-                  pub plan_no_args : (fault : OrMemory SendFault)
-                      → IsSendRefusal fault
-                      (take_args W own t 0 (form_shapes form.found.now) (staged s t g2) args)
-                      → IsNotPlanned fault W s own t m
-                  plan_no_args (Fault fault) refused = λ w of_class.
-                      send_no_args W (with_store w s) t m x disp_of (staged s t g1) d took dest
-                      (at_port w (Some dest) live) form.found.now form_is (staged s t g2)
+                  pub plan_no_args : (fault : SendFault)
+                      → take_args W own t 0 (form_shapes form.found.now) (after k2) args
+                      ≡ Err (fault_reply fault)
+                      → IsRefused fault W s own t m
+                  plan_no_args fault refused = λ w of_class.
+                      send_no_args W (with_store w s) t m x disp_of (after k1) d took dest
+                      (at_port w (Some dest) live) form.found.now form_is (after k2)
                       reply replied own of_class (of_judged _ good)
                       (fault_reply fault) (of_args _ refused)
-                  plan_no_args Memory refused = λ w of_class. tt
 
-                  module _ (g3 : Taking) (queued : List QueuedArg)
-                      (taken : take_args W own t 0 (form_shapes form.found.now) (staged s t g2) args
-                      ≡ Ok (staged s t g3, queued)) (b : Bool) (once : b ≡ is_once (given x)) where
-                    pub plan_no_room : (fault : OrMemory SendFault)
-                        → IsNoRoom fault dest b
-                        → IsNotPlanned fault W s own t m
-                    plan_no_room (Fault fault) full = λ w of_class.
-                        send_full W (with_store w s) t m x disp_of (staged s t g1) d took dest
-                        (at_port w (Some dest) live) form.found.now form_is (staged s t g2)
-                        reply replied own of_class (of_judged _ good)
-                        (staged s t g3) queued (of_args _ taken)
-                        (ap (is_full_for dest) (sym once) ∙ full.1)
-                        ∙ ap (λ f. Err (fault_reply f)) (sym full.0)
-                    plan_no_room Memory full = λ w of_class. tt
-
+                  module _ (k3 : Scratch) (queued : List QueuedArg)
+                      (taken : take_args W own t 0 (form_shapes form.found.now) (after k2) args
+                      ≡ Ok (after k3, queued)) (b : Bool) (once : b ≡ is_once (given x)) where
                     pub plan_at_limit : is_full_for dest b ≡ true
-                        → IsNotPlanned (Fault (faults.Refused MachSendTimedOut)) W s own t m
-                    plan_at_limit full = plan_no_room (Fault (faults.Refused MachSendTimedOut))
-                        (refl, full)
-
-                    pub plan_granted : is_full_for dest b ≡ false
-                        → (w : World)
-                        → task_class w t ≡ own
-                        → IsOk (call_send W (with_store w s) t m)
-                    plan_granted below w of_class =
-                        subst IsOk (sym (send_done W (with_store w s) t m x disp_of (staged s t g1)
-                        d
-                        took dest (at_port w (Some dest) live) form.found.now form_is (staged s t
-                        g2)
-                        reply replied own of_class (of_judged _ good) (staged s t g3) queued
-                        (of_args _ taken)
-                        (ap (is_full_for dest) (sym once) ∙ below))) refl
+                        → IsRefused (faults.Refused MachSendTimedOut) W s own t m
+                    plan_at_limit full = λ w of_class.
+                        send_full W (with_store w s) t m x disp_of (after k1) d took dest
+                        (at_port w (Some dest) live) form.found.now form_is (after k2)
+                        reply replied own of_class (of_judged _ good)
+                        (after k3) queued (of_args _ taken)
+                        (ap (is_full_for dest) (sym once) ∙ full)
 
                     module _ (below : is_full_for dest b ≡ false)
-                        (room : is_out_of_room dest ≡ false) (base : g3.base ≡ y)
-                        (changes : Map (Option Entry)) (left : patched g3.base changes ≡ g3.space)
-                        (rests : AreRests g3.base changes) (moved : List ℕ)
-                        (moved_is : moved ≡ g3.moved) (plan : SendPlan)
-                        (plan_is : plan ≡ record {
-                          sender = t;
-                          changes = changes;
-                          moved = moved;
-                          destination = d;
-                          parcel = record {
-                            by_once = b;
-                            id = h.id;
-                            reply = reply;
-                            args = queued;
-                          };
-                        }) where
-                      -- the sender's space
-                      from_base : g3.base ≡ space s t
-                      from_base = base ∙ ap (λ o. unwrap_or o empty) (sym there)
-
+                        (items_are : queued_from m.args k3.items ≡ queued) where
                       -- what was taken is what the plan leaves
-                      staged_so : staged s t g3 ≡ staged s t record {
-                        base = space s t;
-                        space = patched (space s t) changes;
-                        moved = moved;
-                      }
-                      unfolding staged
+                      staged_so : after k3 ≡ staged s t (taken_of (space s t) k3)
                       staged_so =
-                          ap (λ z. restart_each (set_space s t z) g3.moved) (sym left)
-                          ∙ ap (λ z. restart_each (set_space s t (patched z changes)) g3.moved)
-                          from_base
-                          ∙ ap (restart_each (set_space s t (patched (space s t) changes)))
-                          (sym moved_is)
+                          ap (λ z. staged s t (taken_of z k3))
+                          (sym (ap (λ o. unwrap_or o empty) there))
 
-                      pub plan_done : IsPlanOf W s own t m plan
+                      pub plan_done : IsPlanOf W s own t m (judged_as t m d b reply k3)
                       unfolding sent
                       plan_done w of_class =
-                          send_done W (with_store w s) t m x disp_of (staged s t g1) d took dest
-                          (at_port w (Some dest) live) form.found.now form_is (staged s t g2)
+                          send_done W (with_store w s) t m x disp_of (after k1) d took dest
+                          (at_port w (Some dest) live) form.found.now form_is (after k2)
                           reply replied own of_class (of_judged _ good)
-                          (staged s t g3) queued (of_args _ taken)
+                          (after k3) queued (of_args _ taken)
                           (ap (is_full_for dest) (sym once) ∙ below)
                           ∙ (λ i. Ok (
                             with_store w (append (staged_so i) d record {
                               by_once = sym once i;
-                              id = sym has.id i;
+                              id = m.id;
                               reply = reply;
-                              args = queued;
+                              args = sym items_are i;
                             }),
                             Done,
                           ))
-                          ∙ ap (λ p. Ok (with_store w (sent s p), Done)) (sym plan_is)
 
-                      pub plan_ready : IsReady s plan
-                      plan_ready =
-                          subst (IsReady s) (sym plan_is) record {
-                            has_space = ap is_some there;
-                            rests = subst (λ z. AreRests z changes) from_base rests;
-                            port = dest;
-                            live = live;
-                            not_full = below;
-                            room = room;
-                          }
+                      pub plan_ready : AreRests y k3.rests
+                          → is_out_of_room dest ≡ false
+                          → IsReady s (judged_as t m d b reply k3)
+                      plan_ready rests room = record {
+                        has_space = ap is_some there;
+                        rests =
+                            subst (λ z. AreRests z k3.rests) (sym (ap (λ o. unwrap_or o empty)
+                            there)) rests;
+                        port = dest;
+                        live = live;
+                        not_full = below;
+                        room = room;
+                      }

@@ -1,6 +1,7 @@
 -- The store after what a task has given: how a taking changes it.
 use Rattle.std.proofs.Common.{◌≡◌, ℕ, List, [], ◌∷◌, ◌++◌, Option, Some, None}
-use Rattle.std.proofs.Common.{Ok, Err, refl, sym, ◌∙◌, ap, inl, inr}
+use Rattle.std.proofs.Common.{Ok, Err, refl, sym, ◌∙◌, ap, subst, inl, inr, ◌+◌, ◌≤◌, length, arith}
+use Rattle.std.proofs.Common.{length-append}
 use Rattle.std.specs.Prelude.{unwrap_or}
 use Rattle.std.proofs.lemmas.Bool.{cases_eq}
 use Rattle.mrc_base.specs.declared.PortRight.{PortRight}
@@ -8,6 +9,7 @@ use Rattle.mrc_base.specs.declared.PortRight.TheVariants.{Send, Receive, SendOnc
 use Rattle.mrc_base.specs.declared.Disp.{Disp}
 use Rattle.mrc_base.specs.Disposition.{given}
 use Rattle.mrc_model.specs.declared.Entry.{Entry}
+use Rattle.mrc_model.specs.declared.Item.{Item}
 use Rattle.mrc_model.specs.Rights.{is_receive}
 use Rattle.mrc_model.specs.Map.{Map, empty, get, insert}
 use Rattle.mrc_model.specs.World.{Space, Port, Store, space, set_space}
@@ -15,11 +17,14 @@ use Rattle.mrc_model.specs.Reply.{Reply, Try, ◌>>=◌, or_refuse}
 use Rattle.mrc_model.specs.Space.{Taken, take_from, put_entry, take, restart, restart_port}
 use Rattle.mrc_model.specs.Space.{restart_if}
 use Rattle.mrc_model.specs.Target.{bad_name, wrong_right}
-use Rattle.mrc_model.proofs.Maps.{get-insert_same, get-insert_other}
+use Rattle.mrc_model.proofs.Maps.{get-insert_same, get-insert_other, len-insert, len-empty}
 use Rattle.mrc_map.proofs.SameMaps.{same_map}
+use Rattle.mrc_names.specs.Leaving.{patched, HasRest, AreRests}
 use Rattle.mrc_names.specs.Takes.{take_right}
+use Rattle.mrc_names.proofs.LeavingLaws.{patched_more, rests_more}
 use Rattle.mrc_ports.proofs.TableLaws.{insert_twice}
-use Rattle.mrc_transit.specs.Staging.{Taking, restart_each, staged, moved_by}
+use Rattle.mrc_transit.specs.Staging.{Taking, Scratch, no_scratch, restart_each, staged, taken_of}
+use Rattle.mrc_transit.specs.Staging.{moved_by, limit_of_taken, HasRoom, Spends}
 
 -- a space that is put where it stands already
 pub put_same : (s : Store) (t : ℕ) (x : Space) → get s.spaces t ≡ Some x → set_space s t x ≡ s
@@ -147,3 +152,113 @@ module _ (s : Store) (t n : ℕ) (d : Disp) (g : Taking) where
       → take_right g.space n d ≡ Err d'
       → take (staged s t g) t n d e e ≡ Err e
   staged_refused e d' is = take_at e (Err d') is
+
+-- the same for what the scratch has of a space
+
+-- a right that a name gives
+pub right_taken : (s : Store) (t n : ℕ) (d : Disp) (e : Reply) (x : Space) (old new : Scratch)
+    (p : ℕ) (r : PortRight) (rest : Option Entry)
+    → take_right (patched x old.rests) n d ≡ Ok (put_entry (patched x old.rests) n rest, p)
+    → r ≡ given d
+    → new ≡ record old { rests = insert old.rests n rest; moved = moved_by r old.moved p }
+    → take (staged s t (taken_of x old)) t n d e e ≡ Ok (staged s t (taken_of x new), p)
+right_taken s t n d e x old new p r rest is right left =
+    staged_taken s t n d (taken_of x old) e (put_entry (patched x old.rests) n rest) p r
+    (taken_of x new) is right
+    (ap (taken_of x) left
+    ∙ ap (λ (y : Space). record { space = y; moved = moved_by r old.moved p })
+    (patched_more x old.rests n rest))
+
+-- the name has what may be left of it
+pub rests_kept : (x : Space) (old new : Scratch) (n : ℕ) (rest : Option Entry)
+    → HasRest (patched x old.rests) n rest
+    → new.rests ≡ insert old.rests n rest
+    → AreRests x old.rests
+    → AreRests x new.rests
+rests_kept x old new n rest has left rests =
+    subst (AreRests x) (sym left) (rests_more x old.rests n rest rests has)
+
+-- room
+
+moved_more : (r : PortRight) (ps : List ℕ) (p : ℕ) → length (moved_by r ps p) ≤ length ps + 1
+moved_more Send ps p = omega arith
+moved_more Receive ps p = omega (arith, length-append ps (p ∷ []))
+moved_more SendOnce ps p = omega arith
+
+-- no name is spent
+pub spent_none : (old new : Scratch) → new ≡ old → Spends 1 old new
+spent_none old new same n room =
+    subst (HasRoom n) (sym same) record {
+      rests = omega (arith, room.rests);
+      moved = omega (arith, room.moved);
+      items = omega (arith, room.items);
+    }
+
+-- one is
+pub spent_rest : (old new : Scratch) (n : ℕ) (rest : Option Entry)
+    → new ≡ record old { rests = insert old.rests n rest }
+    → Spends 1 old new
+spent_rest old new n rest left k room =
+    subst (HasRoom k) (sym left) record {
+      rests = omega (arith, room.rests, len-insert old.rests n rest);
+      moved = omega (arith, room.moved);
+      items = omega (arith, room.items);
+    }
+
+-- with its port
+pub spent_one : (old new : Scratch) (n p : ℕ) (r : PortRight) (rest : Option Entry)
+    → new ≡ record old { rests = insert old.rests n rest; moved = moved_by r old.moved p }
+    → Spends 1 old new
+spent_one old new n p r rest left k room =
+    subst (HasRoom k) (sym left) record {
+      rests = omega (arith, room.rests, len-insert old.rests n rest);
+      moved = omega (arith, room.moved, moved_more r old.moved p);
+      items = omega (arith, room.items);
+    }
+
+-- and an item that it carries
+pub spent_item : (names : ℕ) (old mid new : Scratch) (item : Item)
+    → HasRoom (names + 1) old
+    → HasRoom names mid
+    → mid.items ≡ old.items
+    → new ≡ record mid { items = mid.items ++ item ∷ [] }
+    → HasRoom names new
+spent_item names old mid new item before room same left =
+    subst (HasRoom names) (sym left) record {
+      rests = room.rests;
+      moved = room.moved;
+      items = omega (
+        arith,
+        before.items,
+        ap (λ (xs : List Item). length xs) same,
+        length-append mid.items (item ∷ []),
+      );
+    }
+
+-- where there is room for more there is room for fewer
+pub fewer : (many few : ℕ) (scratch : Scratch) → few ≤ many → HasRoom many scratch
+    → HasRoom few scratch
+fewer many few scratch less room = record {
+  rests = omega (arith, room.rests);
+  moved = omega (arith, room.moved);
+  items = omega (arith, room.items);
+}
+
+-- at the beginning there is room for all
+pub room_first : (scratch : Scratch) (n : ℕ) → scratch ≡ no_scratch → n ≤ limit_of_taken
+    → HasRoom n scratch
+room_first scratch n blank less =
+    subst (HasRoom n) (sym blank) record {
+      rests = omega (arith, len-empty {X = Option Entry} empty refl);
+      moved = omega arith;
+      items = omega arith;
+    }
+
+-- and after the two names of the header for the others
+pub room_later : (first second third : Scratch) (n : ℕ) → first ≡ no_scratch
+    → n + 2 ≤ limit_of_taken
+    → Spends 1 first second
+    → Spends 1 second third
+    → HasRoom n third
+room_later first second third n blank less one two =
+    two n (one (n + 1) (room_first first (n + 1 + 1) blank (omega arith)))

@@ -1,6 +1,6 @@
 pub mod Carrying
 pub mod Giving
-pub mod Judging
+pub mod Queueing
 pub mod SendPlans
 pub mod Receiving
 pub mod Room

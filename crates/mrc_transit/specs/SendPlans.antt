@@ -1,6 +1,6 @@
 -- Plans of messages that are sent, and what carrying one out does. From Mach 3 Kernel Interfaces,
 -- mach_msg (MACH_SEND_MSG). That a plan is made first is this profile's own choice.
-use Rattle.std.specs.Prelude.{◌≡◌, ℕ, Bool, true, false, List, Option}
+use Rattle.std.specs.Prelude.{◌≡◌, ℕ, Bool, false, List, Option}
 use Rattle.std.specs.Prelude.{Some, None, Ok, Err, IsOk, IsSome, option_and_then}
 use Rattle.mrc_base.specs.declared.Disp.{Disp}
 use Rattle.mrc_base.specs.declared.Disp.TheVariants.{MoveReceive, MoveSend, MoveSendOnce, CopySend}
@@ -8,8 +8,8 @@ use Rattle.mrc_base.specs.declared.Disp.TheVariants.{MakeSend, MakeSendOnce}
 use Rattle.mrc_base.specs.Disposition.{disp_of_number}
 use Rattle.mrc_base.specs.declared.memory.OrMemory.{OrMemory}
 use Rattle.mrc_base.specs.declared.memory.OrMemory.TheVariants.{Fault, Memory}
-use Rattle.mrc_model.specs.declared.Code.TheVariants.{MachSendTimedOut}
 use Rattle.mrc_model.specs.declared.Entry.{Entry}
+use Rattle.mrc_model.specs.declared.Item.{Item}
 use Rattle.mrc_model.specs.Map.{Map, get}
 use Rattle.mrc_model.specs.Message.{Message}
 use Rattle.mrc_model.specs.Wiring.{Wiring}
@@ -21,9 +21,9 @@ use Rattle.mrc_model.specs.CallSend.{call_send}
 use Rattle.mrc_names.specs.Leaving.{patched, AreRests}
 use Rattle.mrc_ports.specs.Queues.{is_full_for, is_out_of_room}
 use Rattle.mrc_transit.specs.declared.sending.SendFault.{SendFault}
-use Rattle.mrc_transit.specs.declared.sending.SendFault.TheVariants as faults
-use Rattle.mrc_transit.specs.Staging.{Taking, staged}
-use Rattle.mrc_transit.specs.Sending.{IsSendRefusal, fault_reply}
+use Rattle.mrc_transit.specs.Staging.{Taking, Scratch, staged}
+use Rattle.mrc_transit.specs.Queueing.{queued_from}
+use Rattle.mrc_transit.specs.Sending.{fault_reply}
 
 -- who sends, what is left of names, the ports whose receive rights were taken, where the message
 -- goes, and the message
@@ -34,10 +34,39 @@ pub record SendPlan : Type 0 where
   pub destination : ℕ
   pub parcel : Parcel
 
+-- the same, of which the scratch has what is left of names and the ports
+pub record Start : Type 0 where
+  pub sender : ℕ
+  pub destination : ℕ
+  pub parcel : Parcel
+
+-- both together
+abbrev pub with_scratch : Start → Scratch → SendPlan
+with_scratch start scratch = record {
+  sender = start.sender;
+  changes = scratch.rests;
+  moved = scratch.moved;
+  destination = start.destination;
+  parcel = start.parcel;
+}
+
+-- the message of a task to this destination, sent through such a right, which carries this for its
+-- reply port, and for the names of its arguments what the scratch has
+abbrev pub judged_as : ℕ → Message → ℕ → Bool → Item → Scratch → SendPlan
+judged_as t m destination by_once reply scratch = with_scratch record {
+  sender = t;
+  destination = destination;
+  parcel = record {
+    by_once = by_once;
+    id = m.id;
+    reply = reply;
+    args = queued_from m.args scratch.items;
+  };
+} scratch
+
 -- what was taken, from the sender's space in the store
 abbrev pub taking_of : Store → SendPlan → Taking
 taking_of s plan = record {
-  base = space s plan.sender;
   space = patched (space s plan.sender) plan.changes;
   moved = plan.moved;
 }
@@ -69,14 +98,14 @@ IsSendAnswer (Fault fault) m = m ≡ Err (fault_reply fault)
 IsSendAnswer Memory m = IsOk m
 
 -- so it is in each world with this store in which t is of class `own`
+abbrev pub IsRefused : SendFault → Wiring → Store → ℕ → ℕ → Message → Type 0
+IsRefused fault W s own t m = (w : World) → task_class w t ≡ own
+    → call_send W (with_store w s) t m ≡ Err (fault_reply fault)
+
+-- the same, if memory may run out
 abbrev pub IsNotSent : OrMemory SendFault → Wiring → Store → ℕ → ℕ → Message → Type 0
 IsNotSent fault W s own t m = (w : World) → task_class w t ≡ own
     → IsSendAnswer fault (call_send W (with_store w s) t m)
-
--- the same before it is judged again: nothing is said of out of memory
-abbrev pub IsNotPlanned : OrMemory SendFault → Wiring → Store → ℕ → ℕ → Message → Type 0
-IsNotPlanned fault W s own t m = (w : World) → task_class w t ≡ own
-    → IsSendRefusal fault (call_send W (with_store w s) t m)
 
 -- a disposition but that which moves a receive right
 abbrev pub but_receive : Disp → Option Disp
@@ -90,9 +119,3 @@ but_receive MakeSendOnce = Some MakeSendOnce
 -- how a destination's right is taken, by the number in the header
 abbrev pub destination_disp : ℕ → Option Disp
 destination_disp number = option_and_then but_receive (disp_of_number number)
-
--- the queue is full for the message, which is told as timed out; if memory ran out nothing is said
-abbrev pub IsNoRoom : OrMemory SendFault → Port → Bool → Type 0
-IsNoRoom (Fault fault) x by_once =
-    (fault ≡ faults.Refused MachSendTimedOut) × (is_full_for x by_once ≡ true)
-IsNoRoom Memory x by_once = Unit {0}

@@ -1,9 +1,6 @@
 -- Why sending is refused, and one name of an argument. From Mach 3 Kernel Interfaces, mach_msg.
-use Rattle.std.specs.Prelude.{◌≡◌, ℕ, Ok, Err}
+use Rattle.std.specs.Prelude.{ℕ, Ok}
 use Rattle.mrc_base.specs.declared.Disp.{Disp}
-use Rattle.mrc_base.specs.declared.memory.OrMemory.{OrMemory}
-use Rattle.mrc_base.specs.declared.memory.OrMemory.TheVariants.{Fault, Memory}
-use Rattle.mrc_model.specs.declared.Code.{Code}
 use Rattle.mrc_model.specs.declared.Code.TheVariants.{MachSendInvalidRight}
 use Rattle.mrc_model.specs.declared.Denied.TheVariants.{ReplySlot, NotForReply}
 use Rattle.mrc_model.specs.declared.Verb.TheVariants.{Replies}
@@ -14,7 +11,6 @@ use Rattle.mrc_model.specs.Reply as model
 use Rattle.mrc_model.specs.Reply.{Try, ◌>>=◌, ◌>>◌, check}
 use Rattle.mrc_model.specs.Trust.{may_item}
 use Rattle.mrc_model.specs.CallSend.{take_item, admit_item, fits_item}
-use Rattle.mrc_transit.specs.declared.taking.NotHeld.{NotHeld}
 use Rattle.mrc_transit.specs.declared.sending.SendFault.{SendFault}
 use Rattle.mrc_transit.specs.declared.sending.SendFault.TheVariants as faults
 
@@ -22,17 +18,6 @@ use Rattle.mrc_transit.specs.declared.sending.SendFault.TheVariants as faults
 abbrev pub fault_reply : SendFault → model.Reply
 fault_reply (faults.Refused code) = model.Refused code
 fault_reply (faults.Denied denied) = model.DeniedBy denied
-
--- the step is refused so; of want of memory nothing is said, since takings that come later might be
--- refused
-abbrev pub IsSendRefusal : {A : Type 0} → OrMemory SendFault → Try A → Type 0
-IsSendRefusal (Fault fault) m = m ≡ Err (fault_reply fault)
-IsSendRefusal Memory m = Unit {0}
-
--- the refusal with this code, where a name gives no right
-abbrev pub refused_by : Code → OrMemory NotHeld → OrMemory SendFault
-refused_by code (Fault held) = Fault (faults.Refused code)
-refused_by code Memory = Memory
 
 -- one name of an argument: what it carries is taken, the slot has to admit it, and a sender of
 -- class `own` has to be trusted to send it

@@ -1,17 +1,17 @@
 -- What a task that sends has given so far, and the store after that. This profile's own choice.
-use Rattle.std.specs.Prelude.{◌≡◌, List, [], ◌∷◌, ◌++◌, ℕ, Err, IsOk}
+use Rattle.std.specs.Prelude.{◌≡◌, ◌≤◌, ◌+◌, ◌-◌, ◌/◌, List, [], ◌∷◌, ◌++◌, length, ℕ, Option}
+use Rattle.mrc_base.specs.Limits.{limit_of_message}
 use Rattle.mrc_base.specs.declared.PortRight.{PortRight}
 use Rattle.mrc_base.specs.declared.PortRight.TheVariants.{Send, Receive, SendOnce}
-use Rattle.mrc_base.specs.declared.memory.OrMemory.{OrMemory}
-use Rattle.mrc_base.specs.declared.memory.OrMemory.TheVariants.{Fault, Memory}
+use Rattle.mrc_model.specs.declared.Entry.{Entry}
+use Rattle.mrc_model.specs.declared.Item.{Item}
+use Rattle.mrc_model.specs.Map.{Map, empty, len}
 use Rattle.mrc_model.specs.World.{Space, Store, set_space}
-use Rattle.mrc_model.specs.Reply.{Reply, Try}
 use Rattle.mrc_model.specs.Space.{restart}
+use Rattle.mrc_names.specs.Leaving.{patched}
 
--- the sender's space before anything was taken, what it is after that, and the ports whose receive
--- rights were taken, in order
+-- the sender's space after what was taken, and the ports whose receive rights were taken, in order
 pub record Taking : Type 0 where
-  pub base : Space
   pub space : Space
   pub moved : List ℕ
 
@@ -30,8 +30,37 @@ moved_by Send ps p = ps
 moved_by Receive ps p = ps ++ p ∷ []
 moved_by SendOnce ps p = ps
 
--- the step is refused by the reply that it is told to refuse by; memory runs out only where it is
--- not refused
-abbrev pub IsRefusedBy : {F A : Type 0} → OrMemory F → (Reply → Try A) → Type 0
-IsRefusedBy (Fault fault) m = (e : Reply) → m e ≡ Err e
-IsRefusedBy Memory m = (e : Reply) → IsOk (m e)
+-- what takings leave of names, the ports whose receive rights were taken, and what the names of
+-- arguments carry, in order
+pub record Scratch : Type 0 where
+  pub rests : Map (Option Entry)
+  pub moved : List ℕ
+  pub items : List Item
+
+-- nothing was taken yet
+abbrev pub no_scratch : Scratch
+no_scratch = record { rests = empty; moved = []; items = [] }
+
+-- what was taken of a space
+abbrev pub taken_of : Space → Scratch → Taking
+taken_of x scratch = record { space = patched x scratch.rests; moved = scratch.moved }
+
+-- as many names are in a message at most: two in its header, and each other one takes four bytes
+abbrev pub limit_of_taken : ℕ
+limit_of_taken = (limit_of_message - 24) / 4 + 2
+
+-- of these numbers of names, ports and items each is room for as many
+pub record IsRoomy (names ports items : ℕ) : Type 0 where
+  pub names_fit : limit_of_taken ≤ names
+  pub ports_fit : limit_of_taken ≤ ports
+  pub items_fit : limit_of_taken ≤ items
+
+-- there is room for n names more
+pub record HasRoom (n : ℕ) (scratch : Scratch) : Type 0 where
+  pub rests : len scratch.rests + n ≤ limit_of_taken
+  pub moved : length scratch.moved + n ≤ limit_of_taken
+  pub items : length scratch.items + n ≤ limit_of_taken
+
+-- so many names take no more room than is there
+abbrev pub Spends : ℕ → Scratch → Scratch → Type 0
+Spends names old new = (n : ℕ) → HasRoom (n + names) old → HasRoom n new

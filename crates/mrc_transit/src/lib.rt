@@ -4,10 +4,11 @@
 
 mod arguments;
 mod giving;
-mod judging;
 mod laws;
+mod queueing;
 mod receiving;
 mod room;
+mod scratch;
 mod send_plan;
 mod sending;
 mod taking;
@@ -16,7 +17,7 @@ mod written;
 pub use giving::give_item;
 pub use laws::taken_is_carried;
 pub use receiving::{ReceiveFault, next_size, receive};
+pub use scratch::Scratch;
 pub use send_plan::{SendPlan, copy_in};
 pub use sending::{SendFault, Slot, admit, may_item};
-pub use taking::{NotHeld, Taking};
 pub use written::{Written, WrittenRoom};

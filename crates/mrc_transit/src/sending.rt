@@ -4,10 +4,9 @@ ghost use Rattle.std.specs.Prelude.{◌≡◌, Ok, Err, IfErr, OnOk};
 ghost use Rattle.mrc_model.specs.Trust.{may_item};
 ghost use Rattle.mrc_model.specs.CallSend.{admit_item, fits_item};
 ghost use Rattle.mrc_wiring.specs.Table.{wiring_of};
-ghost use Rattle.mrc_transit.specs.Sending.{fault_reply, judge_reply, refused_by};
+ghost use Rattle.mrc_transit.specs.Sending.{fault_reply, judge_reply};
 
-use crate::taking::NotHeld;
-use mrc_base::{ClassId, OrMemory, TaskId};
+use mrc_base::{ClassId, TaskId};
 use mrc_model::{Code, Denied, Item, Verb};
 use mrc_ports::Store;
 use mrc_wiring::Wired;
@@ -110,14 +109,4 @@ pub fn admit(wired: &Wired, store: &Store, slot: &Slot, item: &Item) -> Result<(
         return Err(SendFault::Denied(Denied::NotSent(slot.argument)));
     }
     Ok(())
-}
-
-/// The refusal with this code, where a name gives no right.
-pub(crate) fn refused_by(code: Code, fault: OrMemory<NotHeld>) -> OrMemory<SendFault>
-    ensures { result ≡ refused_by code fault }
-{
-    match fault {
-        OrMemory::Fault(_not_held) => OrMemory::Fault(SendFault::Refused(code)),
-        OrMemory::Memory => OrMemory::Memory,
-    }
 }

@@ -1,116 +1,74 @@
 //! What a task that sends gives: rights from names of its space.
 
-ghost use Rattle.std.specs.Prelude.{◌≡◌, ℕ, List, [], Ok, IfOk, IfErr, OnOk, OnErr};
+ghost use Rattle.std.specs.Prelude.{◌≡◌, ◌<◌, ℕ, Ok, Err, IfOk, OnErr, length};
 ghost use Rattle.mrc_model.specs.World.{Store as TStore};
 ghost use Rattle.mrc_model.specs.Reply.{Reply};
 ghost use Rattle.mrc_model.specs.Space.{take};
 ghost use Rattle.mrc_model.specs.CallSend.{take_item, take_reply_by};
-ghost use Rattle.mrc_names.specs.Leaving.{patched, AreRests};
-ghost use Rattle.mrc_transit.specs.Staging.{staged, moved_by, IsRefusedBy};
+ghost use Rattle.mrc_names.specs.Leaving.{AreRests};
+ghost use Rattle.mrc_transit.specs.Staging.{staged, taken_of, moved_by, limit_of_taken};
+ghost use Rattle.mrc_transit.specs.Staging.{HasRoom, Spends};
 
-use mrc_base::{Disp, OrMemory, PortId, PortRight, give};
+use crate::scratch::Scratch;
+use mrc_base::{Disp, PortId, PortRight, give};
 use mrc_model::Item;
-use mrc_names::{Changes, Leaving, Space};
-use std::alloc::{AllocError, Global};
-use std::marker::Model;
-use thiserror::Error;
+use mrc_names::Space;
 
 /// A name gives no such right.
-#[derive(Clone, Copy, Debug, PartialEq, Eq, Error)]
-#[error("NotHeld")]
-pub struct NotHeld;
+#[derive(Clone, Copy, Debug, PartialEq, Eq)]
+pub(crate) struct NotHeld;
 
-/// What the sender's space has given: what is left of names stands beside the space, with the ports
-/// whose receive rights are among it. It keeps the allocator that it is made with.
-#[derive(Debug, Drop)]
-pub struct Taking<'a> {
-    pub(crate) alloc: Global,
-    leaving: Leaving<'a>,
-    moved: Vec<PortId>,
-}
-
-impl<'a> Model for Taking<'a> {
-    ghost use Rattle.mrc_transit.specs.Staging as stage;
-
-    ghost Value = { stage.Taking };
-
-    ghost view = { λ a. record {
-      base = a.leaving.base;
-      space = a.leaving.space;
-      moved = a.moved.items;
-    } };
-}
-
-/// Notes the port of a right that is given, where it is the receive right.
-fn note(moved: &mut Vec<PortId>, right: PortRight, port: PortId) -> Result<(), AllocError>
-    ensures ok { OnOk result (moved.new.items ≡ moved_by right moved.old.items port) }
-    ensures err { OnErr result (moved.new.items ≡ moved.old.items) }
-{
-    if let PortRight::Receive = right {
-        moved.push(port)?;
-    }
-    Ok(())
-}
-
-/// Forgets the port that was noted last, where a receive right was taken.
-fn forget(moved: &mut Vec<PortId>, right: PortRight)
-    ensures { (ports : List ℕ) (port : ℕ)
-        → moved.old.items ≡ moved_by right ports port → moved.new.items ≡ ports }
-{
-    match right {
-        PortRight::Send | PortRight::SendOnce => (),
-        PortRight::Receive => {
-            let _ = moved.pop();
-        }
-    }
-}
-
-impl<'a> Taking<'a> {
-    /// Nothing is given yet of the space.
-    pub fn new(alloc: Global, space: &'a Space) -> Taking<'a>
-        ensures { result ≡ record { base = space.now; space = space.now; moved = [] } }
+impl Scratch {
+    /// Notes the port of a right that is given, if it is the receive right.
+    fn note(&mut self, right: PortRight, port: PortId)
+        requires { length self.old.moved < limit_of_taken }
+        ensures { self.new ≡ record self.old { moved = moved_by right self.old.moved port } }
     {
-        Taking {
-            alloc,
-            leaving: Leaving::new(alloc, space),
-            moved: Vec::new(alloc),
+        if let PortRight::Receive = right {
+            self.move_port(port);
         }
     }
 
-    /// Takes a right from a name: its port. Refused where the name has no entry, or its entry lacks
-    /// the right.
-    pub fn take(&mut self, name: u32, disp: Disp) -> Result<PortId, OrMemory<NotHeld>>
+    /// Takes a right from a name of the space: its port. Refused if the name has no entry, or its
+    /// entry lacks the right.
+    pub(crate) fn take(&mut self, space: &Space, name: u32, disp: Disp) -> Result<PortId, NotHeld>
+        requires { HasRoom 1 self.old }
         ensures taken { IfOk result (λ port. (s : TStore) (t : ℕ) (e : Reply)
-            → take (staged s t self.old) t name disp e e ≡ Ok (staged s t self.new, port)) }
-        ensures refused { IfErr result (λ fault. (s : TStore) (t : ℕ)
-            → IsRefusedBy fault (λ e. take (staged s t self.old) t name disp e e)) }
-        ensures base { self.new.base ≡ self.old.base }
-        ensures err { OnErr result (self.new ≡ self.old) }
+            → take (staged s t (taken_of space.now self.old)) t name disp e e
+            ≡ Ok (staged s t (taken_of space.now self.new), port)) }
+        ensures refused { OnErr result ((s : TStore) (t : ℕ) (e : Reply)
+            → take (staged s t (taken_of space.now self.old)) t name disp e e ≡ Err e) }
+        ensures rests { AreRests space.now self.old.rests → AreRests space.now self.new.rests }
+        ensures room { Spends 1 self.old self.new }
+        ensures items { self.new.items ≡ self.old.items }
     {
-        let (port, rest) = match self.leaving.parting(name, disp) {
+        let (port, rest) = match self.rests.parting(space, name, disp) {
             Ok(taken) => taken,
-            Err(_code) => return Err(OrMemory::Fault(NotHeld)),
+            Err(_code) => return Err(NotHeld),
         };
-        note(&mut self.moved, give(disp), port)?;
-        match self.leaving.leave(name, rest) {
-            Ok(()) => Ok(port),
-            Err(_) => {
-                forget(&mut self.moved, give(disp));
-                Err(OrMemory::Memory)
-            }
-        }
+        self.note(give(disp), port);
+        self.leave(name, rest);
+        Ok(port)
     }
 
     /// What a message carries for a name: nothing for MACH_PORT_NULL, a dead right for
     /// MACH_PORT_DEAD and for a dead name of which a right is moved or copied, else the right that
     /// is taken from it.
-    pub fn take_item(&mut self, name: u32, disp: Disp) -> Result<Item, OrMemory<NotHeld>>
+    pub(crate) fn take_item(
+        &mut self,
+        space: &Space,
+        name: u32,
+        disp: Disp,
+    ) -> Result<Item, NotHeld>
+        requires { HasRoom 1 self.old }
         ensures taken { IfOk result (λ item. (s : TStore) (t : ℕ) (e : Reply)
-            → take_item (staged s t self.old) t name disp e ≡ Ok (staged s t self.new, item)) }
-        ensures refused { IfErr result (λ fault. (s : TStore) (t : ℕ)
-            → IsRefusedBy fault (λ e. take_item (staged s t self.old) t name disp e)) }
-        ensures base { self.new.base ≡ self.old.base }
-        ensures err { OnErr result (self.new ≡ self.old) }
+            → take_item (staged s t (taken_of space.now self.old)) t name disp e
+            ≡ Ok (staged s t (taken_of space.now self.new), item)) }
+        ensures refused { OnErr result ((s : TStore) (t : ℕ) (e : Reply)
+            → take_item (staged s t (taken_of space.now self.old)) t name disp e ≡ Err e) }
+        ensures rests { AreRests space.now self.old.rests → AreRests space.now self.new.rests }
+        ensures room { Spends 1 self.old self.new }
+        ensures items { self.new.items ≡ self.old.items }
     {
         if name == 0 {
             return Ok(Item::Null);
@@ -118,11 +76,11 @@ impl<'a> Taking<'a> {
         if name == 0xffff_ffff {
             return Ok(Item::Dead);
         }
-        if let Some(rest) = self.leaving.dead_parting(name, disp) {
-            self.leaving.leave(name, rest)?;
+        if let Some(rest) = self.rests.dead_parting(space, name, disp) {
+            self.leave(name, rest);
             return Ok(Item::Dead);
         }
-        let port = self.take(name, disp)?;
+        let port = self.take(space, name, disp)?;
         Ok(Item::Right {
             port,
             right: give(disp),
@@ -131,16 +89,24 @@ impl<'a> Taking<'a> {
 
     /// What a message carries for its reply port. Without a disposition it carries nothing, or a
     /// dead right, and any other name is refused.
-    pub fn take_reply(&mut self, name: u32, disp: Option<Disp>) -> Result<Item, OrMemory<NotHeld>>
+    pub(crate) fn take_reply(
+        &mut self,
+        space: &Space,
+        name: u32,
+        disp: Option<Disp>,
+    ) -> Result<Item, NotHeld>
+        requires { HasRoom 1 self.old }
         ensures taken { IfOk result (λ item. (s : TStore) (t : ℕ) (e : Reply)
-            → take_reply_by (staged s t self.old) t name disp e ≡ Ok (staged s t self.new, item)) }
-        ensures refused { IfErr result (λ fault. (s : TStore) (t : ℕ)
-            → IsRefusedBy fault (λ e. take_reply_by (staged s t self.old) t name disp e)) }
-        ensures base { self.new.base ≡ self.old.base }
-        ensures err { OnErr result (self.new ≡ self.old) }
+            → take_reply_by (staged s t (taken_of space.now self.old)) t name disp e
+            ≡ Ok (staged s t (taken_of space.now self.new), item)) }
+        ensures refused { OnErr result ((s : TStore) (t : ℕ) (e : Reply)
+            → take_reply_by (staged s t (taken_of space.now self.old)) t name disp e ≡ Err e) }
+        ensures rests { AreRests space.now self.old.rests → AreRests space.now self.new.rests }
+        ensures room { Spends 1 self.old self.new }
+        ensures items { self.new.items ≡ self.old.items }
     {
         match disp {
-            Some(disp) => self.take_item(name, disp),
+            Some(disp) => self.take_item(space, name, disp),
             None => {
                 if name == 0 {
                     return Ok(Item::Null);
@@ -148,17 +114,8 @@ impl<'a> Taking<'a> {
                 if name == 0xffff_ffff {
                     return Ok(Item::Dead);
                 }
-                Err(OrMemory::Fault(NotHeld))
+                Err(NotHeld)
             }
         }
-    }
-
-    /// What is left of names, and the ports whose receive rights were taken.
-    pub(crate) fn finish(self) -> (Changes, Vec<PortId>)
-        ensures changes { patched self.entry.base result.0 ≡ self.entry.space }
-        ensures rests { AreRests self.entry.base result.0 }
-        ensures moved { result.1.items ≡ self.entry.moved }
-    {
-        (self.leaving.changes(), self.moved)
     }
 }

@@ -1,15 +1,17 @@
-use Rattle.std.proofs.Common.{refl, ap, ◌∙◌}
-use Rattle.mrc_model.specs.declared.Entry.{Entry}
-use Rattle.mrc_model.specs.Map.{Map}
-use Rattle.std.specs.Prelude.{Option}
+use Rattle.std.proofs.Common.{refl, sym, subst, ◌∙◌}
+use Rattle.mrc_map.specs.Rooms.{AreEntries}
+use Rattle.mrc_names.specs.Leaving.{Rests}
 use Rattle.mrc_names.proofs.LeavingLaws.{can_patch, patch_end, patched_is}
 use Rattle.mrc_names.proofs.space.Space.apply.Goals as goal
 
 pub loop-change-init : goal.loop-change-init
 loop-change-init c = record {
-  can = can_patch c.args.self.now c.args.changes.now c.into_iter-change-iterator.result c.requires
-      (c.into_iter-change-iterator.ensures.into_iter_gives ∙ c.iter-change-items.ensures
-      ∙ ap (λ (m : Map (Option Entry)). m.list) c.changes.view_is);
+  can = can_patch c.args.self.now c.args.rests.now.changes c.into_iter-change-iterator.result
+      c.requires
+      (subst (λ (r : Rests). AreEntries c.into_iter-change-iterator.result r.changes)
+      c.rests.view_is
+      (subst (λ l. AreEntries l c.rests.inside.rests.map)
+      (sym c.into_iter-change-iterator.ensures.into_iter_gives) c.iter-change-items.ensures));
   same = refl;
 }
 
@@ -17,6 +19,8 @@ pub returns : goal.returns
 returns c =
     patch_end c.loop-change.change-iterator c.loop-change.self _ c.in-None.ensures.steps.0
     c.loop-change.invariant.same
-    ∙ patched_is c.args.self.now c.args.changes.now c.into_iter-change-iterator.result
-    (c.into_iter-change-iterator.ensures.into_iter_gives ∙ c.iter-change-items.ensures
-    ∙ ap (λ (m : Map (Option Entry)). m.list) c.changes.view_is)
+    ∙ patched_is c.args.self.now c.args.rests.now.changes c.into_iter-change-iterator.result
+    (subst (λ (r : Rests). AreEntries c.into_iter-change-iterator.result r.changes)
+    c.rests.view_is
+    (subst (λ l. AreEntries l c.rests.inside.rests.map)
+    (sym c.into_iter-change-iterator.ensures.into_iter_gives) c.iter-change-items.ensures))
