@@ -377,11 +377,15 @@ object_told : (shows wanted : Bool) (held : Held) (command : Command) (format : 
     → format ≡ asked_format command
     → word ≡ command_word command
     → IsMadeFor wanted held command help told
+    → FaultOf held [] command told
     → IsFaultObject format word help.hint told new
     → (shows ≡ true → behind ≡ string_bytes help.text)
     → ToldObject shows held command behind new
-object_told shows wanted held command format word behind help told new form named made object
-    text = record {
+object_told shows wanted held command format word behind help told new form named made fault
+    object text = record {
+      plain = told;
+      fault = fault;
+      line = object.err;
       help = help;
       helps = elim made [
         | inl none ↦ inl none
@@ -416,7 +420,7 @@ out_of_fault shows wanted held command format word behind rest help told new for
             (silent shows held command behind rest told none (fault was))
         | inr object ↦ inr (inr (inr (
           object_told shows wanted held command format word behind help told new form named made
-              object text,
+              (subst (λ r. FaultOf held r command told) none (fault was)) object text,
           none,
         )))
       ]

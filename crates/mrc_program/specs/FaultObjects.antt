@@ -16,7 +16,7 @@ use Rattle.mrc_json.specs.Answers.{fault_json}
 use Rattle.mrc_sarif.specs.Answers.{fault_sarif}
 use Rattle.mrc_program.specs.declared.behind.Help.{Help}
 use Rattle.mrc_program.specs.Behind.{IsNoHelp, HelpsWith}
-use Rattle.mrc_program.specs.Commands.{DoneOf, HaltedOf, NoOf, OfWords, seen}
+use Rattle.mrc_program.specs.Commands.{DoneOf, FaultOf, HaltedOf, NoOf, OfWords, seen}
 use Rattle.mrc_program.specs.Cutting.{CutsLess, OfCuts, OfTexts}
 
 -- The object of a fault, by the word of the command, what is printed on standard error, and the
@@ -36,10 +36,14 @@ pub record IsFaultObject (format : Format) (word : List ℕ) (hint : Hint) (told
   pub err : string_bytes new.err ≡ string_bytes told.err
   pub out : string_bytes new.out ≡ fault_object format word (string_bytes told.err) hint
 
--- The object of the fault of a command is printed, with the hint that helps with it, or with none.
--- If the places of faults are shown, `behind` is the text of this hint.
+-- The object of the fault of a command is printed: of `plain`, which is printed of the fault for
+-- people, and with the hint that helps with it, or with none. If the places of faults are shown,
+-- `behind` is the text of this hint.
 pub record ToldObject (shows : Bool) (held : Held) (command : Command) (behind : List ℕ)
     (told : Told) : Type 0 where
+  pub plain : Told
+  pub fault : FaultOf held [] command plain
+  pub line : string_bytes told.err ≡ string_bytes plain.err
   pub help : Help
   pub helps : IsNoHelp help ⊎ HelpsWith held command told help
   pub text : shows ≡ true → behind ≡ string_bytes help.text

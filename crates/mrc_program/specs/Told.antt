@@ -29,7 +29,7 @@ pub record ToldWord (word fault : List ℕ) (told : Told) : Type 0 where
 abbrev pub IsFaultOf : List ℕ → List ℕ → Type 0
 IsFaultOf file text = (fault : List ℕ) × (text ≡ fault_line file fault)
 
--- a fault of the file is printed, and nothing else
+-- a fault of the file is printed, and nothing is told on standard output
 pub record ToldFile (file : List ℕ) (told : Told) : Type 0 where
   pub out : string_bytes told.out ≡ []
   pub err : IsFaultOf file (string_bytes told.err)

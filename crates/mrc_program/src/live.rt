@@ -22,7 +22,7 @@ use mrc_base::limits::PARTS;
 use mrc_base::{Open, OrMemory};
 use mrc_check::Confined;
 use mrc_command::{FileNames, Format, Told, fault_of, memory, said};
-use mrc_report::{NotServed, Script, ServeFault, Served, serve, waits_text};
+use mrc_report::{NotServed, Ran, Script, ServeFault, Served, serve, waits_text};
 use std::alloc::{AllocError, Global};
 use std::marker::Brand;
 use std::sync::Wait;
@@ -53,13 +53,22 @@ fn served<R: Threads + Wait + Sync>(
     }
 }
 
-/// What is printed of a file's script if all tasks that have lines left wait: these lines.
-fn waits_told(alloc: Global, file: &str, lines: &[u32]) -> Result<Told, AllocError>
+/// What is printed of a file's script if all tasks that have lines left wait: these lines. The
+/// journal so far is pending.
+fn waits_told(
+    alloc: Global,
+    file: &str,
+    ran: Ran,
+    lines: &[u32],
+    pending: &mut Pending,
+) -> Result<Told, AllocError>
+    ensures pending { pending.new ≡ ran }
     ensures status { IfOk result (λ told. told.status ≡ 2) }
     ensures out { IfOk result (λ told. string_bytes told.out ≡ []) }
     ensures err { IfOk result (λ told. string_bytes told.err
         ≡ fault_line file.now (waits_text lines.now)) }
 {
+    *pending = Pending::journal(ran);
     let text = waits_text(alloc, lines)?;
     fault_of(alloc, file, text.as_str())
 }
@@ -91,8 +100,7 @@ fn run_told<R: Threads + Wait + Sync>(
             Ok(said(alloc, String::new(alloc), 0))
         }
         Ok(Served::AllWait(ran, lines)) => {
-            *pending = Pending::journal(ran);
-            waits_told(alloc, file, lines.as_slice())
+            waits_told(alloc, file, ran, lines.as_slice(), pending)
         }
         Err(OrMemory::Fault(fault)) => {
             let text = fault.to_string(alloc)?;

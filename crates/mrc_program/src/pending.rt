@@ -75,6 +75,7 @@ impl Pending {
             (take (written fault) self.now)) }
         ensures within { IfErr result (λ fault. written fault ≤ length self.now) }
         // A failed write is reported if one failed, and else none did.
+        ensures passed { OnOk result (S.failures sink.new ≡ S.failures sink.old) }
         ensures failed { IfErr result (HasFailed (S.failures sink.old) (S.failures sink.new)) }
     {
         match &self.source {

@@ -424,7 +424,7 @@ pub fn run<F: Folder, R: Threads + Wait + Sync, O: Write, E: Write>(
         → WentOut watched.out (map string_bytes words.now) (NoOf (F.held folder.old))
         (O.contents out.old) (O.contents out.new) }
     // With status 2 nothing went out, or a front of what is printed of the words: of the right
-    // answer, if memory ran out for the rest or no more was taken, or of what goes to standard
+    // answer, if memory ran out for the rest or an output took no more, or of what goes to standard
     // output with a fault; or they ask for help or the version.
     ensures front { result ≡ 2 → Appends (O.contents out.old) (O.contents out.new) []
         ⊎ (WentInPart watched.out watched.err (map string_bytes words.now) (F.held folder.old)
@@ -481,7 +481,7 @@ pub fn start<F: Folder, R: Threads + Wait + Sync, O: Write, E: Write>(
         WentOut watched.out (map string_bytes given.items) (NoOf (F.held folder.old))
         (O.contents out.old) (O.contents out.new)) }
     // With status 2 nothing went out, or a front of what is printed of the words: of the right
-    // answer, if memory ran out for the rest or no more was taken, or of what goes to standard
+    // answer, if memory ran out for the rest or an output took no more, or of what goes to standard
     // output with a fault; or they ask for help or the version.
     ensures front { result ≡ 2 → Appends (O.contents out.old) (O.contents out.new) []
         ⊎ IsOkAnd words (λ given.

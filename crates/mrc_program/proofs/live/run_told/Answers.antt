@@ -16,22 +16,22 @@ returns-in-Ok-Whole-clause-done g c nought =
 
 pub returns-in-Ok-AllWait-clause-fault : goal.returns-in-Ok-AllWait-clause-fault
 returns-in-Ok-AllWait-clause-fault g c =
-    waits_fault c.args.confined.claim.table c.args.script c.journal-in-Ok-AllWait.result
+    waits_fault c.args.confined.claim.table c.args.script c.waits_told.new.pending
     c.in-Ok-AllWait.ran c.args.file.now c.as_slice.result.now c.waits_told.result
     (subst (λ (lines : List ℕ). IsHalted c.args.confined.claim.table c.args.script lines
     c.in-Ok-AllWait.ran) (sym c.as_slice.ensures.value)
     (subst (IsServed c.args.confined.claim.table c.args.script) c.in-Ok-AllWait.field-0-is
-    c.in-Ok-AllWait.ensures)) c.journal-in-Ok-AllWait.ensures c.waits_told.ensures.out
+    c.in-Ok-AllWait.ensures)) c.waits_told.ensures.pending c.waits_told.ensures.out
     c.waits_told.ensures.err
 
 pub returns-in-Ok-AllWait-clause-rest : goal.returns-in-Ok-AllWait-clause-rest
 returns-in-Ok-AllWait-clause-rest g c =
-    waits_rest c.args.confined.claim.table c.args.script c.journal-in-Ok-AllWait.result
+    waits_rest c.args.confined.claim.table c.args.script c.waits_told.new.pending
     c.in-Ok-AllWait.ran c.args.file.now c.as_slice.result.now c.waits_told.result
     (subst (λ (lines : List ℕ). IsHalted c.args.confined.claim.table c.args.script lines
     c.in-Ok-AllWait.ran) (sym c.as_slice.ensures.value)
     (subst (IsServed c.args.confined.claim.table c.args.script) c.in-Ok-AllWait.field-0-is
-    c.in-Ok-AllWait.ensures)) c.journal-in-Ok-AllWait.ensures c.waits_told.ensures.out
+    c.in-Ok-AllWait.ensures)) c.waits_told.ensures.pending c.waits_told.ensures.out
     c.waits_told.ensures.err
 
 pub returns-in_ok-text-in-Err-Fault-clause-fault :
