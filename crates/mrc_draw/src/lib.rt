@@ -10,8 +10,6 @@ pub mod laws;
 mod nodes;
 mod sets;
 mod slots;
-#[cfg(test)]
-mod tests;
 
 pub use choosing::drawn_facts;
 pub use dot::graph_text;

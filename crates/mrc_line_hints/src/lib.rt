@@ -13,6 +13,3 @@ mod ways;
 
 pub use heads::Role;
 pub use hints::{policy_line_hint, wiring_line_hint};
-
-#[cfg(test)]
-mod tests;

@@ -13,6 +13,3 @@ pub use event::{Event, Journal, Made};
 pub use finishing::Why;
 pub use live::{Live, NotOpened, Unfinished};
 pub use seat::Seat;
-
-#[cfg(test)]
-mod tests;

@@ -14,8 +14,6 @@ mod losing;
 mod narrowing;
 mod printing;
 mod searching;
-#[cfg(test)]
-mod tests;
 mod trusting;
 
 pub use answers::{Answer, Mend, Mends, Progress, find_mends};

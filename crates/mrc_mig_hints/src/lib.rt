@@ -7,8 +7,6 @@ mod laws;
 mod notes;
 mod seen;
 mod standing;
-#[cfg(test)]
-mod tests;
 
 pub use hint::mig_hint;
 pub use laws::{expected_may_be, types_are_declared_there};

@@ -3,8 +3,6 @@
 
 mod laws;
 mod places;
-#[cfg(test)]
-mod tests;
 
 pub use laws::arguments_are_there;
 pub use places::{argument_line, subsystem_line};

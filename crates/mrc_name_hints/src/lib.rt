@@ -7,7 +7,5 @@ mod known;
 pub mod laws;
 mod mentions;
 mod notes;
-#[cfg(test)]
-mod tests;
 
 pub use hints::{names_hint, policy_name_hint, wiring_name_hint};

@@ -10,6 +10,3 @@ mod parameters;
 mod wrong;
 
 pub use hints::script_hint;
-
-#[cfg(test)]
-mod tests;
