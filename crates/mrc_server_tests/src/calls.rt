@@ -6,8 +6,8 @@ ghost use Rattle.mrc_confine.specs.Guards.{wiring_in};
 ghost use Rattle.mrc_model.specs.First.{first};
 
 use crate::server::{
-    TO_2, allocate, called, events, locked, machine, many, opened, seat, send, started, told,
-    told_waiting, two_seats, waited,
+    TO_2, allocate, called, events, finished, locked, machine, many, opened, opened_over, seat,
+    send, started, told, told_waiting, two_seats, waited,
 };
 use mrc_base::TaskId;
 use mrc_base::limits::PARTS;
@@ -113,24 +113,53 @@ fn finish_with<L: Ledger>(unfinished: Unfinished<L>, other: Seat<L>) -> usize {
 
 /// Finishes without one of two seats, and then with both. The number of events.
 fn finish_late<L: Ledger>(live: Live<L>, seats: Vec<Seat<L>>, other: Seat<L>) -> usize {
-    match live.finish(seats) {
+    match finished(live, seats) {
         Ok(_) => 0,
         Err(unfinished) => finish_with(unfinished, other),
     }
 }
 
-/// Two seats of one task, and a journal of five events. Which answers were right, and the number of
-/// events in the end.
+/// Two seats, the first of which is in the list, and which answers to their calls were right.
+#[derive(Drop)]
+struct Outcome<L: Ledger> {
+    seats: Vec<Seat<L>>,
+    other: Seat<L>,
+    first: [bool; 3],
+    next: [bool; 3],
+}
+
+/// What two seats of one task are told.
+fn answered<L: Ledger, R: Wait>(
+    rt: &R,
+    alloc: Global,
+    live: &Live<L>,
+) -> Result<Outcome<L>, AllocError> {
+    let mut seats = room(alloc)?;
+    let (mut one, mut other) = two_seats(rt, live)?;
+    let first = first_calls(rt, alloc, live, &mut one, &mut other)?;
+    let next = next_calls(rt, alloc, live, &mut one)?;
+    seats.push(one)?;
+    Ok(Outcome {
+        seats,
+        other,
+        first,
+        next,
+    })
+}
+
+/// The same with a journal of five events. Which answers were right, and the number of events in
+/// the end.
 fn answers<L: Ledger, R: Wait>(
     rt: &R,
     alloc: Global,
     live: Live<L>,
 ) -> Result<([bool; 3], [bool; 3], usize), AllocError> {
-    let mut seats = room(alloc)?;
-    let (mut one, mut other) = two_seats(rt, &live)?;
-    let first = first_calls(rt, alloc, &live, &mut one, &mut other)?;
-    let next = next_calls(rt, alloc, &live, &mut one)?;
-    seats.push(one)?;
+    let Outcome {
+        seats,
+        other,
+        first,
+        next,
+    } = answered(rt, alloc, &live)?;
     Ok((first, next, finish_late(live, seats, other)))
 }
 
@@ -182,12 +211,28 @@ fn full_at_once<L: Ledger, R: Wait>(rt: &R, live: &Live<L>, seat: &mut Seat<L>) 
     ]
 }
 
+/// Whether a seat is missing, and how many came back.
+fn missed<L: Ledger>(unfinished: Unfinished<L>) -> (bool, usize) {
+    (unfinished.why == Why::SeatsMissing, unfinished.seats.len())
+}
+
 /// Finishes without one of two seats. Whether it was missed, and how many seats came back.
 fn finish_without<L: Ledger>(live: Live<L>, seats: Vec<Seat<L>>) -> (bool, usize) {
-    match live.finish(seats) {
+    match finished(live, seats) {
         Ok(_) => (false, 0),
-        Err(unfinished) => (unfinished.why == Why::SeatsMissing, unfinished.seats.len()),
+        Err(unfinished) => missed(unfinished),
     }
+}
+
+/// A seat that makes the one event of a journal, and another that is let go.
+fn one_of_two<L: Ledger, R: Wait>(
+    rt: &R,
+    alloc: Global,
+    live: &Live<L>,
+) -> Result<([bool; 3], Vec<Seat<L>>), AllocError> {
+    let (mut one, _) = two_seats(rt, live)?;
+    let right = full_at_once(rt, live, &mut one);
+    Ok((right, vec![in alloc; one]?))
 }
 
 /// A journal of one event, and a seat that is let go.
@@ -196,9 +241,7 @@ fn one_event<L: Ledger, R: Wait>(
     alloc: Global,
     live: Live<L>,
 ) -> Result<([bool; 3], (bool, usize)), AllocError> {
-    let (mut one, _) = two_seats(rt, &live)?;
-    let right = full_at_once(rt, &live, &mut one);
-    let seats = vec![in alloc; one]?;
+    let (right, seats) = one_of_two(rt, alloc, &live)?;
     Ok((right, finish_without(live, seats)))
 }
 
@@ -273,10 +316,8 @@ fn seat_of_nobody<L: Ledger, R: Threads + Wait + Sync>(
     requires parts { (blank.parts ≡ L.parts) × (L.parts ≡ limit_of_parts) }
 {
     let machine = started(rt, alloc, "wiring 1\n", &NOBODY)?;
-    match locked::<L>(alloc, machine, 1, blank) {
-        Ok(live) => Ok(not_seated(rt, &live)),
-        Err(_) => Err(AllocError),
-    }
+    let live = opened_over::<L>(alloc, machine, 1, blank)?;
+    Ok(not_seated(rt, &live))
 }
 
 #[test]
@@ -331,22 +372,33 @@ fn is_nobody<L: Ledger, R: Wait>(rt: &R, live: &Live<L>, task: u32) -> bool {
     matches!(live.seat(rt, TaskId(task)), Err(NotSeated::NoSuchTask))
 }
 
-/// A seat of a task that a call makes: none before it, then one that calls, and all is finished.
+/// A seat of a task that a call makes: none before it, then one that calls. What was right, and
+/// both seats.
+fn child_called<L: Ledger, R: Wait>(
+    rt: &R,
+    alloc: Global,
+    live: &Live<L>,
+) -> Result<([bool; 4], Vec<Seat<L>>), AllocError> {
+    let mut maker = seat(rt, live)?;
+    let none = is_nobody(rt, live, 2);
+    let made = makes_third(rt, live, &mut maker);
+    let Ok(mut child) = live.seat(rt, TaskId(2)) else {
+        return Err(AllocError);
+    };
+    let alone = has_kernel_port_alone(rt, live, &mut child);
+    let next = is_nobody(rt, live, 3);
+    let seats = vec![in alloc; maker, child]?;
+    Ok(([none, made, alone, next], seats))
+}
+
+/// The same, and all is finished. What was right, and the number of events.
 fn seat_of_a_child<L: Ledger, R: Wait>(
     rt: &R,
     alloc: Global,
     live: Live<L>,
 ) -> Result<([bool; 4], usize), AllocError> {
-    let mut maker = seat(rt, &live)?;
-    let none = is_nobody(rt, &live, 2);
-    let made = makes_third(rt, &live, &mut maker);
-    let Ok(mut child) = live.seat(rt, TaskId(2)) else {
-        return Err(AllocError);
-    };
-    let alone = has_kernel_port_alone(rt, &live, &mut child);
-    let next = is_nobody(rt, &live, 3);
-    let seats = vec![in alloc; maker, child]?;
-    Ok(([none, made, alone, next], events(live, seats)))
+    let (right, seats) = child_called(rt, alloc, &live)?;
+    Ok((right, events(live, seats)))
 }
 
 /// The same of the machine of two tasks.
@@ -359,10 +411,7 @@ fn child_of_two<L: Ledger, R: Threads + Wait + Sync>(
     requires parts { (blank.parts ≡ L.parts) × (L.parts ≡ limit_of_parts) }
 {
     let machine = started(rt, alloc, TWO, &TWO_TASKS)?;
-    match locked::<L>(alloc, machine, 2, blank) {
-        Ok(live) => seat_of_a_child(rt, alloc, live),
-        Err(_) => Err(AllocError),
-    }
+    seat_of_a_child(rt, alloc, opened_over::<L>(alloc, machine, 2, blank)?)
 }
 
 #[test]

@@ -1,6 +1,7 @@
-//! Readers and writers that fail.
+//! Readers and writers that fail, and a file that can't be opened.
 
-use mrc_files::{ReadFailure, ReadFault, WriteFault, read_all, write_text};
+use mrc_base::OrMemory;
+use mrc_files::{Folder, ReadFailure, ReadFault, WriteFault, read_all, read_file, write_text};
 use std::alloc::Global;
 use std::io;
 use std::io::{ErrorKind, Read, Write};
@@ -160,4 +161,50 @@ fn reading_to_the_limit(rt: HostRuntime) -> Result<(), Fail> {
         assert_eq!(rt; zeros_read(rt.alloc(), left, last), (want, rest));
     }
     Ok(())
+}
+
+/// A folder that can't open a file, for this reason.
+#[derive(Drop)]
+struct Closed {
+    kind: ErrorKind,
+}
+
+impl Folder for Closed {
+    ghost use Rattle.std.specs.Prelude.{None};
+
+    type File = &'static [u8];
+
+    ghost held = { λ _ _. None };
+
+    fn open(&self, _name: &str) -> io::Result<&'static [u8]> {
+        Err(io::Error::from(self.kind))
+    }
+
+    fn replace(
+        &mut self,
+        _alloc: Global,
+        _name: &str,
+        _bytes: &[u8],
+    ) -> Result<(), OrMemory<WriteFault>> {
+        Err(OrMemory::Memory)
+    }
+}
+
+/// What is answered of a file that can't be opened for this reason.
+fn fault_of(alloc: Global, kind: ErrorKind) -> Option<ReadFault> {
+    read_file(&Closed { kind }, alloc, "w").err()
+}
+
+// Out of memory is not a file that can't be read.
+#[test]
+fn opening(rt: HostRuntime) {
+    for (kind, want) in [
+        (ErrorKind::OutOfMemory, ReadFault::Memory),
+        (
+            ErrorKind::PermissionDenied,
+            ReadFault::ReadFailed(ReadFailure::Denied),
+        ),
+    ] {
+        assert_eq!(rt; fault_of(rt.alloc(), kind), Some(want));
+    }
 }

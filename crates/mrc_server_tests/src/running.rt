@@ -1,4 +1,5 @@
-//! That the threads of a script run at once, and that a run with waits ends.
+//! That the threads of a script run at once, and how a run ends for which the journal or the seats
+//! do not suffice.
 
 ghost use Rattle.std.specs.Prelude.{◌≡◌, ◌≤◌, IfOk};
 ghost use Rattle.mrc_base.specs.Limits.{limit_of_events, limit_of_parts};
@@ -6,13 +7,14 @@ ghost use Rattle.mrc_confine.specs.Guards.{wiring_in};
 ghost use Rattle.mrc_model.specs.First.{first};
 
 use crate::file_server::{CAREFUL, FILE_SERVER, NO_KERNEL_PORT, OF_CAREFUL};
+use crate::server::{events, opened_over};
 use mrc_base::limits::PARTS;
 use mrc_base::{Gate, OrMemory, TaskId};
 use mrc_check::{Confined, check_texts};
 use mrc_confine::Guarded;
 use mrc_live::{Live, Seat};
 use mrc_report::{
-    LiveFault, NotServed, Ran, Script, Served, Stopped, read_script, run_live, serve,
+    LiveFault, NotServed, Script, ServeFault, Served, Stopped, read_script, run_live, serve,
 };
 use mrc_wiring::Wired;
 use std::alloc::{AllocError, Global};
@@ -112,10 +114,7 @@ fn opened<L: Ledger, R: Threads + Sync>(
     requires parts { (blank.parts ≡ L.parts) × (L.parts ≡ limit_of_parts) }
 {
     let guarded = started(alloc, file_server(rt, alloc)?)?;
-    match Live::<L>::new(alloc, guarded, 8, blank) {
-        Ok(live) => Ok(live),
-        Err(_) => Err(AllocError),
-    }
+    opened_over::<L>(alloc, guarded, 8, blank)
 }
 
 /// The seats of a script that opens a file, once it was run.
@@ -127,14 +126,6 @@ fn ran<L: Ledger + Send + Sync, R: Threads + Wait + Sync>(
 ) -> Result<Result<Vec<Seat<L>>, OrMemory<Stopped<L>>>, AllocError> {
     let script = script(alloc, live.confined().wired(), OPENS)?;
     Ok(run_live(rt, alloc, live, script, gate))
-}
-
-/// Finishes. The number of events, and 0 where something was refused.
-fn events<L: Ledger>(live: Live<L>, seats: Vec<Seat<L>>) -> usize {
-    match live.finish(seats) {
-        Ok((journal, _)) => journal.events().len(),
-        Err(_) => 0,
-    }
 }
 
 /// Runs the script and finishes. The number of events, and 0 where something was refused.
@@ -189,25 +180,24 @@ fn served<L: Ledger + Send + Sync, R: Threads + Wait + Sync>(
     Ok(serve::<L, _, _>(rt, alloc, confined, script, limit, blank, &gate(true)))
 }
 
-/// What is printed of a run.
-fn printed(alloc: Global, ran: &Ran) -> Result<String, AllocError> {
-    let mut bytes = Vec::new(alloc);
-    ran.print(alloc, &mut bytes).map_err(|_| AllocError)?;
-    String::from_utf8(bytes).map_err(|_| AllocError)
+/// Why a script was not served.
+fn fault_of(refused: NotServed) -> OrMemory<ServeFault> {
+    refused.fault
 }
 
-/// What is told of it.
-fn told(alloc: Global, served: Result<Served, NotServed>) -> Result<String, AllocError> {
-    match served {
-        Ok(Served::Whole(ran)) => printed(alloc, &ran),
-        Ok(Served::AllWait(ran, _)) => printed(alloc, &ran),
-        Err(
-            NotServed {
-                fault: OrMemory::Fault(fault),
-                ..
-            },
-        ) => fault.to_string(alloc),
-        Err(_) => Err(AllocError),
+/// The text of the fault.
+fn fault_text(alloc: Global, fault: &OrMemory<ServeFault>) -> Result<String, AllocError> {
+    match fault {
+        OrMemory::Fault(fault) => fault.to_string(alloc),
+        OrMemory::Memory => Err(AllocError),
+    }
+}
+
+/// The fault of a run, as it is told.
+fn fault_told(alloc: Global, served: Result<Served, NotServed>) -> Result<String, AllocError> {
+    match served.err() {
+        Some(refused) => fault_text(alloc, &fault_of(refused)),
+        None => Err(AllocError),
     }
 }
 
@@ -221,7 +211,7 @@ fn too_many<L: Ledger + Send + Sync, R: Threads + Wait + Sync>(
     requires parts { (blank.parts ≡ L.parts) × (L.parts ≡ limit_of_parts) }
 {
     let served = served::<L, _>(rt, alloc, "app names 1\napp names 1\n", 1, blank)?;
-    told(alloc, served)
+    fault_told(alloc, served)
 }
 
 #[test]
@@ -231,99 +221,30 @@ fn a_journal_is_full(rt: HostRuntime) -> Result<(), Fail> {
     Ok(())
 }
 
-/// What is told of it, with the lines that wait, if all do.
-fn waiting(
-    alloc: Global,
-    served: Result<Served, NotServed>,
-) -> Result<(String, Vec<u32>), AllocError> {
-    match served {
-        Ok(Served::Whole(ran)) => Ok((printed(alloc, &ran)?, Vec::new(alloc))),
-        Ok(Served::AllWait(ran, lines)) => Ok((printed(alloc, &ran)?, lines)),
-        Err(_) => Err(AllocError),
-    }
-}
-
-/// Each waits for a message of the other.
-const BOTH_WAIT: &str = "fs wait 2 92
-fs names 1
-app allocate 1 receive
-app wait 3 40
-";
-
-/// What is told of it, with the lines that wait.
-fn both_wait<L: Ledger + Send + Sync, R: Threads + Wait + Sync>(
-    rt: &R,
-    alloc: Global,
-    blank: Blank,
-) -> Result<(String, Vec<u32>), AllocError>
-    requires name { blank.name ≡ L.name }
-    requires parts { (blank.parts ≡ L.parts) × (L.parts ≡ limit_of_parts) }
-{
-    waiting(alloc, served::<L, _>(rt, alloc, BOTH_WAIT, 100, blank)?)
-}
-
-#[test]
-fn two_tasks_wait_for_each_other(rt: HostRuntime) -> Result<(), Fail> {
-    let (text, lines) = both_wait::<Brand, _>(&rt, rt.alloc(), Blank::new(PARTS))?;
-    assert_eq!(rt; text.as_str(), "0 app name 3\nend events 1 ports 4\n");
-    assert_eq!(rt; lines.as_slice(), [1, 4].as_slice());
-    Ok(())
-}
-
-/// What is told of a script whose last line waits, with the lines that wait.
-fn last_waits<L: Ledger + Send + Sync, R: Threads + Wait + Sync>(
-    rt: &R,
-    alloc: Global,
-    blank: Blank,
-) -> Result<(String, Vec<u32>), AllocError>
-    requires name { blank.name ≡ L.name }
-    requires parts { (blank.parts ≡ L.parts) × (L.parts ≡ limit_of_parts) }
-{
-    let script = "app allocate 1 receive\napp wait 3 40\n";
-    waiting(alloc, served::<L, _>(rt, alloc, script, 100, blank)?)
-}
-
-#[test]
-fn the_last_line_waits(rt: HostRuntime) -> Result<(), Fail> {
-    let (text, lines) = last_waits::<Brand, _>(&rt, rt.alloc(), Blank::new(PARTS))?;
-    assert_eq!(rt; text.as_str(), "0 app name 3\nend events 1 ports 4\n");
-    assert_eq!(rt; lines.as_slice(), [2].as_slice());
-    Ok(())
-}
-
-/// The server waits a second time, for a message that never comes.
-const AGAIN: &str = "fs wait 2 92
-fs wait 2 92
-app allocate 1 receive
-app send 13150000 5c000000 02000000 03000000 00000000 b80b0000 0c084010 \
+/// What the client sends is the first event; the server wakes by it.
+const SENDS: &str = "fs wait 2 92
+app send 13000000 5c000000 02000000 00000000 00000000 b80b0000 0c084010 \
 00000000000000000000000000000000 00000000000000000000000000000000 \
 00000000000000000000000000000000 00000000000000000000000000000000
 ";
 
-/// Whether the run of this script ended with three events, its second line waiting.
-fn waits_again(alloc: Global, served: Result<Served, NotServed>) -> Result<bool, AllocError> {
-    let (text, lines) = waiting(alloc, served)?;
-    Ok(text.as_str().ends_with("end events 3 ports 4\n") && lines.as_slice() == [2].as_slice())
-}
-
-/// The same of a run of it.
-fn run_again<L: Ledger + Send + Sync, R: Threads + Wait + Sync>(
+/// What is told of a script whose first event wakes a task, if the journal may have no more.
+fn woken_in_vain<L: Ledger + Send + Sync, R: Threads + Wait + Sync>(
     rt: &R,
     alloc: Global,
     blank: Blank,
-) -> Result<bool, AllocError>
+) -> Result<String, AllocError>
     requires name { blank.name ≡ L.name }
     requires parts { (blank.parts ≡ L.parts) × (L.parts ≡ limit_of_parts) }
 {
-    waits_again(alloc, served::<L, _>(rt, alloc, AGAIN, 100, blank)?)
+    let served = served::<L, _>(rt, alloc, SENDS, 1, blank)?;
+    fault_told(alloc, served)
 }
 
-// The client's message wakes the server about when the client, the last to be awake, ends.
 #[test]
-fn a_wake_before_the_last_waits(rt: HostRuntime) -> Result<(), Fail> {
-    for _ in 0..1000 {
-        assert!(rt; run_again::<Brand, _>(&rt, rt.alloc(), Blank::new(PARTS))?);
-    }
+fn a_wake_finds_a_full_journal(rt: HostRuntime) -> Result<(), Fail> {
+    let told = woken_in_vain::<Brand, _>(&rt, rt.alloc(), Blank::new(PARTS))?;
+    assert_eq!(rt; told.as_str(), "JournalFull");
     Ok(())
 }
 

@@ -8,7 +8,7 @@ ghost use Rattle.mrc_model.specs.First.{first};
 use mrc_base::{Right, TaskId};
 use mrc_check::{Confined, check_texts};
 use mrc_confine::Guarded;
-use mrc_live::{Live, NotOpened, NotReceived, NotTaken, Seat};
+use mrc_live::{Live, NotOpened, NotReceived, NotTaken, Seat, Unfinished};
 use mrc_machine::{Call, Reply};
 use std::alloc::{AllocError, Global};
 use std::sync::Wait;
@@ -103,6 +103,24 @@ pub(crate) fn locked<L: Ledger>(
     Live::<L>::new(alloc, guarded, limit, blank)
 }
 
+/// The same; if memory runs out, nothing comes back.
+pub(crate) fn opened_over<L: Ledger>(
+    alloc: Global,
+    guarded: Guarded,
+    limit: usize,
+    blank: Blank,
+) -> Result<Live<L>, AllocError>
+    requires limit { (1 ≤ limit) × (limit ≤ limit_of_events) }
+    requires name { blank.name ≡ L.name }
+    requires parts { (blank.parts ≡ L.parts) × (L.parts ≡ limit_of_parts) }
+    requires first { guarded.world ≡ first (wiring_in guarded.confined) }
+{
+    match locked::<L>(alloc, guarded, limit, blank) {
+        Ok(live) => Ok(live),
+        Err(_) => Err(AllocError),
+    }
+}
+
 /// The machine of a task alone behind a lock, with a journal of so many events.
 pub(crate) fn opened<L: Ledger, R: Threads + Sync>(
     rt: &R,
@@ -114,10 +132,7 @@ pub(crate) fn opened<L: Ledger, R: Threads + Sync>(
     requires name { blank.name ≡ L.name }
     requires parts { (blank.parts ≡ L.parts) × (L.parts ≡ limit_of_parts) }
 {
-    match locked::<L>(alloc, machine(rt, alloc)?, limit, blank) {
-        Ok(live) => Ok(live),
-        Err(_) => Err(AllocError),
-    }
+    opened_over::<L>(alloc, machine(rt, alloc)?, limit, blank)
 }
 
 /// A seat of the first task.
@@ -220,10 +235,16 @@ pub(crate) fn many<L: Ledger, R: Wait>(
     seat
 }
 
-/// Finishes. The number of events, and 0 where that is refused.
+/// Finishes. The number of events.
+pub(crate) fn finished<L: Ledger>(
+    live: Live<L>,
+    seats: Vec<Seat<L>>,
+) -> Result<usize, Unfinished<L>> {
+    let (journal, _) = live.finish(seats)?;
+    Ok(journal.events().len())
+}
+
+/// The same, and 0 if that is refused.
 pub(crate) fn events<L: Ledger>(live: Live<L>, seats: Vec<Seat<L>>) -> usize {
-    match live.finish(seats) {
-        Ok((journal, _)) => journal.events().len(),
-        Err(_) => 0,
-    }
+    finished(live, seats).unwrap_or(0)
 }

@@ -60,17 +60,26 @@ fn woken<L: Ledger + Send + Sync, R: Threads + Wait + Sync>(
     )
 }
 
-/// The same, after the second seat has made a port; and the number of events.
+/// The same, after the second seat has made a port; and both seats.
+fn woken_by_port<L: Ledger + Send + Sync, R: Threads + Wait + Sync>(
+    rt: &R,
+    alloc: Global,
+    live: &Live<L>,
+) -> Result<(End, Vec<Seat<L>>), AllocError> {
+    let (one, mut other) = two_seats(rt, live)?;
+    let _ = told(rt, live, &mut other, allocate());
+    let sent = send(alloc, &other, &TO_2)?;
+    let ((one, end), other) = woken(rt, live, one, other, sent);
+    Ok((end, vec![in alloc; one, other]?))
+}
+
+/// The same, and the number of events.
 fn wake<L: Ledger + Send + Sync, R: Threads + Wait + Sync>(
     rt: &R,
     alloc: Global,
     live: Live<L>,
 ) -> Result<(End, usize), AllocError> {
-    let (one, mut other) = two_seats(rt, &live)?;
-    let _ = told(rt, &live, &mut other, allocate());
-    let sent = send(alloc, &other, &TO_2)?;
-    let ((one, end), other) = woken(rt, &live, one, other, sent);
-    let seats = vec![in alloc; one, other]?;
+    let (end, seats) = woken_by_port(rt, alloc, &live)?;
     Ok((end, events(live, seats)))
 }
 
