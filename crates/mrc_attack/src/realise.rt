@@ -139,6 +139,19 @@ fn play(
     }
 }
 
+/// Carries out the states from the first state on, with what is laid in store.
+fn played(
+    alloc: Global,
+    path: &Path<'_>,
+    stages: &[Stage],
+    needs: &Needs,
+    goal: Have,
+) -> Result<Plan, OrMemory<Stop>> {
+    let mut plan = Plan::new(alloc, path.system)?;
+    play(alloc, path, &mut plan, stages, needs, goal)?;
+    Ok(plan)
+}
+
 /// Carries out the states; what turns out to be missing is laid in store at the next try.
 fn attempt(
     alloc: Global,
@@ -148,9 +161,8 @@ fn attempt(
 ) -> Result<Outcome, AllocError> {
     let mut needs = BTreeMap::new(alloc);
     for _ in 0..TRIES {
-        let mut plan = Plan::new(alloc, path.system)?;
-        match play(alloc, path, &mut plan, stages, &needs, goal) {
-            Ok(()) => return Ok(Outcome::Done(plan)),
+        match played(alloc, path, stages, &needs, goal) {
+            Ok(plan) => return Ok(Outcome::Done(plan)),
             Err(OrMemory::Fault(Stop::Fail)) => return Ok(Outcome::Failed),
             Err(OrMemory::Fault(Stop::Spent(have))) => return Ok(Outcome::Spent(have)),
             Err(OrMemory::Fault(Stop::Need(place, have))) => {

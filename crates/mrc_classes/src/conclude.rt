@@ -268,7 +268,7 @@ pub fn consequences(
     ensures { IfOk result
         (IsListOf (IsConsequence (wiring_of wired.now) (Has (has facts.now)) fact)) }
 {
-    let rules = Rules::new(alloc, wired)?;
     let mut all = facts.copy()?;
+    let rules = Rules::new(alloc, wired)?;
     conclude_from(alloc, &rules, &mut all, &fact)
 }

@@ -107,15 +107,22 @@ fn all_rounds(
     Ok(())
 }
 
+/// The least set that is closed under these rules.
+fn least_of(alloc: Global, rules: &Rules) -> Result<Facts, AllocError>
+    ensures { IfOk result (IsLeastList (wiring_of rules.now)) }
+{
+    let first = first_conclusions(alloc, rules)?;
+    let mut facts = Facts::new(alloc);
+    all_rounds(alloc, rules, first, &mut facts)?;
+    Ok(facts)
+}
+
 /// The least closed set.
 fn least_set(alloc: Global, wired: &Wired) -> Result<Facts, AllocError>
     ensures { IfOk result (IsLeastList (wiring_of wired.now)) }
 {
     let rules = Rules::new(alloc, wired)?;
-    let first = first_conclusions(alloc, &rules)?;
-    let mut facts = Facts::new(alloc);
-    all_rounds(alloc, &rules, first, &mut facts)?;
-    Ok(facts)
+    least_of(alloc, &rules)
 }
 
 /// The certificate of the wiring: the least set that is closed under the ten rules, with the

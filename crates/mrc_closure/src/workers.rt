@@ -269,6 +269,23 @@ fn all_rounds_by<R: Threads + Wait + Sync, G: Gate>(
     Ok(())
 }
 
+/// The least set that is closed under these rules, by so many workers.
+fn least_of<R: Threads + Wait + Sync, G: Gate>(
+    rt: &R,
+    alloc: Global,
+    rules: &Rules,
+    workers: usize,
+    gate: &G,
+) -> Result<Facts, AllocError>
+    requires { 0 < workers }
+    ensures { IfOk result (IsLeastList (wiring_of rules.now)) }
+{
+    let first = first_conclusions(alloc, rules)?;
+    let mut facts = Facts::new(alloc);
+    all_rounds_by(rt, alloc, rules, first, &mut facts, gate, workers)?;
+    Ok(facts)
+}
+
 /// The least closed set, by so many workers.
 fn least_by<R: Threads + Wait + Sync, G: Gate>(
     rt: &R,
@@ -281,10 +298,7 @@ fn least_by<R: Threads + Wait + Sync, G: Gate>(
     ensures { IfOk result (IsLeastList (wiring_of wired.now)) }
 {
     let rules = Rules::new(alloc, wired)?;
-    let first = first_conclusions(alloc, &rules)?;
-    let mut facts = Facts::new(alloc);
-    all_rounds_by(rt, alloc, &rules, first, &mut facts, gate, workers)?;
-    Ok(facts)
+    least_of(rt, alloc, &rules, workers, gate)
 }
 
 /// Why no certificate is made.

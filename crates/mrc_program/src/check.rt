@@ -58,9 +58,8 @@ pub fn check_told<R: Threads + Sync>(
     ensures fault { IfOk result (λ told. told.status ≡ 2
         → ToldMemory told ⊎ ToldFault (case files.now.texts) files.now.names told) }
 {
-    let answer = answer_of(rt, alloc, &files.texts);
     let notices = left_notices(alloc, &files.names, files.texts.defs.as_slice())?;
-    match answer {
+    match answer_of(rt, alloc, &files.texts) {
         Ok(confined) => yes(
             alloc,
             "check",

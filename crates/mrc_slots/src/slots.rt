@@ -46,13 +46,12 @@ impl Slots {
     pub fn new(alloc: Global, wired: &Wired) -> Result<Slots, AllocError>
         ensures { IfOk result (λ slots. slots ≡ wired.now) }
     {
-        let wired = wired.copy(alloc)?;
-        let taken = taken_rows(alloc, &wired)?;
+        let taken = taken_rows(alloc, wired)?;
         let all = all_places(alloc, wired.classes())?;
-        let notified = notified_row(alloc, &wired)?;
-        let repliers = repliers_of(alloc, &wired)?;
+        let notified = notified_row(alloc, wired)?;
+        let repliers = repliers_of(alloc, wired)?;
         Ok(Slots {
-            wired,
+            wired: wired.copy(alloc)?,
             taken,
             all,
             notified,

@@ -202,20 +202,34 @@ impl Verdict {
     }
 }
 
-/// What is found of the claim.
-fn found(alloc: Global, claim: &Claim) -> Result<Verdict, AllocError>
+/// What is found of the claim, by derivations of its wiring.
+fn found_by(
+    alloc: Global,
+    derivations: &mut Derivations<'_>,
+    claim: &Claim,
+) -> Result<Verdict, AllocError>
+    requires table { derivations.old.table ≡ claim.now.table }
+    requires least { IsLeast (wiring_of claim.now.table) (has derivations.old.facts) }
     ensures { IfOk result (λ verdict.
         IsFound claim.now verdict.facts verdict.exposed verdict.broken.items) }
 {
-    let mut derivations = Derivations::new(alloc, claim.wired())?;
-    let exposed = exposed_task(alloc, &mut derivations)?;
-    let broken = broken_lines(alloc, &mut derivations, claim.lines())?;
+    let exposed = exposed_task(alloc, derivations)?;
+    let broken = broken_lines(alloc, derivations, claim.lines())?;
     let facts = derivations.facts().copy()?;
     Ok(Verdict {
         facts,
         exposed,
         broken,
     })
+}
+
+/// What is found of the claim.
+fn found(alloc: Global, claim: &Claim) -> Result<Verdict, AllocError>
+    ensures { IfOk result (λ verdict.
+        IsFound claim.now verdict.facts verdict.exposed verdict.broken.items) }
+{
+    let mut derivations = Derivations::new(alloc, claim.wired())?;
+    found_by(alloc, &mut derivations, claim)
 }
 
 /// The verdict on the claim: the least set, the first trusted task that another could rewrite, and

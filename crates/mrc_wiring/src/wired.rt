@@ -85,6 +85,23 @@ fn numbered(alloc: Global, table: &Resolving) -> Result<ByNumbers, AllocError>
     })
 }
 
+/// The tasks of a wiring, and its ports.
+#[derive(Drop)]
+struct Declared {
+    names: NameTable,
+    births: Vec<BirthRow>,
+    ports: NameTable,
+    accepts: Vec<Label>,
+}
+
+/// The other lines of a wiring.
+#[derive(Drop)]
+struct Given {
+    lines: Vec<FirstLine>,
+    admits: Vec<AdmitLine>,
+    trusts: Vec<TrustedLine>,
+}
+
 /// A wiring by numbers: its tasks and wired ports, its classes and what they accept, what slots
 /// admit, and what makes its first state. It keeps the names and the interfaces.
 #[derive(Debug, Drop)]
@@ -506,20 +523,18 @@ impl Wired {
         Some(ClassId(class as u16))
     }
 
-    /// An equal wiring.
-    pub fn copy(&self, alloc: Global) -> Result<Wired, AllocError>
-        ensures { IfOk result (λ copy. copy ≡ self.now) }
+    /// What it has by numbers, computed again.
+    fn by_numbers(&self, alloc: Global) -> Result<ByNumbers, AllocError>
+        ensures admitting { IfOk result (λ numbered. IsAdmitting (length self.now.ports)
+            (length self.now.names) self.now.births self.now.admits
+            numbered.admitting.rows.items numbered.admitting.every.items) }
+        ensures trusting { IfOk result (λ numbered. IsTrusting (length self.now.ports)
+            (length self.now.names) self.now.births self.now.trusts
+            numbered.trusting.items) }
+        ensures classes { IfOk result (λ numbered. numbered.first_classes.items
+            ≡ given_classes (wiring_of self.now)) }
     {
-        Ok(Wired {
-            names: self.names.copy(alloc)?,
-            births: copy_all(alloc, &self.births)?,
-            ports: self.ports.copy(alloc)?,
-            accepts: copy_all(alloc, &self.accepts)?,
-            lines: copy_all(alloc, &self.lines)?,
-            admits: copy_all(alloc, &self.admits)?,
-            trusts: copy_all(alloc, &self.trusts)?,
-            fits: self.fits,
-            interfaces: self.interfaces.copy(alloc)?,
+        Ok(ByNumbers {
             admitting: Admitting::of(
                 alloc,
                 self.ports.len(),
@@ -535,6 +550,58 @@ impl Wired {
                 &self.trusts,
             )?,
             first_classes: self.first_classes().to_vec(alloc)?,
+        })
+    }
+
+    /// A copy of its tasks and ports.
+    fn declared(&self, alloc: Global) -> Result<Declared, AllocError>
+        ensures names { IfOk result (λ copy. copy.names ≡ self.now.names) }
+        ensures births { IfOk result (λ copy. copy.births.items ≡ self.now.births) }
+        ensures ports { IfOk result (λ copy. copy.ports ≡ self.now.ports) }
+        ensures accepts { IfOk result (λ copy. copy.accepts.items ≡ self.now.accepts) }
+    {
+        Ok(Declared {
+            names: self.names.copy(alloc)?,
+            births: copy_all(alloc, &self.births)?,
+            ports: self.ports.copy(alloc)?,
+            accepts: copy_all(alloc, &self.accepts)?,
+        })
+    }
+
+    /// A copy of its other lines.
+    fn given(&self, alloc: Global) -> Result<Given, AllocError>
+        ensures lines { IfOk result (λ copy. copy.lines.items ≡ self.now.lines) }
+        ensures admits { IfOk result (λ copy. copy.admits.items ≡ self.now.admits) }
+        ensures trusts { IfOk result (λ copy. copy.trusts.items ≡ self.now.trusts) }
+    {
+        Ok(Given {
+            lines: copy_all(alloc, &self.lines)?,
+            admits: copy_all(alloc, &self.admits)?,
+            trusts: copy_all(alloc, &self.trusts)?,
+        })
+    }
+
+    /// An equal wiring.
+    pub fn copy(&self, alloc: Global) -> Result<Wired, AllocError>
+        ensures { IfOk result (λ copy. copy ≡ self.now) }
+    {
+        let interfaces = self.interfaces.copy(alloc)?;
+        let by_numbers = self.by_numbers(alloc)?;
+        let declared = self.declared(alloc)?;
+        let given = self.given(alloc)?;
+        Ok(Wired {
+            names: declared.names,
+            births: declared.births,
+            ports: declared.ports,
+            accepts: declared.accepts,
+            lines: given.lines,
+            admits: given.admits,
+            trusts: given.trusts,
+            fits: self.fits,
+            interfaces,
+            admitting: by_numbers.admitting,
+            trusting: by_numbers.trusting,
+            first_classes: by_numbers.first_classes,
         })
     }
 

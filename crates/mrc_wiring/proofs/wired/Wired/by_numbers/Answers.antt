@@ -2,7 +2,7 @@ use Rattle.std.proofs.Common.{List, length, arith, ap}
 use Rattle.mrc_wiring.specs.declared.births.BirthRow.{BirthRow}
 use Rattle.mrc_wiring.specs.Table.{Table}
 use Rattle.mrc_wiring.proofs.BirthLaws.{few_births}
-use Rattle.mrc_wiring.proofs.wired.Wired.copy.Goals as goal
+use Rattle.mrc_wiring.proofs.wired.Wired.by_numbers.Goals as goal
 
 -- each task has few kinds of births
 pub of-requires-clause-births : goal.of-requires-clause-births
