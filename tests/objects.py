@@ -414,8 +414,9 @@ def mend_object(folder, asked, texts):
 def left_object(line):
     """A routine that is left out, by its line."""
     place, name, number, word, carried = re.fullmatch(
-        r"(\d+): routine (\w+) \(id (\d+)\) left out: (.*?)(?:, carries (\w+ \(\w+\)(?:, \w+ \(\w+\))*))?", line).groups()
-    carries = re.findall(r"(\w+) \((\w+)\)", carried or "")
+        r"(\d+): routine (\w+|\?) \(id (\d+)\) left out: (.*?)(?:, carries ([\w?]+ \([\w?]+\)(?:, [\w?]+ \([\w?]+\))*))?",
+        line).groups()
+    carries = re.findall(r"([\w?]+) \(([\w?]+)\)", carried or "")
     return {
         "carries": [{"argument": argument, "type": of} for argument, of in carries],
         "id": int(number),
@@ -468,9 +469,16 @@ def place_of(folder, asked, file, lines):
     return line, column, text, [note[2:] for note in lines[3:]]
 
 
+def up_to_fault(err):
+    """What is printed up to the line of the fault. Behind it may be its place and notes."""
+    lines = err.split("\n")[:-1]
+    last = max((at for at, line in enumerate(lines) if line.startswith("machcheck: ")), default=-1)
+    return "".join(f"{line}\n" for line in lines[: last + 1])
+
+
 def fault_object(folder, asked, texts):
-    plain, whole = texts.plain.err, texts.whole.err
-    if not whole.startswith(plain):
+    plain, whole = up_to_fault(texts.plain.err), texts.whole.err
+    if not whole.startswith(plain) or texts.plain.err not in (plain, whole):
         raise Wrong(f"another fault: {whole}")
     head, _, fault = plain.split("\n")[-2].removeprefix("machcheck: ").rpartition(": ")
     line, column, text, notes = place_of(folder, asked, head, whole[len(plain) :].split("\n")[:-1])
@@ -499,7 +507,7 @@ OBJECTS = {
 
 def is_fault(plain):
     """Whether a run ends with a fault of a command."""
-    return plain.status == 2 and plain.err.split("\n")[-2:][0].startswith("machcheck: ")
+    return plain.status == 2 and up_to_fault(plain.err) != ""
 
 
 def has_object(asked, plain):

@@ -2,7 +2,7 @@
 use Rattle.std.proofs.Common.{◌≡◌, ℕ, ◌+◌, ◌<◌, ◌≤◌, List, [], ◌∷◌, ◌++◌, length, map}
 use Rattle.std.proofs.Common.{drop, take, get_or, drop-cons, add-one, append_assoc, true, false}
 use Rattle.std.proofs.Common.{refl, sym, ap, ap₂, ◌∙◌, string_bytes, arith, Global}
-use Rattle.std.specs.Prelude.{String, option_to_list, flat_map}
+use Rattle.std.specs.Prelude.{String, Bool, ◌==◌, if◌then◌else◌, option_to_list, flat_map}
 use Rattle.std.specs.List.{join_by, prefix_len}
 use Rattle.std.proofs.lemmas.List.{append-nil, drop_all, take_more, take_all, map-append}
 use Rattle.std.proofs.lemmas.List.Sums.{prefix_len-le-length}
@@ -11,10 +11,22 @@ use Rattle.mrc_mig_lex.specs.Tokens.{Lexeme}
 use Rattle.mrc_mig_symbols.specs.Symbols.{no_tokens, tail_of}
 use Rattle.mrc_mig_cut.specs.declared.routine.LeftOut.{LeftOut}
 use Rattle.mrc_mig_cut.specs.Carrying.{carries, carrying, carrier_first, carriers_among}
+use Rattle.mrc_mig_cut.specs.Carrying.{carrier_len, question}
 
 -- a name is no longer than what it begins
 pub name_within : (bytes : List ℕ) → prefix_len continues_name bytes ≤ length bytes
 name_within bytes = prefix_len-le-length continues_name bytes
+
+-- one, or a number, is no larger than what neither of them is larger than
+one_or : (b : Bool) (n m : ℕ) → 1 ≤ m → n ≤ m → (if b then 1 else n) ≤ m
+one_or true n m one within = one
+one_or false n m one within = within
+
+-- nor is a name or `?`
+pub carrier_within : (bytes : List ℕ) → carrier_len bytes ≤ length bytes
+carrier_within [] = omega arith
+carrier_within (byte ∷ rest) =
+    one_or (byte == question) _ _ (omega arith) (name_within (byte ∷ rest))
 
 -- what stands behind the first of joined texts
 behind_texts : {X : Type 0} (f : X → List ℕ) (between : List ℕ) (xs : List X)

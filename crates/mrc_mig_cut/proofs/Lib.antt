@@ -1,3 +1,4 @@
+pub mod ArgumentLemmas
 mod AscendingLemmas
 pub mod CarryLemmas
 mod LawLemmas

@@ -1,6 +1,6 @@
 -- Which routines carry rights of ports and are left out of a MIG file, and how the file says so: by
 -- strings that mean nothing else. This profile's own choice.
-use Rattle.std.specs.Prelude.{ℕ, List, [], ◌∷◌, ◌++◌, Bool, false, true, Option, Some, None}
+use Rattle.std.specs.Prelude.{ℕ, List, [], ◌∷◌, ◌++◌, Bool, false, true, ◌==◌, Option, Some, None}
 use Rattle.std.specs.Prelude.{Result, Ok, Err, codes, string_bytes, take, drop, map}
 use Rattle.std.specs.Prelude.{option_to_list, if◌then◌else◌}
 use Rattle.std.specs.List.{prefix_len, join_by, filter}
@@ -42,15 +42,25 @@ carrying left_out = map (λ (left : LeftOut). string_bytes left.name) (filter ca
 
 -- How a MIG file says it.
 
+-- `?`
+abbrev pub question : ℕ
+question = 63
+
 -- bytes that are a text
 abbrev pub text_if : List ℕ → Option (List ℕ)
 text_if bytes = if is_utf8 bytes then Some bytes else None
 
+-- how many bytes of a name come first, or of the `?` that a routine has which has none
+abbrev pub carrier_len : List ℕ → ℕ
+carrier_len [] = 0
+carrier_len (byte ∷ rest) =
+    if byte == question then 1 else prefix_len continues_name (byte ∷ rest)
+
 -- the name with which these bytes begin, if ` carries ` follows it
 abbrev pub carrier_named : List ℕ → Option (List ℕ)
 carrier_named rest = do
-  carried ← after_bytes (codes " carries ") (drop (prefix_len continues_name rest) rest)
-  text_if (take (prefix_len continues_name rest) rest)
+  carried ← after_bytes (codes " carries ") (drop (carrier_len rest) rest)
+  text_if (take (carrier_len rest) rest)
 
 -- the name of the routine that a string says was left out: `"left out: NAME carries ..`
 abbrev pub carrier_in : List ℕ → Option (List ℕ)

@@ -1,12 +1,23 @@
--- Worked examples: structs of C on i386, laid out by hand; arrays of them; and types as they are
--- written.
-use Rattle.std.specs.Prelude.{◌≡◌, [], ◌∷◌, codes, false, true, refl}
+-- Worked examples: structs of C on i386, laid out by hand; arrays of them; types as they are
+-- written; and what carries rights of a routine.
+use Rattle.std.specs.Prelude.{◌≡◌, ℕ, List, [], ◌∷◌, codes, false, true, refl}
+use Rattle.mrc_mig_lex.specs.Tokens.{Lexeme}
+use Rattle.mrc_mig_lex.specs.declared.token.Sign.{Sign}
+use Rattle.mrc_mig_lex.specs.declared.token.Sign.TheVariants.{Semicolon, Colon, OpenParenthesis}
+use Rattle.mrc_mig_lex.specs.declared.token.Sign.TheVariants.{CloseParenthesis}
+use Rattle.mrc_mig_lex.specs.declared.token.TokenKind.TheVariants as kinds
+use Rattle.mrc_mig_symbols.specs.Symbols.{many, symbol_of, first_of, text_of, tail_of, after_sign}
+use Rattle.mrc_mig_symbols.specs.Tables.{entry_of}
+use Rattle.mrc_mig_cut.specs.Arguments.{nameless, after_mark, names_at, type_behind, typed_at}
+use Rattle.mrc_mig_cut.specs.Arguments.{begins_comma, flags_from, flags_behind, argument_at}
+use Rattle.mrc_mig_cut.specs.Arguments.{end_from, each_from, arguments_at, is_over, carried_at}
 use Rattle.mrc_mig_cut.specs.declared.kinds.Data.{Data}
 use Rattle.mrc_mig_cut.specs.declared.kinds.Ports.TheVariants.{Absent, One, Several}
 use Rattle.mrc_mig_cut.specs.Kinds.{Items, NoForm, item}
 use Rattle.mrc_mig_cut.specs.Layout.{place_of, end_of, size_of, struct_of}
 use Rattle.mrc_mig_cut.specs.Spelling.{shape_text}
-use Rattle.mrc_mig_cut.specs.Types.{no_arrays, times, without, within, string}
+use Rattle.mrc_mig_cut.specs.Names.{nothing_known}
+use Rattle.mrc_mig_cut.specs.Types.{any_name_at, no_arrays, times, without, within, string}
 
 -- `char`, `short` and `int`, and an array of three `char`
 abbrev char : Data
@@ -104,3 +115,32 @@ port_in_struct = refl
 pub word_written : shape_text (record { name = 2; size = 32; number = 1; is_bound = false })
     ≡ codes "MACH_MSG_TYPE_INTEGER_32"
 word_written = refl
+
+-- a name, wherever it is
+abbrev word : List ℕ → Lexeme
+word bytes = record { kind = kinds.Name; at = 0; bytes = bytes }
+
+-- a sign, wherever it is
+abbrev sign : Sign → Lexeme
+sign s = record { kind = kinds.Sign s; at = 0; bytes = [] }
+
+-- `a(p : q; x : task_t);` where neither type is known: the first argument is the request port
+pub unknown_type : carried_at nothing_known false
+    (word (codes "a") ∷ sign OpenParenthesis ∷ word (codes "p") ∷ sign Colon ∷ word (codes "q")
+    ∷ sign Semicolon ∷ word (codes "x") ∷ sign Colon ∷ word (codes "task_t")
+    ∷ sign CloseParenthesis ∷ sign Semicolon ∷ [])
+    ≡ (codes "x", codes "task_t") ∷ []
+unfolding symbol_of first_of text_of tail_of after_sign entry_of many any_name_at after_mark
+    names_at type_behind typed_at begins_comma flags_from flags_behind argument_at end_from
+    each_from arguments_at is_over carried_at
+unknown_type = refl
+
+-- `a(p : q) routine b` lacks a `;`
+pub missing_sign : carried_at nothing_known false
+    (word (codes "a") ∷ sign OpenParenthesis ∷ word (codes "p") ∷ sign Colon ∷ word (codes "q")
+    ∷ sign CloseParenthesis ∷ word (codes "routine") ∷ word (codes "b") ∷ [])
+    ≡ nameless ∷ []
+unfolding symbol_of first_of text_of tail_of after_sign entry_of many any_name_at after_mark
+    names_at type_behind typed_at begins_comma flags_from flags_behind argument_at end_from
+    each_from arguments_at is_over carried_at
+missing_sign = refl

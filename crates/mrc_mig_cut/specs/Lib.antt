@@ -1,3 +1,4 @@
+pub mod Arguments
 pub mod Carrying
 pub mod Cuts
 pub mod Examples

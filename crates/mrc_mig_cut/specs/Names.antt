@@ -13,7 +13,7 @@ use Rattle.mrc_mig_cut.specs.declared.kinds.Data.{Data}
 use Rattle.mrc_mig_cut.specs.declared.table.Declared.{Declared}
 use Rattle.mrc_mig_cut.specs.declared.table.Table.{Table}
 use Rattle.mrc_mig_cut.specs.declared.kinds.Ports.{Ports}
-use Rattle.mrc_mig_cut.specs.declared.kinds.Ports.TheVariants.{Absent, One, Several}
+use Rattle.mrc_mig_cut.specs.declared.kinds.Ports.TheVariants.{Absent, One, Several, Unknown}
 use Rattle.mrc_mig_cut.specs.Kinds.{Meant, Items, NoForm, meant, item, ports_in, ports_or}
 
 -- the types that are known: what each name means, if it is one of them
@@ -45,6 +45,7 @@ abbrev pub is_same_ports : Ports → Ports → Bool
 is_same_ports Absent Absent = true
 is_same_ports One One = true
 is_same_ports Several Several = true
+is_same_ports Unknown Unknown = true
 is_same_ports _ _ = false
 
 -- the same items, or no form for the same word, with the same ports

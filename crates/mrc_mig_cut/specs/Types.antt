@@ -20,7 +20,7 @@ use Rattle.mrc_mig_cut.specs.declared.kinds.Data.{Data}
 use Rattle.mrc_mig_cut.specs.declared.types.Around.{Around}
 use Rattle.mrc_mig_cut.specs.Kinds.{told, Meant, Items, NoForm, basic_meant, sized_meant}
 use Rattle.mrc_mig_cut.specs.Kinds.{ports_in}
-use Rattle.mrc_mig_cut.specs.declared.kinds.Ports.TheVariants.{Absent}
+use Rattle.mrc_mig_cut.specs.declared.kinds.Ports.TheVariants.{Unknown}
 use Rattle.mrc_mig_cut.specs.declared.laying.Fields.{Fields}
 use Rattle.mrc_mig_cut.specs.Names.{Known}
 use Rattle.mrc_mig_cut.specs.Layout.{struct_of, all_data_of, IsLaid}
@@ -250,10 +250,11 @@ string_at tokens = do
   rest ← after_sign signs.CloseBracket number.1
   Some (Items (string number.0 bound.0), rest)
 
--- what a name is that was looked up among the types; where it is none of them it has no form
+-- what a name is that was looked up among the types; if it is none of them it has no form, and
+-- which ports it has is unknown
 abbrev pub named_by : Option Meant → List ℕ → Meant
 named_by (Some found) name = found
-named_by None name = NoForm name Absent
+named_by None name = NoForm name Unknown
 
 -- what the name of a type is
 abbrev pub named : Known → List ℕ → Meant

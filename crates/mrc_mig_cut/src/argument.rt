@@ -1,10 +1,19 @@
 //! Arguments of routines: as the source has them, and what becomes of each.
 
+ghost use Rattle.std.specs.Prelude.{◌≡◌, ◌&&◌, IfOk};
+ghost use Rattle.mrc_mig_symbols.specs.Symbols.{Means, MeansOrMemory, first_of};
+ghost use Rattle.mrc_mig_symbols.specs.Readers.{left};
+ghost use Rattle.mrc_mig_cut.specs.Kinds.{meant, ports_in, has_ports};
+ghost use Rattle.mrc_mig_cut.specs.Names.{known};
+ghost use Rattle.mrc_mig_cut.specs.Arguments.{mark_by, mark_of, after_mark, is_in_body};
+ghost use Rattle.mrc_mig_cut.specs.Arguments.{has_port_behind, names_at, type_behind, typed_at};
+ghost use Rattle.mrc_mig_cut.specs.Arguments.{flags_behind};
+
 use crate::flags::{Flags, flags_of, options};
 use crate::kinds::{Kind, Ports};
 use crate::structure::any_name;
 use crate::table::Table;
-use crate::types::{kind, named};
+use crate::types::{is_next, kind, named};
 use mrc_base::{OrMemory, is_port_number};
 use mrc_forms::Shape;
 use mrc_mig_lex::Sign;
@@ -45,42 +54,111 @@ pub(crate) struct Written<'t> {
     pub(crate) flags: Flags<'t>,
 }
 
-/// The word in front of an argument.
-fn way_of(rest: Rest<'_>) -> (Way, Rest<'_>) {
-    let way = match rest.first() {
+impl Way {
+    /// Whether the request port is there behind an argument that goes this way. It was there
+    /// before it or not.
+    pub(crate) fn has_port_behind(self, has_port: bool) -> bool
+        ensures { result ≡ has_port_behind has_port (mark_of self) }
+    {
+        match self {
+            Way::Unmarked | Way::Marked(Direction::RequestPort) => true,
+            _ => has_port,
+        }
+    }
+
+    /// Whether an argument that goes this way is in the body of a message of a simpleroutine or a
+    /// routine. The request port was there before it or not.
+    fn is_in_body(self, is_simple: bool, has_port: bool) -> bool
+        ensures { result ≡ is_in_body is_simple has_port (mark_of self) }
+    {
+        match self {
+            Way::Unmarked => has_port,
+            Way::Marked(Direction::In | Direction::InOut) => true,
+            Way::Marked(Direction::Out) => !is_simple,
+            _ => false,
+        }
+    }
+}
+
+/// Which way an argument goes, by the token in front of it.
+fn way_by(symbol: Symbol, text: &str) -> Way
+    ensures { mark_of result ≡ mark_by symbol }
+{
+    match symbol {
         Symbol::Word(Word::Direction(direction)) => Way::Marked(direction),
         Symbol::Word(Word::Wait) => Way::Stub,
         Symbol::Word(Word::PortOption) => {
-            if rest.text().eq_ignore_ascii_case("ureplyport") {
+            if text.eq_ignore_ascii_case("ureplyport") {
                 Way::SenderReply
-            } else if rest.text().eq_ignore_ascii_case("sreplyport") {
+            } else if text.eq_ignore_ascii_case("sreplyport") {
                 Way::ReceiverReply
             } else {
                 Way::Stub
             }
         }
-        _ => return (Way::Unmarked, rest),
-    };
-    (way, rest.next())
+        _ => Way::Unmarked,
+    }
+}
+
+/// Which way an argument goes, and what follows the word that says so.
+#[tactic(auto, unfolding(crate::specs::Arguments::after_mark))]
+pub(crate) fn way_of(rest: Rest<'_>) -> (Way, Rest<'_>)
+    ensures way { mark_of result.0 ≡ mark_by (first_of (left rest.entry)) }
+    ensures rest { left result.1 ≡ after_mark (left rest.entry) }
+{
+    let way = way_by(rest.first(), rest.text());
+    match way {
+        Way::Unmarked => (way, rest),
+        _ => (way, rest.next()),
+    }
+}
+
+/// Reads the name of an argument and that of its type, and what follows them.
+#[tactic(auto, unfolding(crate::specs::Arguments::names_at))]
+pub(crate) fn names<'t>(rest: Rest<'t>) -> Result<(&'t str, &'t str, Rest<'t>), Stop>
+    ensures { Means (λ x. ((x.0.now, x.1.now), left x.2)) result (names_at (left rest.entry)) }
+{
+    let (_, rest) = way_of(rest);
+    let (name, rest) = any_name(rest)?;
+    let (type_name, rest) = any_name(sign(rest, Sign::Colon)?)?;
+    Ok((name, type_name, rest))
+}
+
+/// Reads what follows the name of a type, which is the type itself if `=` comes first, and what
+/// follows that. Answers whether it does.
+#[tactic(auto, unfolding(crate::specs::Arguments::type_behind))]
+pub(crate) fn type_behind<'t>(
+    alloc: Global,
+    table: &Table<'t>,
+    name: &'t str,
+    rest: Rest<'t>,
+) -> Result<(Kind<'t>, bool, Rest<'t>), OrMemory<Stop>>
+    ensures { MeansOrMemory (λ x. (meant x.0, x.1, left x.2)) result
+        (type_behind (known table.now) name.now (left rest.entry)) }
+{
+    if !is_next(rest, Sign::Equals) {
+        return Ok((named(table, name), false, rest));
+    }
+    let (kind, rest) = kind(alloc, table, rest.next())?;
+    Ok((kind, true, rest))
 }
 
 /// Reads an argument up to its type, and what follows that.
+#[tactic(auto, unfolding(crate::specs::Arguments::typed_at))]
 pub(crate) fn typed<'t>(
     alloc: Global,
     table: &Table<'t>,
     rest: Rest<'t>,
-) -> Result<(Written<'t>, Rest<'t>), OrMemory<Stop>> {
+) -> Result<(Written<'t>, Rest<'t>), OrMemory<Stop>>
+    ensures read { MeansOrMemory
+        (λ x. ((x.0.name.now, x.0.type_name.now), meant x.0.kind, x.0.is_own, left x.1)) result
+        (typed_at (known table.now) (left rest.entry)) }
+    ensures way { IfOk result (λ x. mark_of x.0.way ≡ mark_by (first_of (left rest.entry))) }
+{
     let word = rest.text();
-    let (way, rest) = way_of(rest);
-    let (name, rest) = any_name(rest)?;
-    let rest = sign(rest, Sign::Colon)?;
-    let (type_name, rest) = any_name(rest)?;
-    let is_own = rest.first() == Symbol::Sign(Sign::Equals);
-    let (kind, rest) = if is_own {
-        kind(alloc, table, rest.next())?
-    } else {
-        (named(table, type_name), rest)
-    };
+    let (way, _) = way_of(rest);
+    let (name, type_name, rest) = names(rest)?;
+    let (kind, is_own, rest) = type_behind(alloc, table, type_name, rest)?;
     let written = Written {
         way,
         word,
@@ -93,6 +171,15 @@ pub(crate) fn typed<'t>(
     Ok((written, rest))
 }
 
+/// Reads what may follow a type: words for stubs behind an argument's own, and flags.
+#[tactic(auto, unfolding(crate::specs::Arguments::flags_behind))]
+pub(crate) fn flags_behind(is_own: bool, rest: Rest<'_>) -> Result<(Flags<'_>, Rest<'_>), Stop>
+    ensures { Means (λ x. left x.1) result (flags_behind is_own (left rest.entry)) }
+{
+    let rest = if is_own { options(rest)? } else { rest };
+    flags_of(rest)
+}
+
 /// Reads an argument.
 pub(crate) fn argument<'t>(
     alloc: Global,
@@ -100,8 +187,7 @@ pub(crate) fn argument<'t>(
     rest: Rest<'t>,
 ) -> Result<(Written<'t>, Rest<'t>), OrMemory<Stop>> {
     let (written, rest) = typed(alloc, table, rest)?;
-    let rest = if written.is_own { options(rest)? } else { rest };
-    let (flags, rest) = flags_of(rest)?;
+    let (flags, rest) = flags_behind(written.is_own, rest)?;
     Ok((Written { flags, ..written }, rest))
 }
 
@@ -135,6 +221,16 @@ fn is_once(kind: Kind<'_>) -> bool {
     }
 }
 
+/// Whether the length that an array may have comes with it, where it has this word in front of it.
+fn has_count(word: &str, flags: Flags<'_>, shape: Shape) -> bool {
+    flags.has_count && shape.is_bound && word != "in"
+}
+
+/// Whether no stub lays out such a length.
+fn is_count_refused(word: &str, is_simple: bool, shape: Shape) -> bool {
+    is_simple || shape.name == 12 || word == "inout"
+}
+
 /// What becomes of data with this word in front of them, of a simpleroutine or a routine.
 fn data_fate<'t>(word: &'static str, is_simple: bool, written: &Written<'t>) -> Fate<'t> {
     let shape = match written.kind {
@@ -144,8 +240,8 @@ fn data_fate<'t>(word: &'static str, is_simple: bool, written: &Written<'t>) -> 
     if let Some(flag) = written.flags.word {
         return Fate::Refused(flag);
     }
-    let has_count = written.flags.has_count && shape.is_bound && word != "in";
-    if has_count && (is_simple || word == "inout" || shape.name == 12) {
+    let has_count = has_count(word, written.flags, shape);
+    if has_count && is_count_refused(word, is_simple, shape) {
         return Fate::Refused("CountInOut");
     }
     Fate::Kept(word, shape, has_count)
@@ -163,25 +259,13 @@ fn port_fate<'t>(written: &Written<'t>) -> Fate<'t> {
 }
 
 impl<'t> Written<'t> {
-    /// Whether it is the request port of a routine, which was there before it or not.
-    pub(crate) fn is_request_port(&self, has_port: bool) -> bool {
-        match self.way {
-            Way::Marked(Direction::RequestPort) => true,
-            Way::Unmarked => !has_port,
-            _ => false,
-        }
-    }
-
-    /// Whether a message of a simpleroutine or a routine carries a right in it. The request port
-    /// was there before it or not.
-    pub(crate) fn is_carried(&self, is_simple: bool, has_port: bool) -> bool {
-        let is_in_body = match self.way {
-            Way::Unmarked => has_port,
-            Way::Marked(Direction::In | Direction::InOut) => true,
-            Way::Marked(Direction::Out) => !is_simple,
-            _ => false,
-        };
-        is_in_body && self.kind.has_ports()
+    /// Whether a message of a simpleroutine or a routine carries a right in it, or may carry one.
+    /// The request port was there before it or not.
+    pub(crate) fn is_carried(&self, is_simple: bool, has_port: bool) -> bool
+        ensures { result ≡ (is_in_body is_simple has_port (mark_of self.now.way)
+            && has_ports (ports_in (meant self.now.kind))) }
+    {
+        self.way.is_in_body(is_simple, has_port) && self.kind.has_ports()
     }
 
     /// What becomes of the argument of a simpleroutine or a routine, where the request port was

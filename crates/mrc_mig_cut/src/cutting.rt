@@ -1,6 +1,6 @@
 //! Cuts out of a text what can't be read of it.
 
-ghost use Rattle.std.specs.Prelude.{◌≡◌, ◌++◌, [], true, map, IfOk, IfErr, OnOk, IsTrue};
+ghost use Rattle.std.specs.Prelude.{◌≡◌, ◌++◌, [], true, map, IfSome, IfOk, IfErr, OnOk, IsTrue};
 ghost use Rattle.std.specs.Prelude.{string_bytes};
 ghost use Rattle.std.specs.List.{count_by, list_all};
 ghost use Rattle.mrc_base.specs.Reading.{UnlessMemory};
@@ -251,30 +251,64 @@ fn whole(alloc: Global, bytes: &[u8], interface: &Interface) -> Result<CutFile, 
     })
 }
 
-/// What was made, if it is read, no routine that is left out has a form, and each that carries
-/// rights is named.
-fn seen(alloc: Global, made: Made) -> Result<CutFile, OrMemory<CutFault>>
-    ensures found { IfOk result (λ cut.
-        IsCut cut.bytes.items cut.read (map (λ r. r.id) cut.left_out.items)) }
-    ensures ascending { IfOk result (λ cut. AreAscending (map (λ r. r.id) cut.left_out.items)) }
-    ensures carried { IfOk result (λ cut. carriers cut.bytes.items
-        ≡ map string_bytes cut.before.items ++ carrying cut.left_out.items) }
+/// How many requests there are, if none has the id of a routine that is left out.
+fn requests_apart(interface: &Interface, left_out: &[LeftOut]) -> Option<usize>
+    ensures { IfSome result (λ count. (requests interface.now ≡ count)
+        × IsTrue (list_all (is_apart interface.now) (map (λ r. r.id) left_out.now))) }
+{
+    if are_apart(interface, left_out) {
+        Some(requests(interface))
+    } else {
+        None
+    }
+}
+
+/// How many routines are read of bytes, if they are read and no routine that is left out has a
+/// form.
+fn read_of(alloc: Global, bytes: &[u8], left_out: &[LeftOut]) -> Result<usize, OrMemory<CutFault>>
+    ensures { IfOk result (λ read. IsCut bytes.now read (map (λ r. r.id) left_out.now)) }
+{
+    let read = match read_interface(alloc, bytes) {
+        Ok(interface) => requests_apart(&interface, left_out),
+        Err(OrMemory::Fault(_)) => None,
+        Err(OrMemory::Memory) => return Err(OrMemory::Memory),
+    };
+    read.ok_or(OrMemory::Fault(CutFault::Rest))
+}
+
+/// How many routines are read of what was made, if it is read, no routine that is left out has a
+/// form, and each that carries rights is named.
+fn seen(alloc: Global, made: &Made) -> Result<usize, OrMemory<CutFault>>
+    ensures found { IfOk result (λ read.
+        IsCut made.now.bytes.items read (map (λ r. r.id) made.now.left_out.items)) }
+    ensures ascending { IfOk result (λ _.
+        AreAscending (map (λ r. r.id) made.now.left_out.items)) }
+    ensures carried { IfOk result (λ _. carriers made.now.bytes.items
+        ≡ map string_bytes made.now.before.items ++ carrying made.now.left_out.items) }
 {
     let left_out = made.left_out.as_slice();
     let bytes = made.bytes.as_slice();
     if !is_ascending(left_out) || !are_carried(alloc, bytes, made.before.as_slice(), left_out)? {
         return Err(OrMemory::Fault(CutFault::Rest));
     }
-    match read_interface(alloc, bytes) {
-        Ok(interface) if are_apart(&interface, left_out) => Ok(CutFile {
-            read: requests(&interface),
-            bytes: made.bytes,
-            before: made.before,
-            left_out: made.left_out,
-        }),
-        Ok(_) | Err(OrMemory::Fault(_)) => Err(OrMemory::Fault(CutFault::Rest)),
-        Err(OrMemory::Memory) => Err(OrMemory::Memory),
-    }
+    read_of(alloc, bytes, left_out)
+}
+
+/// What was made, if it is seen to be right.
+fn whole_of(alloc: Global, made: Made) -> Result<CutFile, OrMemory<CutFault>>
+    ensures found { IfOk result (λ cut.
+        IsCut cut.bytes.items cut.read (map (λ r. r.id) cut.left_out.items)) }
+    ensures ascending { IfOk result (λ cut. AreAscending (map (λ r. r.id) cut.left_out.items)) }
+    ensures carried { IfOk result (λ cut. carriers cut.bytes.items
+        ≡ map string_bytes cut.before.items ++ carrying cut.left_out.items) }
+{
+    let read = seen(alloc, &made)?;
+    Ok(CutFile {
+        read,
+        bytes: made.bytes,
+        before: made.before,
+        left_out: made.left_out,
+    })
 }
 
 /// What the bytes of a text are cut to.
@@ -288,7 +322,7 @@ fn cut_bytes(alloc: Global, bytes: &[u8]) -> Result<CutFile, OrMemory<CutFault>>
     let Ok(text) = str::from_utf8(bytes) else {
         return Err(OrMemory::Fault(CutFault::NotUtf8));
     };
-    seen(alloc, cut_text(alloc, text)?)
+    whole_of(alloc, cut_text(alloc, text)?)
 }
 
 /// Cuts a MIG file, whose macros, conditions and includes are worked out, to one that is read. A

@@ -3,6 +3,7 @@
 ghost use Rattle.std.specs.Prelude.{◌≡◌};
 ghost use Rattle.mrc_mig_cut.specs.Kinds.{Items, NoForm, meant, item, basic_meant, sized_meant};
 ghost use Rattle.mrc_mig_cut.specs.Kinds.{ports_by, ports_inside, ports_in, ports_or, has_ports};
+ghost use Rattle.mrc_mig_cut.specs.Kinds.{is_portless, ports_of_word};
 
 use mrc_base::is_port_number;
 use mrc_forms::Shape;
@@ -35,6 +36,8 @@ pub(crate) enum Ports {
     One,
     /// Ports in another form, such as an array.
     Several,
+    /// Perhaps some: what the type is made of is unknown.
+    Unknown,
 }
 
 /// A type that has no form.
@@ -60,6 +63,15 @@ pub(crate) fn any_port(word: &str) -> Kind<'_>
     no_form(word, Ports::One)
 }
 
+/// Whether a basic type of this name is known, and has neither a form nor ports.
+fn is_portless(word: &str) -> bool
+    ensures { result ≡ is_portless word.now }
+{
+    word == "MACH_MSG_TYPE_INTEGER_64"
+        || word == "MACH_MSG_TYPE_BIT"
+        || word == "MACH_MSG_TYPE_UNSTRUCTURED"
+}
+
 /// The ports of data of this type number.
 fn ports_by(name: u16) -> Ports
     ensures { result ≡ ports_by name }
@@ -71,6 +83,17 @@ fn ports_by(name: u16) -> Ports
     }
 }
 
+/// The ports of a basic type that is written so and has no form.
+fn ports_of_word(word: &str) -> Ports
+    ensures { result ≡ ports_of_word word.now }
+{
+    if is_portless(word) {
+        Ports::Absent
+    } else {
+        Ports::Unknown
+    }
+}
+
 impl Ports {
     /// These ports inside another type.
     fn inside(self) -> Ports
@@ -79,6 +102,7 @@ impl Ports {
         match self {
             Ports::Absent => Ports::Absent,
             Ports::One | Ports::Several => Ports::Several,
+            Ports::Unknown => Ports::Unknown,
         }
     }
 
@@ -88,17 +112,17 @@ impl Ports {
     {
         match self {
             Ports::Absent => other,
-            Ports::One | Ports::Several => self,
+            Ports::One | Ports::Several | Ports::Unknown => self,
         }
     }
 
-    /// Whether there is one.
+    /// Whether there is one, or may be one.
     fn has_ports(self) -> bool
         ensures { result ≡ has_ports self }
     {
         match self {
             Ports::Absent => false,
-            Ports::One | Ports::Several => true,
+            Ports::One | Ports::Several | Ports::Unknown => true,
         }
     }
 }
@@ -114,7 +138,7 @@ impl<'t> Kind<'t> {
         }
     }
 
-    /// Whether GNU MIG sees a port in it.
+    /// Whether GNU MIG sees a port in it, or may see one.
     pub(crate) fn has_ports(self) -> bool
         ensures { result ≡ has_ports (ports_in (meant self.entry)) }
     {
@@ -153,7 +177,8 @@ pub(crate) fn basic_kind(basic: Option<Basic>, word: &str) -> Kind<'_>
     match basic {
         Some(Basic::Plain(name, size)) => one(name, size),
         Some(Basic::Polymorphic) => any_port(word),
-        Some(Basic::Unsized(_) | Basic::Real) | None => no_form(word, Ports::Absent),
+        Some(Basic::Unsized(_) | Basic::Real) => no_form(word, Ports::Absent),
+        None => no_form(word, ports_of_word(word)),
     }
 }
 
@@ -167,6 +192,7 @@ pub(crate) fn sized_kind(basic: Option<Basic>, word: &str, size: u32) -> Kind<'_
             Err(_) => no_form(word, ports_by(name)),
         },
         Some(Basic::Polymorphic) => any_port(word),
-        Some(Basic::Real) | None => no_form(word, Ports::Absent),
+        Some(Basic::Real) => no_form(word, Ports::Absent),
+        None => no_form(word, ports_of_word(word)),
     }
 }

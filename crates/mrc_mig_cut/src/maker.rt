@@ -1,13 +1,13 @@
 //! What is made of a text, statement by statement.
 
-use crate::carried::{Carried, carried_of};
+use crate::carried::{Carried, NAMELESS, carried_of};
 use crate::flags::options;
 use crate::kinds::{Kind, Ports, no_form};
 use crate::lines::{Line, Lines, Marker, push_marker};
 use crate::notes::{carriers_among, notes_of, push_notes};
 use crate::routine::{LeftOut, Outcome, Text, routine};
 use crate::spelling::shape_text;
-use crate::statement::{behind_statement, heading, skipped, text_at};
+use crate::statement::{behind_statement, heading, skipped, swallowed, text_at};
 use crate::table::{Declared, Table};
 use crate::types::kind;
 use mrc_base::{OrMemory, limits};
@@ -254,7 +254,7 @@ impl<'t> Maker<'t> {
         line: Line,
         rest: Rest<'t>,
     ) -> Result<(), AllocError> {
-        let name = rest.text();
+        let name = name_of(rest);
         let outcome = outcome_of(alloc, &self.table, source, is_simple, rest)?;
         if let Some(word) = self.kept(alloc, name, outcome, line)? {
             let carried = carried_of(alloc, &self.table, is_simple, rest)?;
@@ -318,7 +318,7 @@ impl<'t> Maker<'t> {
                 let word = rest.text();
                 let is_simple = word.eq_ignore_ascii_case("simpleprocedure");
                 let carried = carried_of(alloc, &self.table, is_simple, rest.next())?;
-                self.leave_out(alloc, rest.next().text(), word, carried, line)?;
+                self.leave_out(alloc, name_of(rest.next()), word, carried, line)?;
                 self.ids = self.ids.saturating_add(1);
                 Ok(())
             }
@@ -379,7 +379,10 @@ impl<'t> Maker<'t> {
             return Err(OrMemory::Fault(rest.unexpected()));
         };
         self.statement(alloc, source, line, rest)?;
-        Ok(after)
+        match swallowed(rest, after) {
+            Some(inside) => Err(OrMemory::Fault(inside.unexpected())),
+            None => Ok(after),
+        }
     }
 
     /// Reads each statement.
@@ -442,7 +445,16 @@ fn declared_kind<'t>(
     Ok(kind)
 }
 
-/// What a type is that is declared from here on; where it can't be read, it has no form.
+/// The name of a routine, also if it is a word of the grammar.
+fn name_of(rest: Rest<'_>) -> &str {
+    match rest.first() {
+        Symbol::Name | Symbol::Word(_) => rest.text(),
+        _ => NAMELESS,
+    }
+}
+
+/// What a type is that is declared from here on; if it can't be read, it has no form, and which
+/// ports it has is unknown.
 fn kind_of<'t>(
     alloc: Global,
     table: &Table<'t>,
@@ -451,7 +463,7 @@ fn kind_of<'t>(
 ) -> Result<Kind<'t>, AllocError> {
     match declared_kind(alloc, table, rest) {
         Ok(kind) => Ok(kind),
-        Err(OrMemory::Fault(stop)) => Ok(no_form(source.word_of(stop), Ports::Absent)),
+        Err(OrMemory::Fault(stop)) => Ok(no_form(source.word_of(stop), Ports::Unknown)),
         Err(OrMemory::Memory) => Err(AllocError),
     }
 }

@@ -7,8 +7,8 @@ ghost use Rattle.mrc_mig_lex.specs.Characters.{begins_name, continues_name};
 ghost use Rattle.mrc_mig_lex.specs.Lexing.{tokens_of};
 ghost use Rattle.mrc_mig_symbols.specs.Directives.{after_bytes};
 ghost use Rattle.mrc_mig_symbols.specs.Readers.{left};
-ghost use Rattle.mrc_mig_cut.specs.Carrying.{text_if, carrier_named, carrier_in, carrier_first};
-ghost use Rattle.mrc_mig_cut.specs.Carrying.{carriers_among, carriers_of, carriers};
+ghost use Rattle.mrc_mig_cut.specs.Carrying.{text_if, carrier_len, carrier_named, carrier_in};
+ghost use Rattle.mrc_mig_cut.specs.Carrying.{carrier_first, carriers_among, carriers_of, carriers};
 
 use crate::carried::carried_text;
 use crate::routine::LeftOut;
@@ -42,6 +42,18 @@ fn name_len(text: &[u8]) -> usize
         .count()
 }
 
+/// How many bytes of a name, or of what is printed for none, come first.
+#[tactic(auto, using(crate::proofs::CarryLemmas::carrier_within))]
+fn carrier_len(text: &[u8]) -> usize
+    ensures exact { result ≡ carrier_len text.now }
+    ensures within { result ≤ length text.now }
+{
+    match text {
+        [b'?', ..] => 1,
+        _ => name_len(text),
+    }
+}
+
 /// What follows these bytes, if they come first.
 #[tactic(auto, unfolding(mrc_mig_symbols::specs::Directives::after_bytes))]
 fn after_bytes<'l>(line: &'l [u8], bytes: &[u8]) -> Option<&'l [u8]>
@@ -60,11 +72,11 @@ fn text_if(bytes: &[u8]) -> Option<&str>
     }
 }
 
-/// The name with which these bytes begin, if ` carries ` follows it.
+/// The name with which these bytes begin, or `?` instead of one, if ` carries ` follows it.
 fn carrier_named(rest: &[u8]) -> Option<&str>
     ensures { option_map (λ name. name.now) result ≡ carrier_named rest.now }
 {
-    let count = name_len(rest);
+    let count = carrier_len(rest);
     let _carried = after_bytes(&rest[count..], b" carries ")?;
     text_if(&rest[..count])
 }

@@ -16,13 +16,13 @@ use std::alloc::{AllocError, Global};
 pub struct LeftOut {
     /// The line of the source where it begins, from 1.
     pub line: u32,
-    /// Its name.
+    /// Its name; `?` if it has none.
     pub name: String,
     /// Its id.
     pub id: u32,
     /// The word of the source for which it is left out.
     pub word: String,
-    /// The arguments that carry rights in its messages, in their order.
+    /// The arguments that carry rights in its messages or may, in their order.
     pub carried: Vec<Carried>,
 }
 
@@ -44,12 +44,19 @@ pub(crate) enum Outcome<'t> {
     Refused(&'t str),
 }
 
-/// Reads the arguments up to the parenthesis behind them.
+/// Reads `);`.
+fn closing(rest: Rest<'_>) -> Result<(), Stop> {
+    let rest = sign(rest, Sign::CloseParenthesis)?;
+    let _end = sign(rest, Sign::Semicolon)?;
+    Ok(())
+}
+
+/// Reads the arguments up to the end of the statement.
 fn arguments<'t>(
     alloc: Global,
     table: &Table<'t>,
     rest: Rest<'t>,
-) -> Result<(Vec<Written<'t>>, Rest<'t>), OrMemory<Stop>> {
+) -> Result<Vec<Written<'t>>, OrMemory<Stop>> {
     let mut arguments = Vec::new(alloc);
     let mut rest = rest;
     let count = rest.len();
@@ -65,7 +72,8 @@ fn arguments<'t>(
         }
         rest = rest.next();
     }
-    Ok((arguments, sign(rest, Sign::CloseParenthesis)?))
+    closing(rest)?;
+    Ok(arguments)
 }
 
 /// Writes an argument with this word in front of it.
@@ -163,9 +171,32 @@ fn push_each<'t>(
 }
 
 /// The text of a routine without the sign behind its last argument.
-fn closed(alloc: Global, word: &str, name: &str, body: &str) -> Result<String, AllocError> {
+fn closed(alloc: Global, is_simple: bool, name: &str, body: &str) -> Result<String, AllocError> {
+    let word = if is_simple {
+        "simpleroutine"
+    } else {
+        "routine"
+    };
     let body = body.strip_suffix(";\n").unwrap_or(body);
     format!(in alloc; "{word} {name}(\n{body});\n")
+}
+
+/// What becomes of a routine with these arguments.
+fn made<'t>(
+    alloc: Global,
+    is_simple: bool,
+    name: &str,
+    arguments: &[Written<'t>],
+) -> Result<Outcome<'t>, AllocError> {
+    let mut text = Text {
+        text: String::new(alloc),
+        types: Vec::new(alloc),
+    };
+    if let Some(word) = push_each(alloc, &mut text, is_simple, arguments)? {
+        return Ok(Outcome::Refused(word));
+    }
+    text.text = closed(alloc, is_simple, name, text.text.as_str())?;
+    Ok(Outcome::Written(text))
 }
 
 /// What becomes of a routine, from behind its word.
@@ -177,23 +208,6 @@ pub(crate) fn routine<'t>(
 ) -> Result<Outcome<'t>, OrMemory<Stop>> {
     let name = rest.text();
     let rest = sign(rest.next(), Sign::OpenParenthesis)?;
-    let (arguments, rest) = arguments(alloc, table, rest)?;
-    let _end = sign(rest, Sign::Semicolon)?;
-    let mut text = Text {
-        text: String::new(alloc),
-        types: Vec::new(alloc),
-    };
-    if let Some(word) = push_each(alloc, &mut text, is_simple, arguments.as_slice())? {
-        return Ok(Outcome::Refused(word));
-    }
-    let word = if is_simple {
-        "simpleroutine"
-    } else {
-        "routine"
-    };
-    let whole = closed(alloc, word, name, text.text.as_str())?;
-    Ok(Outcome::Written(Text {
-        text: whole,
-        types: text.types,
-    }))
+    let arguments = arguments(alloc, table, rest)?;
+    Ok(made(alloc, is_simple, name, arguments.as_slice())?)
 }

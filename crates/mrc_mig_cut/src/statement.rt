@@ -22,6 +22,31 @@ pub(crate) fn behind_statement(rest: Rest<'_>) -> Option<Rest<'_>> {
     None
 }
 
+/// Whether a statement that takes ids begins with this symbol.
+fn takes_ids(symbol: Symbol) -> bool {
+    matches!(
+        symbol,
+        Symbol::Word(Word::Routine | Word::SimpleRoutine | Word::Skip | Word::OldForm)
+    )
+}
+
+/// The first statement that takes ids inside of another one, which ends before `after`: the other
+/// one lacks its `;`. None if the other one takes ids itself.
+pub(crate) fn swallowed<'t>(rest: Rest<'t>, after: Rest<'t>) -> Option<Rest<'t>> {
+    if takes_ids(rest.first()) {
+        return None;
+    }
+    let mut rest = rest;
+    let count = rest.len().saturating_sub(after.len());
+    for _ in 0..count {
+        if takes_ids(rest.first()) {
+            return Some(rest);
+        }
+        rest = rest.next();
+    }
+    None
+}
+
 /// The text of the token where so many are left.
 pub(crate) fn text_at<'t>(tokens: &Tokens<'t>, text: &'t str, left: usize) -> &'t str {
     match next_token(text, place_of(tokens, left), true) {

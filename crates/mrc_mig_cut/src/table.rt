@@ -108,7 +108,10 @@ fn is_same_ports(one: Ports, another: Ports) -> bool
 {
     matches!(
         (one, another),
-        (Ports::Absent, Ports::Absent) | (Ports::One, Ports::One) | (Ports::Several, Ports::Several)
+        (Ports::Absent, Ports::Absent)
+            | (Ports::One, Ports::One)
+            | (Ports::Several, Ports::Several)
+            | (Ports::Unknown, Ports::Unknown)
     )
 }
 

@@ -385,13 +385,14 @@ fn string<'t>(alloc: Global, rest: Rest<'t>) -> Result<(Kind<'t>, Rest<'t>), OrM
     ))
 }
 
-/// What the name of a type is: one that was declared, or none.
+/// What the name of a type is: one that was declared, or none, and then it is unknown which ports
+/// it has.
 pub(crate) fn named<'t>(table: &Table<'t>, name: &'t str) -> Kind<'t>
     ensures { meant result ≡ named (known table.now) name.now }
 {
     match table.get(name) {
         Some(declared) => declared.kind,
-        None => no_form(name, Ports::Absent),
+        None => no_form(name, Ports::Unknown),
     }
 }
 
