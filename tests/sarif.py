@@ -258,9 +258,13 @@ def differs(log, folder, asked, texts):
     """What of a log is not what the text of the same command says, or None. The text has quotes, and no tree."""
     (run,) = log["runs"]
     (invocation,) = run["invocations"]
-    is_right = invocation["executionSuccessful"] and invocation["exitCode"] == texts.plain.status
-    if not is_right or invocation.get("toolExecutionNotifications"):
+    if not invocation["executionSuccessful"] or invocation["exitCode"] != texts.plain.status:
         return f"no invocation with status {texts.plain.status}: {invocation}"
+    told = [(notice["level"], notice["locations"], notice["message"]["text"])
+            for notice in invocation["toolExecutionNotifications"]]
+    right = [("warning", [], line.replace("{", "{{").replace("}", "}}")) for line in texts.plain.err.split("\n")[:-1]]
+    if told != right:
+        return f"other notifications than {right}: {told}"
     if [rule["id"] for rule in run["tool"]["driver"]["rules"]] != RULES or run["tool"]["driver"]["name"] != "machcheck":
         return f"other rules: {run['tool']}"
     if run["columnKind"] != "unicodeCodePoints":

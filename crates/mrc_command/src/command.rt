@@ -12,6 +12,7 @@ ghost use Rattle.mrc_command.specs.Meaning.{NamesFiles, IsShowing, Asks};
 ghost use Rattle.mrc_command.specs.Meaning.{has_files, AsksMig, IsCommandOf, IsRequestOf, Means};
 ghost use Rattle.mrc_command.specs.Meaning.{has_format, IsBadFormat, IsBadFormatIfTold, IsRefusal};
 
+use crate::lacking::lacking_text;
 use crate::options::whole_command;
 use crate::told::{Told, fault_of};
 use clap::error::ErrorKind;
@@ -180,15 +181,27 @@ impl From<AllocError> for NoCommand {
     }
 }
 
-/// The text of clap: help and version go to standard output, all else to standard error.
-fn clap_text(alloc: Global, error: Error) -> NoCommand
+/// The text of an error of `clap`. Of an option that the command does not have it is a text of our
+/// own.
+fn error_text(alloc: Global, error: &Error, words: &[String]) -> Result<String, AllocError> {
+    let text = format!(in alloc; "{error}")?;
+    if error.kind() != ErrorKind::UnknownArgument {
+        return Ok(text);
+    }
+    let lacking = lacking_text(alloc, words, text.as_str())?;
+    Ok(lacking.unwrap_or(text))
+}
+
+/// The text of an error for these words: help and version go to standard output, all else to
+/// standard error.
+fn clap_text(alloc: Global, error: Error, words: &[String]) -> NoCommand
     ensures memory { kind_of error ≡ OutOfMemory → result ≡ NoCommand.Memory }
     ensures told { TellsError (kind_of error) result }
 {
     if error.kind() == ErrorKind::OutOfMemory {
         return NoCommand::Memory;
     }
-    let Ok(text) = format!(in alloc; "{error}") else {
+    let Ok(text) = error_text(alloc, &error, words) else {
         return NoCommand::Memory;
     };
     NoCommand::Told(if error.use_stderr() {
@@ -537,7 +550,7 @@ pub fn read(alloc: Global, words: &[String]) -> Result<Request<'_>, NoCommand>
     let command = whole_command(alloc)?;
     let matches = match command.try_get_matches_from(words) {
         Ok(matches) => matches,
-        Err(error) => return Err(clap_text(alloc, error)),
+        Err(error) => return Err(clap_text(alloc, error, words)),
     };
     request_of(alloc, &matches)
 }

@@ -19,7 +19,7 @@ of a fault is printed too. If the command line is wrong, there is none.
 `machcheck check --help`, and the same of the other commands, tells of the files. Read on
 in README.md, which starts with a worked example, and in docs/ARCHITECTURE.md.";
 
-pub(crate) const CHECK_HELP: &str = "Files, as README.md describes them:
+pub(crate) const CHECK_HELP: &str = "Files, as docs/FORMATS.md describes them:
   MIG files have the messages of the interfaces that the wiring names,
   a wiring has the tasks and ports, what they accept, and the rights that are held at first,
   a policy has who must never hold what,
@@ -44,7 +44,7 @@ Exit status:
 
 Read on in README.md, and in docs/ARCHITECTURE.md.";
 
-pub(crate) const MAKE_HELP: &str = "Files, as README.md describes them:
+pub(crate) const MAKE_HELP: &str = "Files, as docs/FORMATS.md describes them:
   MIG files have the messages of the interfaces that the wiring names,
   a wiring has the tasks and ports, what they accept, and the rights that are held at first.
 
@@ -64,7 +64,7 @@ Exit status:
 
 Read on in README.md, and in docs/ARCHITECTURE.md.";
 
-pub(crate) const EXPLAIN_HELP: &str = "Files, as README.md describes them:
+pub(crate) const EXPLAIN_HELP: &str = "Files, as docs/FORMATS.md describes them:
   MIG files have the messages of the interfaces that the wiring names,
   a wiring has the tasks and ports, what they accept, and the rights that are held at first.
 
@@ -125,7 +125,7 @@ Exit status:
 
 Read on in README.md, and in docs/ARCHITECTURE.md.";
 
-pub(crate) const VERIFY_HELP: &str = "Files, as README.md describes them:
+pub(crate) const VERIFY_HELP: &str = "Files, as docs/FORMATS.md describes them:
   MIG files have the messages of the interfaces that the wiring names,
   a wiring has the tasks and ports, what they accept, and the rights that are held at first,
   a policy has who must never hold what.
@@ -164,7 +164,7 @@ Exit status:
 
 Read on in README.md, and in docs/ARCHITECTURE.md.";
 
-pub(crate) const MEND_HELP: &str = "Files, as README.md describes them:
+pub(crate) const MEND_HELP: &str = "Files, as docs/FORMATS.md describes them:
   MIG files have the messages of the interfaces that the wiring names,
   a wiring has the tasks and ports, what they accept, and the rights that are held at first,
   a policy has who must never hold what.
@@ -192,7 +192,7 @@ Exit status:
 
 Read on in README.md, and in docs/ARCHITECTURE.md.";
 
-pub(crate) const ATTACK_HELP: &str = "Files, as README.md describes them:
+pub(crate) const ATTACK_HELP: &str = "Files, as docs/FORMATS.md describes them:
   MIG files have the messages of the interfaces that the wiring names,
   a wiring has the tasks and ports, what they accept, and the rights that are held at first,
   a policy has who must never hold what.
@@ -224,7 +224,7 @@ Exit status:
 
 Read on in README.md, and in docs/ARCHITECTURE.md.";
 
-pub(crate) const FACTS_HELP: &str = "Files, as README.md describes them:
+pub(crate) const FACTS_HELP: &str = "Files, as docs/FORMATS.md describes them:
   MIG files have the messages of the interfaces that the wiring names,
   a wiring has the tasks and ports, what they accept, and the rights that are held at first,
   a certificate has who may come to hold what.
@@ -248,7 +248,7 @@ Exit status:
 
 Read on in README.md, and in docs/ARCHITECTURE.md.";
 
-pub(crate) const GRAPH_HELP: &str = "Files, as README.md describes them:
+pub(crate) const GRAPH_HELP: &str = "Files, as docs/FORMATS.md describes them:
   MIG files have the messages of the interfaces that the wiring names,
   a wiring has the tasks and ports, what they accept, and the rights that are held at first,
   a certificate has who may come to hold what,
@@ -271,7 +271,7 @@ Exit status:
 
 Read on in README.md, and in docs/ARCHITECTURE.md.";
 
-pub(crate) const SLOTS_HELP: &str = "Files, as README.md describes them:
+pub(crate) const SLOTS_HELP: &str = "Files, as docs/FORMATS.md describes them:
   MIG files have the messages of the interfaces that the wiring names,
   a wiring has the tasks and ports, what they accept, and the rights that are held at first.
 

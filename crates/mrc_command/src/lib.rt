@@ -4,8 +4,8 @@
 mod asked;
 mod command;
 mod help;
+mod lacking;
 mod options;
-mod surface;
 mod told;
 mod words;
 
@@ -13,6 +13,5 @@ pub use asked::{asked_format, command_word, commands_are_what_words_say};
 pub use command::{
     Command, FileNames, Format, MigFiles, NoCommand, Question, Request, Showing, Strictness, read,
 };
-pub use surface::clap_command;
 pub use told::{Told, fault_of, memory, names_are_shown_safely, push_shown, said, shown};
 pub use words::{WordsFault, words_line, words_of};

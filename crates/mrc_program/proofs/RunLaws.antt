@@ -24,7 +24,7 @@ use Rattle.mrc_command.specs.Meaning.{Means, asked_format, command_word}
 use Rattle.mrc_place.specs.declared.spots.Hint.{Hint}
 use Rattle.mrc_program.specs.declared.behind.Help.{Help}
 use Rattle.mrc_program.specs.Behind.{IsBehind, IsBehindWords, IsHelp, IsMade, IsMadeFor, HelpsWith}
-use Rattle.mrc_program.specs.Behind.{IsUncutHelp, IsUnreadHelp, is_live}
+use Rattle.mrc_program.specs.Behind.{HelpsWithFiles, IsNoted, IsUncutHelp, IsUnreadHelp, is_live}
 use Rattle.mrc_program.specs.Commands.{BadWord, Done, DoneOf, Fault, FaultOf, Halted, HaltedOf}
 use Rattle.mrc_program.specs.Commands.{IsRest, No, NoOf, OfWords, Streams, WentOut, seen}
 use Rattle.mrc_program.specs.Cutting.{CutsOfFiles}
@@ -151,15 +151,30 @@ done_of_mig held after rest command files (Ok told) is none done = λ nought.
 pub made_files : (wanted : Bool) (held : Held) (names : FileNames) (texts : Texts)
     (question : Question) (help : Help) (told : Told)
     → AreRead held names texts
-    → IsMade wanted (IsHelp (is_live question) record { names = names; texts = texts }) help told
+    → IsMade wanted (λ line made. IsNoted line made
+    ⊎ IsHelp (is_live question) record { names = names; texts = texts } line made) help told
     → IsMadeFor wanted held (Case names question) help told
 made_files wanted held names texts question help told are made = elim made [
   | inl none ↦ inl none
   | inr helps ↦ inr (
     helps.0,
     helps.1,
-    inr record { texts = texts; are_read = are; tells = helps.2 },
+    elim (helps.2) [
+      | inl noted ↦ inl noted
+      | inr of_text ↦ inr (inr record { texts = texts; are_read = are; tells = of_text })
+    ],
   )
+]
+
+-- what helps with a fault, or else a sentence about it
+pub made_noted : (wanted : Bool) (held : Held) (command : Command) (help new : Help) (told : Told)
+    → IsMadeFor wanted held command help told
+    → (new ≡ help)
+    ⊎ ((wanted ≡ true) × (told.status ≡ 2) × IsNoted (string_bytes told.err) new)
+    → IsMadeFor wanted held command new told
+made_noted wanted held command help new told made is = elim is [
+  | inl same ↦ subst (λ h. IsMadeFor wanted held command h told) (sym same) made
+  | inr noted ↦ inr (noted.0, noted.1, inl noted.2)
 ]
 
 -- what helps with a file that can't be read, of a question
@@ -170,7 +185,7 @@ pub made_unread : {E : Type 0} (wanted : Bool) (held : Held) (names : FileNames)
 made_unread wanted held names question help (Err e) made = tt
 made_unread wanted held names question help (Ok told) made = elim made [
   | inl none ↦ inl none
-  | inr helps ↦ inr (helps.0, helps.1, inl helps.2)
+  | inr helps ↦ inr (helps.0, helps.1, inr (inl helps.2))
 ]
 
 -- the same of a `mig`
@@ -181,7 +196,7 @@ pub made_unread_of : {E : Type 0} (wanted : Bool) (held : Held) (files : MigFile
 made_unread_of wanted held files help (Err e) made = tt
 made_unread_of wanted held files help (Ok told) made = elim made [
   | inl none ↦ inl none
-  | inr helps ↦ inr (helps.0, helps.1, inl helps.2)
+  | inr helps ↦ inr (helps.0, helps.1, inr (inl helps.2))
 ]
 
 -- what helps with a MIG file that can't be cut
@@ -192,7 +207,7 @@ pub made_uncut : {E : Type 0} (wanted : Bool) (held : Held) (files : MigFiles)
 made_uncut wanted held files help (Err e) made = tt
 made_uncut wanted held files help (Ok told) made = elim made [
   | inl none ↦ inl none
-  | inr helps ↦ inr (helps.0, helps.1, inr helps.2)
+  | inr helps ↦ inr (helps.0, helps.1, inr (inr helps.2))
 ]
 
 -- with a fault of files nothing goes to standard output, except a journal after which no task can
@@ -333,12 +348,12 @@ pub status_kept : (format : Format) (word : List ℕ) (hint : Hint) (told new : 
 status_kept format word hint told new is within =
     let same = same_status format word hint told new is in omega arith
 
--- what helps with a fault helps with another text that has its line
-helps_same : (held : Held) (command : Command) (told new : Told) (help : Help)
+-- what helps with a fault of files helps with another text that has its line
+files_same : (held : Held) (command : Command) (told new : Told) (help : Help)
     → string_bytes new.err ≡ string_bytes told.err
-    → HelpsWith held command told help
-    → HelpsWith held command new help
-helps_same held (Case names question) told new help same helps = elim helps [
+    → HelpsWithFiles held command told help
+    → HelpsWithFiles held command new help
+files_same held (Case names question) told new help same helps = elim helps [
   | inl unread ↦ inl (subst (λ line. IsUnreadHelp line help) (sym same) unread)
   | inr files ↦ inr record {
     texts = files.texts;
@@ -347,9 +362,19 @@ helps_same held (Case names question) told new help same helps = elim helps [
         record { names = names; texts = files.texts } line help) (sym same) files.tells;
   }
 ]
-helps_same held (Mig files) told new help same helps = elim helps [
+files_same held (Mig files) told new help same helps = elim helps [
   | inl unread ↦ inl (subst (λ line. IsUnreadHelp line help) (sym same) unread)
   | inr uncut ↦ inr (subst (λ line. IsUncutHelp line help) (sym same) uncut)
+]
+
+-- the same of what helps with a fault
+helps_same : (held : Held) (command : Command) (told new : Told) (help : Help)
+    → string_bytes new.err ≡ string_bytes told.err
+    → HelpsWith held command told help
+    → HelpsWith held command new help
+helps_same held command told new help same helps = elim helps [
+  | inl noted ↦ inl (subst (λ line. IsNoted line help) (sym same) noted)
+  | inr files ↦ inr (files_same held command told new help same files)
 ]
 
 -- a journal after which no task can go on is for people

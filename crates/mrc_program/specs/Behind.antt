@@ -1,8 +1,9 @@
--- Believe. What helps with a fault: with that of the first text that has no meaning, or with a file
--- that can't be read; and what is printed of it behind the line of the fault. This profile's own
--- choice.
+-- Believe. What helps with a fault: with that of the first text that has no meaning, with a file
+-- that can't be read, or with the word of an option; and what is printed of it behind the line of
+-- the fault. This profile's own choice.
 use Rattle.std.specs.Prelude.{◌≡◌, ◌⊎◌, ℕ, Bool, true, false, ◌||◌, List, [], ◌∷◌}
 use Rattle.std.specs.Prelude.{Option, Some, None, Result, Ok, Err, codes, string_bytes, String}
+use Rattle.std.specs.Prelude.{bytes_eq}
 use Rattle.std.specs.declared.alloc.Global.{Global}
 use Rattle.mrc_base.specs.Reading.{◌>>=◌}
 use Rattle.mrc_certificate.specs.Reading.{draft_from}
@@ -22,6 +23,7 @@ use Rattle.mrc_files.specs.declared.streams.ReadFault.{ReadFault}
 use Rattle.mrc_files.specs.declared.streams.ReadFault.TheVariants.{ReadFailed}
 use Rattle.mrc_files.specs.Files.{Held}
 use Rattle.mrc_interface.specs.Reading.{step}
+use Rattle.mrc_json.specs.Faults.{fault_parts}
 use Rattle.mrc_place.specs.declared.spots.Hint.{Hint}
 use Rattle.mrc_wiring.specs.Table.{Table}
 use Rattle.mrc_program.specs.declared.behind.Help.{Help}
@@ -102,6 +104,22 @@ pub record IsUnreadHelp (line : List ℕ) (help : Help) : Type 0 where
   pub note : IsNoteAlone help.hint
   pub is : IsTextOf file help
 
+-- whether sentences may help with a fault of this name: of the word of an option, or of a file that
+-- is to be written
+abbrev pub is_noted : List ℕ → Bool
+is_noted fault =
+    bytes_eq fault (codes "BadTask") || (bytes_eq fault (codes "BadClass")
+    || (bytes_eq fault (codes "BadRight") || (bytes_eq fault (codes "BadFact")
+    || (bytes_eq fault (codes "BadLine") || (bytes_eq fault (codes "NotBroken")
+    || (bytes_eq fault (codes "BadMost") || (bytes_eq fault (codes "Workers")
+    || (bytes_eq fault (codes "SameName") || bytes_eq fault (codes "WriteFailed 0")))))))))
+
+-- it is sentences about such a fault, whose line is the last of what goes to standard error
+pub record IsNoted (err : List ℕ) (help : Help) : Type 0 where
+  pub fault : is_noted (fault_parts err).1 ≡ true
+  pub spot : help.hint.spot ≡ None
+  pub is : IsTextOf [] help
+
 -- nothing helps, or the text is that of the hint, with the name of the file
 abbrev pub IsHelpIfAny : List ℕ → Help → Type 0
 IsHelpIfAny file help = IsNoHelp help ⊎ IsTextOf file help
@@ -122,12 +140,17 @@ IsMade wanted Helps help told =
 abbrev pub IsHelpOf : Question → Help → Files → Told → Type 0
 IsHelpOf question help files told = IsHelp (is_live question) files (string_bytes told.err) help
 
+-- it helps with a fault of the files of a command
+abbrev pub HelpsWithFiles : Held → Command → Told → Help → Type 0
+HelpsWithFiles held (Case names question) told help =
+    IsUnreadHelp (string_bytes told.err) help ⊎ OfFiles (IsHelpOf question help) held names told
+HelpsWithFiles held (Mig files) told help =
+    IsUnreadHelp (string_bytes told.err) help ⊎ IsUncutHelp (string_bytes told.err) help
+
 -- it helps with the fault that is printed of a command
 abbrev pub HelpsWith : Held → Command → Told → Help → Type 0
-HelpsWith held (Case names question) told help =
-    IsUnreadHelp (string_bytes told.err) help ⊎ OfFiles (IsHelpOf question help) held names told
-HelpsWith held (Mig files) told help =
-    IsUnreadHelp (string_bytes told.err) help ⊎ IsUncutHelp (string_bytes told.err) help
+HelpsWith held command told help =
+    IsNoted (string_bytes told.err) help ⊎ HelpsWithFiles held command told help
 
 -- What is made to help with the answer to a command: nothing, or, if it is wanted, what helps with
 -- a fault.

@@ -17,7 +17,7 @@ use Rattle.mrc_sarif.specs.Answers.{yes_sarif}
 abbrev pub yes_out : Format → (command notices : List ℕ) → List ℕ
 yes_out Text command notices = codes "YES\n"
 yes_out Json command notices = yes_json command notices
-yes_out Sarif command notices = yes_sarif
+yes_out Sarif command notices = yes_sarif notices
 
 -- Only `verify` can be asked for SARIF. So the other questions print then what they print as text.
 

@@ -79,10 +79,10 @@ abbrev pub IsHintOfFile : List (List ℕ) → ℕ → DefsFault → Hint → Typ
 IsHintOfFile defs number f hint =
     (text : List ℕ) × (slice_get defs number ≡ Some text) × IsMigHint text f hint
 
--- the hint of the fault of a text; a certificate has none
+-- the hint of the fault of a text; that of a certificate is sentences alone
 abbrev pub IsHintFor : Bool → Files → CaseFault → Hint → Type 0
 IsHintFor live files (fault.Defs f) hint = IsHintOfFile files.texts.defs f.file f.fault hint
 IsHintFor live files (fault.Wiring f) hint = IsWiringHint files f hint
 IsHintFor live files (fault.Policy f) hint = IsPolicyHint files.texts f hint
-IsHintFor live files (fault.Certificate f) hint = ⊥
+IsHintFor live files (fault.Certificate f) hint = hint.spot ≡ None
 IsHintFor live files (fault.Script f) hint = IsCallsHint live files.texts f hint

@@ -86,7 +86,7 @@ IsBrokenOut Text showing files only numbered exposed broken notices text =
 IsBrokenOut Json showing files only numbered exposed broken notices text =
     IsBrokenJson (asked_of showing only files) numbered exposed broken notices text
 IsBrokenOut Sarif showing files only numbered exposed broken notices text =
-    IsBrokenSarif files.names files.texts.defs numbered only exposed broken text
+    IsBrokenSarif files.names files.texts.defs numbered only exposed broken notices text
 
 -- what goes to standard error of files and their claim, by a set of facts: of routines that carry
 -- rights and are left out of the MIG files, of routines of notifications, and of the policy

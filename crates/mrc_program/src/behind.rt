@@ -1,23 +1,26 @@
 //! What helps with a fault: the hint, and what is printed of it behind the line of the fault.
 
-ghost use Rattle.std.specs.Prelude.{◌≡◌, ◌⊎◌, [], Err, true, false, IfOk, IfErr, IsTrue};
+ghost use Rattle.std.specs.Prelude.{◌≡◌, ◌≢◌, ◌⊎◌, [], Err, None, true, false, IfOk, IfErr};
+ghost use Rattle.std.specs.Prelude.{IfSome, IsTrue};
 ghost use Rattle.std.specs.Prelude.{string_bytes};
 ghost use Rattle.mrc_check.specs.Texts.{meaningless};
 ghost use Rattle.mrc_program.specs.Behind.{all_meant, is_live, is_wanted, IsHelp, IsNoHelp};
 ghost use Rattle.mrc_program.specs.Behind.{IsFailure, IsHelpIfAny, IsMade, IsNoteAlone, IsTextOf};
-ghost use Rattle.mrc_program.specs.Behind.{IsUncutHelp, IsUnreadHelp};
+ghost use Rattle.mrc_program.specs.Behind.{IsNoted, IsUncutHelp, IsUnreadHelp};
 ghost use Rattle.mrc_program.specs.Told.{IsFaultOf, UnreadTold};
 
 use crate::cuts::Uncut;
-use crate::files::Files;
+use crate::files::{Files, Texts};
 use crate::hints::hint_text;
 use crate::meaning::all_meant;
+use crate::notes::{is_noted, name_notes, note_of, one_note};
 use crate::places::{cut_hint, hint_of};
 use crate::told::{file_of, unread_told};
 use mrc_base::OrMemory;
-use mrc_check::CaseFault;
+use mrc_check::{CaseFault, System};
 use mrc_command::{Format, Question, Told, fault_of};
 use mrc_files::{ReadFailure, ReadFault, Unread};
+use mrc_json::fault_parts;
 use mrc_place::Hint;
 use std::alloc::{AllocError, Global};
 
@@ -129,19 +132,65 @@ fn hint_behind(
     }
 }
 
-/// What helps with the fault of which this is the line, if it is that of a text without a meaning.
+/// Sentences, and no place.
+fn noted(alloc: Global, notes: Vec<String>) -> Result<Help, AllocError>
+    ensures spot { IfOk result (λ help. help.hint.spot ≡ None) }
+    ensures text { IfOk result (IsTextOf []) }
+{
+    help_of(alloc, "", Hint { spot: None, notes })
+}
+
+/// What is said of the word of an option, if the fault of this name is that it names nothing of the
+/// wiring.
+fn notes_of_name(
+    alloc: Global,
+    texts: &Texts,
+    question: Question<'_>,
+    fault: &str,
+) -> Result<Vec<String>, AllocError> {
+    match System::read(alloc, texts.defs.as_slice(), texts.wiring.as_slice()) {
+        Ok(system) => name_notes(alloc, &system.wired, question, fault),
+        Err(_) => Err(AllocError),
+    }
+}
+
+/// What helps with the fault of which this is the line, if it is that of an option whose word names
+/// nothing of the wiring.
+fn name_behind(
+    alloc: Global,
+    files: &Files<'_>,
+    question: Question<'_>,
+    line: &str,
+) -> Result<Help, AllocError>
+    ensures { IfOk result (λ help. IsNoHelp help ⊎ IsNoted line.now help) }
+{
+    let (_, fault) = fault_parts(line);
+    if !is_noted(fault) {
+        return Ok(no_help(alloc));
+    }
+    let notes = notes_of_name(alloc, &files.texts, question, fault)?;
+    if notes.is_empty() {
+        return Ok(no_help(alloc));
+    }
+    noted(alloc, notes)
+}
+
+/// What helps with the fault of which this is the line, if it is that of a text without a meaning,
+/// or of an option whose word names nothing of the wiring.
 fn texts_behind(
     alloc: Global,
     files: &Files<'_>,
-    live: bool,
+    question: Question<'_>,
     line: &str,
 ) -> Result<Help, AllocError>
-    ensures { IfOk result (λ help. IsNoHelp help ⊎ IsHelp live files.now line.now help) }
+    ensures { IfOk result (λ help. IsNoHelp help ⊎ (IsNoted line.now help
+        ⊎ IsHelp (is_live question.entry) files.now line.now help)) }
 {
+    let live = is_live(question);
     match all_meant(alloc, &files.texts, live) {
         Err(OrMemory::Fault(fault)) => hint_behind(alloc, files, live, line, &fault),
         Err(OrMemory::Memory) => Err(AllocError),
-        Ok(()) => Ok(no_help(alloc)),
+        Ok(()) => name_behind(alloc, files, question, line),
     }
 }
 
@@ -154,13 +203,46 @@ pub fn files_behind(
     question: Question<'_>,
     told: &Told,
 ) -> Help
-    ensures { IsMade wanted (IsHelp (is_live question.entry) files.now) result told.now }
+    ensures { IsMade wanted (λ line help. IsNoted line help
+        ⊎ IsHelp (is_live question.entry) files.now line help) result told.now }
 {
     if !wanted || told.status != 2 {
         return no_help(alloc);
     }
-    let help = texts_behind(alloc, files, is_live(question), told.err.as_str());
+    let help = texts_behind(alloc, files, question, told.err.as_str());
     help_if_made(alloc, help)
+}
+
+/// The sentence about the fault whose line is the last of these, if it is the same for all files.
+fn note_behind(alloc: Global, err: &str) -> Result<Option<Help>, AllocError>
+    ensures { IfOk result (λ help. IfSome help (IsNoted err.now)) }
+{
+    let (_, fault) = fault_parts(err);
+    if !is_noted(fault) {
+        return Ok(None);
+    }
+    let Some(note) = note_of(fault) else {
+        return Ok(None);
+    };
+    let notes = one_note(alloc, note)?;
+    let help = noted(alloc, notes)?;
+    Ok(Some(help))
+}
+
+/// What helps with what is printed: what was made for it. Else, if it is wanted, a sentence about
+/// the word of an option or about a file that is to be written.
+pub fn with_note(alloc: Global, wanted: bool, help: Help, told: &Told) -> Help
+    ensures note { (result ≡ help) ⊎ ((wanted ≡ true) × (told.now.status ≡ 2)
+        × IsNoted (string_bytes told.now.err) result) }
+    ensures kept { string_bytes help.text ≢ [] → result ≡ help }
+{
+    if !wanted || told.status != 2 || !help.text.as_str().is_empty() {
+        return help;
+    }
+    match note_behind(alloc, told.err.as_str()) {
+        Ok(Some(made)) => made,
+        Ok(None) | Err(AllocError) => help,
+    }
 }
 
 /// What the system says of a file that can't be read.

@@ -18,6 +18,7 @@ mod make;
 mod meaning;
 mod mend;
 mod mig;
+mod notes;
 mod notices;
 mod objects;
 mod pending;

@@ -1,10 +1,12 @@
 //! What helps with a fault of a text, by the text's role.
 
-ghost use Rattle.std.specs.Prelude.{IfOk, IfSome};
+ghost use Rattle.std.specs.Prelude.{◌≡◌, None, IfOk, IfSome};
 ghost use Rattle.mrc_program.specs.Places.{IsCallsHint, IsClaimHint, IsHintFor, IsHintOfFile};
 ghost use Rattle.mrc_program.specs.Places.{IsNamesHint, IsPolicyHint, IsWiringHint};
 
 use crate::files::{Files, Texts};
+use crate::notes::{draft_note, one_note};
+use mrc_certificate::DraftFault;
 use mrc_check::{CaseFault, PolicyFault, WiringFault};
 use mrc_interface::{DefsFault, FileFault, LexFault, ParseFault, read_interfaces};
 use mrc_line_hints::{policy_line_hint, wiring_line_hint};
@@ -117,8 +119,15 @@ fn script_text_hint(
     Ok(Some(hint))
 }
 
-/// What helps with the fault of a text: nothing, if it is the certificate, or if memory runs out
-/// while the texts are read.
+/// What helps with a fault of the certificate.
+fn certificate_hint(alloc: Global, fault: DraftFault) -> Result<Hint, AllocError>
+    ensures { IfOk result (λ hint. hint.spot ≡ None) }
+{
+    let notes = one_note(alloc, draft_note(fault))?;
+    Ok(Hint { spot: None, notes })
+}
+
+/// What helps with the fault of a text: nothing, if memory runs out while the texts are read.
 pub fn hint_of(
     alloc: Global,
     files: &Files<'_>,
@@ -131,7 +140,7 @@ pub fn hint_of(
         CaseFault::Defs(fault) => defs_hint(alloc, &files.texts, fault),
         CaseFault::Wiring(fault) => wiring_hint(alloc, files, fault),
         CaseFault::Policy(fault) => policy_hint(alloc, &files.texts, *fault),
-        CaseFault::Certificate(_) => Ok(None),
+        CaseFault::Certificate(fault) => Ok(Some(certificate_hint(alloc, *fault)?)),
         CaseFault::Script(fault) => script_text_hint(alloc, &files.texts, live, *fault),
     }
 }

@@ -13,7 +13,7 @@ ghost use Rattle.mrc_program.specs.Commands.{IsRest, WentOut, seen, seen_questio
 ghost use Rattle.mrc_program.specs.FaultObjects.{IsOutOfFault, IsOutOfWords, WentInPart};
 
 use crate::attack::{attack_told, bounds_told, line_told};
-use crate::behind::{Help, files_behind, help_text, is_wanted, no_help, unread_helped};
+use crate::behind::{Help, files_behind, help_text, is_wanted, no_help, unread_helped, with_note};
 use crate::check::check_told;
 use crate::explain::explain_told;
 use crate::facts::facts_told;
@@ -262,6 +262,7 @@ fn command_told<F: Folder, R: Threads + Wait + Sync, P: mrc_mend::Progress + mrc
     let told = answer(
         rt, folder, alloc, command, wanted, &mut help, pending, progress,
     )?;
+    let help = with_note(alloc, wanted, help, &told);
     let told = with_object(alloc, format, word, &help.hint, told);
     *behind = help_text(alloc, shows, help);
     Ok(told)

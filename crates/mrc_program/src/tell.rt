@@ -159,7 +159,7 @@ fn yes_out(
     match format {
         Format::Text => String::from_str(alloc, "YES\n"),
         Format::Json => yes_json(alloc, command, notices),
-        Format::Sarif => yes_sarif(alloc),
+        Format::Sarif => yes_sarif(alloc, notices),
     }
 }
 

@@ -177,7 +177,7 @@ fn broken_out(
         }
         Format::Sarif => {
             let defs = files.texts.defs.as_slice();
-            broken_sarif(alloc, &files.names, defs, sources, only, &verdict)
+            broken_sarif(alloc, &files.names, defs, sources, only, &verdict, notices)
         }
     }
 }

@@ -1,10 +1,11 @@
 -- No number of a log has a fraction.
 use Rattle.std.proofs.Common.{◌≡◌, ◌+◌, ℕ, Bool, true, false, ◌||◌, cond, List, [], ◌∷◌, Option}
-use Rattle.std.proofs.Common.{Some, None, refl, ap, ◌∙◌}
+use Rattle.std.proofs.Common.{Some, None, map, refl, ap, ◌∙◌}
 use Rattle.std.proofs.lemmas.Bool.{or_from}
 use Rattle.serde_json.specs.Data.{Data}
 use Rattle.serde_json.specs.View.{items_of}
 use Rattle.serde_json.specs.Written.{has_float, items_have_float}
+use Rattle.mrc_wiring_text.specs.Lexis.{lines}
 use Rattle.mrc_closure.specs.declared.chains.Step.{Step}
 use Rattle.mrc_place.specs.declared.spots.Spot.{Spot}
 use Rattle.mrc_json.specs.Faults.{fault_parts}
@@ -13,7 +14,7 @@ use Rattle.mrc_sarif.specs.Objects.{at_spot, location, thread_flow, code_flow}
 use Rattle.mrc_sarif.specs.Objects.{invocation, run, log}
 use Rattle.mrc_sarif.specs.Steps.{Finding, IsStep, AreOf, IsResult, AreResults}
 use Rattle.mrc_sarif.specs.Answers.{broken_log, is_option, fault_locations, fault_notification}
-use Rattle.mrc_sarif.specs.Answers.{fault_log}
+use Rattle.mrc_sarif.specs.Answers.{fault_log, notice, notices, yes_log}
 
 -- objects of elements have none if each of them has none
 each_none : {A : Type 0} (IsOf : ℕ → A → Data → Type 0)
@@ -60,11 +61,27 @@ log_none invoked results one all =
     or_from (has_float (run invoked results) || false) false
     (or_from (has_float (run invoked results)) false ran refl) refl
 
--- the log of what is broken has none
-pub broken_none : (system : System) (found : List Finding) (results : List Data)
-    → AreResults system found results → has_float (broken_log results) ≡ false
-broken_none system found results are =
-    log_none (invocation true 1 []) results refl
+-- notifications of lines have none
+lines_none : (texts : List (List ℕ)) → items_have_float (items_of (map notice texts)) ≡ false
+lines_none [] = refl
+lines_none (text ∷ texts) =
+    or_from (has_float (notice text)) (items_have_float (items_of (map notice texts))) refl
+    (lines_none texts)
+
+invoked_none : (status : ℕ) (err : List ℕ)
+    → has_float (invocation true status (notices err)) ≡ false
+invoked_none status err =
+    or_from (items_have_float (items_of (notices err))) false (lines_none (lines err)) refl
+
+-- the log of a yes has none
+pub yes_none : (err : List ℕ) → has_float (yes_log err) ≡ false
+yes_none err = log_none (invocation true 0 (notices err)) [] (invoked_none 0 err) refl
+
+-- nor has that of what is broken
+pub broken_none : (system : System) (found : List Finding) (err : List ℕ) (results : List Data)
+    → AreResults system found results → has_float (broken_log err results) ≡ false
+broken_none system found err results are =
+    log_none (invocation true 1 (notices err)) results (invoked_none 1 err)
     (each_none (λ n. IsResult system) (result_none system) 0 found results are)
 
 places_none : (is : Bool) (file : List ℕ) (spot : Option Spot)

@@ -21,7 +21,7 @@ use Rattle.mrc_sarif.specs.Objects.{doubled_char, flow_location, step_location, 
 use Rattle.mrc_sarif.specs.Objects.{thread_flow, location, at_place, at_spot, result}
 use Rattle.mrc_sarif.specs.Steps.{step_text, step_place}
 use Rattle.mrc_sarif.specs.Answers.{yes_sarif, exposed_finding, broken_finding, findings, is_option}
-use Rattle.mrc_sarif.specs.Answers.{fault_locations}
+use Rattle.mrc_sarif.specs.Answers.{fault_locations, notice, notices}
 
 uri_example : uri (codes "net/a b:1%.policy") ≡ codes "net/a%20b%3A1%25.policy"
 unfolding percent_encode_byte
@@ -89,7 +89,12 @@ only_example names x n = refl
 whole_example : fault_locations (Some (codes "b")) None ≡ location (at_spot (codes "b") None) ∷ []
 whole_example = refl
 
-yes_example : yes_sarif
+-- two lines on standard error
+notices_example : notices (codes "machcheck: a\nmachcheck: b\n")
+    ≡ notice (codes "machcheck: a") ∷ notice (codes "machcheck: b") ∷ []
+notices_example = refl
+
+yes_example : yes_sarif []
     ≡ codes "{\"$schema\":\"https://json.schemastore.org/sarif-2.1.0.json\",\"runs\":[{"
     ++ codes "\"columnKind\":\"unicodeCodePoints\",\"invocations\":[{\"executionSuccessful\":true,"
     ++ codes "\"exitCode\":0,\"toolExecutionNotifications\":[]}],\"results\":[],\"tool\":{"

@@ -1,8 +1,9 @@
 -- Believe. The logs that are printed: of a yes, of what is broken, and of a fault. This profile's
 -- own choice.
 use Rattle.std.specs.Prelude.{◌≡◌, ◌==◌, ◌&&◌, ℕ, Bool, true, false, List, [], ◌∷◌, ◌++◌, Option}
-use Rattle.std.specs.Prelude.{Some, None, map, filter, if◌then◌else◌}
+use Rattle.std.specs.Prelude.{Some, None, codes, map, filter, if◌then◌else◌}
 use Rattle.std.specs.Borrow.{Bor}
+use Rattle.mrc_wiring_text.specs.Lexis.{lines}
 use Rattle.mrc_why.specs.Broken.{BrokenLine, ExposedTask, forbidden_fact}
 use Rattle.mrc_why.specs.Lines.{Numbered}
 use Rattle.mrc_verdicts.specs.Verdicts.{is_asked, asked_task}
@@ -16,13 +17,21 @@ use Rattle.mrc_sarif.specs.declared.findings.Rule.TheVariants.{Forbidden, Truste
 use Rattle.mrc_sarif.specs.Objects.{at_spot, location, notification, invocation, run, log}
 use Rattle.mrc_sarif.specs.Steps.{Finding, AreResults}
 
--- the log of a yes
-abbrev pub yes_log : Data
-yes_log = log (run (invocation true 0 []) [])
+-- a line on standard error that is no fault, as a notification: its text names the file
+abbrev pub notice : List ℕ → Data
+notice line = notification (codes "warning") [] line
+
+-- the lines on standard error, one notification for each
+abbrev pub notices : List ℕ → List Data
+notices err = map notice (lines err)
+
+-- the log of a yes, with what goes to standard error
+abbrev pub yes_log : List ℕ → Data
+yes_log err = log (run (invocation true 0 (notices err)) [])
 
 -- the text of a yes
-abbrev pub yes_sarif : List ℕ
-yes_sarif = json_text yes_log
+abbrev pub yes_sarif : List ℕ → List ℕ
+yes_sarif err = json_text (yes_log err)
 
 -- What is broken.
 
@@ -60,18 +69,18 @@ findings names only exposed broken =
     exposed_findings names (asked_task only exposed)
     ++ map (broken_finding names) (filter (is_asked only) broken)
 
--- the log of these results of what is broken
-abbrev pub broken_log : List Data → Data
-broken_log results = log (run (invocation true 1 []) results)
+-- the log of these results of what is broken, with what goes to standard error
+abbrev pub broken_log : List ℕ → List Data → Data
+broken_log err results = log (run (invocation true 1 (notices err)) results)
 
--- the text is that of the results of what is asked for
+-- the text is that of the results of what is asked for, with what goes to standard error
 pub record IsBrokenSarif (names : FileNames) (texts : List (List ℕ)) (numbered : Numbered)
-    (only : Option ℕ) (exposed : Option ExposedTask) (broken : List BrokenLine) (text : List ℕ)
-    : Type 0 where
+    (only : Option ℕ) (exposed : Option ExposedTask) (broken : List BrokenLine)
+    (err text : List ℕ) : Type 0 where
   pub results : List Data
   pub are : AreResults (record { names = names; texts = texts; numbered = numbered })
       (findings names only exposed broken) results
-  pub is : text ≡ json_text (broken_log results)
+  pub is : text ≡ json_text (broken_log err results)
 
 -- Faults.
 
@@ -90,7 +99,7 @@ fault_locations (Some file) spot =
 -- the notification of a fault, whose lines on standard error are these
 abbrev pub fault_notification : List ℕ → Option Spot → Data
 fault_notification err spot =
-    notification (fault_locations (fault_parts err).0 spot) (last_line err)
+    notification (codes "error") (fault_locations (fault_parts err).0 spot) (last_line err)
 
 -- the log of a fault
 abbrev pub fault_log : List ℕ → Option Spot → Data

@@ -118,9 +118,9 @@ invocation successful status notifications =
     ∷ codes "exitCode" ⇒ number_of status
     ∷ codes "toolExecutionNotifications" ⇒ list_of notifications ∷ [])
 
--- a notification (3.58) of a fault: its locations and its text
-abbrev pub notification : List Data → List ℕ → Data
-notification locations text = object_of (codes "level" ⇒ string (codes "error")
+-- a notification (3.58): its level, its locations and its text
+abbrev pub notification : List ℕ → List Data → List ℕ → Data
+notification level locations text = object_of (codes "level" ⇒ string level
     ∷ codes "locations" ⇒ list_of locations ∷ codes "message" ⇒ message (doubled text) ∷ [])
 
 -- a run (3.14), whose columns count characters

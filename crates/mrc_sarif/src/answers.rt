@@ -12,39 +12,62 @@ use crate::places::System;
 use crate::steps::result_objects;
 use mrc_command::FileNames;
 use mrc_json::{fault_parts, json_text, last_line};
-use mrc_place::{Hint, Spot};
+use mrc_place::{Hint, Spot, cut_line};
 use mrc_why::{Sources, Verdict};
 use serde_json::Value;
 use std::alloc::{AllocError, Global};
 
-/// The log of a yes.
-fn yes_log(alloc: Global) -> Result<Value, AllocError>
-    ensures { IfOk result (λ made. view made ≡ definitions.yes_log) }
+/// The notification of a line on standard error that is no fault.
+fn notice(alloc: Global, line: &str) -> Result<Value, AllocError>
+    ensures { IfOk result (λ made. view made ≡ definitions.notice line.now) }
 {
-    let invoked = invocation(alloc, true, 0, Vec::new(alloc))?;
+    notification(alloc, "warning", Vec::new(alloc), line)
+}
+
+/// The notifications of what goes to standard error with a yes or a no.
+fn notices(alloc: Global, err: &str) -> Result<Vec<Value>, AllocError>
+    ensures { IfOk result (λ made. map view made.items ≡ definitions.notices err.now) }
+{
+    let mut values = Vec::new(alloc);
+    let mut rest = err;
+    while !rest.is_empty() {
+        let (line, after) = cut_line(rest);
+        values.push(notice(alloc, line)?)?;
+        rest = after;
+    }
+    Ok(values)
+}
+
+/// The log of a yes.
+fn yes_log(alloc: Global, err: &str) -> Result<Value, AllocError>
+    ensures { IfOk result (λ made. view made ≡ definitions.yes_log err.now) }
+{
+    let invoked = invocation(alloc, true, 0, notices(alloc, err)?)?;
     log(alloc, invoked, Vec::new(alloc))
 }
 
-/// The log of a yes: no results.
-pub fn yes_sarif(alloc: Global) -> Result<String, AllocError>
-    ensures { IfOk result (λ text. string_bytes text ≡ definitions.yes_sarif) }
+/// The log of a yes: no results, and a notification for each line on standard error (`err`).
+pub fn yes_sarif(alloc: Global, err: &str) -> Result<String, AllocError>
+    ensures { IfOk result (λ text. string_bytes text ≡ definitions.yes_sarif err.now) }
 {
-    let log = yes_log(alloc)?;
+    let log = yes_log(alloc, err)?;
     json_text(alloc, &log)
 }
 
 /// The log of results of what is broken.
-fn broken_log(alloc: Global, results: Vec<Value>) -> Result<Value, AllocError>
-    ensures { IfOk result (λ made. view made ≡ definitions.broken_log (map view results.items)) }
+fn broken_log(alloc: Global, err: &str, results: Vec<Value>) -> Result<Value, AllocError>
+    ensures { IfOk result (λ made.
+        view made ≡ definitions.broken_log err.now (map view results.items)) }
 {
-    let invoked = invocation(alloc, true, 1, Vec::new(alloc))?;
+    let invoked = invocation(alloc, true, 1, notices(alloc, err)?)?;
     log(alloc, invoked, results)
 }
 
 /// The log of a verdict that is no yes: a result for the trusted task that another could rewrite,
 /// at its line of the wiring, and one for each broken line, at this line of the policy; or, with
 /// `only`, for the broken lines of this number alone. The chain of each is its code flow. `names`
-/// are the files' names, and `texts` the texts of the MIG files.
+/// are the files' names, and `texts` the texts of the MIG files. Each line on standard error
+/// (`err`) is a notification.
 pub fn broken_sarif(
     alloc: Global,
     names: &FileNames<'_>,
@@ -52,9 +75,11 @@ pub fn broken_sarif(
     sources: &Sources<'_>,
     only: Option<u32>,
     verdict: &Verdict,
+    err: &str,
 ) -> Result<String, AllocError>
     ensures { IfOk result (λ text. IsBrokenSarif names.now (map (λ text. text.items) texts.now)
-        sources.now only verdict.now.exposed verdict.now.broken.items (string_bytes text)) }
+        sources.now only verdict.now.exposed verdict.now.broken.items err.now
+        (string_bytes text)) }
 {
     let found = findings(
         alloc,
@@ -69,7 +94,7 @@ pub fn broken_sarif(
         sources,
     };
     let results = result_objects(alloc, &system, found.as_slice())?;
-    let log = broken_log(alloc, results)?;
+    let log = broken_log(alloc, err, results)?;
     let text = json_text(alloc, &log)?;
     Ok(text)
 }
@@ -112,7 +137,7 @@ fn fault_notification(alloc: Global, err: &str, spot: &Option<Spot>) -> Result<V
 {
     let (file, _) = fault_parts(err);
     let locations = fault_locations(alloc, file, spot)?;
-    notification(alloc, locations, last_line(err))
+    notification(alloc, "error", locations, last_line(err))
 }
 
 /// The log of a fault.

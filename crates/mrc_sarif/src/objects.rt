@@ -238,18 +238,19 @@ fn doubled(alloc: Global, text: &str) -> Result<String, AllocError>
     Ok(made)
 }
 
-/// A notification of a fault: its locations and its text.
+/// A notification: its level, its locations and its text.
 pub(crate) fn notification(
     alloc: Global,
+    level: &str,
     locations: Vec<Value>,
     text: &str,
 ) -> Result<Value, AllocError>
     ensures { IfOk result (λ made. view made
-        ≡ objects.notification (map view locations.items) text.now) }
+        ≡ objects.notification level.now (map view locations.items) text.now) }
 {
     let text = doubled(alloc, text)?;
     let message = message(alloc, text.as_str())?;
-    json!(in alloc; {"level": "error", "locations": locations, "message": message})
+    json!(in alloc; {"level": level, "locations": locations, "message": message})
 }
 
 /// A run of the tool.

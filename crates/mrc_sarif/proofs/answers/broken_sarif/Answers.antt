@@ -9,7 +9,7 @@ use Rattle.mrc_sarif.proofs.answers.broken_sarif.Goals as goal
 
 pub json_text-requires : goal.json_text-requires
 json_text-requires c =
-    ap has_float c.in_ok-log.ensures ∙ broken_none _ _ _ c.in_ok-results.ensures
+    ap has_float c.in_ok-log.ensures ∙ broken_none _ _ c.args.err.now _ c.in_ok-results.ensures
 
 pub returns : goal.returns
 returns c = record {

@@ -1,0 +1,280 @@
+//! Sentences that help with a word of an option, with a certificate, or with a file that is to be
+//! written.
+
+ghost use Rattle.std.specs.Prelude.{◌≡◌};
+ghost use Rattle.mrc_program.specs.Behind.{is_noted};
+
+use mrc_base::{ClassId, TaskId};
+use mrc_certificate::DraftFault;
+use mrc_command::Question;
+use mrc_place::{listed, nearest};
+use mrc_wiring::Wired;
+use mrc_words::{class_word, right_named};
+use std::alloc::{AllocError, Global};
+
+/// The sentence about a file that took no byte.
+const UNWRITTEN: &str =
+    "its folder is missing or takes no new file, or it may not be written to, or is a folder";
+
+/// What a word of a fact is the name of.
+#[derive(Clone, Copy)]
+enum Part {
+    /// A task.
+    Task,
+    /// A class.
+    Class,
+    /// A right.
+    Right,
+}
+
+/// Whether sentences may help with a fault of this name.
+pub fn is_noted(fault: &str) -> bool
+    ensures { result ≡ is_noted fault.now }
+{
+    fault == "BadTask"
+        || fault == "BadClass"
+        || fault == "BadRight"
+        || fault == "BadFact"
+        || fault == "BadLine"
+        || fault == "NotBroken"
+        || fault == "BadMost"
+        || fault == "Workers"
+        || fault == "SameName"
+        || fault == "WriteFailed 0"
+}
+
+/// The sentence about a fault of this name, if it is the same for all files.
+pub fn note_of(fault: &str) -> Option<&'static str> {
+    match fault {
+        "BadLine" => Some("expected: a number from 1 to 4294967295"),
+        "NotBroken" => Some("verify without --line prints the lines that are broken"),
+        "BadMost" => Some("expected: a number from 1 to 1000000"),
+        "Workers" => Some("expected: a number from 1 to 64"),
+        "SameName" => Some("an earlier file has this name: cut them into two folders"),
+        "WriteFailed 0" => Some(UNWRITTEN),
+        _ => None,
+    }
+}
+
+/// The sentence about a certificate that has this fault.
+pub fn draft_note(fault: DraftFault) -> &'static str {
+    match fault {
+        DraftFault::Magic => "a certificate begins with the bytes MRCC: make writes one",
+        DraftFault::Version => {
+            "the version is 1, or 2 with more classes of births than tasks: make it again"
+        }
+        DraftFault::Truncated => "the bytes end before the last fact that the header counts",
+        DraftFault::BadFact(_) => {
+            "no fact begins at this byte: its kind, task, class or right is out of range"
+        }
+        DraftFault::NotAscending(_) => "the fact at this byte is not above the one before it",
+        DraftFault::Trailing => "there are bytes behind the last fact that the header counts",
+    }
+}
+
+/// One sentence.
+pub fn one_note(alloc: Global, note: &str) -> Result<Vec<String>, AllocError> {
+    let mut notes = Vec::new(alloc);
+    notes.push(String::from_str(alloc, note)?)?;
+    Ok(notes)
+}
+
+/// The nearest of the known names, or else the first of them.
+fn known_note(
+    alloc: Global,
+    word: &str,
+    heading: &str,
+    known: &[&str],
+) -> Result<String, AllocError> {
+    match nearest(word, known) {
+        Some(near) => format!(in alloc; "did you mean: {near}"),
+        None => {
+            let list = listed(alloc, known)?;
+            format!(in alloc; "{heading}{list}")
+        }
+    }
+}
+
+/// The names of the tasks.
+fn task_names<'a>(alloc: Global, wired: &'a Wired) -> Result<Vec<&'a str>, AllocError> {
+    let mut names = Vec::new(alloc);
+    for task in 0..wired.tasks() {
+        if let Some(name) = wired.task_name(TaskId(u32::from(task))) {
+            names.push(name)?;
+        }
+    }
+    Ok(names)
+}
+
+/// A sentence about a word, and then about the known names, if there are any.
+fn names_notes(
+    alloc: Global,
+    note: &str,
+    word: &str,
+    heading: &str,
+    known: &[&str],
+) -> Result<Vec<String>, AllocError> {
+    let mut notes = one_note(alloc, note)?;
+    if !known.is_empty() {
+        notes.push(known_note(alloc, word, heading, known)?)?;
+    }
+    Ok(notes)
+}
+
+/// That no task has the name.
+fn task_notes(alloc: Global, wired: &Wired, word: &str) -> Result<Vec<String>, AllocError> {
+    let names = task_names(alloc, wired)?;
+    names_notes(
+        alloc,
+        "the wiring has no task of this name",
+        word,
+        "tasks of the wiring: ",
+        names.as_slice(),
+    )
+}
+
+/// The classes as they are printed.
+fn class_words(alloc: Global, wired: &Wired) -> Result<Vec<String>, AllocError> {
+    let mut words = Vec::new(alloc);
+    for class in 0..wired.classes() {
+        words.push(class_word(alloc, wired, ClassId(class))?)?;
+    }
+    Ok(words)
+}
+
+/// The same texts, lent.
+fn lent(alloc: Global, texts: &[String]) -> Result<Vec<&str>, AllocError> {
+    let mut words = Vec::new(alloc);
+    for text in texts {
+        words.push(text.as_str())?;
+    }
+    Ok(words)
+}
+
+/// That no class is printed so.
+fn class_notes(alloc: Global, wired: &Wired, word: &str) -> Result<Vec<String>, AllocError> {
+    let classes = class_words(alloc, wired)?;
+    let names = lent(alloc, classes.as_slice())?;
+    names_notes(
+        alloc,
+        "the wiring has no class of this name",
+        word,
+        "classes of the wiring: ",
+        names.as_slice(),
+    )
+}
+
+/// What is said of a word that names no such part of a fact.
+fn part_notes(
+    alloc: Global,
+    wired: &Wired,
+    part: Part,
+    word: &str,
+) -> Result<Vec<String>, AllocError> {
+    match part {
+        Part::Task => task_notes(alloc, wired, word),
+        Part::Class => class_notes(alloc, wired, word),
+        Part::Right => one_note(alloc, "expected: send, receive or once"),
+    }
+}
+
+/// Whether a word names such a part of a fact.
+fn is_part(wired: &Wired, part: Part, word: &str) -> bool {
+    match part {
+        Part::Task => wired.task_named(word).is_some(),
+        Part::Class => wired.class_named(word).is_some(),
+        Part::Right => right_named(word).is_some(),
+    }
+}
+
+/// The parts of a fact of this kind: none, if there is no such kind.
+fn parts_of(kind: &str) -> &'static [Part] {
+    match kind {
+        "hold" => &[Part::Task, Part::Class, Part::Right],
+        "carry" => &[Part::Class, Part::Class, Part::Right],
+        "backup" => &[Part::Class, Part::Class],
+        _ => &[],
+    }
+}
+
+/// The first of the words that does not name its part.
+fn first_wrong<'a>(wired: &Wired, parts: &[Part], words: &[&'a str]) -> Option<(Part, &'a str)> {
+    for (part, word) in parts.iter().zip(words) {
+        if !is_part(wired, *part, word) {
+            return Some((*part, *word));
+        }
+    }
+    None
+}
+
+/// The first word of a fact that does not name its part. None, if the words are not so many, or the
+/// first is no kind of fact.
+fn wrong_part<'a>(wired: &Wired, words: &[&'a str]) -> Option<(Part, &'a str)> {
+    let [kind, rest @ ..] = words else {
+        return None;
+    };
+    let parts = parts_of(kind);
+    if parts.len() != rest.len() {
+        return None;
+    }
+    first_wrong(wired, parts, rest)
+}
+
+/// What is said of the words of a fact that the wiring does not have.
+fn words_notes(alloc: Global, wired: &Wired, words: &[&str]) -> Result<Vec<String>, AllocError> {
+    match wrong_part(wired, words) {
+        Some((part, word)) => part_notes(alloc, wired, part, word),
+        None => one_note(
+            alloc,
+            "expected: hold TASK CLASS RIGHT, carry CLASS CLASS RIGHT or backup CLASS CLASS",
+        ),
+    }
+}
+
+/// The same of its text.
+fn fact_notes(alloc: Global, wired: &Wired, text: &str) -> Result<Vec<String>, AllocError> {
+    let words: Vec<&str> = text.split(' ').collect(alloc)?;
+    words_notes(alloc, wired, words.as_slice())
+}
+
+/// The task that a question names by an option.
+fn task_of(question: Question<'_>) -> &str {
+    match question {
+        Question::Facts { task, .. } | Question::Graph { task, .. } => task.unwrap_or(""),
+        _ => "",
+    }
+}
+
+/// The class.
+fn class_of(question: Question<'_>) -> &str {
+    match question {
+        Question::Facts { class, .. } => class.unwrap_or(""),
+        _ => "",
+    }
+}
+
+/// The fact.
+fn fact_of(question: Question<'_>) -> &str {
+    match question {
+        Question::Explain { fact, .. } => fact,
+        Question::Graph { fact, .. } => fact.unwrap_or(""),
+        _ => "",
+    }
+}
+
+/// What is said of the word of an option, if the fault of this name is that it names nothing of the
+/// wiring.
+pub fn name_notes(
+    alloc: Global,
+    wired: &Wired,
+    question: Question<'_>,
+    fault: &str,
+) -> Result<Vec<String>, AllocError> {
+    match fault {
+        "BadTask" => task_notes(alloc, wired, task_of(question)),
+        "BadClass" => class_notes(alloc, wired, class_of(question)),
+        "BadRight" => part_notes(alloc, wired, Part::Right, ""),
+        "BadFact" => fact_notes(alloc, wired, fact_of(question)),
+        _ => Ok(Vec::new(alloc)),
+    }
+}
