@@ -23,7 +23,7 @@ _machcheck() {
         --wiring) kind=file ;;
         --policy) kind=file ;;
         --line) kind=nothing ;;
-        --format) kind=nothing ;;
+        --format) kind=words options='text json sarif' ;;
         esac
         ;;
     mend)
@@ -32,7 +32,7 @@ _machcheck() {
         --wiring) kind=file ;;
         --policy) kind=file ;;
         --most) kind=nothing ;;
-        --format) kind=nothing ;;
+        --format) kind=words options='text json' ;;
         esac
         ;;
     attack)
@@ -50,7 +50,7 @@ _machcheck() {
         --wiring) kind=file ;;
         --policy) kind=file ;;
         --cert) kind=file ;;
-        --format) kind=nothing ;;
+        --format) kind=words options='text json' ;;
         esac
         ;;
     make)
@@ -66,7 +66,7 @@ _machcheck() {
         case $before in
         --wiring) kind=file ;;
         --fact) kind=nothing ;;
-        --format) kind=nothing ;;
+        --format) kind=words options='text json' ;;
         esac
         ;;
     facts)
@@ -77,7 +77,7 @@ _machcheck() {
         --task) kind=nothing ;;
         --class) kind=nothing ;;
         --right) kind=nothing ;;
-        --format) kind=nothing ;;
+        --format) kind=words options='text json' ;;
         esac
         ;;
     graph)
@@ -122,7 +122,7 @@ _machcheck() {
         options='--out --strict --strict-rights --format --verbose -I -D -U --help'
         case $before in
         --out) kind=folder ;;
-        --format) kind=nothing ;;
+        --format) kind=words options='text json' ;;
         -I) kind=folder ;;
         -D) kind=nothing ;;
         -U) kind=nothing ;;

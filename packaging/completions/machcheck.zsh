@@ -34,7 +34,7 @@ _machcheck() {
                 '--tree[Prints the steps from the fact down]' \
                 '--brief[Prints the broken lines without their steps]' \
                 '--line=[Only this line of the policy]:N:' \
-                '--format=[How the answer is printed\: text, json for one JSON object, or sarif for a code host]:FORMAT:' \
+                '--format=[How the answer is printed\: text, json for one JSON object, or sarif for a code host]:FORMAT:(text json sarif)' \
                 '--verbose[Prints the text of each broken line too, and shows where a fault is]' \
                 '(- *)'{-h,--help}'[Print help]' \
                 '*:MIG file:_files -g "*.defs"'
@@ -44,7 +44,7 @@ _machcheck() {
                 '--wiring=[Tasks, ports and their first rights]:FILE:_files' \
                 '--policy=[The forbidden holdings]:FILE:_files' \
                 '--most=[How many mends are printed, 1 to 1000000\: 10 if it is not given]:N:' \
-                '--format=[How the answer is printed\: text, or json for one JSON object]:FORMAT:' \
+                '--format=[How the answer is printed\: text, or json for one JSON object]:FORMAT:(text json)' \
                 '--verbose[Shows where a fault is, and what may help to mend it]' \
                 '(- *)'{-h,--help}'[Print help]' \
                 '*:MIG file:_files -g "*.defs"'
@@ -64,7 +64,7 @@ _machcheck() {
                 '--wiring=[Tasks, ports and their first rights]:FILE:_files' \
                 '--policy=[The forbidden holdings]:FILE:_files' \
                 '--cert=[The certificate\: who may come to hold what]:FILE:_files' \
-                '--format=[How the answer is printed\: text, or json for one JSON object]:FORMAT:' \
+                '--format=[How the answer is printed\: text, or json for one JSON object]:FORMAT:(text json)' \
                 '--verbose[Says what to do with a certificate of another wiring, and shows where a fault is]' \
                 '(- *)'{-h,--help}'[Print help]' \
                 '*:MIG file:_files -g "*.defs"'
@@ -83,7 +83,7 @@ _machcheck() {
                 '--wiring=[Tasks, ports and their first rights]:FILE:_files' \
                 '--fact=[The fact, as it is printed in a NO]:FACT:' \
                 '--by[Tells where the steps come from in the files]' \
-                '--format=[How the answer is printed\: text, or json for one JSON object]:FORMAT:' \
+                '--format=[How the answer is printed\: text, or json for one JSON object]:FORMAT:(text json)' \
                 '--verbose[Shows where a fault is, and what may help to mend it]' \
                 '(- *)'{-h,--help}'[Print help]' \
                 '*:MIG file:_files -g "*.defs"'
@@ -95,7 +95,7 @@ _machcheck() {
                 '--task=[Holdings of this task alone]:TASK:' \
                 '--class=[Facts that name this class alone]:CLASS:' \
                 '--right=[Facts of this right alone]:RIGHT:' \
-                '--format=[How the answer is printed\: text, or json for one JSON object]:FORMAT:' \
+                '--format=[How the answer is printed\: text, or json for one JSON object]:FORMAT:(text json)' \
                 '--verbose[Shows where a fault is, and what may help to mend it]' \
                 '(- *)'{-h,--help}'[Print help]' \
                 '*:MIG file:_files -g "*.defs"'
@@ -149,7 +149,7 @@ _machcheck() {
                 '--out=[The folder of the files that are written]:FOLDER:_files -/' \
                 '--strict[Writes nothing where a routine is left out]' \
                 '--strict-rights[The same as --strict=rights\: writes nothing if one that carries rights is left out]' \
-                '--format=[How the answer is printed\: text, or json for one JSON object]:FORMAT:' \
+                '--format=[How the answer is printed\: text, or json for one JSON object]:FORMAT:(text json)' \
                 '--verbose[Shows where a fault is, and what may help to mend it]' \
                 '-I+[A folder in which files that are included are sought]:FOLDER:_files -/' \
                 '-D+[A macro that is defined, as NAME or NAME=TEXT]:MACRO:' \
