@@ -430,17 +430,18 @@ class Machine:
             deny("NotGiven")
         if given != "once" and name_of(space, port) not in (None, name):
             code("KERN_RIGHT_EXISTS")
-        if name not in space:
-            if len(space) >= SPACE:
-                code("KERN_NO_SPACE")
-            space[name] = Entry("once" if given == "once" else "port", port)
-        elif given == "once" or not (space[name].kind == "port" and space[name].port == port):
+        joins = name in space
+        if joins and (given == "once" or not (space[name].kind == "port" and space[name].port == port)):
             code("KERN_NAME_EXISTS")
+        if joins and given == "send" and space[name].refs == REFERENCES:
+            code("KERN_UREFS_OVERFLOW")
+        if len(space) >= SPACE:
+            code("KERN_NO_SPACE")
+        if not joins:
+            space[name] = Entry("once" if given == "once" else "port", port)
         if given == "receive":
             space[name].receive = True
         elif given == "send":
-            if space[name].refs == REFERENCES:
-                code("KERN_UREFS_OVERFLOW")
             space[name].refs += 1
 
     def extract_right(self, caller, task, name, disp):

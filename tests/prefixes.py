@@ -1,7 +1,7 @@
 #!/usr/bin/env python3
 """Works out what the readers say of every prefix of a text, from the grammars, apart from machcheck.
 
-    tests/prefixes.py            compares with the lines `prefixes ..` of crates/mrc_cases
+    tests/prefixes.py            compares with the lines `prefixes ..` of crates/mrc_cases and of tests/scripts.txt
     tests/prefixes.py lines      prints the cases and their answers, each pair with a line feed between
 
 The readers here are small, and written from docs/FORMATS.md, docs/MIG.md and docs/FAULTS.md alone. Each reads a text
@@ -12,7 +12,9 @@ import re
 import sys
 from pathlib import Path
 
-CASES = Path(__file__).resolve().parent.parent / "crates/mrc_cases"
+ROOT = Path(__file__).resolve().parent.parent
+CASES = ROOT / "crates/mrc_cases"
+SCRIPTS = ROOT / "tests/scripts.txt"
 
 
 class Fault(Exception):
@@ -661,7 +663,7 @@ def cases():
     for wiring, text in ((FILES, FORBIDDEN), (KINDS, FORBIDDEN_KINDS)):
         yield "policy", "", text, "", policy_text
         yield "resolved", f"claim|{FSYS}|{wiring}|", text, "", lambda text, wiring=wiring: claim(text, wiring)
-    yield "replay", f"{INBOX}|", NOTICE, f"|{XFER}", lambda text: script(text, ["a", "b"])
+    yield "script", f"{INBOX}|", NOTICE, f"|{XFER}", lambda text: script(text, ["a", "b"])
     for text in (ALONE, FILE_SERVER, OF_KINDS):
         yield "certificate", "", text, "", certificate
     for text in (HAND, LONG):
@@ -701,6 +703,8 @@ def pairs():
         if kind in ("certificate", "message"):
             digits = "".join(part.split())
             yield f"prefixes {kind}:{digits}", runs(reader, bytes.fromhex(digits))
+        elif kind == "script":
+            yield f"prefixes {folded(before)}{folded(part)}{folded(behind)}", runs(reader, part)
         else:
             yield f"prefixes {kind}:{folded(before)}~{folded(part)}~{folded(behind)}", runs(reader, part)
 
@@ -713,6 +717,8 @@ def main():
         return 0
     lines = zip((CASES / "stdin").read_text().split("\n"), (CASES / "stdout").read_text().split("\n"))
     stand = {case: said for case, said in lines if case.startswith("prefixes ")}
+    scripts = SCRIPTS.read_text().split("\n")
+    stand |= {case: said[2:] for case, said in zip(scripts, scripts[1:]) if case.startswith("prefixes ")}
     wrong = [case for case, said in found if stand.get(case) != said]
     for case in wrong:
         has = stand.get(case, "no such case")

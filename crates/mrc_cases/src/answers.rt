@@ -1,7 +1,7 @@
 //! What a wiring says by numbers and names.
 
 use mrc_base::{ClassId, Disp, Fact, TaskId};
-use mrc_forms::{Interface, MessageKind};
+use mrc_forms::{Form, Interface, MessageKind};
 use mrc_model::{FirstLine, LabelItem};
 use mrc_wiring::Wired;
 use mrc_words::{class_word, right_word, task_word};
@@ -84,8 +84,25 @@ pub fn accepts(alloc: Global, wired: &Wired) -> Result<String, AllocError> {
     Ok(out)
 }
 
+/// The argument of the first slot of a form that has this type.
+fn argument_of(form: &Form, type_name: &str) -> Option<usize> {
+    for slot in form.slots() {
+        if type_name == slot.type_name.as_str() {
+            return Some(slot.argument);
+        }
+    }
+    None
+}
+
+/// The number of a type in a form of an item of a label.
+fn sort_in(wired: &Wired, item: LabelItem, form: &Form, type_name: &str) -> Option<usize> {
+    let argument = argument_of(form, type_name)?;
+    let typed = wired.item_form(item, form.id())?;
+    Some(typed.sort(argument))
+}
+
 /// The number of a type in the forms of this message of an interface.
-fn sort_in(
+fn sort_among(
     wired: &Wired,
     interface: &Interface,
     kind: MessageKind,
@@ -94,28 +111,26 @@ fn sort_in(
 ) -> Option<usize> {
     for row in interface.rows() {
         if let Some(form) = row.form(kind) {
-            for slot in form.slots() {
-                if type_name == slot.type_name.as_str() {
-                    let typed = wired.item_form(item, form.id())?;
-                    return Some(typed.sort(slot.argument));
-                }
+            let sort = sort_in(wired, item, form, type_name);
+            if sort.is_some() {
+                return sort;
             }
         }
     }
     None
 }
 
-/// The number of a type of the interface of a number; one that no type has where there is none.
+/// The number of a type of the interface of a number; one that no type has if there is none.
 fn sort_of(wired: &Wired, number: usize, type_name: &str) -> usize {
     let Some(interface) = wired.interface(number) else {
         return usize::MAX;
     };
     let request = LabelItem::Request(number);
-    match sort_in(wired, interface, MessageKind::Request, request, type_name) {
+    match sort_among(wired, interface, MessageKind::Request, request, type_name) {
         Some(sort) => sort,
         None => {
             let reply = LabelItem::Reply(number);
-            sort_in(wired, interface, MessageKind::Reply, reply, type_name).unwrap_or(usize::MAX)
+            sort_among(wired, interface, MessageKind::Reply, reply, type_name).unwrap_or(usize::MAX)
         }
     }
 }

@@ -1,8 +1,9 @@
 //! What policies forbid over wirings.
 
-use anyhow::Result;
+use crate::systems::wired_of;
+use anyhow::{Result, bail};
 use mrc_wiring::{Claim, ForbiddenLine, Wired};
-use mrc_wiring_text::read_policy;
+use mrc_wiring_text::{PolicyLine, read_policy};
 use mrc_words::right_word;
 use std::alloc::{AllocError, Global};
 use std::fmt::Write;
@@ -22,16 +23,18 @@ fn shown(alloc: Global, claim: &Claim) -> Result<String, AllocError> {
     Ok(out)
 }
 
-/// What a policy forbids over a wiring: each line by its number, its task, the right and the class,
-/// and then how many tasks there are; or the fault, and whether the tasks came back with it.
-pub fn claim(alloc: Global, wired: Wired, policy: &str) -> Result<String> {
-    let lines = match read_policy(alloc, policy.as_bytes()) {
-        Ok(lines) => lines,
-        Err(fault) => return Ok(fault.to_string(alloc)?),
-    };
+/// What lines forbid over a wiring; or the fault, and whether the tasks came back with it.
+fn claimed(alloc: Global, wired: Wired, lines: &[PolicyLine]) -> Result<String> {
     let tasks = wired.tasks();
-    Ok(match Claim::new(alloc, wired, &lines) {
-        Ok(claim) => shown(alloc, &claim)?,
-        Err((wired, fault)) => format!(in alloc; "{fault} {}", wired.tasks() == tasks)?,
-    })
+    match Claim::new(alloc, wired, lines) {
+        Ok(claim) => Ok(shown(alloc, &claim)?),
+        Err((wired, fault)) => bail!("{fault} {}", wired.tasks() == tasks),
+    }
+}
+
+/// What a policy forbids over a wiring over MIG texts: each line by its number, its task, the right
+/// and the class, and then how many tasks there are.
+pub fn claim(alloc: Global, list: &str, wiring: &str, policy: &str) -> Result<String> {
+    let lines = read_policy(alloc, policy.as_bytes())?;
+    claimed(alloc, wired_of(alloc, list, wiring)?, lines.as_slice())
 }

@@ -1,7 +1,7 @@
 //! Tables of forms of MIG files.
 
 use crate::messages::bytes_of;
-use anyhow::Result;
+use anyhow::{Result, bail};
 use mrc_base::OrMemory;
 use mrc_forms::{Form, FormKind, Interface, MessageKind, RequestKind, Shape};
 use mrc_interface::{FileFault, read_interface, read_interfaces};
@@ -17,33 +17,39 @@ fn kind_word(kind: FormKind) -> &'static str {
 }
 
 /// An argument as its name, size and number, with `*` behind a number that is a bound.
-fn shape_text(alloc: Global, shape: &Shape) -> Result<String, AllocError> {
+fn put_shape(out: &mut String, shape: &Shape) -> Result<(), AllocError> {
     let star = if shape.is_bound { "*" } else { "" };
-    let Shape {
-        name,
-        size,
-        number,
-        ..
-    } = *shape;
-    format!(in alloc; " {name}/{size}/{number}{star}")
+    write!(out, " {}/{}/{}{star}", shape.name, shape.size, shape.number)
 }
 
-/// A form: what it is, its id, its arguments, and its slots by argument, disposition and type.
-fn form_text(alloc: Global, form: &Form) -> Result<String, AllocError> {
-    let mut text = format!(in alloc; "; {} {}", kind_word(form.kind()), form.id())?;
-    for argument in form.arguments() {
-        text.push_str(shape_text(alloc, &argument.shape)?.as_str())?;
-    }
+/// The slots of a form, by argument, disposition and type.
+fn put_slots(out: &mut String, form: &Form) -> Result<(), AllocError> {
     for slot in form.slots() {
         let disposition = slot.disposition.number();
-        let slot_text = format!(in alloc;
-            " {}:{disposition}:{}",
-            slot.argument,
-            slot.type_name.as_str()
-        )?;
-        text.push_str(slot_text.as_str())?;
+        let type_name = slot.type_name.as_str();
+        write!(out, " {}:{disposition}:{type_name}", slot.argument)?;
     }
-    Ok(text)
+    Ok(())
+}
+
+/// A form: what it is, its id, its arguments and its slots.
+fn put_form(out: &mut String, form: &Form) -> Result<(), AllocError> {
+    write!(out, "; {} {}", kind_word(form.kind()), form.id())?;
+    for argument in form.arguments() {
+        put_shape(out, &argument.shape)?;
+    }
+    put_slots(out, form)
+}
+
+/// The forms of an id: that of its request, and that of its reply.
+fn put_forms(out: &mut String, interface: &Interface, id: u32) -> Result<(), AllocError> {
+    if let Some(form) = interface.request_form(id) {
+        put_form(out, form)?;
+    }
+    if let Some(form) = interface.reply_form(id.wrapping_add(100)) {
+        put_form(out, form)?;
+    }
+    Ok(())
 }
 
 /// The subsystem's name, its first id and how many ids it has, and each form.
@@ -52,67 +58,70 @@ fn table_text(alloc: Global, interface: &Interface) -> Result<String, AllocError
     let mut text = format!(in alloc; "{} {base} {count}", interface.name())?;
     let mut id = base;
     for _ in 0..count {
-        if let Some(form) = interface.request_form(id) {
-            text.push_str(form_text(alloc, form)?.as_str())?;
-        }
-        if let Some(form) = interface.reply_form(id.wrapping_add(100)) {
-            text.push_str(form_text(alloc, form)?.as_str())?;
-        }
+        put_forms(&mut text, interface, id)?;
         id = id.wrapping_add(1);
     }
     Ok(text)
 }
 
-/// The table of forms of a MIG file, or the fault of the reader that refuses it.
+/// The table of forms of a MIG file.
 pub fn forms(alloc: Global, bytes: &[u8]) -> Result<String> {
-    match read_interface(alloc, bytes) {
-        Ok(interface) => Ok(table_text(alloc, &interface)?),
-        Err(fault) => Ok(fault.to_string(alloc)?),
+    let interface = read_interface(alloc, bytes)?;
+    Ok(table_text(alloc, &interface)?)
+}
+
+/// The name of an argument, and if it is a slot its number and its type.
+fn put_name(out: &mut String, form: &Form, name: &str) -> Result<(), AllocError> {
+    write!(out, " {name}")?;
+    match form.slot_named(name) {
+        Some(slot) => write!(out, "={}:{}", slot.argument, slot.type_name.as_str()),
+        None => Ok(()),
     }
 }
 
-/// A form by the name of its routine: its id, and the name of each argument, where it is a slot
-/// with its number and its type.
-fn named_text(
-    alloc: Global,
+/// A form by the name of its routine: its id, and the names of its arguments.
+fn put_named(
+    out: &mut String,
     interface: &Interface,
     kind: MessageKind,
     name: &str,
-) -> Result<String, AllocError> {
+) -> Result<(), AllocError> {
     let Some(form) = interface.form_named(kind, name) else {
-        return format!(in alloc; "; {name} has none");
+        return write!(out, "; {name} has none");
     };
-    let mut text = format!(in alloc; "; {} {name} {}", kind_word(form.kind()), form.id())?;
+    write!(out, "; {} {name} {}", kind_word(form.kind()), form.id())?;
     for argument in form.arguments() {
-        let name = argument.name.as_str();
-        write!(text, " {name}")?;
-        if let Some(slot) = form.slot_named(name) {
-            write!(text, "={}:{}", slot.argument, slot.type_name.as_str())?;
+        put_name(out, form, argument.name.as_str())?;
+    }
+    Ok(())
+}
+
+/// The forms of this kind of a table, by the names of their routines.
+fn put_all_named(
+    out: &mut String,
+    interface: &Interface,
+    kind: MessageKind,
+) -> Result<(), AllocError> {
+    for row in interface.rows() {
+        if let Some(request) = row.form(MessageKind::Request) {
+            put_named(out, interface, kind, request.name())?;
         }
     }
-    Ok(text)
+    Ok(())
 }
 
 /// The forms of a table by the names of their routines, those of replies behind those of requests.
 fn names_text(alloc: Global, interface: &Interface) -> Result<String, AllocError> {
     let mut text = String::from_str(alloc, interface.name())?;
-    for kind in [MessageKind::Request, MessageKind::Reply] {
-        for row in interface.rows() {
-            if let Some(request) = row.form(MessageKind::Request) {
-                let named = named_text(alloc, interface, kind, request.name())?;
-                text.push_str(named.as_str())?;
-            }
-        }
-    }
+    put_all_named(&mut text, interface, MessageKind::Request)?;
+    put_all_named(&mut text, interface, MessageKind::Reply)?;
     Ok(text)
 }
 
-/// The names in the forms of a MIG file, or the fault of the reader that refuses it.
+/// The names in the forms of a MIG file.
 pub fn names(alloc: Global, bytes: &[u8]) -> Result<String> {
-    match read_interface(alloc, bytes) {
-        Ok(interface) => Ok(names_text(alloc, &interface)?),
-        Err(fault) => Ok(fault.to_string(alloc)?),
-    }
+    let interface = read_interface(alloc, bytes)?;
+    Ok(names_text(alloc, &interface)?)
 }
 
 /// The files of a list, in hexadecimal digits with `,` between them.
@@ -124,19 +133,21 @@ fn files_of(alloc: Global, text: &str) -> Result<Vec<Vec<u8>>, AllocError> {
     Ok(files)
 }
 
-/// The name of each file of a list, or the number of the first that is refused, and its fault.
-pub fn defs(alloc: Global, text: &str) -> Result<String> {
-    let interfaces = match read_interfaces(alloc, files_of(alloc, text)?.as_slice()) {
-        Ok(interfaces) => interfaces,
-        Err(OrMemory::Fault(FileFault { file, fault })) => {
-            return Ok(format!(in alloc; "file {file}: {fault}")?);
-        }
-        Err(OrMemory::Memory) => return Ok(String::from_str(alloc, "Memory")?),
-    };
+/// The name of each interface.
+fn interface_names(alloc: Global, interfaces: &[Interface]) -> Result<String, AllocError> {
     let mut names = String::new(alloc);
-    for interface in interfaces.as_slice() {
+    for interface in interfaces {
         let blank = if names.is_empty() { "" } else { " " };
-        names.push_str(format!(in alloc; "{blank}{}", interface.name())?.as_str())?;
+        write!(names, "{blank}{}", interface.name())?;
     }
     Ok(names)
+}
+
+/// The name of each file of a list, or the number of the first that is refused, and its fault.
+pub fn defs(alloc: Global, text: &str) -> Result<String> {
+    match read_interfaces(alloc, files_of(alloc, text)?.as_slice()) {
+        Ok(interfaces) => Ok(interface_names(alloc, interfaces.as_slice())?),
+        Err(OrMemory::Fault(FileFault { file, fault })) => bail!("file {file}: {fault}"),
+        Err(OrMemory::Memory) => bail!("Memory"),
+    }
 }

@@ -1,29 +1,15 @@
 //! Messages before the filter.
 
 use crate::messages::bytes_of;
-use anyhow::{Result, bail};
+use crate::systems::{first_part, wired_of};
+use anyhow::Result;
 use mrc_base::ClassId;
-use mrc_desc::read_message;
+use mrc_desc::{Message, read_message};
 use mrc_filter::{Form, admit_port, judge};
-use mrc_interface::read_interface;
 use mrc_wiring::Wired;
-use mrc_wiring_text::read_wiring;
 use std::alloc::Global;
 
-/// The wiring of a text over the forms of MIG files.
-fn wired_of(alloc: Global, wiring: &str, files: &[&str]) -> Result<Wired> {
-    let mut interfaces = Vec::new(alloc);
-    for file in files {
-        interfaces.push(read_interface(alloc, file.as_bytes())?)?;
-    }
-    let lines = read_wiring(alloc, wiring.as_bytes())?;
-    match Wired::resolve(alloc, lines.as_slice(), interfaces) {
-        Ok(wired) => Ok(wired),
-        Err(refused) => bail!("{}", refused.why),
-    }
-}
-
-/// The class of a name, or of a number where the text is one.
+/// The class of a name, or of a number if the text is one.
 fn class_of(wired: &Wired, text: &str) -> Result<ClassId> {
     match wired.class_named(text) {
         Some(class) => Ok(class),
@@ -55,17 +41,39 @@ fn form_text(alloc: Global, wired: &Wired, form: &Form<'_>, ports: &str) -> Resu
     Ok(text)
 }
 
-/// The form that a message meets, or why it meets none. The parts, with `|` between them, are the
-/// class, the message, ports for its slots, the wiring, and MIG files.
-pub fn judged(alloc: Global, text: &str) -> Result<String> {
-    let parts: Vec<&str> = text.split('|').collect(alloc)?;
-    let [class, digits, ports, wiring, files @ ..] = parts.as_slice() else {
-        bail!("a part is missing");
-    };
-    let wired = wired_of(alloc, wiring, files)?;
-    let message = read_message(alloc, bytes_of(alloc, digits)?.as_slice())?;
-    match judge(&wired, class_of(&wired, class)?, &message) {
-        Ok(form) => form_text(alloc, &wired, &form, ports),
-        Err(denied) => Ok(denied.to_string(alloc)?),
+/// The form that a message meets, or why it meets none.
+fn judgement(
+    alloc: Global,
+    wired: &Wired,
+    class: ClassId,
+    message: &Message,
+    ports: &str,
+) -> Result<String> {
+    match judge(wired, class, message) {
+        Ok(form) => form_text(alloc, wired, &form, ports),
+        Err(denied) => Err(denied.into()),
     }
+}
+
+/// The same of a message in hexadecimal digits.
+fn judged_by(
+    alloc: Global,
+    wired: &Wired,
+    class: &str,
+    digits: &str,
+    ports: &str,
+) -> Result<String> {
+    let message = read_message(alloc, bytes_of(alloc, digits)?.as_slice())?;
+    judgement(alloc, wired, class_of(wired, class)?, &message, ports)
+}
+
+/// The form that a message meets, or why it meets none. The parts, with `|` between them, are the
+/// class, the message, ports for its slots, the wiring, and MIG texts.
+pub fn judged(alloc: Global, text: &str) -> Result<String> {
+    let (class, text) = first_part(text);
+    let (digits, text) = first_part(text);
+    let (ports, text) = first_part(text);
+    let (wiring, list) = first_part(text);
+    let wired = wired_of(alloc, list, wiring)?;
+    judged_by(alloc, &wired, class, digits, ports)
 }

@@ -1,5 +1,5 @@
 //! Reads cases from standard input, one a line, and prints a line for each: what the readers of MIG
-//! texts, of messages, of certificates, of scripts and of wirings say of it.
+//! texts, of messages, of certificates and of wirings say of it.
 //!
 //! A case is a word, `:` and a text. In the text `\n` is a line feed, `\r` a carriage return, `\0`
 //! the character 0, and `\` before any other character is that character. `\{N:text}` is N times
@@ -17,9 +17,9 @@
 //! - `defs`: a list of MIG files, in hexadecimal digits with `,` between them: their names
 //! - `disposition`: what a number of MIG's port types needs of a sender and gives a receiver
 //! - `message`: in hexadecimal digits, what a message is written as that was read
-//! - `judge`: a class, a message, ports for its slots, a wiring and MIG files, with `|` between
-//!   them: the form that the message meets, and whether its slots admit the ports
-//! - `replay`: a wiring, `|` and a script: what is printed of its events, on one line
+//! - `judge`: a class, a message, ports for its slots, a wiring and MIG texts, with `|` between
+//!   these five and `&` between MIG texts: the form that the message meets, and whether its slots
+//!   admit the ports
 //! - `certificate`: in hexadecimal digits, what a certificate is written as that was read
 //! - `wiring`, `policy`: each line by its number and what it says; `wiring_bytes`, `policy_bytes`:
 //!   the same, of hexadecimal digits
@@ -44,18 +44,19 @@ mod numbers;
 mod policies;
 mod prefixes;
 mod repeats;
-mod replays;
 mod resolved;
 mod samples;
+mod systems;
 mod tokens;
 mod wirings;
 
 use anyhow::Result;
 use messages::bytes_of;
-use std::alloc::Global;
+use std::alloc::{AllocError, Global};
 use std::io;
 
-/// What is said of a text by the word of its case; `other` where there is no such word.
+/// What is said of a text by the word of its case, or its fault as an error; `other` if there is no
+/// such word.
 fn answer(alloc: Global, kind: &str, text: &str, other: &str) -> Result<String> {
     match kind {
         "marks" => tokens::marks(alloc, text),
@@ -70,7 +71,6 @@ fn answer(alloc: Global, kind: &str, text: &str, other: &str) -> Result<String> 
         "defs" => forms::defs(alloc, text),
         "disposition" => numbers::disposition(alloc, text),
         "judge" => judging::judged(alloc, text),
-        "replay" => replays::events(alloc, text),
         "message" => messages::written(alloc, text),
         "certificate" => certificates::written(alloc, text),
         "wiring" => wirings::wiring(alloc, text.as_bytes()),
@@ -83,16 +83,24 @@ fn answer(alloc: Global, kind: &str, text: &str, other: &str) -> Result<String> 
     }
 }
 
+/// The same, with the fault as it is printed.
+fn told(alloc: Global, kind: &str, text: &str, other: &str) -> Result<String, AllocError> {
+    match answer(alloc, kind, text, other) {
+        Ok(text) => Ok(text),
+        Err(fault) => fault.to_string(alloc),
+    }
+}
+
 /// What is said of a line.
-fn said(alloc: Global, line: &str) -> Result<String> {
+fn said(alloc: Global, line: &str) -> Result<String, AllocError> {
     let Some((kind, text)) = line.split_once(':') else {
-        return Ok(String::from_str(alloc, line)?);
+        return String::from_str(alloc, line);
     };
     let text = repeats::expanded(alloc, text)?;
     let text = escapes::unescaped(alloc, text.as_str())?;
     match kind.strip_prefix("prefixes ") {
         Some(kind) => prefixes::prefixes(alloc, kind, text.as_str()),
-        None => answer(alloc, kind, text.as_str(), line),
+        None => told(alloc, kind, text.as_str(), line),
     }
 }
 

@@ -1,7 +1,7 @@
 //! Messages in hexadecimal digits.
 
 use anyhow::Result;
-use mrc_desc::{read_message, write_message};
+use mrc_desc::{Message, read_message, write_message};
 use std::alloc::{AllocError, Global};
 
 /// The number that a hexadecimal digit stands for.
@@ -40,12 +40,13 @@ pub fn digits_of(alloc: Global, bytes: &[u8]) -> Result<String, AllocError> {
     Ok(text)
 }
 
-/// The bytes as they are written, of the message that was read of bytes, or the fault.
+/// The bytes as they are written.
+fn rewritten(alloc: Global, message: &Message) -> Result<String, AllocError> {
+    digits_of(alloc, write_message(alloc, message)?.as_slice())
+}
+
+/// The bytes as they are written, of the message that was read of bytes.
 pub fn written(alloc: Global, text: &str) -> Result<String> {
-    let message = match read_message(alloc, bytes_of(alloc, text)?.as_slice()) {
-        Ok(message) => message,
-        Err(fault) => return Ok(fault.to_string(alloc)?),
-    };
-    let bytes = write_message(alloc, &message)?;
-    Ok(digits_of(alloc, bytes.as_slice())?)
+    let message = read_message(alloc, bytes_of(alloc, text)?.as_slice())?;
+    Ok(rewritten(alloc, &message)?)
 }

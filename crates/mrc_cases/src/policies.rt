@@ -14,17 +14,18 @@ fn put_line(out: &mut String, line: &PolicyLine) -> Result<(), AllocError> {
     out.push(';')
 }
 
-/// Each line of a policy, by its number and what it forbids, or the fault.
-pub fn policy(alloc: Global, bytes: &[u8]) -> Result<String> {
-    let lines = match read_policy(alloc, bytes) {
-        Ok(lines) => lines,
-        Err(fault) => return Ok(fault.to_string(alloc)?),
-    };
+/// The lines, by their numbers and what they forbid.
+fn lines_text(alloc: Global, lines: &[PolicyLine]) -> Result<String, AllocError> {
     let mut out = String::new(alloc);
-    for line in &lines {
+    for line in lines {
         put_line(&mut out, line)?;
     }
     Ok(out)
+}
+
+/// Each line of a policy, by its number and what it forbids.
+pub fn policy(alloc: Global, bytes: &[u8]) -> Result<String> {
+    Ok(lines_text(alloc, read_policy(alloc, bytes)?.as_slice())?)
 }
 
 /// The name that a word spells, and its copy; or `none`.

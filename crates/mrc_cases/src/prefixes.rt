@@ -1,7 +1,6 @@
 //! What is said of each prefix of a text.
 
-use crate::answer;
-use anyhow::Result;
+use crate::told;
 use std::alloc::{AllocError, Global};
 use std::fmt::Write;
 
@@ -68,14 +67,14 @@ fn short(alloc: Global, answer: String) -> Result<String, AllocError> {
 }
 
 /// What is said of a case with this at its front and this behind it.
-fn said_of(alloc: Global, kind: &str, front: &str, behind: &str) -> Result<String> {
+fn said_of(alloc: Global, kind: &str, front: &str, behind: &str) -> Result<String, AllocError> {
     let mut text = String::from_str(alloc, front)?;
     text.push_str(behind)?;
-    Ok(short(alloc, answer(alloc, kind, text.as_str(), "no kind")?)?)
+    short(alloc, told(alloc, kind, text.as_str(), "no kind")?)
 }
 
 /// What is said of a case for each prefix of its part between two `~`, the empty one first.
-fn runs_of(alloc: Global, kind: &str, text: &str) -> Result<Runs> {
+fn runs_of(alloc: Global, kind: &str, text: &str) -> Result<Runs, AllocError> {
     let (before, rest) = text.split_once('~').unwrap_or(("", text));
     let (part, behind) = rest.split_once('~').unwrap_or((rest, ""));
     let mut front = String::from_str(alloc, before)?;
@@ -96,7 +95,7 @@ fn runs_of(alloc: Global, kind: &str, text: &str) -> Result<Runs> {
 
 /// What is said of a case of the kind for each prefix of its part between two `~`: the numbers of
 /// bytes and the fault, or `ok`.
-pub fn prefixes(alloc: Global, kind: &str, text: &str) -> Result<String> {
+pub fn prefixes(alloc: Global, kind: &str, text: &str) -> Result<String, AllocError> {
     let mut runs = runs_of(alloc, kind, text)?;
     runs.write_last()?;
     Ok(runs.written)

@@ -8,28 +8,6 @@ type path_t = c_string[64];
 routine open(root : mach_port_t; in path : path_t; out file : file_t);
 ";
 
-/// A message that says nothing.
-const PING: &str = "subsystem ping 500;
-#include <mach/std_types.defs>
-simpleroutine ping(server : mach_port_t);
-";
-
-/// Two routines without ports; an id between them is skipped.
-const PAIR: &str = "subsystem pair 1000;
-#include <mach/std_types.defs>
-routine first(server : mach_port_t; in n : int; out m : int);
-skip;
-routine third(server : mach_port_t);
-";
-
-/// A send right is copied, and a send-once right moved.
-const PORTS: &str = "subsystem ports 700;
-#include <mach/std_types.defs>
-type copy_t = MACH_MSG_TYPE_COPY_SEND;
-type move_t = MACH_MSG_TYPE_MOVE_SEND_ONCE;
-simpleroutine carry(server : mach_port_t; in c : copy_t; in m : move_t);
-";
-
 /// A receive right is handed over.
 const XFER: &str = "subsystem xfer 2000;
 #include <mach/std_types.defs>
@@ -79,9 +57,6 @@ admit xfer.box_t births a
 pub fn sample(text: &str) -> &str {
     match text {
         "fsys" => FSYS,
-        "ping" => PING,
-        "pair" => PAIR,
-        "ports" => PORTS,
         "xfer" => XFER,
         "look" => LOOK,
         "later" => LATER,

@@ -1,10 +1,11 @@
 //! Tokens, symbols and expressions of MIG texts.
 
-use anyhow::Result;
+use anyhow::{Result, bail};
 use mrc_base::OrMemory;
 use mrc_mig_lex::{LexFault, Sign, Token, TokenKind, next_token};
-use mrc_mig_symbols::{Rest, basic_of, expression, fault_of, lex, place_of};
+use mrc_mig_symbols::{Rest, Tokens, basic_of, expression, fault_of, lex, place_of};
 use std::alloc::{AllocError, Global};
+use std::fmt::Write;
 
 fn sign_mark(sign: Sign) -> char {
     match sign {
@@ -53,12 +54,9 @@ fn tokens_of(alloc: Global, text: &str) -> Result<Vec<Token<'_>>, OrMemory<LexFa
     Ok(tokens)
 }
 
-/// A character for each token, or the fault.
+/// A character for each token.
 pub fn marks(alloc: Global, text: &str) -> Result<String> {
-    let tokens = match tokens_of(alloc, text) {
-        Ok(tokens) => tokens,
-        Err(fault) => return Ok(fault.to_string(alloc)?),
-    };
+    let tokens = tokens_of(alloc, text)?;
     let mut marks = String::new(alloc);
     for token in &tokens {
         marks.push(mark(token.kind()))?;
@@ -66,42 +64,41 @@ pub fn marks(alloc: Global, text: &str) -> Result<String> {
     Ok(marks)
 }
 
-/// A token as its mark, the bytes that it goes from and to, and its value where it is a number.
-fn shown(alloc: Global, token: &Token<'_>) -> Result<String, AllocError> {
+/// A token as its mark, the bytes that it goes from and to, and its value if it is a number.
+fn put_token(line: &mut String, token: &Token<'_>) -> Result<(), AllocError> {
     let mark = mark(token.kind());
     let (at, end) = (token.at(), token.end());
     match token.kind() {
-        TokenKind::Number(value) => format!(in alloc; " {mark} {at}-{end} {value};"),
-        _ => format!(in alloc; " {mark} {at}-{end};"),
+        TokenKind::Number(value) => write!(line, " {mark} {at}-{end} {value};"),
+        _ => write!(line, " {mark} {at}-{end};"),
     }
 }
 
-/// Each token, or the fault.
+/// Each token.
 pub fn tokens(alloc: Global, text: &str) -> Result<String> {
-    let tokens = match tokens_of(alloc, text) {
-        Ok(tokens) => tokens,
-        Err(fault) => return Ok(fault.to_string(alloc)?),
-    };
+    let tokens = tokens_of(alloc, text)?;
     let mut line = String::new(alloc);
     for token in &tokens {
-        line.push_str(shown(alloc, token)?.as_str())?;
+        put_token(&mut line, token)?;
     }
     Ok(line)
 }
 
-/// Each symbol, or the fault.
-pub fn symbols(alloc: Global, text: &str) -> Result<String> {
-    let tokens = match lex(alloc, text) {
-        Ok(tokens) => tokens,
-        Err(fault) => return Ok(fault.to_string(alloc)?),
-    };
+/// The symbols of tokens.
+fn symbols_text(alloc: Global, tokens: &Tokens<'_>) -> Result<String, AllocError> {
     let mut line = String::new(alloc);
-    let mut rest = Rest::new(&tokens);
+    let mut rest = Rest::new(tokens);
     for _ in 0..tokens.len() {
-        line.push_str(format!(in alloc; " {:?};", rest.first())?.as_str())?;
+        write!(line, " {:?};", rest.first())?;
         rest = rest.next();
     }
     Ok(line)
+}
+
+/// Each symbol.
+pub fn symbols(alloc: Global, text: &str) -> Result<String> {
+    let tokens = lex(alloc, text)?;
+    Ok(symbols_text(alloc, &tokens)?)
 }
 
 /// The basic type of a name, if it is one.
@@ -109,19 +106,20 @@ pub fn basic(alloc: Global, name: &str) -> Result<String> {
     Ok(format!(in alloc; "{:?}", basic_of(name))?)
 }
 
-/// The value of an expression and where it ends, or the fault.
-pub fn value(alloc: Global, text: &str) -> Result<String> {
-    let tokens = match lex(alloc, text) {
-        Ok(tokens) => tokens,
-        Err(fault) => return Ok(fault.to_string(alloc)?),
-    };
-    let line = match expression(alloc, Rest::new(&tokens)) {
+/// The value of the expression that tokens begin with, and where it ends.
+fn value_of(alloc: Global, tokens: &Tokens<'_>) -> Result<String> {
+    match expression(alloc, Rest::new(tokens)) {
         Ok((value, rest)) => {
-            let end = place_of(&tokens, rest.len());
-            format!(in alloc; "{value} to {end}")?
+            let end = place_of(tokens, rest.len());
+            Ok(format!(in alloc; "{value} to {end}")?)
         }
-        Err(OrMemory::Fault(stop)) => fault_of(&tokens, stop).to_string(alloc)?,
-        Err(OrMemory::Memory) => String::from_str(alloc, "Memory")?,
-    };
-    Ok(line)
+        Err(OrMemory::Fault(stop)) => Err(fault_of(tokens, stop).into()),
+        Err(OrMemory::Memory) => bail!("Memory"),
+    }
+}
+
+/// The value of an expression, and where it ends.
+pub fn value(alloc: Global, text: &str) -> Result<String> {
+    let tokens = lex(alloc, text)?;
+    value_of(alloc, &tokens)
 }

@@ -2,7 +2,8 @@
 
 use anyhow::Result;
 use mrc_wiring_text::{
-    ClassName, HeldRight, Item, Items, Kind, Name, TrustVerb, TrustedRight, WiringSays, read_wiring,
+    ClassName, HeldRight, Item, Items, Kind, Name, TrustVerb, TrustedRight, WiringLine, WiringSays,
+    read_wiring,
 };
 use mrc_words::right_word;
 use std::alloc::{AllocError, Global};
@@ -147,16 +148,17 @@ fn put_says(out: &mut String, says: &WiringSays) -> Result<(), AllocError> {
     }
 }
 
-/// Each line of a wiring, by its number and what it says, or the fault.
-pub fn wiring(alloc: Global, bytes: &[u8]) -> Result<String> {
-    let lines = match read_wiring(alloc, bytes) {
-        Ok(lines) => lines,
-        Err(fault) => return Ok(fault.to_string(alloc)?),
-    };
+/// The lines, by their numbers and what they say.
+fn lines_text(alloc: Global, lines: &[WiringLine]) -> Result<String, AllocError> {
     let mut out = String::new(alloc);
-    for line in &lines {
+    for line in lines {
         write!(out, "{} ", line.number)?;
         put_says(&mut out, &line.says)?;
     }
     Ok(out)
+}
+
+/// Each line of a wiring, by its number and what it says.
+pub fn wiring(alloc: Global, bytes: &[u8]) -> Result<String> {
+    Ok(lines_text(alloc, read_wiring(alloc, bytes)?.as_slice())?)
 }

@@ -1,4 +1,0 @@
-use Rattle.mrc_server_tests.proofs.running.seats_run_out.Given as goal
-
-abbrev pub ghosts-run_out_new : goal.ghosts-run_out_new
-ghosts-run_out_new g a = record { name = a.blank.name; parts = a.blank.parts }

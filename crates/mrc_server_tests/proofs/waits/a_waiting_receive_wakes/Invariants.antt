@@ -1,4 +1,0 @@
-use Rattle.mrc_server_tests.proofs.waits.a_waiting_receive_wakes.Given as goal
-
-abbrev pub ghosts-wakes : goal.ghosts-wakes
-ghosts-wakes g a = record { name = a.blank.name; parts = a.blank.parts }

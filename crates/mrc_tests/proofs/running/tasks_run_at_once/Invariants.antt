@@ -1,0 +1,4 @@
+use Rattle.mrc_tests.proofs.running.tasks_run_at_once.Given as goal
+
+abbrev pub ghosts-end_of_files : goal.ghosts-end_of_files
+ghosts-end_of_files g a = record { name = a.blank.name; parts = a.blank.parts }

@@ -1,0 +1,4 @@
+use Rattle.mrc_tests.proofs.seats.a_waiting_receive_wakes_to_a_full_journal.Given as goal
+
+abbrev pub ghosts-woken_at_new : goal.ghosts-woken_at_new
+ghosts-woken_at_new g a = record { name = a.blank.name; parts = a.blank.parts }
