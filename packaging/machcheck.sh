@@ -18,6 +18,15 @@ trap '' XFSZ
 run() {
     "$parts/machcheck" "$@"
 }
+# How the program was made stands in a file.
+case ${1-} in
+--version | -V)
+    version=$("$parts/machcheck" --version)
+    read -r how <"$parts/built"
+    echo "$version ($how)"
+    exit
+    ;;
+esac
 if [ "${1-}" = mig ]; then
     shift
     . "$parts/mig"
