@@ -4,7 +4,7 @@ Each entry has:
 
 - script: the smallest script that shows it
 - kernel: what the kernel does
-- manual: what Mach 3 Kernel Interfaces says
+- manual: what Mach 3 Kernel Interfaces says, from memory: it was not looked up
 - deviates: who deviates from that
 - calls: why no fact is missed, which is the calls of the model that lead to the same rights
 
