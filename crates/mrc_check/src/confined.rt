@@ -83,10 +83,14 @@ impl Confined {
     pub fn copy(&self, alloc: Global) -> Result<Confined, AllocError>
         ensures { IfOk result (λ copy. copy ≡ self.now) }
     {
-        Ok(Confined {
-            claim: self.claim.copy(alloc)?,
-            draft: self.draft.copy()?,
-        })
+        let claim = self.claim.copy(alloc)?;
+        match self.draft.copy() {
+            Ok(draft) => Ok(Confined { claim, draft }),
+            Err(error) => {
+                drop(claim);
+                Err(error)
+            }
+        }
     }
 
     /// Whether claim and certificate are equal.

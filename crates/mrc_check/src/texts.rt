@@ -138,7 +138,9 @@ impl System {
         match Wired::over(alloc, lines.as_slice(), interfaces) {
             Ok(wired) => Ok(System { lines, wired }),
             Err((interfaces, why)) => {
-                Err((interfaces, lines_refusal(alloc, lines.as_slice(), why)))
+                let fault = lines_refusal(alloc, lines.as_slice(), why);
+                drop(lines);
+                Err((interfaces, fault))
             }
         }
     }
@@ -157,12 +159,19 @@ impl System {
             Ok(interfaces) => interfaces,
             Err(refusal) => return Err(refusal.map_fault(CaseFault::Defs)),
         };
-        let Ok(interfaces) = Interfaces::new(alloc, interfaces) else {
-            return Err(OrMemory::Memory);
+        let interfaces = match Interfaces::new(alloc, interfaces) {
+            Ok(interfaces) => interfaces,
+            Err((back, _)) => {
+                drop(back);
+                return Err(OrMemory::Memory);
+            }
         };
         match System::over(alloc, interfaces, wiring) {
             Ok(system) => Ok(system),
-            Err((_, refusal)) => Err(refusal),
+            Err((back, refusal)) => {
+                drop(back);
+                Err(refusal)
+            }
         }
     }
 
@@ -185,8 +194,12 @@ impl System {
         };
         let System { lines, wired } = self;
         match Claim::new(alloc, wired, forbidden.as_slice()) {
-            Ok(claim) => Ok(Stated { lines, claim }),
+            Ok(claim) => {
+                drop(forbidden);
+                Ok(Stated { lines, claim })
+            }
             Err((wired, refusal)) => {
+                drop(forbidden);
                 let fault = refusal.map_fault(|fault| CaseFault::Policy(PolicyFault::Lines(fault)));
                 Err((System { lines, wired }, fault))
             }
@@ -208,7 +221,10 @@ impl Stated {
     {
         match System::read(alloc, defs, wiring)?.claim(alloc, policy) {
             Ok(stated) => Ok(stated),
-            Err((_, refusal)) => Err(refusal),
+            Err((back, refusal)) => {
+                drop(back);
+                Err(refusal)
+            }
         }
     }
 }
@@ -225,6 +241,7 @@ fn answered_by(
     let draft = match read_draft(alloc, certificate) {
         Ok(draft) => draft,
         Err(refusal) => {
+            drop(claim);
             return Err(refusal.map_fault(|f| TextsFault::Meaning(CaseFault::Certificate(f))));
         }
     };
@@ -236,7 +253,10 @@ fn answered_by(
                 draft,
                 why,
             }))),
-            OrMemory::Memory => Err(OrMemory::Memory),
+            OrMemory::Memory => {
+                drop((claim, draft));
+                Err(OrMemory::Memory)
+            }
         },
     }
 }
@@ -254,7 +274,10 @@ fn checked(
         certificate.now) }
 {
     match Stated::read(alloc, defs, wiring, policy) {
-        Ok(stated) => answered_by(rt, alloc, stated.claim, certificate),
+        Ok(Stated { lines, claim }) => {
+            drop(lines);
+            answered_by(rt, alloc, claim, certificate)
+        }
         Err(refusal) => Err(refusal.map_fault(TextsFault::Meaning)),
     }
 }

@@ -188,7 +188,9 @@ pub fn rounds_of(alloc: Global, wired: &Wired) -> Result<Rounds, AllocError>
     ensures same { IfOk result (λ r. HaveSame r.facts r.order) }
 {
     let rules = Rules::new(alloc, wired)?;
-    derive_all(alloc, &rules)
+    let derived = derive_all(alloc, &rules);
+    drop(rules);
+    derived
 }
 
 /// Puts the premises into the set.
@@ -344,5 +346,7 @@ pub fn explain(alloc: Global, wired: &Wired, fact: Fact) -> Result<Option<Chain>
     ensures none { IfOk result (λ answer. IfNone answer (Least (wiring_of wired.now) fact → ⊥)) }
 {
     let rules = Rules::new(alloc, wired)?;
-    chain_of(alloc, &rules, fact)
+    let chain = chain_of(alloc, &rules, fact);
+    drop(rules);
+    chain
 }

@@ -122,7 +122,9 @@ fn least_set(alloc: Global, wired: &Wired) -> Result<Facts, AllocError>
     ensures { IfOk result (IsLeastList (wiring_of wired.now)) }
 {
     let rules = Rules::new(alloc, wired)?;
-    least_of(alloc, &rules)
+    let least = least_of(alloc, &rules);
+    drop(rules);
+    least
 }
 
 /// The certificate of the wiring: the least set that is closed under the ten rules, with the

@@ -298,7 +298,9 @@ fn least_by<R: Threads + Wait + Sync, G: Gate>(
     ensures { IfOk result (IsLeastList (wiring_of wired.now)) }
 {
     let rules = Rules::new(alloc, wired)?;
-    least_of(rt, alloc, &rules, workers, gate)
+    let least = least_of(rt, alloc, &rules, workers, gate);
+    drop(rules);
+    least
 }
 
 /// Why no certificate is made.

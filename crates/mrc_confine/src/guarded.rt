@@ -117,7 +117,8 @@ impl Guarded {
     pub fn into_confined(self) -> Confined
         ensures { result ≡ self.confined }
     {
-        let Guarded { confined, world: _ } = self;
+        let Guarded { confined, world } = self;
+        drop(world);
         confined
     }
 }

@@ -121,12 +121,23 @@ fn make_ready(
     ensures event_room { OnOk result (vec_len events.new < vec_capacity events.new) }
     ensures call_room { OnOk result (vec_len calls.new < vec_capacity calls.new) }
 {
-    let copy = call.copy(alloc)?;
-    let ours = guarded.room(alloc, task, call)?;
-    let theirs = guarded.room(alloc, task, call)?;
     events.reserve(1)?;
     calls.reserve(1)?;
-    Ok(Rooms { copy, ours, theirs })
+    let ours = guarded.room(alloc, task, call)?;
+    let theirs = match guarded.room(alloc, task, call) {
+        Ok(theirs) => theirs,
+        Err(error) => {
+            drop(ours);
+            return Err(error);
+        }
+    };
+    match call.copy(alloc) {
+        Ok(copy) => Ok(Rooms { copy, ours, theirs }),
+        Err(error) => {
+            drop((ours, theirs));
+            Err(error)
+        }
+    }
 }
 
 /// One step of the machine, by the world and the reply that it gives.
@@ -262,6 +273,7 @@ impl<L: Ledger> Desk<L> {
             return Err(NotTaken::Memory(call));
         };
         let Ok(reply) = step(&mut self.guarded, seat.task, &call) else {
+            drop(rooms);
             return Err(NotTaken::Memory(call));
         };
         self.book.add(&mut seat.share, 1);
@@ -313,12 +325,15 @@ impl<L: Ledger> Desk<L> {
             &mut seat.calls,
             &call,
         ) else {
+            drop(call);
             return Err(NotReceived::Memory);
         };
         let Ok(reply) = step(&mut self.guarded, seat.task, &call) else {
+            drop((rooms, call));
             return Err(NotReceived::Memory);
         };
         if is_timed_out(&reply) {
+            drop((rooms, call, reply));
             return Ok(None);
         }
         self.book.add(&mut seat.share, 1);

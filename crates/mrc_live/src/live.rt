@@ -86,7 +86,12 @@ impl<L: Ledger> Live<L> {
     pub fn into_confined(self) -> Confined
         ensures { result ≡ self }
     {
-        let Live { confined, .. } = self;
+        let Live {
+            office,
+            bells,
+            confined,
+        } = self;
+        drop((office, bells));
         confined
     }
 
@@ -211,7 +216,10 @@ impl<L: Ledger> Live<L> {
         } = self;
         let Office { desk, idle, bound } = office.into_inner();
         match judge(&desk, &confined, seats.as_slice()) {
-            None => Ok(desk.into_parts()),
+            None => {
+                drop((bells, confined, seats));
+                Ok(desk.into_parts())
+            }
             Some(why) => Err(Unfinished {
                 why,
                 live: Live {

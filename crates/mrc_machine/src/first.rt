@@ -57,17 +57,23 @@ impl Start {
             (λ e. IsFaultOf e (add_line (wiring_of wired.now) self TaskLine)) }
     {
         if wired.tasks() <= self.tasks {
+            drop(self);
             return Err(OrMemory::Fault(Code::KernInvalidTask));
         }
         let class = ClassId(wired.ports() + self.tasks);
         let task = TaskId(u32::from(self.tasks));
         let mut state = self.state;
-        state.begin(task, task, class)?;
-        Ok(Start {
-            state,
-            tasks: self.tasks + 1,
-            ports: self.ports,
-        })
+        match state.begin(task, task, class) {
+            Ok(()) => Ok(Start {
+                state,
+                tasks: self.tasks + 1,
+                ports: self.ports,
+            }),
+            Err(error) => {
+                drop(state);
+                Err(OrMemory::from(error))
+            }
+        }
     }
 
     /// The next wired port, whose receive right a task gets.
@@ -78,21 +84,29 @@ impl Start {
             (λ e. IsFaultOf e (add_line (wiring_of wired.now) self (Port receiver))) }
     {
         if u32::from(self.tasks) <= receiver.0 {
+            drop(self);
             return Err(OrMemory::Fault(Code::KernInvalidTask));
         }
         if wired.ports() <= self.ports {
+            drop(self);
             return Err(OrMemory::Fault(Code::KernInvalidName));
         }
         if self.state.space(receiver).is_full() {
+            drop(self);
             return Err(OrMemory::Fault(Code::KernNoSpace));
         }
         let mut state = self.state;
-        state.birth(receiver, ClassId(self.ports))?;
-        Ok(Start {
-            state,
-            tasks: self.tasks,
-            ports: self.ports + 1,
-        })
+        match state.birth(receiver, ClassId(self.ports)) {
+            Ok(_) => Ok(Start {
+                state,
+                tasks: self.tasks,
+                ports: self.ports + 1,
+            }),
+            Err(error) => {
+                drop(state);
+                Err(OrMemory::from(error))
+            }
+        }
     }
 
     /// A send or send-once right for a task.
@@ -109,21 +123,29 @@ impl Start {
             (λ e. IsFaultOf e (add_line (wiring_of wired.now) self (Hold task port right))) }
     {
         if let PortRight::Receive = right {
+            drop(self);
             return Err(OrMemory::Fault(Code::KernInvalidName));
         }
         if u32::from(self.tasks) <= task.0 {
+            drop(self);
             return Err(OrMemory::Fault(Code::KernInvalidTask));
         }
         if !self.state.is_live(port) {
+            drop(self);
             return Err(OrMemory::Fault(Code::KernInvalidName));
         }
         let mut state = self.state;
-        state.give(task, port, right)?;
-        Ok(Start {
-            state,
-            tasks: self.tasks,
-            ports: self.ports,
-        })
+        match state.give(task, port, right) {
+            Ok(()) => Ok(Start {
+                state,
+                tasks: self.tasks,
+                ports: self.ports,
+            }),
+            Err(fault) => {
+                drop(state);
+                Err(fault)
+            }
+        }
     }
 
     /// The next line.

@@ -269,7 +269,7 @@ impl State {
         requires { IsSome (get self.old.tasks task) }
         ensures { self.new ≡ with_space self.old task space }
     {
-        let _ = self.store.put_space(task, space);
+        drop(self.store.put_space(task, space));
     }
 
     /// Takes the space of a task out, and leaves an empty one until it is put back.

@@ -287,5 +287,7 @@ pub fn run_live<L: Ledger + Send + Sync, R: Threads + Wait + Sync, G: Gate>(
     ensures refused { IfErr result (UnlessMemory (λ f. IsRefused
         (wiring_in live.now).tasks script f.fault f.seats.items)) }
 {
-    run_script(rt, alloc, live, &script, gate)
+    let ran = run_script(rt, alloc, live, &script, gate);
+    drop(script);
+    ran
 }

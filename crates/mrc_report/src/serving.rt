@@ -128,12 +128,14 @@ fn stopped(fault: LiveFault) -> OrMemory<ServeFault> {
 fn unfinished<L: Ledger>(refused: Unfinished<L>) -> Unserved
     ensures { result.1 ≡ refused.live }
 {
-    let fault = match refused.why {
+    let Unfinished { why, live, seats } = refused;
+    drop(seats);
+    let fault = match why {
         Why::SeatsMissing => ServeFault::SeatsMissing,
         Why::Differs(at) => ServeFault::Differs(at),
         Why::Swapped => ServeFault::Swapped,
     };
-    (OrMemory::Fault(fault), refused.live.into_confined())
+    (OrMemory::Fault(fault), live.into_confined())
 }
 
 /// Prints a journal: a line for each event, and the last line.
@@ -195,11 +197,15 @@ fn halted<L: Ledger>(
     match live.finish(seats) {
         Ok((journal, mut guarded)) => {
             let Ok(waiting) = waiting_lines(alloc, &mut guarded, script, journal.events()) else {
+                drop(journal);
                 return Err((OrMemory::Memory, guarded.into_confined()));
             };
             match waiting {
                 Some(lines) => Ok(Served::AllWait(Ran { journal, guarded }, lines)),
-                None => Err((OrMemory::Fault(ServeFault::Awake), guarded.into_confined())),
+                None => {
+                    drop(journal);
+                    Err((OrMemory::Fault(ServeFault::Awake), guarded.into_confined()))
+                }
             }
         }
         Err(refused) => Err(unfinished(refused)),
@@ -228,7 +234,10 @@ fn run_at<L: Ledger + Send + Sync, R: Threads + Wait + Sync, G: Gate>(
                 },
             ),
         ) => halted(alloc, live, seats, script),
-        Err(OrMemory::Fault(refused)) => Err((stopped(refused.fault), live.into_confined())),
+        Err(OrMemory::Fault(Stopped { fault, seats })) => {
+            drop(seats);
+            Err((stopped(fault), live.into_confined()))
+        }
     }
 }
 
@@ -251,7 +260,10 @@ fn opened<L: Ledger>(
     };
     match Live::<L>::new(alloc, guarded, limit, blank) {
         Ok(live) => Ok(live),
-        Err(NotOpened { guarded, .. }) => Err(guarded.into_confined()),
+        Err(NotOpened { guarded, blank }) => {
+            drop(blank);
+            Err(guarded.into_confined())
+        }
     }
 }
 
@@ -301,7 +313,10 @@ pub fn serve<L: Ledger + Send + Sync, R: Threads + Wait + Sync, G: Gate>(
         (λ refused. (refused.confined ≡ confined) × (refused.script ≡ script)) }
 {
     match run::<L, R, G>(rt, alloc, confined, &script, limit, blank, gate) {
-        Ok(served) => Ok(served),
+        Ok(served) => {
+            drop(script);
+            Ok(served)
+        }
         Err((fault, back)) => Err(NotServed {
             fault,
             confined: back,

@@ -213,13 +213,18 @@ impl<'a> Derivations<'a> {
         ensures least { IfOk result (λ d. IsLeast (wiring_of wired.now) (has d.facts)) }
     {
         let rules = Rules::new(alloc, wired)?;
-        let rounds = rounds_of(alloc, wired)?;
-        Ok(Derivations {
-            wired,
-            rules,
-            rounds,
-            search: Search::new(alloc),
-        })
+        match rounds_of(alloc, wired) {
+            Ok(rounds) => Ok(Derivations {
+                wired,
+                rules,
+                rounds,
+                search: Search::new(alloc),
+            }),
+            Err(error) => {
+                drop(rules);
+                Err(error)
+            }
+        }
     }
 
     /// The wiring.

@@ -229,7 +229,9 @@ fn found(alloc: Global, claim: &Claim) -> Result<Verdict, AllocError>
         IsFound claim.now verdict.facts verdict.exposed verdict.broken.items) }
 {
     let mut derivations = Derivations::new(alloc, claim.wired())?;
-    found_by(alloc, &mut derivations, claim)
+    let verdict = found_by(alloc, &mut derivations, claim);
+    drop(derivations);
+    verdict
 }
 
 /// The verdict on the claim: the least set, the first trusted task that another could rewrite, and

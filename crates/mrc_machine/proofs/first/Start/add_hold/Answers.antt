@@ -1,5 +1,4 @@
 use Rattle.std.proofs.Common.{sym, ap, ◌∙◌, arith}
-use Rattle.std.proofs.lemmas.Result.{err_from_is_err_and}
 use Rattle.mrc_model.specs.declared.FirstLine.TheVariants.{Hold as HoldLine}
 use Rattle.mrc_model.specs.First.{First, add_line}
 use Rattle.mrc_wiring.specs.Table.{wiring_of}
@@ -10,14 +9,7 @@ use Rattle.mrc_machine.proofs.first.Start.add_hold.Goals as goal
 
 pub returns-in-Receive-clause-refused : goal.returns-in-Receive-clause-refused
 returns-in-Receive-clause-refused c =
-    let was : First = record {
-      world = c.self.inside.state;
-      tasks = c.self.inside.tasks;
-      ports = c.self.inside.ports;
-    } in
-    ap (λ (f : First). add_line (wiring_of c.args.wired.now) f
-    (HoldLine c.args.task c.args.port c.args.right)) (sym c.self.view_is)
-    ∙ hold_receive (wiring_of c.args.wired.now) was c.args.task c.args.port c.args.right
+    hold_receive (wiring_of c.args.wired.now) c.args.self c.args.task c.args.port c.args.right
     c.in-Receive.is
 
 pub returns-then-from-task : goal.returns-then-from-task
@@ -57,23 +49,22 @@ returns-then-not-is_live c =
           (sym c.is_live.ensures ∙ c.if-not-is_live.true);
     }
 
-pub returns-in_err-give : goal.returns-in_err-give
-returns-in_err-give c =
+pub returns-in-Err : goal.returns-in-Err
+returns-in-Err c =
     let was : First = record {
       world = c.self.inside.state;
       tasks = c.self.inside.tasks;
       ports = c.self.inside.ports;
     } in
-    let p = err_from_is_err_and c.from_residual.result c.from_residual.ensures.1 in
     let line = ap (λ (f : First). add_line (wiring_of c.args.wired.now) f
     (HoldLine c.args.task c.args.port c.args.right)) (sym c.self.view_is)
     ∙ hold_given (wiring_of c.args.wired.now) was c.args.task c.args.port c.args.right
     c.in_default.not-Receive (omega (arith, c.from.ensures, c.task.view_is, c.if-from-task.false))
     (sym c.is_live.ensures ∙ c.if-not-is_live.false) in
-    rw (p.1, p.2) record {
+    record {
       ok = tt;
-      refused = is_fault c.in_err-give.field-0.0 _ _ (on_world was) line
-          (faulty c.in_err-give.field-0.0 _ c.in_err-give.ensures.refused);
+      refused = is_fault c.in-Err.fault _ _ (on_world was) line
+          (faulty c.in-Err.fault _ c.in-Err.ensures.refused);
     }
 
 pub invariant_of-result : goal.invariant_of-result
@@ -83,10 +74,10 @@ invariant_of-result c =
       tasks = c.self.inside.tasks;
       ports = c.self.inside.ports;
     } in
-    start_hold was _ c.args.task c.args.port c.args.right c.self.invariant c.in_ok-give.ensures.ok
+    start_hold was _ c.args.task c.args.port c.args.right c.self.invariant c.in-Ok.ensures.ok
 
-pub returns : goal.returns
-returns c =
+pub returns-in-Ok : goal.returns-in-Ok
+returns-in-Ok c =
     let was : First = record {
       world = c.self.inside.state;
       tasks = c.self.inside.tasks;
@@ -103,6 +94,6 @@ returns c =
             c.if-from-task.false,
           ))
           (sym c.is_live.ensures ∙ c.if-not-is_live.false)
-          ∙ ok_bind _ _ (on_world was) c.in_ok-give.ensures.ok;
+          ∙ ok_bind _ _ (on_world was) c.in-Ok.ensures.ok;
       refused = tt;
     }

@@ -54,10 +54,10 @@ invariant_of-result c =
       ports = c.self.inside.ports;
     } in
     start_port was _ c.args.receiver c.self.inside.ports c.self.invariant
-    (omega (arith, c.ports.ensures.within, c.if-ports-self.false)) c.in_ok-birth.ensures.ok
+    (omega (arith, c.ports.ensures.within, c.if-ports-self.false)) c.in-Ok.ensures.ok
 
-pub returns-clause-ok : goal.returns-clause-ok
-returns-clause-ok c =
+pub returns-in-Ok-clause-ok : goal.returns-in-Ok-clause-ok
+returns-in-Ok-clause-ok c =
     let was : First = record {
       world = c.self.inside.state;
       tasks = c.self.inside.tasks;
@@ -69,4 +69,4 @@ returns-clause-ok c =
     (omega (arith, c.from.ensures, c.receiver.view_is, c.if-from-receiver.false))
     (omega (arith, c.ports.ensures.exact, c.if-ports-self.false)) _
     (ap is_full (sym c.space.ensures) ∙ sym c.is_full.ensures ∙ c.if-is_full.false)
-    c.in_ok-birth.ensures.ok
+    c.in-Ok.ensures.ok

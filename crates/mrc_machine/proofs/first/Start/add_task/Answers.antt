@@ -36,10 +36,10 @@ invariant_of-result c =
     } in
     start_task (wiring_of c.args.wired.now) was _ _ _ c.self.invariant
     (omega (arith, c.tasks.ensures.exact, c.if-tasks-self.false, c.tasks.ensures.within))
-    c.from.ensures c.in_ok-begin.ensures.ok
+    c.from.ensures c.in-Ok.ensures.ok
 
-pub returns-clause-ok : goal.returns-clause-ok
-returns-clause-ok c =
+pub returns-in-Ok-clause-ok : goal.returns-in-Ok-clause-ok
+returns-in-Ok-clause-ok c =
     let was : First = record {
       world = c.self.inside.state;
       tasks = c.self.inside.tasks;
@@ -48,4 +48,4 @@ returns-clause-ok c =
     ap (λ (f : First). add_line (wiring_of c.args.wired.now) f TaskLine) (sym c.self.view_is)
     ∙ task_added (wiring_of c.args.wired.now) was _ _ _
     (omega (arith, c.tasks.ensures.exact, c.if-tasks-self.false)) c.from.ensures
-    (ap (λ p. p + c.self.inside.tasks) c.ports.ensures.exact) c.in_ok-begin.ensures.ok
+    (ap (λ p. p + c.self.inside.tasks) c.ports.ensures.exact) c.in-Ok.ensures.ok

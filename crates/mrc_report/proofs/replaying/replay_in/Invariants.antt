@@ -3,7 +3,7 @@
 use Rattle.std.proofs.Common.{◌≡◌, ◌+◌, ◌*◌, ◌^◌, ◌≤◌, ◌++◌, drop, length, string_bytes, string_len}
 use Rattle.mrc_report.specs.Output.{IsOut}
 use Rattle.mrc_report.specs.Replay.{replay_from, replay_text}
-use Rattle.mrc_report.proofs.replaying.replay.Given as goal
+use Rattle.mrc_report.proofs.replaying.replay_in.Given as goal
 
 abbrev pub invariant-loop-number : goal.invariant-loop-number
 invariant-loop-number g l = record {

@@ -6,7 +6,7 @@ use Rattle.mrc_report.specs.Replay.{replay_from, replay_text}
 use Rattle.mrc_report.proofs.OutputLaws.{ends, ends_cut, ends_within, few_out, first_out, goes_on}
 use Rattle.mrc_report.proofs.OutputLaws.{stops}
 use Rattle.mrc_report.proofs.ReplayLaws.{told_end, told_next}
-use Rattle.mrc_report.proofs.replaying.replay.Goals as goal
+use Rattle.mrc_report.proofs.replaying.replay_in.Goals as goal
 
 pub returns-in_err-print-clause-cut : goal.returns-in_err-print-clause-cut
 returns-in_err-print-clause-cut g c =
