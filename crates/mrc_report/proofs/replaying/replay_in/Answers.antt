@@ -14,14 +14,14 @@ returns-in_err-print-clause-cut g c =
     let all = c.lines-lines.result.now in
     let n = c.loop-number.number in
     let later = replay_from c.args.wired.now (n + 1) c.event_of.new.world (drop (n + 1) all) in
-    let line = c.as_str.ensures.value ∙ c.in-Ok-event_of.ensures.text in
+    let line = c.as_str.ensures.value ∙ c.in-Ok.ensures.text in
     let part =
     stops _ _ _ 0 _ _ (replay_text c.args.wired.now all) (string_bytes c.loop-number.out.kept)
     c.as_str.result.now _ later c.loop-number.invariant.on
     (told_next c.args.wired.now all n c.index-lines-number.result c.loop-number.world
     c.loop-number-test.true c.index-lines-number.is
     ∙ (λ i. sym line i ++ replay_from c.args.wired.now (n + 1)
-    (sym c.in-Ok-event_of.ensures.world i) (drop (n + 1) all)))
+    (sym c.in-Ok.ensures.world i) (drop (n + 1) all)))
     c.in_err-print.ensures.err in
     rw (p.1, p.2, sym c.lines-lines.ensures) (first_out _ _ _ _ part)
 
@@ -31,14 +31,14 @@ returns-in_err-print-clause-within g c =
     let all = c.lines-lines.result.now in
     let n = c.loop-number.number in
     let later = replay_from c.args.wired.now (n + 1) c.event_of.new.world (drop (n + 1) all) in
-    let line = c.as_str.ensures.value ∙ c.in-Ok-event_of.ensures.text in
+    let line = c.as_str.ensures.value ∙ c.in-Ok.ensures.text in
     let part =
     stops _ _ _ 0 _ _ (replay_text c.args.wired.now all) (string_bytes c.loop-number.out.kept)
     c.as_str.result.now _ later c.loop-number.invariant.on
     (told_next c.args.wired.now all n c.index-lines-number.result c.loop-number.world
     c.loop-number-test.true c.index-lines-number.is
     ∙ (λ i. sym line i ++ replay_from c.args.wired.now (n + 1)
-    (sym c.in-Ok-event_of.ensures.world i) (drop (n + 1) all)))
+    (sym c.in-Ok.ensures.world i) (drop (n + 1) all)))
     c.in_err-print.ensures.err in
     rw (p.1, p.2, sym c.lines-lines.ensures) (few_out _ _ _ _ part)
 
@@ -47,7 +47,7 @@ loop-number-preserved g c =
     let all = c.lines-lines.result.now in
     let n = c.loop-number.number in
     let later = replay_from c.args.wired.now (n + 1) c.event_of.new.world (drop (n + 1) all) in
-    let line = c.as_str.ensures.value ∙ c.in-Ok-event_of.ensures.text in
+    let line = c.as_str.ensures.value ∙ c.in-Ok.ensures.text in
     record {
       on = goes_on _ _ _ 0 _ _ (replay_text c.args.wired.now all)
           (string_bytes c.loop-number.out.kept) c.as_str.result.now _ later _
@@ -55,7 +55,7 @@ loop-number-preserved g c =
           (told_next c.args.wired.now all n c.index-lines-number.result c.loop-number.world
           c.loop-number-test.true c.index-lines-number.is
           ∙ (λ i. sym line i ++ replay_from c.args.wired.now (n + 1)
-          (sym c.in-Ok-event_of.ensures.world i) (drop (n + 1) all)))
+          (sym c.in-Ok.ensures.world i) (drop (n + 1) all)))
           c.in_ok-print.ensures.ok;
       few = omega (arith, c.loop-number-test.true);
       room = search rules;
