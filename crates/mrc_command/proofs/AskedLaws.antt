@@ -1,27 +1,23 @@
 -- What a command is called and how it is answered are what its words say.
-use Rattle.std.proofs.Common.{◌≡◌, ◌∙◌, Bool, true, false, ap, refl, sym}
+use Rattle.std.proofs.Common.{◌≡◌, ◌∙◌, true, false, ap, codes, refl, sym}
 use Rattle.std.proofs.lemmas.Bool.{false≢true, true≢false}
-use Rattle.std.specs.Prelude.{bytes_eq}
-use Rattle.std.specs.List.{list_any}
 use Rattle.clap.specs.Words.{Text}
 use Rattle.mrc_command.specs.declared.command.Command.TheVariants.{Case, Mig}
 use Rattle.mrc_command.specs.declared.command.Question.TheVariants.{Verify, Mend, Attack, Check}
 use Rattle.mrc_command.specs.declared.command.Question.TheVariants.{Make, Explain, Facts, Graph}
 use Rattle.mrc_command.specs.declared.command.Question.TheVariants.{Slots, Promises, Replay, Live}
-use Rattle.mrc_command.specs.Meaning.{formatted, NamesItsSubcommand, HasFormatOfOptions}
+use Rattle.mrc_command.specs.CommandLine.{has_option}
+use Rattle.mrc_command.specs.Meaning.{NamesItsSubcommand, HasFormatOfOptions}
 use Rattle.mrc_command.specs.Meaning.{IsTextWithoutOption}
 
--- whether a subcommand of this name has the option
-abbrev has_option : Text → Bool
-has_option name = list_any (λ word. bytes_eq word name) formatted
-
 -- two names of which one has the option are not one name
-abbrev other : {one two : Text} → one ≡ two → has_option one ≡ true → has_option two ≡ true
-other same has = sym (ap has_option same) ∙ has
+abbrev other : {one two : Text} → one ≡ two → has_option one (codes "format") ≡ true
+    → has_option two (codes "format") ≡ true
+other same has = sym (ap (λ (n : Text). has_option n (codes "format")) same) ∙ has
 
-abbrev other_none : {one two : Text} → one ≡ two → has_option one ≡ false
-    → has_option two ≡ false
-other_none same has = sym (ap has_option same) ∙ has
+abbrev other_none : {one two : Text} → one ≡ two → has_option one (codes "format") ≡ false
+    → has_option two (codes "format") ≡ false
+other_none same has = sym (ap (λ (n : Text). has_option n (codes "format")) same) ∙ has
 
 pub names_subcommand : NamesItsSubcommand
 names_subcommand name rows (Case files (Verify showing)) is = sym is.1.0

@@ -1,6 +1,9 @@
 -- From what clap says of its matches and errors to what the reader of a command line says.
 use Rattle.std.proofs.Common.{◌≡◌, ◌⊎◌, List, [], Option, true, false, sym, ◌∙◌, ap, ap₂, subst, inl}
-use Rattle.std.proofs.Common.{inr, refl}
+use Rattle.std.proofs.Common.{inr, refl, ℕ, ◌+◌, ◌<◌, ◌≤◌, ◌∷◌, ◌++◌, length, map, take}
+use Rattle.std.proofs.Math.ListN.{get_or}
+use Rattle.std.proofs.lemmas.List.{map_more, take_all}
+use Rattle.std.proofs.lemmas.Simd.{map-map}
 use Rattle.std.specs.Prelude.{IsSomeAnd, unwrap_or}
 use Rattle.std.specs.Option.{option_map}
 use Rattle.clap.proofs.WalkLemmas.{raw_values-rows}
@@ -17,6 +20,8 @@ use Rattle.mrc_command.specs.declared.command.NoCommand.TheVariants.{Told as Tex
 use Rattle.mrc_command.specs.declared.command.NoCommand.TheVariants.{Memory as NoMemory}
 use Rattle.mrc_command.specs.declared.command.Request.{Request}
 use Rattle.mrc_command.specs.CommandLine.{machcheck_app, AsksHelp, TellsError, IsNoCommand}
+use Rattle.mrc_command.specs.CommandLine.{command_app, rule_of_option, with_commands, with_rules}
+use Rattle.mrc_command.specs.declared.table.Kind.{Kind}
 use Rattle.mrc_command.specs.Meaning.{IsBadFormatIfTold, IsRefusal, IsRequestOf, Means}
 use Rattle.mrc_command.specs.Meaning.{all_values, has_format}
 
@@ -55,15 +60,59 @@ read_told app words kind (TextTold told) same has tells = elim tells [
   | inr fault ↦ inr fault
 ]
 
--- a program with one more command
-pub one_more : {made program command before new : App} → made ≡ with_subcommand program command.top
-    → program ≡ before → command ≡ new → made ≡ with_subcommand before new.top
-one_more is program command = is ∙ ap₂ (λ (a b : App). with_subcommand a b.top) program command
+-- one more option, after others
+rules_then : (app : App) (rules : List Rule) (rule : Rule)
+    → with_rules app (rules ++ rule ∷ []) ≡ with_rule (with_rules app rules) rule
+rules_then app [] rule = refl
+rules_then app (first ∷ rules) rule = rules_then (with_rule app first) rules rule
 
--- a command with one more option
-pub one_rule : {made command before : App} {rule new : Rule} → made ≡ with_rule command rule
-    → command ≡ before → rule ≡ new → made ≡ with_rule before new
-one_rule is command rule = is ∙ ap₂ (λ (a : App) (r : Rule). with_rule a r) command rule
+-- a turn of the loop over the rows of a command, and its end
+pub next_rule : {X : Type 0} (f : X → Rule) (app : App) {before made : App} {rule : Rule}
+    → (xs : List X) (i : ℕ) (d : X) → i < length xs
+    → before ≡ with_rules app (map f (take i xs))
+    → rule ≡ f (get_or xs i d)
+    → made ≡ with_rule before rule
+    → made ≡ with_rules app (map f (take (i + 1) xs))
+next_rule f app xs i d below was is makes =
+    makes ∙ ap₂ (λ (a : App) (r : Rule). with_rule a r) was is
+    ∙ sym (rules_then app (map f (take i xs)) (f (get_or xs i d)))
+    ∙ ap (λ (rules : List Rule). with_rules app rules) (sym (map_more f xs i d below))
+
+pub all_rules : {X : Type 0} (g : X → Text × Kind) (app : App) {made : App}
+    → (xs : List X) (i : ℕ) → length xs ≤ i
+    → made ≡ with_rules app (map (λ x. rule_of_option (g x)) (take i xs))
+    → made ≡ with_rules app (map rule_of_option (map g xs))
+all_rules g app xs i all is =
+    is ∙ ap (λ (rules : List Rule). with_rules app rules)
+    (ap (map (λ x. rule_of_option (g x))) (take_all i xs all) ∙ sym (map-map rule_of_option g xs))
+
+-- one more command, after others
+commands_then : (app : App) (commands : List App) (command : App)
+    → with_commands app (commands ++ command ∷ [])
+    ≡ with_subcommand (with_commands app commands) command.top
+commands_then app [] command = refl
+commands_then app (first ∷ commands) command =
+    commands_then (with_subcommand app first.top) commands command
+
+-- a turn of the loop over the table, and its end
+pub next_command : {X : Type 0} (f : X → App) (app : App) {before made command : App}
+    → (xs : List X) (i : ℕ) (d : X) → i < length xs
+    → before ≡ with_commands app (map f (take i xs))
+    → command ≡ f (get_or xs i d)
+    → made ≡ with_subcommand before command.top
+    → made ≡ with_commands app (map f (take (i + 1) xs))
+next_command f app xs i d below was is makes =
+    makes ∙ ap₂ (λ (a b : App). with_subcommand a b.top) was is
+    ∙ sym (commands_then app (map f (take i xs)) (f (get_or xs i d)))
+    ∙ ap (λ (commands : List App). with_commands app commands) (sym (map_more f xs i d below))
+
+pub all_commands : {X : Type 0} (g : X → Text × List (Text × Kind)) (app : App) {made : App}
+    → (xs : List X) (i : ℕ) → length xs ≤ i
+    → made ≡ with_commands app (map (λ x. command_app (g x)) (take i xs))
+    → made ≡ with_commands app (map command_app (map g xs))
+all_commands g app xs i all is =
+    is ∙ ap (λ (commands : List App). with_commands app commands)
+    (ap (map (λ x. command_app (g x))) (take_all i xs all) ∙ sym (map-map command_app g xs))
 
 -- the values that the matches give for an id are those of its rows
 pub values_in_rows : (found : Found) (id : Text) (texts : Option (List Text))

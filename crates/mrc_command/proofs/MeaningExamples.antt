@@ -1,204 +1,185 @@
 -- What words of command lines mean, by computation.
-use Rattle.std.proofs.Common.{◌≡◌, Bool, true, false, List, [], ◌∷◌, Option, Some, None, codes, map}
-use Rattle.std.proofs.Common.{refl}
+use Rattle.std.proofs.Common.{◌≡◌, ◌==◌, ℕ, Bool, true, false, List, [], ◌∷◌, ◌++◌, Option, Some}
+use Rattle.std.proofs.Common.{None, codes, map, refl, if◌then◌else◌}
+use Rattle.std.specs.Prelude.{flat_map, unwrap_or}
 use Rattle.std.specs.Option.{option_map}
-use Rattle.clap.specs.Words.{Row, Text, fault_of, first_of, subcommand_of, takes}
+use Rattle.clap.specs.Words.{Kinds, Row, Text, fault_of, first_of, subcommand_of, takes}
 use Rattle.clap.specs.declared.error.kind.ErrorKind.TheVariants.{ArgumentConflict}
-use Rattle.clap.specs.declared.error.kind.ErrorKind.TheVariants.{UnknownArgument}
+use Rattle.clap.specs.declared.error.kind.ErrorKind.TheVariants.{MissingRequiredArgument}
+use Rattle.clap.specs.declared.error.kind.ErrorKind.TheVariants.{UnknownArgument, ValueValidation}
 use Rattle.clap.proofs.OnLiterals.{clap_on_literals}
 use Rattle.mrc_words.specs.Numbers.{number_of_word}
-use Rattle.mrc_command.specs.CommandLine.{machcheck_app}
+use Rattle.mrc_command.specs.CommandLine.{commands, machcheck_app}
 use Rattle.mrc_command.specs.Meaning.{all_values, format_given, has_flag, has_format}
-use Rattle.mrc_command.specs.Meaning.{number_of, number_if_given}
+use Rattle.mrc_command.specs.Meaning.{number_given}
+use Rattle.mrc_command.specs.declared.command.Format.{Format}
 use Rattle.mrc_command.specs.declared.command.Format.TheVariants.{Text as Plain, Json, Sarif}
+use Rattle.mrc_command.specs.declared.table.Kind.{Kind}
+use Rattle.mrc_command.specs.declared.table.Kind.TheVariants.{Needed, Free, Number, Flag, Words}
+use Rattle.mrc_command.specs.declared.table.Kind.TheVariants.{NeededWords}
+
+-- an option as it is written below: `=` has a value, `=N` a number that `clap` reads
+abbrev usage_of : Kind → Text → List ℕ
+usage_of Needed name = name ++ codes "="
+usage_of Free name = codes "[" ++ (name ++ codes "=]")
+usage_of Number name = codes "[" ++ (name ++ codes "=N]")
+usage_of Flag name = codes "[" ++ (name ++ codes "]")
+usage_of Words name = name ++ codes "*"
+usage_of NeededWords name = name ++ codes "+"
+
+-- a command as it is written
+abbrev usage : Text × List (Text × Kind) → List ℕ
+usage command =
+    command.0 ++ flat_map (λ option. codes " " ++ usage_of option.1 option.0) command.1
+
+-- the whole table
+all_commands : map usage commands
+    ≡ codes "verify wiring= policy= [tree] [brief] [line=] [format=] [verbose] defs*"
+    ∷ codes "mend wiring= policy= [most=] [format=] [verbose] defs*"
+    ∷ codes "attack wiring= policy= [line=] [most=] [verbose] defs*"
+    ∷ codes "check wiring= policy= cert= [format=] [verbose] defs*"
+    ∷ codes "make wiring= out= [workers=N] [verbose] defs*"
+    ∷ codes "explain wiring= fact= [by] [format=] [verbose] defs*"
+    ∷ codes "facts wiring= [cert=] [task=] [class=] [right=] [format=] [verbose] defs*"
+    ∷ codes "graph wiring= [cert=] [policy=] [fact=] [task=] [holds] [verbose] defs*"
+    ∷ codes "slots wiring= [verbose] defs*"
+    ∷ codes "promises wiring= [verbose] defs*"
+    ∷ codes "replay wiring= script= [verbose] defs*"
+    ∷ codes "live wiring= policy= cert= script= [verbose] defs*"
+    ∷ codes "mig out= [strict] [strict-rights] [format=] [verbose] defs+"
+    ∷ []
+all_commands = refl
+
+-- a byte before the first of texts
+abbrev before_first : ℕ → List Text → List Text
+before_first byte [] = (byte ∷ []) ∷ []
+before_first byte (text ∷ texts) = (byte ∷ text) ∷ texts
+
+-- what is between the blanks of a text
+abbrev words_in : List ℕ → List Text
+words_in [] = [] ∷ []
+words_in (byte ∷ bytes) =
+    if byte == 32 then [] ∷ words_in bytes else before_first byte (words_in bytes)
+
+-- the words of a command line
+abbrev line : List ℕ → List Text
+line text = codes "machcheck" ∷ words_in text
 
 -- the name of the subcommand, and what is read of its rows
-abbrev given : {T : Type 0} → (List Row → T) → List Text → Option (Text × T)
-given read words = option_map (λ asked. (asked.0, read asked.1)) (subcommand_of machcheck_app words)
+abbrev given : {T : Type 0} → (List Row → T) → List ℕ → Option (Text × T)
+given read text =
+    option_map (λ asked. (asked.0, read asked.1)) (subcommand_of machcheck_app (line text))
 
 -- options and MIG files in any order, and a flag
-abbrev check_words : List Text
-check_words =
-    codes "machcheck" ∷ codes "check" ∷ codes "--policy" ∷ codes "p" ∷ codes "a" ∷ codes "--verbose"
-    ∷ codes "--cert=c" ∷ codes "b" ∷ codes "--wiring" ∷ codes "w" ∷ []
+abbrev check_line : List ℕ
+check_line = codes "check --policy p a --verbose --cert=c b --wiring w"
 
 check_files : given (λ rows. map (λ name. first_of name rows)
-    (codes "wiring" ∷ codes "policy" ∷ codes "cert" ∷ codes "script" ∷ [])) check_words
+    (codes "wiring" ∷ codes "policy" ∷ codes "cert" ∷ codes "script" ∷ [])) check_line
     ≡ Some (codes "check", Some (codes "w") ∷ Some (codes "p") ∷ Some (codes "c") ∷ None ∷ [])
 unfolding clap_on_literals
 check_files = refl
 
-check_defs : given (all_values (codes "defs")) check_words
-    ≡ Some (codes "check", codes "a" ∷ codes "b" ∷ [])
+check_defs : given {T = List Text × Bool}
+    (λ rows. (all_values (codes "defs") rows, has_flag (codes "verbose") rows)) check_line
+    ≡ Some (codes "check", (codes "a" ∷ codes "b" ∷ [], true))
 unfolding clap_on_literals
 check_defs = refl
 
-check_verbose : given (has_flag (codes "verbose")) check_words ≡ Some (codes "check", true)
-unfolding clap_on_literals
-check_verbose = refl
-
 -- a flag that is not given
-abbrev explain_words : List Text
-explain_words =
-    codes "machcheck" ∷ codes "explain" ∷ codes "--fact" ∷ codes "f" ∷ codes "--wiring" ∷ codes "w"
-    ∷ []
-
-explain_by : given (has_flag (codes "by")) explain_words ≡ Some (codes "explain", false)
+explain_by : given (has_flag (codes "by")) (codes "explain --fact f --wiring w")
+    ≡ Some (codes "explain", false)
 unfolding clap_on_literals
 explain_by = refl
 
 -- a number that is given, and one that is not
-abbrev attack_words : List Text
-attack_words =
-    codes "machcheck" ∷ codes "attack" ∷ codes "--line" ∷ codes "7" ∷ codes "--wiring" ∷ codes "w"
-    ∷ codes "--policy" ∷ codes "p" ∷ []
-
-attack_line : given (λ rows. number_if_given (first_of (codes "line") rows)) attack_words
-    ≡ Some (codes "attack", Some 7)
+attack_numbers : given {T = Option ℕ × ℕ} (λ rows. (
+  number_given (first_of (codes "line") rows),
+  unwrap_or (number_given (first_of (codes "most") rows)) 30,
+))
+    (codes "attack --line 7 --wiring w --policy p") ≡ Some (codes "attack", (Some 7, 30))
 unfolding clap_on_literals number_of_word
-attack_line = refl
+attack_numbers = refl
 
-attack_most : given (λ rows. number_of 1000 (first_of (codes "most") rows)) attack_words
-    ≡ Some (codes "attack", 1000)
+-- flags, and a number behind `=` that is none
+verify_flags : given {T = List Bool × Option ℕ} (λ rows. (
+  map (λ name. has_flag name rows)
+      (codes "tree" ∷ codes "brief" ∷ codes "verbose" ∷ []),
+  number_given (first_of (codes "line") rows),
+))
+    (codes "verify --brief --line=3a --wiring w --policy p")
+    ≡ Some (codes "verify", (false ∷ true ∷ false ∷ [], Some 0))
 unfolding clap_on_literals number_of_word
-attack_most = refl
-
--- the options of `verify`
-abbrev verify_words : List Text
-verify_words =
-    codes "machcheck" ∷ codes "verify" ∷ codes "--brief" ∷ codes "--line=3" ∷ codes "--wiring"
-    ∷ codes "w" ∷ codes "--policy" ∷ codes "p" ∷ []
-
-verify_flags : given (λ rows. map (λ name. has_flag name rows)
-    (codes "tree" ∷ codes "brief" ∷ codes "verbose" ∷ [])) verify_words
-    ≡ Some (codes "verify", false ∷ true ∷ false ∷ [])
-unfolding clap_on_literals
 verify_flags = refl
 
-verify_line : given (λ rows. number_if_given (first_of (codes "line") rows)) verify_words
-    ≡ Some (codes "verify", Some 3)
-unfolding clap_on_literals number_of_word
-verify_line = refl
-
--- those of `graph`
-abbrev graph_words : List Text
-graph_words =
-    codes "machcheck" ∷ codes "graph" ∷ codes "--wiring" ∷ codes "w" ∷ codes "--task" ∷ codes "t"
-    ∷ codes "--holds" ∷ []
-
-graph_flags : given (λ rows. map (λ name. has_flag name rows)
-    (codes "holds" ∷ codes "verbose" ∷ [])) graph_words ≡ Some (codes "graph", true ∷ false ∷ [])
-unfolding clap_on_literals
-graph_flags = refl
-
-graph_task : given (first_of (codes "task")) graph_words ≡ Some (codes "graph", Some (codes "t"))
+-- what is drawn
+graph_task : given {T = Option Text × Bool}
+    (λ rows. (first_of (codes "task") rows, has_flag (codes "holds") rows))
+    (codes "graph --wiring w --task t --holds") ≡ Some (codes "graph", (Some (codes "t"), true))
 unfolding clap_on_literals
 graph_task = refl
 
--- a place is asked for
-abbrev slots_words : List Text
-slots_words =
-    codes "machcheck" ∷ codes "slots" ∷ codes "--wiring" ∷ codes "w" ∷ codes "a"
-    ∷ codes "--verbose" ∷ []
+-- the words mean a subcommand, and `clap` takes them
+abbrev is_taken : List ℕ → Bool
+is_taken text = takes machcheck_app (line text)
 
-slots_verbose : given (has_flag (codes "verbose")) slots_words ≡ Some (codes "slots", true)
-unfolding clap_on_literals
-slots_verbose = refl
+-- the format that a subcommand is given, and whether it has this format
+abbrev format : List ℕ → Option (Text × (Format × Bool))
+format text = option_map (λ asked. (asked.0, (format_given asked.1, has_format asked.0 asked.1)))
+    (subcommand_of machcheck_app (line text))
 
-abbrev mig_words : List Text
-mig_words =
-    codes "machcheck" ∷ codes "mig" ∷ codes "--verbose" ∷ codes "--out" ∷ codes "o" ∷ codes "a"
-    ∷ []
-
-mig_verbose : given (has_flag (codes "verbose")) mig_words ≡ Some (codes "mig", true)
-unfolding clap_on_literals
-mig_verbose = refl
-
--- the format is named, and behind `=`
-abbrev json_words : List Text
-json_words =
-    codes "machcheck" ∷ codes "check" ∷ codes "--format" ∷ codes "json" ∷ codes "--wiring"
-    ∷ codes "w" ∷ codes "--policy" ∷ codes "p" ∷ codes "--cert" ∷ codes "c" ∷ []
-
-check_json : given format_given json_words ≡ Some (codes "check", Json)
+check_json : format (codes "check --format json --wiring w --policy p --cert c")
+    ≡ Some (codes "check", (Json, true))
 unfolding clap_on_literals
 check_json = refl
 
-json_taken : takes machcheck_app json_words ≡ true
-unfolding clap_on_literals
-json_taken = refl
-
-abbrev sarif_words : Text → List Text
-sarif_words command =
-    codes "machcheck" ∷ command ∷ codes "--wiring" ∷ codes "w" ∷ codes "--policy" ∷ codes "p"
-    ∷ codes "--format=sarif" ∷ []
-
-verify_sarif : given format_given (sarif_words (codes "verify")) ≡ Some (codes "verify", Sarif)
+verify_sarif : format (codes "verify --wiring w --policy p --format=sarif")
+    ≡ Some (codes "verify", (Sarif, true))
 unfolding clap_on_literals
 verify_sarif = refl
 
--- only `verify` has this format
-abbrev is_had : List Text → Option Bool
-is_had words = option_map (λ asked. has_format asked.0 asked.1) (subcommand_of machcheck_app words)
-
-verify_has : is_had (sarif_words (codes "verify")) ≡ Some true
+-- only `verify` has this format, but `clap` takes the words
+mend_sarif : format (codes "mend --wiring w --policy p --format=sarif")
+    ≡ Some (codes "mend", (Sarif, false))
 unfolding clap_on_literals
-verify_has = refl
+mend_sarif = refl
 
-mend_has : is_had (sarif_words (codes "mend")) ≡ Some false
-unfolding clap_on_literals
-mend_has = refl
-
--- `clap` takes such words
-mend_taken : takes machcheck_app (sarif_words (codes "mend")) ≡ true
+mend_taken : is_taken (codes "mend --wiring w --policy p --format=sarif") ≡ true
 unfolding clap_on_literals
 mend_taken = refl
 
 -- no command has this one
-abbrev xml_words : List Text
-xml_words =
-    codes "machcheck" ∷ codes "verify" ∷ codes "--wiring" ∷ codes "w" ∷ codes "--policy"
-    ∷ codes "p" ∷ codes "--format" ∷ codes "xml" ∷ []
-
-verify_lacks : is_had xml_words ≡ Some false
+verify_xml : format (codes "verify --wiring w --policy p --format xml")
+    ≡ Some (codes "verify", (Plain, false))
 unfolding clap_on_literals
-verify_lacks = refl
+verify_xml = refl
 
 -- each has it if it is not named
-slots_has : is_had slots_words ≡ Some true
+slots_text : format (codes "slots --wiring w a --verbose") ≡ Some (codes "slots", (Plain, true))
 unfolding clap_on_literals
-slots_has = refl
+slots_text = refl
 
--- it is not named
-verify_text : given format_given verify_words ≡ Some (codes "verify", Plain)
-unfolding clap_on_literals
-verify_text = refl
-
--- it is named as text
-abbrev text_words : List Text
-text_words =
-    codes "machcheck" ∷ codes "mig" ∷ codes "--out" ∷ codes "o" ∷ codes "--format=text"
-    ∷ codes "a" ∷ []
-
-mig_text : given format_given text_words ≡ Some (codes "mig", Plain)
+mig_text : format (codes "mig --out o --format=text a") ≡ Some (codes "mig", (Plain, true))
 unfolding clap_on_literals
 mig_text = refl
 
--- it is named twice
-abbrev twice_words : List Text
-twice_words =
-    codes "machcheck" ∷ codes "mig" ∷ codes "--format=json" ∷ codes "--out" ∷ codes "o"
-    ∷ codes "--format=text" ∷ codes "a" ∷ []
+-- what `clap` refuses: an option that is named twice, one that the command does not have, one that
+-- has to be given, and a number that is none
+abbrev faults : List ℕ → Kinds
+faults text = fault_of machcheck_app (line text)
 
-twice_refused : fault_of machcheck_app twice_words ≡ ArgumentConflict ∷ []
+twice : faults (codes "mig --format=json --out o --format=text a") ≡ ArgumentConflict ∷ []
 unfolding clap_on_literals
-twice_refused = refl
+twice = refl
 
--- a command that has no formats
-abbrev slots_format : List Text
-slots_format =
-    codes "machcheck" ∷ codes "slots" ∷ codes "--format=json" ∷ codes "--wiring" ∷ codes "w" ∷ []
-
-slots_refused : fault_of machcheck_app slots_format ≡ UnknownArgument ∷ []
+unknown : faults (codes "slots --format=json --wiring w") ≡ UnknownArgument ∷ []
 unfolding clap_on_literals
-slots_refused = refl
+unknown = refl
+
+missing : faults (codes "check --wiring w --policy p") ≡ MissingRequiredArgument ∷ []
+unfolding clap_on_literals
+missing = refl
+
+no_number : faults (codes "make --wiring w --out c --workers many") ≡ ValueValidation ∷ []
+unfolding clap_on_literals
+no_number = refl

@@ -1,6 +1,7 @@
 -- The command line that `clap` reads, and the words that it comes in. This profile's own choice.
-use Rattle.std.specs.Prelude.{◌≡◌, ◌⊎◌, ℕ, List, [], ◌∷◌, Some, true, codes, string_bytes, false}
-use Rattle.std.specs.Prelude.{bytes_eq, if◌then◌else◌}
+use Rattle.std.specs.Prelude.{◌≡◌, ◌⊎◌, ◌&&◌, ℕ, Bool, true, false, List, [], ◌∷◌, Some, codes, map}
+use Rattle.std.specs.Prelude.{bytes_eq, if◌then◌else◌, string_bytes}
+use Rattle.std.specs.List.{list_any}
 use Rattle.std.specs.declared.io.ErrorKind.{ErrorKind}
 use Rattle.std.specs.declared.io.ErrorKind.TheVariants.{InvalidData}
 use Rattle.clap.specs.Words.{App, Rule, Text, new_app, new_rule, with_rule, with_subcommand}
@@ -17,6 +18,10 @@ use Rattle.mrc_command.specs.declared.words.WordsFault.TheVariants.{NotUtf8, Mem
 use Rattle.mrc_command.specs.declared.command.NoCommand.{NoCommand}
 use Rattle.mrc_command.specs.declared.command.NoCommand.TheVariants.{Told as TextTold}
 use Rattle.mrc_command.specs.declared.command.NoCommand.TheVariants.{Memory as NoMemory}
+use Rattle.mrc_command.specs.declared.table.Kind.{Kind}
+use Rattle.mrc_command.specs.declared.table.Kind.TheVariants.{Needed, Free, Number, Flag, Words}
+use Rattle.mrc_command.specs.declared.table.Kind.TheVariants.{NeededWords}
+use Rattle.mrc_command.specs.declared.table.TheConstants.{COMMANDS}
 use Rattle.mrc_command.specs.Lines.{memory_line}
 
 -- why the words of the command line can't be had, by the kind of the system's error
@@ -34,130 +39,46 @@ words_line Memory = memory_line
 abbrev pub spelled : List ℕ → List ℕ
 spelled word = if bytes_eq word (codes "--strict=rights") then codes "--strict-rights" else word
 
--- an option that names a file or a fact, and has to be given
-abbrev pub file_rule : Text → Rule
-file_rule name = record
-    (new_rule name) { long = Some name; value_names = 1; action = Some Set; required = true }
+-- the table: the name of each command, with its options: their names, and how each is given
+abbrev pub commands : List (Text × List (Text × Kind))
+commands = map (λ entry. (entry.0.now, map (λ row. (row.0.now, row.1)) entry.3.now)) COMMANDS
+
+-- whether the command of this name has the option of this name
+abbrev pub has_option : Text → Text → Bool
+has_option name option = list_any (λ command. bytes_eq command.0 name
+    && list_any (λ row. bytes_eq row.0 option) command.1) commands
 
 -- an option with one value, which need not be given
 abbrev pub free_rule : Text → Rule
 free_rule name = record (new_rule name) { long = Some name; value_names = 1; action = Some Set }
 
--- an option without a value
-abbrev pub flag_rule : Text → Rule
-flag_rule name = record (new_rule name) { long = Some name; action = Some SetTrue }
+-- words without an option's name, as many as there are
+abbrev pub words_rule : Text → Rule
+words_rule name = record (new_rule name) { value_names = 1; action = Some Append }
 
--- the number of workers: `clap` refuses a word that is no number
-abbrev pub workers_rule : Rule
-workers_rule = record (free_rule (codes "workers")) {
+-- what `clap` reads of an option of this name; of a number it refuses a word that is none
+abbrev pub rule_of_kind : Kind → Text → Rule
+rule_of_kind Needed name = record (free_rule name) { required = true }
+rule_of_kind Free name = free_rule name
+rule_of_kind Number name = record (free_rule name) {
   parser = Some (Unsigned 0 18446744073709551615);
 }
+rule_of_kind Flag name = record (new_rule name) { long = Some name; action = Some SetTrue }
+rule_of_kind Words name = words_rule name
+rule_of_kind NeededWords name = record (words_rule name) { required = true }
 
--- how the answer is printed: `clap` takes any word
-abbrev pub format_rule : Rule
-format_rule = free_rule (codes "format")
-
--- the MIG files: arguments without an option's name, as many as there are
-abbrev pub defs_rule : Rule
-defs_rule = record (new_rule (codes "defs")) { value_names = 1; action = Some Append }
-
--- the same if one MIG file at least has to be given
-abbrev pub given_defs_rule : Rule
-given_defs_rule = record defs_rule { required = true }
-
--- whether the place of a fault is shown
-abbrev pub verbose_rule : Rule
-verbose_rule = flag_rule (codes "verbose")
+-- the same of an option of the table
+abbrev pub rule_of_option : Text × Kind → Rule
+rule_of_option option = rule_of_kind option.1 option.0
 
 -- a command with these options too, in their order
 abbrev pub with_rules : App → List Rule → App
 with_rules app [] = app
 with_rules app (rule ∷ rules) = with_rules (with_rule app rule) rules
 
--- a command with what is last of each that is about the files of a system
-abbrev pub with_last : App → App
-with_last app = with_rules app (verbose_rule ∷ defs_rule ∷ [])
-
--- a command of this name for which a wiring has to be named
-abbrev pub wiring_app : Text → App
-wiring_app name = with_rule (new_app name) (file_rule (codes "wiring"))
-
--- the same, and a policy
-abbrev pub policy_app : Text → App
-policy_app name = with_rule (wiring_app name) (file_rule (codes "policy"))
-
--- a command of this name for which a wiring has to be named, and a certificate may be
-abbrev pub facts_of_app : Text → App
-facts_of_app name = with_rule (wiring_app name) (free_rule (codes "cert"))
-
--- `verify --wiring FILE --policy FILE [--tree] [--brief] [--line N] [--format FORMAT] [--verbose]
--- [DEFS]...`
-abbrev pub verify_app : App
-verify_app = with_last (with_rules (policy_app (codes "verify"))
-    (flag_rule (codes "tree") ∷ flag_rule (codes "brief") ∷ free_rule (codes "line")
-    ∷ format_rule ∷ []))
-
--- `mend --wiring FILE --policy FILE [--most N] [--format FORMAT] [--verbose] [DEFS]...`
-abbrev pub mend_app : App
-mend_app = with_last (with_rules (policy_app (codes "mend"))
-    (free_rule (codes "most") ∷ format_rule ∷ []))
-
--- `attack --wiring FILE --policy FILE [--line N] [--most N] [--verbose] [DEFS]...`
-abbrev pub attack_app : App
-attack_app = with_last (with_rules (policy_app (codes "attack"))
-    (free_rule (codes "line") ∷ free_rule (codes "most") ∷ []))
-
--- `check --wiring FILE --policy FILE --cert FILE [--format FORMAT] [--verbose] [DEFS]...`
-abbrev pub check_app : App
-check_app = with_last (with_rules (policy_app (codes "check"))
-    (file_rule (codes "cert") ∷ format_rule ∷ []))
-
--- `make --wiring FILE --out FILE [--workers N] [--verbose] [DEFS]...`
-abbrev pub make_app : App
-make_app = with_last (with_rules (wiring_app (codes "make"))
-    (file_rule (codes "out") ∷ workers_rule ∷ []))
-
--- `explain --wiring FILE --fact FACT [--by] [--format FORMAT] [--verbose] [DEFS]...`
-abbrev pub explain_app : App
-explain_app = with_last (with_rules (wiring_app (codes "explain"))
-    (file_rule (codes "fact") ∷ flag_rule (codes "by") ∷ format_rule ∷ []))
-
--- `facts --wiring FILE [--cert FILE] [--task TASK] [--class CLASS] [--right RIGHT]
--- [--format FORMAT] [--verbose] [DEFS]...`
-abbrev pub facts_app : App
-facts_app = with_last (with_rules (facts_of_app (codes "facts"))
-    (free_rule (codes "task") ∷ free_rule (codes "class") ∷ free_rule (codes "right")
-    ∷ format_rule ∷ []))
-
--- `graph --wiring FILE [--cert FILE] [--policy FILE] [--fact FACT] [--task TASK] [--holds]
--- [--verbose] [DEFS]...`
-abbrev pub graph_app : App
-graph_app = with_last (with_rules (facts_of_app (codes "graph"))
-    (free_rule (codes "policy") ∷ free_rule (codes "fact") ∷ free_rule (codes "task")
-    ∷ flag_rule (codes "holds") ∷ []))
-
--- `slots --wiring FILE [--verbose] [DEFS]...`
-abbrev pub slots_app : App
-slots_app = with_last (wiring_app (codes "slots"))
-
--- `promises --wiring FILE [--verbose] [DEFS]...`
-abbrev pub promises_app : App
-promises_app = with_last (wiring_app (codes "promises"))
-
--- `replay --wiring FILE --script FILE [--verbose] [DEFS]...`
-abbrev pub replay_app : App
-replay_app = with_last (with_rule (wiring_app (codes "replay")) (file_rule (codes "script")))
-
--- `live --wiring FILE --policy FILE --cert FILE --script FILE [--verbose] [DEFS]...`
-abbrev pub live_app : App
-live_app = with_last (with_rules (policy_app (codes "live"))
-    (file_rule (codes "cert") ∷ file_rule (codes "script") ∷ []))
-
--- `mig --out FOLDER [--strict] [--strict-rights] [--format FORMAT] [--verbose] FILE...`
-abbrev pub mig_app : App
-mig_app = with_rules (new_app (codes "mig"))
-    (file_rule (codes "out") ∷ flag_rule (codes "strict") ∷ flag_rule (codes "strict-rights")
-    ∷ format_rule ∷ verbose_rule ∷ given_defs_rule ∷ [])
+-- a command of the table
+abbrev pub command_app : Text × List (Text × Kind) → App
+command_app command = with_rules (new_app command.0) (map rule_of_option command.1)
 
 -- no option of the command holds for its subcommands too
 abbrev pub HasNoGlobals : Command → Type 0
@@ -179,18 +100,9 @@ with_commands app [] = app
 with_commands app (command ∷ commands) =
     with_commands (with_subcommand app command.top) commands
 
--- the program with the commands that answer what can come about
-abbrev pub answer_app : App
-answer_app = with_commands bare_app (verify_app ∷ mend_app ∷ attack_app ∷ check_app ∷ [])
-
--- the same, and what speaks of facts
-abbrev pub fact_app : App
-fact_app = with_commands answer_app (make_app ∷ explain_app ∷ facts_app ∷ graph_app ∷ [])
-
 -- the program and its commands
 abbrev pub machcheck_app : App
-machcheck_app =
-    with_commands fact_app (slots_app ∷ promises_app ∷ replay_app ∷ live_app ∷ mig_app ∷ [])
+machcheck_app = with_commands bare_app (map command_app commands)
 
 -- the words ask for help or for the version, as `clap` reads them; then they are no command
 abbrev pub AsksHelp : List Text → Type 0

@@ -1,15 +1,14 @@
 -- Believe. Which command the words of a command line ask for.
 -- This profile's own choice. `clap` says which subcommand the words name, and which values they
 -- give to each of its options: a row for each option that has a value.
-use Rattle.std.specs.Prelude.{◌≡◌, ◌&&◌, ℕ, Bool, true, false, List, [], ◌∷◌, Option, Some, None}
+use Rattle.std.specs.Prelude.{◌≡◌, ◌&&◌, ◌||◌, ℕ, Bool, true, false, List, [], Option, Some, None}
 use Rattle.std.specs.Prelude.{map, string_bytes}
 use Rattle.std.specs.Prelude.{codes, bytes_eq, unwrap_or, is_some, if◌then◌else◌, IsSomeAnd}
-use Rattle.std.specs.List.{list_any}
 use Rattle.std.specs.Option.{option_map, option_map_or}
 use Rattle.clap.specs.Words.{Row, Text, all_of, first_of, found_of, rows_of, subcommand_of}
 use Rattle.clap.specs.declared.parser.matches.ArgMatches.{ArgMatches}
 use Rattle.mrc_words.specs.Numbers.{number_of_word}
-use Rattle.mrc_command.specs.CommandLine.{machcheck_app}
+use Rattle.mrc_command.specs.CommandLine.{has_option, machcheck_app}
 use Rattle.mrc_command.specs.Lines.{fault_line}
 use Rattle.mrc_command.specs.declared.command.NoCommand.{NoCommand}
 use Rattle.mrc_command.specs.declared.command.NoCommand.TheVariants.{Told as TextTold}
@@ -42,27 +41,19 @@ all_values name rows = unwrap_or (all_of name rows) []
 abbrev pub has_flag : Text → List Row → Bool
 has_flag name rows = option_map_or (λ text. bytes_eq text (codes "true")) (first_of name rows) false
 
--- the number that an option has: the usual one if none is given, 0 if the text is no number
-abbrev pub number_of : ℕ → Option Text → ℕ
-number_of usual None = usual
-number_of usual (Some text) = unwrap_or (number_of_word text) 0
-
 -- the number that an option has, if it is given: 0 if the text is no number
-abbrev pub number_if_given : Option Text → Option ℕ
-number_if_given None = None
-number_if_given (Some text) = Some (unwrap_or (number_of_word text) 0)
+abbrev pub number_given : Option Text → Option ℕ
+number_given given = option_map (λ text. unwrap_or (number_of_word text) 0) given
 
--- the words that `--format` may have, of the subcommand of this name
-abbrev pub format_words : Text → List Text
-format_words name =
-    if bytes_eq name (codes "verify") then codes "text" ∷ codes "json" ∷ codes "sarif" ∷ []
-    else codes "text" ∷ codes "json" ∷ []
+-- whether the subcommand of this name has the format that this word names: each has text and JSON
+abbrev pub is_format : Text → Text → Bool
+is_format name word =
+    bytes_eq word (codes "text") || (bytes_eq word (codes "json")
+    || (bytes_eq word (codes "sarif") && bytes_eq name (codes "verify")))
 
--- whether its `--format` has one of them, or is not given
+-- whether it has the format that is given, or none is given
 abbrev pub has_format : Text → List Row → Bool
-has_format name rows =
-    option_map_or (λ given. list_any (λ word. bytes_eq word given) (format_words name))
-    (first_of (codes "format") rows) true
+has_format name rows = option_map_or (is_format name) (first_of (codes "format") rows) true
 
 -- the format that a word names, if one is given: text if it names none
 abbrev pub format_of : Option Text → Format
@@ -97,24 +88,24 @@ pub record IsShowing (rows : List Row) (showing : Showing) : Type 0 where
   pub tree : showing.tree ≡ has_flag (codes "tree") rows
   pub brief : showing.brief ≡ has_flag (codes "brief") rows
   pub quotes : showing.quotes ≡ has_flag (codes "verbose") rows
-  pub line : showing.line ≡ number_if_given (first_of (codes "line") rows)
+  pub line : showing.line ≡ number_given (first_of (codes "line") rows)
   pub format : showing.format ≡ format_given rows
 
 -- the question that a subcommand of this name asks with these options
 abbrev pub Asks : Text → List Row → Question → Type 0
 Asks name rows (Verify showing) = (name ≡ codes "verify") × IsShowing rows showing
 Asks name rows (Mend most format) =
-    (name ≡ codes "mend") × (most ≡ number_of 10 (first_of (codes "most") rows))
+    (name ≡ codes "mend") × (most ≡ unwrap_or (number_given (first_of (codes "most") rows)) 10)
     × (format ≡ format_given rows)
 Asks name rows (Attack line most) =
-    (name ≡ codes "attack") × (line ≡ number_if_given (first_of (codes "line") rows))
-    × (most ≡ number_of 1000 (first_of (codes "most") rows))
+    (name ≡ codes "attack") × (line ≡ number_given (first_of (codes "line") rows))
+    × (most ≡ unwrap_or (number_given (first_of (codes "most") rows)) 30)
 Asks name rows (Check verbose format) =
     (name ≡ codes "check") × (verbose ≡ has_flag (codes "verbose") rows)
     × (format ≡ format_given rows)
 Asks name rows (Make out workers) =
     (name ≡ codes "make") × (first_of (codes "out") rows ≡ Some out.now)
-    × (workers ≡ number_of 4 (first_of (codes "workers") rows))
+    × (workers ≡ unwrap_or (number_given (first_of (codes "workers") rows)) 4)
 Asks name rows (Explain fact by format) =
     (name ≡ codes "explain") × (first_of (codes "fact") rows ≡ Some fact.now)
     × (by ≡ has_flag (codes "by") rows) × (format ≡ format_given rows)
@@ -225,12 +216,6 @@ abbrev pub asked_format : Command → Format
 asked_format (Case files question) = question_format question
 asked_format (Mig files) = files.format
 
--- the subcommands that have `--format`
-abbrev pub formatted : List Text
-formatted =
-    codes "verify" ∷ codes "mend" ∷ codes "check" ∷ codes "explain" ∷ codes "facts" ∷ codes "mig"
-    ∷ []
-
 -- the name of a command is that of the subcommand that it is
 abbrev pub NamesItsSubcommand : Type 0
 NamesItsSubcommand =
@@ -241,12 +226,12 @@ NamesItsSubcommand =
 abbrev pub HasFormatOfOptions : Type 0
 HasFormatOfOptions =
     (name : Text) (rows : List Row) (command : Command) → IsCommandOf name rows command
-    → list_any (λ word. bytes_eq word name) formatted ≡ true
+    → has_option name (codes "format") ≡ true
     → asked_format command ≡ format_given rows
 
 -- if it has none, the command is to be answered by text
 abbrev pub IsTextWithoutOption : Type 0
 IsTextWithoutOption =
     (name : Text) (rows : List Row) (command : Command) → IsCommandOf name rows command
-    → list_any (λ word. bytes_eq word name) formatted ≡ false
+    → has_option name (codes "format") ≡ false
     → asked_format command ≡ Plain

@@ -6,11 +6,10 @@ ghost use Rattle.std.specs.Option.{option_map};
 ghost use Rattle.clap.specs.Words.{first_of, kind_of, subcommand_of, subcommand_rows_of, takes};
 ghost use Rattle.clap.specs.declared.error.kind.ErrorKind.TheVariants.{OutOfMemory};
 ghost use Rattle.mrc_command.specs.CommandLine.{IsNoCommand, TellsError, machcheck_app};
-ghost use Rattle.mrc_command.specs.Meaning.{all_values, has_flag, number_of, number_if_given};
-ghost use Rattle.mrc_command.specs.Meaning.{strictness_of, format_of, format_given, rows};
-ghost use Rattle.mrc_command.specs.Meaning.{NamesFiles, IsShowing, Asks};
-ghost use Rattle.mrc_command.specs.Meaning.{has_files, AsksMig, IsCommandOf, IsRequestOf, Means};
-ghost use Rattle.mrc_command.specs.Meaning.{has_format, IsBadFormat, IsBadFormatIfTold, IsRefusal};
+ghost use Rattle.mrc_command.specs.Meaning.{all_values, has_flag, number_given, format_given, rows};
+ghost use Rattle.mrc_command.specs.Meaning.{NamesFiles, IsShowing, Asks, has_files, AsksMig};
+ghost use Rattle.mrc_command.specs.Meaning.{IsCommandOf, IsRequestOf, Means, has_format};
+ghost use Rattle.mrc_command.specs.Meaning.{IsBadFormatIfTold, IsRefusal};
 
 use crate::lacking::lacking_text;
 use crate::options::whole_command;
@@ -76,7 +75,7 @@ pub enum Question<'a> {
         format: Format,
     },
     /// By which calls can what the policy forbids come about? With `line` only that line is looked
-    /// at. For each line `most` states are looked at, at most. Both are 0 if the text is no number.
+    /// at. For each line `most` chains are played, at most. Both are 0 if the text is no number.
     Attack {
         line: Option<usize>,
         most: usize,
@@ -236,33 +235,14 @@ fn has_flag(matches: &ArgMatches<'_>, option: &str) -> bool
     }
 }
 
-/// The number that a text gives: 0 if it is none.
-fn number_in(text: &str) -> usize
-    ensures { result ≡ number_of 0 (Some text.now) }
-{
-    match number_of_word(text.as_bytes()) {
-        Some(number) => number as usize,
-        None => 0,
-    }
-}
-
-/// The number that an option has: this one if it is not given, 0 if it is no number.
-fn number_given(matches: &ArgMatches<'_>, option: &str, usual: usize) -> usize
-    ensures { result ≡ number_of usual (first_of option.now (rows matches.now)) }
-{
-    match value_given(matches, option) {
-        Some(text) => number_in(text),
-        None => usual,
-    }
-}
-
 /// The number that an option has, if it is given: 0 if it is no number.
-fn number_if_given(matches: &ArgMatches<'_>, option: &str) -> Option<usize>
-    ensures { result ≡ number_if_given (first_of option.now (rows matches.now)) }
+fn number_given(matches: &ArgMatches<'_>, option: &str) -> Option<usize>
+    ensures { result ≡ number_given (first_of option.now (rows matches.now)) }
 {
-    match value_given(matches, option) {
-        Some(text) => Some(number_in(text)),
-        None => None,
+    let text = value_given(matches, option)?;
+    match number_of_word(text.as_bytes()) {
+        Some(number) => Some(number as usize),
+        None => Some(0),
     }
 }
 
@@ -277,22 +257,15 @@ fn defs_given<'a>(alloc: Global, matches: &ArgMatches<'a>) -> Result<Vec<&'a str
     }
 }
 
-/// The format that a word names, if one is given: text if it names none.
-fn format_of(word: Option<&str>) -> Format
-    ensures { result ≡ format_of (option_map (λ word. word.now) word.entry) }
-{
-    match word {
-        Some("json") => Format::Json,
-        Some("sarif") => Format::Sarif,
-        _ => Format::Text,
-    }
-}
-
 /// How the answer is to be printed.
 fn format_given(matches: &ArgMatches<'_>) -> Format
     ensures { result ≡ format_given (rows matches.now) }
 {
-    format_of(value_given(matches, "format"))
+    match value_given(matches, "format") {
+        Some("json") => Format::Json,
+        Some("sarif") => Format::Sarif,
+        _ => Format::Text,
+    }
 }
 
 /// The files that the options name. A wiring has to be given.
@@ -317,80 +290,56 @@ fn files_named<'a>(alloc: Global, matches: &ArgMatches<'a>) -> Result<FileNames<
 fn showing_asked(matches: &ArgMatches<'_>) -> Showing
     ensures { IsShowing (rows matches.now) result }
 {
+    let line = number_given(matches, "line");
     Showing {
         tree: has_flag(matches, "tree"),
         brief: has_flag(matches, "brief"),
         quotes: has_flag(matches, "verbose"),
-        line: number_if_given(matches, "line"),
+        line,
         format: format_given(matches),
     }
 }
 
-fn mend_asked<'a>(matches: &ArgMatches<'_>) -> Question<'a>
-    ensures { Asks (codes "mend") (rows matches.now) result }
-{
-    let most = number_given(matches, "most", 10);
-    let format = format_given(matches);
-    Question::Mend { most, format }
-}
-
-fn check_asked<'a>(matches: &ArgMatches<'_>) -> Question<'a>
-    ensures { Asks (codes "check") (rows matches.now) result }
-{
-    let verbose = has_flag(matches, "verbose");
-    let format = format_given(matches);
-    Question::Check { verbose, format }
-}
-
-fn attack_asked<'a>(matches: &ArgMatches<'_>) -> Question<'a>
-    ensures { Asks (codes "attack") (rows matches.now) result }
-{
-    let line = number_if_given(matches, "line");
-    let most = number_given(matches, "most", 1000);
-    Question::Attack { line, most }
-}
-
-/// The question of a `make`. A file for the certificate has to be given.
-fn make_asked<'a>(matches: &ArgMatches<'a>) -> Option<Question<'a>>
-    ensures { IfSome result (Asks (codes "make") (rows matches.now)) }
-{
-    let out = value_given(matches, "out")?;
-    let workers = number_given(matches, "workers", 4);
-    Some(Question::Make { out, workers })
-}
-
-/// The question of an `explain`. A fact has to be given.
-fn explain_asked<'a>(matches: &ArgMatches<'a>) -> Option<Question<'a>>
-    ensures { IfSome result (Asks (codes "explain") (rows matches.now)) }
-{
-    let fact = value_given(matches, "fact")?;
-    let by = has_flag(matches, "by");
-    let format = format_given(matches);
-    Some(Question::Explain { fact, by, format })
-}
-
-fn facts_asked<'a>(matches: &ArgMatches<'a>) -> Question<'a>
-    ensures { Asks (codes "facts") (rows matches.now) result }
+/// The question of a command that prints facts.
+fn facts_asked<'a>(name: &str, matches: &ArgMatches<'a>) -> Option<Question<'a>>
+    ensures { IfSome result (Asks name.now (rows matches.now)) }
 {
     let task = value_given(matches, "task");
-    let class = value_given(matches, "class");
-    let right = value_given(matches, "right");
-    let format = format_given(matches);
-    Question::Facts {
-        task,
-        class,
-        right,
-        format,
+    match name {
+        "facts" => Some(Question::Facts {
+            task,
+            class: value_given(matches, "class"),
+            right: value_given(matches, "right"),
+            format: format_given(matches),
+        }),
+        "graph" => Some(Question::Graph {
+            fact: value_given(matches, "fact"),
+            task,
+            holds: has_flag(matches, "holds"),
+        }),
+        _ => None,
     }
 }
 
-fn graph_asked<'a>(matches: &ArgMatches<'a>) -> Question<'a>
-    ensures { Asks (codes "graph") (rows matches.now) result }
+/// The question of a command that does not judge a system. What it needs has to be given.
+fn other_asked<'a>(name: &str, matches: &ArgMatches<'a>) -> Option<Question<'a>>
+    ensures { IfSome result (Asks name.now (rows matches.now)) }
 {
-    Question::Graph {
-        fact: value_given(matches, "fact"),
-        task: value_given(matches, "task"),
-        holds: has_flag(matches, "holds"),
+    match name {
+        "make" => Some(Question::Make {
+            out: value_given(matches, "out")?,
+            workers: number_given(matches, "workers").unwrap_or(4),
+        }),
+        "explain" => Some(Question::Explain {
+            fact: value_given(matches, "fact")?,
+            by: has_flag(matches, "by"),
+            format: format_given(matches),
+        }),
+        "slots" => Some(Question::Slots),
+        "promises" => Some(Question::Promises),
+        "replay" => Some(Question::Replay),
+        "live" => Some(Question::Live),
+        _ => facts_asked(name, matches),
     }
 }
 
@@ -399,22 +348,22 @@ fn question_asked<'a>(name: &str, matches: &ArgMatches<'a>) -> Option<Question<'
     ensures { IfSome result (Asks name.now (rows matches.now)) }
 {
     match name {
-        "verify" => {
-            let showing = showing_asked(matches);
-            Some(Question::Verify { showing })
-        }
-        "mend" => Some(mend_asked(matches)),
-        "attack" => Some(attack_asked(matches)),
-        "check" => Some(check_asked(matches)),
-        "make" => make_asked(matches),
-        "explain" => explain_asked(matches),
-        "facts" => Some(facts_asked(matches)),
-        "graph" => Some(graph_asked(matches)),
-        "slots" => Some(Question::Slots),
-        "promises" => Some(Question::Promises),
-        "replay" => Some(Question::Replay),
-        "live" => Some(Question::Live),
-        _ => None,
+        "verify" => Some(Question::Verify {
+            showing: showing_asked(matches),
+        }),
+        "mend" => Some(Question::Mend {
+            most: number_given(matches, "most").unwrap_or(10),
+            format: format_given(matches),
+        }),
+        "attack" => Some(Question::Attack {
+            line: number_given(matches, "line"),
+            most: number_given(matches, "most").unwrap_or(30),
+        }),
+        "check" => Some(Question::Check {
+            verbose: has_flag(matches, "verbose"),
+            format: format_given(matches),
+        }),
+        _ => other_asked(name, matches),
     }
 }
 
@@ -435,39 +384,6 @@ fn has_files(question: Question<'_>, files: &FileNames<'_>) -> bool
     }
 }
 
-/// The command of this name about the files of a system.
-fn case_asked<'a>(
-    alloc: Global,
-    name: &str,
-    matches: &ArgMatches<'a>,
-) -> Result<Command<'a>, NoCommand>
-    ensures asked { IfOk result (IsCommandOf name.now (rows matches.now)) }
-    ensures none { IfErr result (λ none. none ≡ NoCommand.Memory) }
-{
-    let Some(question) = question_asked(name, matches) else {
-        return Err(NoCommand::Memory);
-    };
-    let files = files_named(alloc, matches)?;
-    if !has_files(question, &files) {
-        return Err(NoCommand::Memory);
-    }
-    Ok(Command::Case(files, question))
-}
-
-/// What may not be left out: nothing, if all are asked for, and else what carries rights, if that
-/// is asked for.
-fn strictness_of(all: bool, rights: bool) -> Strictness
-    ensures { result ≡ strictness_of all rights }
-{
-    if all {
-        Strictness::All
-    } else if rights {
-        Strictness::Rights
-    } else {
-        Strictness::None
-    }
-}
-
 /// What `mig` is asked. A folder has to be given.
 fn mig_asked<'a>(alloc: Global, matches: &ArgMatches<'a>) -> Result<MigFiles<'a>, NoCommand>
     ensures asked { IfOk result (AsksMig (rows matches.now)) }
@@ -477,8 +393,13 @@ fn mig_asked<'a>(alloc: Global, matches: &ArgMatches<'a>) -> Result<MigFiles<'a>
     let Some(out) = value_given(matches, "out") else {
         return Err(NoCommand::Memory);
     };
-    let all = has_flag(matches, "strict");
-    let strict = strictness_of(all, has_flag(matches, "strict-rights"));
+    let strict = if has_flag(matches, "strict") {
+        Strictness::All
+    } else if has_flag(matches, "strict-rights") {
+        Strictness::Rights
+    } else {
+        Strictness::None
+    };
     let format = format_given(matches);
     Ok(MigFiles {
         defs,
@@ -500,7 +421,14 @@ fn command_of<'a>(
     if name == "mig" {
         return Ok(Command::Mig(mig_asked(alloc, matches)?));
     }
-    case_asked(alloc, name, matches)
+    let Some(question) = question_asked(name, matches) else {
+        return Err(NoCommand::Memory);
+    };
+    let files = files_named(alloc, matches)?;
+    if !has_files(question, &files) {
+        return Err(NoCommand::Memory);
+    }
+    Ok(Command::Case(files, question))
 }
 
 /// Whether the word of `--format`, if it is given, is one that the command of this name has.
@@ -508,9 +436,8 @@ fn has_format(name: &str, matches: &ArgMatches<'_>) -> bool
     ensures { result ≡ has_format name.now (rows matches.now) }
 {
     match value_given(matches, "format") {
-        Some("text" | "json") | None => true,
-        Some("sarif") => name == "verify",
-        Some(_) => false,
+        Some(word) => word == "text" || word == "json" || word == "sarif" && name == "verify",
+        None => true,
     }
 }
 

@@ -209,8 +209,10 @@ none. A trusted task that another could rewrite comes first, as `REAL trusted li
 With --line N only line N of the policy is looked at. If calls are found, all that is printed is
 a script, which `replay` runs. Its first line is `# REAL line N FACT`.
 
---most says how many states are looked at for a line, and is 1000 if it is not given. If this
-ends a search, a line on standard error names the line of the policy:
+The calls are those of a chain of rules: first of the one that `verify` prints, then of others that
+do without a step that could not be made. --most says how many chains are played for a line, and is
+30 if it is not given; other chains are looked for 100 times at most. If one of these bounds ends a
+search, a line on standard error names the line of the policy:
 `machcheck: attack: line N: not all ways were tried`. All else on standard error is as `verify`
 prints it.
 

@@ -1,17 +1,17 @@
 //! What is printed of an option that a command does not have.
 
-use crate::options::whole_command;
+use crate::table::{COMMANDS, Entry, Kind, Row};
 use crate::told::shown;
-use clap::Command;
 use std::alloc::{AllocError, Global};
 
-/// Whether a command has this option, which is written with `--` before its name.
-fn has_option(command: &Command<'_>, option: &str) -> bool {
-    let Some(name) = option.strip_prefix("--") else {
+/// Whether one of the rows is this option, which is written with `--` before its name.
+fn has_option(rows: &[Row], option: &str) -> bool {
+    let Some(option) = option.strip_prefix("--") else {
         return false;
     };
-    for argument in command.get_arguments() {
-        if argument.get_long().is_some_and(|long| long == name) {
+    for row in rows {
+        let (name, kind, _, _) = *row;
+        if name == option && !matches!(kind, Kind::Words | Kind::NeededWords) {
             return true;
         }
     }
@@ -19,15 +19,12 @@ fn has_option(command: &Command<'_>, option: &str) -> bool {
 }
 
 /// The names of the commands that have this option.
-fn owners<'a>(
-    alloc: Global,
-    commands: &[Command<'a>],
-    option: &str,
-) -> Result<Vec<&'a str>, AllocError> {
+fn owners(alloc: Global, entries: &[Entry], option: &str) -> Result<Vec<&'static str>, AllocError> {
     let mut names = Vec::new(alloc);
-    for command in commands {
-        if has_option(command, option) {
-            names.push(command.get_name())?;
+    for entry in entries {
+        let (name, _, _, rows) = *entry;
+        if has_option(rows, option) {
+            names.push(name)?;
         }
     }
     Ok(names)
@@ -65,41 +62,44 @@ fn owners_text(alloc: Global, owners: &[&str]) -> Result<String, AllocError> {
 }
 
 /// The name of the command of these words: the program's, if they name none.
-fn command_name<'a>(program: &Command<'a>, words: &[String]) -> &'a str {
-    match words.get(1) {
-        Some(word) => match program.find_subcommand(word.as_str()) {
-            Some(command) => command.get_name(),
-            None => program.get_name(),
-        },
-        None => program.get_name(),
+fn command_name(entries: &[Entry], words: &[String]) -> &'static str {
+    let word = match words.get(1) {
+        Some(word) => word.as_str(),
+        None => "",
+    };
+    for entry in entries {
+        if entry.0 == word {
+            return entry.0;
+        }
     }
+    "machcheck"
 }
 
 /// What `clap` quotes first in the text of an error.
 fn quoted(text: &str) -> Option<&str> {
-    match text.split_once("'") {
-        Some((_, behind)) => match behind.split_once("'") {
-            Some((quoted, _)) => Some(quoted),
-            None => None,
-        },
-        None => None,
-    }
+    let (_, behind) = text.split_once("'")?;
+    let (quoted, _) = behind.split_once("'")?;
+    Some(quoted)
 }
 
-/// What is printed of an option that the command of these words does not have. `None` if no command
-/// has it and `clap` gives no wrong advice (`misleads`).
-fn sentence(
+/// What is printed of an argument that `clap` does not expect, by the words and by the text of
+/// `clap`: which of these commands have this option. `clap` advises to pass it as the name of a
+/// file, which nobody means. `None` if its text is right: no command has the option, and the text
+/// names one of the command that is near.
+fn text_of_owners(
     alloc: Global,
-    program: &Command<'_>,
+    entries: &[Entry],
     words: &[String],
-    option: &str,
-    misleads: bool,
+    text: &str,
 ) -> Result<Option<String>, AllocError> {
-    let owners = owners(alloc, program.get_subcommands(), option)?;
-    if owners.is_empty() && !misleads {
+    let Some(option) = quoted(text) else {
+        return Ok(None);
+    };
+    let owners = owners(alloc, entries, option)?;
+    if owners.is_empty() && !text.contains("  tip: to pass ") {
         return Ok(None);
     }
-    let command = command_name(program, words);
+    let command = command_name(entries, words);
     let option = shown(alloc, option)?;
     let owners = owners_text(alloc, owners.as_slice())?;
     let text = format!(in alloc;
@@ -108,24 +108,11 @@ fn sentence(
     Ok(Some(text))
 }
 
-/// What is printed of an argument that `clap` does not expect, by the words and by the text of
-/// `clap`: which commands have this option. `clap` advises to pass it as the name of a file, which
-/// nobody means. `None` if its text is right: no command has the option, and the text names one of
-/// the command that is near.
+/// The same of the commands of the table.
 pub(crate) fn lacking_text(
     alloc: Global,
     words: &[String],
     text: &str,
 ) -> Result<Option<String>, AllocError> {
-    let Some(option) = quoted(text) else {
-        return Ok(None);
-    };
-    let program = whole_command(alloc)?;
-    sentence(
-        alloc,
-        &program,
-        words,
-        option,
-        text.contains("  tip: to pass "),
-    )
+    text_of_owners(alloc, &COMMANDS, words, text)
 }

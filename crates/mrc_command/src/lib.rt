@@ -6,6 +6,7 @@ mod command;
 mod help;
 mod lacking;
 mod options;
+mod table;
 mod told;
 mod words;
 
