@@ -28,7 +28,7 @@ complete -c machcheck -n '__fish_seen_subcommand_from help' -a attack
 complete -c machcheck -n '__fish_seen_subcommand_from attack' -l wiring -r -F -d 'Tasks, ports and their first rights'
 complete -c machcheck -n '__fish_seen_subcommand_from attack' -l policy -r -F -d 'The forbidden holdings'
 complete -c machcheck -n '__fish_seen_subcommand_from attack' -l line -x -d 'Only this line of the policy: its calls are printed as a script'
-complete -c machcheck -n '__fish_seen_subcommand_from attack' -l most -x -d 'How many states are looked at for a line, 1 to 1000000: 1000 if it is not given'
+complete -c machcheck -n '__fish_seen_subcommand_from attack' -l most -x -d 'How many chains are played for a line, 1 to 1000000: 30 if it is not given'
 complete -c machcheck -n '__fish_seen_subcommand_from attack' -l verbose -d 'Shows where a fault is, and what may help to mend it'
 complete -c machcheck -n '__fish_seen_subcommand_from attack' -s h -l help -d 'Print help'
 complete -c machcheck -n '__fish_seen_subcommand_from attack' -k -a '(__fish_complete_suffix .defs)'

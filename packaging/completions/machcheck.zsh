@@ -54,7 +54,7 @@ _machcheck() {
                 '--wiring=[Tasks, ports and their first rights]:FILE:_files' \
                 '--policy=[The forbidden holdings]:FILE:_files' \
                 '--line=[Only this line of the policy\: its calls are printed as a script]:N:' \
-                '--most=[How many states are looked at for a line, 1 to 1000000\: 1000 if it is not given]:N:' \
+                '--most=[How many chains are played for a line, 1 to 1000000\: 30 if it is not given]:N:' \
                 '--verbose[Shows where a fault is, and what may help to mend it]' \
                 '(- *)'{-h,--help}'[Print help]' \
                 '*:MIG file:_files -g "*.defs"'

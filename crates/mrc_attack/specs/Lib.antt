@@ -1,0 +1,3 @@
+pub mod Leaks
+pub mod Attacks
+pub mod Refuting

@@ -1,193 +1,117 @@
-//! The calls of actions, with the names that tasks have.
+//! Calls as lines of a script. What is printed here is read again and judged.
 
-use crate::acting::{Action, Run, TaskCall};
-use mrc_base::{Disp, PortRight, Right};
-use mrc_desc::Message;
+ghost use Rattle.std.specs.Prelude.{◌<◌};
+
+use crate::actions::TaskCall;
+use crate::printing::Form;
+use mrc_base::Right;
+use mrc_desc::{Message, write_message};
 use mrc_machine::Call;
-use mrc_reach::{System, task_id};
+use mrc_wiring::Wired;
+use mrc_words::task_word;
 use std::alloc::{AllocError, Global};
 
-/// The most bytes of a message.
-const LIMIT: u32 = 8192;
-
-/// The id of port-destroyed notices.
-const PORT_DESTROYED: u32 = 69;
-
-/// A call that acts on names.
-fn own(task: usize, call: Call) -> Option<TaskCall> {
-    Some(TaskCall {
-        task: task_id(task),
-        call,
-    })
+/// The word of a right of a name.
+fn right_word(right: Right) -> &'static str {
+    match right {
+        Right::Send => "send",
+        Right::Receive => "receive",
+        Right::SendOnce => "once",
+        Right::PortSet => "set",
+        Right::DeadName => "dead",
+    }
 }
 
-/// The call by which a task makes a port of births.
-fn allocate_call(run: &Run, system: &System<'_>, class: usize) -> Option<TaskCall> {
-    let births = system.births(class)?;
-    let call = Call::Allocate {
-        task: run.kernel(system, births.task, births.task)?,
-        right: Right::Receive,
-        kind: births.kind,
-    };
-    own(births.task, call)
+/// The hexadecimal digit of a number below 16.
+fn hex_digit(number: u8) -> char
+    requires { number < 16 }
+{
+    if number < 10 {
+        char::from(48 + number)
+    } else {
+        char::from(87 + number)
+    }
 }
 
-/// The call by which the caller takes a right of the target.
-fn extract_call(
-    run: &Run,
-    system: &System<'_>,
-    caller: usize,
-    target: usize,
-    port: usize,
-    disp: Disp,
-) -> Option<TaskCall> {
-    let call = Call::ExtractRight {
-        task: run.kernel(system, caller, target)?,
-        name: run.carried(target, port, disp, None)?,
-        disp,
-    };
-    own(caller, call)
+/// The sending of a message.
+fn send_words(alloc: Global, message: &Message) -> Result<String, AllocError> {
+    let mut text = String::from_str(alloc, "send ")?;
+    for byte in &write_message(alloc, message)? {
+        text.push(hex_digit(*byte / 16))?;
+        text.push(hex_digit(*byte % 16))?;
+    }
+    Ok(text)
 }
 
-/// The call by which the caller gives a right to the target.
-fn insert_call(
-    run: &Run,
-    system: &System<'_>,
-    caller: usize,
-    target: usize,
-    port: usize,
-    disp: Disp,
-) -> Option<TaskCall> {
-    let call = Call::InsertRight {
-        task: run.kernel(system, caller, target)?,
-        name: run.given(target, port, disp)?,
-        right: run.carried(caller, port, disp, None)?,
-        disp,
-    };
-    own(caller, call)
+/// The making of a port, a set or a dead name: kind 0 is left away.
+fn allocate_words(alloc: Global, task: u32, right: Right, kind: u32) -> Result<String, AllocError> {
+    let word = right_word(right);
+    if kind == 0 {
+        format!(in alloc; "allocate {task} {word}")
+    } else {
+        format!(in alloc; "allocate {task} {word} {kind}")
+    }
 }
 
-/// The call by which the task asks for a notice; without a port it takes the request back.
-fn request_call(
-    run: &Run,
-    system: &System<'_>,
-    task: usize,
-    port: usize,
-    notify: Option<usize>,
-) -> Option<TaskCall> {
-    let (notify, disp) = match notify {
-        Some(other) => (run.once(task, other, None)?, Disp::MoveSendOnce),
-        None => (0, Disp::MakeSendOnce),
-    };
-    let call = Call::RequestNotification {
-        task: run.kernel(system, task, task)?,
-        name: run.name(task, port)?,
-        id: PORT_DESTROYED,
-        sync: 0,
-        notify,
-        disp,
-    };
-    own(task, call)
-}
-
-/// The call by which the task destroys a receive right.
-fn drop_call(run: &Run, system: &System<'_>, task: usize, port: usize) -> Option<TaskCall> {
-    let call = Call::ModRefs {
-        task: run.kernel(system, task, task)?,
-        name: run.name(task, port)?,
-        right: Right::Receive,
-        delta: -1,
-    };
-    own(task, call)
-}
-
-/// The call by which the task receives.
-fn receive_call(run: &Run, task: usize, port: usize) -> Option<TaskCall> {
-    let call = Call::Receive {
-        name: run.name(task, port)?,
-        limit: LIMIT,
-    };
-    own(task, call)
-}
-
-/// The call of an action other than a message that is sent.
-fn plain_call(run: &Run, system: &System<'_>, action: &Action) -> Option<TaskCall> {
-    match *action {
-        Action::Allocate { port: _, class } => allocate_call(run, system, class),
-        Action::Make { task, port, disp } => extract_call(run, system, task, task, port, disp),
-        Action::Extract {
-            caller,
-            target,
-            port,
-            disp,
-        } => extract_call(run, system, caller, target, port, disp),
-        Action::Insert {
-            caller,
-            target,
-            port,
-            disp,
-        } => insert_call(run, system, caller, target, port, disp),
-        Action::Send { .. } => None,
-        Action::Receive { task, port } => receive_call(run, task, port),
-        Action::Request { task, port, notify } => {
-            request_call(run, system, task, port, Some(notify))
+/// A call and its parameters; nothing for a call that the search does not make.
+fn call_words(alloc: Global, call: &Call) -> Result<Option<String>, AllocError> {
+    let words = match call {
+        Call::Send(message) => send_words(alloc, message)?,
+        Call::Receive { name, limit } => format!(in alloc; "receive {name} {limit}")?,
+        Call::Allocate { task, right, kind } => allocate_words(alloc, *task, *right, *kind)?,
+        Call::ExtractRight { task, name, disp } => {
+            let number = disp.number();
+            format!(in alloc; "extract_right {task} {name} {number}")?
         }
-        Action::Unrequest { task, port } => request_call(run, system, task, port, None),
-        Action::Destroy { task, port } => drop_call(run, system, task, port),
-    }
+        Call::InsertRight {
+            task,
+            name,
+            right,
+            disp,
+        } => {
+            let number = disp.number();
+            format!(in alloc; "insert_right {task} {name} {right} {number}")?
+        }
+        Call::RequestNotification {
+            task,
+            name,
+            id,
+            sync,
+            notify,
+            disp,
+        } => {
+            let number = disp.number();
+            format!(in alloc; "request_notification {task} {name} {id} {sync} {notify} {number}")?
+        }
+        Call::ModRefs {
+            task,
+            name,
+            right,
+            delta,
+        } => {
+            let word = right_word(*right);
+            format!(in alloc; "mod_refs {task} {name} {word} {delta}")?
+        }
+        _ => return Ok(None),
+    };
+    Ok(Some(words))
 }
 
-/// The disposition by which a message is sent.
-fn sent_by(by: PortRight) -> Disp {
-    match by {
-        PortRight::SendOnce => Disp::MoveSendOnce,
-        PortRight::Send | PortRight::Receive => Disp::CopySend,
-    }
-}
-
-/// The message of an action that sends one.
-fn message_of(
+/// The calls as lines of a script; nothing if one is a call that the search does not make.
+pub(crate) fn script_text(
     alloc: Global,
-    run: &Run,
-    system: &System<'_>,
-    action: &Action,
-) -> Result<Option<Message>, AllocError> {
-    let Action::Send {
-        sender,
-        to,
-        class,
-        by,
-        carrier,
-        port,
-    } = *action
-    else {
-        return Ok(None);
-    };
-    let Some(carrier) = system.carriers(class).get(carrier) else {
-        return Ok(None);
-    };
-    let by = sent_by(by);
-    let Some(through) = run.carried(sender, to, by, None) else {
-        return Ok(None);
-    };
-    let Some(name) = run.carried(sender, port, carrier.disp, Some(through)) else {
-        return Ok(None);
-    };
-    carrier.message(alloc, system.wired, by, through, name)
-}
-
-/// The call of an action, if the names that it needs are there.
-pub(crate) fn call_of(
-    alloc: Global,
-    run: &Run,
-    system: &System<'_>,
-    action: &Action,
-) -> Result<Option<TaskCall>, AllocError> {
-    if let Action::Send { sender, .. } = *action {
-        return match message_of(alloc, run, system, action)? {
-            Some(message) => Ok(own(sender, Call::Send(message))),
-            None => Ok(None),
+    wired: &Wired,
+    form: Form,
+    calls: &[TaskCall],
+) -> Result<Option<String>, AllocError> {
+    let blanks = form.blanks();
+    let mut text = String::new(alloc);
+    for call in calls {
+        let Some(words) = call_words(alloc, &call.call)? else {
+            return Ok(None);
         };
+        let task = task_word(alloc, wired, call.task)?;
+        text.push_str(format!(in alloc; "{blanks}{task} {words}\n")?.as_str())?;
     }
-    Ok(plain_call(run, system, action))
+    Ok(Some(text))
 }

@@ -1,24 +1,27 @@
-//! The search for calls that lead from the first state of a wiring to a forbidden hold.
+//! Whether a text of calls breaks a line of a policy; and for each line that is broken a script
+//! that does, if the chain that derives what the line forbids can be played on the machine.
 #![tactic(auto)]
 
-mod acting;
-mod bringing;
+mod actions;
+mod aims;
+mod attacking;
 mod calls;
-mod finding;
-mod getting;
-mod links;
-mod looking;
-mod moving;
+mod carriers;
+mod culprits;
+mod judging;
+pub mod laws;
+mod messages;
 mod names;
-mod offers;
-mod paths;
 mod plan;
-mod realise;
+mod play;
+mod printing;
+mod run;
 mod searching;
 mod shorter;
-mod staging;
-mod trails;
+mod step;
 
-pub use acting::TaskCall;
-pub use finding::{Attacker, Found};
+pub use aims::Aim;
+pub use attacking::{Attack, attacks};
+pub use judging::is_leak;
+pub use printing::{Form, attacks_text, cut_text};
 pub use searching::Progress;

@@ -1,9 +1,9 @@
 //! The names that tasks have for rights, as the machine shows them.
 
-use mrc_base::{PortRight, TaskId};
+use mrc_base::TaskId;
 use mrc_machine::{Call, Holding, Reply, World};
 use mrc_names::{Listing, NamedType};
-use mrc_reach::{System, task_id};
+use mrc_wiring::Wired;
 use std::alloc::{AllocError, Global};
 
 /// The name that a task has for its kernel port.
@@ -16,16 +16,15 @@ const RECEIVE: u32 = 0x2_0000;
 
 const ONCE: u32 = 0x4_0000;
 
-/// A right of a task, the number of its port and its name.
+/// A name of a task, and a right on a port that it stands for; none for a port set or a dead name.
 #[derive(Clone, Copy)]
 pub(crate) struct Named {
-    pub(crate) task: usize,
+    pub(crate) task: TaskId,
     pub(crate) name: u32,
-    pub(crate) port: u64,
-    pub(crate) right: PortRight,
+    pub(crate) held: Option<Holding>,
 }
 
-/// What the names of one task and what tasks hold say together, as far as they are read.
+/// What the names of tasks and what tasks hold say together, as far as they are read.
 #[derive(Drop)]
 struct Reading {
     names: Vec<Named>,
@@ -35,39 +34,44 @@ struct Reading {
 
 impl Reading {
     /// Takes the next of what is held, which has the name.
-    fn take(&mut self, name: u32) -> Result<(), AllocError> {
+    fn take(&mut self, task: TaskId, name: u32) -> Result<(), AllocError> {
         if let Some(held) = self.holdings.get(self.at) {
-            let named = Named {
-                task: held.task.0 as usize,
+            self.names.push(Named {
+                task,
                 name,
-                port: held.port.0,
-                right: held.right,
-            };
-            self.names.push(named)?;
+                held: Some(*held),
+            })?;
             self.at = self.at.saturating_add(1);
         }
         Ok(())
     }
 
     /// Takes what an entry shows.
-    fn take_entry(&mut self, named: &NamedType) -> Result<(), AllocError> {
+    fn take_entry(&mut self, task: TaskId, named: &NamedType) -> Result<(), AllocError> {
         let bits = named.rights.mask();
+        if bits & (SEND | RECEIVE | ONCE) == 0 {
+            self.names.push(Named {
+                task,
+                name: named.name,
+                held: None,
+            })?;
+        }
         if bits & RECEIVE != 0 {
-            self.take(named.name)?;
+            self.take(task, named.name)?;
         }
         if bits & SEND != 0 {
-            self.take(named.name)?;
+            self.take(task, named.name)?;
         }
         if bits & ONCE != 0 {
-            self.take(named.name)?;
+            self.take(task, named.name)?;
         }
         Ok(())
     }
 
     /// Takes what the names of a task show.
-    fn take_task(&mut self, listing: &Listing) -> Result<(), AllocError> {
+    fn take_task(&mut self, task: TaskId, listing: &Listing) -> Result<(), AllocError> {
         for named in listing.as_slice() {
-            self.take_entry(named)?;
+            self.take_entry(task, named)?;
         }
         Ok(())
     }
@@ -84,22 +88,18 @@ impl Reading {
 }
 
 /// The names of a task; none if it has lost its kernel port.
-fn listed(
-    system: &System<'_>,
-    world: &mut World,
-    task: TaskId,
-) -> Result<Option<Listing>, AllocError> {
+fn listed(wired: &Wired, world: &mut World, task: TaskId) -> Result<Option<Listing>, AllocError> {
     let call = Call::Names { task: OWN_KERNEL };
-    match world.step(system.wired, task, &call)? {
+    match world.step(wired, task, &call)? {
         Reply::Names(names) => Ok(Some(names)),
         _ => Ok(None),
     }
 }
 
-/// All rights of tasks with their names, by task and name.
+/// All names of tasks with their rights, by task and name.
 pub(crate) fn names_of(
     alloc: Global,
-    system: &System<'_>,
+    wired: &Wired,
     world: &mut World,
 ) -> Result<Vec<Named>, AllocError> {
     let mut reading = Reading {
@@ -107,11 +107,11 @@ pub(crate) fn names_of(
         holdings: world.holdings()?,
         at: 0,
     };
-    for task in 0..system.tasks {
-        let task = task_id(task);
+    for task in 0..wired.tasks() {
+        let task = TaskId(u32::from(task));
         reading.skip_to(task);
-        if let Some(listing) = listed(system, world, task)? {
-            reading.take_task(&listing)?;
+        if let Some(listing) = listed(wired, world, task)? {
+            reading.take_task(task, &listing)?;
         }
     }
     Ok(reading.names)

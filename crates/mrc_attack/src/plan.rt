@@ -1,216 +1,260 @@
-//! Carries out ways on the machine: an agenda of what is to be done next.
+//! A chain as a plan: what is to be done for each of its steps, with one port for each class.
 
-use crate::acting::{Action, Run, Undone};
-use mrc_base::{OrMemory, PortRight};
-use mrc_reach::{Have, State, System, Ways};
+use mrc_base::{ClassId, Fact, PortRight};
+use mrc_classes::RuleName;
+use mrc_closure::{Places, Step};
+use mrc_wiring::Wired;
 use std::alloc::{AllocError, Global};
-use std::collections::BTreeMap;
 
-/// How many steps a plan may take, and how many may wait.
-const STEPS: usize = 20_000;
-
-const WAITING: usize = 4_000;
-
-/// Why a plan can't be carried out.
+/// What is to be done for a step.
 #[derive(Clone, Copy)]
-pub(crate) enum Stop {
-    /// A way leads to nothing.
-    Fail,
-    /// A send-once right of the first state is needed more often than it is there.
-    Spent(Have),
-    /// Something has to be got before the move to the state of this number.
-    Need(usize, Have),
+pub(crate) enum Deed {
+    /// Nothing can be.
+    Nothing,
+    /// A port of births is made.
+    Allocate {
+        class: ClassId,
+    },
+    /// A right is made from a receive right.
+    Make {
+        task: u16,
+        class: ClassId,
+        right: PortRight,
+    },
+    /// A message is sent that carries a right; as a reply port if no rights are given.
+    Send {
+        sender: u16,
+        to: ClassId,
+        class: ClassId,
+        rights: Option<(PortRight, PortRight)>,
+    },
+    /// Messages are received until the right is there.
+    Receive {
+        task: u16,
+        from: ClassId,
+        class: ClassId,
+        right: PortRight,
+    },
+    /// A right is taken from the task whose kernel port the caller holds.
+    Take {
+        caller: u16,
+        target: u16,
+        class: ClassId,
+        right: PortRight,
+    },
+    /// A right is given to it.
+    Give {
+        caller: u16,
+        target: u16,
+        class: ClassId,
+        right: PortRight,
+    },
+    /// A notice is asked for.
+    Request {
+        task: u16,
+        class: ClassId,
+        notify: ClassId,
+    },
+    /// The receive right is destroyed, by the task that has it.
+    Destroy {
+        class: ClassId,
+    },
+    /// The request is taken back.
+    Unrequest {
+        task: u16,
+        class: ClassId,
+    },
 }
 
-/// The state in which a plan is, with the ways to all rights.
+/// A step of the plan.
 #[derive(Clone, Copy)]
-pub(crate) struct Scene<'a> {
-    pub(crate) system: &'a System<'a>,
-    pub(crate) state: &'a State,
-    pub(crate) ways: &'a Ways,
-    pub(crate) number: usize,
+pub(crate) struct Planned {
+    /// What is there then.
+    pub(crate) fact: Fact,
+    /// What is to be done.
+    pub(crate) deed: Deed,
+    /// The steps before it that it needs.
+    pub(crate) needs: Places,
 }
 
-/// What is to be done.
+/// A fact that is a hold.
 #[derive(Clone, Copy)]
-pub(crate) enum Work {
-    /// A right is to be there; a send-once right more, which is kept for what asked for it.
-    Get(Have),
-    /// The receive right is to go to the task, in so many tries at most.
-    Bring(Have, usize),
-    /// An action.
-    Act(Action),
-    /// What waits at the port is received.
-    Drain(usize),
-    /// The task has another reference of the send right than the one that it sends.
-    Keep(usize, usize),
-    /// The task's send-once right on the port is kept, or given away.
-    Reserve(usize, usize),
-    Release(usize, usize),
-    /// A send-once right that came with a receive right is there.
-    Store(usize, usize),
+struct Held {
+    task: u16,
+    class: ClassId,
+    right: PortRight,
 }
 
-/// The machine, and what is still to be done on it.
-#[derive(Drop)]
-pub(crate) struct Plan {
-    pub(crate) run: Run,
-    agenda: Vec<Work>,
-    pub(crate) reserved: BTreeMap<(usize, usize), usize>,
-    pub(crate) stock: BTreeMap<(usize, usize), usize>,
+/// The fact as a hold.
+fn hold_of(fact: &Fact) -> Option<Held> {
+    match *fact {
+        Fact::Hold { task, class, right } => Some(Held { task, class, right }),
+        Fact::Carry { .. } | Fact::Backup { .. } => None,
+    }
 }
 
-/// A right that a task has.
-pub(crate) fn right_of(right: PortRight, task: usize, port: usize) -> Have {
-    Have { right, task, port }
+/// The facts of the premises, of which the second may be the first again.
+fn premises_of(steps: &[Step], needs: Places) -> Option<(Fact, Fact)> {
+    let (one, other) = match needs {
+        Places::Empty => return None,
+        Places::One(one) => (one, one),
+        Places::Two(one, other) => (one, other),
+    };
+    Some((steps.get(one)?.fact, steps.get(other)?.fact))
 }
 
-/// How many are counted.
-pub(crate) fn counted(counts: &BTreeMap<(usize, usize), usize>, task: usize, port: usize) -> usize {
-    counts.get(&(task, port)).copied().unwrap_or(0)
+/// The sending of a message: through the first right, with the second one.
+fn sent(through: &Fact, own: &Fact, given: Option<PortRight>) -> Option<Deed> {
+    let through = hold_of(through)?;
+    let own = hold_of(own)?;
+    Some(Deed::Send {
+        sender: own.task,
+        to: through.class,
+        class: own.class,
+        rights: given.map(|right| (own.right, right)),
+    })
 }
 
-/// Counts one more.
-pub(crate) fn raise(
-    counts: &mut BTreeMap<(usize, usize), usize>,
-    task: usize,
-    port: usize,
-) -> Result<(), AllocError> {
-    let count = counted(counts, task, port).saturating_add(1);
-    let _ = counts.insert((task, port), count)?;
-    Ok(())
+/// The right that is carried.
+fn carried(fact: &Fact) -> Option<PortRight> {
+    match *fact {
+        Fact::Carry { right, .. } => Some(right),
+        Fact::Hold { .. } | Fact::Backup { .. } => None,
+    }
 }
 
-/// Counts one less.
-pub(crate) fn lower(
-    counts: &mut BTreeMap<(usize, usize), usize>,
-    task: usize,
-    port: usize,
-) -> Result<(), AllocError> {
-    let count = counted(counts, task, port).saturating_sub(1);
-    let _ = counts.insert((task, port), count)?;
-    Ok(())
+/// The sharing of a right: who holds the kernel port of a task gives or takes it.
+fn shared(wired: &Wired, kernel: &Fact, fact: &Fact) -> Option<Deed> {
+    let kernel = hold_of(kernel)?;
+    let Held { task, class, right } = hold_of(fact)?;
+    let caller = kernel.task;
+    let target = kernel.class.0.checked_sub(wired.ports())?;
+    Some(if target == task {
+        Deed::Give {
+            caller,
+            target,
+            class,
+            right,
+        }
+    } else {
+        Deed::Take {
+            caller,
+            target,
+            class,
+            right,
+        }
+    })
 }
 
-impl Plan {
-    /// Nothing is done yet.
-    pub(crate) fn new(alloc: Global, system: &System<'_>) -> Result<Plan, AllocError> {
-        Ok(Plan {
-            run: Run::new(alloc, system)?,
-            agenda: Vec::new(alloc),
-            reserved: BTreeMap::new(alloc),
-            stock: BTreeMap::new(alloc),
-        })
+/// What is to be done for a step that has no other task or port in it.
+fn alone(rule: RuleName, fact: &Fact) -> Option<Deed> {
+    let Held { task, class, right } = hold_of(fact)?;
+    match rule {
+        RuleName::Births => Some(Deed::Allocate { class }),
+        RuleName::Weaker => Some(Deed::Make { task, class, right }),
+        _ => None,
     }
+}
 
-    /// Puts what is to be done next, in this order, before all that waits.
-    pub(crate) fn push(&mut self, works: &[Option<Work>]) -> Result<(), OrMemory<Stop>> {
-        for work in works.iter().rev() {
-            if let Some(work) = *work {
-                self.agenda.push(work)?;
-            }
-        }
-        if self.agenda.len() > WAITING {
-            return Err(OrMemory::Fault(Stop::Fail));
-        }
-        Ok(())
+/// What is to be done with a request.
+fn requested(rule: RuleName, first: &Fact, last: &Fact) -> Option<Deed> {
+    match (rule, *last) {
+        (RuleName::Notice, Fact::Backup { class, .. }) => Some(Deed::Destroy { class }),
+        (RuleName::Returned, Fact::Backup { class, .. }) => Some(Deed::Unrequest {
+            task: hold_of(first)?.task,
+            class,
+        }),
+        (
+            RuleName::Request,
+            Fact::Hold {
+                task,
+                class: notify,
+                ..
+            },
+        ) => Some(Deed::Request {
+            task,
+            class: hold_of(first)?.class,
+            notify,
+        }),
+        _ => None,
     }
+}
 
-    /// Does an action.
-    pub(crate) fn act(
-        &mut self,
-        alloc: Global,
-        scene: &Scene<'_>,
-        action: Action,
-    ) -> Result<(), OrMemory<Stop>> {
-        match self.run.act(alloc, scene.system, action) {
-            Ok(()) => Ok(()),
-            Err(OrMemory::Fault(Undone)) => Err(OrMemory::Fault(Stop::Fail)),
-            Err(OrMemory::Memory) => Err(OrMemory::Memory),
-        }
+/// The receiving of a right.
+fn received(through: &Fact, fact: &Fact) -> Option<Deed> {
+    let from = hold_of(through)?.class;
+    let Held { task, class, right } = hold_of(fact)?;
+    Some(Deed::Receive {
+        task,
+        from,
+        class,
+        right,
+    })
+}
+
+/// What is to be done for a step, if anything can be.
+fn deed_of(wired: &Wired, steps: &[Step], step: &Step) -> Option<Deed> {
+    let fact = &step.fact;
+    let rule = step.rule;
+    if rule == RuleName::Births {
+        return alone(rule, fact);
     }
-
-    /// Makes the port, if it is not there yet.
-    pub(crate) fn there(
-        &mut self,
-        alloc: Global,
-        scene: &Scene<'_>,
-        port: usize,
-    ) -> Result<(), OrMemory<Stop>> {
-        if self.run.is_made(port) {
-            return Ok(());
-        }
-        let class = scene.state.class(port);
-        self.act(alloc, scene, Action::Allocate { port, class })
-    }
-
-    /// A right is to be there.
-    fn get(&mut self, alloc: Global, scene: &Scene<'_>, get: Have) -> Result<(), OrMemory<Stop>> {
-        self.there(alloc, scene, get.port)?;
-        match get.right {
-            PortRight::Send if self.run.sends(get.task, get.port) => Ok(()),
-            PortRight::Receive => {
-                let tries = scene.system.tasks.saturating_mul(2).saturating_add(2);
-                self.push(&[Some(Work::Bring(get, tries))])
-            }
-            PortRight::Send | PortRight::SendOnce => self.get_by_way(scene, get),
-        }
-    }
-
-    /// Does what is to be done next.
-    fn work(&mut self, alloc: Global, scene: &Scene<'_>, work: Work) -> Result<(), OrMemory<Stop>> {
-        match work {
-            Work::Get(get) => self.get(alloc, scene, get),
-            Work::Bring(get, tries) => self.bring(alloc, scene, get, tries),
-            Work::Act(action) => self.act(alloc, scene, action),
-            Work::Drain(port) => self.drain(alloc, scene, port),
-            Work::Keep(task, port) => self.keep(alloc, scene, task, port),
-            Work::Reserve(task, port) => Ok(raise(&mut self.reserved, task, port)?),
-            Work::Release(task, port) => Ok(lower(&mut self.reserved, task, port)?),
-            Work::Store(task, port) => {
-                raise(&mut self.reserved, task, port)?;
-                Ok(raise(&mut self.stock, task, port)?)
-            }
+    let (first, last) = premises_of(steps, step.premises)?;
+    match rule {
+        RuleName::First | RuleName::Births | RuleName::Weaker => alone(rule, fact),
+        RuleName::Slot => sent(&first, &last, Some(carried(fact)?)),
+        RuleName::Reply => sent(&first, &last, None),
+        RuleName::Received => received(&first, fact),
+        RuleName::KernelPort => shared(wired, &first, fact),
+        RuleName::Request | RuleName::Notice | RuleName::Returned => {
+            requested(rule, &first, &last)
         }
     }
+}
 
-    /// Does all that is to be done.
-    pub(crate) fn finish(
-        &mut self,
-        alloc: Global,
-        scene: &Scene<'_>,
-    ) -> Result<(), OrMemory<Stop>> {
-        for _ in 0..STEPS {
-            let Some(work) = self.agenda.pop() else {
-                return Ok(());
-            };
-            self.work(alloc, scene, work)?;
-        }
-        Err(OrMemory::Fault(Stop::Fail))
+/// The chain as a plan.
+pub(crate) fn plan_of(
+    alloc: Global,
+    wired: &Wired,
+    steps: &[Step],
+) -> Result<Vec<Planned>, AllocError> {
+    let mut plan = Vec::new(alloc);
+    for step in steps {
+        plan.push(Planned {
+            fact: step.fact,
+            deed: deed_of(wired, steps, step).unwrap_or(Deed::Nothing),
+            needs: step.premises,
+        })?;
+    }
+    Ok(plan)
+}
+
+impl Planned {
+    /// Whether it is done where its right is used: the port or the right is made then.
+    pub(crate) fn is_making(&self) -> bool {
+        matches!(
+            self.deed,
+            Deed::Nothing | Deed::Allocate { .. } | Deed::Make { .. }
+        )
     }
 
-    /// Makes a right so.
-    pub(crate) fn reach(
-        &mut self,
-        alloc: Global,
-        scene: &Scene<'_>,
-        get: Have,
-    ) -> Result<(), OrMemory<Stop>> {
-        self.push(&[Some(Work::Get(get))])?;
-        self.finish(alloc, scene)
-    }
-
-    /// Lays a right in store for a later state.
-    pub(crate) fn store(
-        &mut self,
-        alloc: Global,
-        scene: &Scene<'_>,
-        get: Have,
-    ) -> Result<(), OrMemory<Stop>> {
-        self.reach(alloc, scene, get)?;
-        if get.right == PortRight::SendOnce {
-            raise(&mut self.stock, get.task, get.port)?;
+    /// How much it is to come behind others: it moves a receive right away.
+    pub(crate) fn weight(&self) -> u8 {
+        match self.deed {
+            Deed::Destroy { .. } => 2,
+            Deed::Send {
+                rights: Some((_, PortRight::Receive)),
+                ..
+            } => 2,
+            Deed::Take {
+                right: PortRight::Receive,
+                ..
+            } => 1,
+            Deed::Give {
+                right: PortRight::Receive,
+                ..
+            } => 1,
+            _ => 0,
         }
-        Ok(())
     }
 }

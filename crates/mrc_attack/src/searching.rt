@@ -1,280 +1,284 @@
-//! The search over states: those first from which the goal may be nearest.
+//! Chains are played, the best first, until one of them breaks the line.
 
-use crate::acting::Run;
-use crate::paths::{DEEPEST, Node};
-use mrc_base::PortRight;
-use mrc_reach::{
-    Goal, Move, Relevant, State, System, key_of, moved_state, moves_from, moves_needed,
-};
+use crate::actions::{Action, TaskCall};
+use crate::plan::{Planned, plan_of};
+use crate::play::{Part, Play, is_at};
+use crate::shorter::{calls_of, shortened};
+use mrc_base::Fact;
+use mrc_classes::Rules;
+use mrc_closure::Step;
+use mrc_why::{chain_without, forbidden_fact};
+use mrc_wiring::{ForbiddenLine, Wired};
 use std::alloc::{AllocError, Global};
-use std::collections::BTreeMap;
 
-/// More turns than there can be.
-const TURNS: usize = 1_000_000_000;
-
-/// A move by its port, its task and what is attached.
-pub(crate) type MoveKey = (usize, usize, Option<usize>);
-
-/// What is looked for, and what is known of it.
-#[derive(Clone, Copy)]
-pub(crate) struct Task<'a> {
-    pub(crate) system: &'a System<'a>,
-    pub(crate) relevant: &'a Relevant,
-    pub(crate) goal: &'a Goal,
-    /// How many ports of a class of births that accepts notices are at home.
-    pub(crate) homes: usize,
-    /// First moves that are not tried.
-    pub(crate) barred: &'a [MoveKey],
-    /// How many states may be looked at in all searches for the goal.
-    pub(crate) most: usize,
-}
-
-/// What may still be tried: states that are looked at, and paths to the goal that can't be carried
-/// out.
-#[derive(Clone, Copy)]
-pub(crate) struct Left {
-    pub(crate) states: usize,
-    pub(crate) paths: usize,
-}
+/// How often other chains are looked for at most.
+const CLOSURES: usize = 100;
 
 /// What is told how far a search has come.
 pub trait Progress {
-    /// So many states were looked at since the search for the goal began.
-    fn looked(&mut self, states: usize);
+    /// So many chains were played since the search for the line began.
+    fn played(&mut self, chains: usize);
 }
 
-/// What waits: a state that was looked at from afar, or a move from a state.
+/// What was found.
+#[derive(Debug, Drop)]
+pub(crate) enum Found {
+    /// Calls that can be made one after the other from the first state, and break the line.
+    Calls(Vec<TaskCall>),
+    /// No calls were found. That there are none is not said.
+    NotReached {
+        /// Whether a bound cut the search.
+        cut: bool,
+    },
+}
+
+/// What came of a chain that was played.
 #[derive(Drop)]
-enum Waiting {
-    Known(usize),
-    Next(usize, Move),
+enum Came {
+    /// The line is broken after these actions.
+    Broken(Vec<Action>),
+    /// It is not; these steps are why.
+    Stuck(Vec<bool>),
 }
 
-/// The states that were found, and what waits, by how many moves the goal is away at least.
+/// What came of all chains that were played.
 #[derive(Drop)]
-pub(crate) struct Frontier {
-    pub(crate) first: State,
-    pub(crate) nodes: Vec<Node>,
-    seen: BTreeMap<Vec<u64>, ()>,
-    queue: BTreeMap<(usize, bool, usize), Waiting>,
-    number: usize,
-    /// What may still be tried.
-    pub(crate) left: Left,
-    /// Whether something was not tried.
-    pub(crate) is_cut: bool,
-    /// First moves of paths to the goal that could not be carried out.
-    pub(crate) failed: Vec<MoveKey>,
+enum Reached {
+    /// The line is broken after these actions.
+    Broken(Vec<Action>),
+    /// It is not.
+    Nothing { cut: bool },
 }
 
-/// Whether a move is of no hold of the printed chain.
-fn is_other(task: &Task<'_>, state: &State, moved: &Move) -> bool {
-    let relevant = task.relevant;
-    let class = state.class(moved.port);
-    if !relevant.is_in_chain(PortRight::Receive, moved.task, class) {
-        return true;
-    }
-    match moved.attached {
-        Some(port) => {
-            let class = state.class(port);
-            !relevant.is_in_chain(PortRight::SendOnce, moved.task, class)
-        }
-        None => false,
+/// Facts that no step of a chain may conclude, and how far that is from the first chain.
+#[derive(Drop)]
+struct Way {
+    barred: Vec<Fact>,
+    depth: usize,
+    is_done: bool,
+}
+
+/// What is looked for, with the rules of the wiring and the chain that is printed.
+#[derive(Clone, Copy)]
+pub(crate) struct Wanted<'a> {
+    pub(crate) wired: &'a Wired,
+    pub(crate) rules: &'a Rules,
+    pub(crate) line: &'a ForbiddenLine,
+    pub(crate) chain: &'a [Step],
+    /// How many chains are played at most.
+    pub(crate) most: usize,
+}
+
+/// How far the search has come.
+#[derive(Drop)]
+struct Search {
+    ways: Vec<Way>,
+    tried: Vec<Vec<Step>>,
+}
+
+/// Plays the plan.
+fn outcome(alloc: Global, part: &Part<'_>, play: &mut Play) -> Result<Came, AllocError> {
+    if play.play(alloc, part)? {
+        Ok(Came::Broken(play.run.actions.to_vec(alloc)?))
+    } else {
+        Ok(Came::Stuck(play.culprits(alloc, part)?))
     }
 }
 
-/// A move by what tells it apart.
-pub(crate) fn key(moved: &Move) -> MoveKey {
-    (moved.port, moved.task, moved.attached)
+/// Plays the plan from the first state on.
+fn played(alloc: Global, part: &Part<'_>) -> Result<Came, AllocError> {
+    let mut play = Play::new(alloc, part)?;
+    let came = outcome(alloc, part, &mut play);
+    drop(play);
+    came
 }
 
-impl Frontier {
-    /// The first state and its closure, if the goal is not out of reach.
-    pub(crate) fn new(
-        alloc: Global,
-        task: &Task<'_>,
-        first: State,
-        state: State,
-        left: Left,
-    ) -> Result<Frontier, AllocError> {
-        let mut search = Frontier {
-            first,
-            nodes: Vec::new(alloc),
-            seen: BTreeMap::new(alloc),
-            queue: BTreeMap::new(alloc),
-            number: 0,
-            left,
-            is_cut: false,
-            failed: Vec::new(alloc),
-        };
-        let key = key_of(alloc, task.system, &state)?;
-        let _ = search.seen.insert(key, ())?;
-        if let Some(bound) = moves_needed(alloc, task.system, &state, task.goal)? {
-            search.nodes.push(Node {
-                state,
-                parent: None,
-                by: None,
-                depth: 0,
-            })?;
-            search.wait(bound, false, Waiting::Known(0))?;
-        }
-        Ok(search)
-    }
+/// The facts with one more, in their order.
+fn barred_with(alloc: Global, barred: &[Fact], fact: Fact) -> Result<Vec<Fact>, AllocError> {
+    let mut more = barred.to_vec(alloc)?;
+    more.push(fact)?;
+    more.sort()?;
+    Ok(more)
+}
 
-    /// Whether the goal is out of reach.
-    pub(crate) fn is_far(&self) -> bool {
-        self.nodes.is_empty()
-    }
-
-    /// Puts something among what waits.
-    fn wait(&mut self, bound: usize, other: bool, waiting: Waiting) -> Result<(), AllocError> {
-        self.number = self.number.saturating_add(1);
-        let place = (bound, other, self.number);
-        let _ = self.queue.insert(place, waiting)?;
-        Ok(())
-    }
-
-    /// The state after a move, which is new and from which the goal may be reached; its number and
-    /// how many moves are needed at least in all.
-    fn arrive(
-        &mut self,
-        alloc: Global,
-        task: &Task<'_>,
-        parent: usize,
-        moved: Move,
-    ) -> Result<Option<(usize, usize)>, AllocError> {
-        let Some(node) = self.nodes.get(parent) else {
-            return Ok(None);
-        };
-        let depth = node.depth.saturating_add(1);
-        let state = moved_state(alloc, task.system, &node.state, &moved, task.homes)?;
-        let key = key_of(alloc, task.system, &state)?;
-        if self.seen.insert(key, ())?.is_some() {
-            return Ok(None);
-        }
-        let Some(left) = moves_needed(alloc, task.system, &state, task.goal)? else {
-            return Ok(None);
-        };
-        let number = self.nodes.len();
-        self.nodes.push(Node {
-            state,
-            parent: Some(parent),
-            by: Some(moved),
-            depth,
+impl Search {
+    /// The chain that is printed comes first.
+    fn new(alloc: Global) -> Result<Search, AllocError> {
+        let mut ways = Vec::new(alloc);
+        ways.push(Way {
+            barred: Vec::new(alloc),
+            depth: 0,
+            is_done: false,
         })?;
-        Ok(Some((number, depth.saturating_add(left))))
+        Ok(Search {
+            ways,
+            tried: Vec::new(alloc),
+        })
     }
 
-    /// Puts the moves from a state among what waits.
-    fn expand(
+    /// The place of the best way that is not done: the nearest, and of these the first.
+    fn best(&self) -> Option<usize> {
+        let mut best: Option<(usize, usize)> = None;
+        for (place, way) in self.ways.iter().enumerate() {
+            let is_nearer = match best {
+                Some((_, depth)) => way.depth < depth,
+                None => true,
+            };
+            if !way.is_done && is_nearer {
+                best = Some((place, way.depth));
+            }
+        }
+        match best {
+            Some((place, _)) => Some(place),
+            None => None,
+        }
+    }
+
+    /// The chain of a way, if there is one that was not played yet.
+    fn chain(
         &mut self,
         alloc: Global,
-        task: &Task<'_>,
-        number: usize,
-        bound: usize,
+        wanted: &Wanted<'_>,
+        place: usize,
+    ) -> Result<Option<Vec<Step>>, AllocError> {
+        let Some(way) = self.ways.get_mut(place) else {
+            return Ok(None);
+        };
+        way.is_done = true;
+        let barred = way.barred.as_slice();
+        let goal = forbidden_fact(wanted.line);
+        let chain = if barred.is_empty() {
+            Some(wanted.chain.to_vec(alloc)?)
+        } else {
+            chain_without(alloc, wanted.rules, goal, barred)?
+        };
+        match chain {
+            Some(steps) if self.tried.iter().any(|tried| *tried == steps) => Ok(None),
+            other => Ok(other),
+        }
+    }
+
+    /// Adds the way without the fact, if it is new.
+    fn bar(
+        &mut self,
+        alloc: Global,
+        from: usize,
+        fact: Fact,
+        farther: usize,
     ) -> Result<(), AllocError> {
-        let Some(node) = self.nodes.get(number) else {
+        let Some(way) = self.ways.get(from) else {
             return Ok(());
         };
-        let depth = node.depth;
-        if depth >= DEEPEST {
-            self.is_cut = true;
-            return Ok(());
-        }
-        let moves = moves_from(alloc, task.system, &node.state, task.relevant)?;
-        for moved in moves {
-            self.add_move(task, number, bound.max(depth.saturating_add(1)), moved)?;
+        let barred = barred_with(alloc, way.barred.as_slice(), fact)?;
+        let depth = way.depth.saturating_add(farther);
+        if !self.ways.iter().any(|way| way.barred == barred) {
+            self.ways.push(Way {
+                barred,
+                depth,
+                is_done: false,
+            })?;
         }
         Ok(())
     }
 
-    /// Puts a move among what waits, unless it is a first one that is barred.
-    fn add_move(
+    /// Adds the ways without one of the steps of this weight that are culprits, or that are not.
+    fn bar_all(
         &mut self,
-        task: &Task<'_>,
-        number: usize,
-        bound: usize,
-        moved: Move,
+        alloc: Global,
+        from: usize,
+        plan: &[Planned],
+        why: &[bool],
+        is_culprit: bool,
+        weight: u8,
     ) -> Result<(), AllocError> {
-        let Some(node) = self.nodes.get(number) else {
-            return Ok(());
+        let farther = if is_culprit { 1 } else { 2 };
+        for (place, step) in plan.iter().enumerate() {
+            if !step.is_making() && is_at(why, place) == is_culprit && step.weight() == weight {
+                self.bar(alloc, from, step.fact, farther)?;
+            }
+        }
+        Ok(())
+    }
+
+    /// Adds the ways without one of the steps: culprits first, and moves before other steps.
+    fn go_on(
+        &mut self,
+        alloc: Global,
+        from: usize,
+        plan: &[Planned],
+        why: &[bool],
+    ) -> Result<(), AllocError> {
+        for weight in [2, 1, 0] {
+            self.bar_all(alloc, from, plan, why, true, weight)?;
+        }
+        for weight in [2, 1, 0] {
+            self.bar_all(alloc, from, plan, why, false, weight)?;
+        }
+        Ok(())
+    }
+
+    /// Plays the chain of a way. If it breaks the line, its actions are the answer.
+    fn play(
+        &mut self,
+        alloc: Global,
+        wanted: &Wanted<'_>,
+        place: usize,
+        steps: Vec<Step>,
+    ) -> Result<Option<Vec<Action>>, AllocError> {
+        let plan = plan_of(alloc, wanted.wired, steps.as_slice())?;
+        self.tried.push(steps)?;
+        let part = Part {
+            wired: wanted.wired,
+            line: wanted.line,
+            plan: plan.as_slice(),
         };
-        if node.depth == 0 && task.barred.contains(&key(&moved)) {
-            return Ok(());
+        match played(alloc, &part)? {
+            Came::Broken(actions) => Ok(Some(actions)),
+            Came::Stuck(why) => {
+                self.go_on(alloc, place, plan.as_slice(), why.as_slice())?;
+                Ok(None)
+            }
         }
-        let other = is_other(task, &node.state, &moved);
-        self.wait(bound, other, Waiting::Next(number, moved))
     }
+}
 
-    /// Looks at a state: the calls, if the goal is reached in it and they can be made. Those in the
-    /// first state were tried before the search.
-    fn look(
-        &mut self,
-        alloc: Global,
-        task: &Task<'_>,
-        number: usize,
-        bound: usize,
-    ) -> Result<Option<Run>, AllocError> {
-        let Some(node) = self.nodes.get(number) else {
-            return Ok(None);
+/// Plays chains, the best first, until one of them breaks the line.
+fn play_all<P: Progress>(
+    alloc: Global,
+    wanted: &Wanted<'_>,
+    progress: &mut P,
+) -> Result<Reached, AllocError> {
+    let mut search = Search::new(alloc)?;
+    for _ in 0..CLOSURES.saturating_add(1) {
+        let Some(place) = search.best() else {
+            return Ok(Reached::Nothing { cut: false });
         };
-        let is_tried = number == 0 && task.homes == 1;
-        if !is_tried && node.state.goal_port(task.goal).is_some() {
-            if let Some(run) = self.carry_out(alloc, task, number)? {
-                return Ok(Some(run));
-            }
-            self.left.paths = self.left.paths.saturating_sub(1);
-            self.note_failed(alloc, number)?;
+        if search.tried.len() >= wanted.most {
+            return Ok(Reached::Nothing { cut: true });
         }
-        self.expand(alloc, task, number, bound)?;
-        Ok(None)
-    }
-
-    /// The state that is to be looked at next, of what waits first; none if it is put back or is
-    /// known.
-    fn next_state(
-        &mut self,
-        alloc: Global,
-        task: &Task<'_>,
-        place: (usize, bool, usize),
-        waiting: Waiting,
-    ) -> Result<Option<usize>, AllocError> {
-        match waiting {
-            Waiting::Known(number) => Ok(Some(number)),
-            Waiting::Next(parent, moved) => match self.arrive(alloc, task, parent, moved)? {
-                Some((number, bound)) if bound > place.0 => {
-                    self.wait(bound, place.1, Waiting::Known(number))?;
-                    Ok(None)
-                }
-                Some((number, _)) => Ok(Some(number)),
-                None => Ok(None),
-            },
+        if let Some(steps) = search.chain(alloc, wanted, place)? {
+            progress.played(search.tried.len().saturating_add(1));
+            if let Some(actions) = search.play(alloc, wanted, place, steps)? {
+                return Ok(Reached::Broken(actions));
+            }
         }
     }
+    Ok(Reached::Nothing {
+        cut: search.best().is_some(),
+    })
+}
 
-    /// The calls that lead to the goal, if they are found before all states that may be looked at
-    /// were.
-    pub(crate) fn run<P: Progress>(
-        &mut self,
-        alloc: Global,
-        task: &Task<'_>,
-        progress: &mut P,
-    ) -> Result<Option<Run>, AllocError> {
-        for _ in 0..TURNS {
-            let Some((place, waiting)) = self.queue.pop_first() else {
-                return Ok(None);
-            };
-            if self.left.states == 0 || self.left.paths == 0 {
-                self.is_cut = true;
-                return Ok(None);
-            }
-            if let Some(number) = self.next_state(alloc, task, place, waiting)? {
-                self.left.states = self.left.states.saturating_sub(1);
-                progress.looked(task.most.saturating_sub(self.left.states));
-                if let Some(run) = self.look(alloc, task, number, place.0)? {
-                    return Ok(Some(run));
-                }
-            }
+/// Calls that break the line, if the chain that is printed or another can be played.
+pub(crate) fn calls_for<P: Progress>(
+    alloc: Global,
+    wanted: &Wanted<'_>,
+    progress: &mut P,
+) -> Result<Found, AllocError> {
+    match play_all(alloc, wanted, progress)? {
+        Reached::Broken(actions) => {
+            let actions = shortened(alloc, wanted.wired, wanted.line, actions)?;
+            Ok(Found::Calls(calls_of(alloc, wanted.wired, &actions)?))
         }
-        Ok(None)
+        Reached::Nothing { cut } => Ok(Found::NotReached { cut }),
     }
 }

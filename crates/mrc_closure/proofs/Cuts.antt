@@ -87,38 +87,27 @@ cut_longer {X} xs ys before x rest e =
     go [] = refl
     go (z ∷ zs) = ap (λ ws. z ∷ ws) (go zs)
 
--- the facts of a walk, behind those of a list
+-- the facts of a set that are left, behind those of a list
 
-pub behind_none : (facts list : List Fact) (next : Option Fact)
-    → place facts next ≡ 0
-    → list ≡ list ++ take (place facts next) facts
-behind_none facts list next at =
-    sym (append-none list) ∙ ap (λ n. list ++ take n facts) (sym at)
+pub left_more : (list longer all left rest : List Fact) (f : Fact)
+    → left ≡ f ∷ rest
+    → longer ≡ list ++ f ∷ []
+    → list ++ left ≡ all
+    → longer ++ rest ≡ all
+left_more list longer all left rest f is pushed so_far =
+    ap (λ fs. fs ++ rest) pushed
+    ∙ (append_assoc list (f ∷ []) rest ∙ (ap (λ fs. list ++ fs) (sym is) ∙ so_far))
+
+pub left_none : (list all left : List Fact)
+    → left ≡ []
+    → list ++ left ≡ all
+    → list ≡ all
+left_none list all left none so_far =
+    sym (append-none list) ∙ (ap (λ fs. list ++ fs) (sym none) ∙ so_far)
   where
     append-none : (fs : List Fact) → fs ++ [] ≡ fs
     append-none [] = refl
     append-none (f ∷ fs) = ap (λ gs. f ∷ gs) (append-none fs)
-
-pub behind_more : (facts first list : List Fact) (next : Option Fact) (f : Fact)
-    → next ≡ Some f
-    → list ≡ first ++ take (place facts next) facts
-    → (next_then : Option Fact)
-    → IsStep facts f next_then
-    → (longer : List Fact)
-    → longer ≡ list ++ f ∷ []
-    → longer ≡ first ++ take (place facts next_then) facts
-behind_more facts first list next f is so_far next_then step longer pushed =
-    pushed ∙ (ap (λ fs. fs ++ f ∷ []) (so_far ∙ ap (λ o. first ++ take (place facts o) facts) is)
-    ∙ (append_assoc first (take (place facts (Some f)) facts) (f ∷ [])
-    ∙ ap (λ fs. first ++ fs) (sym step.taken)))
-
-pub behind_all : (facts first list : List Fact) (next : Option Fact)
-    → next ≡ None
-    → list ≡ first ++ take (place facts next) facts
-    → list ≡ first ++ facts
-behind_all facts first list next is so_far =
-    so_far ∙ (ap (λ o. first ++ take (place facts o) facts) is
-    ∙ ap (λ fs. first ++ fs) (walk_ends facts))
 
 -- members
 

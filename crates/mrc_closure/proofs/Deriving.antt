@@ -10,7 +10,7 @@ use Rattle.mrc_model.specs.Wiring.{Wiring}
 use Rattle.mrc_model.specs.Rules.{Has, InRange, Rule, Instance, Derives, EndsIn}
 use Rattle.mrc_facts.specs.Order.{is_same}
 use Rattle.mrc_facts.specs.Sets.{has, IsAscending}
-use Rattle.mrc_classes.specs.Following.{IsFirstFact, IsListOf}
+use Rattle.mrc_classes.specs.Following.{IsFirstFact}
 use Rattle.mrc_classes.specs.Instances.{premise_list}
 use Rattle.mrc_facts.proofs.Total.{equal_from_same, same_itself}
 use Rattle.mrc_classes.proofs.Following.{all_as}
@@ -51,7 +51,7 @@ pub record IsOrdered (W : Wiring) (facts order new : List Fact) : Type 0 where
   pub follow : (g : Fact) → IsTrue (has new g) → IsFollowing W (has order) g
 
 order_begun_from : (W : Wiring) (first facts new : List Fact)
-    → IsListOf (IsFirstFact W) first
+    → ((g : Fact) → IsTrue (has first g) → IsFirstFact W g)
     → Merged [] first facts new
     → IsOrdered W facts [] new
 order_begun_from W first facts new begins m = record {
@@ -64,7 +64,7 @@ order_begun_from W first facts new begins m = record {
   in_facts = λ g h. absurd cc;
   new_facts = new_there [] first facts new m;
   new_behind = λ g h none. absurd cc;
-  follow = λ g h. let x = (begins g).0 (new_found [] first facts new m g h) in
+  follow = λ g h. let x = begins g (new_found [] first facts new m g h) in
       record {
         rule = x.rule;
         follows = record { premises = []; rule = x.instance; known = tt; in_range = x.in_range };
@@ -75,7 +75,7 @@ order_begun_from W first facts new begins m = record {
 pub order_begun : (W : Wiring) (before first facts order new : List Fact)
     → before ≡ []
     → order ≡ []
-    → IsListOf (IsFirstFact W) first
+    → ((g : Fact) → IsTrue (has first g) → IsFirstFact W g)
     → Merged before first facts new
     → IsOrdered W facts order new
 order_begun W before first facts order new none empty begins m =
@@ -86,7 +86,7 @@ order_begun W before first facts order new none empty begins m =
 -- the order with the new facts
 module _ (W : Wiring) (facts order new : List Fact) (o : IsOrdered W facts order new)
     (ascending : IsAscending new) where
-  order_more : IsOrder W (order ++ new)
+  pub order_more : IsOrder W (order ++ new)
   order_more before f behind e =
       elim (cut_append order new before f behind e) [
         | inl at ↦ o.in_order before f at.rest at.is
@@ -98,7 +98,7 @@ module _ (W : Wiring) (facts order new : List Fact) (o : IsOrdered W facts order
             (or_left (is_same f f) (has behind f) (same_itself f)))))
       ]
 
-  once_more : IsOnce (order ++ new)
+  pub once_more : IsOnce (order ++ new)
   once_more before f behind e h =
       elim (cut_append order new before f behind e) [
         | inl at ↦ o.once before f at.rest at.is h
@@ -124,9 +124,12 @@ module _ (W : Wiring) (facts order new : List Fact) (o : IsOrdered W facts order
     | inr at ↦ o.new_facts g at
   ]
 
+  pub same_more : HaveSame facts (order ++ new)
+  same_more g = (all_facts g, no_more g)
+
   -- a round, and its conclusions put into the set
   pub order_gone_on : (found facts_then new_then : List Fact)
-      → IsListOf (FromOne W facts new) found
+      → ((g : Fact) → IsTrue (has found g) → FromOne W facts new g)
       → Merged facts found facts_then new_then
       → IsOrdered W facts_then (order ++ new) new_then
   order_gone_on found facts_then new_then found_is m = record {
@@ -142,7 +145,7 @@ module _ (W : Wiring) (facts order new : List Fact) (o : IsOrdered W facts order
     new_behind = λ g h old. let lacked = new_lacked facts found facts_then new_then m g h in
         let there = no_more g old in
         absurd cc;
-    follow = λ g h. followed g ((found_is g).0 (new_found facts found facts_then new_then m g h));
+    follow = λ g h. followed g (found_is g (new_found facts found facts_then new_then m g h));
   }
     where
       known : (x : Fact) (p : Fact)

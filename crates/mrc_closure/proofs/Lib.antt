@@ -5,3 +5,4 @@ pub mod Within
 pub mod Deriving
 pub mod Placing
 pub mod Dealing
+pub mod Barring

@@ -5,3 +5,4 @@ pub mod Chains
 pub mod Orders
 pub mod Dealing
 pub mod Working
+pub mod Barred

@@ -7,7 +7,7 @@ ghost use Rattle.mrc_base.specs.declared.Fact.{Fact};
 ghost use Rattle.mrc_model.specs.Rules.{IsLeast, Least, IsDerivation};
 ghost use Rattle.mrc_model.specs.Wiring.{Wiring};
 ghost use Rattle.mrc_wiring.specs.Table.{wiring_of};
-ghost use Rattle.mrc_facts.specs.Sets.{has, after, IsAscending};
+ghost use Rattle.mrc_facts.specs.Sets.{has, IsAscending};
 ghost use Rattle.mrc_classes.specs.Following.{IsListOf, IsFirstFact};
 ghost use Rattle.mrc_classes.specs.Instances.{premise_list};
 ghost use Rattle.mrc_closure.specs.Chains.{place_list, IsAt, AreAt, IsChain};
@@ -79,9 +79,9 @@ struct Link {
 /// follows from the facts of the rounds before it.
 #[derive(Drop)]
 pub struct Rounds {
-    facts: Facts,
-    order: Vec<Fact>,
-    ends: Vec<usize>,
+    pub(crate) facts: Facts,
+    pub(crate) order: Vec<Fact>,
+    pub(crate) ends: Vec<usize>,
 }
 
 impl Model for Rounds {
@@ -115,24 +115,13 @@ impl Rounds {
     }
 }
 
-/// Puts the fact at the end of the list, and answers the next one of the set.
-fn list_one(list: &mut Vec<Fact>, facts: &Facts, fact: &Fact) -> Result<Option<Fact>, AllocError>
-    ensures pushed { OnOk result (list.new.items ≡ list.old.items ++ fact.now ∷ []) }
-    ensures next { IfOk result (λ next. next ≡ after facts.now fact.now) }
-{
-    list.push(*fact)?;
-    Ok(facts.after(*fact))
-}
-
-/// Puts the facts of the set at the end of the list, in their order.
-fn list_all(list: &mut Vec<Fact>, facts: &Facts) -> Result<(), AllocError>
+/// Appends the facts of the set to the list, in their order.
+pub(crate) fn list_all(list: &mut Vec<Fact>, facts: &Facts) -> Result<(), AllocError>
     ensures listed { OnOk result (list.new.items ≡ list.old.items ++ facts.now) }
     ensures ascending { IsAscending facts.now }
 {
-    let _count = facts.len();
-    let mut next = facts.first();
-    while let Some(fact) = next {
-        next = list_one(list, facts, &fact)?;
+    for fact in facts.iter() {
+        list.push(fact)?;
     }
     Ok(())
 }

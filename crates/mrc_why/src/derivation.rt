@@ -20,7 +20,7 @@ use std::marker::Model;
 /// What the search for chains has found: how many steps facts take, once they are counted, and the
 /// premises that are proposed for the facts of chains so far.
 #[derive(Drop)]
-struct Search {
+pub(crate) struct Search {
     ranks: Option<Ranks>,
     chosen: BTreeMap<Fact, FewFacts>,
 }
@@ -164,7 +164,7 @@ fn proposals_for(
 
 impl Search {
     /// Nothing is found yet.
-    fn new(alloc: Global) -> Search {
+    pub(crate) fn new(alloc: Global) -> Search {
         Search {
             ranks: None,
             chosen: BTreeMap::new(alloc),
@@ -172,7 +172,7 @@ impl Search {
     }
 
     /// The proposals for a chain for the goal. Steps are counted first, if they are not yet.
-    fn proposals(
+    pub(crate) fn proposals(
         &mut self,
         alloc: Global,
         rules: &Rules,

@@ -4,6 +4,7 @@
 
 mod checked;
 mod derivation;
+mod detours;
 mod given_lines;
 mod judging;
 mod origins;
@@ -15,6 +16,7 @@ mod sources;
 mod trees;
 
 pub use derivation::Derivations;
+pub use detours::chain_without;
 pub use judging::{Broken, Exposed, Verdict, forbidden_fact, verify};
 pub use mrc_closure::{Places, Step};
 pub use origins::{SlotNames, Source};

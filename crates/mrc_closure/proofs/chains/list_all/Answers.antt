@@ -1,38 +1,25 @@
-use Rattle.mrc_facts.proofs.Walking.{walk_begins, walk_goes_on, at_some, less_some}
-use Rattle.mrc_closure.proofs.Cuts.{behind_none, behind_more, behind_all}
+use Rattle.std.proofs.Common.{◌++◌, ◌∙◌, ap}
+use Rattle.mrc_closure.proofs.Cuts.{left_more, left_none}
 use Rattle.mrc_closure.proofs.chains.list_all.Goals as goal
 
-pub loop-next-init : goal.loop-next-init
-loop-next-init c =
-    let b = walk_begins c.args.facts.now c.len-count.ensures.ascending c.first-next.result
-    c.first-next.ensures.exact in
-    record {
-      at = b.1;
-      so_far = behind_none c.args.facts.now c.args.list.now.items c.first-next.result b.0;
-    }
+pub loop-fact-init : goal.loop-fact-init
+loop-fact-init c = (
+  tt,
+  tt,
+  ap (λ fs. c.args.list.now.items ++ fs)
+      (c.into_iter-fact-iterator.ensures.into_iter_gives ∙ c.iter-fact-items.ensures.exact),
+)
 
-pub loop-next-preserved : goal.loop-next-preserved
-loop-next-preserved c =
-    let facts = c.args.facts.now in
-    let at = at_some facts c.loop-next.next c.in-Some.fact c.in-Some.is c.loop-next.invariant.at in
-    let step = walk_goes_on facts c.len-count.ensures.ascending c.in-Some.fact at _
-    c.in_ok-next.ensures.next in
-    record {
-      at = step.next;
-      so_far = behind_more facts c.args.list.now.items c.loop-next.list.items c.loop-next.next
-          c.in-Some.fact c.in-Some.is c.loop-next.invariant.so_far _ step
-          c.list_one.new.list.items c.in_ok-next.ensures.pushed;
-    }
-
-pub loop-next-smaller : goal.loop-next-smaller
-loop-next-smaller c =
-    let facts = c.args.facts.now in
-    let at = at_some facts c.loop-next.next c.in-Some.fact c.in-Some.is c.loop-next.invariant.at in
-    let step = walk_goes_on facts c.len-count.ensures.ascending c.in-Some.fact at _
-    c.in_ok-next.ensures.next in
-    less_some facts c.loop-next.next c.in-Some.fact c.in-Some.is _ step
+pub loop-fact-preserved : goal.loop-fact-preserved
+loop-fact-preserved c = (
+  tt,
+  tt,
+  left_more c.loop-fact.list.items c.push.new.self.items
+      (c.args.list.now.items ++ c.args.facts.now) c.loop-fact.fact-iterator c.next.new.self
+      c.in-Some.fact c.in-Some.ensures.steps c.in_ok-push.ensures.items c.loop-fact.invariant.2,
+)
 
 pub returns-clause-listed : goal.returns-clause-listed
 returns-clause-listed c =
-    behind_all c.args.facts.now c.args.list.now.items c.loop-next.list.items c.loop-next.next
-    c.in_default.is c.loop-next.invariant.so_far
+    left_none c.loop-fact.list.items (c.args.list.now.items ++ c.args.facts.now)
+    c.loop-fact.fact-iterator c.in-None.ensures.steps.0 c.loop-fact.invariant.2

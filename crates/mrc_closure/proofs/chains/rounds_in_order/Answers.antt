@@ -16,7 +16,7 @@ loop-alloc-init c =
           c.in_ok-merge.ensures.ascending;
       ordered = order_begun W c.args.facts.now c.args.first c.merge.new.facts
           c.new-order.result.items c.merge.new.new c.requires.empty c.new-order.ensures.items
-          c.requires.first c.in_ok-merge.ensures.merged;
+          (λ g. (c.requires.first g).0) c.in_ok-merge.ensures.merged;
     }
 
 pub loop-alloc-preserved : goal.loop-alloc-preserved
@@ -32,7 +32,7 @@ loop-alloc-preserved c =
           c.next_round.new.new) (sym c.in_ok-list_all.ensures.listed)
           (order_gone_on W c.loop-alloc.facts c.loop-alloc.order.items c.loop-alloc.new
           c.loop-alloc.invariant.ordered c.in_ok-list_all.ensures.ascending next.found
-          c.next_round.new.facts c.next_round.new.new found next.merged);
+          c.next_round.new.facts c.next_round.new.new (λ g. (found g).0) next.merged);
     }
 
 pub loop-alloc-smaller : goal.loop-alloc-smaller

@@ -1,3 +1,0 @@
-pub mod Leaks
-pub mod Attacks
-pub mod Refuting
