@@ -1,10 +1,3 @@
-pub mod Lists
-pub mod Lines
-pub mod Chosen
-pub mod Made
-pub mod Edges
-pub mod Drawn
-pub mod SlotSorts
-pub mod SlotTexts
+mod Chosen
+mod Made
 mod Worked
-mod WorkedSlots

@@ -1,7 +1,6 @@
--- Which facts are asked for, and how they are told: a line for each. This profile's own choice.
-use Rattle.std.specs.Prelude.{ℕ, ◌==◌, Bool, true, false, not, ◌&&◌, ◌||◌, List, [], ◌++◌}
-use Rattle.std.specs.Prelude.{codes, filter}
-use Rattle.std.specs.Prelude.{if◌then◌else◌, flat_map, Option, Some, None, Result, Ok, Err}
+-- Believe. Which facts are asked for. This profile's own choice.
+use Rattle.std.specs.Prelude.{ℕ, ◌==◌, Bool, true, false, not, ◌&&◌, ◌||◌, List}
+use Rattle.std.specs.Prelude.{Option, Some, None, Result, Ok, Err}
 use Rattle.mrc_base.specs.declared.PortRight.{PortRight}
 use Rattle.mrc_base.specs.declared.Fact.{Fact}
 use Rattle.mrc_base.specs.declared.Fact.TheVariants.{Hold, Carry, Backup}
@@ -9,7 +8,6 @@ use Rattle.mrc_base.specs.Reading.{◌>>=◌}
 use Rattle.mrc_facts.specs.Order.{right_number}
 use Rattle.mrc_wiring.specs.Names.{number_of, class_named}
 use Rattle.mrc_wiring.specs.Table.{Table}
-use Rattle.mrc_words.specs.Words.{fact_text}
 use Rattle.mrc_words.specs.Reading.{right_named}
 use Rattle.mrc_draw.specs.declared.filter.Filter.{Filter}
 use Rattle.mrc_draw.specs.declared.filter.FilterFault.{FilterFault}
@@ -54,18 +52,6 @@ is_hold (Backup c d) = false
 -- the fact is drawn: it is one of those that are asked for, and a hold if only holds are drawn
 abbrev pub is_drawn : Filter → Bool → Fact → Bool
 is_drawn asked holds f = (not holds || is_hold f) && matches asked f
-
--- the line of a fact
-abbrev pub fact_line : Table → Fact → List ℕ
-fact_line table f = fact_text table f ++ codes "\n"
-
--- the line of a fact, if it is asked for
-abbrev pub line_asked : Table → Filter → Fact → List ℕ
-line_asked table asked f = if matches asked f then fact_line table f else []
-
--- the lines of those of the facts that are asked for, in their order
-abbrev pub facts_text : Table → Filter → List Fact → List ℕ
-facts_text table asked facts = flat_map (fact_line table) (filter (matches asked) facts)
 
 -- what was found, or the fault
 abbrev pub found_or : {A : Type 0} → FilterFault → Option A → Result (Option A) FilterFault

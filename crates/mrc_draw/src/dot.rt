@@ -1,17 +1,5 @@
 //! Drawings as texts of graphviz's language DOT.
 
-ghost use Rattle.std.specs.Prelude.{◌≡◌, ◌++◌, [], ℕ, codes, flat_map, IfOk, string_bytes};
-ghost use Rattle.std.specs.List.{join_by};
-ghost use Rattle.mrc_base.specs.declared.Fact.TheVariants.{Carry};
-ghost use Rattle.mrc_words.specs.Words.{task_word, class_word};
-ghost use Rattle.mrc_draw.specs.Pictures.{picture_of, leaders_of, members_of, classes_of};
-ghost use Rattle.mrc_draw.specs.Pictures.{rights_by, is_held, if_any, Holding, Carrying};
-ghost use Rattle.mrc_draw.specs.Pictures.{hold_edge, hold_edges, node_edges, carry_edge};
-ghost use Rattle.mrc_draw.specs.Pictures.{backup_edge, pair_edges, class_edges};
-ghost use Rattle.mrc_draw.specs.Dot.{rights_text, style_text, arrow_line, edge_line, node_line};
-ghost use Rattle.mrc_draw.specs.Dot.{box_line, node_text, graph_text, carry_look, backup_look};
-ghost use Rattle.mrc_draw.specs.Drawings.{shown, by_three, name_piece};
-
 use crate::drawing::{Drawing, STYLES, Style, drawing_of, is_held};
 use crate::nodes::{leaders_of, members_of};
 use mrc_base::{ClassId, Fact, PortRight, TaskId};
@@ -21,9 +9,7 @@ use mrc_words::{class_word, task_word};
 use std::alloc::{AllocError, Global};
 
 /// The words of the rights, with a comma and a blank between each two.
-fn rights_text(send: bool, receive: bool, once: bool) -> &'static str
-    ensures { result.now ≡ rights_text (rights_by (by_three send receive once)) }
-{
+fn rights_text(send: bool, receive: bool, once: bool) -> &'static str {
     match (send, receive, once) {
         (false, false, false) => "",
         (true, false, false) => "send",
@@ -37,9 +23,7 @@ fn rights_text(send: bool, receive: bool, once: bool) -> &'static str
 }
 
 /// The looks of a hold.
-fn style_text(style: Style) -> &'static str
-    ensures { result.now ≡ style_text style }
-{
+fn style_text(style: Style) -> &'static str {
     match (style.first, style.forbidden) {
         (true, false) => "",
         (false, false) => ",style=dashed",
@@ -49,18 +33,12 @@ fn style_text(style: Style) -> &'static str
 }
 
 /// The looks of what may be carried.
-#[tactic(auto, unfolding(crate::specs::Dot::carry_look))]
-fn carry_look() -> &'static str
-    ensures { result.now ≡ carry_look }
-{
+fn carry_look() -> &'static str {
     ",style=dotted,arrowhead=vee"
 }
 
 /// The looks of backups.
-#[tactic(auto, unfolding(crate::specs::Dot::backup_look))]
-fn backup_look() -> &'static str
-    ensures { result.now ≡ backup_look }
-{
+fn backup_look() -> &'static str {
     ",style=dotted,arrowhead=tee"
 }
 
@@ -71,10 +49,7 @@ fn arrow_line(
     head: &str,
     label: &str,
     look: &str,
-) -> Result<String, AllocError>
-    ensures { IfOk result (λ text. string_bytes text
-        ≡ arrow_line tail.now head.now label.now look.now) }
-{
+) -> Result<String, AllocError> {
     format!(in alloc; "  \"{tail}\" -> \"{head}\" [label=\"{label}\"{look}];\n")
 }
 
@@ -86,12 +61,7 @@ fn hold_line(
     members: &[u16],
     class: ClassId,
     style: Style,
-) -> Result<String, AllocError>
-    requires { members.now ≡ members_of (shown drawing.now) leader }
-    ensures { IfOk result (λ text. string_bytes text
-        ≡ flat_map (edge_line drawing.now.wired.now)
-        (hold_edge (shown drawing.now) leader class style)) }
-{
+) -> Result<String, AllocError> {
     let send = is_held(drawing, members, class, style, PortRight::Send);
     let receive = is_held(drawing, members, class, style, PortRight::Receive);
     let once = is_held(drawing, members, class, style, PortRight::SendOnce);
@@ -117,12 +87,7 @@ fn hold_lines(
     leader: u16,
     members: &[u16],
     class: ClassId,
-) -> Result<String, AllocError>
-    requires { members.now ≡ members_of (shown drawing.now) leader }
-    ensures { IfOk result (λ text. string_bytes text
-        ≡ flat_map (edge_line drawing.now.wired.now)
-        (hold_edges (shown drawing.now) leader class)) }
-{
+) -> Result<String, AllocError> {
     let mut text = String::new(alloc);
     for style in &STYLES {
         let line = hold_line(alloc, drawing, leader, members, class, *style)?;
@@ -137,11 +102,7 @@ fn node_edges(
     drawing: &Drawing<'_>,
     leader: u16,
     members: &[u16],
-) -> Result<String, AllocError>
-    requires { members.now ≡ members_of (shown drawing.now) leader }
-    ensures { IfOk result (λ text. string_bytes text
-        ≡ flat_map (edge_line drawing.now.wired.now) (node_edges (shown drawing.now) leader)) }
-{
+) -> Result<String, AllocError> {
     let mut text = String::new(alloc);
     for class in 0..drawing.wired.classes() {
         let lines = hold_lines(alloc, drawing, leader, members, ClassId(class))?;
@@ -151,9 +112,7 @@ fn node_edges(
 }
 
 /// The name of a task, behind a mark for the next line where it is not the first.
-fn name_piece(alloc: Global, wired: &Wired, place: usize, task: u16) -> Result<String, AllocError>
-    ensures { IfOk result (λ text. string_bytes text ≡ name_piece wired.now place task) }
-{
+fn name_piece(alloc: Global, wired: &Wired, place: usize, task: u16) -> Result<String, AllocError> {
     let name = task_word(alloc, wired, TaskId(u32::from(task)))?;
     if place == 0 {
         Ok(name)
@@ -163,10 +122,7 @@ fn name_piece(alloc: Global, wired: &Wired, place: usize, task: u16) -> Result<S
 }
 
 /// The names of tasks, below each other.
-fn names_text(alloc: Global, wired: &Wired, tasks: &[u16]) -> Result<String, AllocError>
-    ensures { IfOk result (λ text. string_bytes text
-        ≡ join_by (task_word wired.now) (codes "\\n") tasks.now) }
-{
+fn names_text(alloc: Global, wired: &Wired, tasks: &[u16]) -> Result<String, AllocError> {
     let mut text = String::new(alloc);
     for (place, task) in tasks.iter().enumerate() {
         let piece = name_piece(alloc, wired, place, *task)?;
@@ -176,9 +132,7 @@ fn names_text(alloc: Global, wired: &Wired, tasks: &[u16]) -> Result<String, All
 }
 
 /// The line of a box with these names in it.
-fn box_line(alloc: Global, name: &str, names: &str) -> Result<String, AllocError>
-    ensures { IfOk result (λ text. string_bytes text ≡ box_line name.now names.now) }
-{
+fn box_line(alloc: Global, name: &str, names: &str) -> Result<String, AllocError> {
     format!(in alloc; "  \"{name}\" [shape=box,label=\"{names}\"];\n")
 }
 
@@ -188,10 +142,7 @@ fn node_line(
     drawing: &Drawing<'_>,
     leader: u16,
     members: &[u16],
-) -> Result<String, AllocError>
-    requires { members.now ≡ members_of (shown drawing.now) leader }
-    ensures { IfOk result (λ text. string_bytes text ≡ node_line (shown drawing.now) leader) }
-{
+) -> Result<String, AllocError> {
     let name = task_word(alloc, drawing.wired, TaskId(u32::from(leader)))?;
     let names = names_text(alloc, drawing.wired, members)?;
     box_line(alloc, name.as_str(), names.as_str())
@@ -203,10 +154,7 @@ fn node_text(
     drawing: &Drawing<'_>,
     leaders: &[u16],
     leader: u16,
-) -> Result<String, AllocError>
-    requires { leaders.now ≡ leaders_of (shown drawing.now) }
-    ensures { IfOk result (λ text. string_bytes text ≡ node_text (shown drawing.now) leader) }
-{
+) -> Result<String, AllocError> {
     let members = members_of(alloc, drawing, leaders, leader)?;
     let edges = node_edges(alloc, drawing, leader, members.as_slice())?;
     if edges.is_empty() {
@@ -216,11 +164,7 @@ fn node_text(
 }
 
 /// The lines of the nodes that have edges.
-fn nodes_text(alloc: Global, drawing: &Drawing<'_>, leaders: &[u16]) -> Result<String, AllocError>
-    requires { leaders.now ≡ leaders_of (shown drawing.now) }
-    ensures { IfOk result (λ text. string_bytes text
-        ≡ flat_map (node_text (shown drawing.now)) leaders.now) }
-{
+fn nodes_text(alloc: Global, drawing: &Drawing<'_>, leaders: &[u16]) -> Result<String, AllocError> {
     let mut text = String::new(alloc);
     for leader in leaders {
         let line = node_text(alloc, drawing, leaders, *leader)?;
@@ -235,22 +179,13 @@ fn leader_edges(
     drawing: &Drawing<'_>,
     leaders: &[u16],
     leader: u16,
-) -> Result<String, AllocError>
-    requires { leaders.now ≡ leaders_of (shown drawing.now) }
-    ensures { IfOk result (λ text. string_bytes text
-        ≡ flat_map (edge_line drawing.now.wired.now) (node_edges (shown drawing.now) leader)) }
-{
+) -> Result<String, AllocError> {
     let members = members_of(alloc, drawing, leaders, leader)?;
     node_edges(alloc, drawing, leader, members.as_slice())
 }
 
 /// The lines of the edges from nodes.
-fn holds_text(alloc: Global, drawing: &Drawing<'_>, leaders: &[u16]) -> Result<String, AllocError>
-    requires { leaders.now ≡ leaders_of (shown drawing.now) }
-    ensures { IfOk result (λ text. string_bytes text
-        ≡ flat_map (edge_line drawing.now.wired.now)
-        (flat_map (node_edges (shown drawing.now)) leaders.now)) }
-{
+fn holds_text(alloc: Global, drawing: &Drawing<'_>, leaders: &[u16]) -> Result<String, AllocError> {
     let mut text = String::new(alloc);
     for leader in leaders {
         let lines = leader_edges(alloc, drawing, leaders, *leader)?;
@@ -260,9 +195,12 @@ fn holds_text(alloc: Global, drawing: &Drawing<'_>, leaders: &[u16]) -> Result<S
 }
 
 /// Whether the right on the class may be carried to the other.
-fn is_carried(drawing: &Drawing<'_>, destination: ClassId, class: ClassId, right: PortRight) -> bool
-    ensures { result ≡ (shown drawing.now).facts (Carry destination class right) }
-{
+fn is_carried(
+    drawing: &Drawing<'_>,
+    destination: ClassId,
+    class: ClassId,
+    right: PortRight,
+) -> bool {
     drawing.facts.has(&Fact::Carry {
         destination,
         class,
@@ -276,11 +214,7 @@ fn carry_line(
     drawing: &Drawing<'_>,
     destination: ClassId,
     class: ClassId,
-) -> Result<String, AllocError>
-    ensures { IfOk result (λ text. string_bytes text
-        ≡ flat_map (edge_line drawing.now.wired.now)
-        (carry_edge (shown drawing.now) destination class)) }
-{
+) -> Result<String, AllocError> {
     let send = is_carried(drawing, destination, class, PortRight::Send);
     let receive = is_carried(drawing, destination, class, PortRight::Receive);
     let once = is_carried(drawing, destination, class, PortRight::SendOnce);
@@ -299,11 +233,7 @@ fn backup_line(
     drawing: &Drawing<'_>,
     class: ClassId,
     notify: ClassId,
-) -> Result<String, AllocError>
-    ensures { IfOk result (λ text. string_bytes text
-        ≡ flat_map (edge_line drawing.now.wired.now)
-        (backup_edge (shown drawing.now) class notify)) }
-{
+) -> Result<String, AllocError> {
     if !drawing.facts.has(&Fact::Backup { class, notify }) {
         return Ok(String::new(alloc));
     }
@@ -318,11 +248,7 @@ fn pair_lines(
     drawing: &Drawing<'_>,
     class: ClassId,
     other: ClassId,
-) -> Result<String, AllocError>
-    ensures { IfOk result (λ text. string_bytes text
-        ≡ flat_map (edge_line drawing.now.wired.now)
-        (pair_edges (shown drawing.now) class other)) }
-{
+) -> Result<String, AllocError> {
     let mut text = carry_line(alloc, drawing, class, other)?;
     let backup = backup_line(alloc, drawing, class, other)?;
     text.push_str(backup.as_str())?;
@@ -330,10 +256,7 @@ fn pair_lines(
 }
 
 /// The lines of the edges from a class.
-fn class_edges(alloc: Global, drawing: &Drawing<'_>, class: ClassId) -> Result<String, AllocError>
-    ensures { IfOk result (λ text. string_bytes text
-        ≡ flat_map (edge_line drawing.now.wired.now) (class_edges (shown drawing.now) class)) }
-{
+fn class_edges(alloc: Global, drawing: &Drawing<'_>, class: ClassId) -> Result<String, AllocError> {
     let mut text = String::new(alloc);
     for other in 0..drawing.wired.classes() {
         let lines = pair_lines(alloc, drawing, class, ClassId(other))?;
@@ -343,11 +266,7 @@ fn class_edges(alloc: Global, drawing: &Drawing<'_>, class: ClassId) -> Result<S
 }
 
 /// The lines of the edges from classes.
-fn classes_text(alloc: Global, drawing: &Drawing<'_>) -> Result<String, AllocError>
-    ensures { IfOk result (λ text. string_bytes text
-        ≡ flat_map (edge_line drawing.now.wired.now)
-        (flat_map (class_edges (shown drawing.now)) (classes_of (shown drawing.now)))) }
-{
+fn classes_text(alloc: Global, drawing: &Drawing<'_>) -> Result<String, AllocError> {
     let mut text = String::new(alloc);
     for class in 0..drawing.wired.classes() {
         let lines = class_edges(alloc, drawing, ClassId(class))?;
@@ -357,9 +276,7 @@ fn classes_text(alloc: Global, drawing: &Drawing<'_>) -> Result<String, AllocErr
 }
 
 /// The drawing as a text.
-fn drawing_text(alloc: Global, drawing: &Drawing<'_>) -> Result<String, AllocError>
-    ensures { IfOk result (λ text. string_bytes text ≡ graph_text (shown drawing.now)) }
-{
+fn drawing_text(alloc: Global, drawing: &Drawing<'_>) -> Result<String, AllocError> {
     let leaders = leaders_of(alloc, drawing)?;
     let nodes = nodes_text(alloc, drawing, leaders.as_slice())?;
     let holds = holds_text(alloc, drawing, leaders.as_slice())?;
@@ -380,10 +297,7 @@ pub fn graph_text(
     wired: &Wired,
     facts: &Facts,
     lines: &[ForbiddenLine],
-) -> Result<String, AllocError>
-    ensures { IfOk result (λ text. string_bytes text
-        ≡ graph_text (picture_of wired.now facts.now lines.now)) }
-{
+) -> Result<String, AllocError> {
     let drawing = drawing_of(alloc, wired, facts, lines)?;
     drawing_text(alloc, &drawing)
 }

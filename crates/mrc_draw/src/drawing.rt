@@ -1,12 +1,6 @@
 //! What a drawing is made of: facts of a wiring, those that K1 gives, and those that a policy
 //! forbids.
 
-ghost use Rattle.std.specs.Prelude.{◌≡◌, ◌&&◌, IfOk};
-ghost use Rattle.std.specs.List.{list_any};
-ghost use Rattle.mrc_base.specs.declared.Fact.TheVariants.{Hold};
-ghost use Rattle.mrc_draw.specs.Pictures.{picture_of, has_style, is_held, agree};
-ghost use Rattle.mrc_draw.specs.Drawings.{shown};
-
 use crate::sets::{forbidden_holds, set_of};
 use mrc_base::{ClassId, Fact, PortRight};
 use mrc_rows::Facts;
@@ -57,11 +51,7 @@ pub(crate) fn drawing_of<'a>(
     wired: &'a Wired,
     facts: &'a Facts,
     lines: &[ForbiddenLine],
-) -> Result<Drawing<'a>, AllocError>
-    ensures { IfOk result (λ drawing. shown drawing
-        ≡ picture_of wired.now facts.now lines.now) }
-{
-    let _kept = wired.tasks();
+) -> Result<Drawing<'a>, AllocError> {
     let first = wired.first_holdings(alloc)?;
     let forbidden = forbidden_holds(alloc, lines)?;
     Ok(Drawing {
@@ -73,9 +63,7 @@ pub(crate) fn drawing_of<'a>(
 }
 
 /// Whether both are true, or both false.
-fn agree(one: bool, other: bool) -> bool
-    ensures { result ≡ agree one other }
-{
+fn agree(one: bool, other: bool) -> bool {
     if one { other } else { !other }
 }
 
@@ -86,10 +74,7 @@ pub(crate) fn holds_so(
     class: ClassId,
     style: Style,
     right: PortRight,
-) -> bool
-    ensures { result ≡ ((shown drawing.now).facts (Hold task class right)
-        && has_style (shown drawing.now) style task class right) }
-{
+) -> bool {
     let hold = Fact::Hold { task, class, right };
     drawing.facts.has(&hold)
         && agree(style.first, drawing.first.has(&hold))
@@ -103,10 +88,7 @@ pub(crate) fn holds_alike(
     other: u16,
     class: ClassId,
     right: PortRight,
-) -> bool
-    ensures { result ≡ agree ((shown drawing.now).facts (Hold task class right))
-        ((shown drawing.now).facts (Hold other class right)) }
-{
+) -> bool {
     let one = Fact::Hold { task, class, right };
     let two = Fact::Hold {
         task: other,
@@ -123,9 +105,7 @@ pub(crate) fn is_held(
     class: ClassId,
     style: Style,
     right: PortRight,
-) -> bool
-    ensures { result ≡ is_held (shown drawing.now) tasks.now class style right }
-{
+) -> bool {
     tasks
         .iter()
         .any(|task| holds_so(drawing, *task, class, style, right))

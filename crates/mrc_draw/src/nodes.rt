@@ -1,19 +1,11 @@
 //! Nodes of tasks that hold the same.
 
-ghost use Rattle.std.specs.Prelude.{◌≡◌, ◌==◌, ◌++◌, [], ◌∷◌, if◌then◌else◌, IfOk, OnOk};
-ghost use Rattle.std.specs.List.{list_any, find};
-ghost use Rattle.mrc_draw.specs.Pictures.{holds_kernel, are_one, with_task, leaders_of, leader_of};
-ghost use Rattle.mrc_draw.specs.Pictures.{members_of, hold_alike, hold_same};
-ghost use Rattle.mrc_draw.specs.Drawings.{shown};
-
 use crate::drawing::{Drawing, holds_alike};
 use mrc_base::{ClassId, Fact, PortRight};
 use std::alloc::{AllocError, Global};
 
 /// Whether the task holds the kernel port of the other, which is a task of the wiring.
-fn holds_kernel(drawing: &Drawing<'_>, task: u16, other: u16) -> bool
-    ensures { result ≡ holds_kernel (shown drawing.now) task other }
-{
+fn holds_kernel(drawing: &Drawing<'_>, task: u16, other: u16) -> bool {
     if other >= drawing.wired.tasks() {
         return false;
     }
@@ -25,9 +17,7 @@ fn holds_kernel(drawing: &Drawing<'_>, task: u16, other: u16) -> bool
 }
 
 /// Whether the two hold the same rights on the class.
-fn hold_alike(drawing: &Drawing<'_>, task: u16, other: u16, class: u16) -> bool
-    ensures { result ≡ hold_alike (shown drawing.now) task other class }
-{
+fn hold_alike(drawing: &Drawing<'_>, task: u16, other: u16, class: u16) -> bool {
     let class = ClassId(class);
     holds_alike(drawing, task, other, class, PortRight::Send)
         && holds_alike(drawing, task, other, class, PortRight::Receive)
@@ -35,17 +25,13 @@ fn hold_alike(drawing: &Drawing<'_>, task: u16, other: u16, class: u16) -> bool
 }
 
 /// Whether the two hold the same.
-fn hold_same(drawing: &Drawing<'_>, task: u16, other: u16) -> bool
-    ensures { result ≡ hold_same (shown drawing.now) task other }
-{
+fn hold_same(drawing: &Drawing<'_>, task: u16, other: u16) -> bool {
     (0..drawing.wired.classes()).all(|class| hold_alike(drawing, task, other, class))
 }
 
 /// Whether the two are one task, or each of them holds the kernel port of the other, and they hold
 /// the same.
-fn are_one(drawing: &Drawing<'_>, task: u16, other: u16) -> bool
-    ensures { result ≡ are_one (shown drawing.now) task other }
-{
+fn are_one(drawing: &Drawing<'_>, task: u16, other: u16) -> bool {
     task == other
         || (holds_kernel(drawing, task, other)
             && holds_kernel(drawing, other, task)
@@ -53,9 +39,7 @@ fn are_one(drawing: &Drawing<'_>, task: u16, other: u16) -> bool
 }
 
 /// The first of the leaders that the task is one with.
-fn find_leader(drawing: &Drawing<'_>, leaders: &[u16], task: u16) -> Option<u16>
-    ensures { result ≡ find (are_one (shown drawing.now) task) leaders.now }
-{
+fn find_leader(drawing: &Drawing<'_>, leaders: &[u16], task: u16) -> Option<u16> {
     leaders
         .iter()
         .copied()
@@ -63,17 +47,12 @@ fn find_leader(drawing: &Drawing<'_>, leaders: &[u16], task: u16) -> Option<u16>
 }
 
 /// Whether the task is one with some leader.
-fn is_led(drawing: &Drawing<'_>, leaders: &[u16], task: u16) -> bool
-    ensures { result ≡ list_any (are_one (shown drawing.now) task) leaders.now }
-{
+fn is_led(drawing: &Drawing<'_>, leaders: &[u16], task: u16) -> bool {
     leaders.iter().any(|leader| are_one(drawing, task, *leader))
 }
 
 /// Puts the task to the leaders, if it is one with none of them.
-fn put_task(drawing: &Drawing<'_>, leaders: &mut Vec<u16>, task: u16) -> Result<(), AllocError>
-    ensures { OnOk result (leaders.new.items
-        ≡ with_task (shown drawing.now) leaders.old.items task) }
-{
+fn put_task(drawing: &Drawing<'_>, leaders: &mut Vec<u16>, task: u16) -> Result<(), AllocError> {
     if is_led(drawing, leaders.as_slice(), task) {
         return Ok(());
     }
@@ -82,9 +61,7 @@ fn put_task(drawing: &Drawing<'_>, leaders: &mut Vec<u16>, task: u16) -> Result<
 }
 
 /// The tasks that lead a node: each that is one with no leader before it.
-pub(crate) fn leaders_of(alloc: Global, drawing: &Drawing<'_>) -> Result<Vec<u16>, AllocError>
-    ensures { IfOk result (λ leaders. leaders.items ≡ leaders_of (shown drawing.now)) }
-{
+pub(crate) fn leaders_of(alloc: Global, drawing: &Drawing<'_>) -> Result<Vec<u16>, AllocError> {
     let mut leaders = Vec::new(alloc);
     for task in 0..drawing.wired.tasks() {
         put_task(drawing, &mut leaders, task)?;
@@ -99,11 +76,7 @@ fn put_member(
     leader: u16,
     members: &mut Vec<u16>,
     task: u16,
-) -> Result<(), AllocError>
-    requires { leaders.now ≡ leaders_of (shown drawing.now) }
-    ensures { OnOk result (members.new.items ≡ members.old.items
-        ++ (if leader_of (shown drawing.now) task == leader then task ∷ [] else [])) }
-{
+) -> Result<(), AllocError> {
     if find_leader(drawing, leaders, task).unwrap_or(task) != leader {
         return Ok(());
     }
@@ -117,10 +90,7 @@ pub(crate) fn members_of(
     drawing: &Drawing<'_>,
     leaders: &[u16],
     leader: u16,
-) -> Result<Vec<u16>, AllocError>
-    requires { leaders.now ≡ leaders_of (shown drawing.now) }
-    ensures { IfOk result (λ members. members.items ≡ members_of (shown drawing.now) leader) }
-{
+) -> Result<Vec<u16>, AllocError> {
     let mut members = Vec::new(alloc);
     for task in 0..drawing.wired.tasks() {
         put_member(drawing, leaders, leader, &mut members, task)?;

@@ -1,9 +1,8 @@
 //! Sets of facts from lists.
 
-ghost use Rattle.std.specs.Prelude.{◌≡◌, ◌||◌, map, IfOk, OnOk};
+ghost use Rattle.std.specs.Prelude.{◌≡◌, IfOk};
 ghost use Rattle.mrc_base.specs.declared.Fact.{Fact};
 ghost use Rattle.mrc_facts.specs.Sets.{has};
-ghost use Rattle.mrc_draw.specs.Pictures.{forbidden_hold};
 
 use mrc_base::Fact;
 use mrc_rows::Facts;
@@ -22,9 +21,7 @@ pub fn set_of(alloc: Global, facts: &[Fact]) -> Result<Facts, AllocError>
 }
 
 /// The hold that a line of a policy forbids.
-fn forbidden_hold(line: &ForbiddenLine) -> Fact
-    ensures { result ≡ forbidden_hold line.now }
-{
+fn forbidden_hold(line: &ForbiddenLine) -> Fact {
     Fact::Hold {
         task: line.task,
         class: line.class,
@@ -36,9 +33,7 @@ fn forbidden_hold(line: &ForbiddenLine) -> Fact
 pub(crate) fn forbidden_holds(
     alloc: Global,
     lines: &[ForbiddenLine],
-) -> Result<Vec<Fact>, AllocError>
-    ensures { IfOk result (λ holds. holds.items ≡ map forbidden_hold lines.now) }
-{
+) -> Result<Vec<Fact>, AllocError> {
     let mut holds = Vec::new(alloc);
     for line in lines {
         holds.push(forbidden_hold(line))?;

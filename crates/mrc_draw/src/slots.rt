@@ -1,22 +1,5 @@
 //! Each slot of the MIG files, a line each, with the classes of which its type admits ports.
 
-ghost use Rattle.std.specs.Prelude.{◌≡◌, ◌<◌, ◌||◌, ◌++◌, ◌∷◌, [], ℕ, List, Some, IfOk, OnOk, find, filter};
-ghost use Rattle.std.specs.Prelude.{bytes_eq, flat_map, length, if◌then◌else◌, slice_get, string_bytes, codes};
-ghost use Rattle.std.specs.List.{join_by};
-ghost use Rattle.std.specs.Option.{option_map};
-ghost use Rattle.mrc_model.specs.Wiring.{admits};
-ghost use Rattle.mrc_forms.specs.Tables.{form_in};
-ghost use Rattle.mrc_wiring.specs.ModelForms.{is_at};
-ghost use Rattle.mrc_wiring.specs.Sorts.{sorts_of, sort_number};
-ghost use Rattle.mrc_wiring.specs.Table.{wiring_of};
-ghost use Rattle.mrc_words.specs.Words.{class_word};
-ghost use Rattle.mrc_draw.specs.SlotLines.{type_word, restricts, is_restricted, admitted};
-ghost use Rattle.mrc_draw.specs.SlotLines.{classes_text, answer, slot_line, has_slot, line_of};
-ghost use Rattle.mrc_draw.specs.SlotLines.{argument_line, form_lines, row_lines, lines_of};
-ghost use Rattle.mrc_draw.specs.SlotLines.{all_lines, slots_text, is_of_type};
-ghost use Rattle.mrc_draw.specs.Restricting.{is_listed, listed, IsRow, IsMessage};
-ghost use Rattle.mrc_draw.specs.Restricting.{class_piece};
-
 use mrc_base::ClassId;
 use mrc_forms::{Argument, Form, Interface, MessageKind, Row, Slot};
 use mrc_name_table::NameTable;
@@ -42,9 +25,7 @@ struct Message<'a> {
 }
 
 /// A type of a subsystem: `S.TYPE`.
-fn type_word(alloc: Global, subsystem: &str, type_name: &str) -> Result<String, AllocError>
-    ensures { IfOk result (λ word. string_bytes word ≡ type_word subsystem.now type_name.now) }
-{
+fn type_word(alloc: Global, subsystem: &str, type_name: &str) -> Result<String, AllocError> {
     format!(in alloc; "{subsystem}.{type_name}")
 }
 
@@ -54,19 +35,17 @@ fn add_type(
     names: &mut NameTable,
     subsystem: &str,
     type_name: &str,
-) -> Result<(), AllocError>
-    ensures { OnOk result ((word : List ℕ) → is_listed names.new word
-        ≡ (is_listed names.old word || bytes_eq word (type_word subsystem.now type_name.now))) }
-{
+) -> Result<(), AllocError> {
     let word = type_word(alloc, subsystem, type_name)?;
     names.add(alloc, word.as_str())
 }
 
 /// Puts the type to the names that the line restricts, if it is an admit line.
-fn add_restricted(alloc: Global, names: &mut NameTable, line: &WiringLine) -> Result<(), AllocError>
-    ensures { OnOk result ((word : List ℕ) → is_listed names.new word
-        ≡ (is_listed names.old word || restricts word line.now.says)) }
-{
+fn add_restricted(
+    alloc: Global,
+    names: &mut NameTable,
+    line: &WiringLine,
+) -> Result<(), AllocError> {
     match &line.says {
         WiringSays::Task(_)
         | WiringSays::Port { .. }
@@ -84,10 +63,7 @@ fn add_restricted(alloc: Global, names: &mut NameTable, line: &WiringLine) -> Re
 }
 
 /// The types that lines restrict.
-fn restricted(alloc: Global, lines: &[WiringLine]) -> Result<NameTable, AllocError>
-    ensures { IfOk result (λ names. (word : List ℕ)
-        → is_listed names word ≡ is_restricted lines.now word) }
-{
+fn restricted(alloc: Global, lines: &[WiringLine]) -> Result<NameTable, AllocError> {
     let mut names = NameTable::new(alloc);
     for line in lines {
         add_restricted(alloc, &mut names, line)?;
@@ -101,10 +77,7 @@ fn put_admitted(
     sort: usize,
     classes: &mut Vec<u16>,
     class: u16,
-) -> Result<(), AllocError>
-    ensures { OnOk result (classes.new.items ≡ classes.old.items
-        ++ (if admits (wiring_of wired.now) sort class then class ∷ [] else [])) }
-{
+) -> Result<(), AllocError> {
     if wired.admits(sort, ClassId(class)) {
         classes.push(class)?;
     }
@@ -112,9 +85,7 @@ fn put_admitted(
 }
 
 /// The classes that the type of this number admits.
-fn admitted(alloc: Global, wired: &Wired, sort: usize) -> Result<Vec<u16>, AllocError>
-    ensures { IfOk result (λ classes. classes.items ≡ admitted wired.now sort) }
-{
+fn admitted(alloc: Global, wired: &Wired, sort: usize) -> Result<Vec<u16>, AllocError> {
     let mut classes = Vec::new(alloc);
     for class in 0..wired.classes() {
         put_admitted(wired, sort, &mut classes, class)?;
@@ -123,9 +94,12 @@ fn admitted(alloc: Global, wired: &Wired, sort: usize) -> Result<Vec<u16>, Alloc
 }
 
 /// A class, behind a comma and a blank if it is not the first.
-fn class_piece(alloc: Global, wired: &Wired, place: usize, class: u16) -> Result<String, AllocError>
-    ensures { IfOk result (λ text. string_bytes text ≡ class_piece wired.now place class) }
-{
+fn class_piece(
+    alloc: Global,
+    wired: &Wired,
+    place: usize,
+    class: u16,
+) -> Result<String, AllocError> {
     let word = class_word(alloc, wired, ClassId(class))?;
     if place == 0 {
         Ok(word)
@@ -135,10 +109,7 @@ fn class_piece(alloc: Global, wired: &Wired, place: usize, class: u16) -> Result
 }
 
 /// Classes, with a comma and a blank between each two.
-fn joined(alloc: Global, wired: &Wired, classes: &[u16]) -> Result<String, AllocError>
-    ensures { IfOk result (λ text. string_bytes text
-        ≡ join_by (class_word wired.now) (codes ", ") classes.now) }
-{
+fn joined(alloc: Global, wired: &Wired, classes: &[u16]) -> Result<String, AllocError> {
     let mut text = String::new(alloc);
     for (place, class) in classes.iter().enumerate() {
         let piece = class_piece(alloc, wired, place, *class)?;
@@ -148,9 +119,7 @@ fn joined(alloc: Global, wired: &Wired, classes: &[u16]) -> Result<String, Alloc
 }
 
 /// Classes, with a comma and a blank between each two, or `none`.
-fn classes_text(alloc: Global, wired: &Wired, classes: &[u16]) -> Result<String, AllocError>
-    ensures { IfOk result (λ text. string_bytes text ≡ classes_text wired.now classes.now) }
-{
+fn classes_text(alloc: Global, wired: &Wired, classes: &[u16]) -> Result<String, AllocError> {
     match *classes {
         [] => String::from_str(alloc, "none"),
         [..] => joined(alloc, wired, classes),
@@ -158,16 +127,12 @@ fn classes_text(alloc: Global, wired: &Wired, classes: &[u16]) -> Result<String,
 }
 
 /// Whether a line restricts the type of this word.
-fn is_restricted(types: &Types<'_>, word: &str) -> bool
-    ensures { result ≡ (listed types.now).has word.now }
-{
+fn is_restricted(types: &Types<'_>, word: &str) -> bool {
     types.restricted.number_of(word).is_some()
 }
 
 /// What the type of this word and number admits: `any`, if no line restricts it.
-fn answer(alloc: Global, types: &Types<'_>, word: &str, sort: usize) -> Result<String, AllocError>
-    ensures { IfOk result (λ text. string_bytes text ≡ answer (listed types.now) word.now sort) }
-{
+fn answer(alloc: Global, types: &Types<'_>, word: &str, sort: usize) -> Result<String, AllocError> {
     if !is_restricted(types, word) {
         return String::from_str(alloc, "any");
     }
@@ -183,11 +148,7 @@ fn slot_line(
     argument: &Argument,
     slot: &Slot,
     sort: usize,
-) -> Result<String, AllocError>
-    ensures { IfOk result (λ text. string_bytes text ≡ slot_line (listed types.now)
-        message.now.interface.now.name message.now.form.now.name argument.now.name
-        (type_word message.now.interface.now.name slot.now.type_name) sort) }
-{
+) -> Result<String, AllocError> {
     let subsystem = message.interface.name();
     let routine = message.form.name();
     let name = argument.name.as_str();
@@ -197,16 +158,12 @@ fn slot_line(
 }
 
 /// The slot that is the argument of this number.
-fn slot_at(form: &Form, place: usize) -> Option<&Slot>
-    ensures { option_map (λ slot. slot.now) result ≡ find (is_at place) form.now.slots }
-{
+fn slot_at(form: &Form, place: usize) -> Option<&Slot> {
     form.slots().iter().find(|slot| slot.argument == place)
 }
 
 /// Whether there is a slot, and it is of the type of this name.
-fn is_of_type(type_name: &str, slot: Option<&Slot>) -> bool
-    ensures { result ≡ is_of_type type_name.now (option_map (λ slot. slot.now) slot.entry) }
-{
+fn is_of_type(type_name: &str, slot: Option<&Slot>) -> bool {
     match slot {
         Some(slot) => type_name == slot.type_name.as_str(),
         None => false,
@@ -214,10 +171,7 @@ fn is_of_type(type_name: &str, slot: Option<&Slot>) -> bool
 }
 
 /// Whether a form that is there has a slot whose argument and type have these names.
-fn has_slot(form: Option<&Form>, argument: &str, type_name: &str) -> bool
-    ensures { result ≡ has_slot (option_map (λ form. form.now) form.entry) argument.now
-        type_name.now }
-{
+fn has_slot(form: Option<&Form>, argument: &str, type_name: &str) -> bool {
     match form {
         Some(form) => is_of_type(type_name, form.slot_named(argument)),
         None => false,
@@ -225,13 +179,7 @@ fn has_slot(form: Option<&Form>, argument: &str, type_name: &str) -> bool
 }
 
 /// The number of the type of the slot that is the argument of this number.
-fn sort_of(wired: &Wired, message: &Message<'_>, place: usize, slot: &Slot) -> usize
-    requires message { IsMessage wired.now message.now }
-    requires argument { place < length message.now.form.now.arguments }
-    requires slot { find (is_at place) message.now.form.now.slots ≡ Some slot.now }
-    ensures { result ≡ sort_number (sorts_of wired.now.interfaces) message.now.number
-        slot.now.type_name }
-{
+fn sort_of(wired: &Wired, message: &Message<'_>, place: usize, slot: &Slot) -> usize {
     let item = item_of(message.kind, message.number);
     match wired.item_form(item, message.form.id()) {
         Some(typed) => typed.sort(place),
@@ -246,12 +194,7 @@ fn argument_line(
     message: &Message<'_>,
     before: Option<&Form>,
     place: usize,
-) -> Result<String, AllocError>
-    requires { IsMessage types.now.wired.now message.now }
-    ensures { IfOk result (λ text. string_bytes text ≡ argument_line (listed types.now)
-        message.now.number message.now.interface.now (option_map (λ form. form.now) before.entry)
-        message.now.form.now place) }
-{
+) -> Result<String, AllocError> {
     let Some(argument) = message.form.arguments().get(place) else {
         return Ok(String::new(alloc));
     };
@@ -271,12 +214,7 @@ fn message_lines(
     types: &Types<'_>,
     message: &Message<'_>,
     before: Option<&Form>,
-) -> Result<String, AllocError>
-    requires { IsMessage types.now.wired.now message.now }
-    ensures { IfOk result (λ text. string_bytes text ≡ form_lines (listed types.now)
-        message.now.number message.now.interface.now (option_map (λ form. form.now) before.entry)
-        (Some message.now.form.now)) }
-{
+) -> Result<String, AllocError> {
     let mut text = String::new(alloc);
     for place in 0..message.form.arguments().len() {
         let line = argument_line(alloc, types, message, before, place)?;
@@ -294,11 +232,7 @@ fn form_lines(
     interface: &Interface,
     row: &Row,
     before: Option<&Form>,
-) -> Result<String, AllocError>
-    requires { IsRow types.now.wired.now number interface.now row.now }
-    ensures { IfOk result (λ text. string_bytes text ≡ form_lines (listed types.now) number
-        interface.now (option_map (λ form. form.now) before.entry) (form_in kind row.now)) }
-{
+) -> Result<String, AllocError> {
     let Some(form) = row.form(kind) else {
         return Ok(String::new(alloc));
     };
@@ -319,11 +253,7 @@ fn row_lines(
     number: usize,
     interface: &Interface,
     row: &Row,
-) -> Result<String, AllocError>
-    requires { IsRow types.now.wired.now number interface.now row.now }
-    ensures { IfOk result (λ text. string_bytes text ≡ row_lines (listed types.now) number
-        interface.now row.now) }
-{
+) -> Result<String, AllocError> {
     let kind = MessageKind::Request;
     let request = row.form(kind);
     let mut text = form_lines(alloc, types, kind, number, interface, row, None)?;
@@ -334,14 +264,11 @@ fn row_lines(
 }
 
 /// The lines of the interface of this number.
-fn lines_of(alloc: Global, types: &Types<'_>, number: usize) -> Result<String, AllocError>
-    ensures { IfOk result (λ text. string_bytes text ≡ lines_of (listed types.now) number) }
-{
+fn lines_of(alloc: Global, types: &Types<'_>, number: usize) -> Result<String, AllocError> {
     let mut text = String::new(alloc);
     let Some(interface) = types.wired.interface(number) else {
         return Ok(text);
     };
-    let _ids = interface.ids();
     for row in interface.rows() {
         let lines = row_lines(alloc, types, number, interface, row)?;
         text.push_str(lines.as_str())?;
@@ -350,9 +277,7 @@ fn lines_of(alloc: Global, types: &Types<'_>, number: usize) -> Result<String, A
 }
 
 /// The lines of all interfaces, in their order.
-fn all_lines(alloc: Global, types: &Types<'_>) -> Result<String, AllocError>
-    ensures { IfOk result (λ text. string_bytes text ≡ all_lines (listed types.now)) }
-{
+fn all_lines(alloc: Global, types: &Types<'_>) -> Result<String, AllocError> {
     let mut text = String::new(alloc);
     for number in 0..types.wired.interfaces().len() {
         let lines = lines_of(alloc, types, number)?;
@@ -363,9 +288,11 @@ fn all_lines(alloc: Global, types: &Types<'_>) -> Result<String, AllocError>
 
 /// Each slot of the interfaces of a wiring that was resolved of these lines: a line each, with its
 /// names, its type and the classes of which the type admits ports.
-pub fn slots_text(alloc: Global, wired: &Wired, lines: &[WiringLine]) -> Result<String, AllocError>
-    ensures { IfOk result (λ text. string_bytes text ≡ slots_text wired.now lines.now) }
-{
+pub fn slots_text(
+    alloc: Global,
+    wired: &Wired,
+    lines: &[WiringLine],
+) -> Result<String, AllocError> {
     let types = Types {
         wired,
         restricted: restricted(alloc, lines)?,

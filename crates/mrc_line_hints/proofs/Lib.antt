@@ -1,5 +1,4 @@
 mod Loops
-mod NoteLemmas
 mod Begins
 mod Ends
 mod Closings

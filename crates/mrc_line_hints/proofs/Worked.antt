@@ -1,17 +1,14 @@
--- How far lines are walked, and what is expected there, by computation.
-use Rattle.std.proofs.Common.{◌≡◌, ℕ, List, [], refl}
+-- How far lines are walked, by computation.
+use Rattle.std.proofs.Common.{◌≡◌, ℕ, List, refl}
 use Rattle.std.specs.Prelude.{codes}
 use Rattle.mrc_wiring_text.specs.declared.reading.Edition.{Edition}
 use Rattle.mrc_wiring_text.specs.declared.reading.Edition.TheVariants.{First, Second, Third}
 use Rattle.mrc_wiring_text.specs.Kinds.{kind_of}
-use Rattle.mrc_wiring_text.specs.Lexis.{is_blank, between_blanks, lines, words}
+use Rattle.mrc_wiring_text.specs.Lexis.{is_blank, between_blanks, words}
 use Rattle.mrc_wiring_text.specs.Names.{is_name}
-use Rattle.mrc_line_hints.specs.declared.heads.Role.TheVariants.{Wiring}
 use Rattle.mrc_line_hints.specs.declared.walks.Walked.{Walked}
 use Rattle.mrc_line_hints.specs.declared.ways.Place.TheVariants as at
-use Rattle.mrc_line_hints.specs.Expected.{expected, proposals}
-use Rattle.mrc_line_hints.specs.Heads.{lines_before, edition_of_lines, seen}
-use Rattle.mrc_line_hints.specs.Ways.{ways, step}
+use Rattle.mrc_line_hints.specs.Ways.{step}
 use Rattle.mrc_line_hints.specs.Walks.{walk}
 
 -- how far a line of a wiring is walked
@@ -38,31 +35,6 @@ nothing_behind_a_comma : walked Third (codes "births fs 0 accepts reply name,")
 unfolding words between_blanks is_blank walk step is_name kind_of
 nothing_behind_a_comma = refl
 
--- a text with a comment before its first line
-abbrev text : List (List ℕ)
-text = lines (codes "# fs\nwiring 2\ntask 1fs")
-
-first_line : lines_before text ≡ 1
-unfolding words between_blanks is_blank lines_before
-first_line = refl
-
-version : edition_of_lines text ≡ Second
-unfolding words between_blanks is_blank lines_before
-version = refl
-
-bad_name : (seen Wiring text 2).walked ≡ record { count = 1; place = at.LastTask }
-unfolding words between_blanks is_blank lines_before walk step is_name
+bad_name : walked Second (codes "task 1fs") ≡ record { count = 1; place = at.LastTask }
+unfolding words between_blanks is_blank walk step is_name
 bad_name = refl
-
-items : expected First at.Items ≡ codes "expected: none, request, reply or destroyed"
-items = refl
-
-kind_or_end : expected Second at.ClassKind
-    ≡ codes "expected: a number from 0 to 15 or the end of the line"
-kind_or_end = refl
-
-heading : expected First at.WiringHead ≡ codes "expected: wiring 1, wiring 2 or wiring 3"
-heading = refl
-
-no_comma : proposals (ways First at.BehindItem) ≡ []
-no_comma = refl

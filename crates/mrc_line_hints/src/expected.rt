@@ -1,13 +1,6 @@
 //! Notes on a word with which a line does not go on: what may be in its place, and which word may
 //! be meant.
 
-ghost use Rattle.std.specs.Prelude.{◌≡◌, ◌++◌, ◌∷◌, [], map, IfOk, string_bytes};
-ghost use Rattle.std.specs.Option.{option_map};
-ghost use Rattle.mrc_line_hints.specs.Ways.{ways, may_end};
-ghost use Rattle.mrc_line_hints.specs.Expected.{phrase, way_phrases, end_phrase, phrases, expected};
-ghost use Rattle.mrc_line_hints.specs.Expected.{proposed, proposals, did_you_mean, IsMeant};
-ghost use Rattle.mrc_line_hints.specs.Expected.{AreNotes};
-
 use crate::parts::{Keyword, Part};
 use crate::ways::{Place, may_end, ways};
 use mrc_place::{alternatives, nearest};
@@ -16,9 +9,7 @@ use std::alloc::{AllocError, Global};
 
 impl Part {
     /// The part in words.
-    fn phrase(self) -> &'static str
-        ensures { result.now ≡ phrase self }
-    {
+    fn phrase(self) -> &'static str {
         match self {
             Part::Fixed(Keyword::Comma) => "a comma",
             Part::Fixed(keyword) => keyword.text(),
@@ -32,9 +23,7 @@ impl Part {
     }
 
     /// The word, if it may be one that is meant.
-    fn proposed(self) -> Option<&'static str>
-        ensures { option_map (λ text. text.now) result ≡ proposed self }
-    {
+    fn proposed(self) -> Option<&'static str> {
         match self {
             Part::Fixed(Keyword::Comma) => None,
             Part::Fixed(keyword) => Some(keyword.text()),
@@ -48,10 +37,7 @@ fn way_phrases(
     alloc: Global,
     edition: Edition,
     place: Place,
-) -> Result<Vec<&'static str>, AllocError>
-    ensures { IfOk result (λ found. map (λ text. text.now) found.items ≡
-        way_phrases (ways edition place)) }
-{
+) -> Result<Vec<&'static str>, AllocError> {
     let ways = ways(alloc, edition, place)?;
     let mut found = Vec::new(alloc);
     for way in &ways {
@@ -65,10 +51,7 @@ fn line_phrases(
     alloc: Global,
     edition: Edition,
     place: Place,
-) -> Result<Vec<&'static str>, AllocError>
-    ensures { IfOk result (λ found. map (λ text. text.now) found.items ≡
-        way_phrases (ways edition place) ++ end_phrase (may_end place)) }
-{
+) -> Result<Vec<&'static str>, AllocError> {
     let mut found = way_phrases(alloc, edition, place)?;
     if may_end(place) {
         found.push("the end of the line")?;
@@ -77,9 +60,7 @@ fn line_phrases(
 }
 
 /// What may be at a place, in words.
-fn phrases(alloc: Global, edition: Edition, place: Place) -> Result<Vec<&'static str>, AllocError>
-    ensures { IfOk result (λ found. map (λ text. text.now) found.items ≡ phrases edition place) }
-{
+fn phrases(alloc: Global, edition: Edition, place: Place) -> Result<Vec<&'static str>, AllocError> {
     match place {
         Place::WiringHead => Vec::from_slice(alloc, &["wiring 1", "wiring 2", "wiring 3"]),
         Place::PolicyHead => Vec::from_slice(alloc, &["policy 1", "policy 2"]),
@@ -90,19 +71,22 @@ fn phrases(alloc: Global, edition: Edition, place: Place) -> Result<Vec<&'static
 }
 
 /// The note that says what may be at a place.
-pub(crate) fn expected(alloc: Global, edition: Edition, place: Place) -> Result<String, AllocError>
-    ensures { IfOk result (λ note. string_bytes note ≡ expected edition place) }
-{
+pub(crate) fn expected(
+    alloc: Global,
+    edition: Edition,
+    place: Place,
+) -> Result<String, AllocError> {
     let phrases = phrases(alloc, edition, place)?;
     let choice = alternatives(alloc, &phrases)?;
     format!(in alloc; "expected: {choice}")
 }
 
 /// The words that may be meant at a place.
-fn proposals(alloc: Global, edition: Edition, place: Place) -> Result<Vec<&'static str>, AllocError>
-    ensures { IfOk result (λ known. map (λ text. text.now) known.items ≡
-        proposals (ways edition place)) }
-{
+fn proposals(
+    alloc: Global,
+    edition: Edition,
+    place: Place,
+) -> Result<Vec<&'static str>, AllocError> {
     let ways = ways(alloc, edition, place)?;
     let mut known = Vec::new(alloc);
     for way in &ways {
@@ -119,10 +103,7 @@ fn meant(
     edition: Edition,
     place: Place,
     word: &str,
-) -> Result<Option<&'static str>, AllocError>
-    ensures { IfOk result (λ meant.
-        IsMeant word.now (proposals (ways edition place)) (option_map (λ text. text.now) meant)) }
-{
+) -> Result<Option<&'static str>, AllocError> {
     if word.is_empty() {
         return Ok(None);
     }
@@ -131,25 +112,19 @@ fn meant(
 }
 
 /// The note that says which word may be meant.
-fn did_you_mean(alloc: Global, word: &str) -> Result<String, AllocError>
-    ensures { IfOk result (λ note. string_bytes note ≡ did_you_mean word.now) }
-{
+fn did_you_mean(alloc: Global, word: &str) -> Result<String, AllocError> {
     format!(in alloc; "did you mean: {word}")
 }
 
 /// One note.
-pub(crate) fn one(alloc: Global, note: String) -> Result<Vec<String>, AllocError>
-    ensures { IfOk result (λ notes. notes.items ≡ note ∷ []) }
-{
+pub(crate) fn one(alloc: Global, note: String) -> Result<Vec<String>, AllocError> {
     let mut notes = Vec::new(alloc);
     notes.push(note)?;
     Ok(notes)
 }
 
 /// Two notes.
-fn two(alloc: Global, first: String, second: String) -> Result<Vec<String>, AllocError>
-    ensures { IfOk result (λ notes. notes.items ≡ first ∷ second ∷ []) }
-{
+fn two(alloc: Global, first: String, second: String) -> Result<Vec<String>, AllocError> {
     let mut notes = Vec::new(alloc);
     notes.push(first)?;
     notes.push(second)?;
@@ -162,10 +137,7 @@ pub(crate) fn first_notes(
     edition: Edition,
     place: Place,
     word: &str,
-) -> Result<Vec<String>, AllocError>
-    ensures { IfOk result (λ notes.
-        AreNotes edition place word.now (map string_bytes notes.items)) }
-{
+) -> Result<Vec<String>, AllocError> {
     let first = expected(alloc, edition, place)?;
     match meant(alloc, edition, place, word)? {
         Some(found) => {

@@ -1,12 +1,5 @@
 //! Lines of a text, what its first line with words says, and how far a line is one of the grammar.
 
-ghost use Rattle.std.specs.Prelude.{◌≡◌, ◌-◌, map, IfOk};
-ghost use Rattle.mrc_wiring_text.specs.Lexis.{lines, words, decimal};
-ghost use Rattle.mrc_line_hints.specs.Walks.{walk};
-ghost use Rattle.mrc_line_hints.specs.Heads.{has_words, lines_before, edition_numbered, edition_in};
-ghost use Rattle.mrc_line_hints.specs.Heads.{edition_of_lines, head_place, line_place, start};
-ghost use Rattle.mrc_line_hints.specs.Heads.{version_place, seen};
-
 use crate::parts::capped;
 use crate::walks::{Walked, walk};
 use crate::ways::Place;
@@ -24,9 +17,7 @@ pub enum Role {
 
 impl Role {
     /// The place at the beginning of the first line.
-    pub(crate) fn head_place(self) -> Place
-        ensures { result ≡ head_place self }
-    {
+    pub(crate) fn head_place(self) -> Place {
         match self {
             Role::Wiring => Place::WiringHead,
             Role::Policy => Place::PolicyHead,
@@ -34,9 +25,7 @@ impl Role {
     }
 
     /// The place at the beginning of each other line.
-    fn line_place(self) -> Place
-        ensures { result ≡ line_place self }
-    {
+    fn line_place(self) -> Place {
         match self {
             Role::Wiring => Place::WiringLine,
             Role::Policy => Place::PolicyLine,
@@ -44,9 +33,7 @@ impl Role {
     }
 
     /// The place of the version in the first line.
-    pub(crate) fn version_place(self) -> Place
-        ensures { result ≡ version_place self }
-    {
+    pub(crate) fn version_place(self) -> Place {
         match self {
             Role::Wiring => Place::WiringVersion,
             Role::Policy => Place::PolicyVersion,
@@ -55,9 +42,7 @@ impl Role {
 
     /// The place at the beginning of a line, if so many lines are before the first line with words
     /// and so many before this one.
-    fn start(self, before: usize, above: usize) -> Place
-        ensures { result ≡ start self before above }
-    {
+    fn start(self, before: usize, above: usize) -> Place {
         if before < above {
             self.line_place()
         } else {
@@ -78,19 +63,14 @@ pub(crate) struct Seen {
 }
 
 /// Whether a line has words.
-#[tactic(auto, unfolding(mrc_wiring_text::specs::Lexis::words))]
-fn has_words(alloc: Global, line: &[u8]) -> Result<bool, AllocError>
-    ensures { IfOk result (λ has. has ≡ has_words line.now) }
-{
+fn has_words(alloc: Global, line: &[u8]) -> Result<bool, AllocError> {
     let text = spaced(alloc, line)?;
     let words = between_blanks(alloc, &text)?;
     Ok(!words.is_empty())
 }
 
 /// How many lines are before the first line with words.
-pub(crate) fn lines_before(alloc: Global, text: &[u8]) -> Result<usize, AllocError>
-    ensures { IfOk result (λ count. count ≡ lines_before (lines text.now)) }
-{
+pub(crate) fn lines_before(alloc: Global, text: &[u8]) -> Result<usize, AllocError> {
     let mut rest = text;
     let mut count = 0usize;
     while !rest.is_empty() {
@@ -105,9 +85,7 @@ pub(crate) fn lines_before(alloc: Global, text: &[u8]) -> Result<usize, AllocErr
 }
 
 /// The edition of the version that decimal digits encode: the first, if there is none.
-fn edition_numbered(digits: &[u8]) -> Edition
-    ensures { result ≡ edition_numbered (decimal digits.now) }
-{
+fn edition_numbered(digits: &[u8]) -> Edition {
     match capped(digits) {
         2 => Edition::Second,
         3 => Edition::Third,
@@ -116,9 +94,7 @@ fn edition_numbered(digits: &[u8]) -> Edition
 }
 
 /// The edition that the words of a first line name.
-fn edition_in(words: &[&[u8]]) -> Edition
-    ensures { result ≡ edition_in (map (λ word. word.now) words.now) }
-{
+fn edition_in(words: &[&[u8]]) -> Edition {
     match *words {
         [_, number] => edition_numbered(number),
         _ => Edition::First,
@@ -126,25 +102,19 @@ fn edition_in(words: &[&[u8]]) -> Edition
 }
 
 /// The edition that a first line names.
-#[tactic(auto, unfolding(mrc_wiring_text::specs::Lexis::words))]
-fn edition_of_line(alloc: Global, line: &[u8]) -> Result<Edition, AllocError>
-    ensures { IfOk result (λ edition. edition ≡ edition_in (words line.now)) }
-{
+fn edition_of_line(alloc: Global, line: &[u8]) -> Result<Edition, AllocError> {
     let text = spaced(alloc, line)?;
     let words = between_blanks(alloc, &text)?;
     Ok(edition_in(&words))
 }
 
 /// How far a line is one of the grammar.
-#[tactic(auto, unfolding(mrc_wiring_text::specs::Lexis::words))]
 pub(crate) fn walk_line(
     alloc: Global,
     edition: Edition,
     start: Place,
     line: &[u8],
-) -> Result<Walked, AllocError>
-    ensures { IfOk result (λ walked. walked ≡ walk edition 0 start (words line.now)) }
-{
+) -> Result<Walked, AllocError> {
     let text = spaced(alloc, line)?;
     let words = between_blanks(alloc, &text)?;
     walk(alloc, edition, start, &words)
@@ -156,9 +126,7 @@ pub(crate) fn see_line(
     role: Role,
     text: &[u8],
     above: usize,
-) -> Result<Seen, AllocError>
-    ensures { IfOk result (λ found. found ≡ seen role (lines text.now) above) }
-{
+) -> Result<Seen, AllocError> {
     let before = lines_before(alloc, text)?;
     let edition = edition_of_line(alloc, nth_line(text, before))?;
     let start = role.start(before, above);

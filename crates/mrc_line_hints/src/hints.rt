@@ -1,14 +1,7 @@
 //! What helps with a fault of a text.
 
-ghost use Rattle.std.specs.Prelude.{◌≡◌, nat_lt, IfOk, None};
-ghost use Rattle.std.specs.Str.{IsUtf8};
-ghost use Rattle.std.specs.Prelude.{map, string_bytes};
-ghost use Rattle.mrc_line_hints.specs.Hints.{IsCaret, HasCaret, HasNotes, word_of};
-ghost use Rattle.mrc_line_hints.specs.Hints.{seen_in, HasLineNotes};
-ghost use Rattle.mrc_base.specs.Limits.{limit_of_lines};
-ghost use Rattle.mrc_line_hints.specs.Expected.{AreNotes};
-ghost use Rattle.mrc_line_hints.specs.declared.heads.Role.TheVariants as roles;
-ghost use Rattle.mrc_wiring_text.specs.declared.faults.TextFault.TheVariants.{Version};
+ghost use Rattle.std.specs.Prelude.{IfOk, IfSome};
+ghost use Rattle.mrc_place.specs.Spots.{IsInside, HasCaretInside};
 
 use crate::expected::{expected, first_notes, one};
 use crate::heads::{Role, Seen, lines_before, see_line};
@@ -21,7 +14,7 @@ use std::str;
 
 /// A word of a line of a text, behind so many other lines: `None` if a text may not have that many.
 fn caret(alloc: Global, text: &str, above: usize, word: usize) -> Result<Option<Spot>, AllocError>
-    ensures { IfOk result (IsCaret text.now above word) }
+    ensures { IfOk result (λ spot. IfSome spot (IsInside text.now)) }
 {
     if above < LINES as usize {
         word_spot(alloc, text, above as u32 + 1, word)
@@ -31,9 +24,7 @@ fn caret(alloc: Global, text: &str, above: usize, word: usize) -> Result<Option<
 }
 
 /// The text of the part of a line, if there is one.
-fn word_of(spot: &Option<Spot>) -> &str
-    ensures { result.now ≡ word_of spot.now }
-{
+fn word_of(spot: &Option<Spot>) -> &str {
     match spot {
         Some(spot) => spot.word.as_str(),
         None => "",
@@ -48,10 +39,7 @@ fn notes(
     text: &[u8],
     above: usize,
     word: &str,
-) -> Result<Vec<String>, AllocError>
-    ensures { IfOk result (λ notes. AreNotes seen.edition seen.walked.place word.now
-        (map string_bytes notes.items)) }
-{
+) -> Result<Vec<String>, AllocError> {
     let mut notes = first_notes(alloc, seen.edition, seen.walked.place, word)?;
     let mut others = other_notes(alloc, role, seen, text, nth_line(text, above), word)?;
     notes.append(&mut others)?;
@@ -60,10 +48,7 @@ fn notes(
 
 /// What helps with a line that is not one of the grammar.
 fn bad_line(alloc: Global, role: Role, text: &str, above: usize) -> Result<Hint, AllocError>
-    ensures caret { IfOk result (λ hint.
-        IsCaret text.now above (seen_in role text.now above).walked.count hint.spot) }
-    ensures notes { IfOk result (λ hint.
-        HasLineNotes (nat_lt above limit_of_lines) (seen_in role text.now above) hint) }
+    ensures { IfOk result (HasCaretInside text.now) }
 {
     if above >= LINES as usize {
         let note = String::from_str(alloc, "the text has more than 65,535 lines")?;
@@ -80,8 +65,7 @@ fn bad_line(alloc: Global, role: Role, text: &str, above: usize) -> Result<Hint,
 
 /// What helps with a version that no text has.
 fn bad_version(alloc: Global, role: Role, text: &str) -> Result<Hint, AllocError>
-    ensures caret { IfOk result (λ hint. HasCaret role text.now Version hint.spot) }
-    ensures notes { IfOk result (λ hint. HasNotes role text.now Version hint) }
+    ensures { IfOk result (HasCaretInside text.now) }
 {
     let above = lines_before(alloc, text.as_bytes())?;
     let spot = caret(alloc, text, above, 1)?;
@@ -94,7 +78,7 @@ fn bad_version(alloc: Global, role: Role, text: &str) -> Result<Hint, AllocError
 
 /// What helps with bytes that are no text, the first of which is behind so many others.
 fn no_text(alloc: Global, text: &[u8], valid: usize) -> Result<Hint, AllocError>
-    ensures { IfOk result (λ hint. hint.spot ≡ None) }
+    ensures { IfOk result (HasCaretInside text.now) }
 {
     let mut notes = Vec::new(alloc);
     let (before, behind) = text.split_at(valid.min(text.len()));
@@ -107,9 +91,7 @@ fn no_text(alloc: Global, text: &[u8], valid: usize) -> Result<Hint, AllocError>
 
 /// What helps with a fault of a text.
 fn line_hint(alloc: Global, role: Role, text: &[u8], fault: TextFault) -> Result<Hint, AllocError>
-    ensures caret { IsUtf8 text.now → IfOk result (λ hint. HasCaret role text.now fault hint.spot) }
-    ensures notes { IsUtf8 text.now → IfOk result (λ hint. HasNotes role text.now fault hint) }
-    ensures no_text { ¬ (IsUtf8 text.now) → IfOk result (λ hint. hint.spot ≡ None) }
+    ensures { IfOk result (HasCaretInside text.now) }
 {
     match str::from_utf8(text) {
         Err(error) => no_text(alloc, text, error.valid_up_to()),
@@ -129,28 +111,16 @@ fn line_hint(alloc: Global, role: Role, text: &[u8], fault: TextFault) -> Result
 /// What helps with a fault of the text of a wiring: the word with which its line stops to be one of
 /// the grammar, what may be there, and what is often behind such a word.
 pub fn wiring_line_hint(alloc: Global, text: &[u8], fault: TextFault) -> Result<Hint, AllocError>
-    // The caret is under the first word with which the line does not go on, or behind the last one.
-    ensures caret { IsUtf8 text.now →
-        IfOk result (λ hint. HasCaret roles.Wiring text.now fault hint.spot) }
-    // The notes say what may be there, and which of these words may be meant.
-    ensures notes { IsUtf8 text.now →
-        IfOk result (λ hint. HasNotes roles.Wiring text.now fault hint) }
-    // Bytes that are no text have no line.
-    ensures no_text { ¬ (IsUtf8 text.now) → IfOk result (λ hint. hint.spot ≡ None) }
+    // The caret is inside its line.
+    ensures { IfOk result (HasCaretInside text.now) }
 {
     line_hint(alloc, Role::Wiring, text, fault)
 }
 
 /// What helps with a fault of the text of a policy, in the same way.
 pub fn policy_line_hint(alloc: Global, text: &[u8], fault: TextFault) -> Result<Hint, AllocError>
-    // The caret is under the first word with which the line does not go on, or behind the last one.
-    ensures caret { IsUtf8 text.now →
-        IfOk result (λ hint. HasCaret roles.Policy text.now fault hint.spot) }
-    // The notes say what may be there, and which of these words may be meant.
-    ensures notes { IsUtf8 text.now →
-        IfOk result (λ hint. HasNotes roles.Policy text.now fault hint) }
-    // Bytes that are no text have no line.
-    ensures no_text { ¬ (IsUtf8 text.now) → IfOk result (λ hint. hint.spot ≡ None) }
+    // The caret is inside its line.
+    ensures { IfOk result (HasCaretInside text.now) }
 {
     line_hint(alloc, Role::Policy, text, fault)
 }

@@ -1,13 +1,9 @@
 //! Notes on what is often behind a word that is wrong: a text of another version or of another
 //! kind, a byte-order mark, and what a name is.
 
-ghost use Rattle.std.specs.Prelude.{◌≡◌, nat_lt, IfOk};
-ghost use Rattle.mrc_wiring_text.specs.Lexis.{words};
-ghost use Rattle.mrc_line_hints.specs.Walks.{walk};
-
 use crate::heads::{Role, Seen, walk_line};
 use crate::parts::Part;
-use crate::ways::{Place, ways};
+use crate::ways::ways;
 use mrc_place::alternatives;
 use mrc_wiring_text::Edition;
 use std::alloc::{AllocError, Global};
@@ -56,10 +52,7 @@ fn goes_further(
     edition: Edition,
     seen: Seen,
     line: &[u8],
-) -> Result<bool, AllocError>
-    ensures { IfOk result (λ further. further ≡
-        nat_lt seen.walked.count (walk edition 0 seen.start (words line.now)).count) }
-{
+) -> Result<bool, AllocError> {
     let walked = walk_line(alloc, edition, seen.start, line)?;
     Ok(walked.count > seen.walked.count)
 }

@@ -1,13 +1,5 @@
 //! Which types are known before a place, and where a name was given.
 
-ghost use Rattle.std.specs.Prelude.{◌≡◌, ◌++◌, [], bytes_eq, flat_map, map, not};
-ghost use Rattle.std.specs.Prelude.{if◌then◌else◌, IfOk, OnOk};
-ghost use Rattle.mrc_mig_hints.specs.Sights.{sight_of, last_place};
-ghost use Rattle.mrc_mig_hints.specs.Standing.{if_so};
-ghost use Rattle.mrc_mig_hints.specs.Known.{table_names, is_among, has_table_name, declared_but};
-ghost use Rattle.mrc_mig_hints.specs.Known.{finished, known_names, declared_at, naming_by, last_of};
-ghost use Rattle.mrc_mig_hints.specs.Known.{same_name_at, table_name_at, given_at};
-
 use crate::seen::{
     Naming, Seen, count_before, first_named, has_include, include_place, is_routine, is_type,
     last_end, last_named, named,
@@ -59,40 +51,22 @@ const BASIC_NAMES: [&str; 20] = [
     "MACH_MSG_TYPE_REAL",
 ];
 
-fn is_among(names: &[&str], name: &str) -> bool
-    ensures { result ≡ is_among (map (λ other. other.now) names.now) name.now }
-{
-    names.iter().any(|other| *other == name)
-}
-
 /// Whether the include line declares a type of this name.
-pub(crate) fn is_table_name(name: &str) -> bool
-    ensures { result ≡ is_among table_names name.now }
-{
-    is_among(&TABLE_NAMES, name)
-}
-
-/// Adds the token's text, if it is not this name.
-fn push_other<'t>(name: &str, token: &Seen<'t>, names: &mut Vec<&'t str>) -> Result<(), AllocError>
-    ensures { OnOk result (map (λ other. other.now) names.new.items
-        ≡ map (λ other. other.now) names.old.items
-        ++ if_so (not (bytes_eq token.now.text.now name.now)) token.now.text.now) }
-{
-    if token.text != name {
-        names.push(token.text)?;
-    }
-    Ok(())
+pub(crate) fn is_table_name(name: &str) -> bool {
+    TABLE_NAMES.iter().any(|other| *other == name)
 }
 
 /// The texts of these tokens, except for one name.
-fn texts_but<'t>(alloc: Global, name: &str, types: &[Seen<'t>]) -> Result<Vec<&'t str>, AllocError>
-    ensures { IfOk result (λ names. map (λ other. other.now) names.items
-        ≡ flat_map (λ token. if_so (not (bytes_eq token.bytes name.now)) token.bytes)
-        (map sight_of types.now)) }
-{
+fn texts_but<'t>(
+    alloc: Global,
+    name: &str,
+    types: &[Seen<'t>],
+) -> Result<Vec<&'t str>, AllocError> {
     let mut names = Vec::new(alloc);
     for token in types {
-        push_other(name, token, &mut names)?;
+        if token.text != name {
+            names.push(token.text)?;
+        }
     }
     Ok(names)
 }
@@ -102,38 +76,17 @@ fn declared_but<'t>(
     alloc: Global,
     name: &str,
     seen: &[Seen<'t>],
-) -> Result<Vec<&'t str>, AllocError>
-    ensures { IfOk result (λ names. map (λ other. other.now) names.items
-        ≡ declared_but name.now (map sight_of seen.now)) }
-{
+) -> Result<Vec<&'t str>, AllocError> {
     let types = named(alloc, Naming::OfType, seen)?;
     texts_but(alloc, name, types.as_slice())
 }
 
 /// The tokens before the last semicolon.
-fn finished<'s, 't>(before: &'s [Seen<'t>]) -> &'s [Seen<'t>]
-    ensures { map sight_of result.now ≡ finished (map sight_of before.now) }
-{
+fn finished<'s, 't>(before: &'s [Seen<'t>]) -> &'s [Seen<'t>] {
     match last_end(before) {
         Some(at) => &before[..count_before(before, at)],
         None => &[],
     }
-}
-
-/// Adds these names, if the test holds.
-fn push_names_if<'t>(
-    names: &mut Vec<&'t str>,
-    test: bool,
-    more: &[&'t str],
-) -> Result<(), AllocError>
-    ensures { OnOk result (map (λ name. name.now) names.new.items
-        ≡ map (λ name. name.now) names.old.items
-        ++ (if test then map (λ name. name.now) more.now else [])) }
-{
-    if test {
-        names.extend_from_slice(more)?;
-    }
-    Ok(())
 }
 
 /// The names of types that are known behind these tokens, where `name` is not.
@@ -142,13 +95,14 @@ pub(crate) fn known_names<'t>(
     may_be_basic: bool,
     name: &str,
     before: &[Seen<'t>],
-) -> Result<Vec<&'t str>, AllocError>
-    ensures { IfOk result (λ names. map (λ other. other.now) names.items
-        ≡ known_names may_be_basic name.now (map sight_of before.now)) }
-{
+) -> Result<Vec<&'t str>, AllocError> {
     let mut names = declared_but(alloc, name, finished(before))?;
-    push_names_if(&mut names, has_include(before), &TABLE_NAMES)?;
-    push_names_if(&mut names, may_be_basic, &BASIC_NAMES)?;
+    if has_include(before) {
+        names.extend_from_slice(&TABLE_NAMES)?;
+    }
+    if may_be_basic {
+        names.extend_from_slice(&BASIC_NAMES)?;
+    }
     Ok(names)
 }
 
@@ -157,17 +111,13 @@ pub(crate) fn declared_at(
     alloc: Global,
     name: &str,
     seen: &[Seen<'_>],
-) -> Result<Option<usize>, AllocError>
-    ensures { IfOk result (λ at. at ≡ declared_at name.now (map sight_of seen.now)) }
-{
+) -> Result<Option<usize>, AllocError> {
     let types = named(alloc, Naming::OfType, seen)?;
     Ok(first_named(types.as_slice(), name))
 }
 
 /// What a name is given to behind these tokens.
-fn naming(before: &[Seen<'_>]) -> Naming
-    ensures { result ≡ naming_by (last_of (map sight_of before.now)) }
-{
+fn naming(before: &[Seen<'_>]) -> Naming {
     match before.last() {
         Some(last) if is_type(last.symbol) => Naming::OfType,
         Some(last) if is_routine(last.symbol) => Naming::OfRoutine,
@@ -181,17 +131,13 @@ fn same_name_at(
     naming: Naming,
     name: &str,
     before: &[Seen<'_>],
-) -> Result<Option<usize>, AllocError>
-    ensures { IfOk result (λ at. at ≡ same_name_at naming name.now (map sight_of before.now)) }
-{
+) -> Result<Option<usize>, AllocError> {
     let names = named(alloc, naming, before)?;
     Ok(last_named(names.as_slice(), name))
 }
 
 /// The place of the last of these that has the name of a type of the table.
-fn last_of_table(seen: &[Seen<'_>]) -> Option<usize>
-    ensures { result ≡ last_place has_table_name (map sight_of seen.now) }
-{
+fn last_of_table(seen: &[Seen<'_>]) -> Option<usize> {
     let mut last = None;
     for token in seen {
         if is_table_name(token.text) {
@@ -202,9 +148,7 @@ fn last_of_table(seen: &[Seen<'_>]) -> Option<usize>
 }
 
 /// Where the last type is declared that has the name of one of the table.
-fn table_name_at(alloc: Global, before: &[Seen<'_>]) -> Result<Option<usize>, AllocError>
-    ensures { IfOk result (λ at. at ≡ table_name_at (map sight_of before.now)) }
-{
+fn table_name_at(alloc: Global, before: &[Seen<'_>]) -> Result<Option<usize>, AllocError> {
     let types = named(alloc, Naming::OfType, before)?;
     Ok(last_of_table(types.as_slice()))
 }
@@ -215,9 +159,7 @@ pub(crate) fn given_at(
     symbol: Symbol,
     name: &str,
     before: &[Seen<'_>],
-) -> Result<Option<usize>, AllocError>
-    ensures { IfOk result (λ at. at ≡ given_at symbol name.now (map sight_of before.now)) }
-{
+) -> Result<Option<usize>, AllocError> {
     if let Symbol::Directive(_) = symbol {
         return table_name_at(alloc, before);
     }

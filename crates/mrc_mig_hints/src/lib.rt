@@ -3,10 +3,8 @@
 
 mod hint;
 mod known;
-mod laws;
 mod notes;
 mod seen;
 mod standing;
 
 pub use hint::mig_hint;
-pub use laws::{expected_may_be, types_are_declared_there};

@@ -1,18 +1,5 @@
 //! What is said of a fault of the grammar.
 
-ghost use Rattle.std.specs.Prelude.{◌≡◌, ◌++◌, [], ◌∷◌, map, not, take};
-ghost use Rattle.std.specs.Prelude.{IfOk, OnOk, string_bytes};
-ghost use Rattle.mrc_mig_hints.specs.Sights.{sight_of, bytes_of, named, has_subsystem};
-ghost use Rattle.mrc_mig_hints.specs.declared.seen.Naming.TheVariants.{OfType};
-ghost use Rattle.mrc_mig_hints.specs.Standing.{if_so, expected, may_be};
-ghost use Rattle.mrc_mig_hints.specs.Known.{last_of};
-ghost use Rattle.mrc_mig_hints.specs.Notes as notes;
-ghost use Rattle.mrc_mig_hints.specs.Notes.{line_number, on_line, expected_note};
-ghost use Rattle.mrc_mig_hints.specs.Notes.{unexpected_notes, feature_word, left_out_note};
-ghost use Rattle.mrc_mig_hints.specs.Notes.{known_note, IsNearNote, IsNoteBy, IsUnknownNote};
-ghost use Rattle.mrc_mig_hints.specs.Notes.{is_left_in_table, known_at, twice_notes, too_many_note};
-ghost use Rattle.mrc_mig_hints.specs.Notes.{grammar_notes};
-
 use crate::known::{declared_at, given_at, is_table_name, known_names};
 use crate::seen::{Naming, Seen, has_include, has_subsystem, is_colon, is_slash, named};
 use crate::standing::{BASIC_NAME, expected, may_be, may_be_number};
@@ -30,18 +17,13 @@ const REQUEST_PORT: &str = "a routine has one request port, of a port type: the 
 const PREPROCESS: &str = "run machcheck mig first: it works out macros, conditions and includes";
 
 /// The number of the line of a place.
-pub(crate) fn line_number(bytes: &[u8], at: usize) -> usize
-    ensures { result ≡ line_number bytes.now at }
-{
+pub(crate) fn line_number(bytes: &[u8], at: usize) -> usize {
     let front = &bytes[..at.min(bytes.len())];
     front.iter().filter(|byte| **byte == b'\n').count() + 1
 }
 
 /// Adds a sentence.
-fn push_note(alloc: Global, notes: &mut Vec<String>, sentence: &str) -> Result<(), AllocError>
-    ensures { OnOk result (map string_bytes notes.new.items
-        ≡ map string_bytes notes.old.items ++ sentence.now ∷ []) }
-{
+fn push_note(alloc: Global, notes: &mut Vec<String>, sentence: &str) -> Result<(), AllocError> {
     notes.push(String::from_str(alloc, sentence)?)?;
     Ok(())
 }
@@ -52,10 +34,7 @@ fn push_if(
     notes: &mut Vec<String>,
     test: bool,
     sentence: &str,
-) -> Result<(), AllocError>
-    ensures { OnOk result (map string_bytes notes.new.items
-        ≡ map string_bytes notes.old.items ++ if_so test sentence.now) }
-{
+) -> Result<(), AllocError> {
     if test {
         push_note(alloc, notes, sentence)?;
     }
@@ -63,19 +42,14 @@ fn push_if(
 }
 
 /// One sentence alone.
-fn one_note(alloc: Global, sentence: &str) -> Result<Vec<String>, AllocError>
-    ensures { IfOk result (λ notes. map string_bytes notes.items ≡ sentence.now ∷ []) }
-{
+pub(crate) fn one_note(alloc: Global, sentence: &str) -> Result<Vec<String>, AllocError> {
     let mut notes = Vec::new(alloc);
     push_note(alloc, &mut notes, sentence)?;
     Ok(notes)
 }
 
 /// The names of these tokens.
-fn texts<'t>(alloc: Global, seen: &[Seen<'t>]) -> Result<Vec<&'t str>, AllocError>
-    ensures { IfOk result (λ names.
-        map (λ name. name.now) names.items ≡ bytes_of (map sight_of seen.now)) }
-{
+fn texts<'t>(alloc: Global, seen: &[Seen<'t>]) -> Result<Vec<&'t str>, AllocError> {
     let mut names = Vec::new(alloc);
     for token in seen {
         names.push(token.text)?;
@@ -84,10 +58,7 @@ fn texts<'t>(alloc: Global, seen: &[Seen<'t>]) -> Result<Vec<&'t str>, AllocErro
 }
 
 /// The name of the first type that is declared among these tokens, if there is one.
-fn first_type<'t>(alloc: Global, before: &[Seen<'t>]) -> Result<Vec<&'t str>, AllocError>
-    ensures { IfOk result (λ names. map (λ name. name.now) names.items
-        ≡ take 1 (bytes_of (named OfType (map sight_of before.now)))) }
-{
+fn first_type<'t>(alloc: Global, before: &[Seen<'t>]) -> Result<Vec<&'t str>, AllocError> {
     let types = named(alloc, Naming::OfType, before)?;
     let mut names = texts(alloc, types.as_slice())?;
     names.truncate(1);
@@ -99,10 +70,7 @@ fn push_alternatives(
     alloc: Global,
     words: &[&str],
     notes: &mut Vec<String>,
-) -> Result<(), AllocError>
-    ensures { OnOk result (map string_bytes notes.new.items ≡ map string_bytes notes.old.items
-        ++ expected_note (map (λ word. word.now) words.now)) }
-{
+) -> Result<(), AllocError> {
     if words.is_empty() {
         return Ok(());
     }
@@ -118,26 +86,18 @@ fn push_expected(
     at: usize,
     before: &[Seen<'_>],
     notes: &mut Vec<String>,
-) -> Result<(), AllocError>
-    ensures { OnOk result (map string_bytes notes.new.items ≡ map string_bytes notes.old.items
-        ++ expected_note (expected text.now at
-        (take 1 (bytes_of (named OfType (map sight_of before.now)))))) }
-{
+) -> Result<(), AllocError> {
     let types = first_type(alloc, before)?;
     let words = expected(alloc, text, at, types.as_slice())?;
     push_alternatives(alloc, words.as_slice(), notes)
 }
 
-fn is_line(symbol: Symbol) -> bool
-    ensures { result ≡ notes.is_line symbol }
-{
+fn is_line(symbol: Symbol) -> bool {
     matches!(symbol, Symbol::Directive(_))
 }
 
 /// Whether this is a number or a parenthesis, and such a token may be there.
-fn is_unfit(alloc: Global, text: &str, at: usize, symbol: Symbol) -> Result<bool, AllocError>
-    ensures { IfOk result (λ unfit. unfit ≡ notes.is_unfit text.now at symbol) }
-{
+fn is_unfit(alloc: Global, text: &str, at: usize, symbol: Symbol) -> Result<bool, AllocError> {
     match symbol {
         Symbol::Number(_) => may_be_number(alloc, text, at),
         Symbol::Sign(Sign::OpenParenthesis) => may_be(alloc, text, at, "("),
@@ -145,9 +105,7 @@ fn is_unfit(alloc: Global, text: &str, at: usize, symbol: Symbol) -> Result<bool
     }
 }
 
-fn is_zero(symbol: Symbol) -> bool
-    ensures { result ≡ notes.is_zero symbol }
-{
+fn is_zero(symbol: Symbol) -> bool {
     match symbol {
         Symbol::Number(number) => number == 0,
         _ => false,
@@ -155,10 +113,7 @@ fn is_zero(symbol: Symbol) -> bool
 }
 
 /// Whether this is 0 and what is divided by, behind these tokens.
-fn is_zero_divisor(before: &[Seen<'_>], symbol: Symbol) -> bool
-    ensures { result
-        ≡ notes.is_zero_divisor (last_of (map sight_of before.now)) symbol }
-{
+fn is_zero_divisor(before: &[Seen<'_>], symbol: Symbol) -> bool {
     match before.last() {
         Some(last) => is_slash(last.symbol) && is_zero(symbol),
         None => false,
@@ -166,10 +121,7 @@ fn is_zero_divisor(before: &[Seen<'_>], symbol: Symbol) -> bool
 }
 
 /// What is said of a value that does not fit, behind these tokens.
-fn unfit_note(before: &[Seen<'_>], symbol: Symbol) -> &'static str
-    ensures { result.now
-        ≡ notes.unfit_note (last_of (map sight_of before.now)) symbol }
-{
+fn unfit_note(before: &[Seen<'_>], symbol: Symbol) -> &'static str {
     if is_zero_divisor(before, symbol) {
         return "a divisor is not 0";
     }
@@ -177,11 +129,7 @@ fn unfit_note(before: &[Seen<'_>], symbol: Symbol) -> &'static str
 }
 
 /// Whether none of these tokens is the word `subsystem`.
-#[tactic(auto, using(crate::proofs::SeenLemmas::subsystem_in_both))]
-fn lacks_subsystem(before: &[Seen<'_>], from: &[Seen<'_>]) -> bool
-    ensures { result
-        ≡ not (has_subsystem (map sight_of before.now ++ map sight_of from.now)) }
-{
+fn lacks_subsystem(before: &[Seen<'_>], from: &[Seen<'_>]) -> bool {
     if has_subsystem(before) {
         return false;
     }
@@ -196,11 +144,7 @@ fn unexpected_notes(
     before: &[Seen<'_>],
     from: &[Seen<'_>],
     symbol: Symbol,
-) -> Result<Vec<String>, AllocError>
-    ensures { IfOk result (λ notes. map string_bytes notes.items
-        ≡ unexpected_notes text.now at (map sight_of before.now) symbol
-        (map sight_of before.now ++ map sight_of from.now)) }
-{
+) -> Result<Vec<String>, AllocError> {
     let mut notes = Vec::new(alloc);
     push_expected(alloc, text, at, before, &mut notes)?;
     let is_missing = lacks_subsystem(before, from);
@@ -212,9 +156,7 @@ fn unexpected_notes(
 }
 
 /// The word of a form that is left out.
-fn feature_word(feature: Feature) -> &'static str
-    ensures { result.now ≡ feature_word feature }
-{
+fn feature_word(feature: Feature) -> &'static str {
     match feature {
         Feature::OutOfLine => "OutOfLine",
         Feature::Polymorphic => "Polymorphic",
@@ -229,9 +171,7 @@ fn feature_word(feature: Feature) -> &'static str
 }
 
 /// What is said of a form that is left out.
-fn left_out_note(alloc: Global, feature: Feature) -> Result<String, AllocError>
-    ensures { IfOk result (λ note. string_bytes note ≡ left_out_note feature) }
-{
+fn left_out_note(alloc: Global, feature: Feature) -> Result<String, AllocError> {
     if feature == Feature::Preprocessor {
         return String::from_str(alloc, PREPROCESS);
     }
@@ -240,10 +180,7 @@ fn left_out_note(alloc: Global, feature: Feature) -> Result<String, AllocError>
 }
 
 /// The types that are known, or that there is none.
-fn known_note(alloc: Global, known: &[&str]) -> Result<String, AllocError>
-    ensures { IfOk result (λ note.
-        string_bytes note ≡ known_note (map (λ name. name.now) known.now)) }
-{
+fn known_note(alloc: Global, known: &[&str]) -> Result<String, AllocError> {
     if known.is_empty() {
         return String::from_str(alloc, "no type is declared above");
     }
@@ -252,10 +189,7 @@ fn known_note(alloc: Global, known: &[&str]) -> Result<String, AllocError>
 }
 
 /// The nearest of the known names, or else which are known.
-fn near_note(alloc: Global, name: &str, known: &[&str]) -> Result<String, AllocError>
-    ensures { IfOk result (λ note.
-        IsNearNote name.now (map (λ other. other.now) known.now) (string_bytes note)) }
-{
+fn near_note(alloc: Global, name: &str, known: &[&str]) -> Result<String, AllocError> {
     match nearest(name, known) {
         Some(near) => format!(in alloc; "did you mean: {near}"),
         None => known_note(alloc, known),
@@ -271,10 +205,7 @@ fn note_by(
     in_table: bool,
     name: &str,
     known: &[&str],
-) -> Result<String, AllocError>
-    ensures { IfOk result (λ note. IsNoteBy text.now below in_table name.now
-        (map (λ other. other.now) known.now) (string_bytes note)) }
-{
+) -> Result<String, AllocError> {
     match below {
         Some(below) => {
             let line = line_number(text.as_bytes(), below);
@@ -290,9 +221,7 @@ fn note_by(
 }
 
 /// Whether this is a type of the include line, which no line before includes.
-fn is_left_in_table(name: &str, before: &[Seen<'_>]) -> bool
-    ensures { result ≡ is_left_in_table name.now (map sight_of before.now) }
-{
+fn is_left_in_table(name: &str, before: &[Seen<'_>]) -> bool {
     is_table_name(name) && !has_include(before)
 }
 
@@ -303,10 +232,7 @@ fn known_at<'t>(
     at: usize,
     name: &str,
     before: &[Seen<'t>],
-) -> Result<Vec<&'t str>, AllocError>
-    ensures { IfOk result (λ names. map (λ other. other.now) names.items
-        ≡ known_at text.now at name.now (map sight_of before.now)) }
-{
+) -> Result<Vec<&'t str>, AllocError> {
     let may_be_basic = may_be(alloc, text, at, BASIC_NAME)?;
     known_names(alloc, may_be_basic, name, before)
 }
@@ -319,10 +245,7 @@ pub(crate) fn unknown_note(
     name: &str,
     before: &[Seen<'_>],
     from: &[Seen<'_>],
-) -> Result<String, AllocError>
-    ensures { IfOk result (λ note. IsUnknownNote text.now at name.now (map sight_of before.now)
-        (map sight_of from.now) (string_bytes note)) }
-{
+) -> Result<String, AllocError> {
     let below = declared_at(alloc, name, from)?;
     let in_table = is_left_in_table(name, before);
     let known = known_at(alloc, text, at, name, before)?;
@@ -335,10 +258,7 @@ fn on_line(
     sentence: &str,
     text: &str,
     at: Option<usize>,
-) -> Result<Vec<String>, AllocError>
-    ensures { IfOk result (λ notes. map string_bytes notes.items
-        ≡ on_line sentence.now text.now at) }
-{
+) -> Result<Vec<String>, AllocError> {
     let mut notes = Vec::new(alloc);
     if let Some(at) = at {
         let line = line_number(text.as_bytes(), at);
@@ -354,39 +274,28 @@ fn twice_notes(
     symbol: Symbol,
     name: &str,
     before: &[Seen<'_>],
-) -> Result<Vec<String>, AllocError>
-    ensures { IfOk result (λ notes. map string_bytes notes.items
-        ≡ twice_notes text.now symbol name.now (map sight_of before.now)) }
-{
+) -> Result<Vec<String>, AllocError> {
     let at = given_at(alloc, symbol, name, before)?;
     on_line(alloc, "declared above", text, at)
 }
 
-fn takes_id(symbol: Symbol) -> bool
-    ensures { result ≡ notes.takes_id symbol }
-{
+fn takes_id(symbol: Symbol) -> bool {
     matches!(
         symbol,
         Symbol::Word(Word::Routine | Word::SimpleRoutine | Word::Skip)
     )
 }
 
-fn is_direction(symbol: Symbol) -> bool
-    ensures { result ≡ notes.is_direction symbol }
-{
+fn is_direction(symbol: Symbol) -> bool {
     matches!(symbol, Symbol::Word(Word::Direction(_)))
 }
 
-fn is_name(symbol: Symbol) -> bool
-    ensures { result ≡ notes.is_name symbol }
-{
+fn is_name(symbol: Symbol) -> bool {
     matches!(symbol, Symbol::Name)
 }
 
 /// Whether a colon comes second.
-fn has_colon(seen: &[Seen<'_>]) -> bool
-    ensures { result ≡ notes.has_colon (map sight_of seen.now) }
-{
+fn has_colon(seen: &[Seen<'_>]) -> bool {
     match seen {
         [_, second, ..] => is_colon(second.symbol),
         _ => false,
@@ -394,9 +303,7 @@ fn has_colon(seen: &[Seen<'_>]) -> bool
 }
 
 /// What is said of what is too long or too many.
-fn too_many_note(symbol: Symbol, word: &str, from: &[Seen<'_>]) -> &'static str
-    ensures { result.now ≡ too_many_note symbol word.now (map sight_of from.now) }
-{
+fn too_many_note(symbol: Symbol, word: &str, from: &[Seen<'_>]) -> &'static str {
     if is_name(symbol) && word.len() > limits::NAME {
         return "a name has at most 64 bytes";
     }
@@ -418,11 +325,7 @@ pub(crate) fn grammar_notes(
     symbol: Symbol,
     word: &str,
     fault: ParseFault,
-) -> Result<Vec<String>, AllocError>
-    ensures { IfOk result (λ notes. map string_bytes notes.items
-        ≡ grammar_notes text.now (map sight_of before.now) (map sight_of from.now)
-        symbol word.now fault) }
-{
+) -> Result<Vec<String>, AllocError> {
     match fault {
         ParseFault::Unexpected(at) => unexpected_notes(alloc, text, at, before, from, symbol),
         ParseFault::LeftOut(_, feature) => {

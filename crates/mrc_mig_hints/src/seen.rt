@@ -1,16 +1,7 @@
 //! The tokens of a file as a hint looks at them.
 
-ghost use Rattle.std.specs.Prelude.{◌≡◌, ◌≤◌, ◌++◌, length, map, nat_lt, IfOk, OnOk};
+ghost use Rattle.std.specs.Prelude.{◌≡◌, ◌≤◌, length, nat_lt};
 ghost use Rattle.std.specs.List.{prefix_len};
-ghost use Rattle.std.specs.Option.{option_map};
-ghost use Rattle.mrc_mig_symbols.specs.Places.{place_of};
-ghost use Rattle.mrc_mig_symbols.specs.Readers.{left};
-ghost use Rattle.mrc_mig_symbols.specs.Symbols.{first_of, text_of};
-ghost use Rattle.mrc_mig_hints.specs.Sights as sights;
-ghost use Rattle.mrc_mig_hints.specs.Sights.{sight, sight_of, count_before, picked, picked_with};
-ghost use Rattle.mrc_mig_hints.specs.Sights.{named, has_include, has_subsystem, first_place};
-ghost use Rattle.mrc_mig_hints.specs.Sights.{has_bytes, last_place};
-ghost use Rattle.mrc_mig_hints.specs.Known.{include_at, is_end};
 
 use mrc_mig_lex::Sign;
 use mrc_mig_symbols::{Directive, Rest, Symbol, Tokens, Word, place_of};
@@ -39,11 +30,7 @@ pub(crate) enum Naming {
 }
 
 /// What is seen of the first token that is left.
-fn first_seen<'t>(tokens: &Tokens<'t>, rest: Rest<'t>) -> Seen<'t>
-    ensures symbol { result.symbol ≡ first_of (left rest.entry) }
-    ensures at { result.at ≡ place_of tokens.now (length (left rest.entry)) }
-    ensures bytes { result.text.now ≡ text_of (left rest.entry) }
-{
+fn first_seen<'t>(tokens: &Tokens<'t>, rest: Rest<'t>) -> Seen<'t> {
     Seen {
         symbol: rest.first(),
         at: place_of(tokens, rest.len()),
@@ -55,9 +42,7 @@ fn first_seen<'t>(tokens: &Tokens<'t>, rest: Rest<'t>) -> Seen<'t>
 pub(crate) fn all_seen<'t>(
     alloc: Global,
     tokens: &'t Tokens<'t>,
-) -> Result<Vec<Seen<'t>>, AllocError>
-    ensures { IfOk result (λ seen. map sight_of seen.items ≡ map sight tokens.now) }
-{
+) -> Result<Vec<Seen<'t>>, AllocError> {
     let mut seen = Vec::new(alloc);
     let mut rest = Rest::new(tokens);
     while !rest.is_empty() {
@@ -76,59 +61,41 @@ fn count_while(seen: &[Seen<'_>], at: usize) -> usize
 
 /// How many tokens begin before this place.
 pub(crate) fn count_before(seen: &[Seen<'_>], at: usize) -> usize
-    ensures exact { result ≡ count_before at (map sight_of seen.now) }
-    ensures within { result ≤ length seen.now }
+    ensures { result ≤ length seen.now }
 {
     count_while(seen, at)
 }
 
-pub(crate) fn is_type(symbol: Symbol) -> bool
-    ensures { result ≡ sights.is_type symbol }
-{
+pub(crate) fn is_type(symbol: Symbol) -> bool {
     matches!(symbol, Symbol::Word(Word::Type))
 }
 
-pub(crate) fn is_routine(symbol: Symbol) -> bool
-    ensures { result ≡ sights.is_routine symbol }
-{
+pub(crate) fn is_routine(symbol: Symbol) -> bool {
     matches!(symbol, Symbol::Word(Word::Routine | Word::SimpleRoutine))
 }
 
-pub(crate) fn is_colon(symbol: Symbol) -> bool
-    ensures { result ≡ sights.is_colon symbol }
-{
+pub(crate) fn is_colon(symbol: Symbol) -> bool {
     matches!(symbol, Symbol::Sign(Sign::Colon))
 }
 
-fn is_semicolon(symbol: Symbol) -> bool
-    ensures { result ≡ sights.is_semicolon symbol }
-{
+fn is_semicolon(symbol: Symbol) -> bool {
     matches!(symbol, Symbol::Sign(Sign::Semicolon))
 }
 
-pub(crate) fn is_slash(symbol: Symbol) -> bool
-    ensures { result ≡ sights.is_slash symbol }
-{
+pub(crate) fn is_slash(symbol: Symbol) -> bool {
     matches!(symbol, Symbol::Sign(Sign::Slash))
 }
 
-fn is_subsystem(symbol: Symbol) -> bool
-    ensures { result ≡ sights.is_subsystem symbol }
-{
+fn is_subsystem(symbol: Symbol) -> bool {
     matches!(symbol, Symbol::Word(Word::Subsystem))
 }
 
-fn is_include(symbol: Symbol) -> bool
-    ensures { result ≡ sights.is_include symbol }
-{
+fn is_include(symbol: Symbol) -> bool {
     matches!(symbol, Symbol::Directive(Directive::Include))
 }
 
 /// Of two tokens that follow each other, the one that is a name of this use.
-fn picked<'t>(naming: Naming, first: &Seen<'t>, second: &Seen<'t>) -> Option<Seen<'t>>
-    ensures { option_map sight_of result
-        ≡ picked naming (sight_of first.now) (sight_of second.now) }
-{
+fn picked<'t>(naming: Naming, first: &Seen<'t>, second: &Seen<'t>) -> Option<Seen<'t>> {
     match naming {
         Naming::OfType if is_type(first.symbol) => Some(*second),
         Naming::OfRoutine if is_routine(first.symbol) => Some(*second),
@@ -137,46 +104,25 @@ fn picked<'t>(naming: Naming, first: &Seen<'t>, second: &Seen<'t>) -> Option<See
     }
 }
 
-/// Adds the one of a token and the first of these that is a name of this use, if there is one.
-fn push_picked<'t>(
-    naming: Naming,
-    first: &Seen<'t>,
-    rest: &[Seen<'t>],
-    names: &mut Vec<Seen<'t>>,
-) -> Result<(), AllocError>
-    ensures { OnOk result (map sight_of names.new.items
-        ≡ map sight_of names.old.items
-        ++ picked_with naming (sight_of first.now) (map sight_of rest.now)) }
-{
-    let [second, ..] = rest else {
-        return Ok(());
-    };
-    if let Some(name) = picked(naming, first, second) {
-        names.push(name)?;
-    }
-    Ok(())
-}
-
 /// The tokens that are names of this use, in order.
 pub(crate) fn named<'t>(
     alloc: Global,
     naming: Naming,
     seen: &[Seen<'t>],
-) -> Result<Vec<Seen<'t>>, AllocError>
-    ensures { IfOk result (λ names.
-        map sight_of names.items ≡ named naming (map sight_of seen.now)) }
-{
+) -> Result<Vec<Seen<'t>>, AllocError> {
     let mut names = Vec::new(alloc);
     for index in 0..seen.len() {
-        push_picked(naming, &seen[index], &seen[index + 1..], &mut names)?;
+        if let [first, second, ..] = &seen[index..] {
+            if let Some(name) = picked(naming, first, second) {
+                names.push(name)?;
+            }
+        }
     }
     Ok(names)
 }
 
 /// The place of the first token with this text.
-pub(crate) fn first_named(seen: &[Seen<'_>], text: &str) -> Option<usize>
-    ensures { result ≡ first_place (has_bytes text.now) (map sight_of seen.now) }
-{
+pub(crate) fn first_named(seen: &[Seen<'_>], text: &str) -> Option<usize> {
     for token in seen {
         if token.text == text {
             return Some(token.at);
@@ -186,9 +132,7 @@ pub(crate) fn first_named(seen: &[Seen<'_>], text: &str) -> Option<usize>
 }
 
 /// The place of the last token with this text.
-pub(crate) fn last_named(seen: &[Seen<'_>], text: &str) -> Option<usize>
-    ensures { result ≡ last_place (has_bytes text.now) (map sight_of seen.now) }
-{
+pub(crate) fn last_named(seen: &[Seen<'_>], text: &str) -> Option<usize> {
     let mut last = None;
     for token in seen {
         if token.text == text {
@@ -199,9 +143,7 @@ pub(crate) fn last_named(seen: &[Seen<'_>], text: &str) -> Option<usize>
 }
 
 /// The place of the last semicolon.
-pub(crate) fn last_end(seen: &[Seen<'_>]) -> Option<usize>
-    ensures { result ≡ last_place is_end (map sight_of seen.now) }
-{
+pub(crate) fn last_end(seen: &[Seen<'_>]) -> Option<usize> {
     let mut last = None;
     for token in seen {
         if is_semicolon(token.symbol) {
@@ -212,23 +154,17 @@ pub(crate) fn last_end(seen: &[Seen<'_>]) -> Option<usize>
 }
 
 /// Whether one of these lines includes the table of types.
-pub(crate) fn has_include(seen: &[Seen<'_>]) -> bool
-    ensures { result ≡ has_include (map sight_of seen.now) }
-{
+pub(crate) fn has_include(seen: &[Seen<'_>]) -> bool {
     seen.iter().any(|token| is_include(token.symbol))
 }
 
 /// Whether one of these is the word `subsystem`.
-pub(crate) fn has_subsystem(seen: &[Seen<'_>]) -> bool
-    ensures { result ≡ has_subsystem (map sight_of seen.now) }
-{
+pub(crate) fn has_subsystem(seen: &[Seen<'_>]) -> bool {
     seen.iter().any(|token| is_subsystem(token.symbol))
 }
 
 /// The place of the first line that includes the table of types.
-pub(crate) fn include_place(seen: &[Seen<'_>]) -> Option<usize>
-    ensures { result ≡ include_at (map sight_of seen.now) }
-{
+pub(crate) fn include_place(seen: &[Seen<'_>]) -> Option<usize> {
     for token in seen {
         if is_include(token.symbol) {
             return Some(token.at);

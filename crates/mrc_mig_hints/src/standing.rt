@@ -1,15 +1,5 @@
 //! Which tokens may be at a place of a file.
 
-ghost use Rattle.std.specs.Prelude.{◌≡◌, ◌++◌, ◌+◌, map, IfOk, OnOk};
-ghost use Rattle.std.specs.List.{list_any};
-ghost use Rattle.std.specs.Option.{option_map, option_to_list};
-ghost use Rattle.mrc_mig_parse.specs.Stops.{meaning_or_fault};
-ghost use Rattle.mrc_mig_hints.specs.Standing.{lex_place, parse_place, place_in};
-ghost use Rattle.mrc_mig_hints.specs.Standing.{first_fault, is_behind, written, may_be, if_so};
-ghost use Rattle.mrc_mig_hints.specs.Standing.{text_if, is_faultless};
-ghost use Rattle.mrc_mig_hints.specs.Standing.{candidate, shown_of, name_shown, expected};
-ghost use Rattle.mrc_mig_hints.specs.Standing.{reserved_words, others, numbers, number_shown};
-
 use mrc_base::OrMemory;
 use mrc_mig_lex::LexFault;
 use mrc_mig_parse::parse;
@@ -97,18 +87,14 @@ const NUMBERS: [&str; 10] = ["32", "1", "2", "3", "4", "5", "6", "7", "8", "0"];
 pub(crate) const BASIC_NAME: &str = "MACH_MSG_TYPE_BOOLEAN";
 
 /// Where a fault of the tokens is.
-pub(crate) fn lex_place(fault: LexFault) -> usize
-    ensures { result ≡ lex_place fault }
-{
+pub(crate) fn lex_place(fault: LexFault) -> usize {
     match fault {
         LexFault::BadCharacter(at) | LexFault::OpenComment(at) | LexFault::NumberTooLarge(at) => at,
     }
 }
 
 /// Where a fault of the grammar is.
-pub(crate) fn parse_place(fault: ParseFault) -> usize
-    ensures { result ≡ parse_place fault }
-{
+pub(crate) fn parse_place(fault: ParseFault) -> usize {
     match fault {
         ParseFault::Unexpected(at)
         | ParseFault::LeftOut(at, _)
@@ -120,9 +106,7 @@ pub(crate) fn parse_place(fault: ParseFault) -> usize
 }
 
 /// Where the first fault of tokens is, if they have one.
-fn place_in(alloc: Global, tokens: &Tokens<'_>) -> Result<Option<usize>, AllocError>
-    ensures { IfOk result (λ place. place ≡ place_in (meaning_or_fault tokens.now)) }
-{
+fn place_in(alloc: Global, tokens: &Tokens<'_>) -> Result<Option<usize>, AllocError> {
     match parse(alloc, tokens) {
         Ok(_) => Ok(None),
         Err(OrMemory::Fault(fault)) => Ok(Some(parse_place(fault))),
@@ -131,9 +115,7 @@ fn place_in(alloc: Global, tokens: &Tokens<'_>) -> Result<Option<usize>, AllocEr
 }
 
 /// Where the first fault of a text is, if it has one.
-fn first_fault(alloc: Global, text: &str) -> Result<Option<usize>, AllocError>
-    ensures { IfOk result (λ place. place ≡ first_fault text.now) }
-{
+fn first_fault(alloc: Global, text: &str) -> Result<Option<usize>, AllocError> {
     match lex(alloc, text) {
         Ok(tokens) => place_in(alloc, &tokens),
         Err(OrMemory::Fault(fault)) => Ok(Some(lex_place(fault))),
@@ -142,9 +124,7 @@ fn first_fault(alloc: Global, text: &str) -> Result<Option<usize>, AllocError>
 }
 
 /// Whether there is no fault, or it is behind the byte that follows this place.
-fn is_behind(at: usize, place: Option<usize>) -> bool
-    ensures { result ≡ is_behind (at + 1) place }
-{
+fn is_behind(at: usize, place: Option<usize>) -> bool {
     match place {
         None => true,
         Some(place) => place.saturating_sub(at) > 1,
@@ -152,9 +132,7 @@ fn is_behind(at: usize, place: Option<usize>) -> bool
 }
 
 /// The text up to a place, and a token on the next line.
-fn written(alloc: Global, text: &str, at: usize, token: &str) -> Result<Vec<u8>, AllocError>
-    ensures { IfOk result (λ bytes. bytes.items ≡ written text.now at token.now) }
-{
+fn written(alloc: Global, text: &str, at: usize, token: &str) -> Result<Vec<u8>, AllocError> {
     let mut bytes = Vec::new(alloc);
     let text = text.as_bytes();
     bytes.extend_from_slice(&text[..at.min(text.len())])?;
@@ -163,52 +141,23 @@ fn written(alloc: Global, text: &str, at: usize, token: &str) -> Result<Vec<u8>,
     Ok(bytes)
 }
 
-/// Bytes that are a text.
-fn text_if(bytes: &[u8]) -> Option<&str>
-    ensures { option_map (λ text. text.now) result ≡ text_if bytes.now }
-{
-    match str::from_utf8(bytes) {
-        Ok(text) => Some(text),
-        Err(_) => None,
-    }
-}
-
 /// Whether these bytes are a text without a fault up to the byte that follows a place.
-fn is_faultless(alloc: Global, at: usize, bytes: &[u8]) -> Result<bool, AllocError>
-    ensures { IfOk result (λ is. is ≡ is_faultless (at + 1) (text_if bytes.now)) }
-{
-    match text_if(bytes) {
-        Some(text) => Ok(is_behind(at, first_fault(alloc, text)?)),
-        None => Ok(false),
+fn is_faultless(alloc: Global, at: usize, bytes: &[u8]) -> Result<bool, AllocError> {
+    match str::from_utf8(bytes) {
+        Ok(text) => Ok(is_behind(at, first_fault(alloc, text)?)),
+        Err(_) => Ok(false),
     }
 }
 
 /// Whether the token may be at a place.
-#[tactic(auto, unfolding(crate::specs::Standing::may_be))]
-pub(crate) fn may_be(alloc: Global, text: &str, at: usize, token: &str) -> Result<bool, AllocError>
-    ensures { IfOk result (λ may. may ≡ may_be text.now at token.now) }
-{
-    let bytes = written(alloc, text, at, token)?;
-    is_faultless(alloc, at, bytes.as_slice())
-}
-
-/// Adds a word, if the token may be at a place.
-fn push_if_may<'s>(
+pub(crate) fn may_be(
     alloc: Global,
     text: &str,
     at: usize,
     token: &str,
-    word: &'s str,
-    shown: &mut Vec<&'s str>,
-) -> Result<(), AllocError>
-    ensures { OnOk result (map (λ word. word.now) shown.new.items
-        ≡ map (λ word. word.now) shown.old.items
-        ++ if_so (may_be text.now at token.now) word.now) }
-{
-    if may_be(alloc, text, at, token)? {
-        shown.push(word)?;
-    }
-    Ok(())
+) -> Result<bool, AllocError> {
+    let bytes = written(alloc, text, at, token)?;
+    is_faultless(alloc, at, bytes.as_slice())
 }
 
 /// Those of the candidates that may be at a place, as they are shown, behind others.
@@ -218,22 +167,17 @@ fn push_shown<'s>(
     at: usize,
     candidates: &[(&'s str, &'s str)],
     shown: &mut Vec<&'s str>,
-) -> Result<(), AllocError>
-    ensures { OnOk result (map (λ word. word.now) shown.new.items
-        ≡ map (λ word. word.now) shown.old.items
-        ++ shown_of text.now at (map candidate candidates.now)) }
-{
+) -> Result<(), AllocError> {
     for (token, word) in candidates {
-        push_if_may(alloc, text, at, token, word, shown)?;
+        if may_be(alloc, text, at, token)? {
+            shown.push(*word)?;
+        }
     }
     Ok(())
 }
 
 /// Whether one of these may be at a place.
-fn any_may_be(alloc: Global, text: &str, at: usize, tokens: &[&str]) -> Result<bool, AllocError>
-    ensures { IfOk result (λ may.
-        may ≡ list_any (may_be text.now at) (map (λ token. token.now) tokens.now)) }
-{
+fn any_may_be(alloc: Global, text: &str, at: usize, tokens: &[&str]) -> Result<bool, AllocError> {
     for token in tokens {
         if may_be(alloc, text, at, token)? {
             return Ok(true);
@@ -248,10 +192,7 @@ fn name_shown(
     text: &str,
     at: usize,
     types: &[&str],
-) -> Result<Option<&'static str>, AllocError>
-    ensures { IfOk result (λ word. option_to_list (option_map (λ word. word.now) word)
-        ≡ name_shown text.now at (map (λ name. name.now) types.now)) }
-{
+) -> Result<Option<&'static str>, AllocError> {
     if may_be(alloc, text, at, NEW_NAME)? {
         return Ok(Some("a name"));
     }
@@ -261,45 +202,9 @@ fn name_shown(
     Ok(None)
 }
 
-/// Adds what a name may be at a place, if there is one.
-fn push_name<'s>(
-    alloc: Global,
-    text: &str,
-    at: usize,
-    types: &[&str],
-    shown: &mut Vec<&'s str>,
-) -> Result<(), AllocError>
-    ensures { OnOk result (map (λ word. word.now) shown.new.items
-        ≡ map (λ word. word.now) shown.old.items
-        ++ name_shown text.now at (map (λ name. name.now) types.now)) }
-{
-    if let Some(word) = name_shown(alloc, text, at, types)? {
-        shown.push(word)?;
-    }
-    Ok(())
-}
-
 /// Whether a number may be at a place.
-pub(crate) fn may_be_number(alloc: Global, text: &str, at: usize) -> Result<bool, AllocError>
-    ensures { IfOk result (λ may. may ≡ list_any (may_be text.now at) numbers) }
-{
+pub(crate) fn may_be_number(alloc: Global, text: &str, at: usize) -> Result<bool, AllocError> {
     any_may_be(alloc, text, at, &NUMBERS)
-}
-
-/// Adds that a number may be at a place, if one may.
-fn push_number<'s>(
-    alloc: Global,
-    text: &str,
-    at: usize,
-    shown: &mut Vec<&'s str>,
-) -> Result<(), AllocError>
-    ensures { OnOk result (map (λ word. word.now) shown.new.items
-        ≡ map (λ word. word.now) shown.old.items ++ number_shown text.now at) }
-{
-    if may_be_number(alloc, text, at)? {
-        shown.push("a number")?;
-    }
-    Ok(())
 }
 
 /// All that may be at a place, as it is shown.
@@ -308,17 +213,18 @@ pub(crate) fn expected(
     text: &str,
     at: usize,
     types: &[&str],
-) -> Result<Vec<&'static str>, AllocError>
-    ensures { IfOk result (λ shown. map (λ word. word.now) shown.items
-        ≡ expected text.now at (map (λ name. name.now) types.now)) }
-{
+) -> Result<Vec<&'static str>, AllocError> {
     let mut shown = Vec::new(alloc);
     if at > LIMIT_OF_TRIES {
         return Ok(shown);
     }
     push_shown(alloc, text, at, &RESERVED_WORDS, &mut shown)?;
-    push_name(alloc, text, at, types, &mut shown)?;
-    push_number(alloc, text, at, &mut shown)?;
+    if let Some(word) = name_shown(alloc, text, at, types)? {
+        shown.push(word)?;
+    }
+    if may_be_number(alloc, text, at)? {
+        shown.push("a number")?;
+    }
     push_shown(alloc, text, at, &OTHERS, &mut shown)?;
     Ok(shown)
 }

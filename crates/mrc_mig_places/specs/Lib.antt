@@ -1,4 +1,0 @@
-pub mod Places
-pub mod Ends
-pub mod Laws
-pub mod Worked

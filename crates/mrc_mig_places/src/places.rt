@@ -1,73 +1,44 @@
 //! The lines of names in a MIG file.
 
-ghost use Rattle.std.specs.Prelude.{◌≡◌, [], IfOk, Option, take, unwrap_or};
-ghost use Rattle.std.specs.Option.{option_map};
-ghost use Rattle.mrc_place.specs.Spots.{line_after};
-ghost use Rattle.mrc_mig_lex.specs.Tokens.{Lexeme};
-ghost use Rattle.mrc_mig_symbols.specs.Readers.{left};
-ghost use Rattle.mrc_mig_symbols.specs.Symbols.{symbol_of};
-ghost use Rattle.mrc_mig_places.specs.Places as places;
-ghost use Rattle.mrc_mig_places.specs.Places.{begins_with_name, begins_routine, begins_argument};
-ghost use Rattle.mrc_mig_places.specs.Places.{behind_routine, argument_in, argument_token};
-ghost use Rattle.mrc_mig_places.specs.Places.{subsystem_token, tokens_in, line_of};
-ghost use Rattle.mrc_mig_places.specs.Places.{argument_line, subsystem_line, place};
-ghost use Rattle.mrc_mig_places.specs.Ends.{IsEndOf};
-
 use mrc_base::OrMemory;
 use mrc_mig_lex::Sign;
 use mrc_mig_symbols::{Rest, Symbol, Tokens, Word, lex, place_of};
 use std::alloc::{AllocError, Global};
 use std::str;
 
-fn is_routine(symbol: Symbol) -> bool
-    ensures { result ≡ places.is_routine symbol }
-{
+fn is_routine(symbol: Symbol) -> bool {
     matches!(symbol, Symbol::Word(Word::Routine | Word::SimpleRoutine))
 }
 
-fn is_subsystem(symbol: Symbol) -> bool
-    ensures { result ≡ places.is_subsystem symbol }
-{
+fn is_subsystem(symbol: Symbol) -> bool {
     matches!(symbol, Symbol::Word(Word::Subsystem))
 }
 
-fn is_name(symbol: Symbol) -> bool
-    ensures { result ≡ places.is_name symbol }
-{
+fn is_name(symbol: Symbol) -> bool {
     matches!(symbol, Symbol::Name)
 }
 
-fn is_colon(symbol: Symbol) -> bool
-    ensures { result ≡ places.is_colon symbol }
-{
+fn is_colon(symbol: Symbol) -> bool {
     matches!(symbol, Symbol::Sign(Sign::Colon))
 }
 
 /// Whether this name comes first.
-fn begins_with_name(name: &str, rest: Rest<'_>) -> bool
-    ensures { result ≡ begins_with_name name.now (left rest.entry) }
-{
+fn begins_with_name(name: &str, rest: Rest<'_>) -> bool {
     is_name(rest.first()) && rest.text() == name
 }
 
 /// Whether the word of a routine of this name comes first.
-fn begins_routine(name: &str, rest: Rest<'_>) -> bool
-    ensures { result ≡ begins_routine name.now (left rest.entry) }
-{
+fn begins_routine(name: &str, rest: Rest<'_>) -> bool {
     is_routine(rest.first()) && begins_with_name(name, rest.next())
 }
 
 /// Whether this name comes first, and then a colon.
-fn begins_argument(name: &str, rest: Rest<'_>) -> bool
-    ensures { result ≡ begins_argument name.now (left rest.entry) }
-{
+fn begins_argument(name: &str, rest: Rest<'_>) -> bool {
     begins_with_name(name, rest) && is_colon(rest.next().first())
 }
 
 /// What is left behind the name of the first routine of this name.
-fn behind_routine<'t>(name: &str, rest: Rest<'t>) -> Rest<'t>
-    ensures { left result ≡ behind_routine name.now (left rest.entry) }
-{
+fn behind_routine<'t>(name: &str, rest: Rest<'t>) -> Rest<'t> {
     let mut rest = rest;
     while !rest.is_empty() {
         if begins_routine(name, rest) {
@@ -79,10 +50,7 @@ fn behind_routine<'t>(name: &str, rest: Rest<'t>) -> Rest<'t>
 }
 
 /// The place of the first name with this text that has a colon behind it, before the next routine.
-fn argument_place(tokens: &Tokens<'_>, name: &str, rest: Rest<'_>) -> Option<usize>
-    requires { IsEndOf tokens.now (left rest) }
-    ensures { result ≡ option_map place (argument_in name.now (left rest.entry)) }
-{
+fn argument_place(tokens: &Tokens<'_>, name: &str, rest: Rest<'_>) -> Option<usize> {
     let mut rest = rest;
     while !rest.is_empty() {
         if is_routine(rest.first()) {
@@ -97,10 +65,7 @@ fn argument_place(tokens: &Tokens<'_>, name: &str, rest: Rest<'_>) -> Option<usi
 }
 
 /// The place of the first word `subsystem`.
-fn subsystem_place(tokens: &Tokens<'_>, rest: Rest<'_>) -> Option<usize>
-    requires { IsEndOf tokens.now (left rest) }
-    ensures { result ≡ option_map place (subsystem_token (left rest.entry)) }
-{
+fn subsystem_place(tokens: &Tokens<'_>, rest: Rest<'_>) -> Option<usize> {
     let mut rest = rest;
     while !rest.is_empty() {
         if is_subsystem(rest.first()) {
@@ -112,33 +77,24 @@ fn subsystem_place(tokens: &Tokens<'_>, rest: Rest<'_>) -> Option<usize>
 }
 
 /// The place of this argument of this routine.
-fn place_in(tokens: &Tokens<'_>, routine: &str, argument: &str) -> Option<usize>
-    ensures { result ≡ option_map place (argument_token routine.now argument.now tokens.now) }
-{
+fn place_in(tokens: &Tokens<'_>, routine: &str, argument: &str) -> Option<usize> {
     let rest = behind_routine(routine, Rest::new(tokens));
     argument_place(tokens, argument, rest)
 }
 
 /// The number of the line that begins behind a part of a text.
-fn line_after(front: &[u8]) -> u32
-    ensures { result ≡ line_after front.now }
-{
+fn line_after(front: &[u8]) -> u32 {
     let feeds = front.iter().filter(|byte| **byte == b'\n').count();
     (feeds.min(4_294_967_294) + 1) as u32
 }
 
 /// The number of the line of a place.
-fn line_at(text: &[u8], at: usize) -> u32
-    ensures { result ≡ line_after (take at text.now) }
-{
+fn line_at(text: &[u8], at: usize) -> u32 {
     line_after(&text[..at.min(text.len())])
 }
 
 /// The number of the line of a place, if there is one.
-fn line_if(text: &[u8], at: Option<usize>) -> Option<u32>
-    ensures { (token : Option Lexeme) → at ≡ option_map place token
-        → result ≡ option_map (line_of text.now) token }
-{
+fn line_if(text: &[u8], at: Option<usize>) -> Option<u32> {
     match at {
         Some(at) => Some(line_at(text, at)),
         None => None,
@@ -146,9 +102,7 @@ fn line_if(text: &[u8], at: Option<usize>) -> Option<u32>
 }
 
 /// The tokens of a text, if it is made of tokens.
-fn tokens_in(alloc: Global, text: &[u8]) -> Result<Option<Tokens<'_>>, AllocError>
-    ensures { IfOk result (λ tokens. unwrap_or tokens [] ≡ tokens_in text.now) }
-{
+fn tokens_in(alloc: Global, text: &[u8]) -> Result<Option<Tokens<'_>>, AllocError> {
     let Ok(text) = str::from_utf8(text) else {
         return Ok(None);
     };
@@ -168,9 +122,7 @@ pub fn argument_line(
     text: &[u8],
     routine: &str,
     argument: &str,
-) -> Result<Option<u32>, AllocError>
-    ensures { IfOk result (λ line. line ≡ argument_line text.now routine.now argument.now) }
-{
+) -> Result<Option<u32>, AllocError> {
     match tokens_in(alloc, text)? {
         Some(tokens) => Ok(line_if(text, place_in(&tokens, routine, argument))),
         None => Ok(None),
@@ -179,9 +131,7 @@ pub fn argument_line(
 
 /// The line, from 1, of the first word `subsystem`. None if there is none, or if the bytes are no
 /// text that is made of tokens.
-pub fn subsystem_line(alloc: Global, text: &[u8]) -> Result<Option<u32>, AllocError>
-    ensures { IfOk result (λ line. line ≡ subsystem_line text.now) }
-{
+pub fn subsystem_line(alloc: Global, text: &[u8]) -> Result<Option<u32>, AllocError> {
     match tokens_in(alloc, text)? {
         Some(tokens) => Ok(line_if(text, subsystem_place(&tokens, Rest::new(&tokens)))),
         None => Ok(None),

@@ -1,4 +1,0 @@
-pub mod Searches
-pub mod Words
-pub mod Lists
-mod Worked

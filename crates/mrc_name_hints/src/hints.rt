@@ -1,18 +1,7 @@
 //! The word that a fault of names means, and notes.
 
-ghost use Rattle.std.specs.Prelude.{◌≡◌, ◌<◌, [], map, string_bytes};
-ghost use Rattle.std.specs.Prelude.{IfOk, option_and_then};
-ghost use Rattle.std.specs.Option.{option_map};
-ghost use Rattle.mrc_wiring_text.specs.Policy.{policy_of};
-ghost use Rattle.mrc_wiring_text.specs.Wiring.{wiring_of};
-ghost use Rattle.mrc_name_hints.specs.Mentions.{declaration, forbid_mentions};
-ghost use Rattle.mrc_name_hints.specs.Known.{first_unknown, earlier};
-ghost use Rattle.mrc_name_hints.specs.Notes.{names_notes};
-ghost use Rattle.mrc_name_hints.specs.Hints.{HasNotesAlone, IsOfWord, items_place, said};
-ghost use Rattle.mrc_name_hints.specs.Hints.{IsUnknownAt, IsUnknown, IsTwice, IsTooMany};
-ghost use Rattle.mrc_name_hints.specs.Hints.{accepts_place, IsClash, IsTwiceIn, IsTooManyIn};
-ghost use Rattle.mrc_name_hints.specs.Hints.{IsOfFault, IsOfLines, IsLacking, IsOfClaim};
-ghost use Rattle.mrc_name_hints.specs.Hints.{notes_of};
+ghost use Rattle.std.specs.Prelude.{◌≡◌, ◌<◌, IfOk, None};
+ghost use Rattle.mrc_place.specs.Spots.{HasCaretInside};
 
 use crate::known::{earlier, first_unknown};
 use crate::mentions::{Mention, declaration, forbid_mentions, mentions};
@@ -28,13 +17,13 @@ use std::alloc::{AllocError, Global};
 
 /// A hint of notes alone.
 fn hint_of(notes: Vec<String>) -> Hint
-    ensures { HasNotesAlone (map string_bytes notes.items) result }
+    ensures { result.spot ≡ None }
 {
     Hint { spot: None, notes }
 }
 
 fn no_hint(alloc: Global) -> Hint
-    ensures { HasNotesAlone [] result }
+    ensures { result.spot ≡ None }
 {
     hint_of(Vec::new(alloc))
 }
@@ -47,8 +36,7 @@ fn word_hint(
     word: usize,
     notes: Vec<String>,
 ) -> Result<Hint, AllocError>
-    ensures place { IfOk result (λ hint. IsOfWord text.now line word hint) }
-    ensures notes { IfOk result (λ hint. notes_of hint ≡ map string_bytes notes.items) }
+    ensures { IfOk result (HasCaretInside text.now) }
 {
     let spot = word_spot(alloc, text, line, word)?;
     Ok(Hint { spot, notes })
@@ -56,8 +44,7 @@ fn word_hint(
 
 /// The place of the first item behind `accepts`, if the line is a `births` line.
 fn items_place(alloc: Global, text: &str, line: u32) -> Result<usize, AllocError>
-    ensures exact { IfOk result (λ place. place ≡ items_place text.now line) }
-    ensures within { IfOk result (λ place. place < 8) }
+    ensures { IfOk result (λ place. place < 8) }
 {
     let Some(spot) = word_spot(alloc, text, line, 2)? else {
         return Ok(4);
@@ -70,9 +57,7 @@ fn items_place(alloc: Global, text: &str, line: u32) -> Result<usize, AllocError
 }
 
 /// What the line of this number says.
-fn wiring_said(lines: &[WiringLine], number: u32) -> Option<&WiringSays>
-    ensures { option_map (λ says. says.now) result ≡ said lines.now number }
-{
+fn wiring_said(lines: &[WiringLine], number: u32) -> Option<&WiringSays> {
     lines
         .iter()
         .find(|line| line.number == number)
@@ -80,9 +65,7 @@ fn wiring_said(lines: &[WiringLine], number: u32) -> Option<&WiringSays>
 }
 
 /// What the line of this number says.
-fn policy_said(lines: &[PolicyLine], number: u32) -> Option<&Forbid>
-    ensures { option_map (λ says. says.now) result ≡ said lines.now number }
-{
+fn policy_said(lines: &[PolicyLine], number: u32) -> Option<&Forbid> {
     lines
         .iter()
         .find(|line| line.number == number)
@@ -99,8 +82,7 @@ fn unknown_at(
     interfaces: &[Interface],
     mentions: &[Mention],
 ) -> Result<Hint, AllocError>
-    ensures { IfOk result (IsUnknownAt text.now line lines.now given interfaces.now
-        (first_unknown lines.now given interfaces.now mentions.now)) }
+    ensures { IfOk result (HasCaretInside text.now) }
 {
     match first_unknown(lines, given, interfaces, mentions) {
         Some(mention) => {
@@ -119,8 +101,7 @@ fn unknown(
     lines: &[WiringLine],
     interfaces: &[Interface],
 ) -> Result<Hint, AllocError>
-    ensures { IfOk result
-        (IsUnknown text.now line lines.now interfaces.now (said lines.now line)) }
+    ensures { IfOk result (HasCaretInside text.now) }
 {
     match wiring_said(lines, line) {
         Some(says) => {
@@ -133,9 +114,7 @@ fn unknown(
 }
 
 /// What the line of this number declares.
-fn declared(alloc: Global, lines: &[WiringLine], line: u32) -> Result<Option<Mention>, AllocError>
-    ensures { IfOk result (λ found. found ≡ option_and_then declaration (said lines.now line)) }
-{
+fn declared(alloc: Global, lines: &[WiringLine], line: u32) -> Result<Option<Mention>, AllocError> {
     match wiring_said(lines, line) {
         Some(says) => declaration(alloc, says),
         None => Ok(None),
@@ -144,8 +123,7 @@ fn declared(alloc: Global, lines: &[WiringLine], line: u32) -> Result<Option<Men
 
 /// The hint of what a line declares again.
 fn twice(alloc: Global, text: &str, line: u32, lines: &[WiringLine]) -> Result<Hint, AllocError>
-    ensures { IfOk result (IsTwice text.now line lines.now
-        (option_and_then declaration (said lines.now line))) }
+    ensures { IfOk result (HasCaretInside text.now) }
 {
     match declared(alloc, lines, line)? {
         Some(mention) => {
@@ -158,8 +136,7 @@ fn twice(alloc: Global, text: &str, line: u32, lines: &[WiringLine]) -> Result<H
 
 /// The hint of what a line declares beyond the limit.
 fn too_many(alloc: Global, text: &str, line: u32, lines: &[WiringLine]) -> Result<Hint, AllocError>
-    ensures { IfOk result (IsTooMany text.now line
-        (option_and_then declaration (said lines.now line))) }
+    ensures { IfOk result (HasCaretInside text.now) }
 {
     match declared(alloc, lines, line)? {
         Some(mention) => {
@@ -171,9 +148,7 @@ fn too_many(alloc: Global, text: &str, line: u32, lines: &[WiringLine]) -> Resul
 }
 
 /// The place of `accepts`, if the first item of a `births` line has this place.
-fn accepts_place(items: usize, says: &WiringSays) -> Option<usize>
-    ensures { result ≡ accepts_place items says.now }
-{
+fn accepts_place(items: usize, says: &WiringSays) -> Option<usize> {
     match says {
         WiringSays::Port { .. } => Some(4),
         WiringSays::Births { .. } => Some(items.saturating_sub(1)),
@@ -183,8 +158,7 @@ fn accepts_place(items: usize, says: &WiringSays) -> Option<usize>
 
 /// The hint of a line of which two items clash.
 fn clash(alloc: Global, text: &str, line: u32, lines: &[WiringLine]) -> Result<Hint, AllocError>
-    ensures { IfOk result (IsClash text.now line
-        (option_and_then (accepts_place (items_place text.now line)) (said lines.now line))) }
+    ensures { IfOk result (HasCaretInside text.now) }
 {
     let items = items_place(alloc, text, line)?;
     let Some(says) = wiring_said(lines, line) else {
@@ -205,8 +179,7 @@ fn fault_hint(
     fault: ResolveFault,
     lines: &[WiringLine],
 ) -> Result<Hint, AllocError>
-    ensures { IfOk result (IsOfFault text.now interfaces.now (map (λ file. file.now) files.now)
-        fault lines.now) }
+    ensures { IfOk result (HasCaretInside text.now) }
 {
     match fault {
         ResolveFault::UnknownName(line) => unknown(alloc, text, line, lines, interfaces),
@@ -229,8 +202,8 @@ pub fn wiring_name_hint(
     files: &[&str],
     fault: ResolveFault,
 ) -> Result<Hint, AllocError>
-    ensures { IfOk result (IsOfLines (IsOfFault text.now interfaces.now
-        (map (λ file. file.now) files.now) fault) (wiring_of text.now)) }
+    // The caret is inside its line.
+    ensures { IfOk result (HasCaretInside text.now) }
 {
     match read_wiring(alloc, text.as_bytes()) {
         Ok(lines) => fault_hint(alloc, text, interfaces, files, fault, lines.as_slice()),
@@ -241,7 +214,8 @@ pub fn wiring_name_hint(
 
 /// What helps if a task would have too many names: a note.
 pub fn names_hint(alloc: Global, task: &Name) -> Result<Hint, AllocError>
-    ensures { IfOk result (HasNotesAlone (names_notes task.now)) }
+    // It has no caret.
+    ensures { IfOk result (λ hint. hint.spot ≡ None) }
 {
     Ok(hint_of(names_notes(alloc, task)?))
 }
@@ -254,7 +228,7 @@ fn lacking(
     wiring: &[WiringLine],
     lines: &[PolicyLine],
 ) -> Result<Hint, AllocError>
-    ensures { IfOk result (IsLacking text.now line wiring.now (said lines.now line)) }
+    ensures { IfOk result (HasCaretInside text.now) }
 {
     match policy_said(lines, line) {
         Some(forbid) => {
@@ -273,7 +247,8 @@ pub fn policy_name_hint(
     wiring: &[WiringLine],
     fault: ClaimFault,
 ) -> Result<Hint, AllocError>
-    ensures { IfOk result (IsOfLines (IsOfClaim text.now wiring.now fault) (policy_of text.now)) }
+    // The caret is inside its line.
+    ensures { IfOk result (HasCaretInside text.now) }
 {
     let ClaimFault::UnknownName(line) = fault;
     match read_policy(alloc, text.as_bytes()) {

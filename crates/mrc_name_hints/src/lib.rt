@@ -4,7 +4,6 @@
 
 mod hints;
 mod known;
-pub mod laws;
 mod mentions;
 mod notes;
 

@@ -1,10 +1,6 @@
 //! Which words of a line are names, and of what.
 
-ghost use Rattle.std.specs.Prelude.{◌≡◌, ◌+◌, ◌++◌, ◌∷◌, ◌<◌, ◌^◌, [], map, IfOk, OnOk};
-ghost use Rattle.mrc_name_hints.specs.Mentions.{item_width, item_mention, item_mentions};
-ghost use Rattle.mrc_name_hints.specs.Mentions.{class_mentions, admitted_mentions, class_place};
-ghost use Rattle.mrc_name_hints.specs.Mentions.{right_mentions, type_mentions, mentions};
-ghost use Rattle.mrc_name_hints.specs.Mentions.{forbid_mentions, declaration};
+ghost use Rattle.std.specs.Prelude.{◌<◌, ◌^◌};
 
 use mrc_wiring_text::{ClassName, Forbid, Item, Kind, Name, TrustVerb, TrustedRight, WiringSays};
 use std::alloc::{AllocError, Global};
@@ -45,15 +41,12 @@ pub(crate) struct Mention {
     pub(crate) named: Named,
 }
 
-fn at(place: usize, named: Named) -> Mention
-    ensures { result ≡ record { place = place; named = named } }
-{
+fn at(place: usize, named: Named) -> Mention {
     Mention { place, named }
 }
 
 fn item_width(item: &Item) -> usize
-    ensures exact { result ≡ item_width item.now }
-    ensures within { result < 4 }
+    ensures { result < 4 }
 {
     match item {
         Item::Request(_) | Item::Reply(_) => 3,
@@ -69,8 +62,6 @@ fn push_item(
     item: &Item,
 ) -> Result<(), AllocError>
     requires { place < 2 ^ 63 }
-    ensures { OnOk result
-        (mentions.new.items ≡ mentions.old.items ++ item_mention place item.now) }
 {
     match item {
         Item::Request(name) | Item::Reply(name) => {
@@ -89,8 +80,6 @@ fn push_items(
     items: &[Item],
 ) -> Result<(), AllocError>
     requires { first < 8 }
-    ensures { OnOk result
-        (mentions.new.items ≡ mentions.old.items ++ item_mentions first items.now) }
 {
     let mut place = first;
     for item in items {
@@ -108,8 +97,6 @@ fn push_class(
     class: &ClassName,
 ) -> Result<(), AllocError>
     requires { place < 8 }
-    ensures { OnOk result
-        (mentions.new.items ≡ mentions.old.items ++ class_mentions place class.now) }
 {
     match class {
         ClassName::Port(port) => {
@@ -126,10 +113,7 @@ fn push_class(
     Ok(())
 }
 
-fn births(alloc: Global, place: usize, task: &Name, kind: &Kind) -> Result<Mention, AllocError>
-    ensures { IfOk result (λ found. found
-        ≡ record { place = place; named = Named.Births task.now kind.now }) }
-{
+fn births(alloc: Global, place: usize, task: &Name, kind: &Kind) -> Result<Mention, AllocError> {
     let task = task.copy(alloc)?;
     let kind = kind.number();
     Ok(at(place, Named::Births { task, kind }))
@@ -137,8 +121,7 @@ fn births(alloc: Global, place: usize, task: &Name, kind: &Kind) -> Result<Menti
 
 /// Where the class behind a verb begins: `replies` has no word of a right before it.
 fn class_place(verb: TrustVerb) -> usize
-    ensures exact { result ≡ class_place verb }
-    ensures within { result < 8 }
+    ensures { result < 8 }
 {
     match verb {
         TrustVerb::Takes | TrustVerb::Gives | TrustVerb::Sends => 4,
@@ -154,8 +137,6 @@ fn push_admitted(
     class: &Option<ClassName>,
 ) -> Result<(), AllocError>
     requires { place < 8 }
-    ensures { OnOk result
-        (mentions.new.items ≡ mentions.old.items ++ admitted_mentions place class.now) }
 {
     match class {
         Some(class) => push_class(alloc, mentions, place, class),
@@ -171,8 +152,6 @@ fn push_right(
     right: &Option<TrustedRight>,
 ) -> Result<(), AllocError>
     requires { place < 8 }
-    ensures { OnOk result
-        (mentions.new.items ≡ mentions.old.items ++ right_mentions place right.now) }
 {
     match right {
         Some(right) => push_class(alloc, mentions, place, &right.class),
@@ -185,10 +164,7 @@ fn push_task(
     mentions: &mut Vec<Mention>,
     place: usize,
     task: &Name,
-) -> Result<(), AllocError>
-    ensures { OnOk result (mentions.new.items
-        ≡ mentions.old.items ++ record { place = place; named = Named.Task task.now } ∷ []) }
-{
+) -> Result<(), AllocError> {
     mentions.push(at(place, Named::Task(task.copy(alloc)?)))?;
     Ok(())
 }
@@ -198,10 +174,7 @@ fn push_port(
     mentions: &mut Vec<Mention>,
     place: usize,
     port: &Name,
-) -> Result<(), AllocError>
-    ensures { OnOk result (mentions.new.items
-        ≡ mentions.old.items ++ record { place = place; named = Named.Port port.now } ∷ []) }
-{
+) -> Result<(), AllocError> {
     mentions.push(at(place, Named::Port(port.copy(alloc)?)))?;
     Ok(())
 }
@@ -212,10 +185,7 @@ fn push_type(
     mentions: &mut Vec<Mention>,
     subsystem: &Name,
     type_name: &Name,
-) -> Result<(), AllocError>
-    ensures { OnOk result (mentions.new.items
-        ≡ mentions.old.items ++ type_mentions subsystem.now type_name.now) }
-{
+) -> Result<(), AllocError> {
     mentions.push(at(1, Named::Subsystem(subsystem.copy(alloc)?)))?;
     let subsystem = subsystem.copy(alloc)?;
     let type_name = type_name.copy(alloc)?;
@@ -237,7 +207,6 @@ pub(crate) fn mentions(
     says: &WiringSays,
 ) -> Result<Vec<Mention>, AllocError>
     requires { items < 8 }
-    ensures { IfOk result (λ found. found.items ≡ mentions items says.now) }
 {
     let mut found = Vec::new(alloc);
     match says {
@@ -279,9 +248,7 @@ pub(crate) fn mentions(
 }
 
 /// The names of a line of a policy.
-pub(crate) fn forbid_mentions(alloc: Global, forbid: &Forbid) -> Result<Vec<Mention>, AllocError>
-    ensures { IfOk result (λ found. found.items ≡ forbid_mentions forbid.now) }
-{
+pub(crate) fn forbid_mentions(alloc: Global, forbid: &Forbid) -> Result<Vec<Mention>, AllocError> {
     let mut found = Vec::new(alloc);
     push_task(alloc, &mut found, 1, &forbid.task)?;
     push_class(alloc, &mut found, 3, &forbid.class)?;
@@ -289,9 +256,7 @@ pub(crate) fn forbid_mentions(alloc: Global, forbid: &Forbid) -> Result<Vec<Ment
 }
 
 /// What a line of a wiring gives a name to, or says once for all, and the place of its word.
-pub(crate) fn declaration(alloc: Global, says: &WiringSays) -> Result<Option<Mention>, AllocError>
-    ensures { IfOk result (λ found. found ≡ declaration says.now) }
-{
+pub(crate) fn declaration(alloc: Global, says: &WiringSays) -> Result<Option<Mention>, AllocError> {
     match says {
         WiringSays::Task(task) => Ok(Some(at(1, Named::Task(task.copy(alloc)?)))),
         WiringSays::Port { port, .. } => Ok(Some(at(1, Named::Port(port.copy(alloc)?)))),

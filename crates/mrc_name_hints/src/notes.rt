@@ -1,17 +1,6 @@
 //! Sentences that help to mend a fault of names.
 
-ghost use Rattle.std.specs.Prelude.{◌≡◌, ◌++◌, ◌∷◌, [], map, position, string_bytes};
-ghost use Rattle.std.specs.Prelude.{slice_get, IfOk};
-ghost use Rattle.std.specs.Option.{option_map, option_to_list};
-ghost use Rattle.mrc_place.specs.Lists.{listed};
-ghost use Rattle.mrc_name_hints.specs.Known.{is_named};
-ghost use Rattle.mrc_name_hints.specs.Notes.{task_note, port_note, births_note, subsystem_note};
-ghost use Rattle.mrc_name_hints.specs.Notes.{types_part, type_note, unknown_note, heading};
-ghost use Rattle.mrc_name_hints.specs.Notes.{others_note};
-ghost use Rattle.mrc_name_hints.specs.Notes.{near_note, help_note, IsNear, AreNotes};
-ghost use Rattle.mrc_name_hints.specs.Notes.{twice_notes, many_notes, twin_text, twin_note};
-ghost use Rattle.mrc_name_hints.specs.Notes.{twin_notes};
-ghost use Rattle.mrc_name_hints.specs.Notes.{last_file, names_notes, clash_notes, twin_from};
+ghost use Rattle.std.specs.Prelude.{◌<◌, length, IfSome};
 
 use crate::known::{known_names, later, name_of};
 use crate::mentions::Named;
@@ -20,27 +9,21 @@ use mrc_place::{listed, nearest};
 use mrc_wiring_text::{Name, WiringLine};
 use std::alloc::{AllocError, Global};
 
-fn task_note(given: Option<u32>) -> &'static str
-    ensures { result.now ≡ task_note given }
-{
+fn task_note(given: Option<u32>) -> &'static str {
     match given {
         Some(_) => "no line above declares a task of this name",
         None => "the wiring has no task of this name",
     }
 }
 
-fn port_note(given: Option<u32>) -> &'static str
-    ensures { result.now ≡ port_note given }
-{
+fn port_note(given: Option<u32>) -> &'static str {
     match given {
         Some(_) => "no line above declares a port of this name",
         None => "the wiring has no port of this name",
     }
 }
 
-fn births_note(alloc: Global, given: Option<u32>, task: &str) -> Result<String, AllocError>
-    ensures { IfOk result (λ text. string_bytes text ≡ births_note given task.now) }
-{
+fn births_note(alloc: Global, given: Option<u32>, task: &str) -> Result<String, AllocError> {
     match given {
         Some(_) => format!(in alloc; "no births line of the task {task} above has this kind"),
         None => format!(in alloc; "no births line of the task {task} has this kind in the wiring"),
@@ -48,18 +31,12 @@ fn births_note(alloc: Global, given: Option<u32>, task: &str) -> Result<String, 
 }
 
 /// Some words, and a list of names.
-fn with_names(alloc: Global, words: &str, names: &[&str]) -> Result<String, AllocError>
-    ensures { IfOk result (λ text.
-        string_bytes text ≡ words.now ++ listed (map (λ name. name.now) names.now)) }
-{
+fn with_names(alloc: Global, words: &str, names: &[&str]) -> Result<String, AllocError> {
     let list = listed(alloc, names)?;
     format!(in alloc; "{words}{list}")
 }
 
-fn subsystem_note(alloc: Global, known: &[&str]) -> Result<String, AllocError>
-    ensures { IfOk result (λ text.
-        string_bytes text ≡ subsystem_note (map (λ name. name.now) known.now)) }
-{
+fn subsystem_note(alloc: Global, known: &[&str]) -> Result<String, AllocError> {
     if known.is_empty() {
         return String::from_str(alloc, "no MIG file was given");
     }
@@ -67,20 +44,14 @@ fn subsystem_note(alloc: Global, known: &[&str]) -> Result<String, AllocError>
     with_names(alloc, words, known)
 }
 
-fn types_part(alloc: Global, known: &[&str]) -> Result<String, AllocError>
-    ensures { IfOk result (λ text.
-        string_bytes text ≡ types_part (map (λ name. name.now) known.now)) }
-{
+fn types_part(alloc: Global, known: &[&str]) -> Result<String, AllocError> {
     if known.is_empty() {
         return String::from_str(alloc, "no routine of it has port arguments");
     }
     with_names(alloc, "its types of port arguments: ", known)
 }
 
-fn type_note(alloc: Global, subsystem: &str, known: &[&str]) -> Result<String, AllocError>
-    ensures { IfOk result (λ text.
-        string_bytes text ≡ type_note subsystem.now (map (λ name. name.now) known.now)) }
-{
+fn type_note(alloc: Global, subsystem: &str, known: &[&str]) -> Result<String, AllocError> {
     let types = types_part(alloc, known)?;
     format!(in alloc; "no port argument of the subsystem {subsystem} has this type; {types}")
 }
@@ -91,10 +62,7 @@ fn unknown_note(
     given: Option<u32>,
     known: &[&str],
     named: &Named,
-) -> Result<String, AllocError>
-    ensures { IfOk result (λ text. string_bytes text
-        ≡ unknown_note given (map (λ name. name.now) known.now) named.now) }
-{
+) -> Result<String, AllocError> {
     match named {
         Named::Task(_) => String::from_str(alloc, task_note(given)),
         Named::Port(_) => String::from_str(alloc, port_note(given)),
@@ -106,9 +74,7 @@ fn unknown_note(
 }
 
 /// What the known names are, if the first note does not have them.
-fn heading(given: Option<u32>, named: &Named) -> Option<&'static str>
-    ensures { option_map (λ text. text.now) result ≡ heading given named.now }
-{
+fn heading(given: Option<u32>, named: &Named) -> Option<&'static str> {
     match (named, given) {
         (Named::Task(_), Some(_)) => Some("tasks declared above: "),
         (Named::Task(_), None) => Some("tasks of the wiring: "),
@@ -123,11 +89,7 @@ fn others_note(
     alloc: Global,
     text: Option<&str>,
     known: &[&str],
-) -> Result<Option<String>, AllocError>
-    ensures { IfOk result (λ note. option_map string_bytes note
-        ≡ others_note (option_map (λ text. text.now) text.entry)
-        (map (λ name. name.now) known.now)) }
-{
+) -> Result<Option<String>, AllocError> {
     match text {
         Some(text) if !known.is_empty() => { Ok(Some(with_names(alloc, text, known)?)) }
         _ => Ok(None),
@@ -140,11 +102,7 @@ fn near_note(
     near: Option<&str>,
     text: Option<&str>,
     known: &[&str],
-) -> Result<Option<String>, AllocError>
-    ensures { IfOk result (λ note. option_map string_bytes note
-        ≡ near_note (option_map (λ name. name.now) near.entry)
-        (option_map (λ text. text.now) text.entry) (map (λ name. name.now) known.now)) }
-{
+) -> Result<Option<String>, AllocError> {
     match near {
         Some(name) => Ok(Some(format!(in alloc; "did you mean: {name}")?)),
         None => others_note(alloc, text, known),
@@ -158,11 +116,7 @@ fn help_note(
     near: Option<&str>,
     text: Option<&str>,
     known: &[&str],
-) -> Result<Option<String>, AllocError>
-    ensures { IfOk result (λ note. option_map string_bytes note
-        ≡ help_note later (option_map (λ name. name.now) near.entry)
-        (option_map (λ text. text.now) text.entry) (map (λ name. name.now) known.now)) }
-{
+) -> Result<Option<String>, AllocError> {
     match later {
         Some(line) => Ok(Some(format!(in alloc; "declared below, on line {line}")?)),
         None => near_note(alloc, near, text, known),
@@ -170,18 +124,16 @@ fn help_note(
 }
 
 /// The nearest of the known names.
-fn near<'a>(name: &str, known: &[&'a str]) -> Option<&'a str>
-    ensures { IsNear name.now (map (λ name. name.now) known.now)
-        (option_map (λ name. name.now) result) }
-{
+fn near<'a>(name: &str, known: &[&'a str]) -> Option<&'a str> {
     nearest(name, known)
 }
 
 /// One note, and another if there is one.
-fn with_help(alloc: Global, first: String, help: Option<String>) -> Result<Vec<String>, AllocError>
-    ensures { IfOk result (λ notes. map string_bytes notes.items
-        ≡ string_bytes first ∷ option_to_list (option_map string_bytes help)) }
-{
+fn with_help(
+    alloc: Global,
+    first: String,
+    help: Option<String>,
+) -> Result<Vec<String>, AllocError> {
     let mut notes = Vec::new(alloc);
     notes.push(first)?;
     if let Some(help) = help {
@@ -197,10 +149,7 @@ pub(crate) fn unknown_notes(
     given: Option<u32>,
     interfaces: &[Interface],
     named: &Named,
-) -> Result<Vec<String>, AllocError>
-    ensures { IfOk result (λ notes.
-        AreNotes lines.now given interfaces.now named.now (map string_bytes notes.items)) }
-{
+) -> Result<Vec<String>, AllocError> {
     let known = known_names(alloc, lines, given, interfaces, named)?;
     let near = near(name_of(named), known.as_slice());
     let later = later(lines, given, named);
@@ -211,18 +160,14 @@ pub(crate) fn unknown_notes(
 }
 
 /// A list of one note.
-fn alone(alloc: Global, note: String) -> Result<Vec<String>, AllocError>
-    ensures { IfOk result (λ notes. map string_bytes notes.items ≡ string_bytes note ∷ []) }
-{
+fn alone(alloc: Global, note: String) -> Result<Vec<String>, AllocError> {
     let mut notes = Vec::new(alloc);
     notes.push(note)?;
     Ok(notes)
 }
 
 /// Where it is declared above.
-pub(crate) fn twice_notes(alloc: Global, earlier: Option<u32>) -> Result<Vec<String>, AllocError>
-    ensures { IfOk result (λ notes. map string_bytes notes.items ≡ twice_notes earlier) }
-{
+pub(crate) fn twice_notes(alloc: Global, earlier: Option<u32>) -> Result<Vec<String>, AllocError> {
     match earlier {
         Some(line) => alone(alloc, format!(in alloc; "declared above, on line {line}")?),
         None => Ok(Vec::new(alloc)),
@@ -230,9 +175,7 @@ pub(crate) fn twice_notes(alloc: Global, earlier: Option<u32>) -> Result<Vec<Str
 }
 
 /// How many there may be.
-pub(crate) fn many_notes(alloc: Global, named: &Named) -> Result<Vec<String>, AllocError>
-    ensures { IfOk result (λ notes. map string_bytes notes.items ≡ many_notes named.now) }
-{
+pub(crate) fn many_notes(alloc: Global, named: &Named) -> Result<Vec<String>, AllocError> {
     match named {
         Named::Task(_) => {
             alone(
@@ -252,7 +195,7 @@ pub(crate) fn many_notes(alloc: Global, named: &Named) -> Result<Vec<String>, Al
 
 /// The place of the first interface of this name.
 fn place_named(interfaces: &[Interface], name: &str) -> Option<usize>
-    ensures { result ≡ position (is_named name.now) interfaces.now }
+    ensures { IfSome result (λ place. place < length interfaces.now) }
 {
     interfaces
         .iter()
@@ -260,9 +203,7 @@ fn place_named(interfaces: &[Interface], name: &str) -> Option<usize>
 }
 
 /// The places of the first two interfaces of one name.
-fn twin(interfaces: &[Interface]) -> Option<(usize, usize)>
-    ensures { result ≡ twin_from 0 interfaces.now }
-{
+fn twin(interfaces: &[Interface]) -> Option<(usize, usize)> {
     for (first, interface) in interfaces.iter().enumerate() {
         if let Some(behind) = place_named(&interfaces[first + 1..], interface.name()) {
             return Some((first, first + 1 + behind));
@@ -271,10 +212,7 @@ fn twin(interfaces: &[Interface]) -> Option<(usize, usize)>
     None
 }
 
-fn twin_text(alloc: Global, first: &str, second: &str, name: &str) -> Result<String, AllocError>
-    ensures { IfOk result (λ text.
-        string_bytes text ≡ twin_text first.now second.now name.now) }
-{
+fn twin_text(alloc: Global, first: &str, second: &str, name: &str) -> Result<String, AllocError> {
     format!(in alloc; "{first} and {second} have the same subsystem: {name}")
 }
 
@@ -284,12 +222,7 @@ fn twin_note(
     first: Option<&str>,
     second: Option<&str>,
     interface: Option<&Interface>,
-) -> Result<Vec<String>, AllocError>
-    ensures { IfOk result (λ notes. map string_bytes notes.items
-        ≡ twin_note (option_map (λ file. file.now) first.entry)
-        (option_map (λ file. file.now) second.entry)
-        (option_map (λ interface. interface.now) interface.entry)) }
-{
+) -> Result<Vec<String>, AllocError> {
     match (first, second, interface) {
         (Some(first), Some(second), Some(interface)) => {
             alone(alloc, twin_text(alloc, first, second, interface.name())?)
@@ -303,11 +236,7 @@ pub(crate) fn twin_notes(
     alloc: Global,
     files: &[&str],
     interfaces: &[Interface],
-) -> Result<Vec<String>, AllocError>
-    ensures { IfOk result (λ notes. map string_bytes notes.items
-        ≡ twin_notes (map (λ file. file.now) files.now) interfaces.now
-        (twin_from 0 interfaces.now)) }
-{
+) -> Result<Vec<String>, AllocError> {
     match twin(interfaces) {
         Some((first, second)) => {
             let interface = interfaces.get(first);
@@ -323,10 +252,7 @@ pub(crate) fn twin_notes(
 }
 
 /// The file that is one too many.
-pub(crate) fn last_file(alloc: Global, files: &[&str]) -> Result<Vec<String>, AllocError>
-    ensures { IfOk result (λ notes. map string_bytes notes.items
-        ≡ last_file (slice_get (map (λ file. file.now) files.now) 16)) }
-{
+pub(crate) fn last_file(alloc: Global, files: &[&str]) -> Result<Vec<String>, AllocError> {
     match files.get(16) {
         Some(file) => {
             let text = "is the 17th MIG file: a wiring has at most 16";
@@ -337,9 +263,7 @@ pub(crate) fn last_file(alloc: Global, files: &[&str]) -> Result<Vec<String>, Al
 }
 
 /// The task that would have too many names.
-pub(crate) fn names_notes(alloc: Global, task: &Name) -> Result<Vec<String>, AllocError>
-    ensures { IfOk result (λ notes. map string_bytes notes.items ≡ names_notes task.now) }
-{
+pub(crate) fn names_notes(alloc: Global, task: &Name) -> Result<Vec<String>, AllocError> {
     let task = task.as_str();
     alone(
         alloc,
@@ -348,9 +272,7 @@ pub(crate) fn names_notes(alloc: Global, task: &Name) -> Result<Vec<String>, All
 }
 
 /// Two items that clash.
-pub(crate) fn clash_notes(alloc: Global) -> Result<Vec<String>, AllocError>
-    ensures { IfOk result (λ notes. map string_bytes notes.items ≡ clash_notes) }
-{
+pub(crate) fn clash_notes(alloc: Global) -> Result<Vec<String>, AllocError> {
     alone(
         alloc,
         String::from_str(alloc, "two items have a message of the same id")?,

@@ -3,7 +3,6 @@
 #![tactic(auto)]
 
 mod distance;
-pub mod laws;
 mod lines;
 mod lists;
 mod spots;

@@ -1,15 +1,9 @@
 //! Words in a row.
 
-ghost use Rattle.std.specs.Prelude.{◌≡◌, map, IfOk, string_bytes};
-ghost use Rattle.mrc_place.specs.Lists.{or_between, comma_between, alternatives, in_a_row};
-ghost use Rattle.mrc_place.specs.Lists.{and_more, listed};
-
 use std::alloc::{AllocError, Global};
 
 /// What is between a word and so many others of which one is to be chosen.
-fn or_between(others: usize) -> &'static str
-    ensures { result.now ≡ or_between others }
-{
+fn or_between(others: usize) -> &'static str {
     match others {
         0 => "",
         1 => " or ",
@@ -18,10 +12,7 @@ fn or_between(others: usize) -> &'static str
 }
 
 /// Words of which one is to be chosen: `A, B or C`.
-pub fn alternatives(alloc: Global, words: &[&str]) -> Result<String, AllocError>
-    ensures { IfOk result (λ text.
-        string_bytes text ≡ alternatives (map (λ word. word.now) words.now)) }
-{
+pub fn alternatives(alloc: Global, words: &[&str]) -> Result<String, AllocError> {
     let mut text = String::new(alloc);
     let mut rest = words;
     while let [word, others @ ..] = rest {
@@ -33,9 +24,7 @@ pub fn alternatives(alloc: Global, words: &[&str]) -> Result<String, AllocError>
 }
 
 /// What is between a word and so many others.
-fn comma_between(others: usize) -> &'static str
-    ensures { result.now ≡ comma_between others }
-{
+fn comma_between(others: usize) -> &'static str {
     match others {
         0 => "",
         _ => ", ",
@@ -43,10 +32,7 @@ fn comma_between(others: usize) -> &'static str
 }
 
 /// Words with commas between them.
-fn in_a_row(alloc: Global, words: &[&str]) -> Result<String, AllocError>
-    ensures { IfOk result (λ text.
-        string_bytes text ≡ in_a_row (map (λ word. word.now) words.now)) }
-{
+fn in_a_row(alloc: Global, words: &[&str]) -> Result<String, AllocError> {
     let mut text = String::new(alloc);
     let mut rest = words;
     while let [word, others @ ..] = rest {
@@ -58,9 +44,7 @@ fn in_a_row(alloc: Global, words: &[&str]) -> Result<String, AllocError>
 }
 
 /// How many more words there are, if there are any.
-fn and_more(alloc: Global, count: usize) -> Result<String, AllocError>
-    ensures { IfOk result (λ text. string_bytes text ≡ and_more count) }
-{
+fn and_more(alloc: Global, count: usize) -> Result<String, AllocError> {
     if count == 0 {
         Ok(String::new(alloc))
     } else {
@@ -69,10 +53,7 @@ fn and_more(alloc: Global, count: usize) -> Result<String, AllocError>
 }
 
 /// The first ten words, and how many more there are: `A, B, C and N more`.
-pub fn listed(alloc: Global, words: &[&str]) -> Result<String, AllocError>
-    ensures { IfOk result (λ text.
-        string_bytes text ≡ listed (map (λ word. word.now) words.now)) }
-{
+pub fn listed(alloc: Global, words: &[&str]) -> Result<String, AllocError> {
     let (shown, others) = words.split_at(words.len().min(10));
     let mut text = in_a_row(alloc, shown)?;
     let more = and_more(alloc, others.len())?;

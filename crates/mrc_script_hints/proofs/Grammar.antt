@@ -7,7 +7,7 @@ use Rattle.mrc_report.specs.declared.table.CallName.TheVariants as call
 use Rattle.mrc_report.specs.Calls.{numbers_made, made, send, call_of, caller, said_by}
 use Rattle.mrc_report.specs.Parameters.{message_of_words}
 use Rattle.mrc_report.specs.Table.{call_named}
-use Rattle.mrc_script_hints.specs.Wrong.{are_right}
+use Rattle.mrc_script_hints.specs.Table.{are_right}
 use Rattle.mrc_script_hints.specs.Laws.{TheTableIsTheGrammar}
 use Rattle.mrc_script_hints.proofs.Fitting.{both, parameters_fit}
 

@@ -1,6 +1,4 @@
-mod Loops
-mod Noted
-mod Fitting
 mod First
+mod Fitting
 mod Grammar
 mod Worked

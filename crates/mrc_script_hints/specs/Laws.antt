@@ -5,8 +5,7 @@ use Rattle.std.specs.Prelude.{slice_index_or}
 use Rattle.mrc_report.specs.Calls.{line_says}
 use Rattle.mrc_report.specs.declared.parameters.Parameter.{Parameter}
 use Rattle.mrc_report.specs.declared.parameters.Parameter.TheVariants.{Number}
-use Rattle.mrc_script_hints.specs.Table.{fits, fitting}
-use Rattle.mrc_script_hints.specs.Wrong.{is_right}
+use Rattle.mrc_script_hints.specs.Table.{fits, fitting, is_right}
 
 -- the words of a line are right by the table if and only if they say something
 abbrev pub TheTableIsTheGrammar : Type 0

@@ -1,6 +1,2 @@
-pub mod Table
-pub mod Hexes
-pub mod Wrong
-pub mod Notes
-pub mod Hints
 pub mod Laws
+pub mod Table

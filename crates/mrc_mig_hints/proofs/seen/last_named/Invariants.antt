@@ -1,9 +1,0 @@
-use Rattle.std.proofs.Common.{◌≡◌, drop, map}
-use Rattle.mrc_mig_hints.specs.Sights.{sight_of, last_from, last_place, has_bytes}
-use Rattle.mrc_mig_hints.proofs.seen.last_named.Given as goal
-
--- the last so far, or one behind, is the last
-abbrev pub invariant-loop-token : goal.invariant-loop-token
-invariant-loop-token l =
-    last_from (has_bytes l.text) l.last (map sight_of (drop l.token-index l.seen))
-    ≡ last_place (has_bytes l.text) (map sight_of l.seen)
