@@ -1,5 +1,0 @@
-mod ListLaws
-mod PlainLaws
-mod FaultLaws
-mod AnswerLaws
-mod Worked

@@ -1,5 +1,0 @@
-pub mod Uris
-pub mod Places
-pub mod Objects
-pub mod Steps
-pub mod Answers

@@ -1,3 +1,0 @@
-pub mod CountLaws
-pub mod CommonLaws
-pub mod PartLaws
