@@ -1,6 +1,6 @@
 -- From the checker's yes, and what is printed of it, to what the texts mean.
 use Rattle.std.proofs.Common.{◌≡◌, ◌∙◌, ℕ, List, Result, Ok, Err, ap, subst}
-use Rattle.std.specs.Prelude.{IfOk, codes}
+use Rattle.std.specs.Prelude.{IfOk}
 use Rattle.mrc_wiring.specs.Table.{Table}
 use Rattle.mrc_check.specs.Verdict.{Case}
 use Rattle.mrc_command.specs.declared.command.FileNames.{FileNames}
@@ -21,16 +21,16 @@ pub yes_told : {E : Type 0} (format : Format) (files : Files) (judged : Case)
     → defs ≡ files.texts.defs
     → shown ≡ files.names
     → table ≡ judged.claim.table
-    → IfOk result (IsYesWith (codes "check") format shown notices table)
+    → IfOk result (IsYesWith format shown notices table)
     → IfOk result (λ told. told.status ≡ 0 → ToldYes format files told)
 yes_told format files judged names shown defs notices table (Ok told) says noted named are seen is
     printed = λ zero. record {
       judged = judged;
       says = says;
-      is = subst (λ n. IsYesWith (codes "check") format files.names n judged.claim.table told)
+      is = subst (λ n. IsYesWith format files.names n judged.claim.table told)
           (noted ∙ (ap (λ n. left_notices n defs) named ∙ ap (left_notices files.names) are))
-          (subst (λ n. IsYesWith (codes "check") format n notices judged.claim.table told) seen
-          (subst (λ t. IsYesWith (codes "check") format shown notices t told) is printed));
+          (subst (λ n. IsYesWith format n notices judged.claim.table told) seen
+          (subst (λ t. IsYesWith format shown notices t told) is printed));
     }
 yes_told format files judged names shown defs notices table (Err e) says noted named are seen is
     printed = tt

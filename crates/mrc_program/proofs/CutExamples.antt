@@ -1,11 +1,11 @@
--- Worked examples of what is told of MIG files that are cut.
+-- Worked examples of MIG files that are cut.
 use Rattle.std.proofs.Common.{◌≡◌, [], ◌∷◌, refl, false}
 use Rattle.mrc_command.specs.declared.command.Strictness.TheVariants.{None as Each}
 use Rattle.std.specs.Prelude.{Some, None, codes}
 use Rattle.mrc_base.specs.declared.memory.OrMemory.TheVariants.{Memory}
 use Rattle.mrc_program.specs.Cutting.{same_name, refusal_line, are_written}
 
--- a name is what stands behind the last slash, in whatever folder
+-- a name is what is behind the last slash, in whatever folder
 one_name : same_name (codes "a/x.defs" ∷ codes "b/y.defs" ∷ codes "x.defs" ∷ [])
     ≡ Some (codes "x.defs")
 one_name = refl
@@ -17,6 +17,6 @@ other_names = refl
 nothing_read : are_written Each [] ≡ false
 nothing_read = refl
 
--- want of memory is no file's fault
+-- out of memory is no file's fault
 no_memory : refusal_line (codes "o/a") Memory ≡ codes "machcheck: Memory\n"
 no_memory = refl

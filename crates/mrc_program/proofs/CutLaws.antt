@@ -1,7 +1,7 @@
 -- Files whose texts are cut one after the other, and files that are written so.
 use Rattle.std.proofs.Common.{◌≡◌, ◌⊎◌, ℕ, ◌+◌, ◌<◌, ◌≤◌, List, [], ◌∷◌, ◌++◌, ap, ap₂, sym}
 use Rattle.std.proofs.Common.{subst, ◌∙◌}
-use Rattle.std.proofs.Common.{append_assoc, length, map, take, drop, get_or}
+use Rattle.std.proofs.Common.{length, map, take, drop, get_or}
 use Rattle.std.proofs.Common.{Bor, Vec, Global, true, false, inl, inr, arith}
 use Rattle.std.proofs.Common.{string_bytes}
 use Rattle.std.specs.Prelude.{Some, Result, Ok, Err, IfOk, codes}
@@ -18,15 +18,14 @@ use Rattle.mrc_files.specs.declared.streams.WriteFault.{WriteFault}
 use Rattle.mrc_files.specs.Files.{Held, HasBytes, AreHeld}
 use Rattle.mrc_files.proofs.FileLaws.{zip_more}
 use Rattle.mrc_wiring.proofs.Steps.{next_is}
-use Rattle.mrc_mig_cut.specs.declared.routine.LeftOut.{LeftOut}
 use Rattle.mrc_command.specs.Lines.{fault_line, shown}
 use Rattle.mrc_command.specs.declared.told.Told.{Told}
 use Rattle.mrc_command.specs.declared.command.MigFiles.{MigFiles}
 use Rattle.mrc_program.specs.Told.{ToldMemory}
-use Rattle.mrc_json.specs.declared.cuts.NamedCut.{NamedCut}
+use Rattle.mrc_print.specs.declared.json_cuts.NamedCut.{NamedCut}
 use Rattle.mrc_program.specs.Cutting.{IsCutTo, IsNoFile, IsFirstUncut, is_named_so}
 use Rattle.mrc_program.specs.Cutting.{same_name_behind, Writing, IsStopped, HasRoom}
-use Rattle.mrc_program.specs.Cutting.{left_line, left_lines, same_name, mig_names, FaultOfMig}
+use Rattle.mrc_program.specs.Cutting.{same_name, mig_names, FaultOfMig}
 use Rattle.mrc_program.specs.Cutting.{ToldNoCuts, AreCuts, CutsLess, CutsRefused}
 use Rattle.mrc_program.specs.declared.cuts.Uncut.{Uncut}
 
@@ -171,21 +170,6 @@ pub room_for_all : (len capacity : ℕ) (writings : List Writing) (i : ℕ)
     → All (HasRoom len capacity) writings
 room_for_all len capacity writings i end room =
     subst (All (HasRoom len capacity)) (take_all i writings end) room
-
--- the lines of those that are left out, and one more
-pub left_more : (file text line new : List ℕ) (left_out : List LeftOut) (i : ℕ) (d : LeftOut)
-    → i < length left_out
-    → text ++ left_lines file (drop i left_out) ≡ left_lines file left_out
-    → line ≡ left_line file (get_or left_out i d)
-    → new ≡ text ++ line
-    → new ++ left_lines file (drop (i + 1) left_out) ≡ left_lines file left_out
-left_more file text line new left_out i d less so is added =
-    let rest = left_lines file (drop (i + 1) left_out) in
-    ap (λ t. t ++ rest) added
-    ∙ append_assoc text line rest
-    ∙ ap (λ l. text ++ (l ++ rest)) is
-    ∙ ap (λ ls. text ++ left_lines file ls) (sym (next_is left_out i d less))
-    ∙ so
 
 -- that two files have one name is a fault
 pub same_told : {E : Type 0} (held : Held) (files : MigFiles) (file : List ℕ)

@@ -13,7 +13,7 @@ use Rattle.mrc_files.specs.Files.{Held}
 use Rattle.mrc_report.specs.Output.{written}
 use Rattle.mrc_report.specs.declared.outgoing.Unprinted.{Unprinted}
 use Rattle.mrc_program.specs.Commands.{DoneOf, NoOf, OfWords}
-use Rattle.mrc_program.specs.FaultObjects.{IsOutOfWords, WentInPart}
+use Rattle.mrc_program.specs.Fronts.{IsOutOfFault, WentInPart}
 
 -- a status is one of three
 by_status : (status : ℕ) → status ≤ 2 → (status ≡ 0) ⊎ ((status ≡ 1) ⊎ (status ≡ 2))
@@ -23,16 +23,16 @@ by_status (suc (suc zero)) within = inr (inr refl)
 by_status (suc (suc (suc more))) within = absurd (omega (arith, within))
 
 -- a front of what is printed of a command goes out
-pub in_part : (out err : Bool) (words : List (List ℕ)) (before after : Held)
-    (old new : Option (List ℕ)) (told : Told) (rest behind : List ℕ)
+pub in_part : (watched : Bool) (words : List (List ℕ)) (before after : Held)
+    (old new : Option (List ℕ)) (told : Told) (rest : List ℕ)
     → told.status ≤ 2
-    → (told.status ≡ 0 → OfWords out words (DoneOf before after rest) told ⊎ AsksHelp words)
-    → (told.status ≡ 1 → OfWords out words (NoOf before rest) told)
+    → (told.status ≡ 0 → OfWords watched words (DoneOf before after rest) told ⊎ AsksHelp words)
+    → (told.status ≡ 1 → OfWords watched words (NoOf before rest) told)
     → (told.status ≡ 2 → (string_bytes told.out ++ rest ≡ [])
-    ⊎ IsOutOfWords out err before words behind rest told)
+    ⊎ OfWords watched words (IsOutOfFault before rest) told)
     → (count : ℕ) × Appends old new (take count (string_bytes told.out ++ rest))
-    → Appends old new [] ⊎ (WentInPart out err words before after old new ⊎ AsksHelp words)
-in_part out err words before after old new told rest behind within yes_ no_ fault front =
+    → Appends old new [] ⊎ (WentInPart watched words before after old new ⊎ AsksHelp words)
+in_part watched words before after old new told rest within yes_ no_ fault front =
     elim (by_status told.status within) [
       | inl nought ↦ elim (yes_ nought) [
         | inl right ↦ inr (inl record {
@@ -57,7 +57,7 @@ in_part out err words before after old new told rest behind within yes_ no_ faul
         | inr some ↦ inr (inl record {
           told = told;
           rest = rest;
-          tells = inr (inr (behind, some));
+          tells = inr (inr some);
           count = front.0;
           front = front.1;
         })

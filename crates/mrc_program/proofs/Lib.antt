@@ -1,8 +1,6 @@
 pub mod ToldLaws
 mod RunLaws
 mod FrontLaws
-mod BehindLaws
-mod HintExamples
 mod CheckedLaws
 pub mod ScriptLaws
 mod MeaningLaws
@@ -17,5 +15,3 @@ mod NoticeExamples
 mod PolicyExamples
 mod LeftLaws
 mod TrustedLaws
-mod PromiseLaws
-mod PromiseExamples

@@ -6,7 +6,7 @@ use Rattle.mrc_base.proofs.Steps.{bind_to}
 use Rattle.mrc_check.specs.Texts.{Meaningless}
 use Rattle.mrc_command.specs.declared.command.FileNames.{FileNames}
 use Rattle.mrc_command.specs.declared.told.Told.{Told}
-use Rattle.mrc_program.specs.Explained.{OfMeaning}
+use Rattle.mrc_program.specs.Meant.{OfMeaning}
 use Rattle.mrc_program.specs.Told.{ToldMemory, ToldFault}
 
 -- what is printed with a status of what a stage made is printed of the texts

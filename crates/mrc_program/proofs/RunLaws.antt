@@ -1,8 +1,7 @@
 -- From what is printed of files that were read to what is printed of a command.
-use Rattle.std.proofs.Common.{◌≡◌, ◌⊎◌, ◌<◌, ◌≤◌, ◌∙◌, ◌++◌, ℕ, Bool, true, false, List}
-use Rattle.std.proofs.Common.{[], Result, Ok, Err, Option, inl, inr, refl, string_bytes, subst, sym}
-use Rattle.std.proofs.Common.{ap, arith}
-use Rattle.std.specs.Prelude.{IfOk, ◌||◌}
+use Rattle.std.proofs.Common.{◌≡◌, ◌≢◌, ◌⊎◌, ◌<◌, ◌∙◌, ◌++◌, ℕ, Bool, List, [], Result, Ok, Err, Option}
+use Rattle.std.proofs.Common.{ap, arith, inl, inr, refl, string_bytes, subst, sym}
+use Rattle.std.specs.Prelude.{IfOk}
 use Rattle.std.specs.Io.KnownBytes.{Appends}
 use Rattle.mrc_command.specs.CommandLine.{IsNoCommand}
 use Rattle.mrc_command.specs.declared.command.NoCommand.TheVariants.{Told as TextTold}
@@ -10,7 +9,7 @@ use Rattle.mrc_command.specs.declared.command.Command.{Command}
 use Rattle.mrc_command.specs.declared.command.Command.TheVariants.{Case, Mig}
 use Rattle.mrc_command.specs.declared.command.FileNames.{FileNames}
 use Rattle.mrc_command.specs.declared.command.Format.{Format}
-use Rattle.mrc_command.specs.declared.command.Format.TheVariants.{Text}
+use Rattle.mrc_command.specs.declared.command.Format.TheVariants.{Text, Json, Sarif}
 use Rattle.mrc_command.specs.declared.command.MigFiles.{MigFiles}
 use Rattle.mrc_command.specs.declared.command.Question.{Question}
 use Rattle.mrc_command.specs.declared.command.Question.TheVariants.{Verify, Mend, Attack, Check}
@@ -20,17 +19,13 @@ use Rattle.mrc_command.specs.declared.told.Told.{Told}
 use Rattle.mrc_files.specs.declared.streams.ReadFault.{ReadFault}
 use Rattle.mrc_files.specs.Files.{Held, IsFirstUnread}
 use Rattle.mrc_command.specs.declared.command.Request.{Request}
-use Rattle.mrc_command.specs.Meaning.{Means, asked_format, command_word}
-use Rattle.mrc_place.specs.declared.spots.Hint.{Hint}
-use Rattle.mrc_program.specs.declared.behind.Help.{Help}
-use Rattle.mrc_program.specs.Behind.{IsBehind, IsBehindWords, IsHelp, IsMade, IsMadeFor, HelpsWith}
-use Rattle.mrc_program.specs.Behind.{HelpsWithFiles, IsNoted, IsUncutHelp, IsUnreadHelp, is_live}
+use Rattle.mrc_command.specs.Meaning.{Means, asked_format}
 use Rattle.mrc_program.specs.Commands.{BadWord, Done, DoneOf, Fault, FaultOf, Halted, HaltedOf}
 use Rattle.mrc_program.specs.Commands.{IsRest, No, NoOf, OfWords, Streams, WentOut, seen}
 use Rattle.mrc_program.specs.Cutting.{CutsOfFiles}
-use Rattle.mrc_program.specs.FaultObjects.{IsFaultObject, IsOutOfFault, IsOutOfWords}
-use Rattle.mrc_program.specs.FaultObjects.{ToldObject, fault_object}
 use Rattle.mrc_program.specs.Files.{AreRead, Files, OfFiles, Texts, all_names, word_of}
+use Rattle.mrc_program.specs.Formats.{IsForPrograms}
+use Rattle.mrc_program.specs.Fronts.{IsOutOfFault}
 use Rattle.mrc_program.specs.Played.{ToldHalted}
 use Rattle.mrc_program.specs.Told.{ToldMemory, ToldUnread, UnreadTold}
 use Rattle.mrc_program.proofs.GraphLaws.{unlisted_silent, undrawn_silent}
@@ -147,69 +142,6 @@ done_of_mig held after rest command files (Err e) is none done = tt
 done_of_mig held after rest command files (Ok told) is none done = λ nought.
     subst (λ c. DoneOf held after rest c told) (sym is) (done nought, none)
 
--- what helps with a fault of texts that were read
-pub made_files : (wanted : Bool) (held : Held) (names : FileNames) (texts : Texts)
-    (question : Question) (help : Help) (told : Told)
-    → AreRead held names texts
-    → IsMade wanted (λ line made. IsNoted line made
-    ⊎ IsHelp (is_live question) record { names = names; texts = texts } line made) help told
-    → IsMadeFor wanted held (Case names question) help told
-made_files wanted held names texts question help told are made = elim made [
-  | inl none ↦ inl none
-  | inr helps ↦ inr (
-    helps.0,
-    helps.1,
-    elim (helps.2) [
-      | inl noted ↦ inl noted
-      | inr of_text ↦ inr (inr record { texts = texts; are_read = are; tells = of_text })
-    ],
-  )
-]
-
--- what helps with a fault, or else a sentence about it
-pub made_noted : (wanted : Bool) (held : Held) (command : Command) (help new : Help) (told : Told)
-    → IsMadeFor wanted held command help told
-    → (new ≡ help)
-    ⊎ ((wanted ≡ true) × (told.status ≡ 2) × IsNoted (string_bytes told.err) new)
-    → IsMadeFor wanted held command new told
-made_noted wanted held command help new told made is = elim is [
-  | inl same ↦ subst (λ h. IsMadeFor wanted held command h told) (sym same) made
-  | inr noted ↦ inr (noted.0, noted.1, inl noted.2)
-]
-
--- what helps with a file that can't be read, of a question
-pub made_unread : {E : Type 0} (wanted : Bool) (held : Held) (names : FileNames)
-    (question : Question) (help : Help) (result : Result Told E)
-    → IfOk result (IsMade wanted IsUnreadHelp help)
-    → IfOk result (IsMadeFor wanted held (Case names question) help)
-made_unread wanted held names question help (Err e) made = tt
-made_unread wanted held names question help (Ok told) made = elim made [
-  | inl none ↦ inl none
-  | inr helps ↦ inr (helps.0, helps.1, inr (inl helps.2))
-]
-
--- the same of a `mig`
-pub made_unread_of : {E : Type 0} (wanted : Bool) (held : Held) (files : MigFiles)
-    (help : Help) (result : Result Told E)
-    → IfOk result (IsMade wanted IsUnreadHelp help)
-    → IfOk result (IsMadeFor wanted held (Mig files) help)
-made_unread_of wanted held files help (Err e) made = tt
-made_unread_of wanted held files help (Ok told) made = elim made [
-  | inl none ↦ inl none
-  | inr helps ↦ inr (helps.0, helps.1, inr (inl helps.2))
-]
-
--- what helps with a MIG file that can't be cut
-pub made_uncut : {E : Type 0} (wanted : Bool) (held : Held) (files : MigFiles)
-    (help : Help) (result : Result Told E)
-    → IfOk result (IsMade wanted IsUncutHelp help)
-    → IfOk result (IsMadeFor wanted held (Mig files) help)
-made_uncut wanted held files help (Err e) made = tt
-made_uncut wanted held files help (Ok told) made = elim made [
-  | inl none ↦ inl none
-  | inr helps ↦ inr (helps.0, helps.1, inr (inr helps.2))
-]
-
 -- with a fault of files nothing goes to standard output, except a journal after which no task can
 -- go on
 files_silent : (rest : List ℕ) (question : Question) (files : Files) (told : Told)
@@ -270,13 +202,14 @@ word_silent Live told bad = absurd bad
 none_at_all : (text rest : List ℕ) → text ≡ [] → rest ≡ [] → text ++ rest ≡ []
 none_at_all text rest none also = ap (λ x. x ++ rest) none ∙ also
 
--- what goes to standard output with a fault of a command, without the object of the fault, if
--- nothing is printed behind it
-silent : (shows : Bool) (held : Held) (command : Command) (behind rest : List ℕ) (told : Told)
+-- what goes to standard output with a fault of a command that is answered for people, if nothing is
+-- printed behind it
+silent : (held : Held) (rest : List ℕ) (command : Command) (told : Told)
     → rest ≡ []
+    → asked_format command ≡ Text
     → FaultOf held rest command told
-    → IsOutOfFault shows held command behind rest told
-silent shows held (Case names question) behind rest told none fault =
+    → IsOutOfFault held rest command told
+silent held rest (Case names question) told none people fault =
     let quiet : string_bytes told.out ≡ [] → string_bytes told.out ++ rest ≡ [] =
     λ out. none_at_all (string_bytes told.out) rest out none in
     elim fault [
@@ -293,7 +226,7 @@ silent shows held (Case names question) behind rest told none fault =
             })
           ]
     ]
-silent shows held (Mig files) behind rest told none fault =
+silent held rest (Mig files) told none people fault =
     let quiet : string_bytes told.out ≡ [] → string_bytes told.out ++ rest ≡ [] =
     λ out. none_at_all (string_bytes told.out) rest out none in
     elim fault [
@@ -301,81 +234,23 @@ silent shows held (Mig files) behind rest told none fault =
       | inr (inl unread) ↦ inl (quiet unread.is.out)
       | inr (inr (inl texts)) ↦ elim texts.tells [
         | inl uncut ↦ inl (quiet uncut.out)
-        | inr (inl less) ↦ inr (inr (inl (
-          record {
-            texts = texts.texts;
-            are_held = texts.are_held;
-            tells = less;
-          },
-          none,
-        )))
+        | inr (inl less) ↦ inl (quiet (less.tells.out people))
         | inr (inr refused) ↦ inl (quiet refused.1.tells.tells.out)
       ]
       | inr (inr (inr same)) ↦ inl (quiet same.out)
     ]
 
 -- with the object of a fault another status than 2 is that of an answer which is not changed
-pub same_answer : (P : Told → Type 0) (status : ℕ) (format : Format) (word : List ℕ) (hint : Hint)
-    (told new : Told)
+pub same_answer : (P : Told → Type 0) (status : ℕ) (told new : Told)
     → status < 2
-    → (new ≡ told) ⊎ IsFaultObject format word hint told new
+    → new.status ≡ told.status
+    → (told.status ≢ 2 → new ≡ told)
     → (told.status ≡ status → P told)
     → new.status ≡ status
     → P new
-same_answer P status format word hint told new low (inl same) holds so =
-    subst P (sym same) (holds (ap (λ (t : Told). t.status) (sym same) ∙ so))
-same_answer P status format word hint told new low (inr object) holds so =
-    let two = object.status in absurd (omega arith)
-
--- with the object of a fault the status stays, and the line of the fault
-same_status : (format : Format) (word : List ℕ) (hint : Hint) (told new : Told)
-    → (new ≡ told) ⊎ IsFaultObject format word hint told new
-    → new.status ≡ told.status
-same_status format word hint told new (inl same) = ap (λ (t : Told). t.status) same
-same_status format word hint told new (inr object) = object.status ∙ sym object.fault
-
-same_err : (format : Format) (word : List ℕ) (hint : Hint) (told new : Told)
-    → (new ≡ told) ⊎ IsFaultObject format word hint told new
-    → string_bytes new.err ≡ string_bytes told.err
-same_err format word hint told new (inl same) = ap (λ (t : Told). string_bytes t.err) same
-same_err format word hint told new (inr object) = object.err
-
--- so the statuses are the same
-pub status_kept : (format : Format) (word : List ℕ) (hint : Hint) (told new : Told)
-    → (new ≡ told) ⊎ IsFaultObject format word hint told new
-    → told.status ≤ 2
-    → new.status ≤ 2
-status_kept format word hint told new is within =
-    let same = same_status format word hint told new is in omega arith
-
--- what helps with a fault of files helps with another text that has its line
-files_same : (held : Held) (command : Command) (told new : Told) (help : Help)
-    → string_bytes new.err ≡ string_bytes told.err
-    → HelpsWithFiles held command told help
-    → HelpsWithFiles held command new help
-files_same held (Case names question) told new help same helps = elim helps [
-  | inl unread ↦ inl (subst (λ line. IsUnreadHelp line help) (sym same) unread)
-  | inr files ↦ inr record {
-    texts = files.texts;
-    are_read = files.are_read;
-    tells = subst (λ line. IsHelp (is_live question)
-        record { names = names; texts = files.texts } line help) (sym same) files.tells;
-  }
-]
-files_same held (Mig files) told new help same helps = elim helps [
-  | inl unread ↦ inl (subst (λ line. IsUnreadHelp line help) (sym same) unread)
-  | inr uncut ↦ inr (subst (λ line. IsUncutHelp line help) (sym same) uncut)
-]
-
--- the same of what helps with a fault
-helps_same : (held : Held) (command : Command) (told new : Told) (help : Help)
-    → string_bytes new.err ≡ string_bytes told.err
-    → HelpsWith held command told help
-    → HelpsWith held command new help
-helps_same held command told new help same helps = elim helps [
-  | inl noted ↦ inl (subst (λ line. IsNoted line help) (sym same) noted)
-  | inr files ↦ inr (files_same held command told new help same files)
-]
+same_answer P status told new low same kept holds so =
+    let was = sym same ∙ so in
+    subst P (sym (kept (λ two. absurd (omega arith)))) (holds was)
 
 -- a journal after which no task can go on is for people
 halted_is_text : (held : Held) (rest : List ℕ) (command : Command) (told : Told)
@@ -396,82 +271,36 @@ halted_is_text held rest (Case names Replay) told halted = absurd halted.tells
 halted_is_text held rest (Case names Live) told halted = refl
 halted_is_text held rest (Mig files) told halted = absurd halted
 
--- the object of a fault is printed, with what helps with it
-object_told : (shows wanted : Bool) (held : Held) (command : Command) (format : Format)
-    (word behind : List ℕ) (help : Help) (told new : Told)
-    → format ≡ asked_format command
-    → word ≡ command_word command
-    → IsMadeFor wanted held command help told
-    → FaultOf held [] command told
-    → IsFaultObject format word help.hint told new
-    → (shows ≡ true → behind ≡ string_bytes help.text)
-    → ToldObject shows held command behind new
-object_told shows wanted held command format word behind help told new form named made fault
-    object text = record {
-      plain = told;
-      fault = fault;
-      line = object.err;
-      help = help;
-      helps = elim made [
-        | inl none ↦ inl none
-        | inr helps ↦ inr (helps_same held command told new help object.err helps.2)
-      ];
-      text = text;
-      out = object.out
-          ∙ ap (λ err. fault_object format word err help.hint) (sym object.err)
-          ∙ ap (λ f. fault_object f word (string_bytes new.err) help.hint) form
-          ∙ ap (λ w. fault_object (asked_format command) w (string_bytes new.err) help.hint) named;
-    }
+-- an answer is for people or for programs
+by_format : (format : Format) → (format ≡ Text) ⊎ IsForPrograms format
+by_format Text = inl refl
+by_format Json = inr (λ is. absurd cc)
+by_format Sarif = inr (λ is. absurd cc)
 
 -- what goes to standard output with status 2, once the object of the fault is there
-pub out_of_fault : (shows wanted : Bool) (held : Held) (command : Command) (format : Format)
-    (word behind rest : List ℕ) (help : Help) (told new : Told)
+pub out_of_fault : (held : Held) (rest : List ℕ) (command : Command) (format : Format)
+    (told new : Told)
     → format ≡ asked_format command
-    → word ≡ command_word command
-    → IsMadeFor wanted held command help told
     → (told.status ≡ 2 → FaultOf held rest command told)
     → (told.status ≡ 2 → (rest ≡ []) ⊎ HaltedOf held rest command told)
-    → (new ≡ told) ⊎ IsFaultObject format word help.hint told new
+    → new.status ≡ told.status
     → (format ≡ Text → new ≡ told)
-    → (shows ≡ true → behind ≡ string_bytes help.text)
     → new.status ≡ 2
-    → IsOutOfFault shows held command behind rest new
-out_of_fault shows wanted held command format word behind rest help told new form named made fault
-    may is people text two =
-    let was = sym (same_status format word help.hint told new is) ∙ two in
+    → IsOutOfFault held rest command new
+out_of_fault held rest command format told new form fault may same people two =
+    let was = sym same ∙ two in
+    let for_people : asked_format command ≡ Text → new ≡ told =
+    λ text. people (form ∙ text) in
     elim (may was) [
-      | inl none ↦ elim is [
-        | inl same ↦ subst (IsOutOfFault shows held command behind rest) (sym same)
-            (silent shows held command behind rest told none (fault was))
-        | inr object ↦ inr (inr (inr (
-          object_told shows wanted held command format word behind help told new form named made
-              (subst (λ r. FaultOf held r command told) none (fault was)) object text,
-          none,
-        )))
+      | inl none ↦ elim (by_format (asked_format command)) [
+        | inl text ↦ subst (IsOutOfFault held rest command) (sym (for_people text))
+            (silent held rest command told none text (fault was))
+        | inr programs ↦ inr (inr (programs, none))
       ]
       | inr halted ↦
-          let same = people (form ∙ halted_is_text held rest command told halted) in
-          inr (inl (subst (HaltedOf held rest command) (sym same) halted))
+          let text = halted_is_text held rest command told halted in
+          inr (inl (subst (HaltedOf held rest command) (sym (for_people text)) halted))
     ]
-
--- the same of the words that ask for the command
-pub out_of_words : {E : Type 0} (out err : Bool) (held : Held) (words : List (List ℕ))
-    (behind rest : List ℕ) (request : Request) (shows : Bool) (command : Command)
-    (result : Result Told E)
-    → Means words request
-    → shows ≡ (request.verbose || err)
-    → command ≡ seen out request.command
-    → IfOk result (λ told. told.status ≡ 2 → IsOutOfFault shows held command behind rest told)
-    → IfOk result (λ told. told.status ≡ 2 → (string_bytes told.out ++ rest ≡ [])
-    ⊎ IsOutOfWords out err held words behind rest told)
-out_of_words out err held words behind rest request shows command (Err e) means is so fault = tt
-out_of_words out err held words behind rest request shows command (Ok told) means is so fault =
-    λ two. inr (
-      request,
-      means,
-      subst (λ s. IsOutOfFault s held (seen out request.command) behind rest told) is
-          (subst (λ c. IsOutOfFault shows held c behind rest told) so (fault two)),
-    )
 
 -- a fault of which nothing goes to standard output
 pub no_text : {E : Type 0} (rest : List ℕ) (Other : Told → Type 0) (result : Result Told E)
@@ -492,31 +321,6 @@ no_command rest words Other told none is two = elim is [
   | inl help ↦ let nought = help.0 in absurd (omega (arith, nought, two))
   | inr fault ↦ inl (none_at_all (string_bytes told.out) rest fault.1 none)
 ]
-
--- what is printed behind a fault of what helps with it, if that is shown
-pub behind_shown : (shows wanted : Bool) (held : Held) (command : Command) (format : Format)
-    (word : List ℕ) (help : Help) (told new : Told) (text : List ℕ)
-    → IsMadeFor wanted held command help told
-    → (new ≡ told) ⊎ IsFaultObject format word help.hint told new
-    → (shows ≡ true → text ≡ string_bytes help.text)
-    → (shows ≡ false → text ≡ [])
-    → IsBehind shows held command text new
-behind_shown false wanted held command format word help told new text made is shown none =
-    inl (none refl)
-behind_shown true wanted held command format word help told new text made is shown none =
-    elim made [
-      | inl nothing ↦ inl (shown refl ∙ nothing.text)
-      | inr helps ↦ inr (
-        refl,
-        same_status format word help.hint told new is ∙ helps.1,
-        (
-          help,
-          helps_same held command told new help (same_err format word help.hint told new is)
-              helps.2,
-          shown refl,
-        ),
-      )
-    ]
 
 -- what is printed of the first file that can't be read, among all that may be printed with status 2
 pub unread_of_files : {E : Type 0} (rest : List ℕ) (question : Question) (held : Held)
@@ -564,23 +368,6 @@ pub of_seen : {E : Type 0} (watched : Bool) (words : List (List ℕ))
 of_seen watched words Tells status request command (Ok told) means is tells = λ so.
     (request, means, subst (λ c. Tells c told) is (tells so))
 of_seen watched words Tells status request command (Err e) means is tells = tt
-
--- what is printed behind the answer to the command that words ask for
-pub behind_seen : {E : Type 0} (out err : Bool) (held : Held) (words : List (List ℕ))
-    (text : List ℕ) (request : Request) (shows : Bool) (command : Command) (result : Result Told E)
-    → Means words request
-    → shows ≡ (request.verbose || err)
-    → command ≡ seen out request.command
-    → IfOk result (IsBehind shows held command text)
-    → IfOk result (IsBehindWords out err held words text)
-behind_seen out err held words text request shows command (Err e) means is so behind = tt
-behind_seen out err held words text request shows command (Ok told) means is so behind =
-    inr (
-      request,
-      means,
-      subst (λ s. IsBehind s held (seen out request.command) text told) is
-          (subst (λ c. IsBehind shows held c text told) so behind),
-    )
 
 -- what is printed of a command goes out
 pub went_out : (watched : Bool) (words : List (List ℕ)) (Tells : List ℕ → Command → Told → Type 0)

@@ -36,7 +36,7 @@ no_texts texts meant says none =
     (claim_meant texts.defs texts.wiring (given texts.policy) meant says) none
 
 pub allowed_safe : AllowedIsSafe
-allowed_safe command format files told allowed =
+allowed_safe format files told allowed =
     safe_texts files.texts allowed.meant allowed.says allowed.yes
 
 pub broken_no : BrokenHasNoYes

@@ -1,37 +1,40 @@
 -- What is printed of files that have a meaning: notices, a yes, and what is exposed and broken.
-use Rattle.std.proofs.Common.{◌≡◌, ◌⊎◌, ◌∙◌, ◌++◌, ℕ, List, Result, Ok, Err, ap, subst, sym}
-use Rattle.std.proofs.Common.{Option, inl, true, string_bytes}
+use Rattle.std.proofs.Common.{◌≡◌, ◌==◌, ◌⊎◌, ◌∙◌, ◌++◌, ℕ, List, [], ◌∷◌, Result, Ok, Err, ap, subst}
+use Rattle.std.proofs.Common.{Option, Some, None, inl, true, false, map, refl, string_bytes, sym}
 use Rattle.std.specs.Prelude.{IfOk, IfSome}
 use Rattle.std.specs.List.{All}
 use Rattle.mrc_base.specs.declared.Fact.{Fact}
+use Rattle.mrc_base.proofs.Lists.{any_map}
 use Rattle.mrc_base.proofs.Steps.{ok_is}
 use Rattle.mrc_facts.specs.Sets.{has}
 use Rattle.mrc_model.specs.Rules.{IsLeast}
 use Rattle.mrc_forms.specs.Tables.{Table as Interface}
+use Rattle.mrc_wiring.specs.declared.claim.ForbiddenLine.{ForbiddenLine}
 use Rattle.mrc_wiring.specs.Table.{Table, wiring_of}
 use Rattle.mrc_wiring.specs.Claims.{Claimed}
 use Rattle.mrc_check.specs.Texts.{Stated, stated_of}
 use Rattle.mrc_why.specs.Broken.{BrokenLine, AreBroken, IsDerived, HasYes, HasNoYes}
-use Rattle.mrc_why.specs.Broken.{ExposedTask, IsExposedOf, IsReached}
+use Rattle.mrc_why.specs.Broken.{ExposedTask, IsExposedOf, IsReached, is_yes, line_of}
 use Rattle.mrc_why.proofs.Verdicts.{least_one}
 use Rattle.mrc_mend.specs.declared.answers.Answer.{Answer}
+use Rattle.mrc_mend.specs.Texts.{mends_text}
 use Rattle.mrc_mend.specs.Judging.{IsNeededOf, IsMend, AreAnswered, AreAtMost}
+use Rattle.mrc_print.specs.Heads.{HasNo, IsAsked}
 use Rattle.mrc_command.specs.declared.command.FileNames.{FileNames}
 use Rattle.mrc_command.specs.declared.command.Format.{Format}
 use Rattle.mrc_command.specs.declared.command.Showing.{Showing}
 use Rattle.mrc_command.specs.declared.told.Told.{Told}
-use Rattle.mrc_program.specs.Asked.{IsBrokenAt}
+use Rattle.mrc_program.specs.Asked.{IsBrokenAt, has_number}
 use Rattle.mrc_program.specs.Checked.{IsYesWith}
-use Rattle.mrc_program.specs.Explained.{numbered_by}
 use Rattle.mrc_program.specs.Files.{Files, given, word_of}
-use Rattle.mrc_program.specs.Formats.{mends_out}
+use Rattle.mrc_program.specs.Formats.{InText}
 use Rattle.mrc_program.specs.Notices.{notice}
 use Rattle.mrc_program.specs.LeftNotices.{left_notices}
 use Rattle.mrc_program.specs.PolicyNotices.{policy_notices}
 use Rattle.mrc_program.specs.Texts.{stated}
 use Rattle.mrc_program.specs.Told.{ToldMemory}
 use Rattle.mrc_program.specs.Verified.{AreNotices, ToldAllowed, ToldBroken, ToldMends}
-use Rattle.mrc_program.specs.Verified.{IsBrokenOut, mend_status, notes_of}
+use Rattle.mrc_program.specs.Verified.{mend_status, notes_of}
 
 -- the notices are those of their three parts, the last of which is by the least set
 pub all_notices : (files : Files) (claim : Claimed) (facts : List Fact) (names : FileNames)
@@ -75,34 +78,48 @@ all_notices files claim facts names defs shown table file bytes left asked polic
     ++ (notice files.names claim.table.interfaces ++ z)) third))
 
 -- a yes that is printed of texts whose least set is one
-pub allowed_told : {E : Type 0} (command : List ℕ) (format : Format) (files : Files)
-    (names : FileNames) (meant : Stated) (notices : List ℕ) (table : Table) (result : Result Told E)
+pub allowed_told : {E : Type 0} (format : Format) (files : Files) (names : FileNames)
+    (meant : Stated) (notices : List ℕ) (table : Table) (result : Result Told E)
     → stated files.texts ≡ Ok meant
     → HasYes meant.claim
     → AreNotices files meant.claim notices
     → names ≡ files.names
     → table ≡ meant.claim.table
-    → IfOk result (IsYesWith command format names notices table)
-    → IfOk result (λ told. told.status ≡ 0 → ToldAllowed command format files told)
-allowed_told command format files names meant notices table (Ok told) says has_yes noted named is
+    → IfOk result (IsYesWith format names notices table)
+    → IfOk result (λ told. told.status ≡ 0 → ToldAllowed format files told)
+allowed_told format files names meant notices table (Ok told) says has_yes noted named is
     printed = λ zero. record {
       meant = meant;
       says = says;
       yes = has_yes;
       notices = notices;
       are_notices = noted;
-      is = subst (λ n. IsYesWith command format n notices meant.claim.table told) named
-          (subst (λ t. IsYesWith command format names notices t told) is printed);
+      is = subst (λ n. IsYesWith format n notices meant.claim.table told) named
+          (subst (λ t. IsYesWith format names notices t told) is printed);
     }
-allowed_told command format files names meant notices table (Err e) says has_yes noted named is
+allowed_told format files names meant notices table (Err e) says has_yes noted named is
     printed = tt
 
+-- all that is objected to is asked for, if no line is
+pub asked_all : (exposed : Option ExposedTask) (broken : List BrokenLine)
+    → is_yes exposed broken ≡ false
+    → IsAsked None exposed broken
+asked_all (Some x) broken no = refl
+asked_all None [] no = absurd cc
+asked_all None (b ∷ broken) no = refl
+
+-- and a line is, if it has the number that is
+pub asked_one : (exposed : Option ExposedTask) (broken : List BrokenLine) (n : ℕ)
+    → has_number (map line_of broken) n ≡ true
+    → IsAsked (Some n) exposed broken
+asked_one exposed broken n has =
+    sym (any_map (λ (line : ForbiddenLine). line.line == n) line_of broken) ∙ has
+
 -- what is printed of a no is right, of all or of the line that is asked for
-pub broken_so : {E : Type 0} (showing : Showing) (only : Option ℕ) (files : Files)
-    (meant other : Stated) (exposed : Option ExposedTask) (broken : List BrokenLine)
-    (notices : List ℕ) (result : Result Told E)
+pub broken_so : {E : Type 0} (showing : Showing) (files : Files) (meant : Stated)
+    (exposed : Option ExposedTask) (broken : List BrokenLine) (notices : List ℕ)
+    (result : Result Told E)
     → stated files.texts ≡ Ok meant
-    → meant ≡ other
     → IsExposedOf meant.claim exposed
     → IfSome exposed (IsReached meant.claim.table)
     → AreBroken meant.claim broken
@@ -110,13 +127,11 @@ pub broken_so : {E : Type 0} (showing : Showing) (only : Option ℕ) (files : Fi
     → HasNoYes meant.claim
     → IfSome showing.line (λ n. IsBrokenAt meant.claim n true)
     → AreNotices files meant.claim notices
-    → only ≡ showing.line
-    → IfOk result (λ told. IsBrokenOut showing.format showing files only
-    (numbered_by other.claim.table other.lines) exposed broken notices (string_bytes told.out))
+    → IfOk result (λ told. InText showing.format (HasNo (string_bytes told.out)))
     → IfOk result (λ told. string_bytes told.err ≡ notices)
     → IfOk result (λ told. told.status ≡ 1 → ToldBroken showing files told)
-broken_so showing only files meant other exposed broken notices (Ok told) says seen first reached
-    are chains none asked noted same out err = λ one. record {
+broken_so showing files meant exposed broken notices (Ok told) says first reached are chains none
+    asked noted out err = λ one. record {
       meant = meant;
       says = says;
       exposed = exposed;
@@ -127,17 +142,11 @@ broken_so showing only files meant other exposed broken notices (Ok told) says s
       chains = chains;
       no = none;
       asked = asked;
-      out = subst (λ n. IsBrokenOut showing.format showing files showing.line
-          (numbered_by meant.claim.table meant.lines) exposed broken n (string_bytes told.out))
-          (sym err) (subst (λ (m : Stated). IsBrokenOut showing.format showing files showing.line
-          (numbered_by m.claim.table m.lines) exposed broken notices (string_bytes told.out))
-          (sym seen) (subst (λ o. IsBrokenOut showing.format showing files o
-          (numbered_by other.claim.table other.lines) exposed broken notices
-          (string_bytes told.out)) same out));
+      out = out;
       err = subst (AreNotices files meant.claim) (sym err) noted;
     }
-broken_so showing only files meant other exposed broken notices (Err e) says seen first reached
-    are chains none asked noted same out err = tt
+broken_so showing files meant exposed broken notices (Err e) says first reached are chains none
+    asked noted out err = tt
 
 -- a claim does not both have a yes and have none
 pub no_both : {A : Type 0} (one other : Stated) → one ≡ other
@@ -180,7 +189,7 @@ pub mends_told : {E : Type 0} (most : ℕ) (format : Format) (files : Files)
     → AreAtMost most answer
     → IsNeededOf (stated_of defs wiring policy) answer
     → IfOk result (λ told. told.status ≡ mend_status answer)
-    → IfOk result (λ told. string_bytes told.out ≡ mends_out format shown answer)
+    → IfOk result (λ told. InText format (string_bytes told.out ≡ mends_text shown answer))
     → IfOk result (λ told. string_bytes told.err ≡ notes_of answer)
     → IfOk result (ToldMends most format files)
 mends_told most format files defs wiring policy shown answer (Ok told) d w p s right within needed
@@ -197,7 +206,7 @@ mends_told most format files defs wiring policy shown answer (Ok told) d w p s r
           (subst (λ x. AreAnswered (IsMend defs x old) answer) w
           (subst (λ x. AreAnswered (IsMend defs wiring x) answer) p right));
       status = status;
-      out = out ∙ ap (λ x. mends_out format x answer) s;
+      out = λ text. out text ∙ ap (λ x. mends_text x answer) s;
       err = err;
     }
 mends_told most format files defs wiring policy shown answer (Err e) d w p s right within needed

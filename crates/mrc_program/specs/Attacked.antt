@@ -7,10 +7,10 @@ use Rattle.mrc_wiring.specs.Table.{Table}
 use Rattle.mrc_check.specs.Texts.{Stated}
 use Rattle.mrc_why.specs.Broken.{BrokenLine, AreBroken, HasNoYes}
 use Rattle.mrc_why.specs.Broken.{ExposedTask, IsExposedOf}
-use Rattle.mrc_leak.specs.declared.attacking.Attack.{Attack}
-use Rattle.mrc_leak.specs.declared.printing.Form.{Form}
-use Rattle.mrc_leak.specs.declared.printing.Form.TheVariants.{Listed, Script}
-use Rattle.mrc_leak.specs.Attacks.{IsAttack, aim_of, aims, attacks_text, cut_text}
+use Rattle.mrc_attack.specs.declared.attacking.Attack.{Attack}
+use Rattle.mrc_attack.specs.declared.printing.Form.{Form}
+use Rattle.mrc_attack.specs.declared.printing.Form.TheVariants.{Listed, Script}
+use Rattle.mrc_attack.specs.Attacks.{IsAttack, aim_of, aims, attacks_text, cut_text}
 use Rattle.mrc_command.specs.declared.command.Format.TheVariants as formats
 use Rattle.mrc_command.specs.declared.told.Told.{Told}
 use Rattle.mrc_program.specs.Asked.{IsBrokenAt}
@@ -38,7 +38,7 @@ pub record AreFound (line : Option ℕ) (table : Table) (exposed : Option Expose
 -- `YES` is printed, and no line is asked for
 pub record ToldUnattacked (line : Option ℕ) (files : Files) (told : Told) : Type 0 where
   pub none : line ≡ None
-  pub allowed : ToldAllowed (codes "attack") formats.Text files told
+  pub allowed : ToldAllowed formats.Text files told
 
 -- Attacks are printed: on the first trusted task that another could rewrite, and on the lines of
 -- the policy that are broken; or on the line that is asked for, which is one of these. No set of

@@ -16,11 +16,9 @@ use Rattle.mrc_check.specs.Verdict.{Case, IsWhy}
 use Rattle.mrc_words.specs.Words.{◌␣◌, fact_text}
 use Rattle.mrc_command.specs.declared.command.FileNames.{FileNames}
 use Rattle.mrc_command.specs.declared.command.Format.{Format}
-use Rattle.mrc_command.specs.declared.command.Format.TheVariants.{Text, Json, Sarif}
 use Rattle.mrc_command.specs.declared.told.Told.{Told}
-use Rattle.mrc_json.specs.Answers.{reason_json}
 use Rattle.mrc_program.specs.Files.{Files}
-use Rattle.mrc_program.specs.Formats.{yes_out}
+use Rattle.mrc_program.specs.Formats.{InText}
 use Rattle.mrc_program.specs.Texts.{AreAccepted, case, file_of}
 use Rattle.mrc_program.specs.Told.{ToldMemory, ToldFile}
 use Rattle.mrc_program.specs.LeftNotices.{left_notices}
@@ -35,12 +33,6 @@ why_line table (NotClosed rule fact) =
 why_line table (Trusted number fact) =
     codes "NO trusted line " ++ (decimal number ␣ fact_text table fact ++ codes "\n")
 why_line table (Forbidden number) = codes "NO forbidden line " ++ (decimal number ++ codes "\n")
-
--- what goes to standard output of a reason, with what goes to standard error: SARIF is text
-abbrev pub why_out : Format → Table → Why → (notices : List ℕ) → List ℕ
-why_out Text table why notices = why_line table why
-why_out Json table why notices = reason_json table why notices
-why_out Sarif table why notices = why_line table why
 
 -- that the certificate is of another wiring
 abbrev pub stale_line : List ℕ
@@ -61,29 +53,28 @@ stale_note true (Forbidden number) = []
 abbrev pub notices_of : Files → List ℕ
 notices_of files = left_notices files.names files.texts.defs
 
--- the yes of a command is printed in this format, and these notices, and then which tasks the
--- wiring trusts
-pub record IsYesWith (command : List ℕ) (format : Format) (names : FileNames) (notices : List ℕ)
-    (table : Table) (told : Told) : Type 0 where
-  pub out : string_bytes told.out ≡ yes_out format command (string_bytes told.err)
+-- a yes is printed, as text `YES`, and these notices, and then which tasks the wiring trusts
+pub record IsYesWith (format : Format) (names : FileNames) (notices : List ℕ) (table : Table)
+    (told : Told) : Type 0 where
+  pub out : InText format (string_bytes told.out ≡ codes "YES\n")
   pub err : string_bytes told.err ≡ notices ++ trusted_notice names table
 
 -- a yes is printed, and it is right: the checker accepts the texts
 pub record ToldYes (format : Format) (files : Files) (told : Told) : Type 0 where
   pub judged : Case
   pub says : AreAccepted files.texts judged
-  pub is : IsYesWith (codes "check") format files.names (notices_of files) judged.claim.table told
+  pub is : IsYesWith format files.names (notices_of files) judged.claim.table told
 
 -- a no is printed, and it is right: each text has a meaning, together they are a case for the
--- checker, and the reason that is printed is the one by which the checker refuses the case; and
--- these notices
+-- checker, and the reason that is printed, as text in a line, is the one by which the checker
+-- refuses the case; and these notices
 pub record ToldNo (notices : List ℕ) (verbose : Bool) (format : Format) (files : Files)
     (told : Told) : Type 0 where
   pub judged : Case
   pub says : case files.texts ≡ Ok judged
   pub why : Why
   pub is_why : IsWhy judged.claim judged.draft why
-  pub out : string_bytes told.out ≡ why_out format judged.claim.table why (string_bytes told.err)
+  pub out : InText format (string_bytes told.out ≡ why_line judged.claim.table why)
   pub err : string_bytes told.err ≡ notices ++ stale_note verbose why
 
 -- what is printed of texts that are not accepted, by why: a reason, the file of the first that has

@@ -1,6 +1,6 @@
 -- What the program prints of a command, by its status: 0 of what was asked for, 1 of a no, 2 of a
 -- fault; and what it is asked for at a terminal. This profile's own choice.
-use Rattle.std.specs.Prelude.{◌≡◌, ◌⊎◌, List, [], ◌++◌, ℕ, Bool, Option, false, ◌||◌, codes}
+use Rattle.std.specs.Prelude.{◌≡◌, ◌⊎◌, List, [], ◌++◌, ℕ, Bool, Option, false, ◌||◌}
 use Rattle.std.specs.Prelude.{string_bytes}
 use Rattle.std.specs.Io.KnownBytes.{Appends}
 use Rattle.mrc_command.specs.declared.told.Told.{Told}
@@ -21,11 +21,10 @@ use Rattle.mrc_program.specs.Checked.{ToldYes, ToldNo, notices_of}
 use Rattle.mrc_program.specs.Verified.{ToldAllowed, ToldBroken, ToldMends, ToldMost}
 use Rattle.mrc_program.specs.Attacked.{ToldUnattacked, ToldAttacks, ToldNotBroken, ToldLine}
 use Rattle.mrc_program.specs.Made.{ToldMade, ToldUnmade, ToldCut}
+use Rattle.mrc_program.specs.Meant.{ToldSystem}
 use Rattle.mrc_program.specs.Explained.{ToldChain, ToldNone, ToldBadFact}
 use Rattle.mrc_program.specs.Listed.{ToldFacts, ToldOther, ToldUnlisted}
 use Rattle.mrc_program.specs.Listed.{ToldGraph, ToldUndrawn, ToldNoGraph}
-use Rattle.mrc_program.specs.SlotLines.{ToldSlots}
-use Rattle.mrc_program.specs.Promised.{ToldPromises}
 use Rattle.mrc_program.specs.Played.{scripted, ToldReplay, ToldLive, ToldUnserved, ToldHalted}
 use Rattle.mrc_program.specs.Cutting.{CutsOfFiles, RefusedOfFiles, FaultOfMig}
 
@@ -34,18 +33,18 @@ use Rattle.mrc_program.specs.Cutting.{CutsOfFiles, RefusedOfFiles, FaultOfMig}
 -- is printed behind the text of a replay or of a journal, as it is made.
 abbrev pub Done : Held → List ℕ → Question → Files → Told → Type 0
 Done after rest (Verify showing) files told =
-    ToldAllowed (codes "verify") showing.format files told
+    ToldAllowed showing.format files told
 Done after rest (Mend most format) files told = ToldMends most format files told
 Done after rest (Attack line most) files told = ToldUnattacked line files told
 Done after rest (Check verbose format) files told = ToldYes format files told
 Done after rest (Make out workers) files told = ToldMade out.now after files told
-Done after rest (Explain fact by format) files told = ToldChain fact.now by format files told
+Done after rest (Explain fact by format) files told = ToldChain fact.now files told
 Done after rest (Facts task class right format) files told =
-    ToldFacts (word_of task) (word_of class) (word_of right) format files told
+    ToldFacts (word_of task) (word_of class) (word_of right) files told
 Done after rest (Graph fact task holds) files told =
-    ToldGraph (word_of fact) (word_of task) holds files told
-Done after rest Slots files told = ToldSlots files told
-Done after rest Promises files told = ToldPromises files told
+    ToldGraph (word_of fact) (word_of task) files told
+Done after rest Slots files told = ToldSystem files told
+Done after rest Promises files told = ToldSystem files told
 Done after rest Replay files told = ToldReplay rest files told
 Done after rest Live files told = ToldLive rest files told
 

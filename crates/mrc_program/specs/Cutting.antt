@@ -1,32 +1,26 @@
--- What the program tells of MIG files that are cut, and which files it writes. This profile's own
--- choice.
+-- What MIG files are cut to, which files are written, and what is printed of those that can't be
+-- cut or written. This profile's own choice.
 use Rattle.std.specs.Prelude.{◌≡◌, ◌≤◌, ◌⊎◌, ℕ, ◌+◌, Bool, true, false, not, ◌&&◌, ◌||◌, List, []}
-use Rattle.std.specs.Prelude.{◌∷◌, ◌++◌, ◌==◌}
-use Rattle.std.specs.Prelude.{Option, Some, None, map, length, codes, decimal, string_bytes}
-use Rattle.std.specs.Prelude.{nat_lt, bytes_eq, if◌then◌else◌}
+use Rattle.std.specs.Prelude.{◌∷◌, ◌++◌, Option, Some, None, map, length, codes, decimal}
+use Rattle.std.specs.Prelude.{string_bytes, nat_lt, bytes_eq, if◌then◌else◌}
 use Rattle.std.specs.List.{AllZip, list_any, count_by}
 use Rattle.mrc_base.specs.declared.memory.OrMemory.{OrMemory}
 use Rattle.mrc_base.specs.declared.memory.OrMemory.TheVariants.{Fault, Memory}
 use Rattle.mrc_forms.specs.Tables.{Table}
 use Rattle.mrc_interface.specs.Reading.{IsInterface}
 use Rattle.mrc_mig_cut.specs.declared.cutting.CutFile.{CutFile}
-use Rattle.mrc_mig_cut.specs.declared.routine.LeftOut.{LeftOut}
-use Rattle.mrc_mig_cut.specs.declared.carried.Carried.{Carried}
-use Rattle.mrc_mig_cut.specs.Carrying.{carried_text, carries, carrying, carriers}
+use Rattle.mrc_mig_cut.specs.Carrying.{carries, carrying, carriers}
 use Rattle.mrc_mig_cut.specs.Cuts.{IsCut}
 use Rattle.mrc_files.specs.declared.streams.WriteFault.{WriteFault}
 use Rattle.mrc_files.specs.Files.{Held, HasBytes, AreHeld, IsLeftBy}
 use Rattle.mrc_files.specs.Paths.{name}
 use Rattle.mrc_command.specs.declared.told.Told.{Told}
-use Rattle.mrc_command.specs.declared.command.Format.{Format}
-use Rattle.mrc_command.specs.declared.command.Format.TheVariants.{Json}
 use Rattle.mrc_command.specs.declared.command.MigFiles.{MigFiles}
 use Rattle.mrc_command.specs.declared.command.Strictness.{Strictness}
 use Rattle.mrc_command.specs.declared.command.Strictness.TheVariants.{None as Each, Rights, All}
 use Rattle.mrc_command.specs.Lines.{fault_line, memory_line, shown}
-use Rattle.mrc_json.specs.declared.cuts.NamedCut.{NamedCut}
-use Rattle.mrc_json.specs.Answers.{cuts_json}
-use Rattle.mrc_program.specs.LeftNotices.{carriers_text}
+use Rattle.mrc_print.specs.declared.json_cuts.NamedCut.{NamedCut}
+use Rattle.mrc_program.specs.Formats.{InText}
 use Rattle.mrc_program.specs.Told.{ToldMemory, ToldUnread, IsFaultOf}
 
 -- the files of a `mig`, in the order in which they are read
@@ -49,7 +43,7 @@ same_name_behind earlier (file ∷ files) =
 abbrev pub same_name : List (List ℕ) → Option (List ℕ)
 same_name files = same_name_behind [] files
 
--- What is told of what texts are cut to.
+-- What texts are cut to.
 
 -- What a text is cut to: a MIG file with so many routines, none of them at the id of one that is
 -- left out, that names exactly the routines that carry rights and are left out, or were before; and
@@ -66,80 +60,9 @@ pub record AreCuts (names texts : List (List ℕ)) (cuts : List NamedCut) : Type
   pub named : map (λ cut. cut.file.now) cuts ≡ names
   pub cut : AllZip (λ text cut. IsCutTo text cut.cut) texts cuts
 
--- what a routine carries: `, carries ARGUMENT (TYPE), ARGUMENT (TYPE)`, or nothing
-abbrev pub carries_text : List Carried → List ℕ
-carries_text [] = []
-carries_text (carried ∷ others) = codes ", carries " ++ carried_text (carried ∷ others)
-
--- the word for which a routine is left out, and what it carries
-unfoldable pub reason_text : LeftOut → List ℕ
-reason_text left = string_bytes left.word ++ carries_text left.carried.items
-
--- a routine with its id: `routine NAME (id N)`
-unfoldable pub routine_text : LeftOut → List ℕ
-routine_text left = codes "routine " ++ (string_bytes left.name ++ (codes " (id "
-    ++ (decimal left.id ++ codes ")")))
-
--- a routine that is left out: `routine NAME (id N) left out: WORD`, and what it carries
-abbrev pub left_text : LeftOut → List ℕ
-left_text left = routine_text left ++ (codes " left out: " ++ reason_text left)
-
--- its line: `FILE:LINE: routine NAME (id N) left out: WORD`, and what it carries
-abbrev pub left_line : List ℕ → LeftOut → List ℕ
-left_line file left =
-    file ++ (codes ":" ++ (decimal left.line ++ (codes ": " ++ (left_text left ++ codes "\n"))))
-
--- the lines of those that are left out of a file
-abbrev pub left_lines : List ℕ → List LeftOut → List ℕ
-left_lines file [] = []
-left_lines file (left ∷ rest) = left_line file left ++ left_lines file rest
-
--- the line of the routines that carry rights and were left out before, as the file itself says:
--- `FILE: N routines that carry rights are not in the model: NAME, NAME`; none, if there are none
-abbrev pub before_text : List ℕ → List (List ℕ) → List ℕ
-before_text file [] = []
-before_text file (name ∷ names) =
-    file ++ (codes ": " ++ (carriers_text (name ∷ names) ++ codes "\n"))
-
 -- how many of the routines that are left out of a file carry rights
 abbrev pub carrying_count : CutFile → ℕ
 carrying_count cut = count_by carries cut.left_out.items
-
--- the words behind that number
-abbrev pub carrying_words : ℕ → List ℕ
-carrying_words count =
-    if count == 1 then codes " of those left out carries rights"
-    else codes " of those left out carry rights"
-
--- that number with its words: nothing of 0
-abbrev pub carrying_text : ℕ → List ℕ
-carrying_text count =
-    if count == 0 then [] else codes ", " ++ (decimal count ++ carrying_words count)
-
--- how many routines are read of a file: `R of T routines read`, and behind it `, N of those left
--- out carry rights`, if there are such
-unfoldable pub count_text : CutFile → List ℕ
-count_text cut = decimal cut.read ++ (codes " of "
-    ++ (decimal (cut.read + length cut.left_out.items) ++ (codes " routines read"
-    ++ carrying_text (carrying_count cut))))
-
--- its line
-unfoldable pub count_line : List ℕ → CutFile → List ℕ
-count_line file cut = file ++ (codes ": " ++ (count_text cut ++ codes "\n"))
-
--- what is told of a file, by its name as it is shown
-unfoldable pub shown_text : List ℕ → CutFile → List ℕ
-shown_text file cut = left_lines file cut.left_out.items
-    ++ (before_text file (map string_bytes cut.before.items) ++ count_line file cut)
-
--- what is told of a file
-abbrev pub cut_text : NamedCut → List ℕ
-cut_text cut = shown_text (shown cut.file.now) cut.cut
-
--- what is told of the files
-abbrev pub cuts_text : List NamedCut → List ℕ
-cuts_text [] = []
-cuts_text (cut ∷ cuts) = cut_text cut ++ cuts_text cuts
 
 -- whether a routine is read of it
 abbrev pub has_routine : NamedCut → Bool
@@ -198,60 +121,47 @@ IsStopped before (writing ∷ rest) after path refusal =
     ⊎ ((next : Held) × HasBytes next writing.path writing.bytes
     × IsStopped next rest after path refusal)
 
--- the line that tells a refused writing. Want of memory is no file's fault
+-- the line of a refused writing. Out of memory is no file's fault
 abbrev pub refusal_line : List ℕ → OrMemory WriteFault → List ℕ
 refusal_line path (Fault fault) = fault_line path (codes "WriteFailed " ++ decimal fault.written)
 refusal_line path Memory = memory_line
 
--- a text of this length has room for the line that tells a refused writing of the file
+-- a text of this length has room for the line of a refused writing of the file
 abbrev pub HasRoom : ℕ → ℕ → Writing → Type 0
 HasRoom len capacity writing = len + (length (shown writing.path) + 66) ≤ capacity
 
--- the files were written, and these texts are printed: the first on standard output, the second on
--- standard error
-pub record ToldWritings (before after : Held) (writings : List Writing) (first second : List ℕ)
-    (told : Told) : Type 0 where
-  pub written : AreWritten before writings after
-  pub out : string_bytes told.out ≡ first
-  pub err : string_bytes told.err ≡ second
-
--- the writing of one of the files was refused, and its line is told behind this text
-pub record ToldRefusal (before after : Held) (writings : List Writing) (text : List ℕ)
-    (told : Told) : Type 0 where
+-- the writing of one of the files was refused, and its line is the last that is printed
+pub record ToldRefusal (before after : Held) (writings : List Writing) (told : Told)
+    : Type 0 where
   pub path : List ℕ
   pub refusal : OrMemory WriteFault
   pub stopped : IsStopped before writings after path refusal
   pub status : told.status ≡ 2
   pub out : string_bytes told.out ≡ []
-  pub err : string_bytes told.err ≡ text ++ refusal_line path refusal
+  pub lists : List ℕ
+  pub err : string_bytes told.err ≡ lists ++ refusal_line path refusal
 
--- What is told of files.
+-- What is printed of files.
 
--- what goes to standard output of what texts are cut to: an object, if the answer is for programs
-abbrev pub cuts_out : Format → Bool → List NamedCut → List ℕ
-cuts_out Json written cuts = cuts_json written cuts
-cuts_out format written cuts = []
-
--- what texts are cut to was written
+-- what texts are cut to was written: as text nothing goes to standard output
 pub record CutsWritten (files : MigFiles) (before after : Held) (cuts : List NamedCut)
     (told : Told) : Type 0 where
   pub enough : are_written files.strict cuts ≡ true
-  pub tells : ToldWritings before after (map (writing_of files.out.now) cuts)
-      (cuts_out files.format true cuts) (cuts_text cuts) told
+  pub written : AreWritten before (map (writing_of files.out.now) cuts) after
+  pub out : InText files.format (string_bytes told.out ≡ [])
 
 -- too little is read of what texts are cut to: nothing is written
 pub record CutsLess (files : MigFiles) (cuts : List NamedCut) (told : Told) : Type 0 where
   pub less : are_written files.strict cuts ≡ false
-  pub out : string_bytes told.out ≡ cuts_out files.format false cuts
-  pub err : string_bytes told.err ≡ cuts_text cuts
+  pub out : InText files.format (string_bytes told.out ≡ [])
 
 -- what texts are cut to was written, up to a file that was refused
 pub record CutsRefused (files : MigFiles) (before after : Held) (cuts : List NamedCut)
     (told : Told) : Type 0 where
   pub enough : are_written files.strict cuts ≡ true
-  pub tells : ToldRefusal before after (map (writing_of files.out.now) cuts) (cuts_text cuts) told
+  pub tells : ToldRefusal before after (map (writing_of files.out.now) cuts) told
 
--- what is told of texts by what they are cut to
+-- this is printed of texts by what they are cut to
 pub record OfCuts (Tells : List NamedCut → Told → Type 0) (files : MigFiles)
     (texts : List (List ℕ)) (told : Told) : Type 0 where
   pub cuts : List NamedCut
@@ -307,14 +217,14 @@ abbrev pub RefusedOfFiles : Held → Held → MigFiles → Told → Type 0
 RefusedOfFiles before after files told =
     OfTexts (OfCuts (CutsRefused files before after) files) before files told
 
--- why status 2 is told of texts: one can't be cut, too little is read of them, or the writing of
+-- why the status is 2: one can't be cut, too little is read of them, or the writing of
 -- one was refused
 abbrev pub ToldNoCuts : MigFiles → Held → List (List ℕ) → Told → Type 0
 ToldNoCuts files before texts told = ToldUncut files texts told
     ⊎ (OfCuts (CutsLess files) files texts told
     ⊎ ((after : Held) × OfCuts (CutsRefused files before after) files texts told))
 
--- why status 2 is told of the files of a `mig`: memory ran out, one can't be read, no files were
+-- why the status of a `mig` is 2: memory ran out, one can't be read, no files were
 -- written of what they hold, or two have one name
 abbrev pub FaultOfMig : Held → MigFiles → Told → Type 0
 FaultOfMig held files told = ToldMemory told

@@ -1,8 +1,8 @@
 pub mod Files
 pub mod Texts
 pub mod Told
-pub mod Hints
 pub mod Formats
+pub mod Meant
 pub mod Checked
 pub mod Made
 pub mod Played
@@ -13,14 +13,10 @@ pub mod PolicyNotices
 pub mod Trusted
 pub mod Explained
 pub mod Listed
-pub mod SlotLines
-pub mod Promised
 pub mod Verified
 pub mod Asked
 pub mod Attacked
 pub mod VerifiedLaws
 pub mod Cutting
 pub mod Commands
-pub mod Places
-pub mod Behind
-pub mod FaultObjects
+pub mod Fronts

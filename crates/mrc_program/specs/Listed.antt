@@ -1,13 +1,12 @@
--- What the program prints of the facts of a certificate, or of those of the least set: the facts
--- that are asked for, and a drawing. This profile's own choice.
+-- What the program prints of the facts of a certificate, or of those of the least set: those that are
+-- asked for, as a list or as a drawing. This profile's own choice.
 use Rattle.std.specs.Prelude.{◌≡◌, ◌⊎◌, ℕ, List, [], Option, Some, None, Result, Ok, Err, codes}
-use Rattle.std.specs.Prelude.{Bool, filter, string_bytes, map}
+use Rattle.std.specs.Prelude.{string_bytes, map}
 use Rattle.mrc_base.specs.declared.Fact.{Fact}
 use Rattle.mrc_base.specs.Reading.{◌>>=◌}
 use Rattle.mrc_model.specs.Rules.{IsLeast}
 use Rattle.mrc_facts.specs.Sets.{has, IsAscending}
 use Rattle.mrc_interface.specs.Reading.{step}
-use Rattle.mrc_wiring.specs.declared.claim.ForbiddenLine.{ForbiddenLine}
 use Rattle.mrc_wiring.specs.Table.{Table, wiring_of}
 use Rattle.mrc_certificate.specs.Drafts.{Content}
 use Rattle.mrc_certificate.specs.Spelling.{Spells}
@@ -19,16 +18,15 @@ use Rattle.mrc_check.specs.Texts.{Meant, Stated, Meaningless, InCertificate, sta
 use Rattle.mrc_draw.specs.declared.filter.Filter.{Filter}
 use Rattle.mrc_draw.specs.declared.filter.FilterFault.{FilterFault}
 use Rattle.mrc_draw.specs.declared.filter.FilterFault.TheVariants.{Task, Class, Right}
-use Rattle.mrc_draw.specs.Filters.{filter_of, is_drawn}
-use Rattle.mrc_draw.specs.Pictures.{picture_of}
-use Rattle.mrc_draw.specs.Dot.{graph_text}
+use Rattle.mrc_draw.specs.Filters.{filter_of}
 use Rattle.mrc_command.specs.Lines.{fault_line}
 use Rattle.mrc_command.specs.declared.command.Format.{Format}
 use Rattle.mrc_command.specs.declared.command.Format.TheVariants as formats
 use Rattle.mrc_command.specs.declared.told.Told.{Told}
-use Rattle.mrc_program.specs.Explained.{OfMeaning, IsNamed, TellsNone, TellsBadFact}
+use Rattle.mrc_program.specs.Explained.{IsNamed, TellsNone, TellsBadFact}
 use Rattle.mrc_program.specs.Files.{Files, Texts}
-use Rattle.mrc_program.specs.Formats.{counts_out, facts_out}
+use Rattle.mrc_program.specs.Formats.{InText}
+use Rattle.mrc_program.specs.Meant.{OfMeaning, IsQuiet}
 use Rattle.mrc_program.specs.Texts.{system}
 use Rattle.mrc_program.specs.Told.{ToldFault}
 
@@ -99,12 +97,12 @@ abbrev pub IsOtherIfGiven : Table → Option (List ℕ) → Type 0
 IsOtherIfGiven table None = ⊥
 IsOtherIfGiven table (Some bytes) = IsOfAnother table bytes
 
--- it is printed that the certificate has other numbers than the wiring
+-- it is printed, as text `NO counts`, that the certificate has other numbers than the wiring
 pub record TellsOther (format : Format) (certificate : Option (List ℕ)) (table : Table)
     (told : Told) : Type 0 where
   pub other : IsOtherIfGiven table certificate
-  pub out : string_bytes told.out ≡ counts_out format
-  pub err : string_bytes told.err ≡ []
+  pub out : InText format (string_bytes told.out ≡ codes "NO counts\n")
+  pub err : IsQuiet told
 
 -- the same of what the texts mean
 abbrev pub ToldOther : Format → Files → Told → Type 0
@@ -114,17 +112,16 @@ ToldOther format files told =
 
 -- Lists of facts.
 
--- the facts that these words ask for are printed, in ascending order: those of the certificate, or
--- of the least set
-pub record TellsFacts (task class right certificate : Option (List ℕ)) (format : Format)
-    (table : Table) (told : Told) : Type 0 where
+-- these words ask for facts, and of these the ascending list is: those of the certificate, or of the
+-- least set
+pub record TellsFacts (task class right certificate : Option (List ℕ)) (table : Table)
+    (told : Told) : Type 0 where
   pub filter : Filter
   pub asked : filter_of table task class right ≡ Ok filter
   pub facts : List Fact
   pub are : AreFactsOf table certificate facts
   pub ascending : IsAscending facts
-  pub out : string_bytes told.out ≡ facts_out format table filter facts
-  pub err : string_bytes told.err ≡ []
+  pub err : IsQuiet told
 
 -- the option of a filter, and its fault
 abbrev pub filter_line : FilterFault → List ℕ
@@ -140,11 +137,11 @@ pub record TellsBadFilter (task class right : Option (List ℕ)) (table : Table)
   pub out : string_bytes told.out ≡ []
   pub err : string_bytes told.err ≡ filter_line fault
 
--- the facts are printed of what the texts mean
-abbrev pub ToldFacts : (task class right : Option (List ℕ)) → Format → Files → Told → Type 0
-ToldFacts task class right format files told =
+-- the same of what the texts mean
+abbrev pub ToldFacts : (task class right : Option (List ℕ)) → Files → Told → Type 0
+ToldFacts task class right files told =
     OfMeaning (system files.texts)
-    (λ meant. TellsFacts task class right files.texts.certificate format meant.table) told
+    (λ meant. TellsFacts task class right files.texts.certificate meant.table) told
 
 -- why none are listed: a text has no meaning, or a word names nothing
 abbrev pub ToldUnlisted : (task class right : Option (List ℕ)) → Files → Told → Type 0
@@ -172,17 +169,14 @@ abbrev pub AreDrawn : Table → (certificate fact : Option (List ℕ)) → List 
 AreDrawn table certificate None facts = AreFactsOf table certificate facts
 AreDrawn table certificate (Some text) facts = AreOfChain table text facts
 
--- Of such facts, those of a task are drawn, if its name is given, and only the holds, if these are
--- asked for. The drawing is printed, of a policy with these lines.
-pub record IsDrawing (Are : List Fact → Type 0) (task : Option (List ℕ)) (holds : Bool)
-    (table : Table) (lines : List ForbiddenLine) (told : Told) : Type 0 where
+-- there are such facts; and the name of a task asks for those of this task, if it is given
+pub record IsDrawing (Are : List Fact → Type 0) (task : Option (List ℕ)) (table : Table)
+    (told : Told) : Type 0 where
   pub asked : Filter
   pub by_name : filter_of table task None None ≡ Ok asked
   pub facts : List Fact
   pub are : Are facts
-  pub out : string_bytes told.out
-      ≡ graph_text (picture_of table (filter (is_drawn asked holds) facts) lines)
-  pub err : string_bytes told.err ≡ []
+  pub err : IsQuiet told
 
 -- with status 1: that the certificate has other numbers, or that no chain leads to the fact
 abbrev pub TellsUndrawn : (certificate fact : Option (List ℕ)) → Table → Told → Type 0
@@ -200,12 +194,12 @@ abbrev pub TellsBadDrawing : (fact task : Option (List ℕ)) → Table → Told 
 TellsBadDrawing fact task table told =
     TellsBadIfGiven fact table told ⊎ TellsBadFilter task None None table told
 
--- the drawing is printed of what the texts mean
-abbrev pub ToldGraph : (fact task : Option (List ℕ)) → Bool → Files → Told → Type 0
-ToldGraph fact task holds files told =
+-- the same of what the texts mean
+abbrev pub ToldGraph : (fact task : Option (List ℕ)) → Files → Told → Type 0
+ToldGraph fact task files told =
     OfMeaning (claimed files.texts)
-    (λ stated. IsDrawing (AreDrawn stated.claim.table files.texts.certificate fact) task holds
-    stated.claim.table stated.claim.lines) told
+    (λ stated. IsDrawing (AreDrawn stated.claim.table files.texts.certificate fact) task
+    stated.claim.table) told
 
 -- that there is nothing to draw
 abbrev pub ToldUndrawn : Option (List ℕ) → Files → Told → Type 0

@@ -6,87 +6,28 @@ use Rattle.std.specs.Prelude.{All, IfSome, Option, Some, None, codes, string_byt
 use Rattle.std.specs.Prelude.{if◌then◌else◌, not}
 use Rattle.mrc_base.specs.declared.Fact.{Fact}
 use Rattle.mrc_model.specs.Rules.{IsLeast}
-use Rattle.mrc_wiring_text.specs.Lexis.{lines}
 use Rattle.mrc_wiring.specs.Claims.{Claimed}
 use Rattle.mrc_wiring.specs.Table.{wiring_of}
 use Rattle.mrc_check.specs.Texts.{Stated}
-use Rattle.mrc_why.specs.declared.printing.Layout.{Layout}
-use Rattle.mrc_why.specs.declared.printing.Layout.TheVariants.{Flat, Tree}
 use Rattle.mrc_why.specs.Broken.{BrokenLine, AreBroken, IsDerived, HasYes, HasNoYes}
 use Rattle.mrc_why.specs.Broken.{ExposedTask, IsExposedOf, IsReached}
-use Rattle.mrc_why.specs.Lines.{Numbered}
 use Rattle.mrc_mend.specs.declared.answers.Answer.{Answer}
 use Rattle.mrc_mend.specs.declared.answers.Answer.TheVariants.{Nothing, Found}
+use Rattle.mrc_mend.specs.Texts.{mends_text}
 use Rattle.mrc_mend.specs.Judging.{IsNeededOf, IsMend, AreAnswered, AreAtMost}
-use Rattle.mrc_verdicts.specs.declared.printing.Manner.{Manner}
-use Rattle.mrc_verdicts.specs.Verdicts.{IsNoText}
+use Rattle.mrc_print.specs.Heads.{HasNo}
 use Rattle.mrc_command.specs.declared.command.Format.{Format}
-use Rattle.mrc_command.specs.declared.command.Format.TheVariants.{Text, Json, Sarif}
 use Rattle.mrc_command.specs.declared.command.Showing.{Showing}
 use Rattle.mrc_command.specs.declared.told.Told.{Told}
-use Rattle.mrc_json.specs.Answers.{IsBrokenJson}
-use Rattle.mrc_json.specs.Verdicts.{Asked}
-use Rattle.mrc_sarif.specs.Answers.{IsBrokenSarif}
 use Rattle.mrc_program.specs.Asked.{IsBrokenAt}
-use Rattle.mrc_program.specs.Explained.{numbered_by}
 use Rattle.mrc_program.specs.Files.{Files, given, word_of}
-use Rattle.mrc_program.specs.Formats.{mends_out}
+use Rattle.mrc_program.specs.Formats.{InText}
 use Rattle.mrc_program.specs.Notices.{notice}
 use Rattle.mrc_program.specs.LeftNotices.{left_notices}
 use Rattle.mrc_program.specs.PolicyNotices.{policy_notices}
 use Rattle.mrc_program.specs.Texts.{stated}
 use Rattle.mrc_program.specs.Told.{ToldWord}
 use Rattle.mrc_program.specs.Checked.{IsYesWith}
-
--- chains are printed from their conclusions down if a tree is asked for
-abbrev pub layout_of : Bool → Layout
-layout_of true = Tree
-layout_of false = Flat
-
--- they are printed in this layout, unless the answer is to be brief
-abbrev pub chains_of : Showing → Option Layout
-chains_of showing = if showing.brief then None else Some (layout_of showing.tree)
-
--- the lines of a text, if they are quoted
-abbrev pub quoted_if : Bool → List ℕ → Option (List (List ℕ))
-quoted_if true text = Some (lines text)
-quoted_if false text = None
-
--- A first line names what most chains have in common if the answer is brief or lines are quoted,
--- unless one line is asked for.
-abbrev pub names_common : Showing → Option ℕ → Bool
-names_common showing None = showing.brief || showing.quotes
-names_common showing (Some n) = false
-
--- how a no of these files is printed
-abbrev pub manner_of : Showing → Files → Manner
-manner_of showing files = record {
-  common = names_common showing showing.line;
-  chains = chains_of showing;
-  wiring = quoted_if showing.quotes files.texts.wiring;
-  policy = quoted_if showing.quotes (given files.texts.policy);
-}
-
--- what a no of these files has as JSON: chains unless the answer is to be brief, of all lines or of
--- one
-abbrev pub asked_of : Showing → Option ℕ → Files → Asked
-asked_of showing only files = record {
-  steps = not showing.brief;
-  only = only;
-  wiring = files.texts.wiring;
-  policy = given files.texts.policy;
-}
-
--- the text is that of a no in this format, with what goes to standard error: of all that is
--- objected to, or of one line
-abbrev pub IsBrokenOut : Format → Showing → Files → Option ℕ → Numbered → Option ExposedTask
-    → List BrokenLine → (notices text : List ℕ) → Type 0
-IsBrokenOut Text showing files only numbered exposed broken notices text =
-    IsNoText (manner_of showing files) only numbered exposed broken text
-IsBrokenOut Json showing files only numbered exposed broken notices text =
-    IsBrokenJson (asked_of showing only files) numbered exposed broken notices text
-IsBrokenOut Sarif showing files only numbered exposed broken notices text =
-    IsBrokenSarif files.names files.texts.defs numbered only exposed broken notices text
 
 -- what goes to standard error of files and their claim, by a set of facts: of routines that carry
 -- rights and are left out of the MIG files, of routines of notifications, and of the policy
@@ -101,21 +42,20 @@ abbrev pub AreNotices : Files → Claimed → List ℕ → Type 0
 AreNotices files claim text =
     (set : Fact → Bool) → IsLeast (wiring_of claim.table) set → text ≡ notices files claim set
 
--- the yes of a command is printed in this format, and it is right: the least set of the wiring is a
--- yes to the policy; and their notices, and which tasks are trusted
-pub record ToldAllowed (command : List ℕ) (format : Format) (files : Files) (told : Told)
-    : Type 0 where
+-- a yes is printed, and it is right: the least set of the wiring is a yes to the policy; and their
+-- notices, and which tasks are trusted
+pub record ToldAllowed (format : Format) (files : Files) (told : Told) : Type 0 where
   pub meant : Stated
   pub says : stated files.texts ≡ Ok meant
   pub yes : HasYes meant.claim
   pub notices : List ℕ
   pub are_notices : AreNotices files meant.claim notices
-  pub is : IsYesWith command format files.names notices meant.claim.table told
+  pub is : IsYesWith format files.names notices meant.claim.table told
 
--- A no is printed: the first trusted task that another could rewrite, with a chain that derives the
--- hold by which it could; the lines that are broken, with chains that derive what they forbid; the
--- lines and slots of the texts from which the steps come; and the notices. If a line is asked for,
--- it is broken, and printed alone. No set of facts is a yes.
+-- A no is printed, and it is right: there are the first trusted task that another could rewrite,
+-- with a chain that derives the hold by which it could, and the lines that are broken, with chains
+-- that derive what they forbid. If a line is asked for, it is broken. No set of facts is a yes.
+-- As text the no begins with `NO `, or with a comment and then `NO `; and the notices.
 pub record ToldBroken (showing : Showing) (files : Files) (told : Told) : Type 0 where
   pub meant : Stated
   pub says : stated files.texts ≡ Ok meant
@@ -127,9 +67,7 @@ pub record ToldBroken (showing : Showing) (files : Files) (told : Told) : Type 0
   pub chains : All (IsDerived meant.claim) broken
   pub no : HasNoYes meant.claim
   pub asked : IfSome showing.line (λ n. IsBrokenAt meant.claim n true)
-  pub out : IsBrokenOut showing.format showing files showing.line
-      (numbered_by meant.claim.table meant.lines) exposed broken (string_bytes told.err)
-      (string_bytes told.out)
+  pub out : InText showing.format (HasNo (string_bytes told.out))
   pub err : AreNotices files meant.claim (string_bytes told.err)
 
 -- Mends.
@@ -164,7 +102,7 @@ pub record ToldMends (most : ℕ) (format : Format) (files : Files) (told : Told
   pub right : AreAnswered (IsMend files.texts.defs files.texts.wiring (given files.texts.policy))
       answer
   pub status : told.status ≡ mend_status answer
-  pub out : string_bytes told.out ≡ mends_out format files.texts.wiring answer
+  pub out : InText format (string_bytes told.out ≡ mends_text files.texts.wiring answer)
   pub err : string_bytes told.err ≡ notes_of answer
 
 -- no such number can be asked for: one at least can, and 1,000,000 at most

@@ -27,8 +27,8 @@ HaveNoYes texts = NoneIsAccepted texts.defs texts.wiring (given texts.policy)
 -- if a yes is printed in any format, as by `verify`, the texts are safe
 abbrev pub AllowedIsSafe : Type 0
 AllowedIsSafe =
-    (command : List ℕ) (format : Format) (files : Files) (told : Told)
-    → ToldAllowed command format files told → AreSafe files.texts
+    (format : Format) (files : Files) (told : Told) → ToldAllowed format files told
+    → AreSafe files.texts
 
 -- if it prints what is exposed and broken, no certificate is accepted for the texts
 abbrev pub BrokenHasNoYes : Type 0

@@ -16,10 +16,9 @@ use crate::mend::most_told;
 use crate::tell::yes;
 use crate::told::refused;
 use crate::verify::notices;
-use mrc_attack::Progress;
+use mrc_attack::{Form, Progress, attacks, attacks_text, cut_text};
 use mrc_check::Stated;
 use mrc_command::{Format, Told, fault_of};
-use mrc_leak::{Form, attacks, attacks_text, cut_text};
 use mrc_why::{Broken, Verdict, verify};
 use mrc_wiring::Wired;
 use std::alloc::{AllocError, Global};
@@ -61,7 +60,7 @@ pub fn line_told(alloc: Global, line: Option<usize>) -> Result<Option<Told>, All
     Ok(None)
 }
 
-/// What is printed if such numbers can't be asked for: of states first, and then of a line.
+/// What is printed if such numbers can't be asked for: of chains first, and then of a line.
 pub fn bounds_told(
     alloc: Global,
     line: Option<usize>,
@@ -71,7 +70,7 @@ pub fn bounds_told(
     ensures silent { IfOk result (λ bad. IfSome bad (λ told. string_bytes told.out ≡ [])) }
     ensures bad { IfOk result (λ bad. IfSome bad (λ told.
         ToldMost most told ⊎ ToldLine line told)) }
-    // No more than 1,000,000 states can be asked for, and one at least.
+    // No more than 1,000,000 chains can be asked for, and one at least.
     ensures most { IsBadMost most → IfOk result (λ bad. IsSomeAnd bad (ToldMost most)) }
     // No line has the number 0, or one above 4,294,967,295.
     ensures line { IsBadLine line → (IsBadMost most → ⊥)
@@ -169,7 +168,7 @@ fn stated_attacked<P: Progress>(
 }
 
 /// What is printed of attacks on a system, or on one line of its policy. For each line so many
-/// states are looked at, at most.
+/// chains are played, at most.
 pub fn attack_told<P: Progress>(
     alloc: Global,
     files: &Files<'_>,

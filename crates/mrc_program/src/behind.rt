@@ -1,12 +1,6 @@
 //! What helps with a fault: the hint, and what is printed of it behind the line of the fault.
 
-ghost use Rattle.std.specs.Prelude.{◌≡◌, ◌≢◌, ◌⊎◌, [], Err, None, true, false, IfOk, IfErr};
-ghost use Rattle.std.specs.Prelude.{IfSome, IsTrue};
-ghost use Rattle.std.specs.Prelude.{string_bytes};
-ghost use Rattle.mrc_check.specs.Texts.{meaningless};
-ghost use Rattle.mrc_program.specs.Behind.{all_meant, is_live, is_wanted, IsHelp, IsNoHelp};
-ghost use Rattle.mrc_program.specs.Behind.{IsFailure, IsHelpIfAny, IsMade, IsNoteAlone, IsTextOf};
-ghost use Rattle.mrc_program.specs.Behind.{IsNoted, IsUncutHelp, IsUnreadHelp};
+ghost use Rattle.std.specs.Prelude.{◌≡◌, [], IfOk, string_bytes};
 ghost use Rattle.mrc_program.specs.Told.{IsFaultOf, UnreadTold};
 
 use crate::cuts::Uncut;
@@ -20,8 +14,8 @@ use mrc_base::OrMemory;
 use mrc_check::{CaseFault, System};
 use mrc_command::{Format, Question, Told, fault_of};
 use mrc_files::{ReadFailure, ReadFault, Unread};
-use mrc_json::fault_parts;
 use mrc_place::Hint;
+use mrc_print::fault_parts;
 use std::alloc::{AllocError, Global};
 
 /// What helps with a fault.
@@ -34,9 +28,7 @@ pub struct Help {
 }
 
 /// Nothing.
-pub fn no_help(alloc: Global) -> Help
-    ensures { IsNoHelp result }
-{
+pub fn no_help(alloc: Global) -> Help {
     Help {
         text: String::new(alloc),
         hint: Hint {
@@ -47,19 +39,13 @@ pub fn no_help(alloc: Global) -> Help
 }
 
 /// A hint of a file, with its text.
-fn help_of(alloc: Global, file: &str, hint: Hint) -> Result<Help, AllocError>
-    ensures hint { IfOk result (λ help. help.hint ≡ hint) }
-    ensures text { IfOk result (IsTextOf file.now) }
-{
+fn help_of(alloc: Global, file: &str, hint: Hint) -> Result<Help, AllocError> {
     let text = hint_text(alloc, file, &hint)?;
     Ok(Help { text, hint })
 }
 
 /// What was made to help, or nothing if memory ran out for it.
-fn help_if_made(alloc: Global, help: Result<Help, AllocError>) -> Help
-    ensures made { IfOk help (λ made. result ≡ made) }
-    ensures none { IfErr help (λ _. IsNoHelp result) }
-{
+fn help_if_made(alloc: Global, help: Result<Help, AllocError>) -> Help {
     match help {
         Ok(help) => help,
         Err(AllocError) => no_help(alloc),
@@ -67,9 +53,7 @@ fn help_if_made(alloc: Global, help: Result<Help, AllocError>) -> Help
 }
 
 /// Whether what helps with a fault is wanted: if it is shown, or if the answer is for programs.
-pub fn is_wanted(shows: bool, format: Format) -> bool
-    ensures { result ≡ is_wanted shows format }
-{
+pub fn is_wanted(shows: bool, format: Format) -> bool {
     match format {
         Format::Text => shows,
         Format::Json | Format::Sarif => true,
@@ -77,37 +61,23 @@ pub fn is_wanted(shows: bool, format: Format) -> bool
 }
 
 /// What is printed of what helps with a fault, if that is shown (`shows`).
-pub fn help_text(alloc: Global, shows: bool, help: Help) -> String
-    ensures shown { shows ≡ true → string_bytes result ≡ string_bytes help.text }
-    ensures none { shows ≡ false → string_bytes result ≡ [] }
-{
+pub fn help_text(alloc: Global, shows: bool, help: Help) -> String {
     if shows {
         return help.text;
     }
     String::new(alloc)
 }
 
-/// Whether a script of this question is for tasks that run as threads.
-fn is_live(question: Question<'_>) -> bool
-    ensures { result ≡ is_live question.entry }
-{
-    matches!(question, Question::Live)
-}
-
-/// Whether two texts are the same.
-fn are_same(text: &str, other: &str) -> bool
-    ensures { IsTrue result → text.now ≡ other.now }
-{
-    text == other
-}
-
 /// Whether the line is that of this fault of the file.
-fn is_line_of(alloc: Global, file: &str, fault: &CaseFault, line: &str) -> Result<bool, AllocError>
-    ensures { IfOk result (λ is. IsTrue is → IsFaultOf file.now line.now) }
-{
+fn is_line_of(
+    alloc: Global,
+    file: &str,
+    fault: &CaseFault,
+    line: &str,
+) -> Result<bool, AllocError> {
     let text = fault.to_string(alloc)?;
     let told = fault_of(alloc, file, text.as_str())?;
-    Ok(are_same(line, told.err.as_str()))
+    Ok(line == told.err.as_str())
 }
 
 /// What helps with the fault of the first text that has no meaning, if this is its line.
@@ -117,10 +87,7 @@ fn hint_behind(
     live: bool,
     line: &str,
     fault: &CaseFault,
-) -> Result<Help, AllocError>
-    requires { all_meant live files.now.texts ≡ Err (meaningless fault.now) }
-    ensures { IfOk result (λ help. IsNoHelp help ⊎ IsHelp live files.now line.now help) }
-{
+) -> Result<Help, AllocError> {
     let file = file_of(&files.names, fault);
     if !is_line_of(alloc, file, fault, line)? {
         return Ok(no_help(alloc));
@@ -133,10 +100,7 @@ fn hint_behind(
 }
 
 /// Sentences, and no place.
-fn noted(alloc: Global, notes: Vec<String>) -> Result<Help, AllocError>
-    ensures spot { IfOk result (λ help. help.hint.spot ≡ None) }
-    ensures text { IfOk result (IsTextOf []) }
-{
+fn noted(alloc: Global, notes: Vec<String>) -> Result<Help, AllocError> {
     help_of(alloc, "", Hint { spot: None, notes })
 }
 
@@ -161,9 +125,7 @@ fn name_behind(
     files: &Files<'_>,
     question: Question<'_>,
     line: &str,
-) -> Result<Help, AllocError>
-    ensures { IfOk result (λ help. IsNoHelp help ⊎ IsNoted line.now help) }
-{
+) -> Result<Help, AllocError> {
     let (_, fault) = fault_parts(line);
     if !is_noted(fault) {
         return Ok(no_help(alloc));
@@ -182,11 +144,8 @@ fn texts_behind(
     files: &Files<'_>,
     question: Question<'_>,
     line: &str,
-) -> Result<Help, AllocError>
-    ensures { IfOk result (λ help. IsNoHelp help ⊎ (IsNoted line.now help
-        ⊎ IsHelp (is_live question.entry) files.now line.now help)) }
-{
-    let live = is_live(question);
+) -> Result<Help, AllocError> {
+    let live = matches!(question, Question::Live);
     match all_meant(alloc, &files.texts, live) {
         Err(OrMemory::Fault(fault)) => hint_behind(alloc, files, live, line, &fault),
         Err(OrMemory::Memory) => Err(AllocError),
@@ -202,10 +161,7 @@ pub fn files_behind(
     files: &Files<'_>,
     question: Question<'_>,
     told: &Told,
-) -> Help
-    ensures { IsMade wanted (λ line help. IsNoted line help
-        ⊎ IsHelp (is_live question.entry) files.now line help) result told.now }
-{
+) -> Help {
     if !wanted || told.status != 2 {
         return no_help(alloc);
     }
@@ -214,9 +170,7 @@ pub fn files_behind(
 }
 
 /// The sentence about the fault whose line is the last of these, if it is the same for all files.
-fn note_behind(alloc: Global, err: &str) -> Result<Option<Help>, AllocError>
-    ensures { IfOk result (λ help. IfSome help (IsNoted err.now)) }
-{
+fn note_behind(alloc: Global, err: &str) -> Result<Option<Help>, AllocError> {
     let (_, fault) = fault_parts(err);
     if !is_noted(fault) {
         return Ok(None);
@@ -231,11 +185,7 @@ fn note_behind(alloc: Global, err: &str) -> Result<Option<Help>, AllocError>
 
 /// What helps with what is printed: what was made for it. Else, if it is wanted, a sentence about
 /// the word of an option or about a file that is to be written.
-pub fn with_note(alloc: Global, wanted: bool, help: Help, told: &Told) -> Help
-    ensures note { (result ≡ help) ⊎ ((wanted ≡ true) × (told.now.status ≡ 2)
-        × IsNoted (string_bytes told.now.err) result) }
-    ensures kept { string_bytes help.text ≢ [] → result ≡ help }
-{
+pub fn with_note(alloc: Global, wanted: bool, help: Help, told: &Told) -> Help {
     if !wanted || told.status != 2 || !help.text.as_str().is_empty() {
         return help;
     }
@@ -246,10 +196,7 @@ pub fn with_note(alloc: Global, wanted: bool, help: Help, told: &Told) -> Help
 }
 
 /// What the system says of a file that can't be read.
-fn failure_help(alloc: Global, file: &str, failure: ReadFailure) -> Result<Help, AllocError>
-    ensures note { IfOk result (λ help. IsNoteAlone help.hint) }
-    ensures text { IfOk result (IsTextOf file.now) }
-{
+fn failure_help(alloc: Global, file: &str, failure: ReadFailure) -> Result<Help, AllocError> {
     let note = failure.to_string(alloc)?;
     let mut notes = Vec::new(alloc);
     notes.push(note)?;
@@ -258,10 +205,7 @@ fn failure_help(alloc: Global, file: &str, failure: ReadFailure) -> Result<Help,
 
 /// What helps with a file that can't be read, if that is wanted: what the system says of it. If
 /// memory runs out for it, it is nothing.
-fn unread_behind(alloc: Global, wanted: bool, file: &str, fault: ReadFault) -> Help
-    ensures { IsNoHelp result ⊎ ((wanted ≡ true) × IsFailure fault
-        × IsNoteAlone result.hint × IsTextOf file.now result) }
-{
+fn unread_behind(alloc: Global, wanted: bool, file: &str, fault: ReadFault) -> Help {
     match fault {
         ReadFault::ReadFailed(failure) if wanted => {
             help_if_made(alloc, failure_help(alloc, file, failure))
@@ -279,7 +223,6 @@ pub fn unread_helped(
 ) -> Result<Told, AllocError>
     ensures status { IfOk result (λ told. told.status ≡ 2) }
     ensures told { IfOk result (UnreadTold unread.now.file.now unread.now.fault) }
-    ensures help { IfOk result (IsMade wanted IsUnreadHelp help.new) }
 {
     let told = unread_told(alloc, unread)?;
     *help = unread_behind(alloc, wanted, unread.file, unread.fault);
@@ -287,9 +230,7 @@ pub fn unread_helped(
 }
 
 /// What helps with a MIG file that can't be cut, by its bytes.
-fn cut_help(alloc: Global, uncut: &Uncut<'_>, bytes: &[u8]) -> Result<Help, AllocError>
-    ensures { IfOk result (IsHelpIfAny uncut.now.file.now) }
-{
+fn cut_help(alloc: Global, uncut: &Uncut<'_>, bytes: &[u8]) -> Result<Help, AllocError> {
     match cut_hint(alloc, bytes, uncut.fault)? {
         Some(hint) => help_of(alloc, uncut.file, hint),
         None => Ok(no_help(alloc)),
@@ -302,9 +243,7 @@ fn uncut_help(
     files: &[&str],
     texts: &[Vec<u8>],
     uncut: &Uncut<'_>,
-) -> Result<Help, AllocError>
-    ensures { IfOk result (IsHelpIfAny uncut.now.file.now) }
-{
+) -> Result<Help, AllocError> {
     for (file, text) in files.iter().zip(texts) {
         if *file == uncut.file {
             return cut_help(alloc, uncut, text.as_slice());
@@ -321,9 +260,7 @@ fn uncut_behind(
     files: &[&str],
     texts: &[Vec<u8>],
     uncut: &Uncut<'_>,
-) -> Help
-    ensures { IsNoHelp result ⊎ ((wanted ≡ true) × IsTextOf uncut.now.file.now result) }
-{
+) -> Help {
     if !wanted {
         return no_help(alloc);
     }
@@ -342,7 +279,6 @@ pub fn uncut_helped(
     ensures status { IfOk result (λ told. told.status ≡ 2) }
     ensures out { IfOk result (λ told. string_bytes told.out ≡ []) }
     ensures err { IfOk result (λ told. IsFaultOf uncut.now.file.now (string_bytes told.err)) }
-    ensures help { IfOk result (IsMade wanted IsUncutHelp help.new) }
 {
     let text = uncut.fault.to_string(alloc)?;
     let told = fault_of(alloc, uncut.file, text.as_str())?;

@@ -1,25 +1,21 @@
-//! Texts of MIG files that are cut, and what is told of them.
+//! Texts of MIG files that are cut, and what is printed of them.
 
-ghost use Rattle.std.specs.Prelude.{◌≡◌, ◌++◌, ◌+◌, Some, None, IfOk, IfErr, OnOk, length, map};
-ghost use Rattle.std.specs.Prelude.{string_bytes};
+ghost use Rattle.std.specs.Prelude.{◌≡◌, [], IfOk, IfErr, length, map, string_bytes};
 ghost use Rattle.std.specs.List.{list_any, count_by};
-ghost use Rattle.mrc_mig_cut.specs.Carrying.{carries};
 ghost use Rattle.std.specs.Option.{option_map};
 ghost use Rattle.mrc_base.specs.Reading.{UnlessMemory};
+ghost use Rattle.mrc_mig_cut.specs.Carrying.{carries};
 ghost use Rattle.mrc_program.specs.Cutting.{is_named_so, same_name, IsCutTo, IsNoFile, AreCuts};
-ghost use Rattle.mrc_program.specs.Cutting.{IsFirstUncut, left_text, left_line, left_lines};
-ghost use Rattle.mrc_program.specs.Cutting.{carries_text, before_text, carrying_count};
-ghost use Rattle.mrc_program.specs.Cutting.{carrying_words, carrying_text, count_line, cut_text};
-ghost use Rattle.mrc_program.specs.Cutting.{cuts_out, cuts_text, has_routine, has_before};
+ghost use Rattle.mrc_program.specs.Cutting.{IsFirstUncut, carrying_count, has_routine, has_before};
 ghost use Rattle.mrc_program.specs.Cutting.{has_left_out, has_carrying, is_forbidden, are_written};
-ghost use Rattle.mrc_program.specs.Cutting.{count_text, reason_text, routine_text, shown_text};
+ghost use Rattle.mrc_program.specs.Formats.{InText};
 
 use crate::left_notices::carriers_text;
 use mrc_base::OrMemory;
 use mrc_command::{Format, Strictness, shown};
 use mrc_files::name_of;
-use mrc_json::{NamedCut, cuts_json};
 use mrc_mig_cut::{Carried, CutFault, CutFile, LeftOut, carried_text, cut};
+use mrc_print::{NamedCut, cuts_json};
 use std::alloc::{AllocError, Global};
 
 /// A MIG file whose text can't be cut, and why.
@@ -88,10 +84,8 @@ pub fn cuts_of<'a>(
     Ok(cuts)
 }
 
-/// What a routine carries.
-fn carries_text(alloc: Global, carried: &[Carried]) -> Result<String, AllocError>
-    ensures { IfOk result (λ text. string_bytes text ≡ carries_text carried.now) }
-{
+/// What a routine carries: nothing, or a comma and a list.
+fn carries_text(alloc: Global, carried: &[Carried]) -> Result<String, AllocError> {
     if carried.is_empty() {
         return Ok(String::new(alloc));
     }
@@ -99,45 +93,19 @@ fn carries_text(alloc: Global, carried: &[Carried]) -> Result<String, AllocError
     format!(in alloc; ", carries {text}")
 }
 
-/// The word for which a routine is left out, and what it carries.
-#[tactic(auto, unfolding(crate::specs::Cutting::reason_text))]
-fn reason_text(alloc: Global, left: &LeftOut) -> Result<String, AllocError>
-    ensures { IfOk result (λ text. string_bytes text ≡ reason_text left.now) }
-{
-    let carries = carries_text(alloc, left.carried.as_slice())?;
-    format!(in alloc; "{}{carries}", left.word)
-}
-
-/// A routine with its id.
-#[tactic(auto, unfolding(crate::specs::Cutting::routine_text))]
-fn routine_text(alloc: Global, left: &LeftOut) -> Result<String, AllocError>
-    ensures { IfOk result (λ text. string_bytes text ≡ routine_text left.now) }
-{
-    format!(in alloc; "routine {} (id {})", left.name, left.id)
-}
-
-/// A routine that is left out, with its id and the word, and what it carries.
-fn left_text(alloc: Global, left: &LeftOut) -> Result<String, AllocError>
-    ensures { IfOk result (λ text. string_bytes text ≡ left_text left.now) }
-{
-    let routine = routine_text(alloc, left)?;
-    let reason = reason_text(alloc, left)?;
-    format!(in alloc; "{routine} left out: {reason}")
-}
-
-/// The line of a routine that is left out of a file.
-fn left_line(alloc: Global, file: &str, left: &LeftOut) -> Result<String, AllocError>
-    ensures { IfOk result (λ line. string_bytes line ≡ left_line file.now left.now) }
-{
+/// The line of a routine that is left out of a file: its id, the word for which it is, and what it
+/// carries.
+fn left_line(alloc: Global, file: &str, left: &LeftOut) -> Result<String, AllocError> {
     let line = left.line;
-    let text = left_text(alloc, left)?;
-    format!(in alloc; "{file}:{line}: {text}\n")
+    let name = left.name.as_str();
+    let id = left.id;
+    let word = left.word.as_str();
+    let carries = carries_text(alloc, left.carried.as_slice())?;
+    format!(in alloc; "{file}:{line}: routine {name} (id {id}) left out: {word}{carries}\n")
 }
 
 /// The lines of those that are left out of a file.
-fn left_lines(alloc: Global, file: &str, left_out: &[LeftOut]) -> Result<String, AllocError>
-    ensures { IfOk result (λ text. string_bytes text ≡ left_lines file.now left_out.now) }
-{
+fn left_lines(alloc: Global, file: &str, left_out: &[LeftOut]) -> Result<String, AllocError> {
     let mut text = String::new(alloc);
     for left in left_out {
         let line = left_line(alloc, file, left)?;
@@ -147,10 +115,7 @@ fn left_lines(alloc: Global, file: &str, left_out: &[LeftOut]) -> Result<String,
 }
 
 /// The line of the routines that carry rights and were left out of a file before.
-fn before_text(alloc: Global, file: &str, before: &[String]) -> Result<String, AllocError>
-    ensures { IfOk result (λ text. string_bytes text
-        ≡ before_text file.now (map string_bytes before.now)) }
-{
+fn before_text(alloc: Global, file: &str, before: &[String]) -> Result<String, AllocError> {
     if before.is_empty() {
         return Ok(String::new(alloc));
     }
@@ -185,71 +150,36 @@ fn carrying_count(cut: &CutFile) -> usize
     count_of(cut.left_out.as_slice())
 }
 
-/// The words behind that number.
-fn carrying_words(count: usize) -> &'static str
-    ensures { result.now ≡ carrying_words count }
-{
-    if count == 1 {
-        " of those left out carries rights"
-    } else {
-        " of those left out carry rights"
+/// That number with its words: nothing of 0.
+fn carrying_text(alloc: Global, count: usize) -> Result<String, AllocError> {
+    match count {
+        0 => Ok(String::new(alloc)),
+        1 => String::from_str(alloc, ", 1 of those left out carries rights"),
+        count => format!(in alloc; ", {count} of those left out carry rights"),
     }
-}
-
-/// That number with its words.
-fn carrying_text(alloc: Global, count: usize) -> Result<String, AllocError>
-    ensures { IfOk result (λ text. string_bytes text ≡ carrying_text count) }
-{
-    if count == 0 {
-        return Ok(String::new(alloc));
-    }
-    let words = carrying_words(count);
-    format!(in alloc; ", {count}{words}")
 }
 
 /// How many routines are read of a file, and how many of the others carry rights.
-#[tactic(auto, unfolding(crate::specs::Cutting::count_text))]
-fn count_text(alloc: Global, cut: &CutFile) -> Result<String, AllocError>
-    ensures { IfOk result (λ text. string_bytes text ≡ count_text cut.now) }
-{
+fn count_line(alloc: Global, file: &str, cut: &CutFile) -> Result<String, AllocError> {
     let read = cut.read;
     let routines = read as u128 + cut.left_out.len() as u128;
     let carrying = carrying_text(alloc, carrying_count(cut))?;
-    format!(in alloc; "{read} of {routines} routines read{carrying}")
+    format!(in alloc; "{file}: {read} of {routines} routines read{carrying}\n")
 }
 
-/// The line that tells how many routines are read of a file.
-#[tactic(auto, unfolding(crate::specs::Cutting::count_line))]
-fn count_line(alloc: Global, file: &str, cut: &CutFile) -> Result<String, AllocError>
-    ensures { IfOk result (λ line. string_bytes line ≡ count_line file.now cut.now) }
-{
-    let text = count_text(alloc, cut)?;
-    format!(in alloc; "{file}: {text}\n")
-}
-
-/// What is told of a file, by its name as it is shown.
-#[tactic(auto, unfolding(crate::specs::Cutting::shown_text))]
-fn shown_text(alloc: Global, file: &str, cut: &CutFile) -> Result<String, AllocError>
-    ensures { IfOk result (λ text. string_bytes text ≡ shown_text file.now cut.now) }
-{
+/// What is printed of a file that is cut.
+fn cut_text(alloc: Global, cut: &NamedCut<'_>) -> Result<String, AllocError> {
+    let file = shown(alloc, cut.file)?;
+    let file = file.as_str();
+    let cut = &cut.cut;
     let lines = left_lines(alloc, file, cut.left_out.as_slice())?;
     let before = before_text(alloc, file, cut.before.as_slice())?;
     let line = count_line(alloc, file, cut)?;
     format!(in alloc; "{lines}{before}{line}")
 }
 
-/// What is told of a file.
-fn cut_text(alloc: Global, cut: &NamedCut<'_>) -> Result<String, AllocError>
-    ensures { IfOk result (λ text. string_bytes text ≡ cut_text cut.now) }
-{
-    let file = shown(alloc, cut.file)?;
-    shown_text(alloc, file.as_str(), &cut.cut)
-}
-
-/// What is told of files, in their order.
-pub fn cuts_text(alloc: Global, cuts: &[NamedCut<'_>]) -> Result<String, AllocError>
-    ensures { IfOk result (λ text. string_bytes text ≡ cuts_text cuts.now) }
-{
+/// What is printed of files that are cut, in their order.
+pub fn cuts_text(alloc: Global, cuts: &[NamedCut<'_>]) -> Result<String, AllocError> {
     let mut text = String::new(alloc);
     for cut in cuts {
         let told = cut_text(alloc, cut)?;
@@ -266,7 +196,7 @@ pub fn cuts_out(
     written: bool,
     cuts: &[NamedCut<'_>],
 ) -> Result<String, AllocError>
-    ensures { IfOk result (λ text. string_bytes text ≡ cuts_out format written cuts.now) }
+    ensures { InText format (IfOk result (λ text. string_bytes text ≡ [])) }
 {
     match format {
         Format::Json => cuts_json(alloc, written, cuts),

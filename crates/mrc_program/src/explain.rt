@@ -1,11 +1,9 @@
 //! What the program prints of a fact: the chain that derives it.
 
-ghost use Rattle.std.specs.Prelude.{◌≡◌, ◌≤◌, ◌⊎◌, IfOk, string_bytes};
-ghost use Rattle.mrc_json.specs.Answers.{IsChainJson};
-ghost use Rattle.mrc_program.specs.Explained.{IsNamed, IsPrinted, IsChainOut, numbered_by};
-ghost use Rattle.mrc_program.specs.Explained.{TellsChain, TellsNone, TellsBadFact, ToldChain};
-ghost use Rattle.mrc_program.specs.Explained.{ToldNone, ToldBadFact};
-ghost use Rattle.mrc_program.specs.Formats.{none_out};
+ghost use Rattle.std.specs.Prelude.{◌≡◌, ◌≤◌, ◌⊎◌, IfOk, codes, string_bytes};
+ghost use Rattle.mrc_program.specs.Explained.{IsNamed, TellsChain, TellsNone, TellsBadFact};
+ghost use Rattle.mrc_program.specs.Explained.{ToldChain, ToldNone, ToldBadFact};
+ghost use Rattle.mrc_program.specs.Formats.{InText};
 ghost use Rattle.mrc_program.specs.Texts.{system};
 ghost use Rattle.mrc_program.specs.Told.{ToldMemory, ToldFault};
 
@@ -15,39 +13,14 @@ use mrc_base::Fact;
 use mrc_check::System;
 use mrc_closure::{Step, explain};
 use mrc_command::{Format, Told, fault_of, said};
-use mrc_json::{chain_json, none_json};
+use mrc_print::{chain_json, none_json};
 use mrc_why::{Layout, Sources, chain_text, plain_lines};
 use mrc_wiring::Wired;
 use mrc_words::fact_named;
 use std::alloc::{AllocError, Global};
 
-/// The text of a chain; if it is asked for, with what the steps come from.
-fn printed(alloc: Global, by: bool, system: &System, steps: &[Step]) -> Result<String, AllocError>
-    ensures { IfOk result (λ text. IsPrinted by system.now steps.now (string_bytes text)) }
-{
-    if by {
-        let sources = Sources::new(alloc, &system.wired, system.lines.as_slice())?;
-        chain_text(alloc, &sources, steps, Layout::Flat)
-    } else {
-        plain_lines(alloc, &system.wired, steps)
-    }
-}
-
-/// The chain of a fact as JSON.
-fn chain_out_json(
-    alloc: Global,
-    system: &System,
-    fact: Fact,
-    steps: &[Step],
-) -> Result<String, AllocError>
-    ensures { IfOk result (λ text. IsChainJson (numbered_by system.now.table system.now.lines) fact
-        steps.now (string_bytes text)) }
-{
-    let sources = Sources::new(alloc, &system.wired, system.lines.as_slice())?;
-    chain_json(alloc, &sources, fact, steps)
-}
-
-/// The chain of a fact in this format.
+/// The chain of a fact in this format. In JSON it always has what its steps come from, and as text
+/// if that is asked for (`by`).
 fn chain_out(
     alloc: Global,
     format: Format,
@@ -55,19 +28,22 @@ fn chain_out(
     system: &System,
     fact: Fact,
     steps: &[Step],
-) -> Result<String, AllocError>
-    ensures { IfOk result (λ text.
-        IsChainOut format by system.now fact steps.now (string_bytes text)) }
-{
-    match format {
-        Format::Text | Format::Sarif => printed(alloc, by, system, steps),
-        Format::Json => chain_out_json(alloc, system, fact, steps),
+) -> Result<String, AllocError> {
+    let is_json = matches!(format, Format::Json);
+    if !by && !is_json {
+        return plain_lines(alloc, &system.wired, steps);
+    }
+    let sources = Sources::new(alloc, &system.wired, system.lines.as_slice())?;
+    if is_json {
+        chain_json(alloc, &sources, fact, steps)
+    } else {
+        chain_text(alloc, &sources, steps, Layout::Flat)
     }
 }
 
 /// That no chain leads to a fact, in this format.
 fn none_out(alloc: Global, format: Format, wired: &Wired, fact: Fact) -> Result<String, AllocError>
-    ensures { IfOk result (λ text. string_bytes text ≡ none_out format wired.now fact) }
+    ensures { InText format (IfOk result (λ text. string_bytes text ≡ codes "none\n")) }
 {
     match format {
         Format::Text | Format::Sarif => String::from_str(alloc, "none\n"),
@@ -87,7 +63,7 @@ fn explained(
     requires { IsNamed system.now.table text.now fact }
     ensures status { IfOk result (λ told. (told.status ≡ 0) ⊎ (told.status ≡ 1)) }
     ensures done { IfOk result (λ told. told.status ≡ 0
-        → TellsChain text.now by format system.now told) }
+        → TellsChain text.now system.now.table told) }
     ensures no { IfOk result (λ told. told.status ≡ 1
         → TellsNone text.now format system.now.table told) }
 {
@@ -110,7 +86,7 @@ fn text_explained(
 ) -> Result<Told, AllocError>
     ensures status { IfOk result (λ told. told.status ≤ 2) }
     ensures done { IfOk result (λ told. told.status ≡ 0
-        → TellsChain text.now by format system.now told) }
+        → TellsChain text.now system.now.table told) }
     ensures no { IfOk result (λ told. told.status ≡ 1
         → TellsNone text.now format system.now.table told) }
     ensures fault { IfOk result (λ told. told.status ≡ 2
@@ -133,7 +109,7 @@ pub fn explain_told(
     ensures status { IfOk result (λ told. told.status ≤ 2) }
     // A chain, or that there is none, is right of what the texts mean.
     ensures done { IfOk result (λ told. told.status ≡ 0
-        → ToldChain fact.now by format files.now told) }
+        → ToldChain fact.now files.now told) }
     ensures no { IfOk result (λ told. told.status ≡ 1 → ToldNone fact.now format files.now told) }
     // A fault is one of the first text that has no meaning, or of the fact, unless memory ran out.
     ensures fault { IfOk result (λ told. told.status ≡ 2

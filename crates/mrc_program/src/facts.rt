@@ -2,7 +2,6 @@
 
 ghost use Rattle.std.specs.Prelude.{◌≡◌, ◌≤◌, ◌⊎◌, [], IfOk, string_bytes};
 ghost use Rattle.mrc_program.specs.Files.{word_of};
-ghost use Rattle.mrc_program.specs.Formats.{facts_out};
 ghost use Rattle.mrc_program.specs.Told.{ToldMemory, ToldFault};
 ghost use Rattle.mrc_program.specs.Listed.{draft_given, filter_line, TellsFacts, TellsOther};
 ghost use Rattle.mrc_program.specs.Listed.{TellsBadFilter, ToldFacts, ToldOther, ToldUnlisted};
@@ -13,7 +12,7 @@ use crate::told::refused;
 use mrc_check::System;
 use mrc_command::{Format, Told, fault_of, said};
 use mrc_draw::{Filter, FilterFault, facts_text, filter_of};
-use mrc_json::facts_json;
+use mrc_print::facts_json;
 use mrc_rows::Facts;
 use mrc_wiring::Wired;
 use std::alloc::{AllocError, Global};
@@ -38,10 +37,7 @@ fn facts_out(
     wired: &Wired,
     filter: &Filter,
     facts: &Facts,
-) -> Result<String, AllocError>
-    ensures { IfOk result (λ text. string_bytes text
-        ≡ facts_out format wired.now filter.now facts.now) }
-{
+) -> Result<String, AllocError> {
     match format {
         Format::Text | Format::Sarif => facts_text(alloc, wired, facts, filter),
         Format::Json => facts_json(alloc, wired, filter, facts),
@@ -61,7 +57,7 @@ fn listing_told(
     ensures status { IfOk result (λ told. told.status ≤ 2) }
     ensures done { IfOk result (λ told. told.status ≡ 0
         → TellsFacts (word_of task.entry) (word_of class.entry) (word_of right.entry)
-        files.now.texts.certificate format wired.now told) }
+        files.now.texts.certificate wired.now told) }
     ensures no { IfOk result (λ told. told.status ≡ 1
         → TellsOther format files.now.texts.certificate wired.now told) }
     ensures fault { IfOk result (λ told. told.status ≡ 2 → ToldMemory told
@@ -96,8 +92,8 @@ pub fn facts_told(
     ensures status { IfOk result (λ told. told.status ≤ 2) }
     // The facts are those of what the texts mean.
     ensures done { IfOk result (λ told. told.status ≡ 0
-        → ToldFacts (word_of task.entry) (word_of class.entry) (word_of right.entry) format
-        files.now told) }
+        → ToldFacts (word_of task.entry) (word_of class.entry) (word_of right.entry) files.now
+        told) }
     ensures no { IfOk result (λ told. told.status ≡ 1 → ToldOther format files.now told) }
     // A fault is one of the first text that has no meaning, or of a word, unless memory ran out.
     ensures fault { IfOk result (λ told. told.status ≡ 2 → ToldMemory told

@@ -1,11 +1,11 @@
 //! The facts of a certificate that may be given, or those of the least set.
 
 ghost use Rattle.std.specs.Prelude.{◌≡◌, [], Some, Err, IfOk, IfErr, IfSome, IfNone};
-ghost use Rattle.std.specs.Prelude.{string_bytes};
+ghost use Rattle.std.specs.Prelude.{codes, string_bytes};
 ghost use Rattle.mrc_base.specs.Reading.{UnlessMemory};
 ghost use Rattle.mrc_certificate.specs.Spelling.{content};
 ghost use Rattle.mrc_check.specs.Texts.{meaningless};
-ghost use Rattle.mrc_program.specs.Formats.{counts_out};
+ghost use Rattle.mrc_program.specs.Formats.{InText};
 ghost use Rattle.mrc_program.specs.Listed.{draft_given, IsOfWiring, AreOfDraft, AreFactsOf};
 ghost use Rattle.mrc_program.specs.Listed.{IsOfAnother, IsOtherIfGiven};
 
@@ -15,14 +15,14 @@ use mrc_certificate::{Draft, read_draft};
 use mrc_check::CaseFault;
 use mrc_closure::make_alone;
 use mrc_command::{Format, Told, said};
-use mrc_json::counts_json;
+use mrc_print::counts_json;
 use mrc_rows::Facts;
 use mrc_wiring::Wired;
 use std::alloc::{AllocError, Global};
 
 /// That a certificate has other numbers than the wiring, in this format.
 fn counts_out(alloc: Global, format: Format) -> Result<String, AllocError>
-    ensures { IfOk result (λ text. string_bytes text ≡ counts_out format) }
+    ensures { InText format (IfOk result (λ text. string_bytes text ≡ codes "NO counts\n")) }
 {
     match format {
         Format::Text | Format::Sarif => String::from_str(alloc, "NO counts\n"),
@@ -33,7 +33,8 @@ fn counts_out(alloc: Global, format: Format) -> Result<String, AllocError>
 /// What is printed of a certificate that has other numbers than the wiring.
 pub fn other_told(alloc: Global, format: Format) -> Result<Told, AllocError>
     ensures status { IfOk result (λ told. told.status ≡ 1) }
-    ensures out { IfOk result (λ told. string_bytes told.out ≡ counts_out format) }
+    ensures out { IfOk result (λ told.
+        InText format (string_bytes told.out ≡ codes "NO counts\n")) }
     ensures err { IfOk result (λ told. string_bytes told.err ≡ []) }
 {
     Ok(said(alloc, counts_out(alloc, format)?, 1))

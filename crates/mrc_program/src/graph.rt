@@ -1,19 +1,16 @@
 //! What the program draws of the facts of a certificate, of those of the least set, or of a chain.
 
-ghost use Rattle.std.specs.Prelude.{◌≡◌, ◌≤◌, ◌⊎◌, [], Some, None, IfOk, IfSome, IfNone, map};
-ghost use Rattle.std.specs.Prelude.{filter, string_bytes};
+ghost use Rattle.std.specs.Prelude.{◌≡◌, ◌≤◌, ◌⊎◌, Some, None, IfOk, IfSome, IfNone, map};
 ghost use Rattle.std.specs.Option.{option_map};
 ghost use Rattle.mrc_closure.specs.Chains.{IsChain};
 ghost use Rattle.mrc_closure.specs.declared.chains.Step.{Step};
 ghost use Rattle.mrc_check.specs.Texts.{meaningless};
 ghost use Rattle.mrc_command.specs.declared.command.Format.TheVariants as formats;
-ghost use Rattle.mrc_draw.specs.Dot.{graph_text};
-ghost use Rattle.mrc_draw.specs.Filters.{is_drawn};
-ghost use Rattle.mrc_draw.specs.Pictures.{picture_of};
 ghost use Rattle.mrc_interface.specs.Reading.{GivesAs};
 ghost use Rattle.mrc_model.specs.Rules.{Least};
 ghost use Rattle.mrc_program.specs.Explained.{TellsNone};
 ghost use Rattle.mrc_program.specs.Files.{word_of};
+ghost use Rattle.mrc_program.specs.Meant.{IsQuiet};
 ghost use Rattle.mrc_program.specs.Listed.{claim_given, claimed, draft_given, draft_drawn};
 ghost use Rattle.mrc_program.specs.Listed.{AreFactsOf, TellsOther, IsOfChain, AreOfChain, AreDrawn};
 ghost use Rattle.mrc_program.specs.Listed.{IsDrawing, TellsUndrawn, TellsBadFilter};
@@ -46,13 +43,12 @@ fn drawn(
     lines: &[ForbiddenLine],
 ) -> Result<Told, AllocError>
     ensures status { IfOk result (λ told. told.status ≡ 0) }
-    ensures out { IfOk result (λ told. string_bytes told.out ≡ graph_text
-        (picture_of wired.now (filter (is_drawn asked.now holds) facts.now) lines.now)) }
-    ensures err { IfOk result (λ told. string_bytes told.err ≡ []) }
+    ensures err { IfOk result IsQuiet }
 {
     let facts = drawn_facts(alloc, facts, asked, holds)?;
-    let text = graph_text(alloc, wired, &facts, lines)?;
-    Ok(said(alloc, text, 0))
+    let text = graph_text(alloc, wired, &facts, lines);
+    drop(facts);
+    Ok(said(alloc, text?, 0))
 }
 
 /// A chain that derives the fact.
@@ -63,14 +59,20 @@ fn short_chain(alloc: Global, wired: &Wired, fact: Fact) -> Result<Option<Vec<St
         IfNone chain (Least (wiring_of wired.now) fact → ⊥)) }
 {
     let mut derivations = Derivations::new(alloc, wired)?;
-    derivations.chain(alloc, fact)
+    let found = derivations.chain(alloc, fact);
+    drop(derivations);
+    found
 }
 
 /// What the steps conclude.
 fn step_facts(alloc: Global, steps: &[Step]) -> Result<Vec<Fact>, AllocError>
     ensures { IfOk result (λ facts. facts.items ≡ map (λ (s : Step). s.fact) steps.now) }
 {
-    steps.iter().map(|step| step.fact).collect(alloc)
+    let mut facts = Vec::new(alloc);
+    for step in steps {
+        facts.push(step.fact)?;
+    }
+    Ok(facts)
 }
 
 /// The facts of a chain that derives the fact.
@@ -100,8 +102,7 @@ fn chain_drawn(
 ) -> Result<Told, AllocError>
     ensures status { IfOk result (λ told. told.status ≤ 2) }
     ensures done { IfOk result (λ told. told.status ≡ 0
-        → IsDrawing (AreOfChain wired.now text.now) (word_of task.entry) holds wired.now lines.now
-        told) }
+        → IsDrawing (AreOfChain wired.now text.now) (word_of task.entry) wired.now told) }
     ensures no { IfOk result (λ told. told.status ≡ 1
         → TellsNone text.now formats.Text wired.now told) }
     ensures fault { IfOk result (λ told. told.status ≡ 2
@@ -130,8 +131,8 @@ fn facts_drawn(
 ) -> Result<Told, AllocError>
     ensures status { IfOk result (λ told. told.status ≤ 2) }
     ensures done { IfOk result (λ told. told.status ≡ 0
-        → IsDrawing (AreFactsOf wired.now files.now.texts.certificate) (word_of task.entry) holds
-        wired.now lines.now told) }
+        → IsDrawing (AreFactsOf wired.now files.now.texts.certificate) (word_of task.entry)
+        wired.now told) }
     ensures no { IfOk result (λ told. told.status ≡ 1
         → TellsOther formats.Text files.now.texts.certificate wired.now told) }
     ensures fault { IfOk result (λ told. told.status ≡ 2 → ToldMemory told
@@ -163,7 +164,7 @@ fn drawing_told(
     ensures status { IfOk result (λ told. told.status ≤ 2) }
     ensures done { IfOk result (λ told. told.status ≡ 0
         → IsDrawing (AreDrawn wired.now files.now.texts.certificate (word_of fact.entry))
-        (word_of task.entry) holds wired.now lines.now told) }
+        (word_of task.entry) wired.now told) }
     ensures no { IfOk result (λ told. told.status ≡ 1
         → TellsUndrawn files.now.texts.certificate (word_of fact.entry) wired.now told) }
     ensures fault { IfOk result (λ told. told.status ≡ 2 → ToldMemory told
@@ -229,7 +230,7 @@ pub fn graph_told(
     ensures status { IfOk result (λ told. told.status ≤ 2) }
     // The drawing is one of what the texts mean.
     ensures done { IfOk result (λ told. told.status ≡ 0
-        → ToldGraph (word_of fact.entry) (word_of task.entry) holds files.now told) }
+        → ToldGraph (word_of fact.entry) (word_of task.entry) files.now told) }
     ensures no { IfOk result (λ told. told.status ≡ 1
         → ToldUndrawn (word_of fact.entry) files.now told) }
     // A fault is one of the first text that has no meaning, of the fact or of the task, unless

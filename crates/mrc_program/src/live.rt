@@ -25,6 +25,7 @@ use mrc_command::{FileNames, Format, Told, fault_of, memory, said};
 use mrc_report::{NotServed, Ran, Script, ServeFault, Served, serve, waits_text};
 use std::alloc::{AllocError, Global};
 use std::marker::Brand;
+use std::mem::replace;
 use std::sync::Wait;
 use std::sync::ledger::Blank;
 use std::thread::Threads;
@@ -68,7 +69,7 @@ fn waits_told(
     ensures err { IfOk result (λ told. string_bytes told.err
         ≡ fault_line file.now (waits_text lines.now)) }
 {
-    *pending = Pending::journal(ran);
+    drop(replace(pending, Pending::journal(ran)));
     let text = waits_text(alloc, lines)?;
     fault_of(alloc, file, text.as_str())
 }
@@ -96,7 +97,7 @@ fn run_told<R: Threads + Wait + Sync>(
 {
     match served(rt, alloc, confined, script, limit) {
         Ok(Served::Whole(ran)) => {
-            *pending = Pending::journal(ran);
+            drop(replace(pending, Pending::journal(ran)));
             Ok(said(alloc, String::new(alloc), 0))
         }
         Ok(Served::AllWait(ran, lines)) => {

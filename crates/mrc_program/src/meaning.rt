@@ -1,11 +1,5 @@
 //! The first text that has no meaning.
 
-ghost use Rattle.std.specs.Prelude.{◌≡◌};
-ghost use Rattle.mrc_check.specs.Texts.{meaningless};
-ghost use Rattle.mrc_interface.specs.Reading.{GivesAs};
-ghost use Rattle.mrc_program.specs.Behind.{certificate_if_given, script_if_given, rest_if_given};
-ghost use Rattle.mrc_program.specs.Behind.{policy_if_given, all_meant};
-
 use crate::files::Texts;
 use crate::script::script_said;
 use mrc_base::OrMemory;
@@ -15,10 +9,7 @@ use mrc_wiring::Wired;
 use std::alloc::Global;
 
 /// Whether the certificate has a meaning, if it is given.
-fn certificate_if_given(alloc: Global, texts: &Texts) -> Result<(), OrMemory<CaseFault>>
-    ensures { GivesAs (λ none. none) meaningless result
-        (certificate_if_given texts.now.certificate) }
-{
+fn certificate_if_given(alloc: Global, texts: &Texts) -> Result<(), OrMemory<CaseFault>> {
     let Some(bytes) = &texts.certificate else {
         return Ok(());
     };
@@ -34,10 +25,7 @@ fn script_if_given(
     wired: &Wired,
     texts: &Texts,
     live: bool,
-) -> Result<(), OrMemory<CaseFault>>
-    ensures { GivesAs (λ none. none) meaningless result
-        (script_if_given live wired.now texts.now texts.now.script) }
-{
+) -> Result<(), OrMemory<CaseFault>> {
     if texts.script.is_none() {
         return Ok(());
     }
@@ -53,10 +41,7 @@ fn rest_if_given(
     wired: &Wired,
     texts: &Texts,
     live: bool,
-) -> Result<(), OrMemory<CaseFault>>
-    ensures { GivesAs (λ none. none) meaningless result
-        (rest_if_given live wired.now texts.now) }
-{
+) -> Result<(), OrMemory<CaseFault>> {
     certificate_if_given(alloc, texts)?;
     script_if_given(alloc, wired, texts, live)
 }
@@ -67,10 +52,7 @@ fn policy_if_given(
     system: System,
     texts: &Texts,
     live: bool,
-) -> Result<(), OrMemory<CaseFault>>
-    ensures { GivesAs (λ none. none) meaningless result
-        (policy_if_given live system texts.now texts.now.policy) }
-{
+) -> Result<(), OrMemory<CaseFault>> {
     let Some(policy) = &texts.policy else {
         return rest_if_given(alloc, &system.wired, texts, live);
     };
@@ -82,9 +64,7 @@ fn policy_if_given(
 
 /// Whether all texts that are given have a meaning, or the first that has none. A script is for
 /// tasks that run as threads (`live`), or not.
-pub fn all_meant(alloc: Global, texts: &Texts, live: bool) -> Result<(), OrMemory<CaseFault>>
-    ensures { GivesAs (λ none. none) meaningless result (all_meant live texts.now) }
-{
+pub fn all_meant(alloc: Global, texts: &Texts, live: bool) -> Result<(), OrMemory<CaseFault>> {
     let system = System::read(alloc, texts.defs.as_slice(), texts.wiring.as_slice())?;
     policy_if_given(alloc, system, texts, live)
 }

@@ -1,7 +1,8 @@
 //! What the program prints of mends: changes of a wiring after which a policy holds.
 
 ghost use Rattle.std.specs.Prelude.{◌≡◌, ◌≤◌, ◌⊎◌, [], IfOk, IfSome, IsSomeAnd, string_bytes};
-ghost use Rattle.mrc_program.specs.Formats.{mends_out};
+ghost use Rattle.mrc_mend.specs.Texts.{mends_text};
+ghost use Rattle.mrc_program.specs.Formats.{InText};
 ghost use Rattle.mrc_program.specs.Texts.{stated};
 ghost use Rattle.mrc_program.specs.Told.{ToldMemory, ToldFault};
 ghost use Rattle.mrc_program.specs.Verified.{mend_status, notes_of, ToldMends};
@@ -10,11 +11,11 @@ ghost use Rattle.mrc_program.specs.Verified.{IsBadMost, ToldMost};
 use crate::files::Files;
 use crate::told::refused;
 use mrc_command::{Format, Told, fault_of};
-use mrc_json::mends_json;
 use mrc_mend::{Answer, Progress, find_mends, mends_text};
+use mrc_print::mends_json;
 use std::alloc::{AllocError, Global};
 
-/// The most mends, or states of an attack, that may be asked for.
+/// The most mends, or chains of an attack, that may be asked for.
 const MOST: usize = 1_000_000;
 
 /// What is printed if no such number can be asked for.
@@ -64,7 +65,8 @@ fn mends_out(
     wiring: &[u8],
     answer: &Answer,
 ) -> Result<String, AllocError>
-    ensures { IfOk result (λ text. string_bytes text ≡ mends_out format wiring.now answer.now) }
+    ensures { InText format
+        (IfOk result (λ text. string_bytes text ≡ mends_text wiring.now answer.now)) }
 {
     match format {
         Format::Text | Format::Sarif => mends_text(alloc, wiring, answer),
@@ -80,8 +82,8 @@ fn answer_told(
     answer: &Answer,
 ) -> Result<Told, AllocError>
     ensures status { IfOk result (λ told. told.status ≡ mend_status answer.now) }
-    ensures out { IfOk result (λ told. string_bytes told.out
-        ≡ mends_out format wiring.now answer.now) }
+    ensures out { IfOk result (λ told.
+        InText format (string_bytes told.out ≡ mends_text wiring.now answer.now)) }
     ensures err { IfOk result (λ told. string_bytes told.err ≡ notes_of answer.now) }
 {
     let out = mends_out(alloc, format, wiring, answer)?;

@@ -1,9 +1,6 @@
-//! What the program tells of MIG files that are cut.
+//! What the program prints of MIG files that are cut.
 
 ghost use Rattle.std.specs.Prelude.{◌≡◌, ◌⊎◌, ℕ, List, [], Some, IfOk, IsOkAnd, length, map};
-ghost use Rattle.std.specs.Prelude.{string_bytes};
-ghost use Rattle.mrc_command.specs.declared.command.Command.{Command};
-ghost use Rattle.mrc_program.specs.Behind.{IsMadeFor, IsNoHelp};
 ghost use Rattle.mrc_program.specs.Told.{ToldMemory};
 ghost use Rattle.mrc_program.specs.Cutting.{mig_names, same_name, CutsWritten, CutsLess};
 ghost use Rattle.mrc_program.specs.Cutting.{CutsRefused, OfCuts, ToldNoCuts, ToldSameName};
@@ -15,10 +12,10 @@ use crate::writing::{make_room, writings_of, writings_told};
 use mrc_base::OrMemory;
 use mrc_command::{MigFiles, Told, fault_of, memory};
 use mrc_files::{Folder, bytes_of_all};
-use mrc_json::NamedCut;
+use mrc_print::NamedCut;
 use std::alloc::{AllocError, Global};
 
-/// Writes what texts are cut to, where enough is read of them, and tells what is left out.
+/// Writes what texts are cut to, if enough is read of them, and prints what is left out.
 fn cuts_told<F: Folder>(
     folder: &mut F,
     alloc: Global,
@@ -62,7 +59,6 @@ fn mig_told<F: Folder>(
     help: &mut Help,
 ) -> Result<Told, AllocError>
     requires count { length (mig_names files.now) ≡ length texts.now }
-    requires empty { IsNoHelp help.old }
     ensures status { IfOk result (λ told. (told.status ≡ 0) ⊎ (told.status ≡ 2)) }
     ensures cuts { IfOk result (λ told. told.status ≡ 0
         → OfCuts (CutsWritten files.now (F.held folder.old) (F.held folder.new)) files.now
@@ -76,8 +72,6 @@ fn mig_told<F: Folder>(
         (OfCuts (CutsRefused files.now (F.held folder.old) (F.held folder.new)) files.now
         (map (λ text. text.items) texts.now))
         ⊎ (F.held folder.new ≡ F.held folder.old)) }
-    ensures help { IfOk result
-        (IsMadeFor wanted (F.held folder.old) (Command.Mig files.now) help.new) }
 {
     match cuts_of(alloc, files.defs.as_slice(), texts) {
         Ok(cuts) => cuts_told(folder, alloc, files, cuts.as_slice()),
@@ -97,7 +91,6 @@ pub fn mig_files<F: Folder>(
     wanted: bool,
     help: &mut Help,
 ) -> Result<Told, AllocError>
-    requires empty { IsNoHelp help.old }
     ensures status { IfOk result (λ told. (told.status ≡ 0) ⊎ (told.status ≡ 2)) }
     // What is printed is right of what the files held, so far as that is known.
     ensures cuts { IfOk result (λ told. told.status ≡ 0
@@ -112,8 +105,6 @@ pub fn mig_files<F: Folder>(
     ensures kept { IsOkAnd result (λ told. told.status ≡ 0)
         ⊎ (IsOkAnd result (RefusedOfFiles (F.held folder.old) (F.held folder.new) files.now)
         ⊎ (F.held folder.new ≡ F.held folder.old)) }
-    ensures help { IfOk result
-        (IsMadeFor wanted (F.held folder.old) (Command.Mig files.now) help.new) }
 {
     if let Some(file) = same_name(files.defs.as_slice()) {
         return fault_of(alloc, file, "SameName");

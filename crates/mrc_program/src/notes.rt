@@ -1,9 +1,6 @@
 //! Sentences that help with a word of an option, with a certificate, or with a file that is to be
 //! written.
 
-ghost use Rattle.std.specs.Prelude.{◌≡◌};
-ghost use Rattle.mrc_program.specs.Behind.{is_noted};
-
 use mrc_base::{ClassId, TaskId};
 use mrc_certificate::DraftFault;
 use mrc_command::Question;
@@ -28,9 +25,7 @@ enum Part {
 }
 
 /// Whether sentences may help with a fault of this name.
-pub fn is_noted(fault: &str) -> bool
-    ensures { result ≡ is_noted fault.now }
-{
+pub fn is_noted(fault: &str) -> bool {
     fault == "BadTask"
         || fault == "BadClass"
         || fault == "BadRight"

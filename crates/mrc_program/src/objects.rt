@@ -1,13 +1,11 @@
 //! The objects of faults, for programs that read them.
 
-ghost use Rattle.std.specs.Prelude.{◌≡◌, ◌⊎◌, [], IfOk, IsTrue, string_bytes};
+ghost use Rattle.std.specs.Prelude.{◌≡◌, ◌≢◌, IsTrue};
 ghost use Rattle.mrc_command.specs.declared.command.Format.TheVariants as formats;
-ghost use Rattle.mrc_program.specs.FaultObjects.{IsFaultObject, fault_object};
 
 use mrc_command::{Format, Told};
-use mrc_json::fault_json;
 use mrc_place::Hint;
-use mrc_sarif::fault_sarif;
+use mrc_print::{fault_json, fault_sarif};
 use std::alloc::{AllocError, Global};
 
 /// The object of a fault, by the word of the command, what is printed on standard error, and the
@@ -18,10 +16,7 @@ fn fault_object(
     word: &str,
     err: &str,
     hint: &Hint,
-) -> Result<String, AllocError>
-    ensures { IfOk result (λ object.
-        string_bytes object ≡ fault_object format word.now err.now hint.now) }
-{
+) -> Result<String, AllocError> {
     match format {
         Format::Text => Ok(String::new(alloc)),
         Format::Json => fault_json(alloc, word, err, hint),
@@ -31,8 +26,7 @@ fn fault_object(
 
 /// Whether it is a fault that is printed, and nothing on standard output.
 fn has_room(told: &Told) -> bool
-    ensures fault { IsTrue result → told.now.status ≡ 2 }
-    ensures nothing { IsTrue result → string_bytes told.now.out ≡ [] }
+    ensures { IsTrue result → told.now.status ≡ 2 }
 {
     told.status == 2 && told.out.as_str().is_empty()
 }
@@ -40,8 +34,9 @@ fn has_room(told: &Told) -> bool
 /// What is printed, with the object of the fault if it is one, and if nothing else goes to standard
 /// output. If memory runs out for the object, nothing does.
 pub fn with_object(alloc: Global, format: Format, word: &str, hint: &Hint, told: Told) -> Told
-    ensures object { (result ≡ told) ⊎ IsFaultObject format word.now hint.now told result }
-    // An answer for people is not changed.
+    ensures status { result.status ≡ told.status }
+    // An answer without a fault is not changed, nor is one for people.
+    ensures kept { told.status ≢ 2 → result ≡ told }
     ensures text { format ≡ formats.Text → result ≡ told }
 {
     if matches!(format, Format::Text) || !has_room(&told) {

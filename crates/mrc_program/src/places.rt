@@ -1,9 +1,5 @@
 //! What helps with a fault of a text, by the text's role.
 
-ghost use Rattle.std.specs.Prelude.{◌≡◌, None, IfOk, IfSome};
-ghost use Rattle.mrc_program.specs.Places.{IsCallsHint, IsClaimHint, IsHintFor, IsHintOfFile};
-ghost use Rattle.mrc_program.specs.Places.{IsNamesHint, IsPolicyHint, IsWiringHint};
-
 use crate::files::{Files, Texts};
 use crate::notes::{draft_note, one_note};
 use mrc_certificate::DraftFault;
@@ -21,10 +17,7 @@ use std::alloc::{AllocError, Global};
 use std::str;
 
 /// What helps with a fault of a MIG file.
-fn defs_hint(alloc: Global, texts: &Texts, fault: &FileFault) -> Result<Option<Hint>, AllocError>
-    ensures { IfOk result (λ hint.
-        IfSome hint (IsHintOfFile texts.now.defs fault.now.file fault.now.fault)) }
-{
+fn defs_hint(alloc: Global, texts: &Texts, fault: &FileFault) -> Result<Option<Hint>, AllocError> {
     let Some(bytes) = texts.defs.get(fault.file) else {
         return Ok(None);
     };
@@ -37,9 +30,7 @@ fn wiring_names_hint(
     alloc: Global,
     files: &Files<'_>,
     fault: ResolveFault,
-) -> Result<Option<Hint>, AllocError>
-    ensures { IfOk result (λ hint. IfSome hint (IsNamesHint files.now fault)) }
-{
+) -> Result<Option<Hint>, AllocError> {
     let Ok(text) = str::from_utf8(files.texts.wiring.as_slice()) else {
         return Ok(None);
     };
@@ -56,9 +47,7 @@ fn wiring_hint(
     alloc: Global,
     files: &Files<'_>,
     fault: &WiringFault,
-) -> Result<Option<Hint>, AllocError>
-    ensures { IfOk result (λ hint. IfSome hint (IsWiringHint files.now fault.now)) }
-{
+) -> Result<Option<Hint>, AllocError> {
     match fault {
         WiringFault::Text(fault) => {
             let hint = wiring_line_hint(alloc, files.texts.wiring.as_slice(), *fault)?;
@@ -77,9 +66,7 @@ fn policy_names_hint(
     alloc: Global,
     texts: &Texts,
     fault: ClaimFault,
-) -> Result<Option<Hint>, AllocError>
-    ensures { IfOk result (λ hint. IfSome hint (IsClaimHint texts.now fault)) }
-{
+) -> Result<Option<Hint>, AllocError> {
     let Ok(text) = str::from_utf8(texts.policy()) else {
         return Ok(None);
     };
@@ -91,9 +78,11 @@ fn policy_names_hint(
 }
 
 /// What helps with a fault of the policy.
-fn policy_hint(alloc: Global, texts: &Texts, fault: PolicyFault) -> Result<Option<Hint>, AllocError>
-    ensures { IfOk result (λ hint. IfSome hint (IsPolicyHint texts.now fault)) }
-{
+fn policy_hint(
+    alloc: Global,
+    texts: &Texts,
+    fault: PolicyFault,
+) -> Result<Option<Hint>, AllocError> {
     match fault {
         PolicyFault::Text(fault) => {
             let hint = policy_line_hint(alloc, texts.policy(), fault)?;
@@ -109,9 +98,7 @@ fn script_text_hint(
     texts: &Texts,
     live: bool,
     fault: TextFault,
-) -> Result<Option<Hint>, AllocError>
-    ensures { IfOk result (λ hint. IfSome hint (IsCallsHint live texts.now fault)) }
-{
+) -> Result<Option<Hint>, AllocError> {
     let Ok(lines) = read_wiring(alloc, texts.wiring.as_slice()) else {
         return Ok(None);
     };
@@ -120,9 +107,7 @@ fn script_text_hint(
 }
 
 /// What helps with a fault of the certificate.
-fn certificate_hint(alloc: Global, fault: DraftFault) -> Result<Hint, AllocError>
-    ensures { IfOk result (λ hint. hint.spot ≡ None) }
-{
+fn certificate_hint(alloc: Global, fault: DraftFault) -> Result<Hint, AllocError> {
     let notes = one_note(alloc, draft_note(fault))?;
     Ok(Hint { spot: None, notes })
 }
@@ -133,9 +118,7 @@ pub fn hint_of(
     files: &Files<'_>,
     live: bool,
     fault: &CaseFault,
-) -> Result<Option<Hint>, AllocError>
-    ensures { IfOk result (λ hint. IfSome hint (IsHintFor live files.now fault.now)) }
-{
+) -> Result<Option<Hint>, AllocError> {
     match fault {
         CaseFault::Defs(fault) => defs_hint(alloc, &files.texts, fault),
         CaseFault::Wiring(fault) => wiring_hint(alloc, files, fault),

@@ -3,18 +3,18 @@
 use mrc_files::write_text;
 use std::io::Write;
 
-/// How many wirings are judged, or states looked at, before the first line.
+/// How many wirings are judged, or chains played, before the first line.
 const FIRST: usize = 16;
 
-/// Prints on standard error how many wirings were judged, or how many states were looked at for all
+/// Prints on standard error how many wirings were judged, or how many chains were played for all
 /// lines of a policy, if that is a terminal: after the first 16, and then each time their number
 /// has doubled.
 #[derive(Drop)]
 pub(crate) struct Counter<'a, E: Write> {
     pub(crate) err: &'a mut E,
     pub(crate) watched: bool,
-    /// How many states were looked at.
-    pub(crate) looked: usize,
+    /// How many chains were played.
+    pub(crate) played: usize,
 }
 
 impl<'a, E: Write> Counter<'a, E> {
@@ -36,8 +36,8 @@ impl<'a, E: Write> mrc_mend::Progress for Counter<'a, E> {
 }
 
 impl<'a, E: Write> mrc_attack::Progress for Counter<'a, E> {
-    fn looked(&mut self, _states: usize) {
-        self.looked = self.looked.saturating_add(1);
-        self.count(b"machcheck: attack: states looked at: ", self.looked);
+    fn played(&mut self, _chains: usize) {
+        self.played = self.played.saturating_add(1);
+        self.count(b"machcheck: attack: chains played: ", self.played);
     }
 }

@@ -1,14 +1,7 @@
 //! What has to be found in the code of trusted tasks.
 
-ghost use Rattle.std.specs.Prelude.{◌≡◌, ◌⊎◌, ◌++◌, ◌∷◌, [], IfOk, OnOk, List, ℕ, map};
-ghost use Rattle.std.specs.Prelude.{string_bytes};
-ghost use Rattle.mrc_wiring_text.specs.declared.trust.TrustVerb.{TrustVerb};
-ghost use Rattle.mrc_program.specs.Promised.{behind_task, class_words, right_words, calls};
-ghost use Rattle.mrc_program.specs.Promised.{also_taking, also_giving, also_not, limit_word};
-ghost use Rattle.mrc_program.specs.Promised.{none_word, rights_limit, taking_text, giving_text};
-ghost use Rattle.mrc_program.specs.Promised.{sending_text, replying_text, right_text, none_text};
-ghost use Rattle.mrc_program.specs.Promised.{limit_text, promise_line, promise, same_verb, limits};
-ghost use Rattle.mrc_program.specs.Promised.{is_limited, is_further, promises, ToldPromises};
+ghost use Rattle.std.specs.Prelude.{◌≡◌, ◌⊎◌, IfOk};
+ghost use Rattle.mrc_program.specs.Meant.{ToldSystem};
 ghost use Rattle.mrc_program.specs.Texts.{system};
 ghost use Rattle.mrc_program.specs.Told.{ToldMemory, ToldFault};
 
@@ -20,34 +13,20 @@ use mrc_command::{Told, said};
 use mrc_wiring_text::{ClassName, TrustVerb, TrustedRight, WiringLine, WiringSays};
 use std::alloc::{AllocError, Global};
 
-/// The kind of births behind the name of their task: nothing for kind 0.
-fn behind_task(alloc: Global, kind: u8) -> Result<String, AllocError>
-    ensures { IfOk result (λ text. string_bytes text ≡ behind_task kind) }
-{
-    if kind == 0 {
-        return Ok(String::new(alloc));
-    }
-    format!(in alloc; " {kind}")
-}
-
-/// A class in the words of a wiring.
-fn class_words(alloc: Global, class: &ClassName) -> Result<String, AllocError>
-    ensures { IfOk result (λ text. string_bytes text ≡ class_words class.now) }
-{
+/// A class in the words of a wiring: births without their kind, if it is 0.
+fn class_words(alloc: Global, class: &ClassName) -> Result<String, AllocError> {
     match class {
         ClassName::Port(name) => format!(in alloc; "port {}", name.as_str()),
         ClassName::Task(name) => format!(in alloc; "task {}", name.as_str()),
-        ClassName::Births { task, kind } => {
-            let behind = behind_task(alloc, kind.number())?;
-            format!(in alloc; "births {}{behind}", task.as_str())
-        }
+        ClassName::Births { task, kind } => match kind.number() {
+            0 => format!(in alloc; "births {}", task.as_str()),
+            kind => format!(in alloc; "births {} {kind}", task.as_str()),
+        },
     }
 }
 
 /// The word of a right in Mach's documents.
-fn right_words(right: PortRight) -> &'static str
-    ensures { result.now ≡ right_words right }
-{
+fn right_words(right: PortRight) -> &'static str {
     match right {
         PortRight::Send => "send",
         PortRight::Receive => "receive",
@@ -56,9 +35,7 @@ fn right_words(right: PortRight) -> &'static str
 }
 
 /// The calls by which a task does what the verb says.
-fn calls(verb: TrustVerb) -> &'static str
-    ensures { result.now ≡ calls verb }
-{
+fn calls(verb: TrustVerb) -> &'static str {
     match verb {
         TrustVerb::Takes => "mach_port_extract_right from another task",
         TrustVerb::Gives => "mach_port_insert_right on another task",
@@ -67,170 +44,65 @@ fn calls(verb: TrustVerb) -> &'static str
     }
 }
 
-/// Where else a task takes such a right.
-fn also_taking(right: PortRight) -> &'static str
-    ensures { result.now ≡ also_taking right }
-{
-    match right {
-        PortRight::Send | PortRight::Receive => "",
-        PortRight::SendOnce => {
+/// Where else a task takes or gives such a right.
+fn also(verb: TrustVerb, right: PortRight) -> &'static str {
+    match (verb, right) {
+        (TrustVerb::Takes, PortRight::SendOnce) => {
             ", and the previous right of mach_port_request_notification there,"
         }
-    }
-}
-
-/// Where else a task gives such a right.
-fn also_giving(right: PortRight) -> &'static str
-    ensures { result.now ≡ also_giving right }
-{
-    match right {
-        PortRight::Send | PortRight::Receive => "",
-        PortRight::SendOnce => ", and the notify right of mach_port_request_notification there,",
+        (TrustVerb::Gives, PortRight::SendOnce) => {
+            ", and the notify right of mach_port_request_notification there,"
+        }
+        _ => "",
     }
 }
 
 /// Where else nothing is taken or given, if nothing is.
-fn also_not(verb: TrustVerb) -> &'static str
-    ensures { result.now ≡ also_not verb }
-{
+fn also_not(verb: TrustVerb) -> &'static str {
     match verb {
-        TrustVerb::Takes => { ", and no mach_port_request_notification there that returns a right" }
+        TrustVerb::Takes => ", and no mach_port_request_notification there that returns a right",
         TrustVerb::Gives => ", and no mach_port_request_notification there with a notify right",
         TrustVerb::Sends | TrustVerb::Replies => "",
     }
 }
 
-/// How a limit begins: with `only`, and in each further line of a task and a verb with `or`.
-fn limit_word(further: bool) -> &'static str
-    ensures { result.now ≡ limit_word further }
-{
-    if further { "or" } else { "only" }
-}
-
-/// How it begins, if it allows nothing.
-fn none_word(further: bool) -> &'static str
-    ensures { result.now ≡ none_word further }
-{
-    if further { "or no" } else { "no" }
-}
-
-/// The limit: such rights on ports of the class.
-fn rights_limit(
-    alloc: Global,
-    further: bool,
-    right: PortRight,
-    class: &str,
-) -> Result<String, AllocError>
-    ensures { IfOk result (λ text. string_bytes text ≡ rights_limit further right class.now) }
-{
-    let word = limit_word(further);
-    let right = right_words(right);
-    format!(in alloc; "{word} of {right} rights on ports of {class}")
-}
-
-/// What is taken from another task.
-fn taking_text(
-    alloc: Global,
-    further: bool,
-    right: PortRight,
-    class: &str,
-) -> Result<String, AllocError>
-    ensures { IfOk result (λ text. string_bytes text ≡ taking_text further right class.now) }
-{
-    let calls = calls(TrustVerb::Takes);
-    let also = also_taking(right);
-    let limit = rights_limit(alloc, further, right, class)?;
-    format!(in alloc; "{calls}{also} {limit}")
-}
-
-/// What is given to another task.
-fn giving_text(
-    alloc: Global,
-    further: bool,
-    right: PortRight,
-    class: &str,
-) -> Result<String, AllocError>
-    ensures { IfOk result (λ text. string_bytes text ≡ giving_text further right class.now) }
-{
-    let calls = calls(TrustVerb::Gives);
-    let also = also_giving(right);
-    let limit = rights_limit(alloc, further, right, class)?;
-    format!(in alloc; "{calls}{also} {limit}")
-}
-
-/// What is sent in slots.
-fn sending_text(
-    alloc: Global,
-    further: bool,
-    right: PortRight,
-    class: &str,
-) -> Result<String, AllocError>
-    ensures { IfOk result (λ text. string_bytes text ≡ sending_text further right class.now) }
-{
-    let calls = calls(TrustVerb::Sends);
-    let limit = rights_limit(alloc, further, right, class)?;
-    format!(in alloc; "{calls} {limit}")
-}
-
-/// Which reply ports are named.
-fn replying_text(alloc: Global, further: bool, class: &str) -> Result<String, AllocError>
-    ensures { IfOk result (λ text. string_bytes text ≡ replying_text further class.now) }
-{
-    let word = limit_word(further);
-    format!(in alloc; "mach_msg with reply ports {word} of {class}")
-}
-
-/// What a line allows that names a right on the class.
+/// What a line allows that names a right on a class. It begins with `or` if it is a further line of
+/// its task and verb.
 fn right_text(
     alloc: Global,
     further: bool,
     verb: TrustVerb,
-    right: PortRight,
-    class: &str,
-) -> Result<String, AllocError>
-    ensures { IfOk result (λ text. string_bytes text
-        ≡ right_text further verb right class.now) }
-{
-    match verb {
-        TrustVerb::Takes => taking_text(alloc, further, right, class),
-        TrustVerb::Gives => giving_text(alloc, further, right, class),
-        TrustVerb::Sends => sending_text(alloc, further, right, class),
-        TrustVerb::Replies => replying_text(alloc, further, class),
+    on: &TrustedRight,
+) -> Result<String, AllocError> {
+    let word = if further { "or" } else { "only" };
+    let class = class_words(alloc, &on.class)?;
+    if matches!(verb, TrustVerb::Replies) {
+        return format!(in alloc; "mach_msg with reply ports {word} of {class}");
     }
-}
-
-/// What a line allows that names none: nothing.
-fn none_text(alloc: Global, further: bool, verb: TrustVerb) -> Result<String, AllocError>
-    ensures { IfOk result (λ text. string_bytes text ≡ none_text further verb) }
-{
-    let word = none_word(further);
     let calls = calls(verb);
-    let also = also_not(verb);
-    format!(in alloc; "{word} {calls}{also}")
+    let also = also(verb, on.right);
+    let right = right_words(on.right);
+    format!(in alloc; "{calls}{also} {word} of {right} rights on ports of {class}")
 }
 
-/// What a line allows.
+/// What a line allows: nothing, if it names no right.
 fn limit_text(
     alloc: Global,
     further: bool,
     verb: TrustVerb,
     right: &Option<TrustedRight>,
-) -> Result<String, AllocError>
-    ensures { IfOk result (λ text. string_bytes text ≡ limit_text further verb right.now) }
-{
-    match right {
-        None => none_text(alloc, further, verb),
-        Some(on) => {
-            let class = class_words(alloc, &on.class)?;
-            right_text(alloc, further, verb, on.right, class.as_str())
-        }
+) -> Result<String, AllocError> {
+    if let Some(on) = right {
+        return right_text(alloc, further, verb, on);
     }
+    let word = if further { "or no" } else { "no" };
+    let calls = calls(verb);
+    let also = also_not(verb);
+    format!(in alloc; "{word} {calls}{also}")
 }
 
 /// The line of a task for the line of this number.
-fn promise_line(alloc: Global, task: &str, text: &str, number: u32) -> Result<String, AllocError>
-    ensures { IfOk result (λ line. string_bytes line ≡ promise_line task.now text.now number) }
-{
+fn promise_line(alloc: Global, task: &str, text: &str, number: u32) -> Result<String, AllocError> {
     format!(in alloc; "{task}: {text} (line {number})\n")
 }
 
@@ -239,96 +111,49 @@ const FIT: &str =
     "mach_msg with a reply port only if the port accepts the replies of the request's interface";
 
 /// What is printed for a line: nothing, if it trusts no task.
-fn promise(alloc: Global, further: bool, line: &WiringLine) -> Result<String, AllocError>
-    ensures { IfOk result (λ text. string_bytes text
-        ≡ promise further line.now.number line.now.says) }
-{
+fn promise(alloc: Global, further: bool, line: &WiringLine) -> Result<String, AllocError> {
     match &line.says {
-        WiringSays::Task(_)
-        | WiringSays::Port { .. }
-        | WiringSays::Births { .. }
-        | WiringSays::HoldPort { .. }
-        | WiringSays::HoldTask { .. }
-        | WiringSays::Admit { .. } => Ok(String::new(alloc)),
         WiringSays::Trust { task, verb, right } => {
             let text = limit_text(alloc, further, *verb, right)?;
             promise_line(alloc, task.as_str(), text.as_str(), line.number)
         }
         WiringSays::RepliesFit => promise_line(alloc, "each task", FIT, line.number),
-    }
-}
-
-/// Whether the verbs are the same.
-fn same_verb(verb: TrustVerb, other: TrustVerb) -> bool
-    ensures { result ≡ same_verb verb other }
-{
-    match verb {
-        TrustVerb::Takes => matches!(other, TrustVerb::Takes),
-        TrustVerb::Gives => matches!(other, TrustVerb::Gives),
-        TrustVerb::Sends => matches!(other, TrustVerb::Sends),
-        TrustVerb::Replies => matches!(other, TrustVerb::Replies),
+        _ => Ok(String::new(alloc)),
     }
 }
 
 /// Whether what a line says limits what this task does by this verb.
-fn limits(task: &str, verb: TrustVerb, says: &WiringSays) -> bool
-    ensures { result ≡ limits task.now verb says.now }
-{
+fn limits(task: &str, verb: TrustVerb, says: &WiringSays) -> bool {
     match says {
-        WiringSays::Task(_)
-        | WiringSays::Port { .. }
-        | WiringSays::Births { .. }
-        | WiringSays::HoldPort { .. }
-        | WiringSays::HoldTask { .. }
-        | WiringSays::Admit { .. }
-        | WiringSays::RepliesFit => false,
         WiringSays::Trust {
             task: other,
             verb: by,
             ..
-        } => other.as_str() == task && same_verb(*by, verb),
+        } => other.as_str() == task && *by == verb,
+        _ => false,
     }
-}
-
-/// Whether one of the lines limits what this task does by this verb.
-fn is_limited(lines: &[&WiringLine], task: &str, verb: TrustVerb) -> bool
-    ensures { result ≡ is_limited (map (λ line. line.now) lines.now) task.now verb }
-{
-    lines.iter().any(|line| limits(task, verb, &line.says))
 }
 
 /// Whether a line is a further one of its task and verb. If it is the first, it is added to those
 /// that were the first of theirs.
-fn add_first<'a>(firsts: &mut Vec<&'a WiringLine>, line: &'a WiringLine) -> Result<bool, AllocError>
-    ensures further { IfOk result (λ further. further
-        ≡ is_further (map (λ line. line.now) firsts.old.items) line.now.says) }
-    ensures limited { OnOk result ((task : List ℕ) (verb : TrustVerb)
-        → is_limited (map (λ line. line.now) firsts.new.items) task verb
-        ≡ is_limited (map (λ line. line.now) firsts.old.items ++ line.now ∷ []) task verb) }
-{
-    match &line.says {
-        WiringSays::Task(_)
-        | WiringSays::Port { .. }
-        | WiringSays::Births { .. }
-        | WiringSays::HoldPort { .. }
-        | WiringSays::HoldTask { .. }
-        | WiringSays::Admit { .. }
-        | WiringSays::RepliesFit => Ok(false),
-        WiringSays::Trust { task, verb, .. } => {
-            let further = is_limited(firsts.as_slice(), task.as_str(), *verb);
-            if !further {
-                firsts.push(line)?;
-            }
-            Ok(further)
-        }
+fn add_first<'a>(
+    firsts: &mut Vec<&'a WiringLine>,
+    line: &'a WiringLine,
+) -> Result<bool, AllocError> {
+    let WiringSays::Trust { task, verb, .. } = &line.says else {
+        return Ok(false);
+    };
+    let task = task.as_str();
+    let further = firsts.iter().any(|first| limits(task, *verb, &first.says));
+    if !further {
+        firsts.push(line)?;
     }
+    Ok(further)
 }
 
 /// What is printed for the lines of a wiring. Of each task and verb the first line is kept, so that
 /// a line is compared with few others.
-fn promises(alloc: Global, lines: &[WiringLine]) -> Result<String, AllocError>
-    ensures { IfOk result (λ text. string_bytes text ≡ promises lines.now) }
-{
+fn promises(alloc: Global, lines: &[WiringLine]) -> Result<String, AllocError> {
     let mut text = String::new(alloc);
     let mut firsts = Vec::new(alloc);
     for line in lines {
@@ -342,15 +167,19 @@ fn promises(alloc: Global, lines: &[WiringLine]) -> Result<String, AllocError>
 /// What is printed for the wiring of a system.
 pub fn promises_told(alloc: Global, files: &Files<'_>) -> Result<Told, AllocError>
     ensures status { IfOk result (λ told. (told.status ≡ 0) ⊎ (told.status ≡ 2)) }
-    // What is printed is right of what the texts mean.
-    ensures done { IfOk result (λ told. told.status ≡ 0 → ToldPromises files.now told) }
+    // The texts mean a system.
+    ensures done { IfOk result (λ told. told.status ≡ 0 → ToldSystem files.now told) }
     // A fault is one of the first text that has no meaning, unless memory ran out.
     ensures fault { IfOk result (λ told. told.status ≡ 2
         → ToldMemory told ⊎ ToldFault (system files.now.texts) files.now.names told) }
 {
     let texts = &files.texts;
     match System::read(alloc, texts.defs.as_slice(), texts.wiring.as_slice()) {
-        Ok(system) => Ok(said(alloc, promises(alloc, system.lines.as_slice())?, 0)),
+        Ok(system) => {
+            let text = promises(alloc, system.lines.as_slice());
+            drop(system);
+            Ok(said(alloc, text?, 0))
+        }
         Err(refusal) => refused(alloc, &files.names, &refusal),
     }
 }

@@ -17,6 +17,7 @@ use mrc_command::{Told, said};
 use mrc_report::Script;
 use mrc_wiring::Wired;
 use std::alloc::{AllocError, Global};
+use std::mem::replace;
 
 /// A wiring, and a script of its tasks.
 #[derive(Drop)]
@@ -55,7 +56,7 @@ pub fn replay_told(
 {
     match scripted(alloc, &files.texts) {
         Ok(both) => {
-            *pending = Pending::replay(both);
+            drop(replace(pending, Pending::replay(both)));
             Ok(said(alloc, String::new(alloc), 0))
         }
         Err(refusal) => refused(alloc, &files.names, &refusal),

@@ -4,13 +4,12 @@ ghost use Rattle.std.specs.Prelude.{◌≡◌, ◌≢◌, ◌≤◌, ◌⊎◌, 
 ghost use Rattle.std.specs.Prelude.{IsOkAnd, OnErr, OnOk, map, string_bytes, take};
 ghost use Rattle.std.specs.Io.KnownBytes.{Appends};
 ghost use Rattle.mrc_command.specs.CommandLine.{AsksHelp};
-ghost use Rattle.mrc_program.specs.Behind.{IsBehind, IsBehindWords, IsMadeFor, IsNoHelp};
 ghost use Rattle.mrc_program.specs.Files.{OfFiles, all_names};
 ghost use Rattle.mrc_program.specs.Told.{ToldMemory, ToldUnread};
 ghost use Rattle.mrc_program.specs.Commands.{Done, No, Fault, BadWord, Cut, Changes, HasOut};
 ghost use Rattle.mrc_program.specs.Commands.{DoneOf, NoOf, FaultOf, CutOf, HaltedOf, OfWords};
 ghost use Rattle.mrc_program.specs.Commands.{IsRest, WentOut, seen, seen_question};
-ghost use Rattle.mrc_program.specs.FaultObjects.{IsOutOfFault, IsOutOfWords, WentInPart};
+ghost use Rattle.mrc_program.specs.Fronts.{IsOutOfFault, WentInPart};
 
 use crate::attack::{attack_told, bounds_told, line_told};
 use crate::behind::{Help, files_behind, help_text, is_wanted, no_help, unread_helped, with_note};
@@ -120,7 +119,6 @@ fn case_told<F: Folder, R: Threads + Wait + Sync, P: mrc_mend::Progress + mrc_at
     pending: &mut Pending,
     progress: &mut P,
 ) -> Result<Told, AllocError>
-    requires empty { IsNoHelp help.old }
     requires nothing { pending.old ≡ [] }
     ensures status { IfOk result (λ told. told.status ≤ 2) }
     ensures done { IfOk result (λ told. told.status ≡ 0
@@ -139,8 +137,6 @@ fn case_told<F: Folder, R: Threads + Wait + Sync, P: mrc_mend::Progress + mrc_at
         ⊎ (IsOkAnd result (OfFiles (Cut (F.held folder.new) question.entry) (F.held folder.old)
         names.entry)
         ⊎ (F.held folder.new ≡ F.held folder.old)) }
-    ensures help { IfOk result (IsMadeFor wanted (F.held folder.old)
-        (Command.Case names.entry question.entry) help.new) }
 {
     if let Some(told) = word_told(alloc, question)? {
         return Ok(told);
@@ -168,7 +164,6 @@ fn answer<F: Folder, R: Threads + Wait + Sync, P: mrc_mend::Progress + mrc_attac
     pending: &mut Pending,
     progress: &mut P,
 ) -> Result<Told, AllocError>
-    requires empty { IsNoHelp help.old }
     requires nothing { pending.old ≡ [] }
     ensures status { IfOk result (λ told. told.status ≤ 2) }
     ensures done { IfOk result (λ told. told.status ≡ 0
@@ -185,7 +180,6 @@ fn answer<F: Folder, R: Threads + Wait + Sync, P: mrc_mend::Progress + mrc_attac
     ensures kept { IsOkAnd result (λ told. (told.status ≡ 0) × HasOut command.entry)
         ⊎ (IsOkAnd result (CutOf (F.held folder.old) (F.held folder.new) command.entry)
         ⊎ (F.held folder.new ≡ F.held folder.old)) }
-    ensures help { IfOk result (IsMadeFor wanted (F.held folder.old) command.entry help.new) }
 {
     match command {
         Command::Case(names, question) => {
@@ -223,14 +217,6 @@ fn seen(watched: bool, command: Command<'_>) -> Command<'_>
     }
 }
 
-/// Whether what helps with a fault is shown: if it is asked for, or a person looks at standard
-/// error.
-fn is_shown(verbose: bool, watched: bool) -> bool
-    ensures { result ≡ (verbose || watched) }
-{
-    verbose || watched
-}
-
 /// What is printed of a command, with the object of a fault if the answer is for programs; and the
 /// text behind it of what helps with the fault, if that is shown (`shows`).
 fn command_told<F: Folder, R: Threads + Wait + Sync, P: mrc_mend::Progress + mrc_attack::Progress>(
@@ -250,10 +236,7 @@ fn command_told<F: Folder, R: Threads + Wait + Sync, P: mrc_mend::Progress + mrc
     ensures no { IfOk result (λ told. told.status ≡ 1
         → NoOf (F.held folder.old) pending.new command.entry told) }
     ensures fault { IfOk result (λ told. told.status ≡ 2
-        → IsOutOfFault shows (F.held folder.old) command.entry (string_bytes behind.new)
-        pending.new told) }
-    ensures behind { IfOk result (IsBehind shows (F.held folder.old) command.entry
-        (string_bytes behind.new)) }
+        → IsOutOfFault (F.held folder.old) pending.new command.entry told) }
 {
     let format = asked_format(&command);
     let word = command_word(&command);
@@ -280,7 +263,6 @@ fn told<F: Folder, R: Threads + Wait + Sync, P: mrc_mend::Progress + mrc_attack:
     pending: &mut Pending,
     progress: &mut P,
 ) -> Result<Told, AllocError>
-    requires empty { string_bytes behind.old ≡ [] }
     requires nothing { pending.old ≡ [] }
     ensures status { IfOk result (λ told. told.status ≤ 2) }
     // Status 0 is that of what the words ask for, unless they ask for help or the version.
@@ -292,18 +274,15 @@ fn told<F: Folder, R: Threads + Wait + Sync, P: mrc_mend::Progress + mrc_attack:
         → OfWords watched.out (map string_bytes words.now)
         (NoOf (F.held folder.old) pending.new) told) }
     // With status 2 nothing goes to standard output, except the journal of a `live` after which no
-    // task can go on, and, if the answer is for programs, what MIG files would be cut to of which
-    // too little is read, or the object of the fault.
+    // task can go on, and, if the answer is for programs, an object.
     ensures fault { IfOk result (λ told. told.status ≡ 2
         → (string_bytes told.out ++ pending.new ≡ [])
-        ⊎ IsOutOfWords watched.out watched.err (F.held folder.old) (map string_bytes words.now)
-        (string_bytes behind.new) pending.new told) }
-    ensures behind { IfOk result (IsBehindWords watched.out watched.err (F.held folder.old)
-        (map string_bytes words.now) (string_bytes behind.new)) }
+        ⊎ OfWords watched.out (map string_bytes words.now)
+        (IsOutOfFault (F.held folder.old) pending.new) told) }
 {
     match read(alloc, words) {
         Ok(request) => {
-            let shows = is_shown(request.verbose, watched.err);
+            let shows = request.verbose || watched.err;
             let command = seen(watched.out, request.command);
             command_told(rt, folder, alloc, command, shows, behind, pending, progress)
         }
@@ -428,7 +407,7 @@ pub fn run<F: Folder, R: Threads + Wait + Sync, O: Write, E: Write>(
     // answer, if memory ran out for the rest or an output took no more, or of what goes to standard
     // output with a fault; or they ask for help or the version.
     ensures front { result ≡ 2 → Appends (O.contents out.old) (O.contents out.new) []
-        ⊎ (WentInPart watched.out watched.err (map string_bytes words.now) (F.held folder.old)
+        ⊎ (WentInPart watched.out (map string_bytes words.now) (F.held folder.old)
         (F.held folder.new) (O.contents out.old) (O.contents out.new)
         ⊎ AsksHelp (map string_bytes words.now)) }
 {
@@ -445,7 +424,7 @@ pub fn run<F: Folder, R: Threads + Wait + Sync, O: Write, E: Write>(
         &mut Counter {
             err,
             watched: watched.err,
-            looked: 0,
+            played: 0,
         },
     );
     match told {
@@ -486,7 +465,7 @@ pub fn start<F: Folder, R: Threads + Wait + Sync, O: Write, E: Write>(
     // output with a fault; or they ask for help or the version.
     ensures front { result ≡ 2 → Appends (O.contents out.old) (O.contents out.new) []
         ⊎ IsOkAnd words (λ given.
-        WentInPart watched.out watched.err (map string_bytes given.items) (F.held folder.old)
+        WentInPart watched.out (map string_bytes given.items) (F.held folder.old)
         (F.held folder.new) (O.contents out.old) (O.contents out.new)
         ⊎ AsksHelp (map string_bytes given.items)) }
 {

@@ -1,13 +1,13 @@
 //! What the program prints of the checker's answer.
 
-ghost use Rattle.std.specs.Prelude.{◌≡◌, ◌⊎◌, ◌++◌, IfOk, string_bytes};
+ghost use Rattle.std.specs.Prelude.{◌≡◌, ◌⊎◌, ◌++◌, IfOk, codes, string_bytes};
 ghost use Rattle.mrc_base.specs.Reading.{UnlessMemory};
 ghost use Rattle.mrc_check.specs.Texts.{IsTold};
 ghost use Rattle.mrc_program.specs.Texts.{case};
 ghost use Rattle.mrc_program.specs.Told.{ToldMemory, ToldFault};
-ghost use Rattle.mrc_program.specs.Checked.{why_line, why_out, stale_note, IsYesWith, ToldNo};
+ghost use Rattle.mrc_program.specs.Checked.{why_line, stale_note, IsYesWith, ToldNo};
 ghost use Rattle.mrc_program.specs.Checked.{UnacceptedTold};
-ghost use Rattle.mrc_program.specs.Formats.{yes_out};
+ghost use Rattle.mrc_program.specs.Formats.{InText};
 
 use crate::files::Files;
 use crate::told::refused;
@@ -15,8 +15,7 @@ use crate::trusted::trusted_notice;
 use mrc_base::OrMemory;
 use mrc_check::{Refused, TextsFault, Why};
 use mrc_command::{FileNames, Format, Told, memory};
-use mrc_json::{reason_json, yes_json};
-use mrc_sarif::yes_sarif;
+use mrc_print::{reason_json, yes_json, yes_sarif};
 use mrc_wiring::Wired;
 use mrc_words::fact_text;
 use std::alloc::{AllocError, Global};
@@ -79,7 +78,8 @@ fn why_out(
     why: Why,
     notices: &str,
 ) -> Result<String, AllocError>
-    ensures { IfOk result (λ text. string_bytes text ≡ why_out format wired.now why notices.now) }
+    ensures { InText format
+        (IfOk result (λ text. string_bytes text ≡ why_line wired.now why)) }
 {
     match format {
         Format::Text | Format::Sarif => why_line(alloc, wired, why),
@@ -96,8 +96,8 @@ fn reason_told(
     refused: &Refused<Why>,
 ) -> Result<Told, AllocError>
     ensures status { IfOk result (λ told. told.status ≡ 1) }
-    ensures out { IfOk result (λ told. string_bytes told.out
-        ≡ why_out format refused.now.claim.table refused.now.why (string_bytes told.err)) }
+    ensures out { IfOk result (λ told. InText format
+        (string_bytes told.out ≡ why_line refused.now.claim.table refused.now.why)) }
     ensures err { IfOk result (λ told. string_bytes told.err
         ≡ string_bytes notices ++ stale_note verbose refused.now.why) }
 {
@@ -154,7 +154,7 @@ fn yes_out(
     format: Format,
     notices: &str,
 ) -> Result<String, AllocError>
-    ensures { IfOk result (λ text. string_bytes text ≡ yes_out format command.now notices.now) }
+    ensures { InText format (IfOk result (λ text. string_bytes text ≡ codes "YES\n")) }
 {
     match format {
         Format::Text => String::from_str(alloc, "YES\n"),
@@ -173,8 +173,7 @@ pub fn yes(
     wired: &Wired,
 ) -> Result<Told, AllocError>
     ensures status { IfOk result (λ told. told.status ≡ 0) }
-    ensures is { IfOk result (IsYesWith command.now format names.now
-        (string_bytes notices) wired.now) }
+    ensures is { IfOk result (IsYesWith format names.now (string_bytes notices) wired.now) }
 {
     let trusted = trusted_notice(alloc, names, wired)?;
     let mut err = notices;

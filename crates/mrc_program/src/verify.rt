@@ -1,21 +1,19 @@
 //! What the program prints of a wiring and a policy: a yes, or the trusted task that another could
 //! rewrite, and each line that is broken.
 
-ghost use Rattle.std.specs.Prelude.{◌≡◌, ◌⊎◌, ◌≤◌, ◌++◌, Ok, IfOk, codes, string_bytes};
+ghost use Rattle.std.specs.Prelude.{◌≡◌, ◌⊎◌, ◌≤◌, ◌++◌, Ok, IfOk, string_bytes};
 ghost use Rattle.mrc_facts.specs.Sets.{has};
 ghost use Rattle.mrc_model.specs.Rules.{IsLeast};
 ghost use Rattle.mrc_wiring.specs.Table.{wiring_of};
 ghost use Rattle.mrc_check.specs.Texts as meanings;
 ghost use Rattle.mrc_why.specs.Broken.{HasYes};
-ghost use Rattle.mrc_verdicts.specs.Verdicts.{IsNoText};
+ghost use Rattle.mrc_print.specs.Heads.{HasNo, IsAsked};
 ghost use Rattle.mrc_program.specs.Attacked.{ToldNotBroken};
-ghost use Rattle.mrc_program.specs.Explained.{numbered_by};
 ghost use Rattle.mrc_program.specs.Files.{given, word_of};
+ghost use Rattle.mrc_program.specs.Formats.{InText};
 ghost use Rattle.mrc_program.specs.Texts as texts;
 ghost use Rattle.mrc_program.specs.Told.{ToldMemory, ToldFault};
-ghost use Rattle.mrc_program.specs.Verified.{layout_of, chains_of, quoted_if, names_common};
-ghost use Rattle.mrc_program.specs.Verified.{manner_of, asked_of, IsBrokenOut, AreNotices};
-ghost use Rattle.mrc_program.specs.Verified.{ToldAllowed, ToldBroken};
+ghost use Rattle.mrc_program.specs.Verified.{AreNotices, ToldAllowed, ToldBroken};
 
 use crate::attack::number_in;
 use crate::files::Files;
@@ -26,36 +24,24 @@ use crate::tell::yes;
 use crate::told::refused;
 use mrc_check::Stated;
 use mrc_command::{FileNames, Format, Showing, Told, fault_of};
-use mrc_json::{Asked, broken_json};
+use mrc_print::{Asked, Manner, Quoted, broken_json, broken_sarif, no_text};
 use mrc_rows::Facts;
-use mrc_sarif::broken_sarif;
-use mrc_verdicts::{Manner, Quoted, no_text};
 use mrc_why::{Layout, Sources, Verdict, verify};
 use mrc_wiring::Claim;
 use std::alloc::{AllocError, Global};
 
-/// Chains are printed from their conclusions down if a tree is asked for.
-fn layout_of(tree: bool) -> Layout
-    ensures { result ≡ layout_of tree }
-{
-    if tree { Layout::Tree } else { Layout::Flat }
-}
-
-/// The layout of chains: none, if the answer is to be brief.
-fn chains_of(showing: Showing) -> Option<Layout>
-    ensures { result ≡ chains_of showing }
-{
-    if showing.brief {
-        None
-    } else {
-        Some(layout_of(showing.tree))
+/// The layout of chains: none, if the answer is to be brief, and from their conclusions down if a
+/// tree is asked for.
+fn chains_of(showing: Showing) -> Option<Layout> {
+    match (showing.brief, showing.tree) {
+        (true, _) => None,
+        (false, true) => Some(Layout::Tree),
+        (false, false) => Some(Layout::Flat),
     }
 }
 
 /// The lines of a text, if they are quoted.
-fn quoted_if(alloc: Global, asked: bool, text: &[u8]) -> Result<Quoted<'_>, AllocError>
-    ensures { IfOk result (λ quoted. quoted ≡ quoted_if asked text.now) }
-{
+fn quoted_if(alloc: Global, asked: bool, text: &[u8]) -> Result<Quoted<'_>, AllocError> {
     if asked {
         Quoted::of(alloc, text)
     } else {
@@ -63,28 +49,17 @@ fn quoted_if(alloc: Global, asked: bool, text: &[u8]) -> Result<Quoted<'_>, Allo
     }
 }
 
-/// Whether a first line names what most chains have in common.
-fn names_common(showing: Showing) -> bool
-    ensures { result ≡ names_common showing showing.line }
-{
-    match showing.line {
-        None => showing.brief || showing.quotes,
-        Some(_) => false,
-    }
-}
-
-/// How a `NO` of these files is printed.
+/// How a `NO` of these files is printed. A first line names what most chains have in common if the
+/// answer is brief or lines are quoted, unless one line is asked for.
 fn manner_of<'a>(
     alloc: Global,
     files: &'a Files<'_>,
     showing: Showing,
-) -> Result<Manner<'a>, AllocError>
-    ensures { IfOk result (λ manner. manner ≡ manner_of showing files.now) }
-{
+) -> Result<Manner<'a>, AllocError> {
     let wiring = quoted_if(alloc, showing.quotes, files.texts.wiring.as_slice())?;
     let policy = quoted_if(alloc, showing.quotes, files.texts.policy())?;
     Ok(Manner {
-        common: names_common(showing),
+        common: showing.line.is_none() && (showing.brief || showing.quotes),
         chains: chains_of(showing),
         wiring,
         policy,
@@ -134,8 +109,8 @@ fn broken_text(
     sources: &Sources<'_>,
     verdict: Verdict,
 ) -> Result<String, AllocError>
-    ensures { IfOk result (λ text. IsNoText (manner_of showing files.now) only sources.now
-        verdict.exposed verdict.broken.items (string_bytes text)) }
+    ensures { IsAsked only verdict.exposed verdict.broken.items
+        → IfOk result (λ text. HasNo (string_bytes text)) }
 {
     let manner = manner_of(alloc, files, showing)?;
     let text = no_text(alloc, sources, &manner, only, verdict)?;
@@ -144,9 +119,7 @@ fn broken_text(
 
 /// What a no of these files has as JSON: chains unless the answer is to be brief, of all lines or
 /// of one.
-fn asked_of<'a>(showing: Showing, only: Option<u32>, files: &'a Files<'_>) -> Asked<'a>
-    ensures { result ≡ asked_of showing only files.now }
-{
+fn asked_of<'a>(showing: Showing, only: Option<u32>, files: &'a Files<'_>) -> Asked<'a> {
     Asked {
         steps: !showing.brief,
         only,
@@ -166,18 +139,23 @@ fn broken_out(
     verdict: Verdict,
     notices: &str,
 ) -> Result<String, AllocError>
-    ensures { IfOk result (λ text. IsBrokenOut showing.format showing files.now only sources.now
-        verdict.exposed verdict.broken.items notices.now (string_bytes text)) }
+    ensures { IsAsked only verdict.exposed verdict.broken.items
+        → InText showing.format (IfOk result (λ text. HasNo (string_bytes text))) }
 {
     match showing.format {
         Format::Text => broken_text(alloc, files, showing, only, sources, verdict),
         Format::Json => {
             let asked = asked_of(showing, only, files);
-            broken_json(alloc, sources, &asked, &verdict, notices)
+            let object = broken_json(alloc, sources, &asked, &verdict, notices);
+            drop(verdict);
+            object
         }
         Format::Sarif => {
             let defs = files.texts.defs.as_slice();
-            broken_sarif(alloc, &files.names, defs, sources, only, &verdict, notices)
+            let names = &files.names;
+            let log = broken_sarif(alloc, names, defs, sources, only, &verdict, notices);
+            drop(verdict);
+            log
         }
     }
 }
@@ -194,9 +172,8 @@ fn broken_told(
     notices: String,
 ) -> Result<Told, AllocError>
     ensures status { IfOk result (λ told. told.status ≡ 1) }
-    ensures out { IfOk result (λ told. IsBrokenOut showing.format showing files.now only
-        (numbered_by stated.now.claim.table stated.now.lines) verdict.exposed verdict.broken.items
-        (string_bytes notices) (string_bytes told.out)) }
+    ensures out { IsAsked only verdict.exposed verdict.broken.items
+        → IfOk result (λ told. InText showing.format (HasNo (string_bytes told.out))) }
     ensures err { IfOk result (λ told. string_bytes told.err ≡ string_bytes notices) }
 {
     let sources = Sources::new(alloc, stated.claim.wired(), stated.lines.as_slice())?;
@@ -227,7 +204,7 @@ fn stated_told(
     requires { texts.stated files.now.texts ≡ Ok stated.now }
     ensures status { IfOk result (λ told. told.status ≤ 2) }
     ensures done { IfOk result (λ told. told.status ≡ 0
-        → ToldAllowed (codes "verify") showing.format files.now told) }
+        → ToldAllowed showing.format files.now told) }
     ensures only { HasYes stated.now.claim → IfOk result (λ told. told.status ≡ 0) }
     ensures no { IfOk result (λ told. told.status ≡ 1 → ToldBroken showing files.now told) }
     ensures fault { IfOk result (λ told. told.status ≡ 2
@@ -260,7 +237,7 @@ fn stated_told(
 pub fn verify_told(alloc: Global, files: &Files<'_>, showing: Showing) -> Result<Told, AllocError>
     ensures status { IfOk result (λ told. told.status ≤ 2) }
     ensures done { IfOk result (λ told. told.status ≡ 0
-        → ToldAllowed (codes "verify") showing.format files.now told) }
+        → ToldAllowed showing.format files.now told) }
     // If the least set is a yes, that is printed, unless memory runs out.
     ensures only { (meant : meanings.Stated) → texts.stated files.now.texts ≡ Ok meant
         → HasYes meant.claim → IfOk result (λ told. (told.status ≡ 0) ⊎ ToldMemory told) }

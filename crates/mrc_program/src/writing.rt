@@ -6,13 +6,13 @@ ghost use Rattle.std.specs.Prelude.{string_bytes, string_capacity, string_len};
 ghost use Rattle.std.specs.List.{All};
 ghost use Rattle.mrc_command.specs.Lines.{shown};
 ghost use Rattle.mrc_program.specs.Cutting.{writing_of, AreWritten, IsStopped, refusal_line};
-ghost use Rattle.mrc_program.specs.Cutting.{HasRoom, ToldWritings, ToldRefusal};
+ghost use Rattle.mrc_program.specs.Cutting.{HasRoom, ToldRefusal};
 
 use crate::told::add_refusal;
 use mrc_base::OrMemory;
 use mrc_command::{Told, shown};
 use mrc_files::{Folder, WriteFault, name_of};
-use mrc_json::NamedCut;
+use mrc_print::NamedCut;
 use std::alloc::{AllocError, Global};
 use std::marker::Model;
 
@@ -141,10 +141,11 @@ pub fn writings_told<F: Folder>(
 ) -> Told
     requires room { All (HasRoom (string_len text) (string_capacity text)) writings.now }
     ensures status { (result.status ≡ 0) ⊎ (result.status ≡ 2) }
-    ensures whole { result.status ≡ 0 → ToldWritings (F.held folder.old) (F.held folder.new)
-        writings.now (string_bytes out) (string_bytes text) result }
-    ensures refused { result.status ≡ 2 → ToldRefusal (F.held folder.old) (F.held folder.new)
-        writings.now (string_bytes text) result }
+    ensures whole { result.status ≡ 0
+        → AreWritten (F.held folder.old) writings.now (F.held folder.new) }
+    ensures out { result.status ≡ 0 → string_bytes result.out ≡ string_bytes out }
+    ensures refused { result.status ≡ 2
+        → ToldRefusal (F.held folder.old) (F.held folder.new) writings.now result }
 {
     match write_each(folder, alloc, writings) {
         Ok(()) => Told {

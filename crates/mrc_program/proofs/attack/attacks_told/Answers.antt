@@ -1,6 +1,6 @@
 use Rattle.std.proofs.Common.{◌++◌, ◌∙◌, ap, subst, string_bytes}
 use Rattle.std.specs.Prelude.{All}
-use Rattle.mrc_leak.specs.Attacks.{IsAttack, attacks_text, cut_text}
+use Rattle.mrc_attack.specs.Attacks.{IsAttack, attacks_text, cut_text}
 use Rattle.mrc_program.specs.Attacked.{form_of}
 use Rattle.mrc_program.proofs.attack.attacks_told.Goals as goal
 

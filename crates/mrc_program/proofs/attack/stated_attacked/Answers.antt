@@ -1,6 +1,6 @@
 use Rattle.std.proofs.Common.{◌≡◌, ◌∙◌, ℕ, List, Option, Some, Ok, ap, map, subst, sym, true, false}
 use Rattle.std.proofs.lemmas.Result.{IfOk-weaker}
-use Rattle.std.specs.Prelude.{IfSome, codes}
+use Rattle.std.specs.Prelude.{IfSome}
 use Rattle.mrc_check.specs.Texts.{Stated}
 use Rattle.mrc_why.specs.Broken.{BrokenLine, line_of}
 use Rattle.mrc_command.specs.declared.command.Format.TheVariants.{Text}
@@ -15,7 +15,7 @@ returns-then-is_yes-clause-done g c =
     let inside = c.stated.inside in
     let meant : Stated = record { lines = inside.lines.items; claim = inside.claim } in
     IfOk-weaker c.yes.result _ _ (λ told h zero. record { none = c.in-None.is; allowed = h zero })
-    (allowed_told (codes "attack") Text c.args.files.now c.files.inside.names meant _
+    (allowed_told Text c.args.files.now c.files.inside.names meant _
     c.wired-wired.result.now c.yes.result (c.requires ∙ ap (λ (s : Stated). Ok s) (sym c.stated.view_is))
     (c.in_ok-verdict.ensures.yes (sym c.is_yes.ensures ∙ c.if-is_yes.true))
     c.in_ok-notices.ensures (ap (λ (f : Files). f.names) c.files.view_is) c.wired-wired.ensures

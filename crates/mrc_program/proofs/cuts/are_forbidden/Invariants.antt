@@ -1,7 +1,7 @@
 -- None so far: whether one of those that are left is.
 use Rattle.std.proofs.Common.{◌≡◌, drop}
 use Rattle.std.specs.List.{list_any}
-use Rattle.mrc_json.specs.declared.cuts.NamedCut.{NamedCut}
+use Rattle.mrc_print.specs.declared.json_cuts.NamedCut.{NamedCut}
 use Rattle.mrc_program.specs.Cutting.{is_forbidden}
 use Rattle.mrc_program.proofs.cuts.are_forbidden.Given as goal
 

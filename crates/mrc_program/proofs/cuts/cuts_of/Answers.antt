@@ -4,7 +4,7 @@ use Rattle.std.proofs.Common.{length, arith}
 use Rattle.std.specs.List.{AllZip}
 use Rattle.std.proofs.lemmas.Result.{err_from_is_err_and}
 use Rattle.mrc_program.specs.Cutting.{IsCutTo, IsNoFile}
-use Rattle.mrc_json.specs.declared.cuts.NamedCut.{NamedCut}
+use Rattle.mrc_print.specs.declared.json_cuts.NamedCut.{NamedCut}
 use Rattle.mrc_program.proofs.CutLaws.{named_more, cut_more, first_uncut, first_of}
 use Rattle.mrc_program.proofs.cuts.cuts_of.Goals as goal
 

@@ -1,8 +1,7 @@
-use Rattle.std.proofs.Common.{◌∙◌, ap, subst}
+use Rattle.std.proofs.Common.{◌∙◌, subst}
 use Rattle.mrc_model.specs.Rules.{Least}
 use Rattle.mrc_wiring.specs.Table.{wiring_of}
 use Rattle.mrc_check.specs.Texts.{Meant}
-use Rattle.mrc_program.specs.Formats.{none_out}
 use Rattle.mrc_program.proofs.explain.explained.Goals as goal
 
 pub returns-in_ok-none_out-in-None-clause-no : goal.returns-in_ok-none_out-in-None-clause-no
@@ -11,7 +10,6 @@ returns-in_ok-none_out-in-None-clause-no c = λ one. record {
   named = c.requires;
   outside = subst (λ (m : Meant). Least (wiring_of m.table) c.args.fact → ⊥) c.system.view_is
       (rw c.in-None.is at c.in_ok-chain.ensures.none);
-  out = c.said-in-None.ensures.out ∙ (c.in_ok-none_out-in-None.ensures
-      ∙ ap (λ (m : Meant). none_out c.args.format m.table c.args.fact) c.system.view_is);
+  out = λ text. c.said-in-None.ensures.out ∙ c.in_ok-none_out-in-None.ensures text;
   err = c.said-in-None.ensures.err;
 }

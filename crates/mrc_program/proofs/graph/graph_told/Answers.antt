@@ -1,6 +1,5 @@
-use Rattle.std.proofs.Common.{◌≡◌, ◌⊎◌, ◌∙◌, List, Ok, ap, subst}
+use Rattle.std.proofs.Common.{◌≡◌, ◌⊎◌, ◌∙◌, Ok, ap, subst}
 use Rattle.std.specs.Prelude.{IfOk}
-use Rattle.mrc_wiring.specs.declared.claim.ForbiddenLine.{ForbiddenLine}
 use Rattle.mrc_wiring.specs.Table.{Table}
 use Rattle.mrc_check.specs.Texts.{Stated}
 use Rattle.mrc_program.specs.Files.{Files, word_of}
@@ -20,18 +19,12 @@ returns-in-Ok-clause-done c =
     subst (λ (f : Files). claimed f.texts ≡ Ok stated) c.files.view_is c.in-Ok.ensures in
     let tables : c.wired.result.now ≡ stated.claim.table =
     c.wired.ensures ∙ ap (λ (s : Stated). s.claim.table) c.stated.view_is in
-    let lines : c.lines.result.now ≡ stated.claim.lines =
-    c.lines.ensures ∙ ap (λ (s : Stated). s.claim.lines) c.stated.view_is in
     told_of (claimed texts) stated (λ (s : Stated). IsDrawing
-    (AreDrawn s.claim.table texts.certificate fact) task c.args.holds s.claim.table s.claim.lines) 0
+    (AreDrawn s.claim.table texts.certificate fact) task s.claim.table) 0
     result says (subst
     (λ (t : Table). IfOk result (λ told. told.status ≡ 0
-    → IsDrawing (AreDrawn t texts.certificate fact) task c.args.holds t
-    stated.claim.lines told)) tables (subst
-    (λ (ls : List ForbiddenLine). IfOk result (λ told. told.status ≡ 0
-    → IsDrawing (AreDrawn c.wired.result.now texts.certificate fact) task c.args.holds
-    c.wired.result.now ls told))
-    lines c.drawing_told.ensures.done))
+    → IsDrawing (AreDrawn t texts.certificate fact) task t told)) tables
+    c.drawing_told.ensures.done)
 
 pub returns-in-Ok-clause-fault : goal.returns-in-Ok-clause-fault
 returns-in-Ok-clause-fault c =

@@ -4,7 +4,6 @@ use Rattle.mrc_files.specs.Files.{AreHeld, IsFirstUnread}
 use Rattle.mrc_program.specs.Cutting.{mig_names, same_name}
 use Rattle.mrc_program.proofs.ToldLaws.{unread_fault}
 use Rattle.mrc_program.proofs.CutLaws.{same_told, mig_of_held, as_many}
-use Rattle.mrc_program.proofs.RunLaws.{made_unread_of}
 use Rattle.mrc_program.proofs.mig.mig_files.Goals as goal
 
 pub returns-in-Some-clause-fault : goal.returns-in-Some-clause-fault
@@ -46,8 +45,3 @@ returns-in-Err-clause-fault g c =
     (subst (λ (xs : List (Bor (List ℕ))). IsFirstUnread held
     (map (λ (file : Bor (List ℕ)). file.now) xs) c.in-Err.unread.file.now)
     c.as_slice-2.ensures.value c.in-Err.ensures.first) c.unread_helped.ensures.told
-
-pub returns-in-Err-clause-help : goal.returns-in-Err-clause-help
-returns-in-Err-clause-help g c =
-    made_unread_of c.args.wanted (g.F.Folder.held c.args.folder.now) c.args.files.now _
-    c.unread_helped.result c.unread_helped.ensures.help

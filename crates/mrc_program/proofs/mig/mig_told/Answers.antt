@@ -1,8 +1,7 @@
 use Rattle.std.proofs.Common.{sym, map, List, ℕ, Bor, Vec, Global, subst}
-use Rattle.mrc_json.specs.declared.cuts.NamedCut.{NamedCut}
+use Rattle.mrc_print.specs.declared.json_cuts.NamedCut.{NamedCut}
 use Rattle.mrc_program.specs.Cutting.{AreCuts, mig_names}
 use Rattle.mrc_program.proofs.CutLaws.{no_cuts}
-use Rattle.mrc_program.proofs.RunLaws.{made_uncut}
 use Rattle.mrc_program.proofs.mig.mig_told.Goals as goal
 
 pub returns-in-Ok-clause-fault : goal.returns-in-Ok-clause-fault
@@ -14,8 +13,3 @@ returns-in-Ok-clause-fault g c =
     no_cuts c.args.files.now _ _ _ _ c.cuts_told.result
     (subst (λ (cuts : List NamedCut). AreCuts (mig_names c.args.files.now) texts cuts)
     (sym c.as_slice-in-Ok.ensures.value) are) c.cuts_told.ensures.fault
-
-pub returns-in-Err-Fault-clause-help : goal.returns-in-Err-Fault-clause-help
-returns-in-Err-Fault-clause-help g c =
-    made_uncut c.args.wanted (g.F.Folder.held c.args.folder.now) c.args.files.now _
-    c.uncut_helped.result c.uncut_helped.ensures.help

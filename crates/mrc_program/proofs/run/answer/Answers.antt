@@ -1,6 +1,4 @@
-use Rattle.std.proofs.Common.{◌≡◌, [], subst, sym}
-use Rattle.std.specs.Prelude.{IfOk}
-use Rattle.mrc_program.specs.Behind.{IsMadeFor}
+use Rattle.std.proofs.Common.{◌≡◌, []}
 use Rattle.mrc_program.specs.Commands.{FaultOf, HaltedOf}
 use Rattle.mrc_program.proofs.RunLaws.{done_of_mig, none_or, so_of}
 use Rattle.mrc_program.proofs.run.answer.Goals as goal
@@ -28,15 +26,3 @@ returns-in-Mig-clause-rest g c =
     none_or (c.args.pending.now ≡ [])
     (HaltedOf (g.F.Folder.held c.args.folder.now) c.args.pending.now c.args.command)
     c.mig_files.result c.requires.nothing
-
-pub returns-in-Case-clause-help : goal.returns-in-Case-clause-help
-returns-in-Case-clause-help g c =
-    let held = g.F.Folder.held c.args.folder.now in
-    subst (λ command. IfOk c.case_told.result (IsMadeFor c.args.wanted held command
-    c.case_told.new.help)) (sym c.in-Case.is) c.case_told.ensures.help
-
-pub returns-in-Mig-clause-help : goal.returns-in-Mig-clause-help
-returns-in-Mig-clause-help g c =
-    let held = g.F.Folder.held c.args.folder.now in
-    subst (λ command. IfOk c.mig_files.result (IsMadeFor c.args.wanted held command
-    c.mig_files.new.help)) (sym c.in-Mig.is) c.mig_files.ensures.help

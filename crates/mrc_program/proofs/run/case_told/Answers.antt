@@ -1,9 +1,8 @@
 use Rattle.std.proofs.Common.{◌≡◌, []}
 use Rattle.mrc_command.specs.declared.command.Command.TheVariants.{Case}
 use Rattle.mrc_program.specs.Commands.{Changes, Cut, HaltedOf}
-use Rattle.mrc_program.proofs.RunLaws.{done_of_files, fault_of_files, kept_files, made_files}
-use Rattle.mrc_program.proofs.RunLaws.{made_unread, no_of_files, none_or, rest_of_files}
-use Rattle.mrc_program.proofs.RunLaws.{unread_of_files}
+use Rattle.mrc_program.proofs.RunLaws.{done_of_files, fault_of_files, kept_files, no_of_files}
+use Rattle.mrc_program.proofs.RunLaws.{none_or, rest_of_files, unread_of_files}
 use Rattle.mrc_program.proofs.run.case_told.Goals as goal
 
 pub returns-in_ok-told-in-Ok-clause-fault : goal.returns-in_ok-told-in-Ok-clause-fault
@@ -31,12 +30,6 @@ returns-in_ok-told-in-Ok-clause-rest g c =
     c.args.names c.in-Ok.texts c.in_ok-told-in-Ok.told c.in-Ok.ensures.read
     c.in_ok-told-in-Ok.ensures.rest
 
-pub returns-in_ok-told-in-Ok-clause-help : goal.returns-in_ok-told-in-Ok-clause-help
-returns-in_ok-told-in-Ok-clause-help g c =
-    made_files c.args.wanted (g.F.Folder.held c.args.folder.now) c.args.names c.in-Ok.texts
-    c.args.question c.files_behind.result c.in_ok-told-in-Ok.told c.in-Ok.ensures.read
-    c.files_behind.ensures
-
 pub returns-in_ok-told-in-Ok-clause-kept : goal.returns-in_ok-told-in-Ok-clause-kept
 returns-in_ok-told-in-Ok-clause-kept g c =
     kept_files (λ told. (told.status ≡ 0) × Changes c.args.question)
@@ -55,8 +48,3 @@ returns-in-Err-clause-rest g c =
     none_or (c.args.pending.now ≡ [])
     (HaltedOf (g.F.Folder.held c.args.folder.now) c.args.pending.now
     (Case c.args.names c.args.question)) c.unread_helped.result c.requires.nothing
-
-pub returns-in-Err-clause-help : goal.returns-in-Err-clause-help
-returns-in-Err-clause-help g c =
-    made_unread c.args.wanted (g.F.Folder.held c.args.folder.now) c.args.names c.args.question _
-    c.unread_helped.result c.unread_helped.ensures.help

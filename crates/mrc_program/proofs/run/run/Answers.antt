@@ -27,10 +27,10 @@ returns-in-Ok-clause-no g c one_is =
 
 pub returns-in-Ok-clause-front : goal.returns-in-Ok-clause-front
 returns-in-Ok-clause-front g c two_is =
-    in_part c.args.watched.out c.args.watched.err (map string_bytes c.args.words.now)
+    in_part c.args.watched.out (map string_bytes c.args.words.now)
     (g.F.Folder.held c.args.folder.now) (g.F.Folder.held c.told-told.new.folder) _ _ c.in-Ok.told
-    c.told-told.new.pending (string_bytes c.told-told.new.behind) c.in-Ok.ensures.status
-    c.in-Ok.ensures.yes c.in-Ok.ensures.no c.in-Ok.ensures.fault c.write_told.ensures.front
+    c.told-told.new.pending c.in-Ok.ensures.status c.in-Ok.ensures.yes c.in-Ok.ensures.no
+    c.in-Ok.ensures.fault c.write_told.ensures.front
 
 pub returns-clause-front : goal.returns-clause-front
 returns-clause-front g c two_is = inl (Appends-nil (g.O.Write.contents c.args.out.now))

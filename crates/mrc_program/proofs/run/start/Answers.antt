@@ -5,7 +5,7 @@ use Rattle.std.specs.Prelude.{IsOkAnd}
 use Rattle.mrc_command.specs.declared.words.WordsFault.{WordsFault}
 use Rattle.mrc_command.specs.CommandLine.{AsksHelp}
 use Rattle.mrc_program.specs.Commands.{DoneOf, NoOf, WentOut}
-use Rattle.mrc_program.specs.FaultObjects.{WentInPart}
+use Rattle.mrc_program.specs.Fronts.{WentInPart}
 use Rattle.mrc_program.proofs.run.start.Goals as goal
 
 -- what holds of the words, of which this is the list
@@ -50,7 +50,7 @@ returns-in-Ok-clause-front g c two_is =
     elim (c.run.ensures.front two_is) [
       | inl nothing ↦ inl nothing
       | inr some ↦ inr (of_words
-          (λ given. WentInPart c.args.watched.out c.args.watched.err given held after old new
+          (λ given. WentInPart c.args.watched.out given held after old new
           ⊎ AsksHelp given)
           c.args.words c.in-Ok.words c.as_slice.result.now c.in-Ok.is c.as_slice.ensures.value
           some)

@@ -1,5 +1,5 @@
 use Rattle.std.proofs.Common.{inr, arith}
-use Rattle.std.specs.Prelude.{string_len, string_capacity}
+use Rattle.std.specs.Prelude.{string_bytes, string_len, string_capacity}
 use Rattle.mrc_program.proofs.CutLaws.{room_of}
 use Rattle.mrc_program.proofs.writing.writings_told.Goals as goal
 
@@ -15,6 +15,9 @@ returns-in-Err-clause-status g c = inr c.stopped_told.ensures.status
 pub returns-in-Err-clause-whole : goal.returns-in-Err-clause-whole
 returns-in-Err-clause-whole g c zero = absurd (omega arith)
 
+pub returns-in-Err-clause-out : goal.returns-in-Err-clause-out
+returns-in-Err-clause-out g c zero = absurd (omega arith)
+
 pub returns-in-Err-clause-refused : goal.returns-in-Err-clause-refused
 returns-in-Err-clause-refused g c two = record {
   path = c.in-Err.stopped.path.now;
@@ -22,5 +25,6 @@ returns-in-Err-clause-refused g c two = record {
   stopped = c.in-Err.ensures.stopped;
   status = c.stopped_told.ensures.status;
   out = c.stopped_told.ensures.out;
+  lists = string_bytes c.args.text;
   err = c.stopped_told.ensures.err;
 }
