@@ -14,8 +14,8 @@ returns-in-Some-clause-fault g c =
     (sym c.as_slice.ensures.value) ∙ sym c.in-Some.ensures)
     c.fault_of.ensures.status c.fault_of.ensures.out c.fault_of.ensures.err
 
-pub mig_told-requires-clause-count : goal.mig_told-requires-clause-count
-mig_told-requires-clause-count g c =
+pub mig_told-requires : goal.mig_told-requires
+mig_told-requires g c =
     let defs = c.args.files.now.defs.items in
     let held = g.F.Folder.held c.args.folder.now in
     let are = subst (λ (xs : List (Bor (List ℕ))). AreHeld held
