@@ -22,8 +22,11 @@ mig_told-requires g c =
     (map (λ (file : Bor (List ℕ)). file.now) xs)
     (map (λ (text : Vec ℕ Global). text.items) c.in-Ok.texts.items))
     c.as_slice-2.ensures.value c.in-Ok.ensures.held in
-    length-map defs (λ (file : Bor (List ℕ)). file.now)
-    ∙ (as_many defs c.in-Ok.texts.items held are ∙ ap length (sym c.as_slice-in-Ok.ensures.value))
+    record {
+      count = length-map defs (λ (file : Bor (List ℕ)). file.now)
+          ∙ (as_many defs c.in-Ok.texts.items held are
+          ∙ ap length (sym c.as_slice-in-Ok.ensures.value));
+    }
 
 pub returns-in-Ok-clause-fault : goal.returns-in-Ok-clause-fault
 returns-in-Ok-clause-fault g c =
