@@ -3,11 +3,10 @@
 use crate::carriers::Carrier;
 use crate::messages::{By, message_of};
 use crate::run::Run;
-use mrc_base::{ClassId, Disp, PortRight, Right, TaskId, limits, need};
-use mrc_desc::Message;
+use mrc_base::{ClassId, Disp, PortRight, Right, TaskId, limits};
 use mrc_machine::Call;
 use mrc_wiring::Wired;
-use std::alloc::{AllocError, Global};
+use std::alloc::AllocError;
 
 /// The most bytes of a message.
 const LIMIT: u32 = 8192;
@@ -15,261 +14,131 @@ const LIMIT: u32 = 8192;
 /// The id of port-destroyed notices.
 const PORT_DESTROYED: u32 = 69;
 
-/// A call of a task.
-#[derive(Debug, Drop)]
-pub(crate) struct TaskCall {
-    /// Who makes the call.
-    pub(crate) task: TaskId,
-    /// The call.
-    pub(crate) call: Call,
-}
-
-/// What a task does. Each class has one port: a wired one, a kernel port, or one of births.
+/// What a task does with a port or a right on it.
 #[derive(Clone, Copy)]
-pub(crate) enum Action {
+pub(crate) enum Deed {
     /// Makes a port of births.
-    Allocate {
-        class: ClassId,
-    },
-    /// Makes a right from one of its own.
-    Make {
-        task: u16,
-        class: ClassId,
-        disp: Disp,
-    },
-    /// Takes a right from the task whose kernel port it holds.
-    Extract {
-        caller: u16,
-        target: u16,
-        class: ClassId,
-        right: PortRight,
-    },
+    Allocate,
+    /// Takes a right from the task whose kernel port it holds: from itself one more of its own.
+    Take(u16, PortRight),
     /// Gives a right to the task whose kernel port it holds.
-    Insert {
-        caller: u16,
-        target: u16,
-        class: ClassId,
-        right: PortRight,
-    },
-    /// Sends a message that carries a right.
-    Send {
-        sender: u16,
-        to: ClassId,
-        carrier: Carrier,
-        class: ClassId,
-    },
+    Give(u16, PortRight),
+    /// Sends a right to a port of this class.
+    Send(ClassId, Carrier),
     /// Receives the first message.
-    Receive {
-        task: u16,
-        class: ClassId,
-    },
-    /// Asks for a notice at another port.
-    Request {
-        task: u16,
-        class: ClassId,
-        notify: ClassId,
-    },
-    /// Takes the request of a port back, with its right.
-    Unrequest {
-        task: u16,
-        class: ClassId,
-    },
-    /// Destroys a receive right.
-    Destroy {
-        task: u16,
-        class: ClassId,
-    },
+    Receive,
+    /// Asks for a notice at a port of this class; without a class takes the request back.
+    Request(Option<ClassId>),
+    /// Destroys the receive right.
+    Destroy,
 }
 
-/// A call of the task.
-fn own(task: u16, call: Call) -> Option<TaskCall> {
-    Some(TaskCall {
-        task: TaskId(u32::from(task)),
-        call,
-    })
+/// A task does something with the port of a class. Each class has one port: a wired one, a kernel
+/// port, or one of births.
+#[derive(Clone, Copy)]
+pub(crate) struct Action {
+    pub(crate) task: u16,
+    pub(crate) class: ClassId,
+    pub(crate) deed: Deed,
 }
 
-/// The kind of a task's births whose class this is.
-fn kind_of(wired: &Wired, task: TaskId, class: ClassId) -> Option<u32> {
-    for kind in 0..u32::from(limits::KINDS) {
-        if wired.births_class(task, kind) == Some(class) {
-            return Some(kind);
+/// The kind of the task's births whose class this is.
+fn kind_of(wired: &Wired, task: u16, class: ClassId) -> Option<u32> {
+    let task = TaskId(u32::from(task));
+    (0..u32::from(limits::KINDS)).find(|kind| wired.births_class(task, *kind) == Some(class))
+}
+
+impl Run<'_> {
+    /// The call by which the task makes a port of births.
+    fn allocate_call(&self, task: u16, class: ClassId) -> Option<Call> {
+        Some(Call::Allocate {
+            task: self.kernel(task, task)?,
+            right: Right::Receive,
+            kind: kind_of(self.wired, task, class)?,
+        })
+    }
+
+    /// The call by which the task takes a right of another.
+    fn extract_call(&self, action: &Action, target: u16, right: PortRight) -> Option<Call> {
+        let By { name, disp } = self.passed(target, action.class, right)?;
+        let task = self.kernel(action.task, target)?;
+        Some(Call::ExtractRight { task, name, disp })
+    }
+
+    /// The call by which the task gives a right to another.
+    fn insert_call(&self, action: &Action, target: u16, right: PortRight) -> Option<Call> {
+        let by = self.passed(action.task, action.class, right)?;
+        Some(Call::InsertRight {
+            task: self.kernel(action.task, target)?,
+            name: self.given(target, action.class, right)?,
+            right: by.name,
+            disp: by.disp,
+        })
+    }
+
+    /// The call by which the task asks for a notice, or takes the request back.
+    fn request_call(&self, action: &Action, notify: Option<ClassId>) -> Option<Call> {
+        let by = match notify {
+            Some(class) => self.passed(action.task, class, PortRight::SendOnce)?,
+            None => By {
+                name: 0,
+                disp: Disp::MakeSendOnce,
+            },
+        };
+        Some(Call::RequestNotification {
+            task: self.kernel(action.task, action.task)?,
+            name: self.name(action.task, action.class, PortRight::Receive)?,
+            id: PORT_DESTROYED,
+            sync: 0,
+            notify: by.name,
+            disp: by.disp,
+        })
+    }
+
+    /// The call by which the task sends a right.
+    fn send_call(
+        &self,
+        action: &Action,
+        to: ClassId,
+        carrier: &Carrier,
+    ) -> Result<Option<Call>, AllocError> {
+        let Some(through) = self.through(action.task, to) else {
+            return Ok(None);
+        };
+        let Some(carried) = self.carried(action.task, action.class, carrier, through) else {
+            return Ok(None);
+        };
+        let message = message_of(self.alloc, self.wired, carrier, through, carried)?;
+        Ok(message.map(Call::Send))
+    }
+
+    /// The call of an action other than a message that is sent.
+    fn plain_call(&self, action: &Action) -> Option<Call> {
+        let Action { task, class, deed } = *action;
+        match deed {
+            Deed::Allocate => self.allocate_call(task, class),
+            Deed::Take(target, right) => self.extract_call(action, target, right),
+            Deed::Give(target, right) => self.insert_call(action, target, right),
+            Deed::Send(..) => None,
+            Deed::Receive => Some(Call::Receive {
+                name: self.name(task, class, PortRight::Receive)?,
+                limit: LIMIT,
+            }),
+            Deed::Request(notify) => self.request_call(action, notify),
+            Deed::Destroy => Some(Call::ModRefs {
+                task: self.kernel(task, task)?,
+                name: self.name(task, class, PortRight::Receive)?,
+                right: Right::Receive,
+                delta: -1,
+            }),
         }
     }
-    None
-}
 
-/// The call by which a task makes a port of births.
-fn allocate_call(wired: &Wired, run: &Run, class: ClassId) -> Option<TaskCall> {
-    let owner = wired.born_to(class)?;
-    let task = u16::try_from(owner.0).ok()?;
-    let call = Call::Allocate {
-        task: run.kernel(wired, task, task)?,
-        right: Right::Receive,
-        kind: kind_of(wired, owner, class)?,
-    };
-    own(task, call)
-}
-
-/// The call by which a task makes a right from one of its own.
-fn make_call(wired: &Wired, run: &Run, task: u16, class: ClassId, disp: Disp) -> Option<TaskCall> {
-    let call = Call::ExtractRight {
-        task: run.kernel(wired, task, task)?,
-        name: run.name(task, class, need(disp))?,
-        disp,
-    };
-    own(task, call)
-}
-
-/// The call by which the caller takes a right of the target.
-fn extract_call(
-    wired: &Wired,
-    run: &Run,
-    caller: u16,
-    target: u16,
-    class: ClassId,
-    right: PortRight,
-) -> Option<TaskCall> {
-    let by = run.passed(target, class, right)?;
-    let call = Call::ExtractRight {
-        task: run.kernel(wired, caller, target)?,
-        name: by.name,
-        disp: by.disp,
-    };
-    own(caller, call)
-}
-
-/// The call by which the caller gives a right to the target.
-fn insert_call(
-    wired: &Wired,
-    run: &Run,
-    caller: u16,
-    target: u16,
-    class: ClassId,
-    right: PortRight,
-) -> Option<TaskCall> {
-    let by = run.passed(caller, class, right)?;
-    let call = Call::InsertRight {
-        task: run.kernel(wired, caller, target)?,
-        name: run.given(target, class, right)?,
-        right: by.name,
-        disp: by.disp,
-    };
-    own(caller, call)
-}
-
-/// The call by which the task asks for a notice; without a port it takes the request back.
-fn request_call(
-    wired: &Wired,
-    run: &Run,
-    task: u16,
-    class: ClassId,
-    notify: Option<ClassId>,
-) -> Option<TaskCall> {
-    let by = match notify {
-        Some(other) => run.passed(task, other, PortRight::SendOnce)?,
-        None => By {
-            name: 0,
-            disp: Disp::MakeSendOnce,
-        },
-    };
-    let call = Call::RequestNotification {
-        task: run.kernel(wired, task, task)?,
-        name: run.name(task, class, PortRight::Receive)?,
-        id: PORT_DESTROYED,
-        sync: 0,
-        notify: by.name,
-        disp: by.disp,
-    };
-    own(task, call)
-}
-
-/// The call by which the task destroys a receive right.
-fn destroy_call(wired: &Wired, run: &Run, task: u16, class: ClassId) -> Option<TaskCall> {
-    let call = Call::ModRefs {
-        task: run.kernel(wired, task, task)?,
-        name: run.name(task, class, PortRight::Receive)?,
-        right: Right::Receive,
-        delta: -1,
-    };
-    own(task, call)
-}
-
-/// The call by which the task receives.
-fn receive_call(run: &Run, task: u16, class: ClassId) -> Option<TaskCall> {
-    let call = Call::Receive {
-        name: run.name(task, class, PortRight::Receive)?,
-        limit: LIMIT,
-    };
-    own(task, call)
-}
-
-/// The call of an action other than a message that is sent.
-fn plain_call(wired: &Wired, run: &Run, action: &Action) -> Option<TaskCall> {
-    match *action {
-        Action::Allocate { class } => allocate_call(wired, run, class),
-        Action::Make { task, class, disp } => make_call(wired, run, task, class, disp),
-        Action::Extract {
-            caller,
-            target,
-            class,
-            right,
-        } => extract_call(wired, run, caller, target, class, right),
-        Action::Insert {
-            caller,
-            target,
-            class,
-            right,
-        } => insert_call(wired, run, caller, target, class, right),
-        Action::Send { .. } => None,
-        Action::Receive { task, class } => receive_call(run, task, class),
-        Action::Request {
-            task,
-            class,
-            notify,
-        } => request_call(wired, run, task, class, Some(notify)),
-        Action::Unrequest { task, class } => request_call(wired, run, task, class, None),
-        Action::Destroy { task, class } => destroy_call(wired, run, task, class),
+    /// The call of an action, if the names that it needs are there.
+    pub(crate) fn call_of(&self, action: &Action) -> Result<Option<Call>, AllocError> {
+        match &action.deed {
+            Deed::Send(to, carrier) => self.send_call(action, *to, carrier),
+            _ => Ok(self.plain_call(action)),
+        }
     }
-}
-
-/// The message of an action that sends one.
-fn sent_message(
-    alloc: Global,
-    wired: &Wired,
-    run: &Run,
-    action: &Action,
-) -> Result<Option<Message>, AllocError> {
-    let Action::Send {
-        sender,
-        to,
-        carrier,
-        class,
-    } = *action
-    else {
-        return Ok(None);
-    };
-    let Some(through) = run.through(sender, to) else {
-        return Ok(None);
-    };
-    let Some(carried) = run.carried(sender, class, &carrier, through) else {
-        return Ok(None);
-    };
-    message_of(alloc, wired, &carrier, through, carried)
-}
-
-/// The call of an action, if the names that it needs are there.
-pub(crate) fn call_of(
-    alloc: Global,
-    wired: &Wired,
-    run: &Run,
-    action: &Action,
-) -> Result<Option<TaskCall>, AllocError> {
-    if let Action::Send { sender, .. } = *action {
-        return match sent_message(alloc, wired, run, action)? {
-            Some(message) => Ok(own(sender, Call::Send(message))),
-            None => Ok(None),
-        };
-    }
-    Ok(plain_call(wired, run, action))
 }

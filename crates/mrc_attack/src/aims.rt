@@ -1,9 +1,11 @@
 //! What is looked for.
 
 ghost use Rattle.std.specs.Prelude.{◌≡◌};
-ghost use Rattle.mrc_attack.specs.Attacks.{rewriting_aim, exposed_aim, broken_aim};
+ghost use Rattle.std.specs.Option.{option_to_list};
+ghost use Rattle.mrc_attack.specs.Attacks.{rewriting_aim, exposed_aims, broken_aim};
 
 use mrc_base::Fact;
+use mrc_closure::Step;
 use mrc_why::{Broken, Exposed};
 use mrc_wiring::ForbiddenLine;
 
@@ -35,13 +37,17 @@ fn rewriting_aim(line: u32, fact: Fact) -> Option<Aim>
     }
 }
 
-/// What is looked for if a trusted task could be rewritten: nothing if one line is asked for.
-pub(crate) fn exposed_aim(only: Option<u32>, exposed: &Exposed) -> Option<Aim>
-    ensures { result ≡ exposed_aim only exposed.now }
+/// What is looked for if a trusted task could be rewritten, with the chain: nothing if there is no
+/// such task, or if one line is asked for.
+pub(crate) fn exposed_aim(only: Option<u32>, exposed: &Option<Exposed>) -> (Option<Aim>, &[Step])
+    ensures { option_to_list result.0 ≡ exposed_aims only exposed.now }
 {
-    match only {
-        None => rewriting_aim(exposed.line(), exposed.fact()),
-        Some(_) => None,
+    match (only, exposed) {
+        (None, Some(exposed)) => (
+            rewriting_aim(exposed.line(), exposed.fact()),
+            exposed.steps(),
+        ),
+        _ => (None, &[]),
     }
 }
 

@@ -3,16 +3,15 @@
 ghost use Rattle.std.specs.Prelude.{◌≡◌, ◌++◌, map, flat_map, IfOk, OnOk};
 ghost use Rattle.std.specs.List.{All};
 ghost use Rattle.std.specs.Option.{option_to_list};
-ghost use Rattle.mrc_attack.specs.Attacks.{aims, aim_of, IsAttack, broken_aims, exposed_aims};
+ghost use Rattle.mrc_attack.specs.Attacks.{aims, aim_of, IsAttack, broken_aims};
 
 use crate::aims::{Aim, broken_aim, exposed_aim};
-use crate::calls::script_text;
 use crate::judging::is_leak;
 use crate::printing::{Form, real_line, script_part};
-use crate::searching::{Found, Progress, Wanted, calls_for};
+use crate::searching::{Brought, Hunt, Progress, searched};
 use mrc_classes::Rules;
 use mrc_closure::Step;
-use mrc_why::{Broken, Exposed, Verdict};
+use mrc_why::{Broken, Verdict};
 use mrc_wiring::Wired;
 use std::alloc::{AllocError, Global};
 
@@ -27,46 +26,6 @@ pub struct Attack {
     pub cut: bool,
 }
 
-/// What the searches of a policy's lines share.
-#[derive(Drop)]
-struct Hunt<'a> {
-    wired: &'a Wired,
-    rules: &'a Rules,
-    form: Form,
-    most: usize,
-}
-
-/// What a search brings: lines of calls, not yet judged, and whether a bound cut it.
-#[derive(Drop)]
-struct Brought {
-    script: Option<String>,
-    cut: bool,
-}
-
-/// Searches. The chain is played first.
-fn searched<P: Progress>(
-    alloc: Global,
-    hunt: &Hunt<'_>,
-    aim: &Aim,
-    chain: &[Step],
-    progress: &mut P,
-) -> Result<Brought, AllocError> {
-    let wanted = Wanted {
-        wired: hunt.wired,
-        rules: hunt.rules,
-        line: &aim.line,
-        chain,
-        most: hunt.most,
-    };
-    match calls_for(alloc, &wanted, progress)? {
-        Found::Calls(calls) => {
-            let script = script_text(alloc, hunt.wired, hunt.form, calls.as_slice())?;
-            Ok(Brought { script, cut: true })
-        }
-        Found::NotReached { cut } => Ok(Brought { script: None, cut }),
-    }
-}
-
 /// Judges the lines that were brought. Those that don't break the line are dropped.
 fn judged(
     alloc: Global,
@@ -78,28 +37,18 @@ fn judged(
     ensures aim { IfOk result (λ attack. attack.aim ≡ aim) }
     ensures leak { IfOk result (IsAttack form wired.now) }
 {
-    let Some(script) = brought.script else {
-        return Ok(Attack {
-            aim,
-            script: None,
-            cut: brought.cut,
-        });
+    let Brought { script, cut } = brought;
+    let Some(calls) = &script else {
+        return Ok(Attack { aim, script, cut });
     };
     let heading = real_line(alloc, wired, &aim)?;
-    let text = script_part(alloc, form, heading.as_str(), script.as_str())?;
+    let text = script_part(alloc, form, heading.as_str(), calls.as_str())?;
     if is_leak(alloc, wired, &aim.line, text.as_str())? {
-        Ok(Attack {
-            aim,
-            script: Some(script),
-            cut: false,
-        })
-    } else {
-        Ok(Attack {
-            aim,
-            script: None,
-            cut: true,
-        })
+        let cut = false;
+        return Ok(Attack { aim, script, cut });
     }
+    let (script, cut) = (None, true);
+    Ok(Attack { aim, script, cut })
 }
 
 /// Adds what is found, if there is something to look for.
@@ -119,31 +68,10 @@ fn add_attack<P: Progress>(
     let Some(aim) = aim else {
         return Ok(());
     };
-    let brought = searched(alloc, hunt, &aim, chain, progress)?;
+    let brought = searched(alloc, hunt, &aim.line, chain, progress)?;
     let attack = judged(alloc, hunt.wired, hunt.form, aim, brought)?;
     found.push(attack)?;
     Ok(())
-}
-
-/// What is found for the trusted task that could be rewritten, if there is one.
-fn exposed_attacks<P: Progress>(
-    alloc: Global,
-    hunt: &Hunt<'_>,
-    only: Option<u32>,
-    exposed: &Option<Exposed>,
-    progress: &mut P,
-) -> Result<Vec<Attack>, AllocError>
-    ensures aims { IfOk result (λ found.
-        map aim_of found.items ≡ exposed_aims only exposed.now) }
-    ensures leaks { IfOk result (λ found.
-        All (IsAttack hunt.now.form hunt.now.wired.now) found.items) }
-{
-    let mut found = Vec::new(alloc);
-    if let Some(exposed) = exposed {
-        let aim = exposed_aim(only, exposed);
-        add_attack(alloc, hunt, aim, exposed.steps(), &mut found, progress)?;
-    }
-    Ok(found)
 }
 
 /// Adds what is found for the broken lines, in order: for all, or for that of one number.
@@ -180,7 +108,9 @@ fn all_attacks<P: Progress>(
     ensures leaks { IfOk result (λ found.
         All (IsAttack hunt.now.form hunt.now.wired.now) found.items) }
 {
-    let mut found = exposed_attacks(alloc, hunt, only, &verdict.exposed, progress)?;
+    let mut found = Vec::new(alloc);
+    let (aim, chain) = exposed_aim(only, &verdict.exposed);
+    add_attack(alloc, hunt, aim, chain, &mut found, progress)?;
     add_attacks(alloc, hunt, only, &verdict.broken, &mut found, progress)?;
     Ok(found)
 }

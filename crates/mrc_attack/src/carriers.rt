@@ -30,157 +30,106 @@ pub(crate) struct Load {
     pub(crate) rights: Option<(PortRight, PortRight)>,
 }
 
-/// The smallest carrier so far, with what it costs.
-#[derive(Clone, Copy)]
-struct Best {
-    carrier: Carrier,
-    is_moved: bool,
-    size: usize,
+/// The best carrier so far, with whether it moves a send right, and its size.
+type Best = Option<(bool, usize, Carrier)>;
+
+impl Carrier {
+    /// The right that is carried.
+    pub(crate) fn right(&self) -> PortRight {
+        match self.slot {
+            Some((_, disp)) => give(disp),
+            None => PortRight::SendOnce,
+        }
+    }
 }
 
-/// How many items an argument has: as few as it may, but one if it has to carry a right.
-pub(crate) fn count(shape: Shape, is_carrying: bool) -> u32 {
-    if !shape.is_bound {
-        shape.number
-    } else if is_carrying {
-        1
+/// How an argument is described: with as few items as it may have, but one if it has to carry a
+/// right.
+pub(crate) fn desc_of(shape: Shape, is_carrying: bool) -> Desc {
+    let Shape { name, size, .. } = shape;
+    let number = if shape.is_bound {
+        u32::from(is_carrying)
     } else {
-        0
-    }
+        shape.number
+    };
+    Desc { name, size, number }
 }
 
 /// How many bytes the message has if the argument of this place carries a right.
 fn size_of(form: &TypedForm, place: Option<usize>) -> usize {
     let mut size = HEADER;
     for (number, argument) in form.arguments().iter().enumerate() {
-        let desc = Desc {
-            name: argument.shape.name,
-            size: argument.shape.size,
-            number: count(argument.shape, place == Some(number)),
-        };
+        let desc = desc_of(argument.shape, place == Some(number));
         size = size.saturating_add(desc.argument_size());
     }
     size
 }
 
-/// The better one: a send right is moved only if it can't be copied, and else the smaller one is
-/// better.
-fn better(one: Option<Best>, other: Best) -> Option<Best> {
-    if other.size > limits::MESSAGE {
-        return one;
-    }
-    match one {
-        Some(first) if first.is_moved == other.is_moved && first.size <= other.size => one,
-        Some(first) if first.is_moved != other.is_moved && other.is_moved => one,
-        _ => Some(other),
+/// Takes the carrier if it is better: a send right is moved only if it can't be copied, and else
+/// the smaller message is better.
+fn offer(best: &mut Best, form: &TypedForm, carrier: Carrier) {
+    let is_moved = matches!(carrier.slot, Some((_, Disp::MoveSend)));
+    let size = size_of(form, carrier.slot.map(|slot| slot.0));
+    let is_better = match *best {
+        Some((was_moved, least, _)) => (is_moved, size) < (was_moved, least),
+        None => true,
+    };
+    if size <= limits::MESSAGE && is_better {
+        *best = Some((is_moved, size, carrier));
     }
 }
 
-/// Whether reply ports of requests of this interface may have the class.
-fn may_reply(wired: &Wired, number: usize, class: ClassId) -> bool {
-    !wired.replies_fit() || wired.label(class).contains(&LabelItem::Reply(number))
+/// Whether the request is answered, to a port of the class that is carried.
+fn is_answered(wired: &Wired, load: &Load, form: &TypedForm, item: LabelItem) -> bool {
+    match item {
+        LabelItem::Request(number) if form.kind() == FormKind::Request(RequestKind::Routine) => {
+            !wired.replies_fit() || wired.label(load.class).contains(&LabelItem::Reply(number))
+        }
+        _ => false,
+    }
 }
 
-/// The better one of what was found and the slots of the form that fit.
-fn in_slots(
-    wired: &Wired,
-    load: &Load,
-    form: &TypedForm,
-    item: LabelItem,
-    rights: (PortRight, PortRight),
-    best: Option<Best>,
-) -> Option<Best> {
-    let mut best = best;
+/// Offers the slots of the form that fit, or the form itself if it is answered.
+fn offer_form(wired: &Wired, load: &Load, form: &TypedForm, item: LabelItem, best: &mut Best) {
+    let id = form.id();
+    if load.rights.is_none() && is_answered(wired, load, form, item) {
+        let slot = None;
+        offer(best, form, Carrier { item, id, slot });
+    }
     for (number, argument) in form.arguments().iter().enumerate() {
         if let Some(disp) = Disp::of_number(argument.shape.name) {
-            if need(disp) == rights.0
-                && give(disp) == rights.1
-                && wired.admits(argument.sort, load.class)
-            {
-                let carrier = Carrier {
-                    item,
-                    id: form.id(),
-                    slot: Some((number, disp)),
-                };
-                best = better(
-                    best,
-                    Best {
-                        carrier,
-                        is_moved: disp == Disp::MoveSend,
-                        size: size_of(form, Some(number)),
-                    },
-                );
+            let fits = load.rights == Some((need(disp), give(disp)));
+            if fits && wired.admits(argument.sort, load.class) {
+                let slot = Some((number, disp));
+                offer(best, form, Carrier { item, id, slot });
             }
         }
     }
-    best
 }
 
-/// The better one of what was found and the request, if it is answered to such a port.
-fn as_request(
-    wired: &Wired,
-    load: &Load,
-    form: &TypedForm,
-    item: LabelItem,
-    best: Option<Best>,
-) -> Option<Best> {
-    let LabelItem::Request(number) = item else {
-        return best;
-    };
-    if form.kind() != FormKind::Request(RequestKind::Routine)
-        || !may_reply(wired, number, load.class)
-    {
-        return best;
-    }
-    let carrier = Carrier {
-        item,
-        id: form.id(),
-        slot: None,
-    };
-    better(
-        best,
-        Best {
-            carrier,
-            is_moved: false,
-            size: size_of(form, None),
-        },
-    )
-}
-
-/// The better one of what was found and the messages of an item.
-fn in_item(wired: &Wired, load: &Load, item: LabelItem, best: Option<Best>) -> Option<Best> {
+/// Offers the messages of an item.
+fn offer_item(wired: &Wired, load: &Load, item: LabelItem, best: &mut Best) {
     let (number, kind) = match item {
         LabelItem::Request(number) => (number, MessageKind::Request),
         LabelItem::Reply(number) => (number, MessageKind::Reply),
-        LabelItem::Destroyed => return best,
+        LabelItem::Destroyed => return,
     };
     let Some(interface) = wired.interface(number) else {
-        return best;
+        return;
     };
-    let mut best = best;
     for row in interface.rows() {
-        let id = match row.form(kind) {
-            Some(form) => form.id(),
-            None => continue,
-        };
-        if let Some(form) = wired.item_form(item, id) {
-            best = match load.rights {
-                Some(rights) => in_slots(wired, load, form, item, rights, best),
-                None => as_request(wired, load, form, item, best),
-            };
+        let id = row.form(kind).map(|form| form.id());
+        if let Some(form) = id.and_then(|id| wired.item_form(item, id)) {
+            offer_form(wired, load, form, item, best);
         }
     }
-    best
 }
 
-/// The smallest message that carries the right, if there is one of at most 8,192 bytes.
+/// The best message that carries the right, if there is one of at most 8,192 bytes.
 pub(crate) fn carrier_of(wired: &Wired, load: &Load) -> Option<Carrier> {
     let mut best = None;
     for item in wired.label(load.to) {
-        best = in_item(wired, load, *item, best);
+        offer_item(wired, load, *item, &mut best);
     }
-    match best {
-        Some(best) => Some(best.carrier),
-        None => None,
-    }
+    best.map(|best| best.2)
 }

@@ -1,8 +1,8 @@
 //! Messages that carry a right: all else is zeros and nulls.
 
-use crate::carriers::{Carrier, count};
+use crate::carriers::{Carrier, desc_of};
 use mrc_base::Disp;
-use mrc_desc::{Argument, Arguments, Bytes, Desc, Header, Message, Names};
+use mrc_desc::{Argument, Arguments, Bytes, Header, Message, Names};
 use mrc_forms::Shape;
 use mrc_wiring::{TypedForm, Wired};
 use std::alloc::{AllocError, Global};
@@ -14,38 +14,21 @@ pub(crate) struct By {
     pub(crate) disp: Disp,
 }
 
-/// Names of an argument: null, except that the first carries a right.
-fn names_of(alloc: Global, count: usize, carried: Option<u32>) -> Result<Vec<u32>, AllocError> {
-    let mut names = vec![in alloc; 0u32; count]?;
-    if let Some(name) = carried {
-        if let Some(first) = names.get_mut(0) {
+/// An argument of zeros and nulls, of which the first name may carry a right.
+fn filled(alloc: Global, shape: Shape, carried: Option<u32>) -> Result<Argument, AllocError> {
+    let desc = desc_of(shape, carried.is_some());
+    let count = desc.number as usize;
+    if let Some(disp) = Disp::of_number(desc.name) {
+        let mut names = vec![in alloc; 0u32; count]?;
+        if let (Some(first), Some(name)) = (names.first_mut(), carried) {
             *first = name;
         }
+        let names = Names::from(names);
+        return Ok(Argument::Ports { disp, names });
     }
-    Ok(names)
-}
-
-/// An argument of zeros and nulls, which may carry the right of a name.
-fn filled(alloc: Global, shape: Shape, carried: Option<u32>) -> Result<Argument, AllocError> {
-    let number = count(shape, carried.is_some());
-    if let Some(disp) = Disp::of_number(shape.name) {
-        let names = names_of(alloc, number as usize, carried)?;
-        return Ok(Argument::Ports {
-            disp,
-            names: Names::from(names),
-        });
-    }
-    let desc = Desc {
-        name: shape.name,
-        size: shape.size,
-        number,
-    };
-    let len = (number as usize).saturating_mul(usize::from(shape.size)) / 8;
-    let bytes = vec![in alloc; 0u8; len]?;
-    Ok(Argument::Data {
-        desc,
-        bytes: Bytes::from(bytes),
-    })
+    let len = count.saturating_mul(usize::from(desc.size)) / 8;
+    let bytes = Bytes::from(vec![in alloc; 0u8; len]?);
+    Ok(Argument::Data { desc, bytes })
 }
 
 /// The arguments of a form, of which one may carry the right of a name.
@@ -57,11 +40,7 @@ fn filled_all(
 ) -> Result<Vec<Argument>, AllocError> {
     let mut arguments = Vec::new(alloc);
     for (number, typed) in form.arguments().iter().enumerate() {
-        let carried = if place == Some(number) {
-            Some(name)
-        } else {
-            None
-        };
+        let carried = (place == Some(number)).then_some(name);
         arguments.push(filled(alloc, typed.shape, carried)?)?;
     }
     Ok(arguments)
@@ -74,12 +53,15 @@ fn disp_byte(disp: Disp) -> u8 {
 
 /// The header of a message through `to`, which carries the right in a slot or as its reply port.
 fn header_of(carrier: &Carrier, to: By, carried: By) -> Header {
-    let is_reply = carrier.slot.is_none();
+    let (local_disp, local_port) = match carrier.slot {
+        Some(_) => (0, 0),
+        None => (disp_byte(carried.disp), carried.name),
+    };
     Header {
         remote_disp: disp_byte(to.disp),
-        local_disp: if is_reply { disp_byte(carried.disp) } else { 0 },
+        local_disp,
         remote_port: to.name,
-        local_port: if is_reply { carried.name } else { 0 },
+        local_port,
         seqno: 0,
         id: carrier.id,
     }
@@ -98,8 +80,5 @@ pub(crate) fn message_of(
     };
     let place = carrier.slot.map(|slot| slot.0);
     let arguments = Arguments::from(filled_all(alloc, form, place, carried.name)?);
-    match Message::new(header_of(carrier, to, carried), arguments) {
-        Ok(message) => Ok(Some(message)),
-        Err(_) => Ok(None),
-    }
+    Ok(Message::new(header_of(carrier, to, carried), arguments).ok())
 }

@@ -1,280 +1,151 @@
-//! A plan is played: of the steps that are needed still the first that can be done, and those that
-//! move a receive right away last.
+//! A chain is played: of the steps that are needed still the first that can be done, and those that
+//! move a receive right away last. If it can't be played, some of its steps are the culprits.
 
-use crate::plan::{Deed, Planned};
-use crate::run::{Run, Undone};
-use mrc_base::{ClassId, Fact, OrMemory, PortRight};
-use mrc_closure::Places;
-use mrc_wiring::{ForbiddenLine, Wired};
-use std::alloc::{AllocError, Global};
+use crate::run::Run;
+use crate::searching::Search;
+use crate::step::turn;
+use mrc_base::Fact;
+use mrc_classes::RuleName;
+use mrc_closure::{Places, Step};
+use mrc_wiring::ForbiddenLine;
+use std::alloc::AllocError;
 
 /// How many steps are done at most, and how often each.
 const STEPS: usize = 60;
 
 const TIMES: u8 = 3;
 
-/// What is played, where, and for which line.
-#[derive(Clone, Copy)]
-pub(crate) struct Part<'a> {
-    pub(crate) wired: &'a Wired,
-    pub(crate) line: &'a ForbiddenLine,
-    pub(crate) plan: &'a [Planned],
+/// How it is with a step.
+#[derive(Clone, Copy, Default)]
+pub(crate) struct Mark {
+    /// Its fact is there.
+    is_there: bool,
+    /// Its fact is there, or is made where it is used.
+    is_usable: bool,
+    /// It is needed still.
+    is_needed: bool,
+    /// How often it, or a part of it, was done.
+    times: u8,
+    /// The step that took away what this one had brought.
+    taker: Option<usize>,
+    /// The chain can't be played because of it.
+    pub(crate) is_culprit: bool,
 }
 
 /// How far a play has come.
 #[derive(Drop)]
-pub(crate) struct Play {
-    pub(crate) run: Run,
-    /// How often each step, or a part of it, was done.
-    tries: Vec<u8>,
-    /// The step that took away what each step had brought.
-    pub(crate) taken: Vec<Option<usize>>,
+pub(crate) struct Play<'a> {
+    pub(crate) run: Run<'a>,
+    line: &'a ForbiddenLine,
+    steps: &'a [Step],
+    pub(crate) marks: Vec<Mark>,
 }
 
-/// The two steps that a step needs.
-pub(crate) fn needs(needs: Places) -> [Option<usize>; 2] {
-    match needs {
-        Places::Empty => [None, None],
-        Places::One(one) => [Some(one), None],
-        Places::Two(one, other) => [Some(one), Some(other)],
+/// The steps that a step needs, of which the second may be the first again.
+fn needs(step: &Step) -> Option<[usize; 2]> {
+    match step.premises {
+        Places::Empty => None,
+        Places::One(one) => Some([one, one]),
+        Places::Two(one, other) => Some([one, other]),
     }
 }
 
-/// Whether it is so at the place.
-pub(crate) fn is_at(places: &[bool], place: usize) -> bool {
-    match places.get(place) {
-        Some(is) => *is,
-        None => false,
+impl<'a> Play<'a> {
+    /// The first state.
+    pub(crate) fn new(search: &Search<'a>, steps: &'a [Step]) -> Result<Play<'a>, AllocError> {
+        let marks = vec![in search.alloc; Mark::default(); steps.len()]?;
+        Ok(Play {
+            run: Run::new(search.alloc, search.hunt.wired)?,
+            line: search.line,
+            steps,
+            marks,
+        })
     }
-}
 
-/// Marks the steps that the step needs.
-fn mark(marks: &mut [bool], step: &Planned) {
-    for place in needs(step.needs) {
-        if let Some(place) = place {
-            if let Some(mark) = marks.get_mut(place) {
-                *mark = true;
+    /// How it is with the step at the place.
+    fn mark(&self, place: usize) -> Mark {
+        self.marks.get(place).copied().unwrap_or_default()
+    }
+
+    /// Marks which facts are there, and that this step took away those that were.
+    fn mark_facts(&mut self, taker: Option<usize>) {
+        for (mark, step) in self.marks.iter_mut().zip(self.steps) {
+            let is_there = self.run.is_there(&step.fact);
+            if mark.is_there && !is_there {
+                mark.taker = taker;
             }
-        }
-    }
-}
-
-impl Part<'_> {
-    /// Whether the fact is there, or is made where it is used.
-    fn holds(&self, run: &Run, fact: &Fact) -> bool {
-        if run.is_there(fact) {
-            return true;
-        }
-        match *fact {
-            Fact::Hold { task, class, right } => {
-                if run.port(class).is_none() {
-                    return match self.wired.born_to(class) {
-                        Some(owner) => owner.0 == u32::from(task),
-                        None => false,
-                    };
-                }
-                right != PortRight::Receive && run.has(task, class, PortRight::Receive)
-            }
-            Fact::Carry { .. } | Fact::Backup { .. } => false,
+            mark.is_there = is_there;
+            mark.is_usable = is_there || self.run.is_made(&step.fact);
+            mark.is_needed = false;
         }
     }
 
-    /// Whether the fact of the place is there, or is made where it is used.
-    pub(crate) fn has_at(&self, run: &Run, place: usize) -> bool {
-        match self.plan.get(place) {
-            Some(step) => self.holds(run, &step.fact),
-            None => false,
-        }
-    }
-
-    /// Which facts of the steps are there.
-    pub(crate) fn there(&self, alloc: Global, run: &Run) -> Result<Vec<bool>, AllocError> {
-        let mut there = Vec::new(alloc);
-        for step in self.plan {
-            there.push(run.is_there(&step.fact))?;
-        }
-        Ok(there)
-    }
-
-    /// Marks what the step at the place needs, if it is needed still: its own fact is not there. What
-    /// is held at first can't be had again.
-    fn mark_at(&self, there: &[bool], needed: &mut [bool], place: usize) {
-        let Some(step) = self.plan.get(place) else {
+    /// Marks the steps that this one needs, if it is needed and its fact is not there. What is held
+    /// at first can't be had again.
+    fn mark_needs(&mut self, place: usize, step: &Step) {
+        let Some(mark) = self.marks.get_mut(place) else {
             return;
         };
-        if is_at(there, place) || matches!(step.deed, Deed::Nothing) {
-            if let Some(need) = needed.get_mut(place) {
-                *need = false;
+        mark.is_needed &= !mark.is_there && step.rule != RuleName::First;
+        if !mark.is_needed {
+            return;
+        }
+        for place in needs(step).into_iter().flatten() {
+            if let Some(need) = self.marks.get_mut(place) {
+                need.is_needed = true;
             }
-        } else if is_at(needed, place) {
-            mark(needed, step);
         }
     }
 
-    /// Which steps are needed still: those for the last one whose facts are not there.
-    pub(crate) fn needed(&self, alloc: Global, there: &[bool]) -> Result<Vec<bool>, AllocError> {
-        let mut needed = vec![in alloc; false; self.plan.len()]?;
-        if let Some(last) = needed.last_mut() {
-            *last = true;
+    /// Marks what is there, and which steps are needed still: those for the last one.
+    fn look(&mut self, taker: Option<usize>) {
+        self.mark_facts(taker);
+        if let Some(last) = self.marks.last_mut() {
+            last.is_needed = true;
         }
-        for place in (0..self.plan.len()).rev() {
-            self.mark_at(there, needed.as_mut_slice(), place);
+        for (place, step) in self.steps.iter().enumerate().rev() {
+            self.mark_needs(place, step);
         }
-        Ok(needed)
     }
 
     /// Whether what the step needs is there. A step that makes something needs it now.
-    fn is_ready(&self, run: &Run, step: &Planned) -> bool {
-        for place in needs(step.needs) {
-            if let Some(place) = place {
-                if !self.has_need(run, step, place) {
-                    return false;
-                }
-            }
-        }
-        true
+    fn is_ready(&self, step: &Step) -> bool {
+        let is_making = turn(step) == 3;
+        needs(step).into_iter().flatten().all(|place| {
+            let need = self.mark(place);
+            need.is_there || need.is_usable && !is_making
+        })
     }
 
-    /// Whether the fact of the place is there for the step.
-    fn has_need(&self, run: &Run, step: &Planned, place: usize) -> bool {
-        match self.plan.get(place) {
-            Some(need) if step.is_making() => run.is_there(&need.fact),
-            _ => self.has_at(run, place),
-        }
+    /// The facts of the premises; without premises its own.
+    fn premises(&self, step: &Step) -> (Fact, Fact) {
+        let fact = |place: usize| self.steps.get(place).unwrap_or(step).fact;
+        let [first, last] = needs(step).unwrap_or([usize::MAX; 2]);
+        (fact(first), fact(last))
     }
 
-    /// When a step comes, by what it does: moves of receive rights come late, and what is made is
-    /// made where it is used, if it is used.
-    fn turn(step: &Planned) -> u8 {
-        if step.is_making() { 3 } else { step.weight() }
-    }
-
-    /// Adds the steps of this turn that are needed and can be done.
-    fn add_ready(
-        &self,
-        run: &Run,
-        needed: &[bool],
-        turn: u8,
-        order: &mut Vec<usize>,
-    ) -> Result<(), AllocError> {
-        for (place, step) in self.plan.iter().enumerate() {
-            if is_at(needed, place) && Part::turn(step) == turn && self.is_ready(run, step) {
-                order.push(place)?;
-            }
-        }
-        Ok(())
-    }
-
-    /// The steps that are needed and can be done, in the order in which they are tried.
-    fn order(&self, alloc: Global, run: &Run, there: &[bool]) -> Result<Vec<usize>, AllocError> {
-        let needed = self.needed(alloc, there)?;
-        let mut order = Vec::new(alloc);
-        for turn in 0..4 {
-            self.add_ready(run, needed.as_slice(), turn, &mut order)?;
-        }
-        Ok(order)
-    }
-}
-
-/// Whose receive right on which port a step moves away.
-fn moved(run: &Run, deed: &Deed) -> Option<(u16, ClassId)> {
-    match *deed {
-        Deed::Destroy { class } => Some((run.receiver(class)?, class)),
-        Deed::Send {
-            sender,
-            class,
-            rights: Some((_, PortRight::Receive)),
-            ..
-        } => Some((sender, class)),
-        Deed::Take {
-            target,
-            class,
-            right: PortRight::Receive,
-            ..
-        } => Some((target, class)),
-        Deed::Give {
-            caller,
-            class,
-            right: PortRight::Receive,
-            ..
-        } => Some((caller, class)),
-        _ => None,
-    }
-}
-
-impl Play {
-    /// The first state.
-    pub(crate) fn new(alloc: Global, part: &Part<'_>) -> Result<Play, AllocError> {
-        let tries = vec![in alloc; 0u8; part.plan.len()]?;
-        let taken = vec![in alloc; None; part.plan.len()]?;
-        let run = Run::new(alloc, part.wired)?;
-        Ok(Play { run, tries, taken })
-    }
-
-    /// Does a step.
-    fn do_step(
-        &mut self,
-        alloc: Global,
-        part: &Part<'_>,
-        step: &Planned,
-    ) -> Result<(), OrMemory<Undone>> {
-        if let Some((task, class)) = moved(&self.run, &step.deed) {
-            self.run.there(alloc, part.wired, class)?;
-            self.run.stock(alloc, part.wired, task, class)?;
-        }
-        self.run.do_deed(alloc, part.wired, &step.deed)
-    }
-
-    /// Counts that the step at the place was tried, and notes what it took away.
-    fn count(
-        &mut self,
-        alloc: Global,
-        part: &Part<'_>,
-        before: &[bool],
-        place: usize,
-    ) -> Result<(), AllocError> {
-        if let Some(tries) = self.tries.get_mut(place) {
-            *tries = tries.saturating_add(1);
-        }
-        let after = part.there(alloc, &self.run)?;
-        for (number, taken) in self.taken.iter_mut().enumerate() {
-            if is_at(before, number) && !is_at(after.as_slice(), number) {
-                *taken = Some(place);
-            }
-        }
-        Ok(())
-    }
-
-    /// Tries the step at the place. Answers whether it or a part of it was done.
-    fn try_step(
-        &mut self,
-        alloc: Global,
-        part: &Part<'_>,
-        there: &[bool],
-        place: usize,
-    ) -> Result<bool, AllocError> {
-        let (Some(step), Some(tries)) = (part.plan.get(place), self.tries.get(place)) else {
-            return Ok(false);
-        };
-        if *tries >= TIMES {
-            return Ok(false);
-        }
+    /// Does the step at the place. Answers whether it or a part of it was done.
+    fn do_step(&mut self, place: usize, step: &Step) -> Result<bool, AllocError> {
         let before = self.run.actions.len();
-        if let Err(OrMemory::Memory) = self.do_step(alloc, part, step) {
-            return Err(AllocError);
-        }
+        let (first, last) = self.premises(step);
+        let _is_whole = self.run.do_step(step, &first, &last)?;
         if self.run.actions.len() == before {
             return Ok(false);
         }
-        self.count(alloc, part, there, place)?;
+        if let Some(mark) = self.marks.get_mut(place) {
+            mark.times = mark.times.saturating_add(1);
+        }
+        self.look(Some(place));
         Ok(true)
     }
 
-    /// Does the first step that can be done. Answers whether there is one.
-    fn go_on(&mut self, alloc: Global, part: &Part<'_>) -> Result<bool, AllocError> {
-        let there = part.there(alloc, &self.run)?;
-        for place in &part.order(alloc, &self.run, there.as_slice())? {
-            if self.try_step(alloc, part, there.as_slice(), *place)? {
+    /// Does the first step of this turn that is needed and can be done. Answers whether there is
+    /// one.
+    fn do_turn(&mut self, now: u8) -> Result<bool, AllocError> {
+        for (place, step) in self.steps.iter().enumerate() {
+            let mark = self.mark(place);
+            let is_open = mark.is_needed && mark.times < TIMES;
+            if is_open && turn(step) == now && self.is_ready(step) && self.do_step(place, step)? {
                 return Ok(true);
             }
         }
@@ -282,15 +153,50 @@ impl Play {
     }
 
     /// Plays. Answers whether the line is broken.
-    pub(crate) fn play(&mut self, alloc: Global, part: &Part<'_>) -> Result<bool, AllocError> {
+    pub(crate) fn play(&mut self) -> Result<bool, AllocError> {
+        self.look(None);
         for _ in 0..STEPS {
-            if self.run.breaks(part.wired, part.line)? {
+            if self.run.breaks(self.line)? {
                 return Ok(true);
             }
-            if !self.go_on(alloc, part)? {
+            let is_done = self.do_turn(0)? || self.do_turn(1)? || self.do_turn(2)?;
+            if !is_done && !self.do_turn(3)? {
                 return Ok(false);
             }
         }
-        self.run.breaks(part.wired, part.line)
+        self.run.breaks(self.line)
+    }
+
+    /// Marks a culprit.
+    fn accuse(&mut self, place: usize) {
+        if let Some(mark) = self.marks.get_mut(place) {
+            mark.is_culprit = true;
+        }
+    }
+
+    /// A step that is needed is a culprit if it has all that it needs; or if it misses what no
+    /// other step brings still, and then so is the one that took it away.
+    fn blame(&mut self, place: usize, step: &Step) {
+        let (mut is_waiting, mut is_robbed) = (false, false);
+        for place in needs(step).into_iter().flatten() {
+            let need = self.mark(place);
+            is_waiting |= !need.is_usable && need.is_needed;
+            if !need.is_usable && !need.is_needed {
+                is_robbed = true;
+                self.accuse(need.taker.unwrap_or(usize::MAX));
+            }
+        }
+        if is_robbed || !is_waiting {
+            self.accuse(place);
+        }
+    }
+
+    /// Marks the steps for which the chain can't be played.
+    pub(crate) fn blame_all(&mut self) {
+        for (place, step) in self.steps.iter().enumerate() {
+            if self.mark(place).is_needed {
+                self.blame(place, step);
+            }
+        }
     }
 }

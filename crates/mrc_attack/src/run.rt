@@ -1,69 +1,44 @@
 //! The machine with what was done, and the names and rights that it shows.
 
-use crate::actions::{Action, TaskCall, call_of};
+use crate::actions::{Action, Deed};
 use crate::carriers::Carrier;
 use crate::messages::By;
-use crate::names::{Named, names_of};
-use mrc_base::{ClassId, Disp, Fact, OrMemory, PortId, PortRight, Right, TaskId, give, need};
-use mrc_machine::{Call, Holding, Reply, World};
+use crate::names::Named;
+use mrc_base::{ClassId, Disp, Fact, PortRight, TaskId, need};
+use mrc_machine::{Call, Reply, World};
 use mrc_wiring::{ForbiddenLine, Wired};
 use std::alloc::{AllocError, Global};
 
 /// The machine with what was done. Each class has one port at most, and what was sent or asked for
 /// and is not shown is noted: the facts of messages that wait and of requests.
 #[derive(Drop)]
-pub(crate) struct Run {
-    world: World,
-    names: Vec<Named>,
-    ports: Vec<Option<PortId>>,
+pub(crate) struct Run<'a> {
+    pub(crate) alloc: Global,
+    pub(crate) wired: &'a Wired,
+    pub(crate) world: World,
+    /// The classes of all ports, by the numbers of their births.
+    pub(crate) classes: Vec<ClassId>,
+    pub(crate) names: Vec<Named>,
     noted: Vec<Fact>,
     pub(crate) actions: Vec<Action>,
-    pub(crate) calls: Vec<TaskCall>,
 }
 
-/// The call can't be made.
-#[derive(Clone, Copy)]
-pub(crate) struct Undone;
-
-/// The port of each class in the first state, if there is one.
-fn first_ports(alloc: Global, wired: &Wired) -> Result<Vec<Option<PortId>>, AllocError> {
-    let mut ports = vec![in alloc; None; usize::from(wired.classes())]?;
-    for (number, class) in wired.first_classes().iter().enumerate() {
-        if let Some(port) = ports.get_mut(usize::from(class.0)) {
-            *port = Some(PortId(number as u64));
-        }
-    }
-    Ok(ports)
-}
-
-/// What comes of a reply: the name of what was made or given, if there is one; nothing if the call
-/// was refused.
-fn came_of(reply: &Reply) -> Option<Option<u32>> {
-    match reply {
-        Reply::Refused(_) | Reply::Denied(_) | Reply::DeadTask | Reply::TooLarge(_) => None,
-        Reply::Name(name) => Some(Some(*name)),
-        _ => Some(None),
-    }
-}
-
-impl Run {
+impl<'a> Run<'a> {
     /// The first state.
-    pub(crate) fn new(alloc: Global, wired: &Wired) -> Result<Run, AllocError> {
-        let ports = first_ports(alloc, wired)?;
+    pub(crate) fn new(alloc: Global, wired: &'a Wired) -> Result<Run<'a>, AllocError> {
+        let classes = wired.first_classes().to_vec(alloc)?;
         let world = World::first(alloc, wired)?;
         let mut run = Run {
+            alloc,
+            wired,
             world,
+            classes,
             names: Vec::new(alloc),
-            ports,
             noted: Vec::new(alloc),
             actions: Vec::new(alloc),
-            calls: Vec::new(alloc),
         };
-        match names_of(alloc, wired, &mut run.world) {
-            Ok(names) => {
-                run.names = names;
-                Ok(run)
-            }
+        match run.look() {
+            Ok(()) => Ok(run),
             Err(why) => {
                 drop(run);
                 Err(why)
@@ -72,47 +47,25 @@ impl Run {
     }
 
     /// Whether the line is broken.
-    pub(crate) fn breaks(&self, wired: &Wired, line: &ForbiddenLine) -> Result<bool, AllocError> {
-        self.world.breach(wired, line)
+    pub(crate) fn breaks(&self, line: &ForbiddenLine) -> Result<bool, AllocError> {
+        self.world.breach(self.wired, line)
     }
 
-    /// The port of a class, if it is there.
-    pub(crate) fn port(&self, class: ClassId) -> Option<PortId> {
-        match self.ports.get(usize::from(class.0)) {
-            Some(port) => *port,
-            None => None,
-        }
+    /// Whether the port of a class is there.
+    pub(crate) fn has_port(&self, class: ClassId) -> bool {
+        self.classes.contains(&class)
     }
 
-    /// What a task would hold.
-    fn holding(&self, task: u16, class: ClassId, right: PortRight) -> Option<Holding> {
-        Some(Holding {
-            task: TaskId(u32::from(task)),
-            port: self.port(class)?,
-            right,
-        })
+    /// The task that makes the port of a class of births.
+    pub(crate) fn owner(&self, class: ClassId) -> Option<u16> {
+        u16::try_from(self.wired.born_to(class)?.0).ok()
     }
 
     /// The first name that the task has for the right.
     pub(crate) fn name(&self, task: u16, class: ClassId, right: PortRight) -> Option<u32> {
-        let held = Some(self.holding(task, class, right)?);
-        for named in &self.names {
-            if named.held == held {
-                return Some(named.name);
-            }
-        }
-        None
-    }
-
-    /// The last name that the task has for a send-once right, other than this one.
-    fn last_once(&self, task: u16, class: ClassId, but: u32) -> Option<u32> {
-        let held = Some(self.holding(task, class, PortRight::SendOnce)?);
-        for named in self.names.iter().rev() {
-            if named.held == held && named.name != but {
-                return Some(named.name);
-            }
-        }
-        None
+        let fact = Some(Fact::Hold { task, class, right });
+        let named = self.names.iter().find(|named| named.fact == fact)?;
+        Some(named.name)
     }
 
     /// Whether the task has the right.
@@ -120,61 +73,50 @@ impl Run {
         self.name(task, class, right).is_some()
     }
 
+    /// Whether the fact is there: held, or noted.
+    pub(crate) fn is_there(&self, fact: &Fact) -> bool {
+        self.noted.contains(fact) || self.names.iter().any(|named| named.fact == Some(*fact))
+    }
+
+    /// Whether the fact is made where it is used: its port, or a right from a receive right.
+    pub(crate) fn is_made(&self, fact: &Fact) -> bool {
+        match *fact {
+            Fact::Hold { task, class, .. } if self.has_port(class) => {
+                self.has(task, class, PortRight::Receive)
+            }
+            Fact::Hold { task, class, .. } => self.owner(class) == Some(task),
+            Fact::Carry { .. } | Fact::Backup { .. } => false,
+        }
+    }
+
     /// The task that has the receive right of the port.
     pub(crate) fn receiver(&self, class: ClassId) -> Option<u16> {
-        let port = self.port(class)?;
-        for named in &self.names {
-            if let Some(held) = named.held {
-                if held.port == port && held.right == PortRight::Receive {
-                    return u16::try_from(held.task.0).ok();
-                }
-            }
-        }
-        None
+        (0..self.wired.tasks()).find(|task| self.has(*task, class, PortRight::Receive))
     }
 
     /// The task's name for the kernel port of another, or for its own.
-    pub(crate) fn kernel(&self, wired: &Wired, task: u16, other: u16) -> Option<u32> {
-        let class = ClassId(wired.ports().checked_add(other)?);
+    pub(crate) fn kernel(&self, task: u16, other: u16) -> Option<u32> {
+        let class = ClassId(self.wired.ports().checked_add(other)?);
         self.name(task, class, PortRight::Send)
     }
 
-    /// Whether the task has the name.
-    fn is_used(&self, task: TaskId, name: u32) -> bool {
-        for named in &self.names {
-            if named.task == task && named.name == name {
-                return true;
-            }
-        }
-        false
-    }
-
-    /// The least name that the task does not use.
-    fn unused(&self, task: u16) -> Option<u32> {
-        let task = TaskId(u32::from(task));
-        for name in 1..0xffff_ffffu32 {
-            if !self.is_used(task, name) {
-                return Some(name);
-            }
-        }
-        None
-    }
-
-    /// The name under which a task is given a right.
+    /// The name under which a task is given a right: one that it has for the port, or the least
+    /// that it does not use.
     pub(crate) fn given(&self, task: u16, class: ClassId, right: PortRight) -> Option<u32> {
-        if right == PortRight::SendOnce {
-            return self.unused(task);
-        }
-        for own in [PortRight::Receive, PortRight::Send] {
-            if let Some(name) = self.name(task, class, own) {
-                return Some(name);
-            }
-        }
-        self.unused(task)
+        let own = |right| self.name(task, class, right);
+        let known = match right {
+            PortRight::SendOnce => None,
+            _ => own(PortRight::Receive).or_else(|| own(PortRight::Send)),
+        };
+        let is_used = |name| {
+            let mut names = self.names.iter();
+            names.any(|named| named.task == task && named.name == name)
+        };
+        known.or_else(|| (1..u32::MAX).find(|name| !is_used(*name)))
     }
 
     /// The right of the task by this disposition.
-    fn by(&self, task: u16, class: ClassId, disp: Disp) -> Option<By> {
+    pub(crate) fn by(&self, task: u16, class: ClassId, disp: Disp) -> Option<By> {
         let name = self.name(task, class, need(disp))?;
         Some(By { name, disp })
     }
@@ -186,21 +128,18 @@ impl Run {
             PortRight::Send => (Disp::CopySend, Disp::MakeSend),
             PortRight::SendOnce => (Disp::MakeSendOnce, Disp::MoveSendOnce),
         };
-        match self.by(task, class, first) {
-            Some(by) => Some(by),
-            None => self.by(task, class, second),
-        }
+        let by = self.by(task, class, first);
+        by.or_else(|| self.by(task, class, second))
     }
 
     /// The right by which the task can send to the port.
     pub(crate) fn through(&self, task: u16, class: ClassId) -> Option<By> {
-        match self.passed(task, class, PortRight::Send) {
-            Some(by) => Some(by),
-            None => self.by(task, class, Disp::MoveSendOnce),
-        }
+        let by = self.passed(task, class, PortRight::Send);
+        by.or_else(|| self.by(task, class, Disp::MoveSendOnce))
     }
 
-    /// The right that a message carries, which is not the one that it is sent through.
+    /// The right that a message carries. A send-once right that is moved is the last one, and not
+    /// the one that the message is sent through.
     pub(crate) fn carried(
         &self,
         task: u16,
@@ -210,186 +149,95 @@ impl Run {
     ) -> Option<By> {
         let disp = match carrier.slot {
             Some((_, disp)) => disp,
-            None if self.has(task, class, PortRight::Receive) => Disp::MakeSendOnce,
-            None => Disp::MoveSendOnce,
+            None => self.passed(task, class, PortRight::SendOnce)?.disp,
         };
         if disp != Disp::MoveSendOnce {
             return self.by(task, class, disp);
         }
-        let name = self.last_once(task, class, through.name)?;
+        let right = PortRight::SendOnce;
+        let fact = Some(Fact::Hold { task, class, right });
+        let mut last = self.names.iter().rev();
+        let last = last.find(|own| own.fact == fact && own.name != through.name)?;
+        let name = last.name;
         Some(By { name, disp })
-    }
-
-    /// Whether the fact is there: held, or noted.
-    pub(crate) fn is_there(&self, fact: &Fact) -> bool {
-        match *fact {
-            Fact::Hold { task, class, right } => self.has(task, class, right),
-            Fact::Carry { .. } | Fact::Backup { .. } => self.noted.contains(fact),
-        }
-    }
-
-    /// How many references the task's send right has.
-    pub(crate) fn references(
-        &mut self,
-        wired: &Wired,
-        task: u16,
-        class: ClassId,
-    ) -> Result<u32, AllocError> {
-        let (Some(kernel), Some(name)) = (
-            self.kernel(wired, task, task),
-            self.name(task, class, PortRight::Send),
-        ) else {
-            return Ok(0);
-        };
-        let call = Call::GetRefs {
-            task: kernel,
-            name,
-            right: Right::Send,
-        };
-        match self.world.step(wired, TaskId(u32::from(task)), &call)? {
-            Reply::Refs(count) => Ok(count),
-            _ => Ok(0),
-        }
     }
 }
 
-impl Run {
-    /// Notes that a message waits, or that there is a request.
-    fn note(&mut self, fact: Fact) -> Result<(), AllocError> {
-        self.noted.push(fact)?;
-        Ok(())
-    }
-
-    /// Forgets the request of a port. Answers where its notice was to go.
-    fn forget_request(&mut self, class: ClassId) -> Option<ClassId> {
-        let first = self.noted.iter().position(|fact| match *fact {
-            Fact::Backup { class: own, .. } => own == class,
-            _ => false,
-        });
-        match self.noted.remove(first?) {
+impl Run<'_> {
+    /// Forgets the first message that waits at a port, or its request. Answers where the notice of
+    /// the request was to go.
+    fn forget(&mut self, port: ClassId, is_request: bool) -> Option<ClassId> {
+        let place = self.noted.iter().position(|fact| match *fact {
+            Fact::Backup { class, .. } => is_request && class == port,
+            Fact::Carry { destination, .. } => !is_request && destination == port,
+            Fact::Hold { .. } => false,
+        })?;
+        match self.noted.remove(place) {
             Fact::Backup { notify, .. } => Some(notify),
             _ => None,
         }
     }
 
-    /// Forgets the first message that waits at the port.
-    fn forget_first(&mut self, class: ClassId) {
-        let first = self.noted.iter().position(|fact| match *fact {
-            Fact::Carry { destination, .. } => destination == class,
-            _ => false,
-        });
-        if let Some(place) = first {
-            let _fact = self.noted.remove(place);
-        }
-    }
-
-    /// Notes what an action leaves that is not shown.
-    fn note_action(&mut self, action: &Action) -> Result<(), AllocError> {
-        match *action {
-            Action::Send {
-                to,
-                carrier,
-                class,
-                ..
-            } => {
-                let right = match carrier.slot {
-                    Some((_, disp)) => give(disp),
-                    None => PortRight::SendOnce,
-                };
-                self.note(Fact::Carry {
-                    destination: to,
-                    class,
-                    right,
-                })
-            }
-            Action::Receive { class, .. } => {
-                self.forget_first(class);
-                Ok(())
-            }
-            Action::Request { class, notify, .. } => {
-                let _before = self.forget_request(class);
-                self.note(Fact::Backup { class, notify })
-            }
-            Action::Unrequest { class, .. } => {
-                let _before = self.forget_request(class);
-                Ok(())
-            }
-            Action::Destroy { class, .. } => match self.forget_request(class) {
-                Some(destination) => self.note(Fact::Carry {
-                    destination,
-                    class,
-                    right: PortRight::Receive,
-                }),
-                None => Ok(()),
-            },
-            _ => Ok(()),
-        }
-    }
-
-    /// Notes the port that was made under the name.
-    fn note_port(&mut self, class: ClassId, task: TaskId, name: u32) {
-        let made = self
-            .names
-            .iter()
-            .find(|named| named.task == task && named.name == name);
-        if let (Some(named), Some(port)) = (made, self.ports.get_mut(usize::from(class.0))) {
-            *port = match named.held {
-                Some(held) => Some(held.port),
-                None => None,
-            };
-        }
-    }
-
-    /// Notes the port that the action made, if it made one.
-    fn note_made(&mut self, action: &Action, task: TaskId, name: Option<u32>) {
-        let Some(name) = name else {
-            return;
-        };
-        if let Action::Allocate { class } = action {
-            self.note_port(*class, task, name);
-        }
-    }
-
-    /// Makes the call of an action, and notes what it leaves.
-    fn make(
-        &mut self,
-        alloc: Global,
-        wired: &Wired,
-        action: &Action,
-        made: &TaskCall,
-    ) -> Result<(), OrMemory<Undone>> {
-        let reply = self.world.step(wired, made.task, &made.call)?;
-        let came = came_of(&reply);
-        drop(reply);
-        let Some(name) = came else {
-            return Err(OrMemory::Fault(Undone));
-        };
-        self.names = names_of(alloc, wired, &mut self.world)?;
-        self.note_made(action, made.task, name);
-        self.note_action(action)?;
+    /// Notes that a message waits with a right on the port of a class.
+    fn wait(&mut self, to: ClassId, class: ClassId, right: PortRight) -> Result<(), AllocError> {
+        self.noted.push(Fact::Carry {
+            destination: to,
+            class,
+            right,
+        })?;
         Ok(())
     }
 
-    /// Does an action, and keeps it with its call.
-    pub(crate) fn act(
-        &mut self,
-        alloc: Global,
-        wired: &Wired,
-        action: Action,
-    ) -> Result<(), OrMemory<Undone>> {
-        let Some(made) = call_of(alloc, wired, self, &action)? else {
-            return Err(OrMemory::Fault(Undone));
-        };
-        match self.make(alloc, wired, &action, &made) {
-            Ok(()) => {
-                self.calls.push(made)?;
-                self.actions.push(action)?;
-                Ok(())
+    /// Notes an action, and what it leaves that is not shown.
+    fn note(&mut self, action: &Action) -> Result<(), AllocError> {
+        let class = action.class;
+        match action.deed {
+            Deed::Allocate => self.classes.push(class)?,
+            Deed::Send(to, carrier) => self.wait(to, class, carrier.right())?,
+            Deed::Receive => {
+                let _none = self.forget(class, false);
             }
-            Err(why) => {
-                drop(made);
-                Err(why)
+            Deed::Request(notify) => {
+                let _before = self.forget(class, true);
+                if let Some(notify) = notify {
+                    self.noted.push(Fact::Backup { class, notify })?;
+                }
             }
+            Deed::Destroy => {
+                if let Some(to) = self.forget(class, true) {
+                    self.wait(to, class, PortRight::Receive)?;
+                }
+            }
+            Deed::Take(..) | Deed::Give(..) => {}
         }
+        self.actions.push(*action)?;
+        Ok(())
+    }
+
+    /// Makes a call. Answers whether it was not refused.
+    fn make(&mut self, task: u16, call: &Call) -> Result<bool, AllocError> {
+        let reply = self.world.step(self.wired, TaskId(u32::from(task)), call)?;
+        let is_refused = matches!(
+            reply,
+            Reply::Refused(_) | Reply::Denied(_) | Reply::DeadTask | Reply::TooLarge(_)
+        );
+        drop(reply);
+        Ok(!is_refused)
+    }
+
+    /// Does an action. Answers whether it can be done: the names that it needs are there, and its
+    /// call is not refused.
+    pub(crate) fn act(&mut self, action: &Action) -> Result<bool, AllocError> {
+        let Some(call) = self.call_of(action)? else {
+            return Ok(false);
+        };
+        let is_done = self.make(action.task, &call);
+        drop(call);
+        if !is_done? {
+            return Ok(false);
+        }
+        self.note(action)?;
+        self.look()?;
+        Ok(true)
     }
 }

@@ -1,9 +1,11 @@
 //! Chains are played, the best first, until one of them breaks the line.
 
-use crate::actions::{Action, TaskCall};
-use crate::plan::{Planned, plan_of};
-use crate::play::{Part, Play, is_at};
-use crate::shorter::{calls_of, shortened};
+use crate::actions::Action;
+use crate::calls::script_text;
+use crate::play::{Mark, Play};
+use crate::printing::Form;
+use crate::run::Run;
+use crate::step::turn;
 use mrc_base::Fact;
 use mrc_classes::Rules;
 use mrc_closure::Step;
@@ -20,265 +22,201 @@ pub trait Progress {
     fn played(&mut self, chains: usize);
 }
 
-/// What was found.
-#[derive(Debug, Drop)]
-pub(crate) enum Found {
-    /// Calls that can be made one after the other from the first state, and break the line.
-    Calls(Vec<TaskCall>),
-    /// No calls were found. That there are none is not said.
-    NotReached {
-        /// Whether a bound cut the search.
-        cut: bool,
-    },
-}
-
-/// What came of a chain that was played.
+/// What the searches of a policy's lines share.
 #[derive(Drop)]
-enum Came {
-    /// The line is broken after these actions.
-    Broken(Vec<Action>),
-    /// It is not; these steps are why.
-    Stuck(Vec<bool>),
-}
-
-/// What came of all chains that were played.
-#[derive(Drop)]
-enum Reached {
-    /// The line is broken after these actions.
-    Broken(Vec<Action>),
-    /// It is not.
-    Nothing { cut: bool },
-}
-
-/// Facts that no step of a chain may conclude, and how far that is from the first chain.
-#[derive(Drop)]
-struct Way {
-    barred: Vec<Fact>,
-    depth: usize,
-    is_done: bool,
-}
-
-/// What is looked for, with the rules of the wiring and the chain that is printed.
-#[derive(Clone, Copy)]
-pub(crate) struct Wanted<'a> {
+pub(crate) struct Hunt<'a> {
     pub(crate) wired: &'a Wired,
     pub(crate) rules: &'a Rules,
-    pub(crate) line: &'a ForbiddenLine,
-    pub(crate) chain: &'a [Step],
+    pub(crate) form: Form,
     /// How many chains are played at most.
     pub(crate) most: usize,
 }
 
-/// How far the search has come.
+/// What a search brings: lines of calls, not yet judged, and whether a bound cut it.
 #[derive(Drop)]
-struct Search {
-    ways: Vec<Way>,
-    tried: Vec<Vec<Step>>,
+pub(crate) struct Brought {
+    pub(crate) script: Option<String>,
+    pub(crate) cut: bool,
 }
 
-/// Plays the plan.
-fn outcome(alloc: Global, part: &Part<'_>, play: &mut Play) -> Result<Came, AllocError> {
-    if play.play(alloc, part)? {
-        Ok(Came::Broken(play.run.actions.to_vec(alloc)?))
-    } else {
-        Ok(Came::Stuck(play.culprits(alloc, part)?))
+/// Facts that no step of a chain may conclude, how far that is from the first chain, and once it
+/// was looked for the chain: no steps if there is none.
+#[derive(Drop)]
+struct Way {
+    barred: Vec<Fact>,
+    depth: usize,
+    steps: Vec<Step>,
+}
+
+/// How far the search for a line has come.
+#[derive(Drop)]
+pub(crate) struct Search<'a> {
+    pub(crate) alloc: Global,
+    pub(crate) hunt: &'a Hunt<'a>,
+    pub(crate) line: &'a ForbiddenLine,
+    /// The chain that is printed.
+    first: &'a [Step],
+    open: Vec<Way>,
+    done: Vec<Way>,
+    played: usize,
+}
+
+impl Way {
+    /// Whether nothing new comes of a way without these facts: this one, which is without some of
+    /// them, has no chain, or its chain has none of them.
+    fn covers(&self, barred: &[Fact]) -> bool {
+        self.barred.iter().all(|fact| barred.contains(fact))
+            && !self.steps.iter().any(|step| barred.contains(&step.fact))
     }
 }
 
-/// Plays the plan from the first state on.
-fn played(alloc: Global, part: &Part<'_>) -> Result<Came, AllocError> {
-    let mut play = Play::new(alloc, part)?;
-    let came = outcome(alloc, part, &mut play);
-    drop(play);
-    came
-}
-
-/// The facts with one more, in their order.
-fn barred_with(alloc: Global, barred: &[Fact], fact: Fact) -> Result<Vec<Fact>, AllocError> {
-    let mut more = barred.to_vec(alloc)?;
-    more.push(fact)?;
-    more.sort()?;
-    Ok(more)
-}
-
-impl Search {
-    /// The chain that is printed comes first.
-    fn new(alloc: Global) -> Result<Search, AllocError> {
-        let mut ways = Vec::new(alloc);
-        ways.push(Way {
-            barred: Vec::new(alloc),
-            depth: 0,
-            is_done: false,
-        })?;
-        Ok(Search {
-            ways,
-            tried: Vec::new(alloc),
-        })
-    }
-
-    /// The place of the best way that is not done: the nearest, and of these the first.
-    fn best(&self) -> Option<usize> {
-        let mut best: Option<(usize, usize)> = None;
-        for (place, way) in self.ways.iter().enumerate() {
-            let is_nearer = match best {
-                Some((_, depth)) => way.depth < depth,
-                None => true,
-            };
-            if !way.is_done && is_nearer {
-                best = Some((place, way.depth));
-            }
-        }
-        match best {
-            Some((place, _)) => Some(place),
-            None => None,
-        }
-    }
-
-    /// The chain of a way, if there is one that was not played yet.
-    fn chain(
-        &mut self,
-        alloc: Global,
-        wanted: &Wanted<'_>,
-        place: usize,
-    ) -> Result<Option<Vec<Step>>, AllocError> {
-        let Some(way) = self.ways.get_mut(place) else {
-            return Ok(None);
-        };
-        way.is_done = true;
-        let barred = way.barred.as_slice();
-        let goal = forbidden_fact(wanted.line);
-        let chain = if barred.is_empty() {
-            Some(wanted.chain.to_vec(alloc)?)
-        } else {
-            chain_without(alloc, wanted.rules, goal, barred)?
-        };
-        match chain {
-            Some(steps) if self.tried.iter().any(|tried| *tried == steps) => Ok(None),
-            other => Ok(other),
-        }
-    }
-
-    /// Adds the way without the fact, if it is new.
-    fn bar(
-        &mut self,
-        alloc: Global,
-        from: usize,
-        fact: Fact,
-        farther: usize,
-    ) -> Result<(), AllocError> {
-        let Some(way) = self.ways.get(from) else {
-            return Ok(());
-        };
-        let barred = barred_with(alloc, way.barred.as_slice(), fact)?;
-        let depth = way.depth.saturating_add(farther);
-        if !self.ways.iter().any(|way| way.barred == barred) {
-            self.ways.push(Way {
+impl Search<'_> {
+    /// Adds the way without these facts, if something new may come of it.
+    fn add(&mut self, mut barred: Vec<Fact>, depth: usize) -> Result<(), AllocError> {
+        barred.sort()?;
+        let is_open = self.open.iter().any(|way| way.barred == barred);
+        if !is_open && !self.done.iter().any(|way| way.covers(&barred)) {
+            self.open.push(Way {
                 barred,
                 depth,
-                is_done: false,
+                steps: Vec::new(self.alloc),
             })?;
         }
         Ok(())
     }
 
-    /// Adds the ways without one of the steps of this weight that are culprits, or that are not.
-    fn bar_all(
-        &mut self,
-        alloc: Global,
-        from: usize,
-        plan: &[Planned],
-        why: &[bool],
-        is_culprit: bool,
-        weight: u8,
-    ) -> Result<(), AllocError> {
-        let farther = if is_culprit { 1 } else { 2 };
-        for (place, step) in plan.iter().enumerate() {
-            if !step.is_making() && is_at(why, place) == is_culprit && step.weight() == weight {
-                self.bar(alloc, from, step.fact, farther)?;
-            }
+    /// Takes the best way that is open: the nearest, and of these the first.
+    fn best(&mut self) -> Option<Way> {
+        let least = self.open.iter().map(|way| way.depth).min()?;
+        let place = self.open.iter().position(|way| way.depth == least)?;
+        Some(self.open.remove(place))
+    }
+
+    /// Looks for the chain of a way. Answers whether there is one that was not played yet.
+    fn find(&self, way: &mut Way) -> Result<bool, AllocError> {
+        if way.barred.is_empty() {
+            way.steps = self.first.to_vec(self.alloc)?;
+            return Ok(true);
         }
-        Ok(())
+        let goal = forbidden_fact(self.line);
+        let Some(steps) = chain_without(self.alloc, self.hunt.rules, goal, &way.barred)? else {
+            return Ok(false);
+        };
+        way.steps = steps;
+        Ok(!self.done.iter().any(|done| done.steps == way.steps))
     }
 
     /// Adds the ways without one of the steps: culprits first, and moves before other steps.
-    fn go_on(
-        &mut self,
-        alloc: Global,
-        from: usize,
-        plan: &[Planned],
-        why: &[bool],
-    ) -> Result<(), AllocError> {
-        for weight in [2, 1, 0] {
-            self.bar_all(alloc, from, plan, why, true, weight)?;
-        }
-        for weight in [2, 1, 0] {
-            self.bar_all(alloc, from, plan, why, false, weight)?;
+    fn go_on(&mut self, way: &Way, marks: &[Mark]) -> Result<(), AllocError> {
+        let steps = way.steps.iter().zip(marks);
+        let steps = steps.filter(|&(step, _)| turn(step) < 3);
+        let mut order: Vec<(bool, u8, Fact)> = steps
+            .map(|(step, mark)| (!mark.is_culprit, 2u8.saturating_sub(turn(step)), step.fact))
+            .collect(self.alloc)?;
+        order.sort_by_key(|one| (one.0, one.1))?;
+        for (is_other, _, fact) in &order {
+            let mut barred = way.barred.to_vec(self.alloc)?;
+            barred.push(*fact)?;
+            self.add(
+                barred,
+                way.depth.saturating_add(if *is_other { 2 } else { 1 }),
+            )?;
         }
         Ok(())
     }
 
-    /// Plays the chain of a way. If it breaks the line, its actions are the answer.
-    fn play(
+    /// What comes of a chain: its actions if they break the line. Else the ways without its steps
+    /// are added.
+    fn outcome(
         &mut self,
-        alloc: Global,
-        wanted: &Wanted<'_>,
-        place: usize,
-        steps: Vec<Step>,
+        way: &Way,
+        play: &mut Play<'_>,
     ) -> Result<Option<Vec<Action>>, AllocError> {
-        let plan = plan_of(alloc, wanted.wired, steps.as_slice())?;
-        self.tried.push(steps)?;
-        let part = Part {
-            wired: wanted.wired,
-            line: wanted.line,
-            plan: plan.as_slice(),
-        };
-        match played(alloc, &part)? {
-            Came::Broken(actions) => Ok(Some(actions)),
-            Came::Stuck(why) => {
-                self.go_on(alloc, place, plan.as_slice(), why.as_slice())?;
-                Ok(None)
-            }
+        if play.play()? {
+            return Ok(Some(play.run.actions.to_vec(self.alloc)?));
         }
+        play.blame_all();
+        self.go_on(way, &play.marks)?;
+        Ok(None)
+    }
+
+    /// Plays the chain of a way from the first state on.
+    fn play(&mut self, way: &Way) -> Result<Option<Vec<Action>>, AllocError> {
+        let mut play = Play::new(self, &way.steps)?;
+        let came = self.outcome(way, &mut play);
+        drop(play);
+        came
+    }
+
+    /// Tries a way.
+    fn try_way<P: Progress>(
+        &mut self,
+        way: &mut Way,
+        progress: &mut P,
+    ) -> Result<Option<Vec<Action>>, AllocError> {
+        let mut actions = None;
+        if self.find(way)? {
+            self.played = self.played.saturating_add(1);
+            progress.played(self.played);
+            actions = self.play(way)?;
+        }
+        self.open.retain(|other| !way.covers(&other.barred));
+        Ok(actions)
+    }
+
+    /// Plays chains, the best first, until one of them breaks the line by its actions.
+    fn play_all<P: Progress>(
+        &mut self,
+        progress: &mut P,
+    ) -> Result<Option<Vec<Action>>, AllocError> {
+        for _ in 0..CLOSURES.saturating_add(1) {
+            if self.played >= self.hunt.most {
+                return Ok(None);
+            }
+            let Some(mut way) = self.best() else {
+                return Ok(None);
+            };
+            let actions = self.try_way(&mut way, progress)?;
+            if actions.is_some() {
+                return Ok(actions);
+            }
+            self.done.push(way)?;
+        }
+        Ok(None)
+    }
+
+    /// As few as can be of the actions, as lines of calls.
+    fn script(&self, actions: Vec<Action>) -> Result<Option<String>, AllocError> {
+        let actions = self.shortened(actions)?;
+        let mut run = Run::new(self.alloc, self.hunt.wired)?;
+        let script = script_text(&mut run, self.hunt.form, &actions);
+        drop(run);
+        script
     }
 }
 
-/// Plays chains, the best first, until one of them breaks the line.
-fn play_all<P: Progress>(
+/// Searches. The chain that is printed is played first.
+pub(crate) fn searched<P: Progress>(
     alloc: Global,
-    wanted: &Wanted<'_>,
+    hunt: &Hunt<'_>,
+    line: &ForbiddenLine,
+    first: &[Step],
     progress: &mut P,
-) -> Result<Reached, AllocError> {
-    let mut search = Search::new(alloc)?;
-    for _ in 0..CLOSURES.saturating_add(1) {
-        let Some(place) = search.best() else {
-            return Ok(Reached::Nothing { cut: false });
-        };
-        if search.tried.len() >= wanted.most {
-            return Ok(Reached::Nothing { cut: true });
-        }
-        if let Some(steps) = search.chain(alloc, wanted, place)? {
-            progress.played(search.tried.len().saturating_add(1));
-            if let Some(actions) = search.play(alloc, wanted, place, steps)? {
-                return Ok(Reached::Broken(actions));
-            }
-        }
-    }
-    Ok(Reached::Nothing {
-        cut: search.best().is_some(),
-    })
-}
-
-/// Calls that break the line, if the chain that is printed or another can be played.
-pub(crate) fn calls_for<P: Progress>(
-    alloc: Global,
-    wanted: &Wanted<'_>,
-    progress: &mut P,
-) -> Result<Found, AllocError> {
-    match play_all(alloc, wanted, progress)? {
-        Reached::Broken(actions) => {
-            let actions = shortened(alloc, wanted.wired, wanted.line, actions)?;
-            Ok(Found::Calls(calls_of(alloc, wanted.wired, &actions)?))
-        }
-        Reached::Nothing { cut } => Ok(Found::NotReached { cut }),
-    }
+) -> Result<Brought, AllocError> {
+    let mut search = Search {
+        alloc,
+        hunt,
+        line,
+        first,
+        open: Vec::new(alloc),
+        done: Vec::new(alloc),
+        played: 0,
+    };
+    search.add(Vec::new(alloc), 0)?;
+    let script = match search.play_all(progress)? {
+        Some(actions) => search.script(actions)?,
+        None => None,
+    };
+    let cut = !search.open.is_empty();
+    Ok(Brought { script, cut })
 }

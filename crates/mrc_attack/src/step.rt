@@ -1,246 +1,160 @@
-//! A step of a plan as calls. What is in the way is mended first.
+//! A step of a chain as actions. What is in the way is mended first.
 
-use crate::actions::Action;
+use crate::actions::{Action, Deed};
 use crate::carriers::{Carrier, Load, carrier_of};
-use crate::plan::Deed;
-use crate::run::{Run, Undone};
-use mrc_base::{ClassId, Disp, OrMemory, PortRight};
-use mrc_wiring::Wired;
-use std::alloc::{AllocError, Global};
+use crate::run::Run;
+use mrc_base::{ClassId, Disp, Fact, PortRight};
+use mrc_classes::RuleName;
+use mrc_closure::Step;
+use std::alloc::AllocError;
 
 /// How many messages are received at most until a right is there.
 const RECEIVES: usize = 20;
 
-/// The disposition that makes a right from a receive right.
-fn making(right: PortRight) -> Disp {
-    match right {
-        PortRight::Send => Disp::MakeSend,
-        PortRight::Receive => Disp::MoveReceive,
-        PortRight::SendOnce => Disp::MakeSendOnce,
+/// The port and the right that a fact is about. A request has a send-once right.
+fn parts(fact: &Fact) -> (ClassId, PortRight) {
+    match *fact {
+        Fact::Hold { class, right, .. } | Fact::Carry { class, right, .. } => (class, right),
+        Fact::Backup { notify, .. } => (notify, PortRight::SendOnce),
     }
 }
 
-impl Run {
+/// When a step comes: moves of receive rights come late, and last what makes a port or a right,
+/// since that is done where they are used.
+pub(crate) fn turn(step: &Step) -> u8 {
+    let is_receive = parts(&step.fact).1 == PortRight::Receive;
+    match step.rule {
+        RuleName::First | RuleName::Births | RuleName::Weaker => 3,
+        RuleName::Slot | RuleName::Notice if is_receive => 2,
+        RuleName::KernelPort if is_receive => 1,
+        _ => 0,
+    }
+}
+
+impl Run<'_> {
+    /// Has a task do something with a port, which is made first if need be.
+    fn does(&mut self, task: u16, class: ClassId, deed: Deed) -> Result<bool, AllocError> {
+        Ok(self.there(class)? && self.act(&Action { task, class, deed })?)
+    }
+
     /// Makes the port of a class, if it is not there yet.
-    pub(crate) fn there(
-        &mut self,
-        alloc: Global,
-        wired: &Wired,
-        class: ClassId,
-    ) -> Result<(), OrMemory<Undone>> {
-        if self.port(class).is_some() {
-            return Ok(());
-        }
-        self.act(alloc, wired, Action::Allocate { class })
-    }
-
-    /// Which right has to be made first, for the sender still to have one when the message is sent:
-    /// a send right that a message copies or moves, or a second reference of one that it moves; and
-    /// a send-once right.
-    fn lacking(
-        &mut self,
-        wired: &Wired,
-        sender: u16,
-        class: ClassId,
-        disp: Disp,
-    ) -> Result<Option<Disp>, AllocError> {
-        let is_receiver = self.has(sender, class, PortRight::Receive);
-        let is_sender = self.has(sender, class, PortRight::Send);
-        match disp {
-            Disp::MoveSend | Disp::CopySend if !is_sender => Ok(Some(Disp::MakeSend)),
-            Disp::MoveSend if !is_receiver && self.references(wired, sender, class)? == 1 => {
-                Ok(Some(Disp::CopySend))
-            }
-            Disp::MoveSendOnce if is_receiver => Ok(Some(Disp::MakeSendOnce)),
-            _ => Ok(None),
+    fn there(&mut self, class: ClassId) -> Result<bool, AllocError> {
+        let deed = Deed::Allocate;
+        match self.owner(class) {
+            _ if self.has_port(class) => Ok(true),
+            Some(task) => self.act(&Action { task, class, deed }),
+            None => Ok(false),
         }
     }
 
-    /// Makes what is lacking for a slot.
-    fn prepare(
-        &mut self,
-        alloc: Global,
-        wired: &Wired,
-        sender: u16,
-        class: ClassId,
-        carrier: &Carrier,
-    ) -> Result<(), OrMemory<Undone>> {
-        let Some((_, slot)) = carrier.slot else {
-            return Ok(());
-        };
-        let Some(disp) = self.lacking(wired, sender, class, slot)? else {
-            return Ok(());
-        };
-        self.act(
-            alloc,
-            wired,
-            Action::Make {
-                task: sender,
-                class,
-                disp,
-            },
-        )
+    /// Has a task make or copy one more of its rights on a port.
+    fn more(&mut self, task: u16, class: ClassId, right: PortRight) -> Result<bool, AllocError> {
+        self.does(task, class, Deed::Take(task, right))
     }
 
-    /// Sends what is carried by the smallest message.
-    fn send(
-        &mut self,
-        alloc: Global,
-        wired: &Wired,
-        sender: u16,
-        load: &Load,
-    ) -> Result<(), OrMemory<Undone>> {
-        self.there(alloc, wired, load.to)?;
-        self.there(alloc, wired, load.class)?;
-        let Some(carrier) = carrier_of(wired, load) else {
-            return Err(OrMemory::Fault(Undone));
-        };
-        self.prepare(alloc, wired, sender, load.class, &carrier)?;
-        self.act(
-            alloc,
-            wired,
-            Action::Send {
-                sender,
-                to: load.to,
-                carrier,
-                class: load.class,
-            },
-        )
+    /// Which right the sender should have one more of: it has none, or the message takes its last.
+    fn lacking(&self, task: u16, class: ClassId, carrier: &Carrier) -> Option<PortRight> {
+        let is_receiver = self.has(task, class, PortRight::Receive);
+        let is_sender = self.has(task, class, PortRight::Send);
+        match carrier.slot?.1 {
+            Disp::CopySend if !is_sender => Some(PortRight::Send),
+            Disp::MoveSend if !is_sender || !is_receiver => Some(PortRight::Send),
+            Disp::MoveSendOnce if is_receiver => Some(PortRight::SendOnce),
+            _ => None,
+        }
     }
 
-    /// Receives until the right is there.
-    fn receive(
-        &mut self,
-        alloc: Global,
-        wired: &Wired,
-        task: u16,
-        from: ClassId,
-        class: ClassId,
-        right: PortRight,
-    ) -> Result<(), OrMemory<Undone>> {
+    /// Sends what is carried by the best message.
+    fn send(&mut self, task: u16, load: &Load) -> Result<bool, AllocError> {
+        let class = load.class;
+        let Some(carrier) = carrier_of(self.wired, load) else {
+            return Ok(false);
+        };
+        if !self.there(load.to)? || !self.there(class)? {
+            return Ok(false);
+        }
+        if let Some(right) = self.lacking(task, class, &carrier) {
+            let _is_made = self.more(task, class, right)?;
+        }
+        self.does(task, class, Deed::Send(load.to, carrier))
+    }
+
+    /// Receives from a port until the fact is there.
+    fn receive(&mut self, task: u16, from: ClassId, fact: &Fact) -> Result<bool, AllocError> {
         for _ in 0..RECEIVES {
-            self.act(alloc, wired, Action::Receive { task, class: from })?;
-            if self.has(task, class, right) {
-                return Ok(());
+            if !self.does(task, from, Deed::Receive)? {
+                return Ok(false);
+            }
+            if self.is_there(fact) {
+                return Ok(true);
             }
         }
-        Err(OrMemory::Fault(Undone))
+        Ok(false)
     }
 
-    /// Destroys the receive right.
-    fn destroy(
-        &mut self,
-        alloc: Global,
-        wired: &Wired,
-        class: ClassId,
-    ) -> Result<(), OrMemory<Undone>> {
-        match self.receiver(class) {
-            Some(task) => self.act(alloc, wired, Action::Destroy { task, class }),
-            None => Err(OrMemory::Fault(Undone)),
-        }
+    /// Shares a right by a kernel port: gives it if the task of that port is to hold it, and else
+    /// takes it from there.
+    fn share(&mut self, caller: u16, kernel: ClassId, fact: &Fact) -> Result<bool, AllocError> {
+        let (class, right) = parts(fact);
+        let Some(other) = kernel.0.checked_sub(self.wired.ports()) else {
+            return Ok(false);
+        };
+        let deed = match *fact {
+            Fact::Hold { task, .. } if task == other => Deed::Give(other, right),
+            _ => Deed::Take(other, right),
+        };
+        self.does(caller, class, deed)
     }
 
-    /// Does an action on a port, which is made first if need be.
-    fn act_on(
-        &mut self,
-        alloc: Global,
-        wired: &Wired,
-        class: ClassId,
-        action: Action,
-    ) -> Result<(), OrMemory<Undone>> {
-        self.there(alloc, wired, class)?;
-        self.act(alloc, wired, action)
-    }
-
-    /// Does what a step asks for. If it can't be done, a part of it may have been.
-    pub(crate) fn do_deed(
-        &mut self,
-        alloc: Global,
-        wired: &Wired,
-        deed: &Deed,
-    ) -> Result<(), OrMemory<Undone>> {
-        match *deed {
-            Deed::Nothing => Err(OrMemory::Fault(Undone)),
-            Deed::Allocate { class } => self.there(alloc, wired, class),
-            Deed::Make { task, class, right } => {
-                let disp = making(right);
-                self.act_on(alloc, wired, class, Action::Make { task, class, disp })
+    /// Does a step other than a notice. The task of its first premise does it.
+    fn do_plain(&mut self, step: &Step, first: &Fact, last: &Fact) -> Result<bool, AllocError> {
+        let (class, right) = parts(&step.fact);
+        let (to, _) = parts(first);
+        let Fact::Hold { task, .. } = *first else {
+            return Ok(false);
+        };
+        let rights = match step.rule {
+            RuleName::Reply => None,
+            _ => Some((parts(last).1, right)),
+        };
+        match step.rule {
+            RuleName::First | RuleName::Notice => Ok(false),
+            RuleName::Births => self.there(class),
+            RuleName::Weaker => self.more(task, class, right),
+            RuleName::Slot | RuleName::Reply => self.send(task, &Load { to, class, rights }),
+            RuleName::Received => self.receive(task, to, &step.fact),
+            RuleName::KernelPort => self.share(task, to, &step.fact),
+            RuleName::Request => {
+                Ok(self.there(class)? && self.does(task, to, Deed::Request(Some(class)))?)
             }
-            Deed::Send {
-                sender,
-                to,
-                class,
-                rights,
-            } => self.send(alloc, wired, sender, &Load { to, class, rights }),
-            Deed::Receive {
-                task,
-                from,
-                class,
-                right,
-            } => self.receive(alloc, wired, task, from, class, right),
-            Deed::Take {
-                caller,
-                target,
-                class,
-                right,
-            } => {
-                let action = Action::Extract {
-                    caller,
-                    target,
-                    class,
-                    right,
-                };
-                self.act_on(alloc, wired, class, action)
-            }
-            Deed::Give {
-                caller,
-                target,
-                class,
-                right,
-            } => {
-                let action = Action::Insert {
-                    caller,
-                    target,
-                    class,
-                    right,
-                };
-                self.act_on(alloc, wired, class, action)
-            }
-            Deed::Request {
-                task,
-                class,
-                notify,
-            } => {
-                self.there(alloc, wired, notify)?;
-                let action = Action::Request {
-                    task,
-                    class,
-                    notify,
-                };
-                self.act_on(alloc, wired, class, action)
-            }
-            Deed::Destroy { class } => self.destroy(alloc, wired, class),
-            Deed::Unrequest { task, class } => {
-                self.act(alloc, wired, Action::Unrequest { task, class })
-            }
+            RuleName::Returned => self.does(task, to, Deed::Request(None)),
         }
     }
 
-    /// Before a receive right goes: whoever has it makes a send right and two send-once rights.
-    /// What can't be made is passed over.
-    pub(crate) fn stock(
+    /// Does a step of which these are the premises, or the one premise twice. Before a receive
+    /// right goes, who has it makes a send right and two send-once rights; what can't be made is
+    /// passed over. If the step can't be done, a part of it may have been.
+    pub(crate) fn do_step(
         &mut self,
-        alloc: Global,
-        wired: &Wired,
-        task: u16,
-        class: ClassId,
-    ) -> Result<(), AllocError> {
-        for disp in [Disp::MakeSend, Disp::MakeSendOnce, Disp::MakeSendOnce] {
-            match self.act(alloc, wired, Action::Make { task, class, disp }) {
-                Ok(()) | Err(OrMemory::Fault(Undone)) => (),
-                Err(OrMemory::Memory) => return Err(AllocError),
+        step: &Step,
+        first: &Fact,
+        last: &Fact,
+    ) -> Result<bool, AllocError> {
+        let (class, _) = parts(&step.fact);
+        let turn = turn(step);
+        let holder = match *last {
+            _ if turn == 0 || turn == 3 => None,
+            Fact::Hold { task, .. } => Some(task),
+            _ => self.receiver(class),
+        };
+        if let Some(task) = holder {
+            for right in [PortRight::Send, PortRight::SendOnce, PortRight::SendOnce] {
+                let _is_made = self.more(task, class, right)?;
             }
         }
-        Ok(())
+        match holder {
+            Some(task) if step.rule == RuleName::Notice => self.does(task, class, Deed::Destroy),
+            _ => self.do_plain(step, first, last),
+        }
     }
 }
