@@ -10,9 +10,9 @@ import re
 from dataclasses import dataclass, field
 from pathlib import Path
 
-COMMANDS = ["verify", "check", "explain", "facts", "mend", "mig"]
+COMMANDS = ["verify", "mend", "attack", "check", "explain", "facts", "graph", "slots", "promises", "replay", "live", "mig"]
 # The options with a word, and those without one.
-WORDED = ["wiring", "policy", "cert", "fact", "task", "class", "right", "most", "line", "out", "format"]
+WORDED = ["wiring", "policy", "cert", "script", "fact", "task", "class", "right", "most", "line", "out", "format"]
 FACT_TEXT = r"hold \S+ \S+ \S+|carry \S+ \S+ \S+|backup \S+ \S+"
 STEP_TEXT = re.compile(rf"(\d+) (K\d+) ({FACT_TEXT})(?: from (\d+)(?: (\d+))?)?(?: by (.+))?")
 SLOT_TEXT = re.compile(r"(\w+)\.(\w+)\.(\w+) \((\w+)\.(\w+)\)")
@@ -91,9 +91,31 @@ MENDS = {
     "mends": [{"changes": [CHANGE], "loses": int}],
     "schema": 1,
 }
+ATTACK = {"calls": [str], "cut": bool, "fact": FACT, "line": int, "real": bool, "text": str, "trusted": bool}
+DISPOSITION = ("MOVE_RECEIVE", "MOVE_SEND", "MOVE_SEND_ONCE", "COPY_SEND", "MAKE_SEND", "MAKE_SEND_ONCE")
+SLOT = {
+    "admits": (None, [CLASS]),
+    "argument": NAME,
+    "disposition": tuple(f"MACH_MSG_TYPE_{word}" for word in DISPOSITION),
+    "id": int,
+    "message": ("request", "reply"),
+    "routine": NAME,
+    "subsystem": NAME,
+    "type": NAME,
+}
+PROMISE = {
+    "class": (None, CLASS),
+    "line": int,
+    "right": (None, RIGHT),
+    "task": (None, NAME),
+    "text": str,
+    "verb": ("takes", "gives", "sends", "replies", "replies fit"),
+}
+DRAWN = {"fact": FACT, "first": bool, "forbidden": (None, int)}
+EVENT = {"call": str, "number": int, "reply": str, "task": re.compile(rf"{NAME.pattern}|@\d+")}
 LEFT = {"carries": [{"argument": str, "type": str}], "id": int, "line": int, "routine": str, "word": str}
 ANSWER = (
-    {"answer": "YES", "command": ("verify", "check"), "notices": [str], "schema": 1},
+    {"answer": "YES", "command": ("verify", "attack", "check"), "notices": [str], "schema": 1},
     {
         "answer": "NO",
         "broken": [BROKEN],
@@ -103,10 +125,17 @@ ANSWER = (
         "notices": [str],
         "schema": 1,
     },
-    {"answer": "NO", "command": "check", "notices": [str], "reason": REASON, "schema": 1},
+    {"answer": "NO", "command": ("check", "live"), "notices": [str], "reason": REASON, "schema": 1},
+    {"answer": "attacks", "attacks": [ATTACK], "command": "attack", "notices": [str], "schema": 1},
     {"answer": ("chain", "none"), "command": "explain", "fact": FACT, "schema": 1, "steps": [STEP]},
     {"answer": "facts", "command": "facts", "facts": [FACT], "schema": 1},
-    {"answer": "NO", "command": "facts", "reason": COUNTS, "schema": 1},
+    {"answer": "NO", "command": ("facts", "graph"), "reason": COUNTS, "schema": 1},
+    {"answer": "graph", "classes": [CLASS], "command": "graph", "facts": [DRAWN], "schema": 1, "tasks": [NAME]},
+    {"answer": "none", "command": "graph", "fact": FACT, "schema": 1},
+    {"answer": "slots", "command": "slots", "schema": 1, "slots": [SLOT]},
+    {"answer": "promises", "command": "promises", "promises": [PROMISE], "schema": 1},
+    {"answer": "replay", "command": "replay", "events": [EVENT], "ports": int, "schema": 1},
+    {"answer": ("journal", "all wait"), "command": "live", "events": [EVENT], "ports": int, "schema": 1, "waits": [int]},
     {"answer": "YES", "command": "mend", "schema": 1},
     {"answer": ("changes", "none"), **MENDS},
     {
@@ -211,9 +240,17 @@ class Asked:
         """Its words without these options, which have no word of their own."""
         return [word for word in self.words if word not in [f"--{option}" for option in options]]
 
+    def free_of(self, option):
+        """Its words without this option, which has a word of its own."""
+        words, name = [], f"--{option}"
+        for before, word in zip(["", *self.words], self.words):
+            if before != name and word != name and not word.startswith(f"{name}="):
+                words.append(word)
+        return words
+
     def named(self):
         """The files that it names."""
-        return [self.options[name] for name in ("wiring", "policy", "cert") if self.has(name)] + self.files
+        return [self.options[name] for name in ("wiring", "policy", "cert", "script") if self.has(name)] + self.files
 
 
 @dataclass
@@ -233,16 +270,23 @@ class Printed:
 
 @dataclass
 class Texts:
-    """What a command prints as text: by itself, and with all that is behind it (`whole`): quotes, sources and places."""
+    """What a command prints as text: by itself, and with all that is behind it (`whole`): quotes, sources and places; and
+    the same of all lines of a policy, if one is asked for (`every`)."""
 
     plain: Printed
     whole: Printed
+    every: Printed
 
 
 def whole_words(asked):
     """The words of a command of which all is printed that its object says."""
     by = ["--by"] if asked.command == "explain" and not asked.has("by") else []
     return [asked.command, "--verbose", *by, *asked.without("verbose", "tree", "brief")[1:]]
+
+
+def every_words(asked, words):
+    """The words of a command about all lines of a policy."""
+    return words if asked.command != "verify" else Asked(words).free_of("line")
 
 
 # The objects of texts
@@ -330,7 +374,8 @@ def verify_object(folder, asked, texts):
         return {"answer": "YES", **told}
     common, count, lines = first_common(texts.whole.lines())
     found = [broken_object(head, below, folder, asked) for head, below in blocks(lines)]
-    exposed = [made for is_task, made in found if is_task]
+    _, _, every = first_common(texts.every.lines())
+    exposed = [made for is_task, made in (broken_object(*block, folder, asked) for block in blocks(every)) if is_task]
     broken = [made for is_task, made in found if not is_task]
     if common and (count != len(broken) or asked.has("line")):
         raise Wrong(f"{count} lines are broken of {len(broken)}")
@@ -358,6 +403,30 @@ def check_object(folder, asked, texts):
     return {"answer": "NO", "reason": reason_object(line), **told}
 
 
+def cut_lines(notices):
+    """Which lines were not searched to the end, by the lines on standard error: whether of a trusted task, and the number."""
+    found = (re.fullmatch(r"machcheck: attack: (trusted )?line (\d+): not all ways were tried", line) for line in notices)
+    return {(bool(parts[1]), int(parts[2])) for parts in found if parts}
+
+
+def attack_object(folder, asked, texts):
+    told = {"command": "attack", "notices": texts.plain.notices(), "schema": 1}
+    if texts.plain.out == "YES\n":
+        return {"answer": "YES", **told}
+    lines, cut, attacks = texts.plain.lines(), cut_lines(texts.plain.notices()), []
+    if asked.has("line") and lines[0].startswith("# REAL"):
+        lines = [lines[0].removeprefix("# "), *(f"  {line}" for line in lines[1:])]
+    for head, calls in blocks(lines):
+        word, trusted, line, fact, behind = re.fullmatch(
+            rf"(REAL|NO) (trusted )?line (\d+) ({FACT_TEXT})( not reached)?", head).groups()
+        if (word == "NO") != bool(behind) or word == "NO" and calls:
+            raise Wrong(f"calls of {head}: {calls}")
+        text = line_of(folder / asked.options["wiring" if trusted else "policy"], int(line))
+        attacks.append({"calls": calls, "cut": (bool(trusted), int(line)) in cut, "fact": fact_object(fact),
+                        "line": int(line), "real": word == "REAL", "text": text, "trusted": bool(trusted)})
+    return {"answer": "attacks", "attacks": attacks, **told}
+
+
 def explain_object(folder, asked, texts):
     lines = texts.whole.lines()
     steps = [] if lines == ["none"] else steps_object(lines)
@@ -370,6 +439,156 @@ def facts_object(folder, asked, texts):
     if texts.plain.out == "NO counts\n":
         return {"answer": "NO", "reason": dict(COUNTS), **told}
     return {"answer": "facts", "facts": [fact_object(line) for line in texts.plain.lines()], **told}
+
+
+def slots_object(folder, asked, texts, value):
+    """What is said of slots, if their lines are those that are printed. The lines say less than the object."""
+    requests = {(slot["subsystem"], slot["routine"], slot["argument"], slot["type"])
+                for slot in value["slots"] if slot["message"] == "request"}
+    text = ""
+    for slot in value["slots"]:
+        subsystem, routine, argument, of = names = tuple(slot[key] for key in ("subsystem", "routine", "argument", "type"))
+        if slot["message"] == "request" or names not in requests:
+            admits = "any" if slot["admits"] is None else ", ".join(slot["admits"]) or "none"
+            text += f"{subsystem}.{routine}.{argument} ({subsystem}.{of}): {admits}\n"
+    if text != texts.plain.out:
+        raise Wrong(f"other slots than\n{text}:\n{texts.plain.out}")
+    return value
+
+
+def promise_object(folder, asked, line):
+    """What a line of a wiring asks, by what is printed of it and by its words."""
+    task, text, number = re.fullmatch(r"(\w+|each task): (.*) \(line (\d+)\)", line).groups()
+    words = line_of(folder / asked.options["wiring"], int(number)).split("#")[0].split()
+    made = {"class": None, "line": int(number), "right": None, "task": task, "text": text}
+    if words[:1] == ["replies"]:
+        return {**made, "task": None, "verb": "replies fit"}
+    _, of, verb, *limit = words
+    if of != task:
+        raise Wrong(f"line {number} is of another task than {task}: {words}")
+    if limit != ["none"]:
+        right, *named = limit if verb != "replies" else ["once", *limit]
+        name = ":".join([*named[:2], *(str(int(kind)) for kind in named[2:] if int(kind))])
+        made.update({"class": name, "right": right})
+    return {**made, "verb": verb}
+
+
+def promises_object(folder, asked, texts):
+    promises = [promise_object(folder, asked, line) for line in texts.plain.lines()]
+    return {"answer": "promises", "command": "promises", "promises": promises, "schema": 1}
+
+
+NODE_LINE = re.compile(r'  "(\w+)" \[shape=box,label="([^"]*)"\];')
+EDGE_LINE = re.compile(r'  "([^"]+)" -> "([^"]+)" \[label="([^"]*)"([^\]]*)\];')
+LOOKS = {(True, False): "", (False, False): ",style=dashed", (True, True): ",color=red",
+         (False, True): ",style=dashed,color=red"}
+
+
+def drawn_edges(value, nodes):
+    """The edges of a drawing of these nodes: the tail, the head and the looks of each, with its rights."""
+    edges = {}
+    for drawn in value["facts"]:
+        fact = drawn["fact"]
+        if fact["kind"] == "hold":
+            (tail,) = [node for node, tasks in nodes.items() if fact["task"] in tasks]
+            look = LOOKS[drawn["first"], drawn["forbidden"] is not None]
+            edges.setdefault((tail, fact["class"], look), set()).add(fact["right"])
+        elif fact["kind"] == "carry":
+            edges.setdefault((fact["to"], fact["class"], ",style=dotted,arrowhead=vee"), set()).add(fact["right"])
+        else:
+            edges[fact["class"], fact["notify"], ",style=dotted,arrowhead=tee"] = {"backup"}
+    return edges
+
+
+def forbidden_lines(folder, asked):
+    """The first line of the policy that forbids each hold, by the text of the hold."""
+    if not asked.has("policy"):
+        return {}
+    lines, found = (folder / asked.options["policy"]).read_text().split("\n"), {}
+    for number, line in enumerate(lines, 1):
+        if (words := line.split("#")[0].split())[:1] == ["forbid"]:
+            _, task, right, *of = words
+            of = [*of[:2], *(str(int(kind)) for kind in of[2:] if int(kind))]
+            found.setdefault(f"hold {task} {':'.join(of)} {right}", number)
+    return found
+
+
+def graph_object(folder, asked, texts, value):
+    """What is said of a drawing, if the drawing that is printed is one of the same facts."""
+    told = {"command": "graph", "schema": 1}
+    if texts.plain.out == "NO counts\n":
+        return {"answer": "NO", "reason": dict(COUNTS), **told}
+    if texts.plain.out == "none\n":
+        return {"answer": "none", "fact": fact_object(asked.options["fact"]), **told}
+    nodes, edges, lines = {}, {}, texts.plain.lines()
+    for line in lines[2:-1]:
+        if node := NODE_LINE.fullmatch(line):
+            nodes[node[1]] = node[2].split("\\n")
+        else:
+            tail, head, rights, look = EDGE_LINE.fullmatch(line).groups()
+            edges[tail, head, look] = set(rights.split(", "))
+    if edges != drawn_edges(value, nodes):
+        raise Wrong(f"other edges than\n{drawn_edges(value, nodes)}:\n{edges}")
+    facts, forbidden = [drawn["fact"] for drawn in value["facts"]], forbidden_lines(folder, asked)
+    if {name for tasks in nodes.values() for name in tasks} != {*value["tasks"]}:
+        raise Wrong(f"other tasks than {value['tasks']}: {nodes}")
+    if {fact[key] for fact in facts for key in ("class", "to", "notify") if key in fact} != {*value["classes"]}:
+        raise Wrong(f"other classes than those of the facts: {value['classes']}")
+    for drawn in value["facts"]:
+        if drawn["forbidden"] != forbidden.get(drawn["fact"]["text"]):
+            raise Wrong(f"another line forbids {drawn}: {forbidden}")
+    return value
+
+
+def call_of(words):
+    """The words of a call as they are written once: HEX without blanks, numbers without zeros before them, and no kind 0."""
+    name, *parameters = words
+    if name == "send":
+        return f"send {''.join(parameters).lower()}"
+    if name == "allocate" and len(parameters) == 3 and int(parameters[2]) == 0:
+        parameters.pop()
+    number = re.compile(r"[+-]?\d+")
+    return " ".join(["receive" if name == "wait" else name,
+                     *(str(int(word)) if number.fullmatch(word) else word for word in parameters)])
+
+
+def script_of(folder, asked):
+    """The lines of a script that say something: the task, and the call."""
+    lines = (folder / asked.options["script"]).read_text().split("\n")
+    said = [words for line in lines if (words := line.split("#")[0].split())]
+    return [(re.sub(r"@0*(?=\d)", "@", words[0]), call_of(words[1:])) for words in said]
+
+
+def events_object(folder, asked, lines):
+    """The events of a script, by what is printed of them, and how many ports are live. Each task makes the calls of its
+    lines in order."""
+    *lines, end = lines
+    calls, events = {}, []
+    for task, call in reversed(script_of(folder, asked)):
+        calls.setdefault(task, []).append(call)
+    for number, line in enumerate(lines):
+        at, task, reply = line.split(" ", 2)
+        if int(at) != number:
+            raise Wrong(f"another number: {line}")
+        events.append({"call": calls[task].pop(), "number": number, "reply": reply, "task": task})
+    count, ports = re.fullmatch(r"end events (\d+) ports (\d+)", end).groups()
+    if int(count) != len(events):
+        raise Wrong(f"another number of events than {len(events)}: {end}")
+    return {"events": events, "ports": int(ports), "schema": 1}
+
+
+def replay_object(folder, asked, texts):
+    return {"answer": "replay", "command": "replay", **events_object(folder, asked, texts.plain.lines())}
+
+
+def live_object(folder, asked, texts):
+    if texts.plain.status == 1:
+        (line,) = texts.plain.lines()
+        return {"answer": "NO", "command": "live", "notices": [], "reason": reason_object(line), "schema": 1}
+    waits = ALL_WAIT.search(texts.plain.err)
+    lines = [int(number) for number in waits[1].split()] if waits else []
+    events = events_object(folder, asked, texts.plain.lines())
+    return {"answer": "all wait" if waits else "journal", "command": "live", "waits": lines, **events}
 
 
 def change_object(folder, asked, line):
@@ -500,14 +719,23 @@ OBJECTS = {
     "check": check_object,
     "explain": explain_object,
     "facts": facts_object,
+    "graph": graph_object,
+    "slots": slots_object,
+    "promises": promises_object,
+    "replay": replay_object,
+    "live": live_object,
     "mend": mend_object,
+    "attack": attack_object,
     "mig": mig_object,
 }
+# Those of which the object says more than the text: they are given the object too.
+MORE = ("graph", "slots")
+ALL_WAIT = re.compile(r": AllWait((?: \d+)+)$", re.M)
 
 
 def is_fault(plain):
-    """Whether a run ends with a fault of a command."""
-    return plain.status == 2 and up_to_fault(plain.err) != ""
+    """Whether a run ends with a fault of a command. A journal that ends because all tasks wait is an answer."""
+    return plain.status == 2 and up_to_fault(plain.err) != "" and not ALL_WAIT.search(plain.err)
 
 
 def has_object(asked, plain):
@@ -516,7 +744,9 @@ def has_object(asked, plain):
     return asked.command in COMMANDS and not is_of_words
 
 
-def object_of(folder, asked, texts):
-    """The object of an answer, or of a fault, with its keys in alphabetical order."""
-    made = (fault_object if is_fault(texts.plain) else OBJECTS[asked.command])(Path(folder), asked, texts)
+def object_of(folder, asked, texts, value):
+    """The object of an answer, or of a fault, with its keys in alphabetical order. Of some it is the one that is given, if
+    the texts agree with it."""
+    more = [value] if asked.command in MORE and not is_fault(texts.plain) else []
+    made = (fault_object if is_fault(texts.plain) else OBJECTS[asked.command])(Path(folder), asked, texts, *more)
     return dict(sorted(made.items()))

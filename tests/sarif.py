@@ -211,6 +211,14 @@ def argument_line(text, routine, argument):
         at += 1
 
 
+def in_source(name, text, line):
+    """The file and the line that a line of a MIG file is from, by the last line marker above it that has a file's name."""
+    for below, above in enumerate(reversed(text.split("\n")[: line - 1])):
+        if marker := re.match(r'#(?:line)? *(\d+) +"([^"\\<][^"\\]*)"', above):
+            return marker[2], int(marker[1]) + below
+    return name, line
+
+
 # The log of a text
 
 
@@ -224,9 +232,9 @@ def place_of(source, folder, asked):
     texts = {name: (folder / name).read_bytes().decode() for name in asked.files}
     (name,) = [name for name, text in texts.items() if subsystem_of(text)[0] == subsystem]
     if source == subsystem:
-        return name, subsystem_of(texts[name])[1]
+        return in_source(name, texts[name], subsystem_of(texts[name])[1])
     _, routine, argument = source.split(" ")[0].split(".")
-    return name, argument_line(texts[name], routine, argument)
+    return in_source(name, texts[name], argument_line(texts[name], routine, argument))
 
 
 def place_in(location):

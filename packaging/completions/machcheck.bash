@@ -36,12 +36,13 @@ _machcheck() {
         esac
         ;;
     attack)
-        options='--wiring --policy --line --most --verbose --help'
+        options='--wiring --policy --line --most --format --verbose --help'
         case $before in
         --wiring) kind=file ;;
         --policy) kind=file ;;
         --line) kind=nothing ;;
         --most) kind=nothing ;;
+        --format) kind=words options='text json' ;;
         esac
         ;;
     check)
@@ -81,41 +82,46 @@ _machcheck() {
         esac
         ;;
     graph)
-        options='--wiring --cert --policy --fact --task --holds --verbose --help'
+        options='--wiring --cert --policy --fact --task --holds --format --verbose --help'
         case $before in
         --wiring) kind=file ;;
         --cert) kind=file ;;
         --policy) kind=file ;;
         --fact) kind=nothing ;;
         --task) kind=nothing ;;
+        --format) kind=words options='text json' ;;
         esac
         ;;
     slots)
-        options='--wiring --verbose --help'
+        options='--wiring --format --verbose --help'
         case $before in
         --wiring) kind=file ;;
+        --format) kind=words options='text json' ;;
         esac
         ;;
     promises)
-        options='--wiring --verbose --help'
+        options='--wiring --format --verbose --help'
         case $before in
         --wiring) kind=file ;;
+        --format) kind=words options='text json' ;;
         esac
         ;;
     replay)
-        options='--wiring --script --verbose --help'
+        options='--wiring --script --format --verbose --help'
         case $before in
         --wiring) kind=file ;;
         --script) kind=file ;;
+        --format) kind=words options='text json' ;;
         esac
         ;;
     live)
-        options='--wiring --policy --cert --script --verbose --help'
+        options='--wiring --policy --cert --script --format --verbose --help'
         case $before in
         --wiring) kind=file ;;
         --policy) kind=file ;;
         --cert) kind=file ;;
         --script) kind=file ;;
+        --format) kind=words options='text json' ;;
         esac
         ;;
     mig)

@@ -55,6 +55,7 @@ _machcheck() {
                 '--policy=[The forbidden holdings]:FILE:_files' \
                 '--line=[Only this line of the policy\: its calls are printed as a script]:N:' \
                 '--most=[How many chains are played for a line, 1 to 1000000\: 30 if it is not given]:N:' \
+                '--format=[How the answer is printed\: text, or json for one JSON object]:FORMAT:(text json)' \
                 '--verbose[Shows where a fault is, and what may help to mend it]' \
                 '(- *)'{-h,--help}'[Print help]' \
                 '*:MIG file:_files -g "*.defs"'
@@ -108,6 +109,7 @@ _machcheck() {
                 '--fact=[Draws the steps to this fact alone]:FACT:' \
                 '--task=[Draws the holdings of this task alone]:TASK:' \
                 '--holds[Draws holdings alone, and not what is carried where]' \
+                '--format=[How the answer is printed\: text, or json for one JSON object]:FORMAT:(text json)' \
                 '--verbose[Shows where a fault is, and what may help to mend it]' \
                 '(- *)'{-h,--help}'[Print help]' \
                 '*:MIG file:_files -g "*.defs"'
@@ -115,6 +117,7 @@ _machcheck() {
         slots)
             _arguments -s \
                 '--wiring=[Tasks, ports and their first rights]:FILE:_files' \
+                '--format=[How the answer is printed\: text, or json for one JSON object]:FORMAT:(text json)' \
                 '--verbose[Shows where a fault is, and what may help to mend it]' \
                 '(- *)'{-h,--help}'[Print help]' \
                 '*:MIG file:_files -g "*.defs"'
@@ -122,6 +125,7 @@ _machcheck() {
         promises)
             _arguments -s \
                 '--wiring=[Tasks, ports and their first rights]:FILE:_files' \
+                '--format=[How the answer is printed\: text, or json for one JSON object]:FORMAT:(text json)' \
                 '--verbose[Shows where a fault is, and what may help to mend it]' \
                 '(- *)'{-h,--help}'[Print help]' \
                 '*:MIG file:_files -g "*.defs"'
@@ -130,6 +134,7 @@ _machcheck() {
             _arguments -s \
                 '--wiring=[Tasks, ports and their first rights]:FILE:_files' \
                 '--script=[The calls, one a line]:FILE:_files' \
+                '--format=[How the answer is printed\: text, or json for one JSON object]:FORMAT:(text json)' \
                 '--verbose[Shows where a fault is, and what may help to mend it]' \
                 '(- *)'{-h,--help}'[Print help]' \
                 '*:MIG file:_files -g "*.defs"'
@@ -140,6 +145,7 @@ _machcheck() {
                 '--policy=[The forbidden holdings]:FILE:_files' \
                 '--cert=[The certificate\: who may come to hold what]:FILE:_files' \
                 '--script=[The calls, one a line]:FILE:_files' \
+                '--format=[How the answer is printed\: text, or json for one JSON object]:FORMAT:(text json)' \
                 '--verbose[Shows where a fault is, and what may help to mend it]' \
                 '(- *)'{-h,--help}'[Print help]' \
                 '*:MIG file:_files -g "*.defs"'

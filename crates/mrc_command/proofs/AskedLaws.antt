@@ -22,34 +22,32 @@ other_none same has = sym (ap (λ (n : Text). has_option n (codes "format")) sam
 pub names_subcommand : NamesItsSubcommand
 names_subcommand name rows (Case files (Verify showing)) is = sym is.1.0
 names_subcommand name rows (Case files (Mend most format)) is = sym is.1.0
-names_subcommand name rows (Case files (Attack line most)) is = sym is.1.0
+names_subcommand name rows (Case files (Attack line most format)) is = sym is.1.0
 names_subcommand name rows (Case files (Check verbose format)) is = sym is.1.0
 names_subcommand name rows (Case files (Make out workers)) is = sym is.1.0
 names_subcommand name rows (Case files (Explain fact by format)) is = sym is.1.0
 names_subcommand name rows (Case files (Facts task class right format)) is = sym is.1.0
-names_subcommand name rows (Case files (Graph fact task holds)) is = sym is.1.0
-names_subcommand name rows (Case files Slots) is = sym is.1
-names_subcommand name rows (Case files Promises) is = sym is.1
-names_subcommand name rows (Case files Replay) is = sym is.1
-names_subcommand name rows (Case files Live) is = sym is.1
+names_subcommand name rows (Case files (Graph fact task holds format)) is = sym is.1.0
+names_subcommand name rows (Case files (Slots format)) is = sym is.1.0
+names_subcommand name rows (Case files (Promises format)) is = sym is.1.0
+names_subcommand name rows (Case files (Replay format)) is = sym is.1.0
+names_subcommand name rows (Case files (Live format)) is = sym is.1.0
 names_subcommand name rows (Mig files) is = sym is.0
 
 pub format_of_options : HasFormatOfOptions
 format_of_options name rows (Case files (Verify showing)) is has = is.1.1.format
 format_of_options name rows (Case files (Mend most format)) is has = is.1.2
-format_of_options name rows (Case files (Attack line most)) is has =
-    absurd (false≢true (other is.1.0 has))
+format_of_options name rows (Case files (Attack line most format)) is has = is.1.3
 format_of_options name rows (Case files (Check verbose format)) is has = is.1.2
 format_of_options name rows (Case files (Make out workers)) is has =
     absurd (false≢true (other is.1.0 has))
 format_of_options name rows (Case files (Explain fact by format)) is has = is.1.3
 format_of_options name rows (Case files (Facts task class right format)) is has = is.1.4
-format_of_options name rows (Case files (Graph fact task holds)) is has =
-    absurd (false≢true (other is.1.0 has))
-format_of_options name rows (Case files Slots) is has = absurd (false≢true (other is.1 has))
-format_of_options name rows (Case files Promises) is has = absurd (false≢true (other is.1 has))
-format_of_options name rows (Case files Replay) is has = absurd (false≢true (other is.1 has))
-format_of_options name rows (Case files Live) is has = absurd (false≢true (other is.1 has))
+format_of_options name rows (Case files (Graph fact task holds format)) is has = is.1.4
+format_of_options name rows (Case files (Slots format)) is has = is.1.1
+format_of_options name rows (Case files (Promises format)) is has = is.1.1
+format_of_options name rows (Case files (Replay format)) is has = is.1.1
+format_of_options name rows (Case files (Live format)) is has = is.1.1
 format_of_options name rows (Mig files) is has = is.1.format
 
 pub text_without_option : IsTextWithoutOption
@@ -57,7 +55,8 @@ text_without_option name rows (Case files (Verify showing)) is none =
     absurd (true≢false (other_none is.1.0 none))
 text_without_option name rows (Case files (Mend most format)) is none =
     absurd (true≢false (other_none is.1.0 none))
-text_without_option name rows (Case files (Attack line most)) is none = refl
+text_without_option name rows (Case files (Attack line most format)) is none =
+    absurd (true≢false (other_none is.1.0 none))
 text_without_option name rows (Case files (Check verbose format)) is none =
     absurd (true≢false (other_none is.1.0 none))
 text_without_option name rows (Case files (Make out workers)) is none = refl
@@ -65,9 +64,14 @@ text_without_option name rows (Case files (Explain fact by format)) is none =
     absurd (true≢false (other_none is.1.0 none))
 text_without_option name rows (Case files (Facts task class right format)) is none =
     absurd (true≢false (other_none is.1.0 none))
-text_without_option name rows (Case files (Graph fact task holds)) is none = refl
-text_without_option name rows (Case files Slots) is none = refl
-text_without_option name rows (Case files Promises) is none = refl
-text_without_option name rows (Case files Replay) is none = refl
-text_without_option name rows (Case files Live) is none = refl
+text_without_option name rows (Case files (Graph fact task holds format)) is none =
+    absurd (true≢false (other_none is.1.0 none))
+text_without_option name rows (Case files (Slots format)) is none =
+    absurd (true≢false (other_none is.1.0 none))
+text_without_option name rows (Case files (Promises format)) is none =
+    absurd (true≢false (other_none is.1.0 none))
+text_without_option name rows (Case files (Replay format)) is none =
+    absurd (true≢false (other_none is.1.0 none))
+text_without_option name rows (Case files (Live format)) is none =
+    absurd (true≢false (other_none is.1.0 none))
 text_without_option name rows (Mig files) is none = absurd (true≢false (other_none is.0 none))

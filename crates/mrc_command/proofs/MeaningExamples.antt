@@ -36,16 +36,16 @@ usage command =
 all_commands : map usage commands
     ≡ codes "verify wiring= policy= [tree] [brief] [line=] [format=] [verbose] defs*"
     ∷ codes "mend wiring= policy= [most=] [format=] [verbose] defs*"
-    ∷ codes "attack wiring= policy= [line=] [most=] [verbose] defs*"
+    ∷ codes "attack wiring= policy= [line=] [most=] [format=] [verbose] defs*"
     ∷ codes "check wiring= policy= cert= [format=] [verbose] defs*"
     ∷ codes "make wiring= out= [workers=N] [verbose] defs*"
     ∷ codes "explain wiring= fact= [by] [format=] [verbose] defs*"
     ∷ codes "facts wiring= [cert=] [task=] [class=] [right=] [format=] [verbose] defs*"
-    ∷ codes "graph wiring= [cert=] [policy=] [fact=] [task=] [holds] [verbose] defs*"
-    ∷ codes "slots wiring= [verbose] defs*"
-    ∷ codes "promises wiring= [verbose] defs*"
-    ∷ codes "replay wiring= script= [verbose] defs*"
-    ∷ codes "live wiring= policy= cert= script= [verbose] defs*"
+    ∷ codes "graph wiring= [cert=] [policy=] [fact=] [task=] [holds] [format=] [verbose] defs*"
+    ∷ codes "slots wiring= [format=] [verbose] defs*"
+    ∷ codes "promises wiring= [format=] [verbose] defs*"
+    ∷ codes "replay wiring= script= [format=] [verbose] defs*"
+    ∷ codes "live wiring= policy= cert= script= [format=] [verbose] defs*"
     ∷ codes "mig out= [strict] [strict-rights] [format=] [verbose] defs+"
     ∷ []
 all_commands = refl
@@ -159,6 +159,11 @@ slots_text : format (codes "slots --wiring w a --verbose") ≡ Some (codes "slot
 unfolding clap_on_literals
 slots_text = refl
 
+replay_json : format (codes "replay --wiring w --format=json --script s")
+    ≡ Some (codes "replay", (Json, true))
+unfolding clap_on_literals
+replay_json = refl
+
 mig_text : format (codes "mig --out o --format=text a") ≡ Some (codes "mig", (Plain, true))
 unfolding clap_on_literals
 mig_text = refl
@@ -172,7 +177,7 @@ twice : faults (codes "mig --format=json --out o --format=text a") ≡ ArgumentC
 unfolding clap_on_literals
 twice = refl
 
-unknown : faults (codes "slots --format=json --wiring w") ≡ UnknownArgument ∷ []
+unknown : faults (codes "make --out c --format=json --wiring w") ≡ UnknownArgument ∷ []
 unfolding clap_on_literals
 unknown = refl
 

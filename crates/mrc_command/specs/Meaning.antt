@@ -97,9 +97,10 @@ Asks name rows (Verify showing) = (name ≡ codes "verify") × IsShowing rows sh
 Asks name rows (Mend most format) =
     (name ≡ codes "mend") × (most ≡ unwrap_or (number_given (first_of (codes "most") rows)) 10)
     × (format ≡ format_given rows)
-Asks name rows (Attack line most) =
+Asks name rows (Attack line most format) =
     (name ≡ codes "attack") × (line ≡ number_given (first_of (codes "line") rows))
     × (most ≡ unwrap_or (number_given (first_of (codes "most") rows)) 30)
+    × (format ≡ format_given rows)
 Asks name rows (Check verbose format) =
     (name ≡ codes "check") × (verbose ≡ has_flag (codes "verbose") rows)
     × (format ≡ format_given rows)
@@ -114,23 +115,23 @@ Asks name rows (Facts task class right format) =
     × (first_of (codes "class") rows ≡ option_map (λ word. word.now) class)
     × (first_of (codes "right") rows ≡ option_map (λ word. word.now) right)
     × (format ≡ format_given rows)
-Asks name rows (Graph fact task holds) =
+Asks name rows (Graph fact task holds format) =
     (name ≡ codes "graph") × (first_of (codes "fact") rows ≡ option_map (λ text. text.now) fact)
     × (first_of (codes "task") rows ≡ option_map (λ word. word.now) task)
-    × (holds ≡ has_flag (codes "holds") rows)
-Asks name rows Slots = name ≡ codes "slots"
-Asks name rows Promises = name ≡ codes "promises"
-Asks name rows Replay = name ≡ codes "replay"
-Asks name rows Live = name ≡ codes "live"
+    × (holds ≡ has_flag (codes "holds") rows) × (format ≡ format_given rows)
+Asks name rows (Slots format) = (name ≡ codes "slots") × (format ≡ format_given rows)
+Asks name rows (Promises format) = (name ≡ codes "promises") × (format ≡ format_given rows)
+Asks name rows (Replay format) = (name ≡ codes "replay") × (format ≡ format_given rows)
+Asks name rows (Live format) = (name ≡ codes "live") × (format ≡ format_given rows)
 
 -- the files that a question needs besides the wiring are named
 abbrev pub has_files : Question → FileNames → Bool
 has_files (Verify showing) files = is_some files.policy
 has_files (Mend most format) files = is_some files.policy
-has_files (Attack line most) files = is_some files.policy
+has_files (Attack line most format) files = is_some files.policy
 has_files (Check verbose format) files = is_some files.policy && is_some files.certificate
-has_files Replay files = is_some files.script
-has_files Live files =
+has_files (Replay format) files = is_some files.script
+has_files (Live format) files =
     is_some files.policy && (is_some files.certificate && is_some files.script)
 has_files question files = true
 
@@ -186,16 +187,16 @@ IsRefusal given NoMemory = Unit {0}
 abbrev pub question_word : Question → List ℕ
 question_word (Verify showing) = codes "verify"
 question_word (Mend most format) = codes "mend"
-question_word (Attack line most) = codes "attack"
+question_word (Attack line most format) = codes "attack"
 question_word (Check verbose format) = codes "check"
 question_word (Make out workers) = codes "make"
 question_word (Explain fact by format) = codes "explain"
 question_word (Facts task class right format) = codes "facts"
-question_word (Graph fact task holds) = codes "graph"
-question_word Slots = codes "slots"
-question_word Promises = codes "promises"
-question_word Replay = codes "replay"
-question_word Live = codes "live"
+question_word (Graph fact task holds format) = codes "graph"
+question_word (Slots format) = codes "slots"
+question_word (Promises format) = codes "promises"
+question_word (Replay format) = codes "replay"
+question_word (Live format) = codes "live"
 
 -- the subcommand of a command
 abbrev pub command_word : Command → List ℕ
@@ -206,10 +207,16 @@ command_word (Mig files) = codes "mig"
 abbrev pub question_format : Question → Format
 question_format (Verify showing) = showing.format
 question_format (Mend most format) = format
+question_format (Attack line most format) = format
 question_format (Check verbose format) = format
+question_format (Make out workers) = Plain
 question_format (Explain fact by format) = format
 question_format (Facts task class right format) = format
-question_format question = Plain
+question_format (Graph fact task holds format) = format
+question_format (Slots format) = format
+question_format (Promises format) = format
+question_format (Replay format) = format
+question_format (Live format) = format
 
 -- how the answer to a command is to be printed
 abbrev pub asked_format : Command → Format

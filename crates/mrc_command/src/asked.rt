@@ -7,7 +7,8 @@ ghost use Rattle.mrc_command.specs.Meaning.{HasFormatOfOptions, IsTextWithoutOpt
 
 use crate::command::{Command, Format, Question};
 
-fn question_word(question: Question<'_>) -> &'static str
+/// The name of the subcommand that asks a question.
+pub fn question_word(question: Question<'_>) -> &'static str
     ensures { result.now ≡ question_word question.entry }
 {
     match question {
@@ -19,10 +20,10 @@ fn question_word(question: Question<'_>) -> &'static str
         Question::Explain { .. } => "explain",
         Question::Facts { .. } => "facts",
         Question::Graph { .. } => "graph",
-        Question::Slots => "slots",
-        Question::Promises => "promises",
-        Question::Replay => "replay",
-        Question::Live => "live",
+        Question::Slots { .. } => "slots",
+        Question::Promises { .. } => "promises",
+        Question::Replay { .. } => "replay",
+        Question::Live { .. } => "live",
     }
 }
 
@@ -36,16 +37,23 @@ pub fn command_word(command: &Command<'_>) -> &'static str
     }
 }
 
-fn question_format(question: Question<'_>) -> Format
+/// How the answer to a question is to be printed.
+pub fn question_format(question: Question<'_>) -> Format
     ensures { result ≡ question_format question.entry }
 {
     match question {
         Question::Verify { showing } => showing.format,
         Question::Mend { format, .. } => format,
+        Question::Attack { format, .. } => format,
         Question::Check { format, .. } => format,
+        Question::Make { .. } => Format::Text,
         Question::Explain { format, .. } => format,
         Question::Facts { format, .. } => format,
-        _ => Format::Text,
+        Question::Graph { format, .. } => format,
+        Question::Slots { format } => format,
+        Question::Promises { format } => format,
+        Question::Replay { format } => format,
+        Question::Live { format } => format,
     }
 }
 

@@ -79,6 +79,7 @@ pub enum Question<'a> {
     Attack {
         line: Option<usize>,
         most: usize,
+        format: Format,
     },
     /// Is the certificate accepted for the wiring and the policy? With `verbose` more is printed if
     /// it is of another wiring.
@@ -111,15 +112,24 @@ pub enum Question<'a> {
         fact: Option<&'a str>,
         task: Option<&'a str>,
         holds: bool,
+        format: Format,
     },
     /// Which slots do messages have, and what does each admit?
-    Slots,
+    Slots {
+        format: Format,
+    },
     /// What has to be found in the code of trusted tasks?
-    Promises,
+    Promises {
+        format: Format,
+    },
     /// What do the calls of the script answer?
-    Replay,
+    Replay {
+        format: Format,
+    },
     /// What do they answer if the certificate is accepted and tasks run as threads?
-    Live,
+    Live {
+        format: Format,
+    },
 }
 
 /// What the user asks for.
@@ -316,6 +326,7 @@ fn facts_asked<'a>(name: &str, matches: &ArgMatches<'a>) -> Option<Question<'a>>
             fact: value_given(matches, "fact"),
             task,
             holds: has_flag(matches, "holds"),
+            format: format_given(matches),
         }),
         _ => None,
     }
@@ -335,11 +346,21 @@ fn other_asked<'a>(name: &str, matches: &ArgMatches<'a>) -> Option<Question<'a>>
             by: has_flag(matches, "by"),
             format: format_given(matches),
         }),
-        "slots" => Some(Question::Slots),
-        "promises" => Some(Question::Promises),
-        "replay" => Some(Question::Replay),
-        "live" => Some(Question::Live),
         _ => facts_asked(name, matches),
+    }
+}
+
+/// The question of a command that has no option of its own but `--format`.
+fn plain_asked<'a>(name: &str, matches: &ArgMatches<'a>) -> Option<Question<'a>>
+    ensures { IfSome result (Asks name.now (rows matches.now)) }
+{
+    let format = format_given(matches);
+    match name {
+        "slots" => Some(Question::Slots { format }),
+        "promises" => Some(Question::Promises { format }),
+        "replay" => Some(Question::Replay { format }),
+        "live" => Some(Question::Live { format }),
+        _ => other_asked(name, matches),
     }
 }
 
@@ -358,12 +379,13 @@ fn question_asked<'a>(name: &str, matches: &ArgMatches<'a>) -> Option<Question<'
         "attack" => Some(Question::Attack {
             line: number_given(matches, "line"),
             most: number_given(matches, "most").unwrap_or(30),
+            format: format_given(matches),
         }),
         "check" => Some(Question::Check {
             verbose: has_flag(matches, "verbose"),
             format: format_given(matches),
         }),
-        _ => other_asked(name, matches),
+        _ => plain_asked(name, matches),
     }
 }
 
@@ -376,8 +398,8 @@ fn has_files(question: Question<'_>, files: &FileNames<'_>) -> bool
             files.policy.is_some()
         }
         Question::Check { .. } => files.policy.is_some() && files.certificate.is_some(),
-        Question::Replay => files.script.is_some(),
-        Question::Live => {
+        Question::Replay { .. } => files.script.is_some(),
+        Question::Live { .. } => {
             files.policy.is_some() && files.certificate.is_some() && files.script.is_some()
         }
         _ => true,

@@ -13,8 +13,8 @@ pub(crate) const PROGRAM_HELP: &str = "Exit status of each command:
 With --verbose a fault is followed by its place: the line of the file with a mark below the word,
 and what may help to mend it. If standard error is a terminal, this is always so.
 
-With --format json, which some commands have, the answer is one JSON object for programs, and that
-of a fault is printed too. If the command line is wrong, there is none.
+With --format json, which all commands but `make` have, the answer is one JSON object for programs,
+and that of a fault is printed too. If the command line is wrong, there is none.
 
 `machcheck check --help`, and the same of the other commands, tells of the files. Read on
 in README.md, which starts with a worked example, and in docs/ARCHITECTURE.md.";
@@ -95,10 +95,14 @@ Each call is made, one after the other, from the wiring's first state on. A line
 for each, with its number from 0, the task and the reply, and then how many there were and how
 many ports are live.
 
+--format json prints the calls and their replies as one JSON object, and a fault too.
+docs/FORMATS.md describes these objects. Standard error is the same as without it.
+
 Exit status:
   0  the script was run to its end: a call that is refused is told, and the next one is made
   2  a fault on standard error, as `machcheck: FILE: FAULT`: a file can't be read or has
-     no meaning, the command line is wrong, the output was not taken, or memory ran out
+     no meaning, --format is not text or json (BadFormat), the command line is wrong, the
+     output was not taken, or memory ran out
 
 Read on in README.md, and in docs/ARCHITECTURE.md.";
 
@@ -116,12 +120,16 @@ with its number from 0, the task and the reply, and then how many there were and
 live. It has 1,000,000 events at most. So it is where all tasks that have lines left wait, and no
 message can come any more: then the lines that wait are named on standard error.
 
+--format json prints the journal as one JSON object, and a fault too. docs/FORMATS.md describes
+these objects. Standard error is the same as without it.
+
 Exit status:
   0  the script was run to its end: a call that is refused is told, and the next one is made
   1  NO, with the first reason, as `check` tells it: nothing was run
   2  a fault on standard error, as `machcheck: FILE: FAULT`: a file can't be read or has
      no meaning, the journal is full, all tasks that have lines left wait (`AllWait`, with
-     the lines), the command line is wrong, the output was not taken, or memory ran out
+     the lines), --format is not text or json (BadFormat), the command line is wrong, the
+     output was not taken, or memory ran out
 
 Read on in README.md, and in docs/ARCHITECTURE.md.";
 
@@ -216,13 +224,16 @@ search, a line on standard error names the line of the policy:
 `machcheck: attack: line N: not all ways were tried`. All else on standard error is as `verify`
 prints it.
 
+--format json prints the calls that were found as one JSON object, and a fault too.
+docs/FORMATS.md describes these objects. Standard error is the same as without it.
+
 Exit status:
   0  YES: no list of calls can lead to a holding that the policy forbids
   1  REAL or NO for each line that is broken
   2  a fault on standard error, as `machcheck: FILE: FAULT`: a file can't be read or has
      no meaning, --line is not a number from 1 to 4294967295 (BadLine) or that line is not
-     broken (NotBroken), --most is not a number from 1 to 1000000 (BadMost), the command line
-     is wrong, the output was not taken, or memory ran out
+     broken (NotBroken), --most is not a number from 1 to 1000000 (BadMost), --format is not text
+     or json (BadFormat), the command line is wrong, the output was not taken, or memory ran out
 
 Read on in README.md, and in docs/ARCHITECTURE.md.";
 
@@ -263,13 +274,17 @@ picture of it. What is held at first is solid, what comes about is dashed, and w
 forbids is red. With --fact the steps alone are drawn that lead to the fact. With --task only
 what this task may hold is drawn, and with --holds only what tasks may hold.
 
+--format json prints what is drawn as one JSON object, and a fault too. docs/FORMATS.md describes
+these objects. Standard error is the same as without it.
+
 Exit status:
   0  the drawing was printed
   1  `NO counts` was printed, where the certificate is not of this wiring, or `none`, where
      no chain leads to the fact
   2  a fault on standard error, as `machcheck: FILE: FAULT`: a file can't be read or has
      no meaning, the text of the fact names none of the wiring (BadFact), --task names none of
-     it (BadTask), the command line is wrong, the output was not taken, or memory ran out
+     it (BadTask), --format is not text or json (BadFormat), the command line is wrong, the
+     output was not taken, or memory ran out
 
 Read on in README.md, and in docs/ARCHITECTURE.md.";
 
@@ -282,10 +297,14 @@ printed as `SUBSYSTEM.ROUTINE.ARGUMENT (SUBSYSTEM.TYPE): CLASS, CLASS`, in the o
 of ids and of arguments. The classes are those that the `admit` lines of the type name: only their
 ports pass. `any` is printed if no line names the type, and `none` if its lines name no class.
 
+--format json prints the slots as one JSON object, and a fault too. docs/FORMATS.md describes
+these objects. Standard error is the same as without it.
+
 Exit status:
   0  the slots were printed
   2  a fault on standard error, as `machcheck: FILE: FAULT`: a file can't be read or has
-     no meaning, the command line is wrong, the output was not taken, or memory ran out
+     no meaning, --format is not text or json (BadFormat), the command line is wrong, the
+     output was not taken, or memory ran out
 
 Read on in README.md, and in docs/ARCHITECTURE.md.";
 
@@ -303,10 +322,14 @@ wiring. Lines of one task about the same calls belong together: each behind the 
 its limit with `or`, and what none of them allows must not be there. What `replies fit` asks is
 printed as a line for each task. If the wiring has no such lines, nothing is printed.
 
+--format json prints these lines as one JSON object, and a fault too. docs/FORMATS.md describes
+these objects. Standard error is the same as without it.
+
 Exit status:
   0  a line was printed for each of them
   2  a fault on standard error, as `machcheck: FILE: FAULT`: a file can't be read or has
-     no meaning, the command line is wrong, the output was not taken, or memory ran out
+     no meaning, --format is not text or json (BadFormat), the command line is wrong, the
+     output was not taken, or memory ran out
 
 Read on in README.md, and in docs/ARCHITECTURE.md.";
 

@@ -10,7 +10,9 @@ mod table;
 mod told;
 mod words;
 
-pub use asked::{asked_format, command_word, commands_are_what_words_say};
+pub use asked::{
+    asked_format, command_word, commands_are_what_words_say, question_format, question_word,
+};
 pub use command::{
     Command, FileNames, Format, MigFiles, NoCommand, Question, Request, Showing, Strictness, read,
 };

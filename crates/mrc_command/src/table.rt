@@ -111,6 +111,7 @@ pub(crate) const COMMANDS: [Entry; 13] = [
                 Free "most" "N"
                 "How many chains are played for a line, 1 to 1000000: 30 if it is not given"
             },
+            FORMAT,
             VERBOSE,
             DEFS,
         ],
@@ -184,6 +185,7 @@ pub(crate) const COMMANDS: [Entry; 13] = [
             row! { Free "fact" "FACT" "Draws the steps to this fact alone" },
             row! { Free "task" "TASK" "Draws the holdings of this task alone" },
             row! { Flag "holds" "" "Draws holdings alone, and not what is carried where" },
+            FORMAT,
             VERBOSE,
             DEFS,
         ],
@@ -192,25 +194,25 @@ pub(crate) const COMMANDS: [Entry; 13] = [
         "slots",
         "Lists the slots of the messages, and which ports each admits",
         SLOTS_HELP,
-        &[WIRING, VERBOSE, DEFS],
+        &[WIRING, FORMAT, VERBOSE, DEFS],
     ),
     (
         "promises",
         "Prints what has to be found in the code of trusted tasks",
         PROMISES_HELP,
-        &[WIRING, VERBOSE, DEFS],
+        &[WIRING, FORMAT, VERBOSE, DEFS],
     ),
     (
         "replay",
         "Runs a script of calls, and prints the reply to each",
         REPLAY_HELP,
-        &[WIRING, SCRIPT, VERBOSE, DEFS],
+        &[WIRING, SCRIPT, FORMAT, VERBOSE, DEFS],
     ),
     (
         "live",
         "Checks, and runs a script of calls by tasks as threads",
         LIVE_HELP,
-        &[WIRING, POLICY, CERT, SCRIPT, VERBOSE, DEFS],
+        &[WIRING, POLICY, CERT, SCRIPT, FORMAT, VERBOSE, DEFS],
     ),
     (
         "mig",

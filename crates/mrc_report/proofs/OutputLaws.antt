@@ -6,7 +6,8 @@ use Rattle.std.proofs.Math.Seq.{take-append_seam}
 use Rattle.std.proofs.lemmas.List.{length-append, length-take, take-append-drop}
 use Rattle.std.specs.Io.KnownBytes.{Appends}
 use Rattle.std.specs.Prelude.{Result, Ok, Err, IfErr, OnOk}
-use Rattle.mrc_report.specs.Output.{IsOut, IsPartOut, written}
+use Rattle.mrc_report.specs.Output.{HasGrown, HasGrownIn, IsMoreOut, IsOut, IsPartOut, IsSomeOut}
+use Rattle.mrc_report.specs.Output.{written}
 use Rattle.mrc_report.specs.declared.outgoing.Unprinted.{Unprinted}
 
 -- nothing went out
@@ -146,3 +147,52 @@ pub so_few : (a b : Option (List ℕ)) (y : ℕ) (whole rest : List ℕ)
     → IsOut a b 0 y whole rest
     → y ≤ length whole
 so_few a b y whole rest out = few_out a b y whole (rest, out)
+
+-- some text went out, and then some more, whatever was kept back in between
+pub goes_on_by : (a b c : Option (List ℕ)) (x y z : ℕ) (kept rest : List ℕ)
+    → IsMoreOut a b x y kept
+    → IsMoreOut b c y z rest
+    → IsMoreOut a c x z rest
+goes_on_by a b c x y z kept rest (_, first) (more, next) = (
+  first.front ++ more,
+  record {
+    front = first.front ++ next.front;
+    parts = ap (λ t. first.front ++ t) next.parts
+        ∙ sym (append_assoc first.front next.front rest);
+    out = Appends-trans a b c first.front next.front first.out next.out;
+    count = omega (arith, first.count, next.count, length-append first.front next.front);
+  },
+)
+
+-- a front of some text went out from the beginning on
+pub has_grown_in : (a c : Option (List ℕ)) (z : ℕ)
+    → IsSomeOut a c 0 z
+    → HasGrownIn a c z
+has_grown_in a c z (rest, (text, out)) = (text, first_out a c z text (rest, out))
+
+pub grows_in : (a b c : Option (List ℕ)) (y z : ℕ) (kept : List ℕ)
+    → IsMoreOut a b 0 y kept
+    → IsSomeOut b c y z
+    → HasGrownIn a c z
+grows_in a b c y z kept first (rest, next) =
+    has_grown_in a c z (rest, goes_on_by a b c 0 y z kept rest first next)
+
+-- what was kept back at the end goes out, or does not
+pub ends_by : {T : Type 0} (r : Result T Unprinted) (a b c : Option (List ℕ)) (y z : ℕ)
+    (kept : List ℕ)
+    → IsMoreOut a b 0 y kept
+    → OnOk r (IsOut b c y z kept [])
+    → OnOk r (HasGrown a c)
+ends_by (Err fault) a b c y z kept first next = tt
+ends_by (Ok x) a b c y z kept first next =
+    let on = goes_on_by a b c 0 y z kept [] first (kept, next) in
+    (on.0, all_out a c z on.0 [] on.1 refl)
+
+pub ends_by_cut : {T : Type 0} (r : Result T Unprinted) (a b c : Option (List ℕ)) (y : ℕ)
+    (kept : List ℕ)
+    → IsMoreOut a b 0 y kept
+    → IfErr r (λ fault. IsPartOut b c y (written fault) kept)
+    → IfErr r (λ fault. HasGrownIn a c (written fault))
+ends_by_cut (Ok x) a b c y kept first next = tt
+ends_by_cut (Err fault) a b c y kept first next =
+    grows_in a b c y (written fault) kept first (next.0, (kept, next.1))

@@ -1,6 +1,6 @@
 -- Believe. Of a text that is printed line by line: how much of it went out, and why not all of it
 -- did. This profile's own choice.
-use Rattle.std.specs.Prelude.{◌≡◌, ◌+◌, ℕ, List, ◌++◌, Option, length}
+use Rattle.std.specs.Prelude.{◌≡◌, ◌+◌, ℕ, List, ◌++◌, Option, length, take}
 use Rattle.std.specs.Io.KnownBytes.{Appends}
 use Rattle.mrc_files.specs.Streams.{IsOneMore}
 use Rattle.mrc_report.specs.declared.outgoing.Unprinted.{Unprinted}
@@ -29,3 +29,19 @@ pub record IsOut (old new : Option (List ℕ)) (before after : ℕ) (text rest :
 abbrev pub IsPartOut : Option (List ℕ) → Option (List ℕ) → ℕ → ℕ → List ℕ → Type 0
 IsPartOut old new before after text =
     (rest : List ℕ) × IsOut old new before after text rest
+
+-- some text went out, but for the rest that was kept back
+abbrev pub IsMoreOut : Option (List ℕ) → Option (List ℕ) → ℕ → ℕ → List ℕ → Type 0
+IsMoreOut old new before after rest = (text : List ℕ) × IsOut old new before after text rest
+
+-- a front of some text did
+abbrev pub IsSomeOut : Option (List ℕ) → Option (List ℕ) → ℕ → ℕ → Type 0
+IsSomeOut old new before after = (rest : List ℕ) × IsMoreOut old new before after rest
+
+-- some text was appended
+abbrev pub HasGrown : Option (List ℕ) → Option (List ℕ) → Type 0
+HasGrown old new = (text : List ℕ) × Appends old new text
+
+-- the first bytes of some text were, so many of them
+abbrev pub HasGrownIn : Option (List ℕ) → Option (List ℕ) → ℕ → Type 0
+HasGrownIn old new count = (text : List ℕ) × Appends old new (take count text)

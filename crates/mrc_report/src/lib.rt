@@ -2,6 +2,7 @@
 //! their events; bytes in from readers and out to writers.
 #![tactic(auto)]
 
+mod calling;
 mod calls;
 mod halting;
 mod outgoing;
@@ -12,8 +13,10 @@ mod replaying;
 mod running;
 mod script;
 mod serving;
+mod streaming;
 mod table;
 
+pub use calling::call_text;
 pub use mrc_files::{ReadFault, WriteFault, read_all, read_fault, write_text};
 pub use outgoing::Unprinted;
 pub use parameters::{Parameter, Value, bytes_of_digits, digit_value, joined};
@@ -23,4 +26,5 @@ pub use replaying::{replay, replays_are_told};
 pub use running::{Stopped, run_live};
 pub use script::{Script, TaskCall, read_script};
 pub use serving::{NotServed, Ran, ServeFault, Served, serve};
+pub use streaming::{EventPrinter, Occurrence, replay_by};
 pub use table::CallName;

@@ -5,7 +5,7 @@ ghost use Rattle.std.specs.Io.KnownBytes.{Appends};
 ghost use Rattle.mrc_base.specs.Limits.{limit_of_events, limit_of_parts};
 ghost use Rattle.mrc_confine.specs.Guards.{wiring_in};
 ghost use Rattle.mrc_report.specs.Journal.{journal_text};
-ghost use Rattle.mrc_report.specs.Output.{HasFailed, written};
+ghost use Rattle.mrc_report.specs.Output.{HasFailed, HasGrown, HasGrownIn, written};
 ghost use Rattle.mrc_report.specs.Plays.{SaysAll, SaysFirst};
 ghost use Rattle.mrc_report.specs.Served.{IsServed};
 
@@ -15,6 +15,7 @@ use crate::playing::LiveFault;
 use crate::printing::{end_line, event_line};
 use crate::running::{Stopped, run_script};
 use crate::script::Script;
+use crate::streaming::{EventPrinter, print_events};
 use mrc_base::{Gate, OrMemory};
 use mrc_check::Confined;
 use mrc_confine::Guarded;
@@ -87,6 +88,28 @@ impl Ran {
         let wired = self.guarded.confined().wired();
         let ports = self.guarded.world().live_ports();
         print_journal(alloc, wired, self.journal.events(), ports, sink)
+    }
+
+    /// Prints the events of the journal by this printer.
+    pub fn print_by<S: Sink, P: EventPrinter>(
+        &self,
+        alloc: Global,
+        printer: &P,
+        sink: &mut S,
+    ) -> Result<(), Unprinted>
+        // Some text was appended.
+        ensures whole { OnOk result (HasGrown (S.contents sink.old) (S.contents sink.new)) }
+        // Else the first bytes of one were, as many as the fault counts.
+        ensures cut { IfErr result (λ fault.
+            HasGrownIn (S.contents sink.old) (S.contents sink.new) (written fault)) }
+        // It is done only if no write and no flush failed.
+        ensures passed { OnOk result (S.failures sink.new ≡ S.failures sink.old) }
+        // A failed write is reported if and only if one failed.
+        ensures failed { IfErr result (HasFailed (S.failures sink.old) (S.failures sink.new)) }
+    {
+        let wired = self.guarded.confined().wired();
+        let ports = self.guarded.world().live_ports();
+        print_events(alloc, wired, self.journal.events(), ports, printer, sink)
     }
 }
 
