@@ -1,5 +1,5 @@
 //! Facts as lists and as drawings: those of a set that are asked for, a line for each, and all of
-//! them as a text of graphviz's language DOT; and the slots of MIG files, a line for each.
+//! them as a text of graphviz's language DOT.
 #![tactic(auto)]
 
 mod choosing;
@@ -8,10 +8,8 @@ mod drawing;
 mod filter;
 mod nodes;
 mod sets;
-mod slots;
 
 pub use choosing::drawn_facts;
 pub use dot::graph_text;
 pub use filter::{Filter, FilterFault, facts_text, filter_of};
 pub use sets::set_of;
-pub use slots::slots_text;

@@ -6,7 +6,8 @@ use Rattle.std.specs.List.{list_any}
 use Rattle.std.proofs.lemmas.List.{take_more}
 use Rattle.std.proofs.lemmas.List.Folds.{list_any-append}
 use Rattle.mrc_why.specs.Broken.{BrokenLine}
-use Rattle.mrc_print.specs.Heads.{is_asked, IsHead, HasNo, IsNo, IsNoIf}
+use Rattle.mrc_answer.specs.Verified.{is_asked}
+use Rattle.mrc_print.specs.Heads.{IsHead, HasNo, IsNo, IsNoIf}
 
 -- one that does, with more behind it
 pub no_more : (head more text : List ℕ) → text ≡ head ++ more → IsNo head → IsNo text

@@ -1,1 +1,4 @@
 pub mod HeadLaws
+pub mod EmptyLaws
+pub mod SilenceLaws
+pub mod ShownLaws

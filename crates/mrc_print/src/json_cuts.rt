@@ -1,18 +1,10 @@
 //! What MIG files are cut to, as objects.
 
 use crate::json::{SCHEMA, json_text};
-use mrc_mig_cut::{Carried, CutFile, LeftOut};
+use mrc_answer::NamedCut;
+use mrc_mig_cut::{Carried, LeftOut};
 use serde::Serialize;
 use std::alloc::{AllocError, Global};
-
-/// A MIG file, and what its text is cut to.
-#[derive(Drop)]
-pub struct NamedCut<'a> {
-    /// The name of the file.
-    pub file: &'a str,
-    /// What its text is cut to.
-    pub cut: CutFile,
-}
 
 /// An argument that carries rights.
 #[derive(Clone, Copy, Serialize)]

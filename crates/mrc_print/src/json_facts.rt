@@ -130,7 +130,7 @@ pub fn facts_json(
     json_text(alloc, &answer)
 }
 
-/// That a certificate has other numbers than the wiring.
-pub fn counts_json(alloc: Global) -> Result<String, AllocError> {
-    short_text(alloc, "NO", "facts", None, Some(counts_reason()))
+/// That a certificate whose facts this command prints has other numbers than the wiring.
+pub fn counts_json(alloc: Global, command: &str) -> Result<String, AllocError> {
+    short_text(alloc, "NO", command, None, Some(counts_reason()))
 }

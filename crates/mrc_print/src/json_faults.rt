@@ -1,5 +1,6 @@
 //! Faults as objects.
 
+use crate::faults::FaultParts;
 use crate::json::{SCHEMA, json_text};
 use mrc_place::{Hint, Spot};
 use serde::Serialize;
@@ -17,26 +18,6 @@ struct FaultAnswer<'a> {
     notes: &'a [String],
     schema: u32,
     text: Option<String>,
-}
-
-/// The last line of a text, without its line feed. Nothing, if it has none.
-pub fn last_line(text: &str) -> &str {
-    let lines = text.strip_suffix('\n').unwrap_or(text);
-    match lines.rsplit_once('\n') {
-        Some((_, last)) => last,
-        None => lines,
-    }
-}
-
-/// The file and the fault of the last line of what is printed on standard error: `machcheck: FILE:
-/// FAULT`, or `machcheck: FAULT` without a file.
-pub fn fault_parts(err: &str) -> (Option<&str>, &str) {
-    let line = last_line(err);
-    let text = line.strip_prefix("machcheck: ").unwrap_or(line);
-    match text.rsplit_once(": ") {
-        Some((file, fault)) => (Some(file), fault),
-        None => (None, text),
-    }
 }
 
 /// The whole line of a spot.
@@ -61,21 +42,20 @@ fn place_of(
     }
 }
 
-/// A fault of a command, by what is printed on standard error and what is known of the fault.
-pub fn fault_json(
+/// A fault of a command, by its parts and by what helps with it.
+pub(crate) fn fault_json(
     alloc: Global,
     command: &str,
-    err: &str,
+    parts: &FaultParts,
     hint: &Hint,
 ) -> Result<String, AllocError> {
-    let (file, fault) = fault_parts(err);
     let (column, line, text) = place_of(alloc, &hint.spot)?;
     let answer = FaultAnswer {
         answer: "fault",
         column,
         command,
-        fault,
-        file,
+        fault: parts.name.as_str(),
+        file: parts.subject.as_ref().map(|subject| subject.as_str()),
         line,
         notes: hint.notes.as_slice(),
         schema: SCHEMA,

@@ -99,14 +99,14 @@ fn broken_lines<'a, 'b>(
     Ok(breaches)
 }
 
-/// The trusted task that another could rewrite, unless one line of the policy is asked for.
+/// The trusted task that another could rewrite, also if one line of the policy is asked for.
 fn exposed_task<'a, 'b>(
     alloc: Global,
     sources: &Sources<'a>,
     asked: &Asked<'b>,
     exposed: &Option<Exposed>,
 ) -> Result<Option<Breach<'a, 'b>>, AllocError> {
-    let (None, Some(exposed)) = (asked.only, exposed) else {
+    let Some(exposed) = exposed else {
         return Ok(None);
     };
     let wiring = TextLines::of(alloc, asked.wiring)?;
@@ -203,13 +203,14 @@ fn reason(alloc: Global, wired: &Wired, why: Why) -> Result<Reason, AllocError> 
     Ok(reason)
 }
 
-/// A certificate that is refused, with the reason and what is printed on standard error.
+/// A certificate that this command refuses, with the reason and what is printed on standard error.
 pub fn reason_json(
     alloc: Global,
+    command: &str,
     wired: &Wired,
     why: Why,
     notices: &str,
 ) -> Result<String, AllocError> {
     let reason = reason(alloc, wired, why)?;
-    short_text(alloc, "NO", "check", Some(notices), Some(reason))
+    short_text(alloc, "NO", command, Some(notices), Some(reason))
 }

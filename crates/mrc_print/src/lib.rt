@@ -1,29 +1,39 @@
-//! What is printed of answers: the text of a broken policy, objects of JSON, and logs of SARIF.
+//! What is printed of answers: texts, objects of JSON, and logs of SARIF.
 #![tactic(auto)]
 
+mod answer_json;
+mod answer_sarif;
+mod answer_text;
+mod asked;
 mod common;
+mod cuts;
+mod faults;
 mod json;
+mod json_attacks;
 mod json_chains;
 mod json_cuts;
+mod json_events;
 mod json_facts;
 mod json_faults;
+mod json_graphs;
 mod json_mends;
 mod json_verdicts;
 mod lines;
+mod notices;
+mod printing;
+mod promises;
+mod reading;
+mod reasons;
 mod sarif;
+mod sarif_markers;
 mod sarif_objects;
 mod sarif_places;
 mod sarif_results;
+mod slots;
 mod text;
+mod unwritten;
 
-pub use common::{Common, common_of};
-pub use json::json_text;
-pub use json_chains::{chain_json, none_json};
-pub use json_cuts::{NamedCut, cuts_json};
-pub use json_facts::{counts_json, facts_json};
-pub use json_faults::{fault_json, fault_parts, last_line};
-pub use json_mends::mends_json;
-pub use json_verdicts::{Asked, broken_json, reason_json, yes_json};
-pub use lines::{Quoted, TextLines};
-pub use sarif::{broken_sarif, fault_sarif, yes_sarif};
-pub use text::{Manner, is_asked, no_text};
+pub use asked::{Asked, format_of};
+pub use faults::file_of;
+pub use printing::{errors, output, print_pending};
+pub use unwritten::{print_unwritten, unwritten_of};

@@ -1,7 +1,7 @@
 //! The logs of SARIF that are printed.
 
+use crate::faults::{FaultParts, parts_text};
 use crate::json::json_text;
-use crate::json_faults::{fault_parts, last_line};
 use crate::sarif_objects::{
     Driver, FORBIDDEN, Invocation, Location, LogObject, Message, Notification, ResultObject, Run,
     TRUSTED, Tool, spot_location,
@@ -126,12 +126,17 @@ fn fault_locations(
     Ok(locations)
 }
 
-/// The log of a fault, whose lines on standard error are `err`: no results, and a notification at
+/// The log of a fault, by its parts and by what helps with it: no results, and a notification at
 /// the hint's spot of the file.
-pub fn fault_sarif(alloc: Global, err: &str, hint: &Hint) -> Result<String, AllocError> {
-    let (file, _) = fault_parts(err);
+pub(crate) fn fault_sarif(
+    alloc: Global,
+    parts: &FaultParts,
+    hint: &Hint,
+) -> Result<String, AllocError> {
+    let file = parts.subject.as_ref().map(|subject| subject.as_str());
     let locations = fault_locations(alloc, file, &hint.spot)?;
-    let fault = notification(alloc, "error", locations, last_line(err))?;
+    let text = parts_text(alloc, parts)?;
+    let fault = notification(alloc, "error", locations, text.as_str())?;
     let notifications = vec![in alloc; fault]?;
     log_text(alloc, 2, notifications, Vec::new(alloc))
 }

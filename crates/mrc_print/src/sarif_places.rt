@@ -1,5 +1,6 @@
 //! Where steps of a chain are in the files of a system.
 
+use crate::sarif_markers::source_line;
 use mrc_command::FileNames;
 use mrc_mig_places::{argument_line, subsystem_line};
 use mrc_why::{Source, Sources};
@@ -34,6 +35,17 @@ fn file_of<'a>(system: &System<'a>, subsystem: &str) -> Option<(&'a str, &'a [u8
     Some((name, text.as_slice()))
 }
 
+/// The place of a line of a text that has this name: in its source, if a line marker before the
+/// line names one.
+fn place_of<'a>(
+    alloc: Global,
+    (name, text): (&'a str, &'a [u8]),
+    line: u32,
+) -> Result<Place<'a>, AllocError> {
+    let (file, line) = source_line(alloc, text, line)?.unwrap_or((name, line));
+    Ok(Place { file, line })
+}
+
 /// Where the argument of a routine is in the MIG file of a subsystem, or, without a routine, the
 /// word `subsystem`.
 fn mig_place<'a>(
@@ -41,17 +53,21 @@ fn mig_place<'a>(
     subsystem: &str,
     argument: Option<(&str, &str)>,
 ) -> Result<Option<Place<'a>>, AllocError> {
-    let Some((file, text)) = file_of(system, subsystem) else {
+    let Some((name, text)) = file_of(system, subsystem) else {
         return Ok(None);
     };
-    let line = match argument {
+    let found = match argument {
         Some((routine, argument)) => argument_line(system.alloc, text, routine, argument)?,
         None => subsystem_line(system.alloc, text)?,
     };
-    Ok(line.map(|line| Place { file, line }))
+    match found {
+        Some(line) => Ok(Some(place_of(system.alloc, (name, text), line)?)),
+        None => Ok(None),
+    }
 }
 
-/// Where a step of this source is: a line of the wiring, or of the MIG file of the subsystem.
+/// Where a step of this source is: a line of the wiring, or of the MIG file of the subsystem, or of
+/// the source of that file.
 pub(crate) fn source_place<'a>(
     system: &System<'a>,
     source: Option<Source<'_>>,

@@ -3,8 +3,9 @@
 ghost use Rattle.std.specs.Prelude.{◌≡◌, IfOk, string_bytes};
 ghost use Rattle.std.specs.List.{list_any};
 ghost use Rattle.std.specs.Option.{is_some};
-ghost use Rattle.mrc_print.specs.Heads as heads;
-ghost use Rattle.mrc_print.specs.Heads.{asked_task, IsAsked, IsHead, HasNo, IsNo, IsNoIf};
+ghost use Rattle.mrc_answer.specs.Verified as verified;
+ghost use Rattle.mrc_answer.specs.Verified.{asked_task, IsAsked};
+ghost use Rattle.mrc_print.specs.Heads.{IsHead, HasNo, IsNo, IsNoIf};
 
 use crate::common::{Common, common_of};
 use crate::lines::Quoted;
@@ -85,7 +86,7 @@ fn exposed_part(printing: &Printing<'_>, exposed: &Exposed) -> Result<String, Al
 
 /// Whether the broken line is asked for: all are, or those of one number.
 pub fn is_asked(only: Option<u32>, broken: &Broken) -> bool
-    ensures { result ≡ heads.is_asked only broken.now }
+    ensures { result ≡ verified.is_asked only broken.now }
 {
     match only {
         None => true,
@@ -96,7 +97,7 @@ pub fn is_asked(only: Option<u32>, broken: &Broken) -> bool
 /// A broken line that is asked for. Nothing, if it is not.
 fn part_if_asked(printing: &Printing<'_>, broken: &Broken) -> Result<String, AllocError>
     ensures { IfOk result (λ text.
-        IsNoIf (heads.is_asked printing.now.only broken.now) (string_bytes text)) }
+        IsNoIf (verified.is_asked printing.now.only broken.now) (string_bytes text)) }
 {
     if is_asked(printing.only, broken) {
         broken_part(printing, broken)
@@ -108,7 +109,7 @@ fn part_if_asked(printing: &Printing<'_>, broken: &Broken) -> Result<String, All
 /// The broken lines that are asked for, one after the other.
 fn broken_parts(printing: &Printing<'_>, broken: &[Broken]) -> Result<String, AllocError>
     ensures { IfOk result (λ text.
-        IsNoIf (list_any (heads.is_asked printing.now.only) broken.now) (string_bytes text)) }
+        IsNoIf (list_any (verified.is_asked printing.now.only) broken.now) (string_bytes text)) }
 {
     let mut text = String::new(printing.alloc);
     for line in broken {
@@ -187,10 +188,10 @@ pub fn no_text(
     sources: &Sources<'_>,
     manner: &Manner<'_>,
     only: Option<u32>,
-    verdict: Verdict,
+    verdict: &Verdict,
 ) -> Result<String, AllocError>
     // If something is asked for, the text begins with `NO `, behind the line of a common fact.
-    ensures { IsAsked only verdict.exposed verdict.broken.items
+    ensures { IsAsked only verdict.now.exposed verdict.now.broken.items
         → IfOk result (λ text. HasNo (string_bytes text)) }
 {
     let printing = Printing {
@@ -199,7 +200,5 @@ pub fn no_text(
         manner,
         only,
     };
-    let text = text_of(&printing, &verdict.exposed, verdict.broken.as_slice());
-    drop(verdict);
-    text
+    text_of(&printing, &verdict.exposed, verdict.broken.as_slice())
 }

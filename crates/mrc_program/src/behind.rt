@@ -1,34 +1,39 @@
 //! What helps with a fault: the hint, and what is printed of it behind the line of the fault.
 
-ghost use Rattle.std.specs.Prelude.{◌≡◌, [], IfOk, string_bytes};
-ghost use Rattle.mrc_program.specs.Told.{IsFaultOf, UnreadTold};
-
-use crate::cuts::Uncut;
-use crate::files::{Files, Texts};
 use crate::hints::hint_text;
-use crate::meaning::all_meant;
-use crate::notes::{is_noted, name_notes, note_of, one_note};
+use crate::notes::{SAME_NAME, UNWRITTEN, name_notes, note_of, one_note};
 use crate::places::{cut_hint, hint_of};
-use crate::told::{file_of, unread_told};
+use mrc_answer::{Answer, Answered, Fault, Texts, Uncut, Unwritten, WasRead, WordFault};
 use mrc_base::OrMemory;
 use mrc_check::{CaseFault, System};
-use mrc_command::{Format, Question, Told, fault_of};
-use mrc_files::{ReadFailure, ReadFault, Unread};
+use mrc_command::Question;
+use mrc_files::{ReadFault, Unread, WriteFault};
 use mrc_place::Hint;
-use mrc_print::fault_parts;
+use mrc_print::{Asked, file_of, unwritten_of};
 use std::alloc::{AllocError, Global};
 
 /// What helps with a fault.
 #[derive(Drop)]
-pub struct Help {
+pub(crate) struct Help {
     /// What is printed of the hint behind the line of the fault.
-    pub text: String,
+    pub(crate) text: String,
     /// Where the fault is, and sentences that help to mend it.
-    pub hint: Hint,
+    pub(crate) hint: Hint,
+}
+
+/// How it is helped with a fault.
+#[derive(Clone, Copy)]
+pub(crate) struct Helping<'a> {
+    /// The names of the MIG files that are cut, in their order.
+    pub(crate) defs: &'a [&'a str],
+    /// Whether what helps with a fault is wanted: it is shown, or the answer is for programs.
+    pub(crate) wanted: bool,
+    /// Whether it is shown.
+    pub(crate) shows: bool,
 }
 
 /// Nothing.
-pub fn no_help(alloc: Global) -> Help {
+fn no_help(alloc: Global) -> Help {
     Help {
         text: String::new(alloc),
         hint: Hint {
@@ -44,189 +49,97 @@ fn help_of(alloc: Global, file: &str, hint: Hint) -> Result<Help, AllocError> {
     Ok(Help { text, hint })
 }
 
-/// What was made to help, or nothing if memory ran out for it.
-fn help_if_made(alloc: Global, help: Result<Help, AllocError>) -> Help {
-    match help {
-        Ok(help) => help,
-        Err(AllocError) => no_help(alloc),
-    }
-}
-
-/// Whether what helps with a fault is wanted: if it is shown, or if the answer is for programs.
-pub fn is_wanted(shows: bool, format: Format) -> bool {
-    match format {
-        Format::Text => shows,
-        Format::Json | Format::Sarif => true,
-    }
-}
-
-/// What is printed of what helps with a fault, if that is shown (`shows`).
-pub fn help_text(alloc: Global, shows: bool, help: Help) -> String {
-    if shows {
-        return help.text;
-    }
-    String::new(alloc)
-}
-
-/// Whether the line is that of this fault of the file.
-fn is_line_of(
-    alloc: Global,
-    file: &str,
-    fault: &CaseFault,
-    line: &str,
-) -> Result<bool, AllocError> {
-    let text = fault.to_string(alloc)?;
-    let told = fault_of(alloc, file, text.as_str())?;
-    Ok(line == told.err.as_str())
-}
-
-/// What helps with the fault of the first text that has no meaning, if this is its line.
-fn hint_behind(
-    alloc: Global,
-    files: &Files<'_>,
-    live: bool,
-    line: &str,
-    fault: &CaseFault,
-) -> Result<Help, AllocError> {
-    let file = file_of(&files.names, fault);
-    if !is_line_of(alloc, file, fault, line)? {
-        return Ok(no_help(alloc));
-    }
-    let hint = hint_of(alloc, files, live, fault)?;
-    match hint {
-        Some(hint) => help_of(alloc, file, hint),
-        None => Ok(no_help(alloc)),
-    }
-}
-
 /// Sentences, and no place.
 fn noted(alloc: Global, notes: Vec<String>) -> Result<Help, AllocError> {
     help_of(alloc, "", Hint { spot: None, notes })
 }
 
-/// What is said of the word of an option, if the fault of this name is that it names nothing of the
-/// wiring.
+/// One sentence.
+fn one_noted(alloc: Global, note: &str) -> Result<Help, AllocError> {
+    let notes = one_note(alloc, note)?;
+    noted(alloc, notes)
+}
+
+/// What helps with a file that can't be read: what the system says of it.
+fn unread_help(alloc: Global, unread: &Unread<'_>) -> Result<Help, AllocError> {
+    match unread.fault {
+        ReadFault::ReadFailed(failure) => {
+            let note = failure.to_string(alloc)?;
+            one_noted(alloc, note.as_str())
+        }
+        ReadFault::TooBig | ReadFault::Memory => Ok(no_help(alloc)),
+    }
+}
+
+/// What helps with the fault of a text without a meaning.
+fn meaning_help(
+    alloc: Global,
+    asked: Asked<'_>,
+    read: &WasRead<'_>,
+    fault: &CaseFault,
+) -> Result<Help, AllocError> {
+    let WasRead::Texts(files) = read else {
+        return Ok(no_help(alloc));
+    };
+    let live = matches!(asked, Asked::Case(Question::Live { .. }));
+    match hint_of(alloc, files, live, fault)? {
+        Some(hint) => help_of(alloc, file_of(read, fault), hint),
+        None => Ok(no_help(alloc)),
+    }
+}
+
+/// What is said of a word that names nothing of the wiring that texts mean.
 fn notes_of_name(
     alloc: Global,
     texts: &Texts,
     question: Question<'_>,
-    fault: &str,
+    fault: WordFault,
 ) -> Result<Vec<String>, AllocError> {
     match System::read(alloc, texts.defs.as_slice(), texts.wiring.as_slice()) {
-        Ok(system) => name_notes(alloc, &system.wired, question, fault),
+        Ok(system) => {
+            let notes = name_notes(alloc, &system.wired, question, fault);
+            drop(system);
+            notes
+        }
         Err(_) => Err(AllocError),
     }
 }
 
-/// What helps with the fault of which this is the line, if it is that of an option whose word names
-/// nothing of the wiring.
-fn name_behind(
+/// What helps with a word that names nothing of the wiring.
+fn name_help(
     alloc: Global,
-    files: &Files<'_>,
-    question: Question<'_>,
-    line: &str,
+    asked: Asked<'_>,
+    read: &WasRead<'_>,
+    fault: WordFault,
 ) -> Result<Help, AllocError> {
-    let (_, fault) = fault_parts(line);
-    if !is_noted(fault) {
-        return Ok(no_help(alloc));
-    }
-    let notes = notes_of_name(alloc, &files.texts, question, fault)?;
-    if notes.is_empty() {
-        return Ok(no_help(alloc));
-    }
-    noted(alloc, notes)
-}
-
-/// What helps with the fault of which this is the line, if it is that of a text without a meaning,
-/// or of an option whose word names nothing of the wiring.
-fn texts_behind(
-    alloc: Global,
-    files: &Files<'_>,
-    question: Question<'_>,
-    line: &str,
-) -> Result<Help, AllocError> {
-    let live = matches!(question, Question::Live);
-    match all_meant(alloc, &files.texts, live) {
-        Err(OrMemory::Fault(fault)) => hint_behind(alloc, files, live, line, &fault),
-        Err(OrMemory::Memory) => Err(AllocError),
-        Ok(()) => name_behind(alloc, files, question, line),
-    }
-}
-
-/// What helps with the fault that is printed of a question about files that were read, if that is
-/// wanted. If memory runs out for it, it is nothing.
-pub fn files_behind(
-    alloc: Global,
-    wanted: bool,
-    files: &Files<'_>,
-    question: Question<'_>,
-    told: &Told,
-) -> Help {
-    if !wanted || told.status != 2 {
-        return no_help(alloc);
-    }
-    let help = texts_behind(alloc, files, question, told.err.as_str());
-    help_if_made(alloc, help)
-}
-
-/// The sentence about the fault whose line is the last of these, if it is the same for all files.
-fn note_behind(alloc: Global, err: &str) -> Result<Option<Help>, AllocError> {
-    let (_, fault) = fault_parts(err);
-    if !is_noted(fault) {
-        return Ok(None);
-    }
-    let Some(note) = note_of(fault) else {
-        return Ok(None);
-    };
-    let notes = one_note(alloc, note)?;
-    let help = noted(alloc, notes)?;
-    Ok(Some(help))
-}
-
-/// What helps with what is printed: what was made for it. Else, if it is wanted, a sentence about
-/// the word of an option or about a file that is to be written.
-pub fn with_note(alloc: Global, wanted: bool, help: Help, told: &Told) -> Help {
-    if !wanted || told.status != 2 || !help.text.as_str().is_empty() {
-        return help;
-    }
-    match note_behind(alloc, told.err.as_str()) {
-        Ok(Some(made)) => made,
-        Ok(None) | Err(AllocError) => help,
-    }
-}
-
-/// What the system says of a file that can't be read.
-fn failure_help(alloc: Global, file: &str, failure: ReadFailure) -> Result<Help, AllocError> {
-    let note = failure.to_string(alloc)?;
-    let mut notes = Vec::new(alloc);
-    notes.push(note)?;
-    help_of(alloc, file, Hint { spot: None, notes })
-}
-
-/// What helps with a file that can't be read, if that is wanted: what the system says of it. If
-/// memory runs out for it, it is nothing.
-fn unread_behind(alloc: Global, wanted: bool, file: &str, fault: ReadFault) -> Help {
-    match fault {
-        ReadFault::ReadFailed(failure) if wanted => {
-            help_if_made(alloc, failure_help(alloc, file, failure))
+    match (asked, read) {
+        (Asked::Case(question), WasRead::Texts(files)) => {
+            let notes = notes_of_name(alloc, &files.texts, question, fault)?;
+            noted(alloc, notes)
         }
-        _ => no_help(alloc),
+        _ => Ok(no_help(alloc)),
     }
 }
 
-/// What is printed of a file that could not be read; and what helps with that, if it is wanted.
-pub fn unread_helped(
+/// What helps with a word that can't be what it is asked to be.
+fn word_help(
     alloc: Global,
-    unread: &Unread<'_>,
-    wanted: bool,
-    help: &mut Help,
-) -> Result<Told, AllocError>
-    ensures status { IfOk result (λ told. told.status ≡ 2) }
-    ensures told { IfOk result (UnreadTold unread.now.file.now unread.now.fault) }
-{
-    let told = unread_told(alloc, unread)?;
-    *help = unread_behind(alloc, wanted, unread.file, unread.fault);
-    Ok(told)
+    asked: Asked<'_>,
+    read: &WasRead<'_>,
+    fault: WordFault,
+) -> Result<Help, AllocError> {
+    match note_of(fault) {
+        Some(note) => one_noted(alloc, note),
+        None => name_help(alloc, asked, read, fault),
+    }
+}
+
+/// What helps with a file that did not take all its bytes: a sentence, if it took none.
+fn unwritten_help(alloc: Global, unwritten: &Unwritten) -> Result<Help, AllocError> {
+    match unwritten.refusal {
+        OrMemory::Fault(WriteFault { written: 0 }) => one_noted(alloc, UNWRITTEN),
+        OrMemory::Fault(_) | OrMemory::Memory => Ok(no_help(alloc)),
+    }
 }
 
 /// What helps with a MIG file that can't be cut, by its bytes.
@@ -237,14 +150,14 @@ fn cut_help(alloc: Global, uncut: &Uncut<'_>, bytes: &[u8]) -> Result<Help, Allo
     }
 }
 
-/// What helps with the MIG file that can't be cut, of files with these bytes.
+/// The same of files with these names and these bytes.
 fn uncut_help(
     alloc: Global,
-    files: &[&str],
+    defs: &[&str],
     texts: &[Vec<u8>],
     uncut: &Uncut<'_>,
 ) -> Result<Help, AllocError> {
-    for (file, text) in files.iter().zip(texts) {
+    for (file, text) in defs.iter().zip(texts) {
         if *file == uncut.file {
             return cut_help(alloc, uncut, text.as_slice());
         }
@@ -252,36 +165,65 @@ fn uncut_help(
     Ok(no_help(alloc))
 }
 
-/// What helps with the MIG file that can't be cut, of files with these bytes, if that is wanted. If
-/// memory runs out for it, it is nothing.
-fn uncut_behind(
+/// The same of what was read.
+fn defs_help(
     alloc: Global,
-    wanted: bool,
-    files: &[&str],
-    texts: &[Vec<u8>],
+    defs: &[&str],
+    read: &WasRead<'_>,
     uncut: &Uncut<'_>,
-) -> Help {
-    if !wanted {
-        return no_help(alloc);
+) -> Result<Help, AllocError> {
+    match read {
+        WasRead::Defs(texts) => uncut_help(alloc, defs, texts.as_slice(), uncut),
+        WasRead::Nothing | WasRead::Texts(_) => Ok(no_help(alloc)),
     }
-    help_if_made(alloc, uncut_help(alloc, files, texts, uncut))
 }
 
-/// What is printed of a text that can't be cut; and what helps with its fault, if that is wanted.
-pub fn uncut_helped(
+/// What helps with a fault.
+fn fault_help(
     alloc: Global,
-    files: &[&str],
-    texts: &[Vec<u8>],
-    uncut: &Uncut<'_>,
-    wanted: bool,
-    help: &mut Help,
-) -> Result<Told, AllocError>
-    ensures status { IfOk result (λ told. told.status ≡ 2) }
-    ensures out { IfOk result (λ told. string_bytes told.out ≡ []) }
-    ensures err { IfOk result (λ told. IsFaultOf uncut.now.file.now (string_bytes told.err)) }
-{
-    let text = uncut.fault.to_string(alloc)?;
-    let told = fault_of(alloc, uncut.file, text.as_str())?;
-    *help = uncut_behind(alloc, wanted, files, texts, uncut);
-    Ok(told)
+    asked: Asked<'_>,
+    defs: &[&str],
+    read: &WasRead<'_>,
+    fault: &Fault<'_>,
+) -> Result<Help, AllocError> {
+    match fault {
+        Fault::Unread(unread) => unread_help(alloc, unread),
+        Fault::Meaning(fault) => meaning_help(alloc, asked, read, fault),
+        Fault::Word(fault) => word_help(alloc, asked, read, *fault),
+        Fault::Uncut(uncut) => defs_help(alloc, defs, read, uncut),
+        Fault::SameName(_) => one_noted(alloc, SAME_NAME),
+        Fault::Unwritten(_) | Fault::Unserved(_) => Ok(no_help(alloc)),
+    }
+}
+
+/// What helps with an answer: nothing, if it has no fault.
+fn answer_help(
+    alloc: Global,
+    asked: Asked<'_>,
+    defs: &[&str],
+    answered: &Answered<'_>,
+) -> Result<Help, AllocError> {
+    if let Some(unwritten) = unwritten_of(&answered.reply.answer) {
+        return unwritten_help(alloc, unwritten);
+    }
+    match &answered.reply.answer {
+        Answer::Fault(fault) => fault_help(alloc, asked, defs, &answered.read, fault),
+        _ => Ok(no_help(alloc)),
+    }
+}
+
+/// What helps with an answer, if that is wanted. If memory runs out for it, it is nothing.
+pub(crate) fn help_behind(
+    alloc: Global,
+    asked: Asked<'_>,
+    helping: Helping<'_>,
+    answered: &Answered<'_>,
+) -> Help {
+    if !helping.wanted {
+        return no_help(alloc);
+    }
+    match answer_help(alloc, asked, helping.defs, answered) {
+        Ok(help) => help,
+        Err(AllocError) => no_help(alloc),
+    }
 }

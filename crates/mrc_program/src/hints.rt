@@ -57,7 +57,7 @@ fn push_note(alloc: Global, text: &mut String, note: &String) -> Result<(), Allo
 }
 
 /// What is printed of a hint: the part of a line of the file, and then the sentences.
-pub fn hint_text(alloc: Global, file: &str, hint: &Hint) -> Result<String, AllocError> {
+pub(crate) fn hint_text(alloc: Global, file: &str, hint: &Hint) -> Result<String, AllocError> {
     let mut text = spot_text(alloc, file, &hint.spot)?;
     for note in &hint.notes {
         push_note(alloc, &mut text, note)?;

@@ -1,6 +1,7 @@
 //! Sentences that help with a word of an option, with a certificate, or with a file that is to be
 //! written.
 
+use mrc_answer::WordFault;
 use mrc_base::{ClassId, TaskId};
 use mrc_certificate::DraftFault;
 use mrc_command::Question;
@@ -9,8 +10,11 @@ use mrc_wiring::Wired;
 use mrc_words::{class_word, right_named};
 use std::alloc::{AllocError, Global};
 
+/// The sentence about a MIG file that has the name of an earlier one.
+pub(crate) const SAME_NAME: &str = "an earlier file has this name: cut them into two folders";
+
 /// The sentence about a file that took no byte.
-const UNWRITTEN: &str =
+pub(crate) const UNWRITTEN: &str =
     "its folder is missing or takes no new file, or it may not be written to, or is a folder";
 
 /// What a word of a fact is the name of.
@@ -24,35 +28,19 @@ enum Part {
     Right,
 }
 
-/// Whether sentences may help with a fault of this name.
-pub fn is_noted(fault: &str) -> bool {
-    fault == "BadTask"
-        || fault == "BadClass"
-        || fault == "BadRight"
-        || fault == "BadFact"
-        || fault == "BadLine"
-        || fault == "NotBroken"
-        || fault == "BadMost"
-        || fault == "Workers"
-        || fault == "SameName"
-        || fault == "WriteFailed 0"
-}
-
-/// The sentence about a fault of this name, if it is the same for all files.
-pub fn note_of(fault: &str) -> Option<&'static str> {
+/// The sentence about a word that can't be what it is asked to be, if it is the same for all files.
+pub(crate) fn note_of(fault: WordFault) -> Option<&'static str> {
     match fault {
-        "BadLine" => Some("expected: a number from 1 to 4294967295"),
-        "NotBroken" => Some("verify without --line prints the lines that are broken"),
-        "BadMost" => Some("expected: a number from 1 to 1000000"),
-        "Workers" => Some("expected: a number from 1 to 64"),
-        "SameName" => Some("an earlier file has this name: cut them into two folders"),
-        "WriteFailed 0" => Some(UNWRITTEN),
-        _ => None,
+        WordFault::BadLine => Some("expected: a number from 1 to 4294967295"),
+        WordFault::NotBroken => Some("verify without --line prints the lines that are broken"),
+        WordFault::BadMost => Some("expected: a number from 1 to 1000000"),
+        WordFault::Workers => Some("expected: a number from 1 to 64"),
+        WordFault::BadFact | WordFault::BadTask | WordFault::BadClass | WordFault::BadRight => None,
     }
 }
 
 /// The sentence about a certificate that has this fault.
-pub fn draft_note(fault: DraftFault) -> &'static str {
+pub(crate) fn draft_note(fault: DraftFault) -> &'static str {
     match fault {
         DraftFault::Magic => "a certificate begins with the bytes MRCC: make writes one",
         DraftFault::Version => {
@@ -68,7 +56,7 @@ pub fn draft_note(fault: DraftFault) -> &'static str {
 }
 
 /// One sentence.
-pub fn one_note(alloc: Global, note: &str) -> Result<Vec<String>, AllocError> {
+pub(crate) fn one_note(alloc: Global, note: &str) -> Result<Vec<String>, AllocError> {
     let mut notes = Vec::new(alloc);
     notes.push(String::from_str(alloc, note)?)?;
     Ok(notes)
@@ -257,19 +245,20 @@ fn fact_of(question: Question<'_>) -> &str {
     }
 }
 
-/// What is said of the word of an option, if the fault of this name is that it names nothing of the
-/// wiring.
-pub fn name_notes(
+/// What is said of the word of an option that names nothing of the wiring.
+pub(crate) fn name_notes(
     alloc: Global,
     wired: &Wired,
     question: Question<'_>,
-    fault: &str,
+    fault: WordFault,
 ) -> Result<Vec<String>, AllocError> {
     match fault {
-        "BadTask" => task_notes(alloc, wired, task_of(question)),
-        "BadClass" => class_notes(alloc, wired, class_of(question)),
-        "BadRight" => part_notes(alloc, wired, Part::Right, ""),
-        "BadFact" => fact_notes(alloc, wired, fact_of(question)),
-        _ => Ok(Vec::new(alloc)),
+        WordFault::BadTask => task_notes(alloc, wired, task_of(question)),
+        WordFault::BadClass => class_notes(alloc, wired, class_of(question)),
+        WordFault::BadRight => part_notes(alloc, wired, Part::Right, ""),
+        WordFault::BadFact => fact_notes(alloc, wired, fact_of(question)),
+        WordFault::BadLine | WordFault::NotBroken | WordFault::BadMost | WordFault::Workers => {
+            Ok(Vec::new(alloc))
+        }
     }
 }

@@ -1,7 +1,7 @@
 //! What helps with a fault of a text, by the text's role.
 
-use crate::files::{Files, Texts};
 use crate::notes::{draft_note, one_note};
+use mrc_answer::{Files, Texts};
 use mrc_certificate::DraftFault;
 use mrc_check::{CaseFault, PolicyFault, WiringFault};
 use mrc_interface::{DefsFault, FileFault, LexFault, ParseFault, read_interfaces};
@@ -113,7 +113,7 @@ fn certificate_hint(alloc: Global, fault: DraftFault) -> Result<Hint, AllocError
 }
 
 /// What helps with the fault of a text: nothing, if memory runs out while the texts are read.
-pub fn hint_of(
+pub(crate) fn hint_of(
     alloc: Global,
     files: &Files<'_>,
     live: bool,
@@ -172,7 +172,11 @@ fn cut_notes(
 }
 
 /// What helps with the fault of a MIG file that can't be cut.
-pub fn cut_hint(alloc: Global, bytes: &[u8], fault: CutFault) -> Result<Option<Hint>, AllocError> {
+pub(crate) fn cut_hint(
+    alloc: Global,
+    bytes: &[u8],
+    fault: CutFault,
+) -> Result<Option<Hint>, AllocError> {
     let fault = match fault {
         CutFault::NotUtf8 => DefsFault::NotUtf8,
         CutFault::Lex(fault) => DefsFault::Lex(fault),

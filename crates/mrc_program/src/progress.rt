@@ -6,13 +6,12 @@ use std::io::Write;
 /// How many wirings are judged, or chains played, before the first line.
 const FIRST: usize = 16;
 
-/// Prints on standard error how many wirings were judged, or how many chains were played for all
-/// lines of a policy, if that is a terminal: after the first 16, and then each time their number
-/// has doubled.
+/// Prints how many wirings were judged, or how many chains were played for all lines of a policy:
+/// after the first 16, and then each time their number has doubled.
 #[derive(Drop)]
 pub(crate) struct Counter<'a, E: Write> {
+    /// Standard error, at which a person looks.
     pub(crate) err: &'a mut E,
-    pub(crate) watched: bool,
     /// How many chains were played.
     pub(crate) played: usize,
 }
@@ -20,7 +19,7 @@ pub(crate) struct Counter<'a, E: Write> {
 impl<'a, E: Write> Counter<'a, E> {
     /// A line of these words and the number, if a line is due.
     fn count(&mut self, words: &[u8], number: usize) {
-        if self.watched && number >= FIRST && number.is_power_of_two() {
+        if number >= FIRST && number.is_power_of_two() {
             let mut digits = itoa::Buffer::new();
             let _ = write_text(self.err, words);
             let _ = write_text(self.err, digits.format(number).as_bytes());
@@ -40,4 +39,16 @@ impl<'a, E: Write> mrc_attack::Progress for Counter<'a, E> {
         self.played = self.played.saturating_add(1);
         self.count(b"machcheck: attack: chains played: ", self.played);
     }
+}
+
+/// Prints nothing, since nobody looks on.
+#[derive(Drop)]
+pub(crate) struct Nobody;
+
+impl mrc_mend::Progress for Nobody {
+    fn tried(&mut self, _tries: usize) {}
+}
+
+impl mrc_attack::Progress for Nobody {
+    fn played(&mut self, _chains: usize) {}
 }

@@ -1,5 +1,6 @@
 use Rattle.std.proofs.Common.{subst, sym, string_bytes}
-use Rattle.mrc_print.specs.Heads.{IsNoIf, is_asked}
+use Rattle.mrc_answer.specs.Verified.{is_asked}
+use Rattle.mrc_print.specs.Heads.{IsNoIf}
 use Rattle.mrc_print.proofs.HeadLaws.{no_next}
 use Rattle.mrc_print.proofs.text.broken_parts.Goals as goal
 

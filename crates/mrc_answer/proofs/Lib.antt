@@ -1,0 +1,10 @@
+pub mod ScriptLaws
+pub mod LeakLaws
+mod NoticeLines
+mod NoticeLaws
+mod NoticeExamples
+mod VerdictLaws
+mod VerifiedSafe
+pub mod CutLaws
+mod CutExamples
+mod AskingLaws

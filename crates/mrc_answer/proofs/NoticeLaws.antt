@@ -1,0 +1,111 @@
+-- What is told besides an answer: of MIG files and of trusted tasks, one after the other; and all
+-- of it by the least set.
+use Rattle.std.proofs.Common.{◌≡◌, ◌∙◌, ℕ, ◌+◌, ◌<◌, ◌≤◌, List, [], ◌∷◌, ◌++◌, length, map, drop}
+use Rattle.std.proofs.Common.{get_or, append_assoc, ap, sym, Vec, Global, Result, Ok, Err, Some}
+use Rattle.std.proofs.lemmas.List.{append-nil, drop_all}
+use Rattle.std.proofs.lemmas.Option.{slice_get-get_or}
+use Rattle.std.specs.Prelude.{IfOk}
+use Rattle.mrc_base.specs.declared.Fact.{Fact}
+use Rattle.mrc_facts.specs.Sets.{has}
+use Rattle.mrc_model.specs.Rules.{IsLeast}
+use Rattle.mrc_mig_cut.specs.Carrying.{carriers}
+use Rattle.mrc_wiring.proofs.Steps.{next_is}
+use Rattle.mrc_wiring.specs.Claims.{Claimed}
+use Rattle.mrc_wiring.specs.Table.{Table, wiring_of}
+use Rattle.mrc_why.proofs.Verdicts.{least_one}
+use Rattle.mrc_words.specs.Words.{task_text, task_word}
+use Rattle.mrc_answer.specs.Files.{Files}
+use Rattle.mrc_answer.specs.Notices.{left_out, is_trusted, name_if, trusted_from, trusted_names}
+use Rattle.mrc_answer.specs.Notices.{Notices, notices_of, yes_notices_of, AreNotices}
+use Rattle.mrc_answer.specs.Notices.{AreYesNotices}
+
+-- the texts of files
+abbrev pub texts_of : List (Vec ℕ Global) → List (List ℕ)
+texts_of defs = map (λ text. text.items) defs
+
+-- one file more
+pub left_more : (defs : List (Vec ℕ Global)) (i : ℕ) (d : Vec ℕ Global)
+    (left new total : List (List (List ℕ))) → i < length defs
+    → left ++ left_out (texts_of (drop i defs)) ≡ total
+    → new ≡ left ++ (carriers (get_or defs i d).items ∷ [])
+    → new ++ left_out (texts_of (drop (i + 1) defs)) ≡ total
+left_more defs i d left new total less so added =
+    let rest = left_out (texts_of (drop (i + 1) defs)) in
+    ap (λ l. l ++ rest) added
+    ∙ (append_assoc left (carriers (get_or defs i d).items ∷ []) rest
+    ∙ (ap (λ ds. left ++ left_out (texts_of ds)) (sym (next_is defs i d less)) ∙ so))
+
+-- no file is left
+pub left_end : (defs : List (Vec ℕ Global)) (i : ℕ) (left total : List (List (List ℕ)))
+    → length defs ≤ i
+    → left ++ left_out (texts_of (drop i defs)) ≡ total
+    → left ≡ total
+left_end defs i left total all so =
+    sym (append-nil left)
+    ∙ (ap (λ ds. left ++ left_out (texts_of ds)) (sym (drop_all i defs all)) ∙ so)
+
+-- the task of a number is printed by its name
+word_is : (table : Table) (t : ℕ) → t < length table.names
+    → task_word table t ≡ get_or table.names t []
+word_is table t less = ap (task_text t) (slice_get-get_or table.names t [] less)
+
+-- one task more
+pub name_more : (table : Table) (names new : List (List ℕ)) (t : ℕ)
+    → t < length table.names
+    → names ++ trusted_from table.trusts t (drop t table.names) ≡ trusted_names table
+    → new ≡ names ++ name_if (is_trusted table.trusts t) (task_word table t)
+    → new ++ trusted_from table.trusts (t + 1) (drop (t + 1) table.names) ≡ trusted_names table
+name_more table names new t less so added =
+    let rest = trusted_from table.trusts (t + 1) (drop (t + 1) table.names) in
+    let one = name_if (is_trusted table.trusts t) in
+    ap (λ ns. ns ++ rest) added
+    ∙ (append_assoc names (one (task_word table t)) rest
+    ∙ (ap (λ name. names ++ (one name ++ rest)) (word_is table t less)
+    ∙ (ap (λ ns. names ++ trusted_from table.trusts t ns) (sym (next_is table.names t [] less))
+    ∙ so)))
+
+-- no task is left
+pub names_end : (table : Table) (names : List (List ℕ)) (t : ℕ)
+    → length table.names ≤ t
+    → names ++ trusted_from table.trusts t (drop t table.names) ≡ trusted_names table
+    → names ≡ trusted_names table
+names_end table names t all so =
+    sym (append-nil names)
+    ∙ (ap (λ ns. names ++ trusted_from table.trusts t ns) (sym (drop_all t table.names all)) ∙ so)
+
+-- what is told besides a no is that by the least set
+pub no_by_least : {E : Type 0} (files : Files) (claim : Claimed) (facts : List Fact)
+    (trusted : List (List ℕ)) (result : Result Notices E)
+    → IsLeast (wiring_of claim.table) (has facts)
+    → IfOk result (λ notices. notices
+    ≡ record (notices_of files claim (has facts)) { trusted = trusted })
+    → trusted ≡ []
+    → IfOk result (AreNotices files claim)
+no_by_least files claim facts trusted (Ok notices) its_least is empty = λ set least.
+    is
+    ∙ (ap (λ (names : List (List ℕ)). record (notices_of files claim (has facts)) {
+      trusted = names;
+    }) empty
+    ∙ ap (notices_of files claim)
+    (least_one (wiring_of claim.table) (has facts) set its_least least))
+no_by_least files claim facts trusted (Err e) its_least is empty = tt
+
+-- and so is what is told besides a yes
+pub yes_by_least : (files : Files) (claim : Claimed) (facts : List Fact) (notices made : Notices)
+    (table : Table)
+    → IsLeast (wiring_of claim.table) (has facts)
+    → notices ≡ record (notices_of files claim (has facts)) {
+      trusted = trusted_names claim.table;
+    }
+    → table ≡ claim.table
+    → made ≡ record notices { wired = Some table }
+    → AreYesNotices files claim made
+yes_by_least files claim facts notices made table its_least are same is set least =
+    is
+    ∙ (ap (λ (n : Notices). record n { wired = Some table }) are
+    ∙ (ap (λ (t : Table). record (notices_of files claim (has facts)) {
+      trusted = trusted_names claim.table;
+      wired = Some t;
+    }) same
+    ∙ ap (yes_notices_of files claim)
+    (least_one (wiring_of claim.table) (has facts) set its_least least)))

@@ -1,0 +1,5 @@
+use Rattle.mrc_answer.proofs.VerifiedSafe.{allowed_safe, broken_no}
+use Rattle.mrc_answer.proofs.laws.verified_files_are_so.Goals as goal
+
+pub returns : goal.returns
+returns c = record { safe = allowed_safe; no = broken_no }

@@ -1,0 +1,143 @@
+-- Believe. What is told besides an answer: routines that carry rights and are dropped from MIG
+-- files, routines of notifications, a policy that is easily read wrongly, and trusted tasks. This
+-- profile's own choice.
+use Rattle.std.specs.Prelude.{◌≡◌, ℕ, ◌+◌, ◌==◌, Bool, true, false, ◌||◌, List, [], ◌∷◌, ◌++◌, map}
+use Rattle.std.specs.Prelude.{Option, Some, None, bytes_eq, codes, find}
+use Rattle.std.specs.List.{list_any}
+use Rattle.mrc_base.specs.declared.Fact.{Fact}
+use Rattle.mrc_model.specs.Rules.{IsLeast}
+use Rattle.mrc_forms.specs.declared.form.MessageKind.TheVariants.{Request}
+use Rattle.mrc_forms.specs.Forms.{Form}
+use Rattle.mrc_forms.specs.Tables.{Table as Interface, forms_by}
+use Rattle.mrc_mig_cut.specs.Carrying.{carriers}
+use Rattle.mrc_wiring.specs.declared.claim.ForbiddenLine.{ForbiddenLine}
+use Rattle.mrc_wiring.specs.declared.table.TrustedLine.{TrustedLine}
+use Rattle.mrc_wiring.specs.Claims.{Claimed}
+use Rattle.mrc_wiring.specs.Table.{Table, wiring_of}
+use Rattle.mrc_answer.specs.Files.{Files, given}
+use Rattle.mrc_answer.specs.PlainLines.{PlainLine, plain_lines}
+use Rattle.mrc_answer.specs.LeakyLines.{LeakyLine, leaky_lines}
+
+-- a MIG file, by its number, that has a routine of notifications
+pub record Notification : Type 0 where
+  pub file : ℕ
+  pub routine : List ℕ
+
+-- All that is told besides an answer.
+pub record Notices : Type 0 where
+  pub left_out : List (List (List ℕ))
+  pub notification : Option Notification
+  pub is_empty_policy : Bool
+  pub plain : List PlainLine
+  pub leaky : List LeakyLine
+  pub trusted : List (List ℕ)
+  pub wired : Option Table
+
+-- nothing
+abbrev pub no_notices : Notices
+no_notices = record {
+  left_out = [];
+  notification = None;
+  is_empty_policy = false;
+  plain = [];
+  leaky = [];
+  trusted = [];
+  wired = None;
+}
+
+-- of each MIG file, the routines that carry rights and are dropped from it
+abbrev pub left_out : List (List ℕ) → List (List (List ℕ))
+left_out defs = map carriers defs
+
+-- whether a routine of this name asks for a notification of no senders or of a dead name, or is one
+abbrev pub is_notification : List ℕ → Bool
+is_notification name =
+    bytes_eq name (codes "mach_port_request_notification")
+    || (bytes_eq name (codes "mach_notify_no_senders")
+    || bytes_eq name (codes "mach_notify_dead_name"))
+
+-- the request of the first such routine of an interface, in the order of the ids
+abbrev pub notification_in : Interface → Option Form
+notification_in table =
+    find (λ (form : Form). is_notification form.name) (forms_by Request table)
+
+-- the file of this number with such a routine, or else this
+abbrev pub notification_or : Option Notification → ℕ → Option Form → Option Notification
+notification_or other n None = other
+notification_or other n (Some form) = Some (record { file = n; routine = form.name })
+
+-- the first such routine of the MIG files from this number on, which have these interfaces
+abbrev pub notification_from : ℕ → List Interface → Option Notification
+notification_from n [] = None
+notification_from n (table ∷ tables) =
+    notification_or (notification_from (n + 1) tables) n (notification_in table)
+
+-- whether no line forbids anything
+abbrev pub is_empty : List ForbiddenLine → Bool
+is_empty [] = true
+is_empty (line ∷ lines) = false
+
+-- the line trusts the task of this number
+abbrev pub is_line_of : ℕ → TrustedLine → Bool
+is_line_of task line = line.task == task
+
+-- some line trusts the task of this number
+abbrev pub is_trusted : List TrustedLine → ℕ → Bool
+is_trusted lines task = list_any (is_line_of task) lines
+
+-- the name, if it is to be in the list
+abbrev pub name_if : Bool → List ℕ → List (List ℕ)
+name_if true name = name ∷ []
+name_if false name = []
+
+-- of the tasks from this number on, which have these names, the names of those that a line trusts
+abbrev pub trusted_from : List TrustedLine → ℕ → List (List ℕ) → List (List ℕ)
+trusted_from lines n [] = []
+trusted_from lines n (name ∷ names) =
+    name_if (is_trusted lines n) name ++ trusted_from lines (n + 1) names
+
+-- the names of the tasks that lines of the wiring trust, in the order of the tasks' numbers
+abbrev pub trusted_names : Table → List (List ℕ)
+trusted_names table = trusted_from table.trusts 0 table.names
+
+-- what is told besides a no of files and their claim, by a set of facts
+abbrev pub notices_of : Files → Claimed → (Fact → Bool) → Notices
+notices_of files claim set = record {
+  left_out = left_out files.texts.defs;
+  notification = notification_from 0 claim.table.interfaces;
+  is_empty_policy = is_empty claim.lines;
+  plain = plain_lines claim.table (given files.texts.policy);
+  leaky = leaky_lines set claim.lines;
+  trusted = [];
+  wired = None;
+}
+
+-- the same besides a yes: also which tasks are trusted, and the wiring
+abbrev pub yes_notices_of : Files → Claimed → (Fact → Bool) → Notices
+yes_notices_of files claim set = record (notices_of files claim set) {
+  trusted = trusted_names claim.table;
+  wired = Some claim.table;
+}
+
+-- these are told besides a no, by the least set
+abbrev pub AreNotices : Files → Claimed → Notices → Type 0
+AreNotices files claim notices =
+    (set : Fact → Bool) → IsLeast (wiring_of claim.table) set
+    → notices ≡ notices_of files claim set
+
+-- these are told besides a yes, by the least set
+abbrev pub AreYesNotices : Files → Claimed → Notices → Type 0
+AreYesNotices files claim notices =
+    (set : Fact → Bool) → IsLeast (wiring_of claim.table) set
+    → notices ≡ yes_notices_of files claim set
+
+-- what is told besides the reason why a certificate is refused
+abbrev pub left_out_alone : Files → Notices
+left_out_alone files = record no_notices { left_out = left_out files.texts.defs }
+
+-- what is told besides a certificate that is accepted
+abbrev pub left_out_and_trusted : Files → Table → Notices
+left_out_and_trusted files table = record no_notices {
+  left_out = left_out files.texts.defs;
+  trusted = trusted_names table;
+}

@@ -1,0 +1,236 @@
+//! What is answered to a question, as a value, and what is told besides.
+
+ghost use Rattle.std.specs.Prelude.{◌≡◌, ◌≤◌};
+ghost use Rattle.mrc_answer.specs.Statuses.{cut_status, mend_status, status_of};
+
+use crate::faults::{Fault, Unwritten};
+use crate::notices::Notices;
+use mrc_attack::Attack;
+use mrc_base::Fact;
+use mrc_check::{Refused, Stated, System, Why};
+use mrc_closure::Chain;
+use mrc_draw::Filter;
+use mrc_mig_cut::CutFile;
+use mrc_report::{Ran, Script};
+use mrc_rows::Facts;
+use mrc_why::Verdict;
+use mrc_wiring::Wired;
+
+/// A system whose policy is broken.
+#[derive(Drop)]
+pub struct BrokenPolicy {
+    /// The system.
+    pub stated: Stated,
+    /// What is found of it.
+    pub verdict: Verdict,
+    /// The number of the line of the policy that is asked for, if one is.
+    pub only: Option<u32>,
+}
+
+/// A system whose policy is broken, and the calls that were found for what breaks it.
+#[derive(Drop)]
+pub struct Attacked {
+    /// The system.
+    pub stated: Stated,
+    /// The number of the line of the policy that is asked for, if one is.
+    pub only: Option<u32>,
+    /// What was found for each line.
+    pub found: Vec<Attack>,
+}
+
+/// A fact of a system, and a chain that derives it.
+#[derive(Drop)]
+pub struct Explained {
+    /// The system.
+    pub system: System,
+    /// The fact.
+    pub fact: Fact,
+    /// The chain.
+    pub chain: Chain,
+}
+
+/// A fact of a system that no chain derives.
+#[derive(Drop)]
+pub struct Underived {
+    /// The system.
+    pub system: System,
+    /// The fact.
+    pub fact: Fact,
+}
+
+/// Facts of a wiring, and which of them are asked for.
+#[derive(Drop)]
+pub struct Listed {
+    /// The wiring.
+    pub wired: Wired,
+    /// Which facts are asked for.
+    pub filter: Filter,
+    /// The facts.
+    pub facts: Facts,
+}
+
+/// Facts of a system that are drawn, and what its policy forbids.
+#[derive(Drop)]
+pub struct Drawing {
+    /// The system. Without a policy it forbids nothing.
+    pub stated: Stated,
+    /// The facts that are drawn.
+    pub facts: Facts,
+}
+
+/// A fact of a system that is not drawn, since no chain derives it.
+#[derive(Drop)]
+pub struct Undrawn {
+    /// The system.
+    pub stated: Stated,
+    /// The fact.
+    pub fact: Fact,
+}
+
+/// A MIG file, and what its text is cut to.
+#[derive(Drop)]
+pub struct NamedCut<'a> {
+    /// The name of the file.
+    pub file: &'a str,
+    /// What its text is cut to.
+    pub cut: CutFile,
+}
+
+/// What became of MIG files that were cut.
+#[derive(Drop)]
+pub enum CutEnd {
+    /// All were written.
+    Written,
+    /// None was: too little is read of them.
+    Little,
+    /// They were written up to this one, which was refused.
+    Refused(Unwritten),
+}
+
+/// MIG files that were cut, and what became of them.
+#[derive(Drop)]
+pub struct Cuts<'a> {
+    /// The files.
+    pub cuts: Vec<NamedCut<'a>>,
+    /// What became of them.
+    pub end: CutEnd,
+}
+
+/// A wiring, and a script of its tasks.
+#[derive(Drop)]
+pub struct WiredScript {
+    /// The wiring.
+    pub wired: Wired,
+    /// The script.
+    pub script: Script,
+}
+
+/// The journal of a run after which no task can go on.
+#[derive(Drop)]
+pub struct Waiting {
+    /// The journal.
+    pub ran: Ran,
+    /// The numbers of the lines of the script that wait for messages, ascending.
+    pub lines: Vec<u32>,
+}
+
+/// What is answered to a question.
+#[derive(Drop)]
+pub enum Answer<'a> {
+    /// `verify`, `attack`: the least set is a yes. `check`: the certificate is accepted.
+    Yes,
+    /// `verify`: the policy is broken.
+    Broken(BrokenPolicy),
+    /// `check`, `live`: the certificate is refused.
+    Refused(Refused<Why>),
+    /// `attack`: the policy is broken.
+    Attacks(Attacked),
+    /// `mend`: what there is to mend.
+    Mends(mrc_mend::Answer),
+    /// `make`: a certificate was made and written; the number of its facts.
+    Made(usize),
+    /// `explain`: a chain derives the fact.
+    Chain(Explained),
+    /// `explain`: none does.
+    NoChain(Underived),
+    /// `facts`: facts of the certificate, or of the least set.
+    Facts(Listed),
+    /// `facts`, `graph`: the certificate has other numbers than the wiring.
+    OtherCounts,
+    /// `graph`: facts that are drawn.
+    Drawing(Drawing),
+    /// `graph`: no chain derives the fact.
+    NoDrawing(Undrawn),
+    /// `slots`: the system whose slots are listed.
+    Slots(System),
+    /// `promises`: the system whose lines are listed.
+    Promises(System),
+    /// `replay`: the script that is replayed.
+    Replay(WiredScript),
+    /// `live`: the journal of the script's run.
+    Journal(Ran),
+    /// `live`: the journal of a run after which no task can go on.
+    Waits(Waiting),
+    /// `mig`: what MIG files were cut to.
+    Cut(Cuts<'a>),
+    /// There is no answer.
+    Fault(Fault<'a>),
+}
+
+/// An answer, and what is told besides.
+#[derive(Drop)]
+pub struct Reply<'a> {
+    /// The answer.
+    pub answer: Answer<'a>,
+    /// What is told besides.
+    pub notices: Notices,
+}
+
+/// The status of mends: 1 if there is something to mend and no mend was found.
+fn mend_status(answer: &mrc_mend::Answer) -> u8
+    ensures exact { result ≡ mend_status answer.now }
+    ensures within { result ≤ 2 }
+{
+    match answer {
+        mrc_mend::Answer::Nothing => 0,
+        mrc_mend::Answer::Found(mends) => { if mends.mends.is_empty() { 1 } else { 0 } }
+    }
+}
+
+/// The status of MIG files that were cut: 2 if not all were written.
+fn cut_status(end: &CutEnd) -> u8
+    ensures exact { result ≡ cut_status end.now }
+    ensures within { result ≤ 2 }
+{
+    match end {
+        CutEnd::Written => 0,
+        CutEnd::Little | CutEnd::Refused(_) => 2,
+    }
+}
+
+/// The exit status of an answer, if all of it is printed.
+pub fn status_of(answer: &Answer<'_>) -> u8
+    ensures exact { result ≡ status_of answer.now }
+    ensures within { result ≤ 2 }
+{
+    match answer {
+        Answer::Yes
+        | Answer::Made(_)
+        | Answer::Chain(_)
+        | Answer::Facts(_)
+        | Answer::Drawing(_)
+        | Answer::Slots(_)
+        | Answer::Promises(_)
+        | Answer::Replay(_)
+        | Answer::Journal(_) => 0,
+        Answer::Broken(_)
+        | Answer::Refused(_)
+        | Answer::Attacks(_)
+        | Answer::NoChain(_)
+        | Answer::OtherCounts
+        | Answer::NoDrawing(_) => 1,
+        Answer::Waits(_) | Answer::Fault(_) => 2,
+        Answer::Mends(answer) => mend_status(answer),
+        Answer::Cut(cuts) => cut_status(&cuts.end),
+    }
+}

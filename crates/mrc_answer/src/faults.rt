@@ -1,0 +1,66 @@
+//! Why a question has no answer, as a value.
+
+use mrc_base::OrMemory;
+use mrc_check::CaseFault;
+use mrc_files::{Unread, WriteFault};
+use mrc_mig_cut::CutFault;
+use mrc_report::ServeFault;
+
+/// Which word of an option can't be what it is asked to be, and why.
+#[derive(Clone, Copy, Debug, PartialEq, Eq)]
+pub enum WordFault {
+    /// `--line`: no line has the number.
+    BadLine,
+    /// `--line`: the line is not broken.
+    NotBroken,
+    /// `--most`: so many can't be asked for.
+    BadMost,
+    /// `--workers`: so many threads can't be asked for.
+    Workers,
+    /// `--fact`: the text names no fact of the wiring.
+    BadFact,
+    /// `--task`: no task has the name.
+    BadTask,
+    /// `--class`: no class is printed so.
+    BadClass,
+    /// `--right`: no right is printed so.
+    BadRight,
+}
+
+/// A file that did not take all its bytes, and why: how many it took and has, or that memory ran
+/// out.
+#[derive(Drop)]
+pub struct Unwritten {
+    /// The file.
+    pub file: String,
+    /// Why.
+    pub refusal: OrMemory<WriteFault>,
+}
+
+/// A MIG file whose text can't be cut, and why.
+#[derive(Drop)]
+pub struct Uncut<'a> {
+    /// The file.
+    pub file: &'a str,
+    /// Why.
+    pub fault: CutFault,
+}
+
+/// Why a question has no answer. Out of memory is none of these.
+#[derive(Drop)]
+pub enum Fault<'a> {
+    /// A file can't be read.
+    Unread(Unread<'a>),
+    /// A text has no meaning: the first of those that are read.
+    Meaning(CaseFault),
+    /// The word of an option can't be what it is asked to be.
+    Word(WordFault),
+    /// The file of a certificate did not take all its bytes.
+    Unwritten(Unwritten),
+    /// A MIG file can't be cut: the first of those that can't.
+    Uncut(Uncut<'a>),
+    /// A MIG file has the name of an earlier one.
+    SameName(&'a str),
+    /// A script whose tasks run as threads was not run to its end.
+    Unserved(ServeFault),
+}

@@ -1,0 +1,279 @@
+//! What is told besides an answer, gathered of files.
+
+ghost use Rattle.std.specs.Prelude.{◌≡◌, ◌++◌, [], ◌∷◌, map, IfOk, OnOk, Some, string_bytes};
+ghost use Rattle.std.specs.Option.{option_map};
+ghost use Rattle.mrc_facts.specs.Sets.{has};
+ghost use Rattle.mrc_model.specs.Rules.{IsLeast};
+ghost use Rattle.mrc_wiring.specs.Table.{wiring_of};
+ghost use Rattle.mrc_words.specs.Words.{task_word};
+ghost use Rattle.mrc_mig_cut.specs.Carrying.{carriers};
+ghost use Rattle.mrc_answer.specs.Notices.{AreNotices, AreYesNotices, notices_of, is_empty};
+ghost use Rattle.mrc_answer.specs.Notices.{left_out, left_out_alone, left_out_and_trusted};
+ghost use Rattle.mrc_answer.specs.Notices.{is_notification, notification_in, notification_from};
+ghost use Rattle.mrc_answer.specs.Notices.{is_trusted, name_if, trusted_names};
+
+use crate::files::Files;
+use crate::leaky_lines::leaky_lines;
+use crate::notices::{Notices, Notification};
+use crate::plain_lines::plain_lines;
+use mrc_base::TaskId;
+use mrc_forms::{Form, Interface, MessageKind};
+use mrc_mig_cut::carriers;
+use mrc_rows::Facts;
+use mrc_wiring::{Claim, ForbiddenLine, TrustedLine, Wired};
+use mrc_words::task_word;
+use std::alloc::{AllocError, Global};
+
+/// Adds the routines that carry rights and are dropped from a MIG file of these bytes.
+fn add_left_out(alloc: Global, left: &mut Vec<Vec<String>>, bytes: &[u8]) -> Result<(), AllocError>
+    ensures { OnOk result (map (λ names. map string_bytes names.items) left.new.items
+        ≡ map (λ names. map string_bytes names.items) left.old.items
+        ++ (carriers bytes.now ∷ [])) }
+{
+    let names = carriers(alloc, bytes)?;
+    left.push(names)?;
+    Ok(())
+}
+
+/// Of each MIG file, which has these bytes, the routines that carry rights and are dropped from it.
+#[tactic(auto, using(crate::proofs::NoticeLaws::left_more, crate::proofs::NoticeLaws::left_end))]
+fn left_out(alloc: Global, defs: &[Vec<u8>]) -> Result<Vec<Vec<String>>, AllocError>
+    ensures { IfOk result (λ left. map (λ names. map string_bytes names.items) left.items
+        ≡ left_out (map (λ text. text.items) defs.now)) }
+{
+    let mut left = Vec::new(alloc);
+    for bytes in defs {
+        add_left_out(alloc, &mut left, bytes.as_slice())?;
+    }
+    Ok(left)
+}
+
+/// Whether a routine of this name asks for a notification of no senders or of a dead name, or is
+/// one.
+fn is_notification(name: &str) -> bool
+    ensures { result ≡ is_notification name.now }
+{
+    name == "mach_port_request_notification"
+        || name == "mach_notify_no_senders"
+        || name == "mach_notify_dead_name"
+}
+
+/// The request of the first such routine of an interface.
+fn notification_in(interface: &Interface) -> Option<&Form>
+    ensures { option_map (λ form. form.now) result ≡ notification_in interface.now }
+{
+    for row in interface.rows() {
+        if let Some(form) = row.form(MessageKind::Request) {
+            if is_notification(form.name()) {
+                return Some(form);
+            }
+        }
+    }
+    None
+}
+
+/// The MIG file of this number, with its routine that has this request.
+fn notification_of(alloc: Global, file: usize, form: &Form) -> Result<Notification, AllocError>
+    ensures { IfOk result (λ found. found ≡ record { file = file; routine = form.now.name }) }
+{
+    let routine = String::from_str(alloc, form.name())?;
+    Ok(Notification { file, routine })
+}
+
+/// The first of the MIG files that has such a routine, of those that have these interfaces.
+fn notification(alloc: Global, interfaces: &[Interface]) -> Result<Option<Notification>, AllocError>
+    ensures { IfOk result (λ found. found ≡ notification_from 0 interfaces.now) }
+{
+    for (number, interface) in interfaces.iter().enumerate() {
+        if let Some(form) = notification_in(interface) {
+            let found = notification_of(alloc, number, form)?;
+            return Ok(Some(found));
+        }
+    }
+    Ok(None)
+}
+
+/// Whether one of the lines trusts the task of this number.
+fn is_trusted(lines: &[TrustedLine], task: u16) -> bool
+    ensures { result ≡ is_trusted lines.now task }
+{
+    lines.iter().any(|line| line.task == task)
+}
+
+/// Adds the name of the task of this number, if a line of the wiring trusts it.
+fn add_name(
+    alloc: Global,
+    names: &mut Vec<String>,
+    wired: &Wired,
+    task: u16,
+) -> Result<(), AllocError>
+    ensures { OnOk result (map string_bytes names.new.items ≡ map string_bytes names.old.items
+        ++ name_if (is_trusted wired.now.trusts task) (task_word wired.now task)) }
+{
+    if is_trusted(wired.trusts(), task) {
+        names.push(task_word(alloc, wired, TaskId(u32::from(task)))?)?;
+    }
+    Ok(())
+}
+
+/// The names of the tasks that lines of the wiring trust, in the order of the tasks' numbers.
+#[tactic(auto, using(crate::proofs::NoticeLaws::name_more, crate::proofs::NoticeLaws::names_end))]
+fn trusted_names(alloc: Global, wired: &Wired) -> Result<Vec<String>, AllocError>
+    ensures { IfOk result (λ names. map string_bytes names.items ≡ trusted_names wired.now) }
+{
+    let mut names = Vec::new(alloc);
+    for task in 0..wired.tasks() {
+        add_name(alloc, &mut names, wired, task)?;
+    }
+    Ok(names)
+}
+
+/// Whether no line forbids anything.
+fn is_empty(lines: &[ForbiddenLine]) -> bool
+    ensures { result ≡ is_empty lines.now }
+{
+    lines.is_empty()
+}
+
+/// What is told of files and their claim by these facts, besides an answer with which these tasks
+/// are told as trusted.
+fn notices_with(
+    alloc: Global,
+    files: &Files<'_>,
+    claim: &Claim,
+    facts: &Facts,
+    trusted: Vec<String>,
+) -> Result<Notices, AllocError>
+    ensures { IfOk result (λ notices. notices
+        ≡ record (notices_of files.now claim.now (has facts.now)) {
+          trusted = map string_bytes trusted.items;
+        }) }
+{
+    let left_out = left_out(alloc, files.texts.defs.as_slice())?;
+    let notification = notification(alloc, claim.wired().interfaces())?;
+    let plain = plain_lines(alloc, claim.wired(), files.texts.policy())?;
+    let leaky = leaky_lines(alloc, facts, claim.lines())?;
+    Ok(Notices {
+        left_out,
+        notification,
+        is_empty_policy: is_empty(claim.lines()),
+        plain,
+        leaky,
+        trusted,
+        wired: None,
+    })
+}
+
+/// What is told besides a no of files and their claim, by the least set of its wiring.
+pub(crate) fn notices(
+    alloc: Global,
+    files: &Files<'_>,
+    claim: &Claim,
+    facts: &Facts,
+) -> Result<Notices, AllocError>
+    requires { IsLeast (wiring_of claim.now.table) (has facts.now) }
+    ensures { IfOk result (AreNotices files.now claim.now) }
+{
+    notices_with(alloc, files, claim, facts, Vec::new(alloc))
+}
+
+/// The same with this wiring.
+fn with_wired(notices: Notices, wired: Wired) -> Notices
+    ensures { result ≡ record notices { wired = Some wired } }
+{
+    let Notices {
+        left_out,
+        notification,
+        is_empty_policy,
+        plain,
+        leaky,
+        trusted,
+        wired: none,
+    } = notices;
+    drop(none);
+    Notices {
+        left_out,
+        notification,
+        is_empty_policy,
+        plain,
+        leaky,
+        trusted,
+        wired: Some(wired),
+    }
+}
+
+/// What is told besides a yes, without the wiring.
+fn trusted_notices(
+    alloc: Global,
+    files: &Files<'_>,
+    claim: &Claim,
+    facts: &Facts,
+) -> Result<Notices, AllocError>
+    ensures { IfOk result (λ notices. notices
+        ≡ record (notices_of files.now claim.now (has facts.now)) {
+          trusted = trusted_names claim.now.table;
+        }) }
+{
+    let trusted = trusted_names(alloc, claim.wired())?;
+    notices_with(alloc, files, claim, facts, trusted)
+}
+
+/// What is told besides a yes of files and their claim, by the least set of its wiring.
+pub(crate) fn yes_notices(
+    alloc: Global,
+    files: &Files<'_>,
+    claim: Claim,
+    facts: &Facts,
+) -> Result<Notices, AllocError>
+    requires { IsLeast (wiring_of claim.table) (has facts.now) }
+    ensures { IfOk result (AreYesNotices files.now claim) }
+{
+    match trusted_notices(alloc, files, &claim, facts) {
+        Ok(notices) => Ok(with_wired(notices, claim.into_wired())),
+        Err(error) => {
+            drop(claim);
+            Err(error)
+        }
+    }
+}
+
+/// What is told besides the answer to a certificate, with which these tasks are told as trusted.
+fn check_notices(
+    alloc: Global,
+    files: &Files<'_>,
+    trusted: Vec<String>,
+) -> Result<Notices, AllocError>
+    ensures { IfOk result (λ notices. notices ≡ record (left_out_alone files.now) {
+      trusted = map string_bytes trusted.items;
+    }) }
+{
+    let left_out = left_out(alloc, files.texts.defs.as_slice())?;
+    Ok(Notices {
+        left_out,
+        notification: None,
+        is_empty_policy: false,
+        plain: Vec::new(alloc),
+        leaky: Vec::new(alloc),
+        trusted,
+        wired: None,
+    })
+}
+
+/// What is told besides the reason why a certificate is refused.
+pub(crate) fn refused_notices(alloc: Global, files: &Files<'_>) -> Result<Notices, AllocError>
+    ensures { IfOk result (λ notices. notices ≡ left_out_alone files.now) }
+{
+    check_notices(alloc, files, Vec::new(alloc))
+}
+
+/// What is told besides a certificate that is accepted for this wiring.
+pub(crate) fn accepted_notices(
+    alloc: Global,
+    files: &Files<'_>,
+    wired: &Wired,
+) -> Result<Notices, AllocError>
+    ensures { IfOk result (λ notices. notices ≡ left_out_and_trusted files.now wired.now) }
+{
+    let trusted = trusted_names(alloc, wired)?;
+    check_notices(alloc, files, trusted)
+}

@@ -1,2 +1,0 @@
-pub mod LeakLaws
-mod Worked

@@ -1,9 +1,0 @@
-use Rattle.std.proofs.Common.{◌≡◌, take}
-use Rattle.mrc_facts.specs.Sets.{has}
-use Rattle.mrc_notices.specs.Others.{all_leaky}
-use Rattle.mrc_notices.proofs.leaks.all_leaky.Given as goal
-
--- those of the lines so far
-abbrev pub invariant-loop-line : goal.invariant-loop-line
-invariant-loop-line l =
-    l.leaky.items ≡ all_leaky (has l.facts) (has l.forbidden) (take l.line-index l.lines)

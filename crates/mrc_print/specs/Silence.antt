@@ -1,0 +1,16 @@
+-- Believe. That there is nothing to tell besides an answer. This profile's own choice.
+use Rattle.std.specs.Prelude.{◌≡◌, false, List, [], ℕ, All, None}
+use Rattle.mrc_answer.specs.Notices.{Notices}
+
+-- no routine is dropped from a MIG file
+abbrev pub HasNoNames : List (List ℕ) → Type 0
+HasNoNames names = names ≡ []
+
+-- none of these notices is there
+pub record AreNone (notices : Notices) : Type 0 where
+  pub left_out : All HasNoNames notices.left_out
+  pub notification : notices.notification ≡ None
+  pub policy : notices.is_empty_policy ≡ false
+  pub plain : notices.plain ≡ []
+  pub leaky : notices.leaky ≡ []
+  pub trusted : notices.trusted ≡ []

@@ -1,0 +1,155 @@
+//! What is printed of an answer for people.
+
+ghost use Rattle.std.specs.Prelude.{◌≡◌, IfOk, string_bytes};
+ghost use Rattle.mrc_answer.specs.Verified.{IsAsked};
+ghost use Rattle.mrc_answer.specs.Verified as verified;
+ghost use Rattle.mrc_print.specs.Heads.{HasNo, IsHeadOf, IsShown};
+
+use crate::asked::Asked;
+use crate::lines::Quoted;
+use crate::promises::promises_text;
+use crate::reading::{policy_text, wiring_text};
+use crate::reasons::reason_line;
+use crate::slots::slots_text;
+use crate::text::{Manner, no_text};
+use mrc_answer::{Answer, BrokenPolicy, Explained, WasRead};
+use mrc_attack::{Form, attacks_text};
+use mrc_command::Showing;
+use mrc_draw::{facts_text, graph_text};
+use mrc_mend::mends_text;
+use mrc_why::{Layout, Sources, chain_text, plain_lines};
+use std::alloc::{AllocError, Global};
+
+/// The layout of chains: none, if the answer is to be brief, and from their conclusions down if a
+/// tree is asked for.
+fn chains_of(showing: Showing) -> Option<Layout> {
+    match (showing.brief, showing.tree) {
+        (true, _) => None,
+        (false, true) => Some(Layout::Tree),
+        (false, false) => Some(Layout::Flat),
+    }
+}
+
+/// The lines of a text, if they are quoted.
+fn quoted_if(alloc: Global, asked: bool, text: &[u8]) -> Result<Quoted<'_>, AllocError> {
+    if asked {
+        Quoted::of(alloc, text)
+    } else {
+        Ok(Quoted::nothing())
+    }
+}
+
+/// How a `NO` is printed of what was read. A first line names what most chains have in common if
+/// the answer is brief or lines are quoted, unless one line is asked for.
+fn manner_of<'a>(
+    alloc: Global,
+    read: &'a WasRead<'_>,
+    showing: Showing,
+) -> Result<Manner<'a>, AllocError> {
+    let wiring = quoted_if(alloc, showing.quotes, wiring_text(read))?;
+    let policy = quoted_if(alloc, showing.quotes, policy_text(read))?;
+    Ok(Manner {
+        common: showing.line.is_none() && (showing.brief || showing.quotes),
+        chains: chains_of(showing),
+        wiring,
+        policy,
+    })
+}
+
+/// The text of a policy that is broken.
+fn broken_text(
+    alloc: Global,
+    showing: Showing,
+    read: &WasRead<'_>,
+    broken: &BrokenPolicy,
+) -> Result<String, AllocError>
+    requires { IsAsked broken.now.only broken.now.verdict.exposed broken.now.verdict.broken.items }
+    ensures { IfOk result (λ text. HasNo (string_bytes text)) }
+{
+    let stated = &broken.stated;
+    let sources = Sources::new(alloc, stated.claim.wired(), stated.lines.as_slice())?;
+    let manner = manner_of(alloc, read, showing)?;
+    let text = no_text(alloc, &sources, &manner, broken.only, &broken.verdict)?;
+    Ok(text)
+}
+
+/// A script is printed by itself if one line is asked for.
+fn form_of(only: Option<u32>) -> Form
+    ensures { result ≡ verified.form_of only }
+{
+    match only {
+        None => Form::Listed,
+        Some(_) => Form::Script,
+    }
+}
+
+/// A chain, with what its steps come from if that is asked for (`by`).
+fn explained_text(alloc: Global, by: bool, explained: &Explained) -> Result<String, AllocError> {
+    let wired = &explained.system.wired;
+    let steps = explained.chain.steps();
+    if !by {
+        return plain_lines(alloc, wired, steps);
+    }
+    let sources = Sources::new(alloc, wired, explained.system.lines.as_slice())?;
+    chain_text(alloc, &sources, steps, Layout::Flat)
+}
+
+/// What is printed for people of facts, of drawings, and of what is asked of a system alone:
+/// nothing of other answers.
+fn listing_text(
+    alloc: Global,
+    asked: Asked<'_>,
+    answer: &Answer<'_>,
+) -> Result<String, AllocError> {
+    match answer {
+        Answer::Chain(explained) => explained_text(alloc, asked.is_by(), explained),
+        Answer::Facts(listed) => facts_text(alloc, &listed.wired, &listed.facts, &listed.filter),
+        Answer::Drawing(drawing) => {
+            let claim = &drawing.stated.claim;
+            graph_text(alloc, claim.wired(), &drawing.facts, claim.lines())
+        }
+        Answer::Slots(system) => slots_text(alloc, &system.wired, system.lines.as_slice()),
+        Answer::Promises(system) => promises_text(alloc, system.lines.as_slice()),
+        _ => Ok(String::new(alloc)),
+    }
+}
+
+/// What is printed of an answer for people, by what was read.
+pub(crate) fn answer_text(
+    alloc: Global,
+    asked: Asked<'_>,
+    read: &WasRead<'_>,
+    answer: &Answer<'_>,
+) -> Result<String, AllocError>
+    requires { IsShown answer.now }
+    ensures { IfOk result (λ text. IsHeadOf read.now answer.now (string_bytes text)) }
+{
+    match answer {
+        Answer::Yes => String::from_str(alloc, "YES\n"),
+        Answer::Broken(broken) => broken_text(alloc, asked.showing(), read, broken),
+        Answer::Refused(refused) => reason_line(alloc, refused.claim.wired(), refused.why),
+        Answer::Attacks(attacked) => {
+            let wired = attacked.stated.claim.wired();
+            attacks_text(
+                alloc,
+                wired,
+                form_of(attacked.only),
+                attacked.found.as_slice(),
+            )
+        }
+        Answer::Mends(answer) => mends_text(alloc, wiring_text(read), answer),
+        Answer::Made(count) => format!(in alloc; "facts {count}\n"),
+        Answer::NoChain(_) | Answer::NoDrawing(_) => String::from_str(alloc, "none\n"),
+        Answer::OtherCounts => String::from_str(alloc, "NO counts\n"),
+        Answer::Replay(_)
+        | Answer::Journal(_)
+        | Answer::Waits(_)
+        | Answer::Cut(_)
+        | Answer::Fault(_) => Ok(String::new(alloc)),
+        Answer::Chain(_)
+        | Answer::Facts(_)
+        | Answer::Drawing(_)
+        | Answer::Slots(_)
+        | Answer::Promises(_) => listing_text(alloc, asked, answer),
+    }
+}

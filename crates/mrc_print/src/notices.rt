@@ -1,0 +1,338 @@
+//! What is told besides an answer, as lines.
+
+ghost use Rattle.std.specs.Prelude.{◌≡◌, ◌++◌, false, [], All, IfOk, None, map, string_bytes};
+ghost use Rattle.mrc_print.specs.Silence.{HasNoNames, AreNone};
+
+use crate::reading::{defs_name, policy_name, wiring_name};
+use mrc_answer::{Answer, Answered, LeakyLine, Notices, Notification, PlainLine, Reply, WasRead};
+use mrc_base::{ClassId, PortRight, TaskId};
+use mrc_command::shown;
+use mrc_wiring::{Wired, kind_word};
+use mrc_words::{class_word, right_word, task_word};
+use std::alloc::{AllocError, Global};
+
+/// So many lines are printed at most of a kind.
+const MOST_LINES: usize = 10;
+
+/// The line of a notice.
+pub(crate) fn line_of(alloc: Global, place: &str, text: &str) -> Result<String, AllocError>
+    ensures { IfOk result (λ line. string_bytes line ≡ [] → ⊥) }
+{
+    let place = shown(alloc, place)?;
+    format!(in alloc; "machcheck: {place}: {text}\n")
+}
+
+/// Three texts, one behind the other.
+pub(crate) fn joined(alloc: Global, one: &str, two: &str, three: &str) -> Result<String, AllocError>
+    ensures { IfOk result (λ text. string_bytes text ≡ one.now ++ (two.now ++ three.now)) }
+{
+    format!(in alloc; "{one}{two}{three}")
+}
+
+/// How many routines that carry rights are not in the model, and their names.
+pub(crate) fn carriers_text(alloc: Global, names: &[String]) -> Result<String, AllocError> {
+    let count = names.len();
+    let words = if count == 1 {
+        " routine that carries rights is not in the model: "
+    } else {
+        " routines that carry rights are not in the model: "
+    };
+    let list = names.join(alloc, ", ")?;
+    format!(in alloc; "{count}{words}{list}")
+}
+
+/// The line of a file from which these routines are dropped: none, if there are none.
+fn dropped_line(alloc: Global, file: &str, names: &[String]) -> Result<String, AllocError>
+    ensures { IfOk result (λ line. string_bytes line ≡ [] → map string_bytes names.now ≡ []) }
+{
+    if names.is_empty() {
+        return Ok(String::new(alloc));
+    }
+    let text = carriers_text(alloc, names)?;
+    line_of(alloc, file, text.as_str())
+}
+
+/// A line for each file from which routines are dropped that carry rights.
+fn dropped_lines(
+    alloc: Global,
+    read: &WasRead<'_>,
+    left_out: &[Vec<String>],
+) -> Result<String, AllocError>
+    ensures { IfOk result (λ text. string_bytes text ≡ []
+        → All HasNoNames (map (λ names. map string_bytes names.items) left_out.now)) }
+{
+    let mut text = String::new(alloc);
+    for (number, names) in left_out.iter().enumerate() {
+        let line = dropped_line(alloc, defs_name(read, number), names.as_slice())?;
+        text.push_str(line.as_str())?;
+    }
+    Ok(text)
+}
+
+/// The line of a routine of notifications, if there is one.
+fn notification_line(
+    alloc: Global,
+    read: &WasRead<'_>,
+    notification: &Option<Notification>,
+) -> Result<String, AllocError>
+    ensures { IfOk result (λ line. string_bytes line ≡ [] → notification.now ≡ None) }
+{
+    let Some(Notification { file, routine }) = notification else {
+        return Ok(String::new(alloc));
+    };
+    let text = format!(in alloc;
+        "{routine}: notifications of no senders and of dead names are not in the model"
+    )?;
+    line_of(alloc, defs_name(read, *file), text.as_str())
+}
+
+/// The line of a policy that forbids nothing, if it is one.
+fn empty_line(alloc: Global, policy: &str, is_empty: bool) -> Result<String, AllocError>
+    ensures { IfOk result (λ line. string_bytes line ≡ [] → is_empty ≡ false) }
+{
+    if is_empty {
+        line_of(alloc, policy, "forbids nothing")
+    } else {
+        Ok(String::new(alloc))
+    }
+}
+
+/// A line about a line of the policy.
+fn line_at(alloc: Global, policy: &str, number: usize, text: &str) -> Result<String, AllocError>
+    ensures { IfOk result (λ line. string_bytes line ≡ [] → ⊥) }
+{
+    let place = format!(in alloc; "{policy}:{number}")?;
+    line_of(alloc, place.as_str(), text)
+}
+
+/// Of so many lines, the line that prints how many are not printed, if some are not.
+fn more_line(
+    alloc: Global,
+    policy: &str,
+    one: &str,
+    many: &str,
+    count: usize,
+) -> Result<String, AllocError> {
+    if count <= MOST_LINES {
+        return Ok(String::new(alloc));
+    }
+    if count == MOST_LINES + 1 {
+        return line_of(alloc, policy, one);
+    }
+    let more = count - MOST_LINES;
+    let text = format!(in alloc; "{more}{many}")?;
+    line_of(alloc, policy, text.as_str())
+}
+
+/// The name of a task; its number, if there is no wiring.
+fn task_text(alloc: Global, wired: Option<&Wired>, task: TaskId) -> Result<String, AllocError> {
+    match wired {
+        Some(wired) => task_word(alloc, wired, task),
+        None => format!(in alloc; "task {}", task.0),
+    }
+}
+
+/// The words of a class; its number, if there is no wiring.
+fn class_text(alloc: Global, wired: Option<&Wired>, class: ClassId) -> Result<String, AllocError> {
+    match wired {
+        Some(wired) => class_word(alloc, wired, class),
+        None => format!(in alloc; "class {}", class.0),
+    }
+}
+
+/// The words of kinds, with a comma and a blank between each two.
+fn kinds_text(alloc: Global, kinds: &[u8]) -> Result<String, AllocError> {
+    let mut text = String::new(alloc);
+    for kind in kinds {
+        if !text.is_empty() {
+            text.push_str(", ")?;
+        }
+        text.push_str(kind_word(*kind))?;
+    }
+    Ok(text)
+}
+
+/// The words of rights, with an `and` between each two.
+fn rights_text(alloc: Global, rights: &[PortRight]) -> Result<String, AllocError> {
+    let mut text = String::new(alloc);
+    for right in rights {
+        if !text.is_empty() {
+            text.push_str(" and ")?;
+        }
+        text.push_str(right_word(*right))?;
+    }
+    Ok(text)
+}
+
+/// The line of a line that names births without a kind.
+fn plain_line(
+    alloc: Global,
+    wired: Option<&Wired>,
+    policy: &str,
+    plain: &PlainLine,
+) -> Result<String, AllocError>
+    ensures { IfOk result (λ line. string_bytes line ≡ [] → ⊥) }
+{
+    let task = task_text(alloc, wired, plain.task())?;
+    let kinds = kinds_text(alloc, plain.kinds())?;
+    let text = format!(in alloc; "births {task} is kind 0 alone; {task} has kinds {kinds}")?;
+    line_at(alloc, policy, plain.number(), text.as_str())
+}
+
+/// The lines of further lines that name births without a kind, as many as are printed.
+fn further_plain(
+    alloc: Global,
+    wired: Option<&Wired>,
+    policy: &str,
+    further: &[PlainLine],
+) -> Result<String, AllocError> {
+    let mut text = String::new(alloc);
+    for one in further.iter().take(MOST_LINES - 1) {
+        let line = plain_line(alloc, wired, policy, one)?;
+        text.push_str(line.as_str())?;
+    }
+    Ok(text)
+}
+
+/// The first lines that name births without a kind, and how many more there are.
+#[tactic(auto, using(crate::proofs::EmptyLaws::first_empty, crate::proofs::EmptyLaws::rest_empty))]
+fn plain_lines(
+    alloc: Global,
+    wired: Option<&Wired>,
+    policy: &str,
+    plain: &[PlainLine],
+) -> Result<String, AllocError>
+    ensures { IfOk result (λ text. string_bytes text ≡ [] → plain.now ≡ []) }
+{
+    let Some((first, further)) = plain.split_first() else {
+        return Ok(String::new(alloc));
+    };
+    let first = plain_line(alloc, wired, policy, first)?;
+    let further = further_plain(alloc, wired, policy, further)?;
+    let more = more_line(
+        alloc,
+        policy,
+        "1 more line names births that are kind 0 alone",
+        " more lines name births that are kind 0 alone",
+        plain.len(),
+    )?;
+    joined(alloc, first.as_str(), further.as_str(), more.as_str())
+}
+
+/// The line of a line that holds while another right may be held.
+fn leaky_line(
+    alloc: Global,
+    wired: Option<&Wired>,
+    policy: &str,
+    leaky: &LeakyLine,
+) -> Result<String, AllocError>
+    ensures { IfOk result (λ line. string_bytes line ≡ [] → ⊥) }
+{
+    let line = leaky.line();
+    let task = task_text(alloc, wired, TaskId(u32::from(line.task)))?;
+    let class = class_text(alloc, wired, line.class)?;
+    let rights = rights_text(alloc, leaky.rights())?;
+    let text = format!(in alloc; "holds, but {task} may hold {class} {rights}")?;
+    line_at(alloc, policy, line.line as usize, text.as_str())
+}
+
+/// The lines of further lines that hold while another right may be held, as many as are printed.
+fn further_leaky(
+    alloc: Global,
+    wired: Option<&Wired>,
+    policy: &str,
+    further: &[LeakyLine],
+) -> Result<String, AllocError> {
+    let mut text = String::new(alloc);
+    for one in further.iter().take(MOST_LINES - 1) {
+        let line = leaky_line(alloc, wired, policy, one)?;
+        text.push_str(line.as_str())?;
+    }
+    Ok(text)
+}
+
+/// The first lines that hold while another right may be held, and how many more there are.
+#[tactic(auto, using(crate::proofs::EmptyLaws::first_empty, crate::proofs::EmptyLaws::rest_empty))]
+fn leaky_lines(
+    alloc: Global,
+    wired: Option<&Wired>,
+    policy: &str,
+    leaky: &[LeakyLine],
+) -> Result<String, AllocError>
+    ensures { IfOk result (λ text. string_bytes text ≡ [] → leaky.now ≡ []) }
+{
+    let Some((first, further)) = leaky.split_first() else {
+        return Ok(String::new(alloc));
+    };
+    let first = leaky_line(alloc, wired, policy, first)?;
+    let further = further_leaky(alloc, wired, policy, further)?;
+    let more = more_line(
+        alloc,
+        policy,
+        "1 more line holds, but another right on its class may be held",
+        " more lines hold, but another right on their class may be held",
+        leaky.len(),
+    )?;
+    joined(alloc, first.as_str(), further.as_str(), more.as_str())
+}
+
+/// The line of the tasks that the wiring trusts, if there are some.
+fn trusted_line(alloc: Global, file: &str, names: &[String]) -> Result<String, AllocError>
+    ensures { IfOk result (λ line. string_bytes line ≡ [] → map string_bytes names.now ≡ []) }
+{
+    if names.is_empty() {
+        return Ok(String::new(alloc));
+    }
+    let list = names.join(alloc, ", ")?;
+    let text = format!(in alloc; "trusted: {list}")?;
+    line_of(alloc, file, text.as_str())
+}
+
+/// The lines that name tasks and classes of the wiring.
+#[tactic(auto, using(crate::proofs::EmptyLaws::first_empty, crate::proofs::EmptyLaws::rest_empty))]
+fn named_lines(
+    alloc: Global,
+    wired: Option<&Wired>,
+    policy: &str,
+    notices: &Notices,
+) -> Result<String, AllocError>
+    ensures plain { IfOk result (λ text. string_bytes text ≡ [] → notices.now.plain ≡ []) }
+    ensures leaky { IfOk result (λ text. string_bytes text ≡ [] → notices.now.leaky ≡ []) }
+{
+    let plain = plain_lines(alloc, wired, policy, notices.plain.as_slice())?;
+    let leaky = leaky_lines(alloc, wired, policy, notices.leaky.as_slice())?;
+    joined(alloc, plain.as_str(), leaky.as_str(), "")
+}
+
+/// The wiring of an answer: that of its system, or that of its notices.
+fn wired_of<'a>(reply: &'a Reply<'_>) -> Option<&'a Wired> {
+    match &reply.answer {
+        Answer::Broken(broken) => Some(broken.stated.claim.wired()),
+        Answer::Attacks(attacked) => Some(attacked.stated.claim.wired()),
+        _ => reply.notices.wired.as_ref(),
+    }
+}
+
+/// What is told besides an answer: a line for each notice, but ten lines of a kind at most, and how
+/// many more there are.
+#[tactic(auto, using(crate::proofs::EmptyLaws::first_empty, crate::proofs::EmptyLaws::rest_empty))]
+pub(crate) fn notices_text(alloc: Global, answered: &Answered<'_>) -> Result<String, AllocError>
+    ensures told { IfOk result (λ text.
+        string_bytes text ≡ [] → AreNone answered.now.reply.notices) }
+{
+    let read = &answered.read;
+    let notices = &answered.reply.notices;
+    let dropped = dropped_lines(alloc, read, notices.left_out.as_slice())?;
+    let notification = notification_line(alloc, read, &notices.notification)?;
+    let empty = empty_line(alloc, policy_name(read), notices.is_empty_policy)?;
+    let wired = wired_of(&answered.reply);
+    let named = named_lines(alloc, wired, policy_name(read), notices)?;
+    let trusted = trusted_line(alloc, wiring_name(read), notices.trusted.as_slice())?;
+    let named = joined(alloc, empty.as_str(), named.as_str(), trusted.as_str())?;
+    joined(
+        alloc,
+        dropped.as_str(),
+        notification.as_str(),
+        named.as_str(),
+    )
+}

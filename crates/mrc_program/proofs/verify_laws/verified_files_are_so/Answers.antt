@@ -1,5 +1,0 @@
-use Rattle.mrc_program.proofs.VerifiedSafe.{allowed_safe, broken_no}
-use Rattle.mrc_program.proofs.verify_laws.verified_files_are_so.Goals as goal
-
-pub returns : goal.returns
-returns c = record { safe = allowed_safe; no = broken_no }
