@@ -1,7 +1,8 @@
 //! The program from its words to its status.
 
 ghost use Rattle.std.specs.Prelude.{◌≡◌, ◌≢◌, ◌≤◌, ◌⊎◌, ℕ, false, List, [], IfErr, IfOk, IsOkAnd};
-ghost use Rattle.std.specs.Prelude.{OnErr, OnOk, map, string_bytes};
+ghost use Rattle.std.specs.Prelude.{◌++◌, IfSome, IsTrue, OnErr, OnOk, codes, decimal, map};
+ghost use Rattle.std.specs.Prelude.{string_bytes};
 ghost use Rattle.std.specs.Io.KnownBytes.{Appends};
 ghost use Rattle.mrc_answer.specs.Answers.{IsAnswered, MayChange};
 ghost use Rattle.mrc_answer.specs.Statuses.{status_of};
@@ -15,7 +16,7 @@ ghost use Rattle.mrc_program.specs.Writing.{has_fault};
 
 use crate::behind::{Helping, help_behind};
 use crate::progress::{Counter, Nobody};
-use mrc_answer::{Answer, Answered, CutEnd, answer, status_of};
+use mrc_answer::{Answer, Answered, CutEnd, Notices, answer, status_of};
 use mrc_command::{
     Command, Format, NoCommand, Question, Request, Showing, Told, WordsFault, asked_format, read,
     words_line,
@@ -155,19 +156,80 @@ fn output_if_made(
     }
 }
 
-/// The texts that are printed of an answer.
+/// Whether nothing is told besides an answer.
+fn are_none(notices: &Notices) -> bool
+    ensures { IsTrue result → AreNone notices.now }
+{
+    notices.left_out.is_empty()
+        && notices.notification.is_none()
+        && !notices.is_empty_policy
+        && notices.plain.is_empty()
+        && notices.leaky.is_empty()
+        && notices.trusted.is_empty()
+}
+
+/// An empty text with room for the line of a certificate. It is made before the certificate is
+/// written, so that what was written is printed.
+fn room_for_line(alloc: Global) -> Result<String, AllocError>
+    ensures { IfOk result (λ room. string_bytes room ≡ []) }
+{
+    String::with_capacity(alloc, 32)
+}
+
+/// That a certificate of so many facts was made, in a text that has room for it.
+fn made_line(room: String, count: usize) -> Result<String, AllocError>
+    requires { string_bytes room ≡ [] }
+    ensures { IfOk result (λ line.
+        string_bytes line ≡ codes "facts " ++ (decimal count ++ codes "\n")) }
+{
+    let mut digits = itoa::Buffer::new();
+    let mut line = room;
+    line.push_str("facts ")?;
+    line.push_str(digits.format(count))?;
+    line.push_str("\n")?;
+    Ok(line)
+}
+
+/// What is printed of a certificate that was made and written, if it is that: no memory is needed.
+fn made_texts(alloc: Global, room: String, answered: &Answered<'_>) -> Option<AnswerTexts>
+    requires { string_bytes room ≡ [] }
+    ensures out { IfSome result (λ printed. HasHead answered.now (string_bytes printed.out)) }
+    ensures err { IfSome result (λ _. AreNone answered.now.reply.notices) }
+{
+    let Answer::Made(count) = &answered.reply.answer else {
+        return None;
+    };
+    if !are_none(&answered.reply.notices) {
+        return None;
+    }
+    match made_line(room, *count) {
+        Ok(line) => Some(AnswerTexts {
+            out: line,
+            err: String::new(alloc),
+            behind: String::new(alloc),
+        }),
+        Err(AllocError) => None,
+    }
+}
+
+/// The texts that are printed of an answer. `room` has room for the line of a certificate.
 fn texts_of(
     alloc: Global,
     asked: Asked<'_>,
     helping: Helping<'_>,
     answered: &Answered<'_>,
+    room: String,
 ) -> Result<AnswerTexts, AllocError>
-    requires { IsShown answered.now.reply.answer }
+    requires room { string_bytes room ≡ [] }
+    requires shown { IsShown answered.now.reply.answer }
     ensures out { InText (format_of asked.entry)
         (IfOk result (λ printed. HasHead answered.now (string_bytes printed.out))) }
     ensures err { IfOk result (λ printed.
         string_bytes printed.err ≡ [] → AreNone answered.now.reply.notices) }
 {
+    if let Some(printed) = made_texts(alloc, room, answered) {
+        return Ok(printed);
+    }
     let err = errors(alloc, asked, answered)?;
     let help = help_behind(alloc, asked, helping, answered);
     let out = output_if_made(alloc, asked, answered, err.as_str(), &help.hint)?;
@@ -279,10 +341,12 @@ fn write_answer<O: Write, E: Write>(
     asked: Asked<'_>,
     helping: Helping<'_>,
     answered: &Answered<'_>,
+    room: String,
     out: &mut O,
     err: &mut E,
 ) -> u8
-    requires { IsShown answered.now.reply.answer }
+    requires room { string_bytes room ≡ [] }
+    requires shown { IsShown answered.now.reply.answer }
     ensures status { (result ≡ status_of answered.now.reply.answer) ⊎ (result ≡ 2) }
     // Another status than 2 says that all went out.
     ensures whole { result ≢ 2 → IsTold (format_of asked.entry) answered.now
@@ -292,7 +356,7 @@ fn write_answer<O: Write, E: Write>(
         ⊎ IsToldInPart (format_of asked.entry) answered.now
         (O.contents out.old) (O.contents out.new) }
 {
-    match texts_of(alloc, asked, helping, answered) {
+    match texts_of(alloc, asked, helping, answered, room) {
         Ok(texts) => write_printed(alloc, asked, answered, &texts, out, err),
         Err(AllocError) => {
             write_unwritten(err, &answered.reply.answer);
@@ -307,10 +371,12 @@ fn run_request<F: Folder, R: Threads + Wait + Sync, O: Write, E: Write>(
     folder: &mut F,
     alloc: Global,
     request: Request<'_>,
+    room: String,
     out: &mut O,
     err: &mut E,
     watched: Watched,
 ) -> u8
+    requires { string_bytes room ≡ [] }
     ensures status { result ≤ 2 }
     ensures whole { result ≢ 2 → (words : List (List ℕ)) → Means words request.entry
         → WentOut watched words (F.held folder.old) (F.held folder.new) result
@@ -335,7 +401,7 @@ fn run_request<F: Folder, R: Threads + Wait + Sync, O: Write, E: Write>(
     };
     match answer_shown(rt, folder, alloc, command, watched.err, err) {
         Ok(answered) => {
-            let status = write_answer(alloc, asked, helping, &answered, out, err);
+            let status = write_answer(alloc, asked, helping, &answered, room, out, err);
             drop(answered);
             status
         }
@@ -405,7 +471,13 @@ pub fn run<F: Folder, R: Threads + Wait + Sync, O: Write, E: Write>(
         (F.held folder.new) }
 {
     match read(alloc, words) {
-        Ok(request) => run_request(rt, folder, alloc, request, out, err, watched),
+        Ok(request) => match room_for_line(alloc) {
+            Ok(room) => run_request(rt, folder, alloc, request, room, out, err, watched),
+            Err(AllocError) => {
+                drop(request);
+                write_memory(err)
+            }
+        },
         Err(NoCommand::Told(told)) => write_told(alloc, &told, out, err),
         Err(NoCommand::Memory) => write_memory(err),
     }

@@ -75,5 +75,5 @@ returns-in-Ok-clause-kept g c = elim c.in-Ok.ensures.kept [
   | inr same ↦ inl same
 ]
 
-pub returns-clause-front : goal.returns-clause-front
-returns-clause-front g c = inl (Appends-nil (g.O.Write.contents c.args.out.now))
+pub returns-in-Err-clause-front : goal.returns-in-Err-clause-front
+returns-in-Err-clause-front g c = inl (Appends-nil (g.O.Write.contents c.args.out.now))
