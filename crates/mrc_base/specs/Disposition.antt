@@ -1,5 +1,6 @@
--- The dispositions: their numbers, what each needs of the name that a right is taken from, and what
--- it gives. From Mach 3 Kernel Interfaces, "Port rights" and mach_msg_type_name_t.
+-- Believe. What a disposition needs and gives, and its number. The dispositions: their numbers,
+-- what each needs of the name that a right is taken from, and what it gives. From Mach 3 Kernel
+-- Interfaces, "Port rights" and mach_msg_type_name_t.
 use Rattle.std.specs.Prelude.{◌≡◌, ◌↔◌, ℕ, Bool, ◌&&◌, ◌==◌, nat_le}
 use Rattle.std.specs.Prelude.{Option, Some, None, is_some, if◌then◌else◌}
 use Rattle.mrc_base.specs.declared.PortRight.{PortRight}

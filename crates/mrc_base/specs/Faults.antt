@@ -1,4 +1,4 @@
--- A fault that is made into another. This profile's own choice.
+-- Believe. A fault made into another; out of memory stays that. This profile's own choice.
 use Rattle.std.specs.Prelude.{◌≡◌, ⊤}
 use Rattle.mrc_base.specs.declared.memory.OrMemory.{OrMemory}
 use Rattle.mrc_base.specs.declared.memory.OrMemory.TheVariants.{Fault, Memory}

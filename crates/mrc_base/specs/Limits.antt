@@ -1,4 +1,4 @@
--- How many there may be of what is counted, each by one name. This profile's own choice.
+-- Believe. Each limit, by one name. This profile's own choice.
 use Rattle.std.specs.Prelude.{ℕ, ◌^◌}
 
 -- tasks of a wiring

@@ -1,5 +1,5 @@
--- What a name stands for where it stands for a right on a port.
--- From Mach 3 Kernel Interfaces, mach_port_right_t.
+-- Believe. Which of a name's five rights a right on a port is. From Mach 3 Kernel Interfaces,
+-- mach_port_right_t.
 use Rattle.mrc_base.specs.declared.Right.{Right}
 use Rattle.mrc_base.specs.declared.Right.TheVariants as name
 use Rattle.mrc_base.specs.declared.PortRight.{PortRight}

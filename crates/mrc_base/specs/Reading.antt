@@ -1,5 +1,6 @@
--- What a call that takes memory answers, beside what its definition gives: a value, or the first
--- fault. Of want of memory no definition speaks. This profile's own choice.
+-- Believe. Answers: a value, the first fault, or out of memory. What a call that takes memory
+-- answers, beside what its definition gives: a value, or the first fault. Of want of memory no
+-- definition speaks. This profile's own choice.
 use Rattle.std.specs.Prelude.{◌≡◌, Result, Ok, Err}
 use Rattle.mrc_base.specs.declared.memory.OrMemory.{OrMemory}
 use Rattle.mrc_base.specs.declared.memory.OrMemory.TheVariants.{Fault, Memory}

@@ -1,4 +1,4 @@
--- Drafts: what a certificate claims. The profile's own choice.
+-- Believe. What a certificate claims, and which claims are drafts. The profile's own choice.
 use Rattle.std.specs.Prelude.{ℕ, ◌^◌, ◌<◌, ◌≤◌, Bool, ◌&&◌, List, length, IsTrue, nat_lt}
 use Rattle.std.specs.List.{list_all}
 use Rattle.mrc_base.specs.declared.Fact.{Fact}

@@ -1,4 +1,5 @@
--- What holds of certificates and of what they claim.
+-- Law. One draft for bytes, one encoding for a set. What holds of certificates and of what they
+-- claim.
 use Rattle.std.specs.Prelude.{◌≡◌, ℕ, List, Ok, IsTrue}
 use Rattle.mrc_base.specs.declared.Fact.{Fact}
 use Rattle.mrc_facts.specs.Sets.{has}

@@ -1,5 +1,4 @@
--- Reading a certificate from left to right, with the first fault that is met. The profile's own
--- choice.
+-- Believe. The first fault; for the value a step. The profile's own choice.
 use Rattle.std.specs.Prelude.{ℕ, zero, suc, ◌+◌, Bool, true, List, [], ◌∷◌, length, take, drop}
 use Rattle.std.specs.Prelude.{Option, Some, None, Result, Ok, Err, nat_eq, nat_lt, ◌==◌, ◌||◌}
 use Rattle.std.specs.Prelude.{if◌then◌else◌}

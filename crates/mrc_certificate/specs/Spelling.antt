@@ -1,4 +1,4 @@
--- The bytes of a certificate. The profile's own choice.
+-- Believe. The bytes of a draft. The profile's own choice.
 use Rattle.std.specs.Prelude.{◌≡◌, ℕ, ◌==◌, List, [], ◌++◌, length, codes, if◌then◌else◌}
 use Rattle.std.specs.List.{flat_map}
 use Rattle.std.specs.Int.{w16, w32, to_be_bytes}

@@ -1,3 +1,4 @@
+-- Believe. What the bytes of all files mean, stage by stage, and which one's fault is reported.
 -- What MIG files, a wiring, a policy and a certificate mean together, stage by stage, from their
 -- bytes; of which the first has no meaning; and the first reason if the answer is no. This
 -- profile's own choice.

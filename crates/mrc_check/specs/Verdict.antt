@@ -1,5 +1,4 @@
--- When a certificate is accepted for a claim, and if not, the first reason why. This profile's own
--- choice.
+-- Believe. When a certificate is accepted, and each reason why not. This profile's own choice.
 use Rattle.std.specs.Prelude.{◌≡◌, ℕ, ◌<◌, ◌≤◌, Bool, List, length, Option, Some, find}
 use Rattle.std.specs.Option.{option_map}
 use Rattle.mrc_base.specs.declared.Fact.TheVariants.{Hold}

@@ -1,4 +1,4 @@
--- A derivation of a fact as a list: which lists derive which fact. This profile's own choice.
+-- Believe. Which lists of steps derive a fact. This profile's own choice.
 use Rattle.std.specs.Prelude.{◌≡◌, ℕ, List, [], ◌∷◌, ◌++◌, Some}
 use Rattle.std.specs.List.{slice_get}
 use Rattle.mrc_base.specs.declared.Fact.{Fact}

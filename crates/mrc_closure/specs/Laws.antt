@@ -1,4 +1,5 @@
--- What holds of least sets. This profile's own choice.
+-- Law. A forbidden hold of the least set is final; there is one least set. This profile's own
+-- choice.
 use Rattle.std.specs.Prelude.{◌≡◌, Bool, List}
 use Rattle.mrc_base.specs.declared.Fact.{Fact}
 use Rattle.mrc_base.specs.declared.Fact.TheVariants.{Hold}

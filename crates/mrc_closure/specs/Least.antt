@@ -1,4 +1,4 @@
--- The least closed set of a wiring as a list of its facts. This profile's own choice.
+-- Step. The least set as a list. This profile's own choice.
 use Rattle.std.specs.Prelude.{◌<◌, ◌^◌, List, length, IsTrue}
 use Rattle.mrc_base.specs.declared.Fact.{Fact}
 use Rattle.mrc_model.specs.Wiring.{Wiring}

@@ -1,5 +1,6 @@
--- Facts in an order in which each follows from those before it, and the links that a derivation
--- takes of them. This profile's own choice.
+-- Believe. Only what `rounds_of` cites: facts in the order of their rounds. Facts in an order in
+-- which each follows from those before it, and the links that a derivation takes of them. This
+-- profile's own choice.
 use Rattle.std.specs.Prelude.{◌≡◌, ◌↔◌, ℕ, Bool, false, ◌||◌, List, [], ◌∷◌, ◌++◌, IsTrue}
 use Rattle.std.specs.List.{AllByRecursion}
 use Rattle.mrc_base.specs.declared.Fact.{Fact}

@@ -1,4 +1,4 @@
--- What a worker has promised. This profile's own choice.
+-- Step. What a worker has promised. This profile's own choice.
 use Rattle.std.specs.Prelude.{◌≡◌, ℕ, List}
 use Rattle.mrc_base.specs.declared.Fact.{Fact}
 use Rattle.mrc_wiring.specs.Table.{Table}

@@ -1,4 +1,5 @@
--- The command line that `clap` reads, and the words that it comes in. This profile's own choice.
+-- Believe. The options of each command, and the line printed when there are no words. This
+-- profile's own choice.
 use Rattle.std.specs.Prelude.{◌≡◌, ◌⊎◌, ◌&&◌, ℕ, Bool, true, false, List, [], ◌∷◌, Some, codes, map}
 use Rattle.std.specs.Prelude.{bytes_eq, if◌then◌else◌, string_bytes}
 use Rattle.std.specs.List.{list_any}

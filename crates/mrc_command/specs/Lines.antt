@@ -1,5 +1,4 @@
--- The lines that the program writes of faults, and how names are shown in them. This profile's own
--- choice.
+-- Believe. The lines of faults. This profile's own choice.
 use Rattle.std.specs.Prelude.{◌≡◌, ℕ, ◌/◌, ◌%◌, ◌==◌, List, [], ◌∷◌, ◌++◌, codes, if◌then◌else◌}
 use Rattle.std.specs.Prelude.{false, chars, encode_utf8_all, flat_map, IsUtf8, All}
 use Rattle.std.specs.Char.{digit_char, is_control}

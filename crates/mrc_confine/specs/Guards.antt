@@ -1,4 +1,5 @@
--- What a guarded machine is, and what it keeps. This profile's own choice.
+-- Believe. Only `started` and `IsGuarded`: the machine of what was accepted. This profile's own
+-- choice.
 use Rattle.std.specs.Prelude.{ℕ, ◌<◌, IsSome}
 use Rattle.mrc_check.specs.Verdict.{Case}
 use Rattle.mrc_facts.specs.Sets.{has}

@@ -1,5 +1,7 @@
--- What a yes means for every run of the machine: that of the checker to a certificate, and that of
--- the least set of facts; and what a no means for certificates. This profile's own choice.
+-- Law. What an accepted draft, a yes and a least set that is a yes mean for every run; what a no
+-- means for certificates. What a yes means for every run of the machine: that of the checker to a
+-- certificate, and that of the least set of facts; and what a no means for certificates. This
+-- profile's own choice.
 use Rattle.std.specs.Prelude.{◌≡◌, ◌≢◌, ◌<◌, ℕ, Bool, false, List, IsTrue}
 use Rattle.mrc_base.specs.declared.Fact.{Fact}
 use Rattle.mrc_base.specs.declared.Fact.TheVariants.{Hold}

@@ -1,5 +1,4 @@
--- Which ports lose their receive rights in a destruction, whether they die or not.
--- From Mach 3 Kernel Interfaces, mach_port_destroy.
+-- Believe. Which ports lose their receive rights. From Mach 3 Kernel Interfaces, mach_port_destroy.
 use Rattle.std.specs.Prelude.{ℕ, Bool, ◌&&◌, ◌++◌}
 use Rattle.mrc_model.specs.Map.{keys}
 use Rattle.mrc_model.specs.World.{Store}

@@ -1,6 +1,6 @@
--- Plans of destructions, and what carrying one out does. From Mach 3 Kernel Interfaces,
--- mach_port_destroy and mach_port_request_notification. That a plan is made first is this
--- profile's own choice.
+-- Believe. Only `IsPlanOf`: a plan can be carried out, and leaves what the destruction leaves. From
+-- Mach 3 Kernel Interfaces, mach_port_destroy and mach_port_request_notification. That a plan is
+-- made first is this profile's own choice.
 use Rattle.std.specs.Prelude.{◌≡◌, ℕ, ◌+◌, ◌<◌, not, ◌&&◌, List, [], ◌∷◌, ◌++◌, length}
 use Rattle.std.specs.Prelude.{Option, Some, None, if◌then◌else◌}
 use Rattle.mrc_model.specs.declared.Backup.{Backup}

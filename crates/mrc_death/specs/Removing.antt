@@ -1,4 +1,4 @@
--- What a destruction removes from a task's space, as a plan has it. A step of the proof.
+-- Step. What leaves a task's space. A step of the proof.
 use Rattle.std.specs.Prelude.{ℕ, ⊤, Option, Some, None}
 use Rattle.mrc_model.specs.Map.{Map, empty, get, insert}
 use Rattle.mrc_model.specs.World.{Space, Store, space}

@@ -1,4 +1,4 @@
--- The rights of what code has. A step of a proof.
+-- Step. Lists of rights. A step of a proof.
 use Rattle.std.specs.Prelude.{List}
 use Rattle.mrc_model.specs.World.{Held, Port, queue_rights}
 

@@ -1,4 +1,4 @@
--- What the search for the ports that die keeps.
+-- Step. What the search for the ports that die keeps. What the search for the ports that die keeps.
 use Rattle.std.specs.Prelude.{◌≡◌, ◌⊎◌, ℕ, ◌+◌, ◌≤◌, true, false, not, List, [], ◌∷◌, ◌++◌, length}
 use Rattle.std.specs.Prelude.{take, Some}
 use Rattle.std.specs.List.{slice_get, filter}

@@ -1,4 +1,5 @@
--- What a call destroys, as code has it, in the definitions' words.
+-- Believe. What a call destroys, as code has it. What a call destroys, as code has it, in the
+-- definitions' words.
 use Rattle.std.specs.Prelude.{◌≡◌, Option, Some, None}
 use Rattle.mrc_model.specs.World.{Store}
 use Rattle.mrc_model.specs.Destroyed.{Destroyed as TDestroyed, ReceiveOf, EntryOf, TaskOf, TakenOut}

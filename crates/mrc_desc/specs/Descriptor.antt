@@ -1,6 +1,5 @@
--- What a descriptor may say, and how its first word is laid out.
--- From Mach 3 Kernel Interfaces, mach_msg_type_t. Which names and sizes are refused is this
--- profile's own choice.
+-- Believe. What a descriptor may say. From Mach 3 Kernel Interfaces, mach_msg_type_t. Which names
+-- and sizes are refused is this profile's own choice.
 use Rattle.std.specs.Prelude.{ℕ, ◌*◌, ◌/◌, ◌%◌, ◌-◌, ◌^◌, Bool, List, nat_lt, nat_le, ◌==◌, ◌&&◌}
 use Rattle.std.specs.Prelude.{◌||◌}
 use Rattle.std.specs.Int.{w16, w32, from_le_bytes}

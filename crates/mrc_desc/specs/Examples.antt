@@ -1,4 +1,4 @@
--- Worked messages: what their bytes are read as, and what is refused.
+-- Worked. Messages. Worked messages: what their bytes are read as, and what is refused.
 use Rattle.std.specs.Prelude.{ℕ, ◌≡◌, refl, List, [], ◌∷◌, ◌++◌, Ok, Err}
 use Rattle.mrc_desc.specs.declared.fault.ReadFault.TheVariants.{BadHeaderDisp, BadDesc, OutOfLine}
 use Rattle.mrc_desc.specs.declared.fault.ReadFault.TheVariants.{Truncated, ComplexDiffers}

@@ -1,6 +1,5 @@
--- Which messages the format has room for, and which headers a sent message may have.
--- From Mach 3 Kernel Interfaces, "Messages". The limit of a message's bytes is this profile's own
--- choice.
+-- Believe. Which messages the format has room for. From Mach 3 Kernel Interfaces, "Messages". The
+-- limit of a message's bytes is this profile's own choice.
 use Rattle.std.specs.Prelude.{◌≡◌, ℕ, ◌+◌, ◌*◌, ◌/◌, ◌%◌, ◌^◌, ◌<◌, ◌≤◌, Bool, List, length}
 use Rattle.std.specs.Prelude.{flat_map}
 use Rattle.std.specs.Prelude.{nat_le, ◌==◌, ◌&&◌, ◌||◌}

@@ -1,5 +1,5 @@
--- What holds of reading and writing messages, in words apart from how they are read. This profile's
--- own choice of what a message may be: see Lawful and Spelling.
+-- Law. What holds of reading and writing messages. This profile's own choice of what a message may
+-- be: see Lawful and Spelling.
 use Rattle.std.specs.Prelude.{◌≡◌, ◌↔◌, ℕ, ◌^◌, ◌<◌, ◌≤◌, List, [], ◌∷◌, length, IsTrue, Ok}
 use Rattle.std.specs.List.{AllByRecursion}
 use Rattle.mrc_model.specs.Message.{Arg, Data, Ports, Message, written, written_size}

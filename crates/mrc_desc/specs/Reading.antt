@@ -1,5 +1,5 @@
--- Reading a message from left to right, with the first fault that is met.
--- The order of the faults and the place that each names are this profile's own choice.
+-- Believe. The first fault; for the value a step. The order of the faults and the place that each
+-- names are this profile's own choice.
 use Rattle.std.specs.Prelude.{ℕ, zero, suc, ◌+◌, ◌-◌, ◌/◌, ◌%◌, ◌^◌, Bool, not, ◌||◌, List, [], ◌∷◌}
 use Rattle.std.specs.Prelude.{length, take, drop, Result, Ok, Err, nat_lt, ◌==◌, if◌then◌else◌}
 use mathlib.Core.Bool.{beq}

@@ -1,7 +1,6 @@
--- Which bytes spell which message, by the layout of headers, descriptors and data.
--- From Mach 3 Kernel Interfaces, mach_msg_header_t, mach_msg_type_t and mach_msg_type_long_t. The
--- bits and words that are ignored, and the limit of a message's bytes, are this profile's own
--- choice.
+-- Believe. Which bytes encode which message. From Mach 3 Kernel Interfaces, mach_msg_header_t,
+-- mach_msg_type_t and mach_msg_type_long_t. The bits and words that are ignored, and the limit of a
+-- message's bytes, are this profile's own choice.
 use Rattle.std.specs.Prelude.{◌≡◌, ℕ, ◌+◌, ◌*◌, ◌^◌, ◌<◌, ◌≤◌, List, [], ◌∷◌, ◌++◌, length}
 use Rattle.std.specs.Prelude.{flat_map, IsTrue, ◌⊎◌, if◌then◌else◌}
 use Rattle.mrc_base.specs.Limits.{limit_of_message}

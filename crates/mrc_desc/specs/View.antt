@@ -1,4 +1,5 @@
--- The message that the values of the program stand for.
+-- Believe. Which message a value of the code is. The message that the values of the program stand
+-- for.
 use Rattle.std.specs.Prelude.{◌≡◌, List, map, length}
 use Rattle.mrc_base.specs.Disposition.{disp_number}
 use Rattle.mrc_desc.specs.declared.argument.Argument.{Argument}

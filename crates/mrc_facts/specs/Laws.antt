@@ -1,4 +1,4 @@
--- What holds of the order of facts and of sets of facts.
+-- Law. What order and sets have to be. What holds of the order of facts and of sets of facts.
 use Rattle.std.specs.Prelude.{◌≡◌, ◌↔◌, false, List, IsTrue}
 use Rattle.std.specs.Ordering.{nat_cmp}
 use Rattle.std.specs.Cmp.Lexicographic.{slice_cmp}

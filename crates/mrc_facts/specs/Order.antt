@@ -1,4 +1,4 @@
--- Facts as six bytes of a certificate, and the order of those bytes. The profile's own choice.
+-- Believe. The six bytes of a fact, and their order. The profile's own choice.
 use Rattle.std.specs.Prelude.{ℕ, ◌^◌, ◌<◌, Bool, List, [], ◌∷◌, ◌++◌}
 use Rattle.std.specs.Int.{w16, to_be_bytes}
 use Rattle.std.specs.declared.cmp.Ordering.{Ordering}

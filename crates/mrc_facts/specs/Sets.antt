@@ -1,4 +1,4 @@
--- Sets of facts, each as the ascending list of its facts. The profile's own choice.
+-- Believe. Sets of facts as ascending lists. The profile's own choice.
 use Rattle.std.specs.Prelude.{Bool, true, ◌&&◌, List, [], ◌∷◌, Option, IsTrue, if◌then◌else◌}
 use Rattle.std.specs.List.{list_any, find, slice_get}
 use Rattle.std.specs.Ordering.{match_ordering}

@@ -1,4 +1,4 @@
--- Worked values of the order of facts and of sets of facts.
+-- Worked. Facts and sets. Worked values of the order of facts and of sets of facts.
 use Rattle.std.specs.Prelude.{◌≡◌, true, false, List, [], ◌∷◌, None, Some, refl}
 use Rattle.mrc_base.specs.declared.Fact.{Fact}
 use Rattle.mrc_base.specs.declared.Fact.TheVariants.{Hold, Carry, Backup}

@@ -1,5 +1,4 @@
--- What files hold, which is the first that can't be read, and what a refused writing leaves. This
--- profile's own choice.
+-- Believe. Which bytes files have, and what a refused writing leaves. This profile's own choice.
 use Rattle.std.specs.Prelude.{◌≡◌, ◌≤◌, ◌<◌, ◌⊎◌, ℕ, List, ◌∷◌, ◌++◌, Option, length, take, IfSome}
 use Rattle.std.specs.List.{All, AllZip}
 use Rattle.mrc_base.specs.Limits.{limit_of_file}

@@ -1,4 +1,4 @@
--- The folder and the name of a path, what a link means, and where a part file stands. Paths are
+-- Believe. Folder and name of a path, what a link means, where a part file is; with laws. Paths are
 -- those of POSIX; the name of a part file is this profile's own choice.
 use Rattle.std.specs.Prelude.{ℕ, ◌≡◌, ◌≤◌, ◌<◌, ◌^◌, ◌≢◌, List, [], ◌∷◌, ◌++◌, length, codes}
 use Rattle.std.specs.Prelude.{decimal, slice_index, ◌==◌, nat_le, if◌then◌else◌}

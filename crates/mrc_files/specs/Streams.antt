@@ -1,5 +1,4 @@
--- What is read of a source, how calls are counted, and which fault is reported. This profile's own
--- choice.
+-- Believe. How calls are counted, and which fault a failed read is. This profile's own choice.
 use Rattle.std.specs.Prelude.{◌≡◌, ℕ, ◌+◌, ◌≤◌, List, Option, Some, None, length, ⊤}
 use Rattle.std.specs.Io.KnownBytes.{Consumes}
 use Rattle.std.specs.declared.io.ErrorKind.{ErrorKind}

@@ -1,4 +1,5 @@
--- A class that accepts requests and replies of one interface, worked out.
+-- Worked. Answers of the filter. A class that accepts requests and replies of one interface, worked
+-- out.
 use Rattle.std.specs.Prelude.{◌≡◌, ℕ, false, List, [], ◌∷◌, Some, None, Ok, Err, refl}
 use Rattle.mrc_model.specs.declared.Denied.TheVariants.{NoSuchId, WrongShape, WrongDisposition}
 use Rattle.mrc_model.specs.declared.Denied.TheVariants.{NotAdmitted}

@@ -1,4 +1,4 @@
--- What the filter's answers are to the machine. This profile's own choice.
+-- Law. What the filter's answers mean to the machine. This profile's own choice.
 use Rattle.std.specs.Prelude.{◌≡◌, ℕ, List, Some}
 use Rattle.std.specs.Result.{result_map_both}
 use Rattle.mrc_base.specs.declared.PortRight.{PortRight}

@@ -1,5 +1,6 @@
--- What it is for a message to meet a form, place by place, after MIG (Server Writer's Guide), and
--- the law that the filter answers by it.
+-- Law. When each answer to a message comes, place by place. What it is for a message to meet a
+-- form, place by place, after MIG (Server Writer's Guide), and the law that the filter answers by
+-- it.
 use Rattle.std.specs.Prelude.{◌≡◌, ◌≢◌, ◌↔◌, ℕ, ◌≤◌, Bool, true, false, List, [], ◌∷◌, take, Option}
 use Rattle.std.specs.Prelude.{◌==◌, Some, None, Result, Ok, Err, find, slice_get}
 use Rattle.std.specs.List.{list_any}

@@ -1,4 +1,4 @@
--- Forms that classes accept, and where they stand. This profile's own choice.
+-- Believe. The place of a form, and what a slot admits. This profile's own choice.
 use Rattle.std.specs.Prelude.{◌≡◌, ℕ, List, Some, Result, Ok, Err, if◌then◌else◌}
 use Rattle.mrc_model.specs.declared.Denied.{Denied}
 use Rattle.mrc_model.specs.declared.Denied.TheVariants.{NotAdmitted}

@@ -1,5 +1,5 @@
--- What the bodies of messages look like, after the Server Writer's Guide for MIG: a reply begins
--- with the return code.
+-- Believe. The body of a message. What the bodies of messages look like, after the Server Writer's
+-- Guide for MIG: a reply begins with the return code.
 use Rattle.std.specs.Prelude.{ℕ, Bool, ◌++◌, false, List, [], ◌∷◌, length, Option, Some, None}
 use Rattle.std.specs.Prelude.{bytes_eq, codes, find, slice_get}
 use Rattle.mrc_base.specs.declared.Disp.{Disp}

@@ -1,4 +1,4 @@
--- Sizes and counts that data can have. The bounds are this profile's own choice.
+-- Believe. Sizes and counts of data. The bounds are this profile's own choice.
 use Rattle.std.specs.Prelude.{ℕ, Bool, not, ◌&&◌, ◌||◌, ◌==◌, ◌%◌, nat_lt, nat_le}
 use Rattle.mrc_base.specs.Limits.{limit_of_items}
 use Rattle.mrc_base.specs.Disposition.{is_port_number}

@@ -1,4 +1,5 @@
--- The forms of a subsystem's messages by their ids, after the Server Writer's Guide for MIG.
+-- Believe. The forms of a subsystem by their ids. The forms of a subsystem's messages by their ids,
+-- after the Server Writer's Guide for MIG.
 use Rattle.std.specs.Prelude.{◌≡◌, ℕ, ◌+◌, ◌-◌, List, Option, Some, None, option_and_then}
 use Rattle.std.specs.Prelude.{nat_le, slice_get, bytes_eq, find, if◌then◌else◌}
 use Rattle.std.specs.List.{filter_map}

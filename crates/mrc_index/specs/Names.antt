@@ -1,4 +1,4 @@
--- What an index of a space tells: which names a port has, and which are free. This profile's own
+-- Step. What the index shows of a space: the names of a port, and free names. This profile's own
 -- choice.
 use Rattle.std.specs.Prelude.{◌≡◌, ℕ, ◌<◌, ◌^◌, Bool, false, not, List, length, Option, Some, None}
 use Rattle.std.specs.Prelude.{true, ⊤, is_some, ◌==◌, ◌||◌, if◌then◌else◌}

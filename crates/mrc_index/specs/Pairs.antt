@@ -1,4 +1,4 @@
--- Names by ports, as a list of pairs. This profile's own choice.
+-- Step. Names by ports, as pairs. This profile's own choice.
 use Rattle.std.specs.Prelude.{◌≡◌, ℕ, ◌<◌, ◌≤◌, Bool, true, false, List}
 use Rattle.std.specs.List.{list_any}
 use Rattle.std.specs.Ordering.{nat_cmp, ordering_then}

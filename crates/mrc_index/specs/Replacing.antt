@@ -1,5 +1,4 @@
--- When one entry can stand in the place of another with no change of an index. This profile's own
--- choice.
+-- Step. Which entries are of one port and kind. This profile's own choice.
 use Rattle.std.specs.Prelude.{Bool, false}
 use Rattle.mrc_model.specs.declared.Entry.{Entry}
 use Rattle.mrc_model.specs.declared.Entry.TheVariants.{Receive as ReceiveEntry, Send as SendEntry}

@@ -1,4 +1,4 @@
--- Changes of a space that can be undone without memory. This profile's own choice.
+-- Step. Changes that can be undone without memory. This profile's own choice.
 use Rattle.std.specs.Prelude.{◌≡◌, ℕ, List, [], ◌∷◌, Option, Some, None, ⊤}
 use Rattle.mrc_model.specs.declared.Entry.{Entry}
 use Rattle.mrc_model.specs.Map.{get}

@@ -1,6 +1,7 @@
--- What the bodies of a routine's messages look like, after the Server Writer's Guide for MIG: a
--- request has the arguments that go in, a reply has the return code and the arguments that come
--- out. Neither has the ports that the two messages are sent to.
+-- Believe. The form of a routine's message. What the bodies of a routine's messages look like,
+-- after the Server Writer's Guide for MIG: a request has the arguments that go in, a reply has the
+-- return code and the arguments that come out. Neither has the ports that the two messages are sent
+-- to.
 use Rattle.std.specs.Prelude.{ℕ, ◌+◌, ◌++◌, Bool, true, false, List, [], ◌∷◌, length, map}
 use Rattle.std.specs.List.{filter}
 use Rattle.mrc_base.specs.Disposition.{disp_of_number}

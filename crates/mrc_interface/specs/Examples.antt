@@ -1,4 +1,4 @@
--- Worked examples of forms, and of files that are read.
+-- Worked. Forms and files. Worked examples of forms, and of files that are read.
 use Rattle.std.specs.Prelude.{◌≡◌, ℕ, List, [], ◌∷◌, ◌++◌, Option, Some, None, Result, Ok, Err}
 use Rattle.std.specs.Prelude.{refl, codes, option_map}
 use Rattle.std.specs.Str.{is_utf8, chars}

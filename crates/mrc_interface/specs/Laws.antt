@@ -1,4 +1,5 @@
--- Which form is found by an id, and which arguments are slots, in words apart from how the table is
+-- Law. Which form an id finds, which arguments are slots; files are read as what they are. Which
+-- form is found by an id, and which arguments are slots, in words apart from how the table is
 -- searched; and that files are read as what they are. After the Server Writer's Guide for MIG.
 use Rattle.std.specs.Prelude.{◌≡◌, ℕ, ◌+◌, List, [], ◌∷◌, Some, Ok, Err, slice_get, ◌↔◌}
 use Rattle.mrc_base.specs.declared.Disp.{Disp}

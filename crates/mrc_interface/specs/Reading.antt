@@ -1,6 +1,7 @@
--- Which bytes are a MIG file, and the table of its forms; of other bytes, which step refuses them.
--- What a file is stands in the crates that read it, after the Server Writer's Guide for MIG; the
--- order of the steps is this profile's own choice.
+-- Believe. Only `IsInterface`, `AreInterfaces`, `IsReason`, `IsFirstRefused`, `reason_of`,
+-- `refused_of`: which bytes are a MIG file, why others are none. What a file is stands in the
+-- crates that read it, after the Server Writer's Guide for MIG; the order of the steps is this
+-- profile's own choice.
 use Rattle.std.specs.Prelude.{◌≡◌, ℕ, ◌+◌, List, [], ◌∷◌, ◌++◌, length, Result, Ok, Err}
 use Rattle.std.specs.Prelude.{if◌then◌else◌}
 use Rattle.std.specs.Option.{ok_or}

@@ -1,5 +1,5 @@
--- The table of a subsystem, after the Server Writer's Guide for MIG. That ids end with the largest
--- number of a file is this profile's own choice.
+-- Believe. The table of a subsystem. The table of a subsystem, after the Server Writer's Guide for
+-- MIG. That ids end with the largest number of a file is this profile's own choice.
 use Rattle.std.specs.Prelude.{ℕ, ◌+◌, List, [], ◌∷◌, Some, None, Result, Ok, Err, nat_le}
 use Rattle.std.specs.Prelude.{if◌then◌else◌}
 use Rattle.mrc_base.specs.Limits.{limit_of_number}

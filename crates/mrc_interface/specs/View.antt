@@ -1,4 +1,4 @@
--- What the calls of this crate give.
+-- Believe. What the calls give. What the calls of this crate give.
 use Rattle.std.specs.Prelude.{◌≡◌, Result, Ok, Err}
 use Rattle.mrc_base.specs.declared.memory.OrMemory.{OrMemory}
 use Rattle.mrc_base.specs.Reading.{Refuses}

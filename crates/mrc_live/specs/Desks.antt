@@ -1,4 +1,4 @@
--- What contracts see of a desk and of a seat. This profile's own choice.
+-- Believe. Desks and seats, before and after a call. This profile's own choice.
 use Rattle.std.specs.Prelude.{◌≡◌, ◌≤◌, ◌+◌, ℕ, List, [], ◌∷◌, ◌++◌, length}
 use Rattle.mrc_base.specs.Limits.{limit_of_events, limit_of_parts, limit_of_seats}
 use Rattle.mrc_check.specs.Verdict.{Case}

@@ -1,4 +1,5 @@
--- How the seats' lists and the journal belong together. This profile's own choice.
+-- Believe. Only what `finish` cites: the seats' lists next to the journal. This profile's own
+-- choice.
 use Rattle.std.specs.Prelude.{◌≡◌, ◌≢◌, ◌<◌, ◌≤◌, ◌⊎◌, ℕ, List, Some, length, take, slice_get}
 use Rattle.std.specs.Prelude.{slice_index}
 use Rattle.mrc_base.specs.Limits.{limit_of_events, limit_of_seats}

@@ -1,4 +1,4 @@
--- Bytes that are read before they are sent. This profile's own choice.
+-- Believe. What is prepared of bytes. This profile's own choice.
 use Rattle.std.specs.Prelude.{◌≡◌, ℕ, List, Result, Ok, Err}
 use Rattle.mrc_desc.specs.Reading.{message_at}
 use Rattle.mrc_desc.specs.Spelling.{Spells}

@@ -1,5 +1,4 @@
--- The journal of a server: a run of its machine, and each seat's part of it. This profile's own
--- choice.
+-- Believe. The journal as a run, and each seat's part of it. This profile's own choice.
 use Rattle.std.specs.Prelude.{ℕ, List, [], ◌∷◌, map, if◌then◌else◌, ◌==◌}
 use Rattle.mrc_check.specs.Verdict.{Case}
 use Rattle.mrc_confine.specs.Guards.{wiring_in}

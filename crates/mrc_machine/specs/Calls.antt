@@ -1,5 +1,4 @@
--- Calls and replies of code, read as the definitions'; and what it is that a call is not refused.
--- This profile's own choice.
+-- Believe. Calls and replies of code, read as the definitions'. This profile's own choice.
 use Rattle.std.specs.Prelude.{◌≡◌, ℕ, IsTrue, Result, Ok, Err, IsOk}
 use Rattle.mrc_base.specs.declared.memory.OrMemory.{OrMemory}
 use Rattle.mrc_base.specs.declared.memory.OrMemory.TheVariants.{Fault, Memory}

@@ -1,5 +1,5 @@
--- What is still to be destroyed, once references of a name were dropped, and the world after it.
--- From Mach 3 Kernel Interfaces, mach_port_deallocate and mach_port_mod_refs.
+-- Step. What is still to be destroyed after dropped references. From Mach 3 Kernel Interfaces,
+-- mach_port_deallocate and mach_port_mod_refs.
 use Rattle.std.specs.Prelude.{ℕ}
 use Rattle.mrc_model.specs.World.{Space, World}
 use Rattle.mrc_model.specs.Target.{with_space, with_store}

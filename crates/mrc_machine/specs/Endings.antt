@@ -1,4 +1,4 @@
--- What the end of a task changes of the tasks. From Mach 3 Kernel Interfaces, task_terminate.
+-- Step. What the end of a task changes. From Mach 3 Kernel Interfaces, task_terminate.
 use Rattle.std.specs.Prelude.{ℕ, false, Option, Some, None}
 use Rattle.mrc_model.specs.Map.{insert}
 use Rattle.mrc_model.specs.World.{Task, World}

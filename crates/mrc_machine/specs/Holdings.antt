@@ -1,4 +1,4 @@
--- Holdings of code, read as the definitions'. This profile's own choice.
+-- Believe. Holdings of code, read as the definitions'. This profile's own choice.
 use Rattle.std.specs.Prelude.{ℕ, ◌<◌, ◌^◌, List, map, nat_lt, if◌then◌else◌, [], ◌∷◌}
 use Rattle.std.specs.List.{AllByRecursion}
 use Rattle.mrc_base.specs.declared.PortRight.TheVariants.{Send}

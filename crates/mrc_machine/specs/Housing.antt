@@ -1,5 +1,5 @@
--- What the machine keeps of its tasks and their spaces, and how a name stands for a task.
--- From Mach 3 Kernel Interfaces, "Tasks". Numbers of 32 bits are this profile's own choice.
+-- Step. What the machine keeps of tasks and spaces. From Mach 3 Kernel Interfaces, "Tasks". Numbers
+-- of 32 bits are this profile's own choice.
 use Rattle.std.specs.Prelude.{◌≡◌, ℕ, suc, ◌+◌, ◌<◌, ◌≤◌, ◌^◌, List, [], ◌∷◌, Option, Some, IsSome}
 use Rattle.std.specs.Prelude.{nat_lt, if◌then◌else◌}
 use Rattle.std.specs.Option.{option_and_then}

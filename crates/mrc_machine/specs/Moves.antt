@@ -1,4 +1,4 @@
--- What a right that moves leaves in the store. From Mach 3 Kernel Interfaces, "Port rights".
+-- Step. What a moved right leaves. From Mach 3 Kernel Interfaces, "Port rights".
 use Rattle.std.specs.Prelude.{ℕ, Ok, ◌==◌, if◌then◌else◌}
 use Rattle.mrc_base.specs.declared.Disp.{Disp}
 use Rattle.mrc_base.specs.Disposition.{given}

@@ -1,5 +1,6 @@
--- The parts of a port-destroyed request: what it names, and what it leaves of the caller's space
--- and of the port. From Mach 3 Kernel Interfaces, mach_port_request_notification.
+-- Step. The parts of a request for a notice. The parts of a port-destroyed request: what it names,
+-- and what it leaves of the caller's space and of the port. From Mach 3 Kernel Interfaces,
+-- mach_port_request_notification.
 use Rattle.std.specs.Prelude.{ℕ, ◌||◌, Option, Some, None, Ok, ◌==◌, if◌then◌else◌}
 use Rattle.mrc_base.specs.declared.PortRight.TheVariants.{SendOnce}
 use Rattle.mrc_base.specs.declared.Disp.{Disp}

@@ -1,5 +1,5 @@
--- What is kept while the first state of a wiring is made, line by line, and the changes that lines
--- make. This profile's own choice.
+-- Step. The first state, line by line. What is kept while the first state of a wiring is made, line
+-- by line, and the changes that lines make. This profile's own choice.
 use Rattle.std.specs.Prelude.{◌≡◌, ℕ, ◌+◌, ◌<◌, ◌≤◌, IsSome, Ok, Err}
 use Rattle.mrc_base.specs.declared.memory.OrMemory.{OrMemory}
 use Rattle.mrc_base.specs.declared.memory.OrMemory.TheVariants.{Fault, Memory}

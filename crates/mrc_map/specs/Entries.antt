@@ -1,3 +1,4 @@
+-- Believe. Only `map_of`, `IsNext`, `KeepsKeys`: lists of entries, read as the definitions' maps.
 -- Lists of entries in code, read as the definitions' maps; the index at which a key stands in such
 -- a list, or would stand; and the entry that comes next. This profile's own choice.
 use Rattle.std.specs.Prelude.{◌≡◌, ℕ, suc, ◌<◌, ◌≤◌, Bool, true, false, T, List, [], ◌∷◌, length}

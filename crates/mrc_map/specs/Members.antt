@@ -1,5 +1,4 @@
--- Sets of ports as lists of their numbers, and how one goes through them in ascending order. This
--- profile's own choice.
+-- Believe. Only `IsFirst`: the first port of a set above one. This profile's own choice.
 use Rattle.std.specs.Prelude.{◌≡◌, ℕ, suc, ◌<◌, ◌≤◌, ◌^◌, true, false, List, [], Option, Some}
 use Rattle.std.specs.Prelude.{None}
 use Rattle.std.specs.declared.ops.Bound.{Bound}

@@ -1,4 +1,5 @@
--- Which changes mend a wiring, and what there is to mend of a system. This profile's own choice.
+-- Believe. Only `IsMend`, `IsNeeded`, `AreAtMost`: which changes mend a wiring. This profile's own
+-- choice.
 use Rattle.std.specs.Prelude.{◌≡◌, ℕ, ◌≤◌, List, length, Result, Ok, IfSome}
 use Rattle.std.specs.List.{All}
 use Rattle.mrc_forms.specs.Tables.{Table as Interface}

@@ -1,5 +1,6 @@
--- A wiring's text with lines left out, changed and added: what a file says that is edited by the
--- lines that are printed of a mend. This profile's own choice.
+-- Believe. The text of a wiring with lines dropped and added. A wiring's text with lines left out,
+-- changed and added: what a file says that is edited by the lines that are printed of a mend. This
+-- profile's own choice.
 use Rattle.std.specs.Prelude.{ℕ, ◌+◌, ◌==◌, List, [], ◌∷◌, ◌++◌, map, flat_map, fold}
 use Rattle.std.specs.Prelude.{codes, string_bytes, if◌then◌else◌}
 use Rattle.mrc_model.specs.declared.Verb.{Verb}

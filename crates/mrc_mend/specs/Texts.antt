@@ -1,4 +1,4 @@
--- What is told of the mends of a wiring. This profile's own choice.
+-- Believe. What is printed of mends. This profile's own choice.
 use Rattle.std.specs.Prelude.{ℕ, ◌+◌, ◌-◌, List, [], ◌∷◌, ◌++◌, map, flat_map, codes, decimal}
 use Rattle.std.specs.Prelude.{Option, Some, None, slice_index_or, string_bytes, if◌then◌else◌}
 use Rattle.std.specs.Str.{is_utf8}

@@ -1,5 +1,6 @@
--- Which routines carry rights of ports and are left out of a MIG file, and how the file says so: by
--- strings that mean nothing else. This profile's own choice.
+-- Believe. Which routines that are left out carry rights, and how the file says so. Which routines
+-- carry rights of ports and are left out of a MIG file, and how the file says so: by strings that
+-- mean nothing else. This profile's own choice.
 use Rattle.std.specs.Prelude.{ℕ, List, [], ◌∷◌, ◌++◌, Bool, false, true, ◌==◌, Option, Some, None}
 use Rattle.std.specs.Prelude.{Result, Ok, Err, codes, string_bytes, take, drop, map}
 use Rattle.std.specs.Prelude.{option_to_list, if◌then◌else◌}

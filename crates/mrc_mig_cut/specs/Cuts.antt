@@ -1,4 +1,4 @@
--- What the bytes that a text is cut to are to the reader of MIG files. This profile's own choice.
+-- Believe. What the bytes of a cut file are to the reader. This profile's own choice.
 use Rattle.std.specs.Prelude.{◌≡◌, ◌<◌, ◌⊎◌, ℕ, ◌+◌, List, [], ◌∷◌, Bool, true, not, ◌&&◌, ◌||◌}
 use Rattle.std.specs.Prelude.{◌==◌, nat_le, is_some, IsTrue}
 use Rattle.std.specs.List.{count_by, list_all}

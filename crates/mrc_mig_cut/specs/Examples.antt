@@ -1,5 +1,5 @@
--- Worked examples: structs of C on i386, laid out by hand; arrays of them; types as they are
--- written; and what carries rights of a routine.
+-- Worked. Structs, arrays and types. Worked examples: structs of C on i386, laid out by hand;
+-- arrays of them; types as they are written; and what carries rights of a routine.
 use Rattle.std.specs.Prelude.{◌≡◌, ℕ, List, [], ◌∷◌, codes, false, true, refl}
 use Rattle.mrc_mig_lex.specs.Tokens.{Lexeme}
 use Rattle.mrc_mig_lex.specs.declared.token.Sign.{Sign}

@@ -1,6 +1,5 @@
--- What a type is to a message: the items that are in its body, or the word for which it has no
--- form. Which types have none is this profile's own choice; sizes and alignments are those of GNU
--- MIG where addresses have 32 bits.
+-- Believe. What a type is to a message. Which types have none is this profile's own choice; sizes
+-- and alignments are those of GNU MIG where addresses have 32 bits.
 use Rattle.std.specs.Prelude.{ℕ, ◌/◌, ◌^◌, List, Bool, true, false, Option, Some, None, min}
 use Rattle.std.specs.Prelude.{nat_lt, ◌||◌, codes, if◌then◌else◌}
 use Rattle.std.specs.Str.{bytes_eq}

@@ -1,4 +1,5 @@
--- Laws about how structs are laid out, in C's own words.
+-- Law. How structs are laid out, in C's words. Laws about how structs are laid out, in C's own
+-- words.
 use Rattle.std.specs.Prelude.{◌≡◌, ℕ, ◌+◌, ◌%◌, ◌<◌, ◌≤◌, List, [], ◌∷◌, ◌++◌}
 use Rattle.mrc_mig_cut.specs.declared.kinds.Data.{Data}
 use Rattle.mrc_mig_cut.specs.Layout.{bytes_of, place_of, end_of, alignment_of, size_of}

@@ -1,5 +1,6 @@
--- How the fields of a struct lie, by C's rules on i386, and the items as which GNU MIG's stubs send
--- it where addresses have 32 bits. That a struct of 4 GB has no form is this profile's own choice.
+-- Believe. How the fields of a struct lie, and the items it is sent as. How the fields of a struct
+-- lie, by C's rules on i386, and the items as which GNU MIG's stubs send it where addresses have 32
+-- bits. That a struct of 4 GB has no form is this profile's own choice.
 use Rattle.std.specs.Prelude.{◌≡◌, ℕ, ◌+◌, ◌*◌, ◌/◌, ◌==◌, List, [], ◌∷◌, false}
 use Rattle.std.specs.Prelude.{Result, Ok, Err, None, Some, option_map, min, max, nat_lt}
 use Rattle.std.specs.Prelude.{if◌then◌else◌}

@@ -1,6 +1,6 @@
--- The types that a text knows by name. Those of MIG itself and those of the file of standard types
--- are GNU Mach's where addresses have 32 bits; that a name which two types have is no type is this
--- profile's own choice.
+-- Believe. The types that are known by name. Those of MIG itself and those of the file of standard
+-- types are GNU Mach's where addresses have 32 bits; that a name which two types have is no type is
+-- this profile's own choice.
 use Rattle.std.specs.Prelude.{ℕ, List, [], ◌∷◌, Bool, false, true, not, ◌&&◌, ◌==◌, cond, codes}
 use Rattle.std.specs.Prelude.{Option, Some, None, option_map, if◌then◌else◌}
 use Rattle.std.specs.BTreeMap.{get_by}

@@ -1,5 +1,5 @@
--- Types as they are written for the reader of MIG files. The names are MIG's; which of them stands
--- for a type number that has several is this profile's own choice.
+-- Believe. Types as they are written. The names are MIG's; which of them stands for a type number
+-- that has several is this profile's own choice.
 use Rattle.std.specs.Prelude.{ℕ, ◌==◌, List, [], ◌∷◌, ◌++◌, codes, decimal, if◌then◌else◌}
 use Rattle.mrc_forms.specs.declared.shape.Shape.{Shape}
 

@@ -1,5 +1,6 @@
--- What the types of GNU MIG are to a message: reading token by token. After the Server Writer's
--- Guide for MIG and GNU MIG's own forms. Which of them have no form is this profile's own choice.
+-- Believe. Only `times`, `without`, `within`: arrays and structs of a type. After the Server
+-- Writer's Guide for MIG and GNU MIG's own forms. Which of them have no form is this profile's own
+-- choice.
 use Rattle.std.specs.Prelude.{◌≡◌, ℕ, ◌*◌, List, [], ◌∷◌, ◌++◌, length, Bool, true, false, not}
 use Rattle.std.specs.Prelude.{◌||◌, Option, Some, None, Result, Ok, Err, min, codes, eqb}
 use Rattle.std.specs.Prelude.{if◌then◌else◌}

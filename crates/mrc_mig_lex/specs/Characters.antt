@@ -1,6 +1,6 @@
--- Which characters make up a MIG subsystem text, by its ASCII codes: letters, digits and signs as
--- the grammar of the Server Writer's Guide for MIG uses them; which blanks and signs there are is
--- this profile's own choice.
+-- Believe. Letters, blanks and signs. Which characters make up a MIG subsystem text, by its ASCII
+-- codes: letters, digits and signs as the grammar of the Server Writer's Guide for MIG uses them;
+-- which blanks and signs there are is this profile's own choice.
 use Rattle.std.specs.Prelude.{ℕ, Bool, ◌||◌, ◌==◌, Option, Some, None, if◌then◌else◌}
 use Rattle.std.specs.Char.{is_ascii_alphabetic, is_ascii_digit}
 use Rattle.mrc_mig_lex.specs.declared.token.Sign.{Sign}

@@ -1,5 +1,5 @@
--- Worked examples of the tokens of a MIG subsystem text, by computation; the texts are this
--- profile's own choice.
+-- Worked. Tokens. Worked examples of the tokens of a MIG subsystem text, by computation; the texts
+-- are this profile's own choice.
 use Rattle.std.specs.Prelude.{◌≡◌, ℕ, List, [], ◌∷◌, ◌++◌, Result, Ok, Err, refl, codes, map}
 use Rattle.mrc_base.specs.Reading.{◌>>=◌}
 use Rattle.mrc_mig_lex.specs.declared.token.TokenKind.{TokenKind}

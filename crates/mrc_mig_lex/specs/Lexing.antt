@@ -1,5 +1,5 @@
--- The tokens of a whole MIG subsystem text (Server Writer's Guide for MIG), or its first fault in
--- byte order.
+-- Believe. The first fault; for the tokens a step. The tokens of a whole MIG subsystem text (Server
+-- Writer's Guide for MIG), or its first fault in byte order.
 use Rattle.std.specs.Prelude.{ℕ, zero, suc, ◌+◌, Bool, true, List, [], ◌∷◌, ◌++◌, Result, Ok, take}
 use Rattle.std.specs.Prelude.{◌≡◌, false, drop, option_map, option_to_list, Option, Some, None, Err}
 use Rattle.mrc_base.specs.Reading.{◌>>=◌}

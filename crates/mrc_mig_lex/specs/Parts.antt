@@ -1,6 +1,7 @@
--- What it is for a MIG subsystem text to be made of tokens (Server Writer's Guide for MIG), blanks
--- and comments: a grammar by cases, apart from how one reads it. Which characters may stand is this
--- profile's own choice.
+-- Believe. When a text is made of tokens, with `decimal` of `Pieces`. What it is for a MIG
+-- subsystem text to be made of tokens (Server Writer's Guide for MIG), blanks and comments: a
+-- grammar by cases, apart from how one reads it. Which characters may stand is this profile's own
+-- choice.
 use Rattle.std.specs.Prelude.{◌≡◌, ℕ, ◌+◌, ◌≤◌, ◌⊎◌, Bool, false, ◌||◌, ◌&&◌, ◌==◌, not, IsTrue}
 use Rattle.std.specs.Prelude.{List, [], ◌∷◌, ◌++◌, length, Option, Some, None, option_map}
 use Rattle.std.specs.Prelude.{option_to_list, nat_eq, codes}

@@ -1,6 +1,6 @@
--- What stands at the front of a MIG subsystem text: the longest token there (Server Writer's Guide
--- for MIG), a blank or a comment. Where none does, which fault it is and where is this profile's
--- own choice.
+-- Believe. Which fault it is; for the tokens a step. What stands at the front of a MIG subsystem
+-- text: the longest token there (Server Writer's Guide for MIG), a blank or a comment. Where none
+-- does, which fault it is and where is this profile's own choice.
 use Rattle.std.specs.Prelude.{ℕ, suc, ◌+◌, Bool, false, ◌||◌, ◌&&◌, ◌==◌, nat_le, List, [], ◌∷◌}
 use Rattle.std.specs.Prelude.{Option, Some, None, option_map, option_and_then, Result, Ok, Err}
 use Rattle.std.specs.Prelude.{if◌then◌else◌, drop, slice_index, codes, nat_eq, position, take_while}

@@ -1,5 +1,5 @@
--- A token of a MIG subsystem text, as contracts see it, and where tokens lie: this profile's own
--- choice.
+-- Believe. Tokens and their places. A token of a MIG subsystem text, as contracts see it, and where
+-- tokens lie: this profile's own choice.
 use Rattle.std.specs.Prelude.{◌≡◌, ℕ, ◌+◌, ◌<◌, ◌≤◌, List, [], ◌∷◌, length, slice_range}
 use Rattle.mrc_mig_lex.specs.declared.token.TokenKind.{TokenKind}
 

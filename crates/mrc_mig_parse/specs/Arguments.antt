@@ -1,6 +1,6 @@
--- The options of types and the arguments of routines, as the Server Writer's Guide for MIG has
--- them. Which of them are read, and which argument is the request port, are this profile's own
--- choice.
+-- Believe. Only what `Grammar` cites: arguments. The options of types and the arguments of
+-- routines, as the Server Writer's Guide for MIG has them. Which of them are read, and which
+-- argument is the request port, are this profile's own choice.
 use Rattle.std.specs.Prelude.{ℕ, List, [], ◌∷◌, ◌++◌, length, map, count_by, Bool, true, false, not}
 use Rattle.std.specs.Prelude.{◌&&◌, ◌||◌, Option, Some, None, unwrap_or, nat_lt, ◌==◌}
 use Rattle.std.specs.Prelude.{if◌then◌else◌}

@@ -1,5 +1,6 @@
--- What holds of every subsystem that is read: its counts and sizes, and how many arguments a
--- routine has. The bounds are this profile's own choice.
+-- Believe. How many arguments there are, of which sizes and counts. What holds of every subsystem
+-- that is read: its counts and sizes, and how many arguments a routine has. The bounds are this
+-- profile's own choice.
 use Rattle.std.specs.Prelude.{List, length, Bool, true, ◌&&◌, nat_le}
 use Rattle.std.specs.List.{list_all}
 use Rattle.mrc_base.specs.Limits.{limit_of_arguments}

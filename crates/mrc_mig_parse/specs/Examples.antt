@@ -1,4 +1,4 @@
--- Worked examples of what tokens mean.
+-- Worked. Meanings of tokens. Worked examples of what tokens mean.
 use Rattle.std.specs.Prelude.{◌≡◌, ℕ, List, [], ◌∷◌, false, Some, Err, refl, codes}
 use Rattle.mrc_mig_lex.specs.Tokens.{Lexeme}
 use Rattle.mrc_mig_lex.specs.declared.token.Sign.{Sign}

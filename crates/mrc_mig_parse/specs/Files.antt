@@ -1,5 +1,6 @@
--- A whole MIG file and what it means, after the Server Writer's Guide for MIG. The types that the
--- include line declares are this profile's own choice.
+-- Believe. Only what `Grammar` cites: whole files. A whole MIG file and what it means, after the
+-- Server Writer's Guide for MIG. The types that the include line declares are this profile's own
+-- choice.
 use Rattle.std.specs.Prelude.{ℕ, List, [], ◌∷◌, ◌++◌, length, codes, Bool, true, false, not, Option}
 use Rattle.std.specs.Prelude.{Some, None, is_some, nat_lt, if◌then◌else◌}
 use Rattle.std.specs.List.{list_any}

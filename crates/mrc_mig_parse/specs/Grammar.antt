@@ -1,6 +1,6 @@
--- The grammar of MIG subsystem files: which tokens are which phrase, and what the phrase means.
--- After the Server Writer's Guide for MIG. Which of its forms are read, and all limits, are this
--- profile's own choice.
+-- Believe. Which tokens are which phrase; with the law that reading agrees. After the Server
+-- Writer's Guide for MIG. Which of its forms are read, and all limits, are this profile's own
+-- choice.
 use Rattle.std.specs.Prelude.{◌≡◌, ℕ, ◌<◌, ◌≤◌, List, [], ◌∷◌, ◌++◌, length, map, Bool, true, false}
 use Rattle.std.specs.Prelude.{◌&&◌, ◌||◌, Option, Some, None}
 use Rattle.mrc_base.specs.Limits.{limit_of_name, limit_of_arguments, limit_of_ids}

@@ -1,4 +1,5 @@
--- What a subsystem that was read means, whatever lies where in memory.
+-- Believe. What the values of the code mean. What a subsystem that was read means, whatever lies
+-- where in memory.
 use Rattle.std.specs.Prelude.{map, string_bytes}
 use Rattle.mrc_mig_parse.specs.declared.subsystem.Argument.{Argument}
 use Rattle.mrc_mig_parse.specs.declared.subsystem.Entry.{Entry}

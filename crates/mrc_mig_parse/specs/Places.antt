@@ -1,4 +1,5 @@
--- Where the types that are declared stand: an index of a table of names.
+-- Step. The index of the table of types. Where the types that are declared stand: an index of a
+-- table of names.
 use Rattle.std.specs.Prelude.{◌≡◌, ℕ, suc, List, [], ◌∷◌, Option, Some, None, option_map}
 use Rattle.std.specs.Prelude.{if◌then◌else◌}
 use Rattle.std.specs.Ordering.{nat_cmp}

@@ -1,4 +1,4 @@
--- What the readers hold, without places in the text and in memory.
+-- Step. What the readers hold. What the readers hold, without places in the text and in memory.
 use Rattle.std.specs.Prelude.{map}
 use Rattle.mrc_mig_parse.specs.declared.arguments.Written.{Written}
 use Rattle.mrc_mig_parse.specs.declared.file.File.{File}

@@ -1,6 +1,7 @@
--- Where reading a MIG file stops that is none, and why: at the first token that cannot go on a
--- reading from left to right. Which fault is told, and its place, are this profile's own choice.
--- What a stop says of tokens that are read means nothing.
+-- Believe. Where each phrase stops that can't be read, and why. Where reading a MIG file stops that
+-- is none, and why: at the first token that cannot go on a reading from left to right. Which fault
+-- is told, and its place, are this profile's own choice. What a stop says of tokens that are read
+-- means nothing.
 use Rattle.std.specs.Prelude.{ℕ, List, [], length, Bool, true, false, not, ◌&&◌, ◌||◌, Option}
 use Rattle.std.specs.Prelude.{Some, None, nat_lt, if◌then◌else◌, Result}
 use Rattle.std.specs.Option.{ok_or}

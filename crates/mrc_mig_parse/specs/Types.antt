@@ -1,5 +1,6 @@
--- The types of a MIG file, as the Server Writer's Guide for MIG has them. Which of them are read,
--- and the bounds of counts and sizes, are this profile's own choice.
+-- Believe. Only what `Grammar` cites: types. The types of a MIG file, as the Server Writer's Guide
+-- for MIG has them. Which of them are read, and the bounds of counts and sizes, are this profile's
+-- own choice.
 use Rattle.std.specs.Prelude.{ℕ, ◌*◌, List, length, Bool, true, false, not, ◌&&◌, ◌||◌, Option}
 use Rattle.std.specs.Prelude.{Some, None, nat_le, ◌==◌, if◌then◌else◌}
 use Rattle.mrc_base.specs.declared.Disp.TheVariants.{MoveSendOnce, MakeSendOnce}

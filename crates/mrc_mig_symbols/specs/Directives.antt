@@ -1,4 +1,5 @@
--- Lines of the preprocessor: this profile's own choice of those that a MIG file may keep.
+-- Believe. Which lines of the preprocessor a file may keep. Lines of the preprocessor: this
+-- profile's own choice of those that a MIG file may keep.
 use Rattle.std.specs.Prelude.{ℕ, List, [], ◌∷◌, length, take, drop, Bool, true, false, ◌||◌, Option}
 use Rattle.std.specs.Prelude.{Some, None, codes, ◌==◌, if◌then◌else◌}
 use Rattle.std.specs.Char.{is_ascii_digit}

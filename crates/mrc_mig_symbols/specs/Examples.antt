@@ -1,4 +1,4 @@
--- Worked examples of whole-number expressions.
+-- Worked. Expressions. Worked examples of whole-number expressions.
 use Rattle.std.specs.Prelude.{◌≡◌, ℕ, [], ◌∷◌, Some, None, refl}
 use Rattle.mrc_mig_lex.specs.Tokens.{Lexeme}
 use Rattle.mrc_mig_lex.specs.declared.token.Sign.{Sign}

@@ -1,4 +1,4 @@
--- The grammar of whole-number expressions: which symbols spell which number. This profile's own
+-- Believe. Which symbols encode which number; with the law that reading agrees. This profile's own
 -- form of MIG's expressions: `*` and `/` bind closer than `+` and `-`, and each goes from left to
 -- right.
 use Rattle.std.specs.Prelude.{◌≡◌, ℕ, ◌+◌, ◌-◌, ◌*◌, ◌/◌, ◌<◌, ◌≤◌, List, [], ◌∷◌, ◌++◌, map, Bool}

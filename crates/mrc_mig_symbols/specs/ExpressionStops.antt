@@ -1,5 +1,5 @@
--- Whole-number expressions of a MIG file with the places of their parts: where reading one stops.
--- The order of faults and their places are this profile's own choice.
+-- Believe. Where reading an expression stops. The order of faults and their places are this
+-- profile's own choice.
 use Rattle.std.specs.Prelude.{ℕ, List, [], ◌∷◌, length, map, Bool, true, false, Result, Ok, Err}
 use Rattle.std.specs.Prelude.{if◌then◌else◌}
 use Rattle.std.specs.Option.{ok_or}

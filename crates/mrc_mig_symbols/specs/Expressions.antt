@@ -1,5 +1,5 @@
--- Whole-number expressions of a MIG file, from left to right. The bounds of their parts are this
--- profile's own choice.
+-- Step. Reading an expression symbol by symbol. The bounds of their parts are this profile's own
+-- choice.
 use Rattle.std.specs.Prelude.{ℕ, ◌+◌, ◌-◌, ◌*◌, ◌/◌, List, [], ◌∷◌, Bool, true, false, Option, Some}
 use Rattle.std.specs.Prelude.{None, nat_le, nat_lt, ◌==◌, if◌then◌else◌}
 use Rattle.mrc_base.specs.Limits.{limit_of_number}

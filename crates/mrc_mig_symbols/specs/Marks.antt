@@ -1,4 +1,4 @@
--- What is kept of the tokens of a text: this profile's own choice.
+-- Step. What is kept of tokens. What is kept of the tokens of a text: this profile's own choice.
 use Rattle.std.specs.Prelude.{◌≡◌, ℕ, List, [], Result, Ok, Err, map}
 use Rattle.mrc_base.specs.Reading.{◌>>=◌}
 use Rattle.mrc_mig_lex.specs.Tokens.{Lexeme}

@@ -1,4 +1,4 @@
--- The sums around an open parenthesis, as they are kept. This profile's own choice.
+-- Step. The sums around an open parenthesis. This profile's own choice.
 use Rattle.std.specs.Prelude.{ℕ, zero, suc, ◌-◌, List, [], ◌∷◌, ◌++◌}
 use Rattle.mrc_mig_symbols.specs.declared.expressions.Sum.{Sum}
 use Rattle.mrc_mig_symbols.specs.declared.outer.Run.{Run}

@@ -1,4 +1,5 @@
--- Where in the text a fault is: each place is this profile's own choice.
+-- Believe. Where in the text a fault is. Where in the text a fault is: each place is this profile's
+-- own choice.
 use Rattle.std.specs.Prelude.{ℕ, ◌-◌, List, length, slice_get}
 use Rattle.std.specs.Option.{option_map_or}
 use Rattle.mrc_mig_lex.specs.Tokens.{Lexeme, end_of}

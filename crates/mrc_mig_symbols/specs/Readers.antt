@@ -1,4 +1,4 @@
--- What the readers hold, whatever lies where in memory.
+-- Step. What the readers hold. What the readers hold, whatever lies where in memory.
 use Rattle.std.specs.Prelude.{List, drop}
 use Rattle.mrc_mig_lex.specs.Tokens.{Lexeme}
 use Rattle.mrc_mig_symbols.specs.declared.symbol.Rest.{Rest}

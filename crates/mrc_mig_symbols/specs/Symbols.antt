@@ -1,4 +1,5 @@
--- What the grammar sees of tokens: this profile's own form of MIG's words and signs.
+-- Believe. What the grammar sees of a token. What the grammar sees of tokens: this profile's own
+-- form of MIG's words and signs.
 use Rattle.std.specs.Prelude.{◌≡◌, ℕ, zero, suc, List, [], ◌∷◌, length, Bool, true, false, Option}
 use Rattle.std.specs.Prelude.{Some, None, Result, Ok, Err, option_and_then, nat_le, ◌==◌}
 use Rattle.std.specs.Prelude.{if◌then◌else◌}

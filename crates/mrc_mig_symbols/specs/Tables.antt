@@ -1,4 +1,4 @@
--- Tables of names: how they are searched. This profile's own choice.
+-- Believe. How tables of names are searched. This profile's own choice.
 use Rattle.std.specs.Prelude.{◌≡◌, ℕ, List, [], ◌∷◌, Option, Some, None, map, if◌then◌else◌}
 use Rattle.std.specs.Str.{bytes_eq, str_to_ascii_lowercase}
 use denote.Ref.{Bor}

@@ -1,6 +1,7 @@
--- The words that are reserved and the names of the basic types, after the Server Writer's Guide for
--- MIG. That words which are left out are reserved too, and which these are, is this profile's own
--- choice. Words are read in any case, names of types in their case alone.
+-- Believe. Reserved words and basic types. The words that are reserved and the names of the basic
+-- types, after the Server Writer's Guide for MIG. That words which are left out are reserved too,
+-- and which these are, is this profile's own choice. Words are read in any case, names of types in
+-- their case alone.
 use Rattle.std.specs.Prelude.{ℕ, List, [], ◌∷◌, Option, codes}
 use Rattle.std.specs.Str.{str_to_ascii_lowercase}
 use Rattle.mrc_mig_symbols.specs.Tables.{entry_of}

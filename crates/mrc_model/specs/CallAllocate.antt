@@ -1,6 +1,6 @@
--- Making ports, sets and dead names. From Mach 3 Kernel Interfaces, mach_port_allocate. The class
--- of a new port, the kinds of births, the limits and the order of refusals are this profile's own
--- choice.
+-- Believe. Making ports, sets and dead names. From Mach 3 Kernel Interfaces, mach_port_allocate.
+-- The class of a new port, the kinds of births, the limits and the order of refusals are this
+-- profile's own choice.
 use Rattle.mrc_base.specs.Limits.{limit_of_ports, limit_of_births, first_limit_of_queue}
 use Rattle.std.specs.Prelude.{ℕ, ◌+◌, ◌||◌, [], Option, None, Ok, Err, ◌==◌, nat_le}
 use Rattle.mrc_base.specs.declared.Right.{Right}

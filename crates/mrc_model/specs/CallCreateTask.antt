@@ -1,4 +1,4 @@
--- Making tasks at run time. From Mach 3 Kernel Interfaces, task_create. The classes of a new task,
+-- Believe. Making tasks. From Mach 3 Kernel Interfaces, task_create. The classes of a new task,
 -- that it is given no other right, the limits and the order of refusals are this profile's own
 -- choice.
 use Rattle.mrc_base.specs.Limits.{limit_of_ports, limit_of_births}

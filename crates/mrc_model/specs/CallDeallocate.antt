@@ -1,5 +1,5 @@
--- Dropping one reference of a name, or the whole entry.
--- From Mach 3 Kernel Interfaces, mach_port_deallocate and mach_port_destroy.
+-- Believe. Dropping a reference, or a whole entry. From Mach 3 Kernel Interfaces,
+-- mach_port_deallocate and mach_port_destroy.
 use Rattle.std.specs.Prelude.{ℕ, ◌-◌, Option, Some, None, Ok, nat_lt, if◌then◌else◌}
 use Rattle.mrc_model.specs.declared.Entry.{Entry}
 use Rattle.mrc_model.specs.declared.Entry.TheVariants.{Receive as ReceiveEntry, Send as SendEntry}

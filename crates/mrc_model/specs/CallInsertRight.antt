@@ -1,4 +1,4 @@
--- Moving rights between tasks directly. From Mach 3 Kernel Interfaces, mach_port_insert_right and
+-- Believe. Moving rights between tasks. From Mach 3 Kernel Interfaces, mach_port_insert_right and
 -- mach_port_extract_right. The order of the refusals is this profile's own choice.
 use Rattle.std.specs.Prelude.{ℕ, ◌||◌, Ok}
 use Rattle.mrc_base.specs.declared.Disp.{Disp}

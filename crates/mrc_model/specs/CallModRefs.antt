@@ -1,6 +1,6 @@
--- Changing the references of a name. From Mach 3 Kernel Interfaces, mach_port_mod_refs. Refusing a
--- delta other than 0 and -1 for a right that is there once, and the order of refusals, are this
--- profile's own choice.
+-- Believe. Changing the references of a name. From Mach 3 Kernel Interfaces, mach_port_mod_refs.
+-- Refusing a delta other than 0 and -1 for a right that is there once, and the order of refusals,
+-- are this profile's own choice.
 use Rattle.mrc_base.specs.Limits.{limit_of_references}
 use Rattle.std.specs.Prelude.{ℕ, ◌+◌, ◌-◌, Option, Some, None, Ok, Err, ◌==◌}
 use Rattle.std.specs.Prelude.{nat_lt, if◌then◌else◌, ℤ, pos, negsuc}

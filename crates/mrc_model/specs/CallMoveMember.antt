@@ -1,5 +1,5 @@
--- Port sets. From Mach 3 Kernel Interfaces, mach_port_move_member. The order of refusals is this
--- profile's own choice.
+-- Believe. Port sets. From Mach 3 Kernel Interfaces, mach_port_move_member. The order of refusals
+-- is this profile's own choice.
 use Rattle.std.specs.Prelude.{ℕ, Option, Some, None, Ok, Err, ◌==◌, if◌then◌else◌}
 use Rattle.mrc_model.specs.declared.Entry.{Entry}
 use Rattle.mrc_model.specs.declared.Entry.TheVariants.{Receive as ReceiveEntry, Send as SendEntry}

@@ -1,5 +1,5 @@
--- Asking what is under names: references, types, all names. These calls change nothing.
--- From Mach 3 Kernel Interfaces, mach_port_get_refs, mach_port_type and mach_port_names.
+-- Believe. Asking what is under names. These calls change nothing. From Mach 3 Kernel Interfaces,
+-- mach_port_get_refs, mach_port_type and mach_port_names.
 use Rattle.std.specs.Prelude.{ℕ, ◌+◌, map, Ok, nat_lt, if◌then◌else◌}
 use Rattle.mrc_base.specs.declared.Right.{Right}
 use Rattle.mrc_model.specs.declared.Entry.{Entry}

@@ -1,4 +1,4 @@
--- Renaming. From Mach 3 Kernel Interfaces, mach_port_rename. The order of refusals is this
+-- Believe. Renaming. From Mach 3 Kernel Interfaces, mach_port_rename. The order of refusals is this
 -- profile's own choice.
 use Rattle.std.specs.Prelude.{ℕ, Bool, true, false, Option, Some, None, Ok}
 use Rattle.mrc_model.specs.declared.Entry.{Entry}

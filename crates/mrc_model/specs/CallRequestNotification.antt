@@ -1,5 +1,5 @@
--- Port-destroyed requests. From Mach 3 Kernel Interfaces, mach_port_request_notification with
--- MACH_NOTIFY_PORT_DESTROYED, the one notification that can be requested here. The order of
+-- Believe. Port-destroyed requests. From Mach 3 Kernel Interfaces, mach_port_request_notification
+-- with MACH_NOTIFY_PORT_DESTROYED, the one notification that can be requested here. The order of
 -- refusals, and that only ports of some classes can be named, are this profile's own choice.
 use Rattle.mrc_model.specs.Death.{port_destroyed_id}
 use Rattle.std.specs.Prelude.{ℕ, Bool, true, false, ◌&&◌, ◌||◌, Option, Some, None, Ok, ◌==◌}

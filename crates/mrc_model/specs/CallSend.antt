@@ -1,5 +1,5 @@
--- Sending a message. From Mach 3 Kernel Interfaces, mach_msg (MACH_SEND_MSG). The order of the
--- refusals, and the filter, are this profile's own choice.
+-- Believe. Sending a message. From Mach 3 Kernel Interfaces, mach_msg (MACH_SEND_MSG). The order of
+-- the refusals, and the filter, are this profile's own choice.
 use Rattle.std.specs.Prelude.{ℕ, ◌+◌, ◌-◌, Bool, true, false, not, ◌&&◌, List, [], ◌∷◌, length}
 use Rattle.std.specs.Prelude.{Option, Some, None, Result, Ok, Err, ◌==◌, nat_le, if◌then◌else◌}
 use Rattle.mrc_base.specs.declared.Disp.{Disp}

@@ -1,5 +1,5 @@
--- The limit of a queue. From Mach 3 Kernel Interfaces, mach_port_set_qlimit. The greatest limit,
--- and the order of refusals are this profile's own choice.
+-- Believe. The limit of a queue. From Mach 3 Kernel Interfaces, mach_port_set_qlimit. The greatest
+-- limit, and the order of refusals are this profile's own choice.
 use Rattle.mrc_base.specs.Limits.{limit_of_queue}
 use Rattle.std.specs.Prelude.{ℕ, Ok, nat_lt}
 use Rattle.mrc_model.specs.declared.Code.TheVariants.{KernInvalidTask, KernInvalidValue}

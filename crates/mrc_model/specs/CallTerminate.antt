@@ -1,5 +1,4 @@
--- Ending a task.
--- From Mach 3 Kernel Interfaces, task_terminate.
+-- Believe. Ending a task. From Mach 3 Kernel Interfaces, task_terminate.
 use Rattle.std.specs.Prelude.{ℕ, false, Ok}
 use Rattle.mrc_model.specs.declared.Code.TheVariants.{KernInvalidArgument}
 use Rattle.mrc_model.specs.Map.{get, insert}

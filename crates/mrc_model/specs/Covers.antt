@@ -1,5 +1,4 @@
--- What it means that a set of facts covers a world, and that a world is well formed. This profile's
--- own choice.
+-- Step. When facts cover a world; well-formed worlds. This profile's own choice.
 use Rattle.mrc_base.specs.Limits.{limit_of_names}
 use Rattle.std.specs.Prelude.{◌≡◌, ℕ, ◌<◌, ◌≤◌, true, false, List, Option, Some, None}
 use Rattle.std.specs.Prelude.{if◌then◌else◌, IsTrue}

@@ -1,5 +1,5 @@
--- What calls destroy, and the store after it.
--- From Mach 3 Kernel Interfaces, mach_port_destroy, mach_port_mod_refs and task_terminate.
+-- Believe. What a call destroys, and the store after it. From Mach 3 Kernel Interfaces,
+-- mach_port_destroy, mach_port_mod_refs and task_terminate.
 use Rattle.std.specs.Prelude.{ℕ, List, [], ◌∷◌, ◌++◌, Option, Some, None}
 use Rattle.mrc_base.specs.declared.PortRight.TheVariants.{Receive}
 use Rattle.mrc_model.specs.declared.Entry.{Entry}

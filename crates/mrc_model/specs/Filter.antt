@@ -1,4 +1,4 @@
--- Which messages a class of ports accepts. How a message meets a form is MIG's rule (Server
+-- Believe. Which messages a class accepts. How a message meets a form is MIG's rule (Server
 -- Writer's Guide); that a port takes only messages of its label's forms is this profile's own
 -- choice.
 use Rattle.mrc_base.specs.Disposition.{is_port_number, disp_number}

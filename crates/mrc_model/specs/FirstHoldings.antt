@@ -1,5 +1,6 @@
--- What the lines of a wiring give, read from the lines alone, and the law that this is what is held
--- in the first state. This profile's own choice.
+-- Law. What the lines give, read from the lines alone. What the lines of a wiring give, read from
+-- the lines alone, and the law that this is what is held in the first state. This profile's own
+-- choice.
 use Rattle.mrc_base.specs.Limits.{limit_of_names}
 use Rattle.std.specs.List.{list_any}
 use Rattle.std.specs.Prelude.{◌≡◌, ◌↔◌, ℕ, ◌+◌, ◌<◌, ◌≤◌, ◌==◌, Bool, true, false, not, ◌&&◌, ◌||◌}

@@ -1,6 +1,6 @@
--- The three laws above the checker and the machine, and the headline that follows from them; and
--- the laws of dying ports, of spaces and of tasks. A set of facts is a test. This profile's own
--- choice.
+-- Law. The three laws of the headline, and the headline. The three laws above the checker and the
+-- machine, and the headline that follows from them; and the laws of dying ports, of spaces and of
+-- tasks. A set of facts is a test. This profile's own choice.
 use Rattle.std.specs.Prelude.{◌≡◌, ℕ, Bool, List, Some, IsTrue}
 use Rattle.mrc_base.specs.declared.Fact.{Fact}
 use Rattle.mrc_model.specs.Map.{get, keys}

@@ -1,9 +1,7 @@
--- A map from numbers, as the list of its entries in ascending order of their keys. This profile's
--- own choice of a model for Rust's `BTreeMap`.
---     empty, get, insert, remove, keys, len      as Rust's `BTreeMap`
---     next_key m      one above the last key
---     alter_all g m      each entry changed, or dropped, by g
---     total f m      the sum of f over the entries
+-- Believe. Maps from numbers. This profile's own choice of a model for Rust's `BTreeMap`. empty,
+-- get, insert, remove, keys, len      as Rust's `BTreeMap` next_key m      one above the last key
+-- alter_all g m      each entry changed, or dropped, by g total f m      the sum of f over the
+-- entries
 use Rattle.std.specs.Prelude.{◌≡◌, ℕ, ◌+◌, T, List, [], ◌∷◌, map, length, Option, Some, None, ◌==◌}
 use Rattle.std.specs.Prelude.{if◌then◌else◌}
 use Rattle.mrc_model.specs.Rising.{is_rising, find_key, put_key, alter_list, rising-put}

@@ -1,7 +1,8 @@
--- A message as a task writes and reads it: a header, and arguments in which port rights stand as
--- names; and the bytes that such a message is written as. From Mach 3 Kernel Interfaces, "Messages"
--- (mach_msg_header_t, mach_msg_type_t, mach_msg_type_long_t). The choice between the short and the
--- long descriptor is this profile's own.
+-- Believe. Messages, and the bytes that they are written as. A message as a task writes and reads
+-- it: a header, and arguments in which port rights stand as names; and the bytes that such a
+-- message is written as. From Mach 3 Kernel Interfaces, "Messages" (mach_msg_header_t,
+-- mach_msg_type_t, mach_msg_type_long_t). The choice between the short and the long descriptor is
+-- this profile's own.
 use Rattle.std.specs.Prelude.{ℕ, ◌+◌, ◌*◌, ◌/◌, ◌%◌, ◌-◌, ◌^◌, Bool, true, false, List, [], ◌∷◌}
 use Rattle.std.specs.Prelude.{◌++◌, length, flat_map, replicate, nat_le, ◌&&◌, ◌||◌, if◌then◌else◌}
 

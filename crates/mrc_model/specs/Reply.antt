@@ -1,5 +1,5 @@
--- The calls of the machine and its replies, and steps that may be refused. From Mach 3 Kernel
--- Interfaces (mach_msg and the mach_port_ calls); the numbers of Mach's replies stand by name.
+-- Believe. Calls, replies and refusals. From Mach 3 Kernel Interfaces (mach_msg and the mach_port_
+-- calls); the numbers of Mach's replies stand by name.
 use Rattle.std.specs.Prelude.{ℕ, Bool, true, false, List, Option, Some, None, Result, Ok, Err, ℤ}
 use Rattle.mrc_base.specs.declared.Right.{Right}
 use Rattle.mrc_base.specs.declared.Disp.{Disp}

@@ -1,5 +1,5 @@
--- Tests on rights, and the numbers that messages carry for them.
--- From Mach 3 Kernel Interfaces, "Port rights" and "Messages" (mach_msg_type_name_t).
+-- Believe. Tests on rights. From Mach 3 Kernel Interfaces, "Port rights" and "Messages"
+-- (mach_msg_type_name_t).
 use Rattle.std.specs.Prelude.{ℕ, Bool, true, false}
 use Rattle.mrc_base.specs.declared.PortRight.{PortRight}
 use Rattle.mrc_base.specs.declared.PortRight.TheVariants.{Send, Receive, SendOnce}

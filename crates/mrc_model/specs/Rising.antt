@@ -1,5 +1,5 @@
--- Lists of pairs in ascending order of their keys: the lists that maps are made of (Map).
--- This profile's own choice of a model for Rust's `BTreeMap`.
+-- Believe. Ascending lists, of which maps are made. This profile's own choice of a model for Rust's
+-- `BTreeMap`.
 use Rattle.std.specs.Prelude.{◌≡◌, ℕ, ◌+◌, ◌≤◌, Bool, true, false, ◌&&◌, T, List, [], ◌∷◌, Option}
 use Rattle.std.specs.Prelude.{Some, None, nat_lt, nat_le, ◌==◌, if◌then◌else◌, refl}
 use Rattle.std.proofs.Common.{sym, subst, arith}

@@ -1,5 +1,6 @@
--- Facts over the wiring's tasks and classes, the ten rules, and which sets of facts are closed
--- under them. This profile's own choice.
+-- Believe. Facts, the ten rules, closed, least, derivations, the yes; for what a yes means of runs
+-- a step. Facts over the wiring's tasks and classes, the ten rules, and which sets of facts are
+-- closed under them. This profile's own choice.
 use Rattle.std.specs.Prelude.{◌≡◌, ◌⊎◌, ℕ, ◌<◌, Bool, true, List, [], ◌∷◌, Some, IsTrue}
 use Rattle.std.specs.List.{AllByRecursion}
 use Rattle.mrc_base.specs.declared.PortRight.{PortRight}

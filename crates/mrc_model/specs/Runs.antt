@@ -1,5 +1,4 @@
--- Runs of the machine: lists of calls of tasks in any order, each with its reply. This profile's
--- own choice.
+-- Believe. Lists of calls that lead from one world to another. This profile's own choice.
 use Rattle.std.specs.Prelude.{◌≡◌, ℕ, List, [], ◌∷◌}
 use Rattle.mrc_model.specs.Wiring.{Wiring}
 use Rattle.mrc_model.specs.World.{World}

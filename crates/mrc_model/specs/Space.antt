@@ -1,6 +1,6 @@
--- Taking a right from a name, and giving one. From Mach 3 Kernel Interfaces, "Port rights" and
--- mach_port_insert_right. That a new name is the least unused one, and that a space has at most
--- 4,096 entries, is this profile's own choice.
+-- Believe. Taking and giving rights; what a space is (`IsSpace`). From Mach 3 Kernel Interfaces,
+-- "Port rights" and mach_port_insert_right. That a new name is the least unused one, and that a
+-- space has at most 4,096 entries, is this profile's own choice.
 use Rattle.mrc_base.specs.Limits.{limit_of_names, limit_of_references}
 use Rattle.std.specs.Prelude.{◌≡◌, ℕ, ◌+◌, ◌-◌, ◌<◌, ◌≤◌, Bool, true, false, not, List, [], ◌∷◌}
 use Rattle.std.specs.Prelude.{Option, Some, None, Ok, Err, ◌==◌, nat_lt, nat_le, if◌then◌else◌}

@@ -1,5 +1,5 @@
--- One call of one task: the step of the machine.
--- From Mach 3 Kernel Interfaces; that a call is one whole step is this profile's own choice.
+-- Believe. One call of one task. From Mach 3 Kernel Interfaces; that a call is one whole step is
+-- this profile's own choice.
 use Rattle.std.specs.Prelude.{ℕ, Ok, Err, if◌then◌else◌}
 use Rattle.mrc_model.specs.Map.{get}
 use Rattle.mrc_model.specs.Wiring.{Wiring}

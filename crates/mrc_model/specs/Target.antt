@@ -1,6 +1,6 @@
--- What the calls have in common: the names that stand for no entry, the task that a call acts on,
--- and its entries. From Mach 3 Kernel Interfaces: a send right to a task's kernel port lets its
--- holder make port calls on that task.
+-- Believe. What calls have in common. What the calls have in common: the names that stand for no
+-- entry, the task that a call acts on, and its entries. From Mach 3 Kernel Interfaces: a send right
+-- to a task's kernel port lets its holder make port calls on that task.
 use Rattle.std.specs.Prelude.{ℕ, Bool, false, ◌&&◌, ◌||◌, List, [], ◌∷◌, Option, Some, None, ◌==◌}
 use Rattle.std.specs.Prelude.{nat_lt, if◌then◌else◌}
 use Rattle.mrc_model.specs.declared.Entry.{Entry}

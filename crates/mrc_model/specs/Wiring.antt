@@ -1,6 +1,6 @@
--- What a wiring says: tasks and ports of the first state, classes, interfaces, labels and what
--- slots admit. Classes, labels and admit lines are this profile's own choice; forms are those of
--- MIG (Server Writer's Guide).
+-- Believe. What a wiring says: forms, labels, classes, what slots admit. What a wiring says: tasks
+-- and ports of the first state, classes, interfaces, labels and what slots admit. Classes, labels
+-- and admit lines are this profile's own choice; forms are those of MIG (Server Writer's Guide).
 use Rattle.std.specs.Prelude.{ℕ, ◌+◌, ◌<◌, IsTrue, is_some, Bool, true, false, ◌&&◌, List, [], ◌∷◌}
 use Rattle.std.specs.Prelude.{length, map, flat_map, Option, Some, None, nat_le, nat_lt, ◌==◌}
 use Rattle.std.specs.Prelude.{if◌then◌else◌, slice_get, unwrap_or, option_map}

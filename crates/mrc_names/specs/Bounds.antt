@@ -1,4 +1,4 @@
--- How large a space is. This profile's own choice.
+-- Believe. How large a space is. This profile's own choice.
 use Rattle.std.specs.Prelude.{◌<◌, ◌≤◌, ◌^◌}
 use Rattle.mrc_base.specs.Limits.{limit_of_names}
 use Rattle.mrc_model.specs.Map.{len, Each}

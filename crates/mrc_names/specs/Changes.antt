@@ -1,5 +1,5 @@
--- What changes of a name's references, and of sets, leave of a space.
--- From Mach 3 Kernel Interfaces, mach_port_mod_refs, mach_port_deallocate, mach_port_destroy and
+-- Believe. Only `drop_refs`, `drop_reference`, `without`, `move_member`, for one space. From Mach 3
+-- Kernel Interfaces, mach_port_mod_refs, mach_port_deallocate, mach_port_destroy and
 -- mach_port_move_member.
 use Rattle.std.specs.Prelude.{ℕ, ℤ, Option, Some, None, Ok, ◌==◌, if◌then◌else◌, ⊤}
 use Rattle.mrc_base.specs.declared.Right.{Right}

@@ -1,4 +1,4 @@
--- A space that rights are given to, and what it was before. This profile's own choice.
+-- Step. A space before it was given rights. This profile's own choice.
 use Rattle.mrc_model.specs.World.{Space}
 
 -- the space before any right was given, and what it is now

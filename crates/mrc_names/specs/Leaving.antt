@@ -1,5 +1,4 @@
--- What takings leave of a space that stays: the changes of its names are kept next to it. This
--- profile's own choice.
+-- Step. A space after changes that are kept next to it. This profile's own choice.
 use Rattle.std.specs.Prelude.{◌≡◌, ℕ, List, [], ◌∷◌, Option, Some, ⊤}
 use Rattle.mrc_model.specs.declared.Entry.{Entry}
 use Rattle.mrc_model.specs.Map.{Map, get, Each}

@@ -1,5 +1,5 @@
--- Names and the bits of their rights, as the machine lists them.
--- From Mach 3 Kernel Interfaces, mach_port_names and mach_port_type_t.
+-- Believe. Names with the bits of their rights. From Mach 3 Kernel Interfaces, mach_port_names and
+-- mach_port_type_t.
 use Rattle.std.specs.Prelude.{ℕ, List, map}
 use Rattle.mrc_model.specs.declared.Entry.{Entry}
 use Rattle.mrc_model.specs.CallNames.{mask_of}

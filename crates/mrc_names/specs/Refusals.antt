@@ -1,4 +1,5 @@
--- Refusals of code against those of the definitions. Of want of memory no definition speaks.
+-- Believe. A refusal of code, read as one of the definitions. Of want of memory no definition
+-- speaks.
 use Rattle.std.specs.Prelude.{◌≡◌, Result, Ok, Err, IsOk}
 use Rattle.mrc_base.specs.declared.memory.OrMemory.{OrMemory}
 use Rattle.mrc_base.specs.declared.memory.OrMemory.TheVariants.{Fault, Memory}

@@ -1,5 +1,5 @@
--- Taking a right from a name, and giving one, for a space alone.
--- From Mach 3 Kernel Interfaces, "Port rights" and mach_port_rename.
+-- Believe. Only `take_right`, `taken_port`, `give_right`, `add_entry`, `rename_entry`, for one
+-- space. From Mach 3 Kernel Interfaces, "Port rights" and mach_port_rename.
 use Rattle.std.specs.Prelude.{ℕ, Ok}
 use Rattle.mrc_base.specs.declared.Disp.{Disp}
 use Rattle.mrc_base.specs.declared.PortRight.{PortRight}

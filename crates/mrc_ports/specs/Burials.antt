@@ -1,5 +1,5 @@
--- What the death of ports leaves of others, and of a table.
--- From Mach 3 Kernel Interfaces, mach_port_destroy.
+-- Believe. Only `buried`: what the death of ports leaves. From Mach 3 Kernel Interfaces,
+-- mach_port_destroy.
 use Rattle.std.specs.Prelude.{ℕ, List, Option, Some, None, map, if◌then◌else◌}
 use Rattle.mrc_model.specs.Map.{alter_all}
 use Rattle.mrc_model.specs.World.{Space, Port}

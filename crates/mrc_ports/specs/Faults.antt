@@ -1,4 +1,4 @@
--- Refusals that are no want of memory. This profile's own choice.
+-- Step. A fault that is not out of memory. This profile's own choice.
 use Rattle.mrc_base.specs.declared.memory.OrMemory.{OrMemory}
 use Rattle.mrc_base.specs.declared.memory.OrMemory.TheVariants.{Fault, Memory}
 

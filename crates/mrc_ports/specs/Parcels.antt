@@ -1,5 +1,5 @@
--- Arguments of queued messages in code, read as the definitions'; and what a queued message is at
--- all times. This profile's own choice.
+-- Step. Queued arguments in code. Arguments of queued messages in code, read as the definitions';
+-- and what a queued message is at all times. This profile's own choice.
 use Rattle.std.specs.Prelude.{ℕ, ◌+◌, List, length, map, flat_map}
 use Rattle.mrc_ports.specs.declared.parcel.QueuedArgument.{QueuedArgument}
 use Rattle.mrc_ports.specs.declared.parcel.QueuedArgument.TheVariants.{Data, Items}

@@ -1,6 +1,6 @@
--- Queues of ports, and what sending and receiving leave of a port. From Mach 3 Kernel Interfaces,
--- mach_msg. How many messages may wait at most, whatever the limit of a queue says, is this
--- profile's own choice: memory has no room for as many.
+-- Step. What sending and receiving leave of a port. From Mach 3 Kernel Interfaces, mach_msg. How
+-- many messages may wait at most, whatever the limit of a queue says, is this profile's own choice:
+-- memory has no room for as many.
 use Rattle.std.specs.Prelude.{ℕ, ◌≤◌, ◌+◌, ◌%◌, ◌^◌, Bool, false, not, ◌&&◌, List, [], ◌∷◌}
 use Rattle.std.specs.Prelude.{◌++◌, length, Option, Some, None, nat_le}
 use Rattle.mrc_model.specs.declared.Item.TheVariants.{Null}

@@ -1,6 +1,5 @@
--- The live ports with the number of the next birth, and changes of them.
--- From Mach 3 Kernel Interfaces, "Ports". That numbers never come again is this profile's own
--- choice.
+-- Step. The table of ports. From Mach 3 Kernel Interfaces, "Ports". That numbers never come again
+-- is this profile's own choice.
 use Rattle.std.specs.Prelude.{ℕ, ◌+◌, ◌<◌, ◌≤◌, Bool, ◌||◌, Option, Some, None, nat_le, length}
 use Rattle.mrc_base.specs.Limits.{limit_of_ports, limit_of_births}
 use Rattle.mrc_model.specs.CallCreateTask.{limit_of_task_numbers}

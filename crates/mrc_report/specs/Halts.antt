@@ -1,5 +1,5 @@
--- What a script prints whose tasks run as threads, where all that have lines left wait for messages
--- in vain. This profile's own choice.
+-- Believe. What is printed if no task can go on. What a script prints whose tasks run as threads,
+-- where all that have lines left wait for messages in vain. This profile's own choice.
 use Rattle.std.specs.Prelude.{◌≡◌, ℕ, ◌<◌, suc, zero, List, [], ◌∷◌, ◌++◌, Some, None, Option}
 use Rattle.std.specs.Prelude.{IfSome, length, map, slice_get, if◌then◌else◌, ◌==◌, IsPermutation}
 use Rattle.std.specs.Prelude.{true}

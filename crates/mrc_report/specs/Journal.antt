@@ -1,5 +1,4 @@
--- What is printed of a journal, and what a script prints whose tasks run as threads. This profile's
--- own choice.
+-- Believe. What is printed of tasks that run as threads. This profile's own choice.
 use Rattle.std.specs.Prelude.{◌≡◌, ℕ, ◌<◌, List, [], ◌∷◌, ◌++◌, Some, length, map, slice_get}
 use Rattle.std.specs.Prelude.{if◌then◌else◌, ◌==◌}
 use Rattle.mrc_live.specs.Runs.{event_of}

@@ -1,4 +1,5 @@
--- What the seats have done of a script whose tasks run as threads. This profile's own choice.
+-- Believe. Only what `run_live` cites: which calls the seats have made, and which refusal comes
+-- first. This profile's own choice.
 use Rattle.std.specs.Prelude.{◌≡◌, ◌<◌, ℕ, List, [], ◌∷◌, ◌++◌, length, Option, None, Some, map}
 use Rattle.std.specs.Prelude.{if◌then◌else◌, ◌==◌, slice_get}
 use Rattle.mrc_live.specs.Desks.{SeatState}

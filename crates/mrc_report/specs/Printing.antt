@@ -1,6 +1,6 @@
--- What is printed of events: the number of the event, the task, and the reply. Codes have Mach's
--- names (Mach 3 Kernel Interfaces, kern_return_t and mach_msg_return_t), but for the last, which is
--- this profile's own, as the forms are.
+-- Believe. Codes, replies and events as they are printed. Codes have Mach's names (Mach 3 Kernel
+-- Interfaces, kern_return_t and mach_msg_return_t), but for the last, which is this profile's own,
+-- as the forms are.
 use Rattle.std.specs.Prelude.{ℕ, ◌+◌, ◌/◌, ◌%◌, nat_lt, List, [], ◌∷◌, ◌++◌, codes, decimal}
 use Rattle.std.specs.Prelude.{flat_map, if◌then◌else◌}
 use Rattle.mrc_model.specs.declared.Code.{Code}

@@ -1,5 +1,5 @@
--- What a replay of a script prints: the events of its calls, one after the other from the wiring's
--- first state on. This profile's own choice.
+-- Believe. What a replay prints. What a replay of a script prints: the events of its calls, one
+-- after the other from the wiring's first state on. This profile's own choice.
 use Rattle.std.specs.Prelude.{◌≡◌, ℕ, ◌+◌, List, [], ◌∷◌, ◌++◌, length, map}
 use Rattle.mrc_model.specs.Map.{len}
 use Rattle.mrc_model.specs.World.{World}

@@ -1,6 +1,5 @@
--- What a script says: the calls of its lines in order, or the first fault. Lines and words are
--- those of wirings; there is no heading, and a script may have no line of words. This profile's own
--- choice.
+-- Believe. Which texts are scripts, and the first fault. Lines and words are those of wirings;
+-- there is no heading, and a script may have no line of words. This profile's own choice.
 use Rattle.std.specs.Prelude.{ℕ, Bool, ◌≤◌, List, length, Result}
 use Rattle.mrc_base.specs.Limits.{limit_of_lines}
 use Rattle.mrc_wiring_text.specs.declared.faults.TextFault.{TextFault}

@@ -1,4 +1,4 @@
--- What came of a script whose tasks run as threads. This profile's own choice.
+-- Believe. What came of a script of threads. This profile's own choice.
 use Rattle.std.specs.Prelude.{List}
 use Rattle.mrc_report.specs.Halts.{IsHalted}
 use Rattle.mrc_report.specs.Journal.{IsLive}

@@ -1,4 +1,5 @@
--- A set of facts in two halves: rows of bits, and a list of those that have no place in them.
+-- Step. Facts in rows, and those next to them. A set of facts in two halves: rows of bits, and a
+-- list of those that have no place in them.
 use Rattle.std.specs.Prelude.{◌≡◌, ◌+◌, false, ◌||◌, List, length, IsTrue, Option, Some, None}
 use Rattle.std.specs.Prelude.{if◌then◌else◌}
 use Rattle.mrc_base.specs.declared.Fact.{Fact}

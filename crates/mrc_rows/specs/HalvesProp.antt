@@ -1,4 +1,4 @@
--- Two halves are one list of facts.
+-- Step. Both halves are one list of facts. Two halves are one list of facts.
 use Rattle.std.proofs.Common.{List, sym, ◌∙◌}
 use mathlib.Core.HLevel.{Σ_prop_path}
 use mathlib.Core.Bool.{Bool-set}

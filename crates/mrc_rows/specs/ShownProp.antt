@@ -1,4 +1,4 @@
--- Rows show one list of facts.
+-- Step. Rows are one list of facts. Rows show one list of facts.
 use Rattle.std.proofs.Common.{ℕ, List, Vec, sym, ◌∙◌}
 use Rattle.std.specs.declared.alloc.Global.{Global}
 use mathlib.Core.HLevel.{Σ_prop_path}

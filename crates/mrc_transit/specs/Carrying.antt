@@ -1,4 +1,4 @@
--- What is sent can be received. This profile's own choice of what a message may be.
+-- Law. What is sent can be received. This profile's own choice of what a message may be.
 use Rattle.std.specs.Prelude.{◌≡◌, ℕ, List, Ok}
 use Rattle.mrc_model.specs.Message.{Arg}
 use Rattle.mrc_model.specs.Wiring.{Wiring, Shape}

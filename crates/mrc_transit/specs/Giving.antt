@@ -1,5 +1,5 @@
--- Giving that is refused. From Mach 3 Kernel Interfaces, mach_msg. That a space has at most 4,096
--- entries is this profile's own choice.
+-- Step. Giving that is refused. From Mach 3 Kernel Interfaces, mach_msg. That a space has at most
+-- 4,096 entries is this profile's own choice.
 use Rattle.std.specs.Prelude.{◌≡◌, ℕ, true, false}
 use Rattle.mrc_base.specs.declared.memory.OrMemory.{OrMemory}
 use Rattle.mrc_base.specs.declared.memory.OrMemory.TheVariants.{Fault, Memory}

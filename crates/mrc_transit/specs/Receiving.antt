@@ -1,5 +1,5 @@
--- What a received message leaves, and why none is received. From Mach 3 Kernel Interfaces, mach_msg
--- (MACH_RCV_MSG, MACH_RCV_LARGE).
+-- Believe. Only `receive_reply`, `IsReceiveRefusal`, `AreHousedAlike`. From Mach 3 Kernel
+-- Interfaces, mach_msg (MACH_RCV_MSG, MACH_RCV_LARGE).
 use Rattle.std.specs.Prelude.{◌≡◌, ℕ, true, false, List, Some, Ok, Err, IsOk, is_some, nat_lt}
 use Rattle.std.specs.Prelude.{if◌then◌else◌}
 use Rattle.mrc_base.specs.declared.memory.OrMemory.{OrMemory}

@@ -1,6 +1,6 @@
--- How many new names the rights of a message take, one given after the other. From Mach 3 Kernel
--- Interfaces, "Port rights": a send or receive right gets the name of its port's entry, if there is
--- one. That a space has at most 4,096 entries is this profile's own choice.
+-- Step. How many new names a message takes. From Mach 3 Kernel Interfaces, "Port rights": a send or
+-- receive right gets the name of its port's entry, if there is one. That a space has at most 4,096
+-- entries is this profile's own choice.
 use Rattle.std.specs.Prelude.{ℕ, ◌+◌, Bool, true, false, not, ◌||◌, List, [], ◌∷◌, ◌++◌, ◌==◌}
 use Rattle.std.specs.Prelude.{flat_map, is_some}
 use Rattle.std.specs.List.{list_any}

@@ -1,5 +1,6 @@
--- Plans of messages that are sent, and what carrying one out does. From Mach 3 Kernel Interfaces,
--- mach_msg (MACH_SEND_MSG). That a plan is made first is this profile's own choice.
+-- Believe. What the plan of a message does, when it can be carried out, and which call it is of.
+-- From Mach 3 Kernel Interfaces, mach_msg (MACH_SEND_MSG). That a plan is made first is this
+-- profile's own choice.
 use Rattle.std.specs.Prelude.{◌≡◌, ℕ, Bool, false, List, Option}
 use Rattle.std.specs.Prelude.{Some, None, Ok, Err, IsOk, IsSome, option_and_then}
 use Rattle.mrc_base.specs.declared.Disp.{Disp}

@@ -1,4 +1,4 @@
--- Why sending is refused, and one name of an argument. From Mach 3 Kernel Interfaces, mach_msg.
+-- Believe. Only `fault_reply`. From Mach 3 Kernel Interfaces, mach_msg.
 use Rattle.std.specs.Prelude.{ℕ, Ok}
 use Rattle.mrc_base.specs.declared.Disp.{Disp}
 use Rattle.mrc_model.specs.declared.Code.TheVariants.{MachSendInvalidRight}

@@ -1,4 +1,4 @@
--- What a task that sends has given so far, and the store after that. This profile's own choice.
+-- Step. The store after what a task has given so far. This profile's own choice.
 use Rattle.std.specs.Prelude.{◌≡◌, ◌≤◌, ◌+◌, ◌-◌, ◌/◌, List, [], ◌∷◌, ◌++◌, length, ℕ, Option}
 use Rattle.mrc_base.specs.Limits.{limit_of_message}
 use Rattle.mrc_base.specs.declared.PortRight.{PortRight}

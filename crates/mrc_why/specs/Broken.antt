@@ -1,5 +1,6 @@
--- The lines of a policy that are broken, each with a chain that derives what it forbids; the
--- trusted task that another could rewrite; and the verdict. This profile's own choice.
+-- Believe. Which lines of a policy are broken, and what a yes and a no say. The lines of a policy
+-- that are broken, each with a chain that derives what it forbids; the trusted task that another
+-- could rewrite; and the verdict. This profile's own choice.
 use Rattle.std.specs.Prelude.{◌≡◌, ◌⊎◌, ℕ, Bool, true, false, List, [], ◌∷◌, ◌++◌, filter, map}
 use Rattle.std.specs.Prelude.{Option, Some, None, IfSome}
 use Rattle.std.specs.List.{All}

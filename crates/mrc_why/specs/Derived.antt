@@ -1,4 +1,4 @@
--- A wiring with the facts of its least closed set. This profile's own choice.
+-- Step. A wiring with its least set. This profile's own choice.
 use Rattle.std.specs.Prelude.{List}
 use Rattle.mrc_base.specs.declared.Fact.{Fact}
 use Rattle.mrc_wiring.specs.Table.{Table}

@@ -1,4 +1,4 @@
--- Worked examples, by computation: their values were worked out by hand.
+-- Worked. Answers. Worked examples, by computation: their values were worked out by hand.
 use Rattle.std.specs.Prelude.{◌≡◌, List, [], ◌∷◌, ◌++◌, Some, None, codes, refl}
 use Rattle.std.specs.Fmt.{digits}
 use Rattle.mrc_base.specs.declared.Fact.TheVariants.{Hold}

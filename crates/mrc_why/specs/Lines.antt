@@ -1,5 +1,4 @@
--- Which lines of a wiring make its first state, by their numbers, and which line gives a holding.
--- This profile's own choice.
+-- Believe. Which line of a wiring gives a holding. This profile's own choice.
 use Rattle.std.specs.Prelude.{◌≡◌, ℕ, Bool, true, false, List, [], ◌∷◌, Some, slice_get}
 use Rattle.std.specs.Prelude.{if◌then◌else◌}
 use Rattle.mrc_base.specs.declared.PortRight.{PortRight}

@@ -1,4 +1,4 @@
--- What the search for a slot has found in one form. This profile's own choice.
+-- Step. What the search for a slot has found. This profile's own choice.
 use Rattle.std.specs.Prelude.{◌≡◌, ℕ, Option, Some, None}
 use Rattle.mrc_model.specs.declared.RequestKind.TheVariants.{Routine}
 use Rattle.mrc_model.specs.Wiring.{Wiring, Form as ModelForm, form_shapes}

@@ -1,6 +1,7 @@
--- Where a step of a chain comes from in the files of a system: the line of the wiring that gives
--- what is held at first, the slot through which a right passes, the subsystem whose request brings
--- a reply right, the task whose kernel port is held. This profile's own choice.
+-- Believe. Where a step of a chain comes from. Where a step of a chain comes from in the files of a
+-- system: the line of the wiring that gives what is held at first, the slot through which a right
+-- passes, the subsystem whose request brings a reply right, the task whose kernel port is held.
+-- This profile's own choice.
 use Rattle.std.specs.Prelude.{◌≡◌, ℕ, ◌<◌, true, List, [], ◌∷◌, find, Option, Some}
 use Rattle.std.specs.Prelude.{slice_get, IfSome}
 use Rattle.mrc_base.specs.declared.PortRight.{PortRight}

@@ -1,6 +1,6 @@
--- What is printed of a policy: the trusted task that another could rewrite and the lines that are
--- broken, each with its chain, flat or as a tree, and where each step comes from. This profile's
--- own choice.
+-- Believe. What is printed of a policy. What is printed of a policy: the trusted task that another
+-- could rewrite and the lines that are broken, each with its chain, flat or as a tree, and where
+-- each step comes from. This profile's own choice.
 use Rattle.std.specs.Prelude.{◌≡◌, ℕ, zero, suc, ◌+◌, ◌==◌, List, [], ◌∷◌, ◌++◌, Option, Some}
 use Rattle.std.specs.Prelude.{None, codes, decimal, slice_get, option_and_then, if◌then◌else◌}
 use Rattle.mrc_wiring.specs.declared.claim.ForbiddenLine.{ForbiddenLine}

@@ -1,5 +1,5 @@
--- A chain as a tree, from its conclusion down: which step each line tells, how deep it stands, and
--- which earlier line has told the step. This profile's own choice.
+-- Believe. A chain as a tree. A chain as a tree, from its conclusion down: which step each line
+-- tells, how deep it stands, and which earlier line has told the step. This profile's own choice.
 use Rattle.std.specs.Prelude.{ℕ, zero, suc, ◌+◌, ◌*◌, ◌-◌, ◌^◌, ◌==◌, List, [], ◌∷◌, ◌++◌, Option}
 use Rattle.std.specs.Prelude.{Some, None, length, set, replicate, min, slice_get, if◌then◌else◌}
 use Rattle.mrc_closure.specs.declared.chains.Places.{Places}

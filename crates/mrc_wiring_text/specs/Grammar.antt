@@ -1,5 +1,6 @@
--- The grammar of the lines of a wiring and of a policy: the words that say each thing, apart from
--- how words are read. This profile's own choice.
+-- Believe. The words of each line, by the edition of the text; with laws. The grammar of the lines
+-- of a wiring and of a policy: the words that say each thing, apart from how words are read. This
+-- profile's own choice.
 use Rattle.std.specs.Prelude.{◌≡◌, ◌<◌, ◌↔◌, ◌⊎◌, ⊤, ℕ, codes, IsTrue, List, [], ◌∷◌, ◌++◌}
 use Rattle.std.specs.Prelude.{Option, Some, None, Bool, true, false}
 use Rattle.std.specs.List.{AllByRecursion, flat_map}

@@ -1,5 +1,4 @@
--- What a line says that a class accepts: `none`, or items with a comma between each two. The
--- grammar is this profile's own choice.
+-- Believe. What a line says that a class accepts. The grammar is this profile's own choice.
 use Rattle.std.specs.Prelude.{ℕ, Bool, false, bytes_eq, codes, List, [], ◌∷◌, Option, Some, None}
 use Rattle.std.specs.Prelude.{if◌then◌else◌}
 use Rattle.std.specs.List.{slice_split}

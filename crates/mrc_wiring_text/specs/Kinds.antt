@@ -1,4 +1,4 @@
--- Kinds of births: small numbers in decimal digits. This profile's own choice.
+-- Believe. The kinds of births, and their words. This profile's own choice.
 use Rattle.std.specs.Prelude.{ℕ, Bool, ◌==◌, ◌&&◌, not, nat_lt, List, length, Option, Some, None}
 use Rattle.std.specs.Prelude.{if◌then◌else◌}
 use Rattle.std.specs.Char.{is_ascii_digit}

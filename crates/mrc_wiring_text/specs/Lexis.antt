@@ -1,4 +1,4 @@
--- How a text falls into lines, and a line into words. This grammar is this profile's own choice.
+-- Believe. Lines and words. This grammar is this profile's own choice.
 use Rattle.std.specs.Prelude.{ℕ, ◌+◌, ◌-◌, ◌*◌, Bool, ◌==◌, ◌||◌, not, List, [], ◌∷◌, length}
 use Rattle.std.specs.Prelude.{filter, fold, if◌then◌else◌, bytes_eq, codes}
 use Rattle.std.specs.List.{onto_first, slice_split, before_first, flat_map}

@@ -1,4 +1,4 @@
--- What a name of a task or a port is. The grammar of names is this profile's own choice.
+-- Believe. What a name is. The grammar of names is this profile's own choice.
 use Rattle.std.specs.Prelude.{ℕ, Bool, false, Option, Some, None, if◌then◌else◌, ◌==◌, ◌||◌, ◌&&◌}
 use Rattle.std.specs.Prelude.{nat_lt, List, [], ◌∷◌, length}
 use Rattle.std.specs.List.{list_all}

@@ -1,5 +1,4 @@
--- What the lines of a policy say: the rights that a task must never hold. The grammar is this
--- profile's own choice.
+-- Believe. What a policy's line says. The grammar is this profile's own choice.
 use Rattle.std.specs.Prelude.{ℕ, bytes_eq, codes, List, [], ◌∷◌, Option, Some, None, Result}
 use Rattle.std.specs.Prelude.{if◌then◌else◌}
 use Rattle.mrc_base.specs.declared.PortRight.{PortRight}

@@ -1,6 +1,6 @@
--- What a text of lines means: the lines that say something, each with its number, or the first
--- fault. Both kinds of text begin with a line that names the kind and its edition, by version 1, 2
--- or 3; no policy has version 3. This grammar is this profile's own choice.
+-- Believe. The first fault; for the value a step. Both kinds of text begin with a line that names
+-- the kind and its edition, by version 1, 2 or 3; no policy has version 3. This grammar is this
+-- profile's own choice.
 use Rattle.std.specs.Prelude.{ℕ, ◌+◌, ◌==◌, ◌&&◌, nat_lt, bytes_eq, codes, Bool, true, false}
 use Rattle.std.specs.Prelude.{List, [], ◌∷◌}
 use Rattle.std.specs.Prelude.{length, Option, Some, None, Result, Ok, Err, if◌then◌else◌}

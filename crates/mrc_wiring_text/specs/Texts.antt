@@ -1,5 +1,6 @@
--- What a text is, apart from how it is read: lines without words, a heading, and lines that each
--- say something or have no words. This grammar is this profile's own choice.
+-- Believe. Which bytes are a wiring or a policy, and what it says. What a text is, apart from how
+-- it is read: lines without words, a heading, and lines that each say something or have no words.
+-- This grammar is this profile's own choice.
 use Rattle.std.specs.Prelude.{◌≡◌, ◌≢◌, ℕ, ◌+◌, ◌≤◌, ◌⊎◌, IsTrue, List, [], ◌∷◌, ◌++◌, length}
 use Rattle.std.specs.Prelude.{Option, Some}
 use Rattle.std.specs.List.{AllByRecursion}

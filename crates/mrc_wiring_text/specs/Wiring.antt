@@ -1,6 +1,6 @@
--- What the lines of a wiring say: the tasks of a system and its wired ports, what a class accepts,
--- what the tasks hold at first, which classes a slot admits, and what trusted tasks may do. The
--- grammar is this profile's own choice.
+-- Believe. What a wiring's line says. What the lines of a wiring say: the tasks of a system and its
+-- wired ports, what a class accepts, what the tasks hold at first, which classes a slot admits, and
+-- what trusted tasks may do. The grammar is this profile's own choice.
 use Rattle.std.specs.Prelude.{ℕ, ◌&&◌, bytes_eq, codes, List, [], ◌∷◌, Option, Some, None, Result}
 use Rattle.std.specs.Prelude.{if◌then◌else◌}
 use Rattle.std.specs.List.{before_first, after_first}

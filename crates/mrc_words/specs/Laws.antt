@@ -1,4 +1,4 @@
--- Printing and reading agree. This profile's own choice.
+-- Law. Printing and reading agree. This profile's own choice.
 use Rattle.std.specs.Prelude.{◌≡◌, ℕ, List, length, Some}
 use Rattle.mrc_base.specs.declared.Fact.{Fact}
 use Rattle.mrc_model.specs.Rules.{InRange}

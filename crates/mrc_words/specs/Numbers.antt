@@ -1,4 +1,4 @@
--- The numbers that words spell. This profile's own choice.
+-- Believe. Which number a word is. This profile's own choice.
 use Rattle.std.specs.Prelude.{ℕ, ◌^◌, ◌&&◌, nat_lt, nat_le, List, [], ◌∷◌, Option, Some, None}
 use Rattle.std.specs.Prelude.{if◌then◌else◌, ℤ, pos, neg_ℤ, ◌==◌}
 use Rattle.mrc_wiring_text.specs.Lexis.{decimal}

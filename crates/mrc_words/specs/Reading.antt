@@ -1,5 +1,4 @@
--- What a text names: its words stand between single blanks, and are looked up. This profile's own
--- choice.
+-- Step. The fact that a text names. This profile's own choice.
 use Rattle.std.specs.Prelude.{ℕ, Bool, List, Option, Some, None, codes, bytes_eq, nat_lt, length}
 use Rattle.std.specs.Prelude.{◌==◌}
 use Rattle.std.specs.Prelude.{if◌then◌else◌}

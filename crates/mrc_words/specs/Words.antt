@@ -1,5 +1,4 @@
--- The words in which a fact is printed: rights, classes and tasks by the names of a wiring. This
--- profile's own choice.
+-- Believe. Rights, classes, tasks and facts as they are printed. This profile's own choice.
 use Rattle.std.specs.Prelude.{ℕ, ◌==◌, List, [], ◌++◌, Option, Some, None, codes, decimal}
 use Rattle.std.specs.Prelude.{slice_get, if◌then◌else◌}
 use Rattle.mrc_base.specs.declared.PortRight.{PortRight}
