@@ -5,7 +5,7 @@ use crate::systems::{first_part, wired_of};
 use anyhow::Result;
 use mrc_base::ClassId;
 use mrc_desc::{Message, read_message};
-use mrc_filter::{Form, admit_port, judge};
+use mrc_filter::{AcceptedForm, admit_port, judge};
 use mrc_wiring::Wired;
 use std::alloc::Global;
 
@@ -19,7 +19,7 @@ fn class_of(wired: &Wired, text: &str) -> Result<ClassId> {
 
 /// Whether the slot of a form may carry a port: its argument's number and the port's class, with a
 /// blank between them.
-fn port_text(alloc: Global, wired: &Wired, form: &Form<'_>, port: &str) -> Result<String> {
+fn port_text(alloc: Global, wired: &Wired, form: &AcceptedForm<'_>, port: &str) -> Result<String> {
     let (slot, class) = port.split_once(' ').unwrap_or((port, ""));
     Ok(
         match admit_port(wired, form, slot.parse()?, class_of(wired, class)?) {
@@ -30,7 +30,7 @@ fn port_text(alloc: Global, wired: &Wired, form: &Form<'_>, port: &str) -> Resul
 }
 
 /// Where the form stands, and whether its slots may carry ports, which have `,` between them.
-fn form_text(alloc: Global, wired: &Wired, form: &Form<'_>, ports: &str) -> Result<String> {
+fn form_text(alloc: Global, wired: &Wired, form: &AcceptedForm<'_>, ports: &str) -> Result<String> {
     let mut text = format!(in alloc; "item {} id {}", form.item, form.id)?;
     if ports.is_empty() {
         return Ok(text);

@@ -23,13 +23,13 @@ use Rattle.mrc_classes.specs.declared.instances.Premise.{Premise}
 use Rattle.mrc_classes.specs.declared.instances.Premise.TheVariants.{Only, Either}
 use Rattle.mrc_classes.specs.declared.instances.Candidates.{Candidates}
 use Rattle.mrc_classes.specs.declared.instances.Candidates.TheVariants.{Never, ByNone, ByOne, ByTwo}
-use Rattle.mrc_classes.specs.Concluding.{conclusion, Concludes, AreKnown, FollowsBy}
+use Rattle.mrc_classes.specs.Concluding.{conclusion, Concludes}
 use Rattle.mrc_classes.specs.Missing.{rule_number}
 use Rattle.mrc_classes.specs.Instances.{IsInstance, AreParts, Concluded, fact_of, IsWithin, IsGoal}
 use Rattle.mrc_classes.specs.Instances.{IsSource}
 use Rattle.mrc_classes.specs.Instances.{has_premise, HavePremises, premises_count, HasCount}
 use Rattle.mrc_classes.specs.Instances.{fact_in, premises_in}
-use Rattle.mrc_classes.proofs.Meaning.{concluded, tested, all_known}
+use Rattle.mrc_classes.proofs.Meaning.{AreKnown, FollowsBy, concluded, tested, all_known}
 use Rattle.mrc_classes.proofs.Missed.{number_rule}
 
 -- an instance of a rule has so many premises

@@ -27,9 +27,24 @@ use Rattle.mrc_classes.specs.declared.rule_names.RuleName.TheVariants.{First, Bi
 use Rattle.mrc_classes.specs.declared.rule_names.RuleName.TheVariants.{Reply, Received, KernelPort}
 use Rattle.mrc_classes.specs.declared.rule_names.RuleName.TheVariants.{Request, Notice, Returned}
 use Rattle.mrc_classes.specs.Concluding.{conclusion, rows, Concludes, can_send_to, is_taken_of}
-use Rattle.mrc_classes.specs.Concluding.{kernel_port_held, may_share, AreKnown, FollowsBy}
+use Rattle.mrc_classes.specs.Concluding.{kernel_port_held, may_share}
 use Rattle.mrc_classes.specs.Missing.{rule_number}
 use Rattle.mrc_classes.proofs.Beginning.{first_hold_is}
+
+-- The premises are over the wiring's tasks and classes. The last one is in G, and the first of two
+-- in F.
+abbrev pub AreKnown : Wiring → FactSet → FactSet → List Fact → Type 0
+AreKnown W F G [] = Unit {0}
+AreKnown W F G (p ∷ []) = (InRange W p × G p) × Unit {0}
+AreKnown W F G (p ∷ q ∷ more) =
+    (InRange W p × F p) × AllByRecursion (λ x. InRange W x × G x) (q ∷ more)
+
+-- the rule of this number concludes the fact from such premises, by an instance in range
+pub record FollowsBy (W : Wiring) (F G : FactSet) (k : ℕ) (f : Fact) : Type 0 where
+  pub premises : List Fact
+  pub rule : Rule W k premises f
+  pub known : AreKnown W F G premises
+  pub in_range : InRange W f
 
 -- the class of a task's kernel port is one of the classes
 pub kernel_there : (W : Wiring) (u : ℕ) → u < W.tasks → kernel_class W u < classes W

@@ -14,10 +14,10 @@ use Rattle.mrc_classes.specs.declared.rule_names.RuleName.TheVariants.{First, Bi
 use Rattle.mrc_classes.specs.declared.rule_names.RuleName.TheVariants.{Reply, Received, KernelPort}
 use Rattle.mrc_classes.specs.declared.rule_names.RuleName.TheVariants.{Request, Notice, Returned}
 use Rattle.mrc_classes.specs.Following.{IsConsequence}
-use Rattle.mrc_classes.specs.Concluding.{conclusion, rows, has_two, AreKnown, FollowsBy}
+use Rattle.mrc_classes.specs.Concluding.{conclusion, rows, has_two}
 use Rattle.mrc_classes.specs.Missing.{rule_number}
 use Rattle.mrc_classes.specs.Places.{AtPlace}
-use Rattle.mrc_classes.proofs.Meaning.{IsTested, tested, concluded}
+use Rattle.mrc_classes.proofs.Meaning.{AreKnown, FollowsBy, IsTested, tested, concluded}
 use Rattle.mrc_classes.proofs.Missed.{placed}
 
 -- a place is the number of a class

@@ -3,9 +3,7 @@
 -- facts of the set of the first premises, T those of the set of the last. This profile's own
 -- choice.
 use Rattle.std.specs.Prelude.{◌≡◌, ℕ, ◌<◌, ◌*◌, ◌/◌, ◌%◌, ◌==◌, ◌||◌, ◌&&◌, Bool, true, false}
-use Rattle.std.specs.Prelude.{not, Some, IsTrue, List, [], ◌∷◌, if◌then◌else◌}
-use Rattle.std.specs.List.{AllByRecursion}
-use Rattle.mrc_model.specs.Rules.{FactSet, Rule, InRange}
+use Rattle.std.specs.Prelude.{not, Some, IsTrue, [], ◌∷◌, if◌then◌else◌}
 use Rattle.mrc_base.specs.declared.PortRight.{PortRight}
 use Rattle.mrc_base.specs.declared.PortRight.TheVariants.{Send, Receive, SendOnce}
 use Rattle.mrc_base.specs.declared.Fact.{Fact}
@@ -154,18 +152,3 @@ pub record Concludes (W : Wiring) (S T : Fact → Bool) (rule : RuleName) (row c
   pub there : source < sources W rule
   pub first : IsTrue (leads W S rule row source)
   pub last : Comes W T rule row source c r
-
--- The premises are over the wiring's tasks and classes. The last one is in G, and the first of two
--- in F.
-abbrev pub AreKnown : Wiring → FactSet → FactSet → List Fact → Type 0
-AreKnown W F G [] = Unit {0}
-AreKnown W F G (p ∷ []) = (InRange W p × G p) × Unit {0}
-AreKnown W F G (p ∷ q ∷ more) =
-    (InRange W p × F p) × AllByRecursion (λ x. InRange W x × G x) (q ∷ more)
-
--- the rule of this number concludes the fact from such premises, by an instance in range
-pub record FollowsBy (W : Wiring) (F G : FactSet) (k : ℕ) (f : Fact) : Type 0 where
-  pub premises : List Fact
-  pub rule : Rule W k premises f
-  pub known : AreKnown W F G premises
-  pub in_range : InRange W f

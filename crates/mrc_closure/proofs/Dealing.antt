@@ -14,7 +14,7 @@ use Rattle.mrc_classes.specs.Following.{IsListOf}
 use Rattle.mrc_classes.proofs.Placing.{to_place, from_place}
 use Rattle.mrc_closure.specs.declared.workers.Part.{Part}
 use Rattle.mrc_closure.specs.Working.{IsWorking}
-use Rattle.mrc_closure.specs.Merging.{FromOne}
+use Rattle.mrc_closure.proofs.Keeping.{FromOne}
 use Rattle.mrc_closure.specs.Dealing.{AtTurn, FromDealt, FromFirst, IsFind}
 
 -- all that was put into an empty set at the worker's places

@@ -15,7 +15,8 @@ use Rattle.mrc_classes.specs.Instances.{premise_list}
 use Rattle.mrc_facts.proofs.Total.{equal_from_same, same_itself}
 use Rattle.mrc_classes.proofs.Following.{all_as}
 use Rattle.mrc_closure.specs.declared.chains.Link.{Link}
-use Rattle.mrc_closure.specs.Merging.{FromOne, Merged}
+use Rattle.mrc_closure.specs.Merging.{Merged}
+use Rattle.mrc_closure.proofs.Keeping.{FromOne}
 use Rattle.mrc_closure.specs.Orders.{IsFollowing, IsOnce, IsOrder, HaveSame, link_instance}
 use Rattle.mrc_closure.specs.Orders.{backward, HasLink, IsLinked}
 use Rattle.mrc_closure.proofs.Cuts.{cut_none, cut_append}

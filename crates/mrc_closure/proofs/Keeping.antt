@@ -15,7 +15,14 @@ use Rattle.mrc_facts.specs.Sets.{has, IsAscending}
 use Rattle.mrc_classes.specs.Following.{IsConsequence, IsFirstFact, IsListOf}
 use Rattle.mrc_facts.proofs.Removing.{length-together}
 use Rattle.mrc_classes.proofs.Following.{all_as}
-use Rattle.mrc_closure.specs.Merging.{FromOne, Merged}
+use Rattle.mrc_closure.specs.Merging.{Merged}
+
+-- it follows from one of the new facts, with those of the set, which lacks it
+pub record FromOne (W : Wiring) (facts new : List Fact) (g : Fact) : Type 0 where
+  pub premise : Fact
+  pub there : IsTrue (has new premise)
+  pub consequence : IsConsequence W (Has (has facts)) premise g
+  pub fresh : has facts g ≡ false
 
 -- tests
 

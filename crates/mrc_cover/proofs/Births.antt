@@ -15,7 +15,7 @@ use Rattle.mrc_model.specs.Map.{empty, get, insert, len}
 use Rattle.mrc_model.specs.Rules.{FactSet}
 use Rattle.mrc_model.specs.Space.{is_entry_of, unused}
 use Rattle.mrc_model.specs.Target.{is_alive, with_store}
-use Rattle.mrc_model.specs.Wiring.{Wiring, classes, is_kernel_class, numbers_of}
+use Rattle.mrc_model.specs.Wiring.{Wiring, classes, numbers_of}
 use Rattle.mrc_model.specs.World.{Port, Space, Store, World, class_of, entry_rights, places}
 use Rattle.mrc_model.specs.World.{queue_rights, receives, space, task_class}
 use Rattle.mrc_model.specs.declared.Entry.{Entry}
@@ -27,7 +27,7 @@ use Rattle.mrc_cover.proofs.Kept.{IsAlive, Kept}
 use Rattle.mrc_cover.proofs.Rights.{Known-grow, MayCarry, MayHold, each_receives, queue_receives}
 use Rattle.mrc_cover.proofs.Rights.{right_on, unknown_right}
 use Rattle.mrc_cover.proofs.Sound.{SoundWith, next_is_free, unknown_is_nowhere}
-use Rattle.mrc_cover.proofs.Stores.{at_space, unborn}
+use Rattle.mrc_cover.proofs.Stores.{at_space, is_kernel_class, unborn}
 
 -- a port new_receive shows a right on its port
 shows_a_right : (k : ℕ → Option ℕ) (F : ℕ → PortRight → Type 0) (p : ℕ) (e : Entry)

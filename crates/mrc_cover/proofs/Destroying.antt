@@ -17,7 +17,7 @@ use Rattle.mrc_model.specs.Map.{Map, alter_all, get, keys, len}
 use Rattle.mrc_model.specs.Rising.{find_key}
 use Rattle.mrc_model.specs.Rules.{FactSet}
 use Rattle.mrc_model.specs.Target.{with_store}
-use Rattle.mrc_model.specs.Wiring.{Wiring, is_kernel_class, kernel_class, numbers_of}
+use Rattle.mrc_model.specs.Wiring.{Wiring, kernel_class, numbers_of}
 use Rattle.mrc_model.specs.World.{Held, Port, Store, World, class_of, receives, space, task_class}
 use Rattle.mrc_model.specs.declared.Backup.{Backup}
 use Rattle.mrc_model.specs.declared.Backup.TheVariants.{Port as BackupPort, Dead as DeadBackup}
@@ -33,7 +33,7 @@ use Rattle.mrc_cover.proofs.Pending.{pending_count}
 use Rattle.mrc_cover.proofs.Pruning.{perish, port_stays}
 use Rattle.mrc_cover.proofs.Rights.{receives-append}
 use Rattle.mrc_cover.proofs.Sound.{ChangesOnly, SoundWith, exchange_hand_live}
-use Rattle.mrc_cover.proofs.Stores.{owed_at_most_one, port_of_class}
+use Rattle.mrc_cover.proofs.Stores.{is_kernel_class, owed_at_most_one, port_of_class}
 
 -- where a live port stands among the keys
 keys_have : (q : ℕ) (es : List (ℕ × Port)) (x : Port) → find_key q es ≡ Some x

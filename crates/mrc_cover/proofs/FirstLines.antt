@@ -17,7 +17,7 @@ use Rattle.mrc_model.specs.Rights.{is_receive}
 use Rattle.mrc_model.specs.Rules.{FactSet}
 use Rattle.mrc_model.specs.Space.{give_item, is_over_full}
 use Rattle.mrc_model.specs.Target.{with_store}
-use Rattle.mrc_model.specs.Wiring.{Wiring, is_kernel_class}
+use Rattle.mrc_model.specs.Wiring.{Wiring}
 use Rattle.mrc_model.specs.World.{Port, Store, class_of, receives, space, task_class}
 use Rattle.mrc_model.specs.declared.Entry.{Entry}
 use Rattle.mrc_model.specs.declared.FirstLine.{FirstLine}
@@ -31,7 +31,7 @@ use Rattle.mrc_cover.proofs.Kept.{IsAlive, Kept, keeps_with}
 use Rattle.mrc_cover.proofs.Obeyed.{Obeys, Ranged, obeys}
 use Rattle.mrc_cover.proofs.Rights.{right_on}
 use Rattle.mrc_cover.proofs.Sound.{exchange_hand}
-use Rattle.mrc_cover.proofs.Stores.{live_class}
+use Rattle.mrc_cover.proofs.Stores.{is_kernel_class, live_class}
 use Rattle.mrc_cover.proofs.WellFormed.{class_of_alive}
 
 module _ (W : Wiring) where

@@ -14,7 +14,7 @@ use Rattle.mrc_model.specs.Covers.{HasOneName, IsBackup, Known, owed}
 use Rattle.mrc_model.specs.Map.{empty, get, insert}
 use Rattle.mrc_model.specs.Rules.{FactSet}
 use Rattle.mrc_model.specs.Target.{is_alive}
-use Rattle.mrc_model.specs.Wiring.{Wiring, is_kernel_class, kernel_class, numbers_of}
+use Rattle.mrc_model.specs.Wiring.{Wiring, kernel_class, numbers_of}
 use Rattle.mrc_model.specs.World.{Port, Space, Store, Task, World, class_of, entry_rights, places}
 use Rattle.mrc_model.specs.World.{queue_rights, space, space_receives, task_class}
 use Rattle.mrc_model.specs.declared.Entry.{Entry}
@@ -24,7 +24,7 @@ use Rattle.mrc_cover.proofs.Kept.{Kept}
 use Rattle.mrc_cover.proofs.Rights.{Known-grow, MayCarry, MayHold, each_receives, entry_receives}
 use Rattle.mrc_cover.proofs.Rights.{queue_receives}
 use Rattle.mrc_cover.proofs.Sound.{next_is_free, unknown_is_nowhere}
-use Rattle.mrc_cover.proofs.Stores.{at_space, unborn}
+use Rattle.mrc_cover.proofs.Stores.{at_space, is_kernel_class, unborn}
 
 module _ (W : Wiring) (G : FactSet) (base : World) (number wired : ℕ) (kept : Kept W G base)
     (fresh : get base.tasks number

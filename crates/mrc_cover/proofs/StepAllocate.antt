@@ -17,7 +17,7 @@ use Rattle.mrc_model.specs.Map.{insert, len}
 use Rattle.mrc_model.specs.Rules.{FactSet}
 use Rattle.mrc_model.specs.Space.{is_entry_of, is_full, unused}
 use Rattle.mrc_model.specs.Target.{with_space}
-use Rattle.mrc_model.specs.Wiring.{Wiring, births_class, births_from, is_kernel_class, numbers_of}
+use Rattle.mrc_model.specs.Wiring.{Wiring, births_class, births_from, numbers_of}
 use Rattle.mrc_model.specs.World.{World, class_of, entry_rights, receives, set_space, space}
 use Rattle.mrc_model.specs.World.{space_receives, task_class}
 use Rattle.mrc_model.specs.declared.Entry.{Entry}
@@ -28,6 +28,7 @@ use Rattle.mrc_cover.proofs.Kept.{IsAlive, IsTarget, Keeps, Kept, keeps_with, ta
 use Rattle.mrc_cover.proofs.Obeyed.{Obeys, obeys}
 use Rattle.mrc_cover.proofs.Rights.{MayHold, entry_receives}
 use Rattle.mrc_cover.proofs.Sound.{set_space_changes, set_space_sound}
+use Rattle.mrc_cover.proofs.Stores.{is_kernel_class}
 use Rattle.mrc_cover.proofs.Taking.{one_name_if_traced}
 use Rattle.mrc_base.specs.declared.Right.TheVariants as named
 

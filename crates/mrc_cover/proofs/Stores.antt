@@ -1,17 +1,21 @@
 -- A store in which one space or one port is changed: what stands there, and in how many places each
 -- receive right is.
-use Rattle.std.proofs.Common.{None, Option, Some, ap, arith, false, if◌then◌else◌, inl, inr, refl}
-use Rattle.std.proofs.Common.{sym, true, ℕ, ◌+◌, ◌∙◌, ◌≡◌, ◌≤◌}
+use Rattle.std.proofs.Common.{Bool, None, Option, Some, ap, arith, false, if◌then◌else◌, inl, inr}
+use Rattle.std.proofs.Common.{refl, sym, true, ℕ, ◌+◌, ◌∙◌, ◌≡◌, ◌≤◌}
 use Rattle.std.proofs.lemmas.Bool.{cases_eq}
 use Rattle.std.specs.Option.{option_map, unwrap_or}
 use Rattle.mrc_model.proofs.Maps.{at_most-total, at_or_0, get-insert_other, get-insert_same}
 use Rattle.mrc_model.proofs.Maps.{not_None, total-empty, total-insert}
 use Rattle.mrc_model.specs.Covers.{owed}
 use Rattle.mrc_model.specs.Map.{empty, get}
-use Rattle.mrc_model.specs.Wiring.{Wiring, is_kernel_class, numbers_of}
+use Rattle.mrc_model.specs.Wiring.{Wiring, is_kernel_number, numbers_of}
 use Rattle.mrc_model.specs.World.{Port, Space, Store, class_of, places, queue_rights, receives}
 use Rattle.mrc_model.specs.World.{set_port, set_space, space, space_receives}
 use Rattle.mrc_cover.proofs.Rights.{each_receives, queue_receives}
+
+-- the class is that of a kernel port
+abbrev pub is_kernel_class : Wiring → ℕ → Bool
+is_kernel_class W c = is_kernel_number (numbers_of W) c
 
 -- no receive right is in the empty space
 pub space_receives-empty : (p : ℕ) → space_receives p empty ≡ 0

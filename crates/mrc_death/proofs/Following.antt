@@ -24,9 +24,19 @@ use Rattle.mrc_death.specs.Losing.{is_losing}
 use Rattle.mrc_death.specs.Heads.{head_at}
 use Rattle.mrc_death.specs.declared.search.Link.{Link}
 use Rattle.mrc_death.specs.declared.search.Search.{Search}
-use Rattle.mrc_death.specs.Search.{Linked, here, there, unseen, Goes, Kept, Step, Walk, Going}
+use Rattle.mrc_death.specs.Search.{Linked, here, there, unseen, Goes, Kept, Step, Going}
 use Rattle.mrc_death.specs.Search.{one_held}
 use Rattle.mrc_death.proofs.Keeping.{then_step, no_step, has_push}
+
+-- after all links from here on, at this backup, the ports that waited are found; a is the search
+-- before
+pub record Walk (s : Store) (d : Doomed) (backup : ℕ) (a z : Search) (at : ℕ) : Type 0 where
+  pub step : Step s d [] a z
+  pub links : z.links.items ≡ a.links.items
+  pub heads : z.heads ≡ a.heads
+  pub within : at ≤ length a.links.items
+  pub left : (p : ℕ) → Linked a.links.items backup (head_at a.heads backup) p → (has z.dead.items p
+      ≡ true) ⊎ Linked a.links.items backup at p
 
 part : (hs : List Held) (i : ℕ) (h : Held) (p : ℕ)
     → i < length hs
@@ -143,7 +153,17 @@ unfolding get
 found_value m x v w e f = same_value v w (sym e ∙ f)
 
 module _ (s : Store) (d : Doomed) where
-  pub goes_part : (hs : List Held) (i : ℕ) (h : Held)
+  pub goes_-- after all links from here on, at this backup, the ports that waited are found; a is the search
+-- before
+pub record Walk (s : Store) (d : Doomed) (backup : ℕ) (a z : Search) (at : ℕ) : Type 0 where
+  pub step : Step s d [] a z
+  pub links : z.links.items ≡ a.links.items
+  pub heads : z.heads ≡ a.heads
+  pub within : at ≤ length a.links.items
+  pub left : (p : ℕ) → Linked a.links.items backup (head_at a.heads backup) p → (has z.dead.items p
+      ≡ true) ⊎ Linked a.links.items backup at p
+
+part : (hs : List Held) (i : ℕ) (h : Held)
       → Goes s d hs
       → i < length hs
       → h ≡ get_or hs i h

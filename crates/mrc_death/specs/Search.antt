@@ -90,16 +90,6 @@ receive_of p = record { port = p; right = Receive } ∷ []
 abbrev pub one_held : Held → List Held
 one_held h = h ∷ []
 
--- after all links from here on, at this backup, the ports that waited are found; a is the search
--- before
-pub record Walk (s : Store) (d : Doomed) (backup : ℕ) (a z : Search) (at : ℕ) : Type 0 where
-  pub step : Step s d [] a z
-  pub links : z.links.items ≡ a.links.items
-  pub heads : z.heads ≡ a.heads
-  pub within : at ≤ length a.links.items
-  pub left : (p : ℕ) → Linked a.links.items backup (head_at a.heads backup) p → (has z.dead.items p
-      ≡ true) ⊎ Linked a.links.items backup at p
-
 -- where the search is between two ports that it follows
 pub record Going (s : Store) (d : Doomed) (z : Search) : Type 0 where
   pub kept : Kept s d z

@@ -1,6 +1,6 @@
 -- A list of facts without one of them.
 use Rattle.std.proofs.Common.{◌≡◌, ◌+◌, true, false, cond, List, [], ◌∷◌, length, refl, ap, sym, subst, ◌∙◌, ◌⊎◌, inl, inr, arith}
-use Rattle.std.specs.Prelude.{IsTrue, not, ◌&&◌, ◌||◌}
+use Rattle.std.specs.Prelude.{IsTrue, not, ◌&&◌, ◌||◌, if◌then◌else◌}
 use Rattle.std.specs.Ordering.{is_lt}
 use Rattle.std.specs.declared.cmp.Ordering.TheVariants.{Less}
 use Rattle.std.proofs.lemmas.Bool.{cases_Bool, and_parts, and_from, or_left, or_right}
@@ -9,9 +9,14 @@ use Rattle.std.specs.List.Sorted.{IsStrictlySortedBy}
 use Rattle.std.proofs.Math.Bool.{or-false, and-false}
 use Rattle.mrc_base.specs.declared.Fact.{Fact}
 use Rattle.mrc_facts.specs.Order.{fact_cmp, is_before, is_same}
-use Rattle.mrc_facts.specs.Sets.{has, without, begins_after, are_ascending, IsAscending}
+use Rattle.mrc_facts.specs.Sets.{has, begins_after, are_ascending, IsAscending}
 use Rattle.mrc_facts.proofs.Total.{fact_total, Less-is, not_before_itself, equal_from_same, same_itself}
 use Rattle.mrc_facts.proofs.Members.{sorted, at_member, one_list}
+
+-- the facts but for f
+abbrev pub without : List Fact → Fact → List Fact
+without [] f = []
+without (g ∷ facts) f = if is_same f g then facts else (g ∷ without facts f)
 
 -- the first of an ascending list does not stand among the others
 first_once : (f : Fact) (fs : List Fact) → IsAscending (f ∷ fs) → has fs f ≡ false

@@ -15,11 +15,6 @@ with_fact [] f = f ∷ []
 with_fact (g ∷ facts) f =
     match_ordering (fact_cmp f g) (f ∷ g ∷ facts) (g ∷ facts) (g ∷ with_fact facts f)
 
--- the facts but for f
-abbrev pub without : List Fact → Fact → List Fact
-without [] f = []
-without (g ∷ facts) f = if is_same f g then facts else (g ∷ without facts f)
-
 -- the first fact, which is the least
 abbrev pub first : List Fact → Option Fact
 first facts = slice_get facts 0

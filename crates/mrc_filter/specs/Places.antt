@@ -6,12 +6,12 @@ use Rattle.mrc_model.specs.Filter.{judge}
 use Rattle.mrc_model.specs.Message.{Message}
 use Rattle.mrc_model.specs.Wiring.{Wiring, Shape, admits}
 use Rattle.mrc_wiring.specs.Finding.{form_at, sort_at}
-use Rattle.mrc_filter.specs.declared.form.Form.{Form}
+use Rattle.mrc_filter.specs.declared.form.AcceptedForm.{AcceptedForm}
 
 -- What the filter answers of a message to a port of the class. A form is answered with the place of
 -- its item in the class's label, and with its id, which is the message's. No label has two forms of
 -- one id, so there is no other such place.
-abbrev pub IsJudged : Wiring → ℕ → Message → Result Form Denied → Type 0
+abbrev pub IsJudged : Wiring → ℕ → Message → Result AcceptedForm Denied → Type 0
 IsJudged W class m (Ok form) =
     (form_at W class form.item form.id ≡ Some form.found.now)
     × (judge W class m ≡ Ok form.found.now)

@@ -4,7 +4,7 @@ use mrc_wiring::TypedForm;
 
 /// A form that a class accepts, and its place in the wiring by which a message was judged.
 #[derive(Clone, Copy, Debug)]
-pub struct Form<'w> {
+pub struct AcceptedForm<'w> {
     /// The place of the form's item in the class's label, from 0.
     pub item: usize,
     /// The id of its messages.

@@ -9,6 +9,6 @@ mod laws;
 mod meeting;
 
 pub use admit::admit_port;
-pub use form::Form;
+pub use form::AcceptedForm;
 pub use judging::judge;
 pub use laws::{admitting_is_sending, judging_is_meeting};

@@ -18,10 +18,16 @@ use Rattle.mrc_names.specs.declared.dropping.Dropped.TheVariants.{References, Re
 use Rattle.mrc_names.specs.declared.dropping.Dropped.TheVariants.{WholeEntry}
 use Rattle.mrc_names.specs.Changes as names
 use Rattle.mrc_names.specs.Changes.{drop_refs, drop_reference}
-use Rattle.mrc_machine.specs.Drops.{after_drop, with_drop, IsDone}
+use Rattle.mrc_machine.specs.Drops.{after_drop, IsDone}
 use Rattle.mrc_machine.specs.Housing.{target_of}
 use Rattle.mrc_machine.proofs.TargetLaws.{target_none, target_some}
 use Rattle.mrc_machine.proofs.Trying.{ok_bind, same_Ok, not_Err}
+
+-- the world after what is left went, where the space of u is y by then, if references alone were dropped
+abbrev pub with_drop : World → ℕ → ℕ → Space → Dropped → World
+with_drop w u n y References = with_space w u y
+with_drop w u n y ReceiveRight = after_drop w u n ReceiveRight
+with_drop w u n y WholeEntry = after_drop w u n WholeEntry
 
 -- what is answered for a name of u whose references were changed in its space
 abbrev pub on_drop : World → ℕ → ℕ → Space × Dropped → Try (World × Reply)

@@ -24,6 +24,7 @@ use Rattle.mrc_model.specs.Space.{is_full, is_over_full, unused, place, give_ite
 use Rattle.mrc_model.specs.Target.{with_store, with_space}
 use Rattle.mrc_model.specs.CallAllocate.{new_port, birth}
 use Rattle.mrc_model.specs.CallCreateTask.{limit_of_task_numbers}
+use Rattle.mrc_model.specs.CallCreateTask as made
 use Rattle.std.proofs.Common.{List, ◌∷◌, length, drop, suc}
 use Rattle.std.proofs.Math.Seq.{drop-cons}
 use Rattle.std.specs.List.{slice_index_or}
@@ -35,10 +36,14 @@ use Rattle.mrc_model.proofs.Spaces.{space-set_same}
 use Rattle.mrc_map.specs.Entries.{below}
 use Rattle.mrc_names.specs.Takes.{give_right}
 use Rattle.mrc_names.proofs.GivingLaws.{over_full}
-use Rattle.mrc_machine.specs.Starts.{IsStart, with_task, with_right}
+use Rattle.mrc_machine.specs.Starts.{IsStart, with_right}
 use Rattle.mrc_machine.proofs.HousingLaws.{kept_there}
 use Rattle.mrc_machine.proofs.DropLaws.{no_some}
 use Rattle.mrc_machine.proofs.Trying.{same_Ok, not_Err, ok_bind, err_bind, ok_goes}
+
+-- the world with the next task of a wiring, whose kernel port is new, and of this class
+abbrev pub with_task : World → ℕ → ℕ → World
+with_task w t class = made.with_task w t t class
 
 -- before the first line
 pub start_none : (w : World) → w ≡ no_world → IsStart record { world = w; tasks = 0; ports = 0 }

@@ -1,8 +1,8 @@
 -- Step. What is still to be destroyed after dropped references. From Mach 3 Kernel Interfaces,
 -- mach_port_deallocate and mach_port_mod_refs.
 use Rattle.std.specs.Prelude.{ℕ}
-use Rattle.mrc_model.specs.World.{Space, World}
-use Rattle.mrc_model.specs.Target.{with_space, with_store}
+use Rattle.mrc_model.specs.World.{World}
+use Rattle.mrc_model.specs.Target.{with_store}
 use Rattle.mrc_model.specs.Destroyed.{ReceiveOf, EntryOf, destroyed}
 use Rattle.mrc_names.specs.declared.dropping.Dropped.{Dropped}
 use Rattle.mrc_names.specs.declared.dropping.Dropped.TheVariants.{References, ReceiveRight}
@@ -13,12 +13,6 @@ abbrev pub after_drop : World → ℕ → ℕ → Dropped → World
 after_drop w u n References = w
 after_drop w u n ReceiveRight = with_store w (destroyed w.store (ReceiveOf u n))
 after_drop w u n WholeEntry = with_store w (destroyed w.store (EntryOf u n))
-
--- the same where the space of u is y by then, if references alone were dropped
-abbrev pub with_drop : World → ℕ → ℕ → Space → Dropped → World
-with_drop w u n y References = with_space w u y
-with_drop w u n y ReceiveRight = after_drop w u n ReceiveRight
-with_drop w u n y WholeEntry = after_drop w u n WholeEntry
 
 -- nothing is left to be destroyed
 abbrev pub IsDone : Dropped → Type 0

@@ -10,7 +10,6 @@ use Rattle.mrc_model.specs.Map.{get, len, next_key}
 use Rattle.mrc_model.specs.World.{World, space}
 use Rattle.mrc_model.specs.Reply.{Try, Refused, ◌>>=◌}
 use Rattle.mrc_model.specs.Target.{with_space}
-use Rattle.mrc_model.specs.CallCreateTask as made
 use Rattle.mrc_model.specs.First.{First}
 use Rattle.mrc_names.specs.Takes.{give_right}
 
@@ -23,10 +22,6 @@ pub record IsStart (f : First) : Type 0 where
   pub few : len f.world.store.ports ≤ f.tasks + f.ports
   pub few_tasks : f.tasks ≤ limit_of_tasks
   pub few_ports : f.ports ≤ limit_of_wired_ports
-
--- the world with the next task of a wiring, whose kernel port is new, and of this class
-abbrev pub with_task : World → ℕ → ℕ → World
-with_task w t class = made.with_task w t t class
 
 -- the world after a task was given a right; refused where its space would have too many entries
 unfoldable pub with_right : World → ℕ → ℕ → PortRight → Try World

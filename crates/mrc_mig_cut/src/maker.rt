@@ -14,7 +14,7 @@ use mrc_base::{OrMemory, limits};
 use mrc_interface::{DefsFault, InterfaceFault, LexFault, ParseFault, read_interface};
 use mrc_mig_lex::Sign;
 use mrc_mig_symbols::{
-    Directive, Feature, Rest, Stop, Symbol, Tokens, Why, Word, name, place_of, sign,
+    Directive, Feature, Rest, Stop, StopReason, Symbol, Tokens, Word, name, place_of, sign,
 };
 use std::alloc::{AllocError, Global};
 use std::collections::BTreeSet;
@@ -357,7 +357,7 @@ impl<'t> Maker<'t> {
             Directive::Marker => Ok(()),
             Directive::Include => Ok(self.table.include(line)?),
             Directive::Other => {
-                Err(OrMemory::Fault(rest.stop(Why::LeftOut(Feature::Preprocessor))))
+                Err(OrMemory::Fault(rest.stop(StopReason::LeftOut(Feature::Preprocessor))))
             }
         }
     }

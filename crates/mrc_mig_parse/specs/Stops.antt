@@ -13,7 +13,7 @@ use Rattle.mrc_mig_symbols.specs.declared.directive.Directive.TheVariants as dir
 use Rattle.mrc_mig_symbols.specs.declared.fault.Feature.TheVariants as features
 use Rattle.mrc_mig_symbols.specs.declared.fault.ParseFault.{ParseFault}
 use Rattle.mrc_mig_symbols.specs.declared.fault.Stop.{Stop}
-use Rattle.mrc_mig_symbols.specs.declared.fault.Why.TheVariants as why
+use Rattle.mrc_mig_symbols.specs.declared.fault.StopReason.TheVariants as why
 use Rattle.mrc_mig_symbols.specs.declared.symbol.Symbol.{Symbol}
 use Rattle.mrc_mig_symbols.specs.declared.symbol.Symbol.TheVariants as symbols
 use Rattle.mrc_mig_symbols.specs.declared.word.Basic.{Basic}

@@ -25,7 +25,9 @@ use crate::types::{Use, declared, no_flag, shape};
 use mrc_base::{OrMemory, is_port_number, limits};
 use mrc_forms::Shape;
 use mrc_mig_lex::Sign;
-use mrc_mig_symbols::{Direction, Feature, Rest, Stop, Symbol, Why, Word, name, sign, stop_at};
+use mrc_mig_symbols::{
+    Direction, Feature, Rest, Stop, StopReason, Symbol, Word, name, sign, stop_at,
+};
 use std::alloc::{AllocError, Global};
 
 /// An argument as it is written.
@@ -81,10 +83,10 @@ fn direction<'t>(
         return Ok((None, rest));
     };
     if is_reply_port(Some(direction)) && (is_simple || has_reply_port(seen)) {
-        return Err(rest.stop(Why::LeftOut(Feature::ReplyPort)));
+        return Err(rest.stop(StopReason::LeftOut(Feature::ReplyPort)));
     }
     if seen.len() >= limits::ARGUMENTS {
-        return Err(rest.stop(Why::TooMany));
+        return Err(rest.stop(StopReason::TooMany));
     }
     Ok((Some(direction), rest.next()))
 }
@@ -104,16 +106,16 @@ fn argument_name<'t>(
     let at = rest.len();
     match (direction, rest.first()) {
         (None, Symbol::Word(Word::Wait | Word::PortOption)) => {
-            return Err(stop_at(Why::LeftOut(Feature::Option), at));
+            return Err(stop_at(StopReason::LeftOut(Feature::Option), at));
         }
         _ => {}
     }
     let (name, rest) = name(rest)?;
     if has_name(name, seen) {
-        return Err(stop_at(Why::TwiceNamed, at));
+        return Err(stop_at(StopReason::TwiceNamed, at));
     }
     if seen.len() >= limits::ARGUMENTS {
-        return Err(stop_at(Why::TooMany, at));
+        return Err(stop_at(StopReason::TooMany, at));
     }
     Ok((name, rest))
 }
@@ -169,7 +171,7 @@ fn argument_type<'t>(
         (Symbol::Name, Symbol::Sign(Sign::Equals)) => own_type(alloc, types, wanted, rest),
         (Symbol::Name, _) => Ok(known_type(types, wanted, rest)?),
         (Symbol::Word(Word::Polymorphic), _) => {
-            Err(OrMemory::Fault(rest.stop(Why::LeftOut(Feature::Polymorphic))))
+            Err(OrMemory::Fault(rest.stop(StopReason::LeftOut(Feature::Polymorphic))))
         }
         _ => Err(OrMemory::Fault(rest.unexpected())),
     }

@@ -30,8 +30,8 @@ use mrc_base::{OrMemory, limits};
 use mrc_forms::Shape;
 use mrc_mig_lex::Sign;
 use mrc_mig_symbols::{
-    Directive, Feature, ParseFault, Rest, Stop, Symbol, Tokens, Why, Word, fault_of, name, sign,
-    stop_at,
+    Directive, Feature, ParseFault, Rest, Stop, StopReason, Symbol, Tokens, Word, fault_of, name,
+    sign, stop_at,
 };
 use std::alloc::{AllocError, Global};
 
@@ -89,7 +89,7 @@ fn declare_each<'t>(
             is_bound: false,
         };
         if is_declared(name, types) {
-            return Err(OrMemory::Fault(stop_at(Why::TwiceNamed, at)));
+            return Err(OrMemory::Fault(stop_at(StopReason::TwiceNamed, at)));
         }
         types.declare(name, shape)?;
     }
@@ -128,7 +128,10 @@ fn directive(file: &mut File<'_>, directive: Directive, at: usize) -> Result<(),
     match directive {
         Directive::Marker => Ok(()),
         Directive::Include => include(file, at),
-        Directive::Other => Err(OrMemory::Fault(stop_at(Why::LeftOut(Feature::Preprocessor), at))),
+        Directive::Other => Err(OrMemory::Fault(stop_at(
+            StopReason::LeftOut(Feature::Preprocessor),
+            at,
+        ))),
     }
 }
 
@@ -240,7 +243,7 @@ fn declaration<'t>(
     let at = rest.len();
     let (name, rest) = name(rest)?;
     if is_declared(name, &file.types) {
-        return Err(OrMemory::Fault(stop_at(Why::TwiceNamed, at)));
+        return Err(OrMemory::Fault(stop_at(StopReason::TwiceNamed, at)));
     }
     let rest = sign(rest, Sign::Equals)?;
     let (shape, rest) = shape(alloc, &file.types, Use::Any, rest)?;
@@ -283,14 +286,14 @@ fn routine<'t>(
     let at = rest.len();
     let (name, rest) = name(rest)?;
     if is_routine(name, file.entries.as_slice()) {
-        return Err(OrMemory::Fault(stop_at(Why::TwiceNamed, at)));
+        return Err(OrMemory::Fault(stop_at(StopReason::TwiceNamed, at)));
     }
     let rest = sign(rest, Sign::OpenParenthesis)?;
     let (seen, rest) = arguments(alloc, &file.types, is_simple, rest)?;
     let at = rest.len();
     let rest = sign(rest, Sign::CloseParenthesis)?;
     let Some(arguments) = resolved(alloc, seen.as_slice())? else {
-        return Err(OrMemory::Fault(stop_at(Why::NoRequestPort, at)));
+        return Err(OrMemory::Fault(stop_at(StopReason::NoRequestPort, at)));
     };
     let rest = sign(rest, Sign::Semicolon)?;
     Ok((name, arguments, rest))
@@ -343,7 +346,7 @@ fn entry<'t>(
     ensures fault { StopsAtOrMemory result (row_stop word (state_of file.old) (left rest.entry)) }
 {
     if file.entries.len() >= limits::IDS {
-        return Err(OrMemory::Fault(rest.stop(Why::TooMany)));
+        return Err(OrMemory::Fault(rest.stop(StopReason::TooMany)));
     }
     row(alloc, file, word, rest.next())
 }
@@ -400,8 +403,8 @@ fn worded<'t>(
         Word::Import => Ok(import(rest.next())?),
         Word::Prefix => Ok(prefix(rest.next())?),
         Word::Rcsid => Ok(rcsid(rest.next())?),
-        Word::OldForm => Err(OrMemory::Fault(rest.stop(Why::LeftOut(Feature::OldForm)))),
-        Word::Wait => Err(OrMemory::Fault(rest.stop(Why::LeftOut(Feature::Option)))),
+        Word::OldForm => Err(OrMemory::Fault(rest.stop(StopReason::LeftOut(Feature::OldForm)))),
+        Word::Wait => Err(OrMemory::Fault(rest.stop(StopReason::LeftOut(Feature::Option)))),
         _ => Err(OrMemory::Fault(rest.unexpected())),
     }
 }

@@ -22,7 +22,7 @@ use mrc_base::{Disp, OrMemory, is_port_number, limits};
 use mrc_forms::Shape;
 use mrc_mig_lex::Sign;
 use mrc_mig_symbols::{
-    Basic, Feature, Rest, Stop, Symbol, Why, Word, basic_of, expression, sign, stop_at,
+    Basic, Feature, Rest, Stop, StopReason, Symbol, Word, basic_of, expression, sign, stop_at,
 };
 use std::alloc::Global;
 
@@ -51,7 +51,7 @@ fn check_use(wanted: Use, name: u16, at: usize) -> Result<(), Stop>
             if name == Disp::MoveSendOnce.number() || name == Disp::MakeSendOnce.number() {
                 Ok(())
             } else {
-                Err(stop_at(Why::LeftOut(Feature::ReplyPort), at))
+                Err(stop_at(StopReason::LeftOut(Feature::ReplyPort), at))
             }
         }
     }
@@ -77,7 +77,7 @@ impl Around {
     {
         let product = self.number as u64 * number as u64;
         if product == 0 || product > limits::ITEMS as u64 {
-            return Err(stop_at(Why::TooMany, at));
+            return Err(stop_at(StopReason::TooMany, at));
         }
         Ok(product as u32)
     }
@@ -126,7 +126,7 @@ fn variable_dimension(
     match rest.first() {
         Symbol::Sign(Sign::Star) => {
             if around.is_inside {
-                return Err(OrMemory::Fault(stop_at(Why::LeftOut(Feature::Nested), at)));
+                return Err(OrMemory::Fault(stop_at(StopReason::LeftOut(Feature::Nested), at)));
             }
             let rest = sign(rest.next(), Sign::Colon)?;
             dimension(alloc, around, true, rest)
@@ -170,7 +170,7 @@ fn array(
     ensures fault { StopsAtOrMemory result (array_stop around at (left rest.entry)) }
 {
     if is_empty_brackets(rest) {
-        return Err(OrMemory::Fault(stop_at(Why::LeftOut(Feature::OutOfLine), at)));
+        return Err(OrMemory::Fault(stop_at(StopReason::LeftOut(Feature::OutOfLine), at)));
     }
     let (around, rest) = variable_dimension(alloc, around, at, rest)?;
     Ok((around, of(rest)?))
@@ -268,8 +268,8 @@ pub fn no_flag(rest: Rest<'_>) -> Result<(), Stop>
         symbol => (symbol, rest.len()),
     };
     match flag {
-        Symbol::Word(Word::Flag) => Err(stop_at(Why::LeftOut(Feature::Option), at)),
-        Symbol::Word(Word::Dealloc) => Err(stop_at(Why::LeftOut(Feature::OutOfLine), at)),
+        Symbol::Word(Word::Flag) => Err(stop_at(StopReason::LeftOut(Feature::Option), at)),
+        Symbol::Word(Word::Dealloc) => Err(stop_at(StopReason::LeftOut(Feature::OutOfLine), at)),
         _ => Ok(()),
     }
 }
@@ -279,7 +279,7 @@ fn no_pair(rest: Rest<'_>) -> Result<(), Stop>
     ensures fault { StopsAt result (pair_stop (left rest.entry)) }
 {
     match rest.first() {
-        Symbol::Sign(Sign::Bar) => Err(rest.stop(Why::LeftOut(Feature::Pair))),
+        Symbol::Sign(Sign::Bar) => Err(rest.stop(StopReason::LeftOut(Feature::Pair))),
         _ => Ok(()),
     }
 }
@@ -292,8 +292,8 @@ fn basic_item(basic: Basic, wanted: Use, at: usize) -> Result<(u16, u16), Stop>
     let (name, size) = match basic {
         Basic::Plain(name, size) => (name, size),
         Basic::Unsized(name) => (name, 0),
-        Basic::Polymorphic => return Err(stop_at(Why::LeftOut(Feature::Polymorphic), at)),
-        Basic::Real => return Err(stop_at(Why::LeftOut(Feature::Real), at)),
+        Basic::Polymorphic => return Err(stop_at(StopReason::LeftOut(Feature::Polymorphic), at)),
+        Basic::Real => return Err(stop_at(StopReason::LeftOut(Feature::Real), at)),
     };
     check_use(wanted, name, at)?;
     Ok((name, size))
@@ -367,7 +367,7 @@ pub fn declared<'t>(
     ensures fault { StopsAt result (declared_stop types.now (left rest.entry)) }
 {
     let Some(shape) = types.get(rest.text()) else {
-        return Err(rest.stop(Why::UnknownType));
+        return Err(rest.stop(StopReason::UnknownType));
     };
     check_use(wanted, shape.name, rest.len())?;
     Ok((shape, rest.next()))
@@ -380,7 +380,7 @@ fn nested(around: Around, shape: Shape, at: usize) -> Result<Shape, Stop>
     ensures fault { StopsAt result (nested_stop around shape at) }
 {
     if around.is_inside && shape.is_bound {
-        return Err(stop_at(Why::LeftOut(Feature::Nested), at));
+        return Err(stop_at(StopReason::LeftOut(Feature::Nested), at));
     }
     Ok(Shape {
         number: around.times(shape.number, at)?,
@@ -450,11 +450,11 @@ pub fn shape<'t>(
             Ok((items(around, name, size), rest))
         }
         Symbol::Word(Word::Polymorphic) => Err(OrMemory::Fault(stop_at(
-            Why::LeftOut(Feature::Polymorphic),
+            StopReason::LeftOut(Feature::Polymorphic),
             at,
         ))),
         Symbol::Sign(Sign::Caret) => Err(OrMemory::Fault(stop_at(
-            Why::LeftOut(Feature::OutOfLine),
+            StopReason::LeftOut(Feature::OutOfLine),
             at,
         ))),
         _ => Err(OrMemory::Fault(rest.unexpected())),

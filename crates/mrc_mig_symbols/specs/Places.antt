@@ -5,8 +5,8 @@ use Rattle.std.specs.Option.{option_map_or}
 use Rattle.mrc_mig_lex.specs.Tokens.{Lexeme, end_of}
 use Rattle.mrc_mig_symbols.specs.declared.fault.ParseFault.{ParseFault}
 use Rattle.mrc_mig_symbols.specs.declared.fault.ParseFault.TheVariants as faults
-use Rattle.mrc_mig_symbols.specs.declared.fault.Why.{Why}
-use Rattle.mrc_mig_symbols.specs.declared.fault.Why.TheVariants as why
+use Rattle.mrc_mig_symbols.specs.declared.fault.StopReason.{StopReason}
+use Rattle.mrc_mig_symbols.specs.declared.fault.StopReason.TheVariants as why
 use Rattle.mrc_mig_symbols.specs.declared.fault.Stop.{Stop}
 
 -- where the last token ends
@@ -20,7 +20,7 @@ place_of tokens count =
     option_map_or (λ token. token.at) (slice_get tokens (length tokens - count)) (last_end tokens)
 
 -- the fault of this kind at this place
-abbrev pub fault_at : Why → ℕ → ParseFault
+abbrev pub fault_at : StopReason → ℕ → ParseFault
 fault_at why.Unexpected at = faults.Unexpected at
 fault_at (why.LeftOut feature) at = faults.LeftOut at feature
 fault_at why.UnknownType at = faults.UnknownType at

@@ -14,8 +14,8 @@ use Rattle.mrc_mig_lex.specs.declared.token.Sign.TheVariants as signs
 use Rattle.mrc_mig_symbols.specs.declared.symbol.Symbol.{Symbol}
 use Rattle.mrc_mig_symbols.specs.declared.symbol.Symbol.TheVariants as symbols
 use Rattle.mrc_mig_symbols.specs.declared.fault.Stop.{Stop}
-use Rattle.mrc_mig_symbols.specs.declared.fault.Why.{Why}
-use Rattle.mrc_mig_symbols.specs.declared.fault.Why.TheVariants as why
+use Rattle.mrc_mig_symbols.specs.declared.fault.StopReason.{StopReason}
+use Rattle.mrc_mig_symbols.specs.declared.fault.StopReason.TheVariants as why
 use Rattle.mrc_mig_symbols.specs.declared.word.Word.{Word}
 use Rattle.mrc_mig_symbols.specs.Words.{word_of}
 use Rattle.mrc_mig_symbols.specs.Directives.{directive_of}
@@ -31,7 +31,7 @@ guard true = Some tt
 guard false = None
 
 -- reading stops where so many tokens are left
-abbrev pub stop_at : Why → ℕ → Stop
+abbrev pub stop_at : StopReason → ℕ → Stop
 stop_at why count = record { why = why; left = count }
 
 -- a token that cannot stand there, or a missing one
@@ -39,7 +39,7 @@ abbrev pub unexpected_at : ℕ → Stop
 unexpected_at count = stop_at why.Unexpected count
 
 -- reading stops at the first of these tokens
-abbrev pub stop : Why → List Lexeme → Stop
+abbrev pub stop : StopReason → List Lexeme → Stop
 stop why tokens = stop_at why (length tokens)
 
 -- a token that cannot stand there, or a missing one

@@ -11,7 +11,7 @@ ghost use Rattle.mrc_mig_symbols.specs.ExpressionStops.{read_expression, express
 ghost use Rattle.mrc_mig_symbols.specs.Outer.{placed_of};
 ghost use Rattle.mrc_mig_symbols.specs.Readers.{left, reading_of};
 
-use crate::fault::{Stop, Why, stop_at};
+use crate::fault::{Stop, StopReason, stop_at};
 use crate::outer::Outer;
 use crate::symbol::{Rest, Symbol};
 use mrc_base::{OrMemory, limits};
@@ -61,14 +61,14 @@ impl Sum {
     {
         if self.divides {
             if operand == 0 {
-                return Err(stop_at(Why::Unexpected, at));
+                return Err(stop_at(StopReason::Unexpected, at));
             }
             let product = self.product / operand;
             return Ok(Sum { product, ..self });
         }
         let product = self.product as u64 * operand as u64;
         if product > MOST {
-            return Err(stop_at(Why::Unexpected, self.product_left));
+            return Err(stop_at(StopReason::Unexpected, self.product_left));
         }
         let product = product as u32;
         Ok(Sum { product, ..self })
@@ -82,13 +82,13 @@ impl Sum {
     {
         if self.subtracts {
             if self.total < self.product {
-                return Err(stop_at(Why::Unexpected, self.left));
+                return Err(stop_at(StopReason::Unexpected, self.left));
             }
             return Ok(self.total - self.product);
         }
         let value = self.total as u64 + self.product as u64;
         if value > MOST {
-            return Err(stop_at(Why::Unexpected, self.left));
+            return Err(stop_at(StopReason::Unexpected, self.left));
         }
         Ok(value as u32)
     }
@@ -139,7 +139,7 @@ impl Reader {
                 self.wants_operand = true;
                 Ok(())
             }
-            _ => Err(stop_at(Why::Unexpected, at).into()),
+            _ => Err(stop_at(StopReason::Unexpected, at).into()),
         }
     }
 
@@ -150,7 +150,7 @@ impl Reader {
             (placed_closed at (reading_of self.old).outer (reading_of self.old).sum) }
     {
         let Some(around) = self.outer.pop() else {
-            return Err(stop_at(Why::Unexpected, at));
+            return Err(stop_at(StopReason::Unexpected, at));
         };
         let value = self.sum.value()?;
         self.sum = around.with_operand(value, self.sum.operand_left)?;
@@ -170,7 +170,7 @@ impl Reader {
             Symbol::Sign(Sign::Plus) => self.sum = self.sum.next_product(false, next)?,
             Symbol::Sign(Sign::Minus) => self.sum = self.sum.next_product(true, next)?,
             Symbol::Sign(Sign::CloseParenthesis) => return self.close(at),
-            _ => return Err(stop_at(Why::Unexpected, at)),
+            _ => return Err(stop_at(StopReason::Unexpected, at)),
         }
         self.wants_operand = true;
         Ok(())

@@ -77,7 +77,7 @@ pub enum ParseFault {
 
 /// Why reading stops: a fault without its place.
 #[derive(Clone, Copy, Debug, PartialEq, Eq)]
-pub enum Why {
+pub enum StopReason {
     /// A token that cannot stand there, or a missing one.
     Unexpected,
     /// A form of MIG that is left out.
@@ -96,13 +96,13 @@ pub enum Why {
 #[derive(Clone, Copy, Debug, PartialEq, Eq)]
 pub struct Stop {
     /// Why.
-    pub why: Why,
+    pub why: StopReason,
     /// How many tokens are left.
     pub left: usize,
 }
 
 /// Reading stops where so many tokens are left.
-pub fn stop_at(why: Why, count: usize) -> Stop
+pub fn stop_at(why: StopReason, count: usize) -> Stop
     ensures { result ≡ stop_at why count }
 {
     Stop { why, left: count }
@@ -143,11 +143,11 @@ pub fn fault_of(tokens: &Tokens<'_>, stop: Stop) -> ParseFault
 {
     let at = place_of(tokens, stop.left);
     match stop.why {
-        Why::Unexpected => ParseFault::Unexpected(at),
-        Why::LeftOut(feature) => ParseFault::LeftOut(at, feature),
-        Why::UnknownType => ParseFault::UnknownType(at),
-        Why::TwiceNamed => ParseFault::TwiceNamed(at),
-        Why::NoRequestPort => ParseFault::NoRequestPort(at),
-        Why::TooMany => ParseFault::TooMany(at),
+        StopReason::Unexpected => ParseFault::Unexpected(at),
+        StopReason::LeftOut(feature) => ParseFault::LeftOut(at, feature),
+        StopReason::UnknownType => ParseFault::UnknownType(at),
+        StopReason::TwiceNamed => ParseFault::TwiceNamed(at),
+        StopReason::NoRequestPort => ParseFault::NoRequestPort(at),
+        StopReason::TooMany => ParseFault::TooMany(at),
     }
 }

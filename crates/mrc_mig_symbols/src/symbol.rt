@@ -7,7 +7,7 @@ ghost use Rattle.mrc_mig_symbols.specs.Symbols.{unexpected, name_stop};
 ghost use Rattle.mrc_mig_symbols.specs.Readers.{left};
 
 use crate::directive::{Directive, directive_of};
-use crate::fault::{Stop, Why};
+use crate::fault::{Stop, StopReason};
 use crate::tokens::Tokens;
 use crate::word::{Word, word_of};
 use mrc_base::limits;
@@ -127,7 +127,7 @@ impl<'t> Rest<'t> {
     }
 
     /// Reading stops at the first token.
-    pub fn stop(self, why: Why) -> Stop
+    pub fn stop(self, why: StopReason) -> Stop
         ensures { result ≡ stop why (left self.entry) }
     {
         Stop {
@@ -140,7 +140,7 @@ impl<'t> Rest<'t> {
     pub fn unexpected(self) -> Stop
         ensures { result ≡ unexpected (left self.entry) }
     {
-        self.stop(Why::Unexpected)
+        self.stop(StopReason::Unexpected)
     }
 }
 
@@ -168,7 +168,7 @@ pub fn name(rest: Rest<'_>) -> Result<(&str, Rest<'_>), Stop>
     }
     let name = rest.text();
     if name.len() > limits::NAME {
-        return Err(rest.stop(Why::TooMany));
+        return Err(rest.stop(StopReason::TooMany));
     }
     Ok((name, rest.next()))
 }

@@ -33,7 +33,8 @@ AdditionsOnlyRefuse =
     → (((step W w t call).0 ≡ w) × IsTurnedAway (step W w t call).1)
     ⊎ (step W w t call ≡ step (plain W) w t call)
 
--- what the checker accepts for the plain wiring, it accepts for the wiring
+-- what the checker accepts of a policy for the plain wiring, it accepts for the wiring; whether a
+-- task could rewrite a trusted one is not asked
 abbrev pub AdditionsKeepYes : Type 0
 AdditionsKeepYes =
     (W : Wiring) (policy : List Forbid) (set : Fact → Bool)

@@ -48,7 +48,8 @@ abbrev pub cleared : Store → ℕ → Option Space → Store
 cleared s t None = s
 cleared s t (Some x) = set_space s t empty
 
--- all entries leave the space, and the kernel port goes
+-- All entries leave the space, and the kernel port goes. A task for which the store has no space
+-- has the empty one, so the kernel port alone goes.
 abbrev pub task_out : Store → ℕ → ℕ → TakenOut
 task_out s t p = record {
   store = cleared s t (get s.spaces t);

@@ -126,10 +126,6 @@ is_kernel_number N c = nat_le N.ports c && nat_lt c (N.ports + N.tasks)
 abbrev pub kernel_class : Wiring → ℕ → ℕ
 kernel_class W u = kernel_number (numbers_of W) u
 
--- the class is that of a kernel port
-abbrev pub is_kernel_class : Wiring → ℕ → Bool
-is_kernel_class W c = is_kernel_number (numbers_of W) c
-
 -- the class of the first of these pairs that is (u, kind), where the classes count from c
 abbrev pub births_from : ℕ → ℕ → ℕ → List (ℕ × ℕ) → Option ℕ
 births_from c u kind [] = None

@@ -269,8 +269,9 @@ pub fn holdings_are_held()
 
 /// What version 3 of wirings adds only refuses. Each call is refused by a line about a trusted task,
 /// or because a reply port does not fit, and leaves the world unchanged; or it does what it does in
-/// the wiring without these lines. What the checker accepts without them, it accepts with them. A
-/// task whose takings a line limits counts as itself alone.
+/// the wiring without these lines. What the checker accepts of a policy without them, it accepts
+/// with them: whether a task could rewrite a trusted one is not asked. A task whose takings a line
+/// limits counts as itself alone.
 pub fn additions_only_refuse()
     ensures refuses { AdditionsOnlyRefuse }
     ensures yes { AdditionsKeepYes }

@@ -19,7 +19,7 @@ use Rattle.mrc_map.proofs.LookupLaws.{gathered_get, fresh}
 use Rattle.mrc_map.proofs.SameMaps.{same_map}
 use Rattle.mrc_index.specs.Names.{HoldsAlike, IsRestOf}
 use Rattle.mrc_index.specs.Undo.{CanPut}
-use Rattle.mrc_names.specs.Leaving.{patched_by, patched, HasRest, AreRests, CanPatch}
+use Rattle.mrc_names.specs.Leaving.{patched_by, patched, HasRest, AreRests}
 
 -- what stands under a name after many changes: what the change of the name says, if there is one
 abbrev pub over : Option (Option Entry) → Option Entry → Option Entry
@@ -153,6 +153,11 @@ patched_is x c cs are = same_map _ _ (λ q.
     get_each cs x q are.once
     ∙ ap (λ o. over o (get x q)) (gathered_get q cs ∙ ap (λ m. get m q) are.shown)
     ∙ sym (get_patched x c q))
+
+-- each entry of a list of changes has a name of which this may be left, one after the other
+abbrev pub CanPatch : List (ℕ × Option Entry) → Space → Type 0
+CanPatch [] x = ⊤
+CanPatch (c ∷ cs) x = HasRest x c.0 c.1 × CanPatch cs (put_entry x c.0 c.1)
 
 -- they can be made one after the other
 can_each : (cs : List (ℕ × Option Entry)) (x : Space)

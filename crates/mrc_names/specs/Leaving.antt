@@ -1,5 +1,5 @@
 -- Step. A space after changes that are kept next to it. This profile's own choice.
-use Rattle.std.specs.Prelude.{◌≡◌, ℕ, List, [], ◌∷◌, Option, Some, ⊤}
+use Rattle.std.specs.Prelude.{◌≡◌, ℕ, List, [], ◌∷◌, Option, Some}
 use Rattle.mrc_model.specs.declared.Entry.{Entry}
 use Rattle.mrc_model.specs.Map.{Map, get, Each}
 use Rattle.mrc_model.specs.World.{Space}
@@ -27,8 +27,3 @@ HasRest x n rest = (e : Entry) × (get x n ≡ Some e) × IsRestOf e rest
 -- so it is for each change
 abbrev pub AreRests : Space → Map (Option Entry) → Type 0
 AreRests x changes = Each (HasRest x) changes
-
--- the same for a list of them, one after the other
-abbrev pub CanPatch : List (ℕ × Option Entry) → Space → Type 0
-CanPatch [] x = ⊤
-CanPatch (c ∷ cs) x = HasRest x c.0 c.1 × CanPatch cs (put_entry x c.0 c.1)

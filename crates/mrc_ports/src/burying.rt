@@ -6,7 +6,7 @@ ghost use Rattle.mrc_model.specs.Death.{perished_port};
 ghost use Rattle.mrc_ports.specs.Burials.{left_names, without};
 
 use crate::port::Port;
-use crate::slots::Slots;
+use crate::slots::PortSlots;
 use mrc_map::{Map, Ports};
 use mrc_names::Space;
 
@@ -26,7 +26,7 @@ pub(crate) fn bury_spaces(spaces: &mut Map<Space>, dead: &Ports)
 }
 
 /// The dead ports leave.
-fn drop_ports(ports: &mut Slots, dead: &Ports)
+fn drop_ports(ports: &mut PortSlots, dead: &Ports)
     ensures { ports.new ≡ alter_all (without dead.now) ports.old }
 {
     let mut last = None;
@@ -37,7 +37,7 @@ fn drop_ports(ports: &mut Slots, dead: &Ports)
 }
 
 /// Dead ports leave with their queues, and what named them in the others is dead.
-pub(crate) fn bury_ports(ports: &mut Slots, dead: &Ports)
+pub(crate) fn bury_ports(ports: &mut PortSlots, dead: &Ports)
     ensures { ports.new ≡ alter_all (perished_port dead.now) ports.old }
 {
     drop_ports(ports, dead);

@@ -13,12 +13,12 @@ use std::marker::Model;
 
 /// Ports by their numbers, in slots that are used again. Contracts see the definitions' map.
 #[derive(Debug, Drop)]
-pub(crate) struct Slots {
+pub(crate) struct PortSlots {
     slots: Slab<(u64, Port)>,
     order: Lookup<usize>,
 }
 
-impl Model for Slots {
+impl Model for PortSlots {
     ghost use Rattle.mrc_model.specs.Map as model;
     ghost use Rattle.mrc_model.specs.World.{Port as TPort};
     ghost use Rattle.mrc_ports.specs.Slots.{values_of, IsKept};
@@ -37,12 +37,12 @@ fn slot_of(order: &Lookup<usize>, number: u64) -> Option<usize>
     order.get(number).copied()
 }
 
-impl Slots {
+impl PortSlots {
     /// No port.
-    pub(crate) fn new(alloc: Global) -> Slots
+    pub(crate) fn new(alloc: Global) -> PortSlots
         ensures { result ≡ empty }
     {
-        Slots {
+        PortSlots {
             slots: Slab::new(alloc),
             order: Lookup::new(alloc),
         }

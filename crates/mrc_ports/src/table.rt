@@ -15,7 +15,7 @@ ghost use Rattle.mrc_ports.specs.Queues.{received_from};
 use crate::burying::bury_ports;
 use crate::parcel::{Parcel, Ready};
 use crate::port::{Port, WAITING};
-use crate::slots::Slots;
+use crate::slots::PortSlots;
 use mrc_base::{ClassId, OrMemory, PortId, limits};
 use mrc_map::Ports;
 use mrc_model::Backup;
@@ -52,7 +52,7 @@ pub struct PortTable {
     next: u64,
     /// No queue has been longer.
     longest: usize,
-    ports: Slots,
+    ports: PortSlots,
 }
 
 impl Model for PortTable {
@@ -66,7 +66,7 @@ impl Model for PortTable {
 }
 
 /// Takes a port out, and puts another one in its place for now.
-fn taken(ports: &mut Slots, alloc: Global, port: PortId) -> Port
+fn taken(ports: &mut PortSlots, alloc: Global, port: PortId) -> Port
     requires { IsSome (get ports.old port) }
     ensures port { Some result ≡ get ports.old port }
     ensures others { (x : TPort) → insert ports.new port x ≡ insert ports.old port x }
@@ -92,7 +92,7 @@ impl PortTable {
             alloc,
             next: 0,
             longest: 0,
-            ports: Slots::new(alloc),
+            ports: PortSlots::new(alloc),
         }
     }
 

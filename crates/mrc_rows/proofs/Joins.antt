@@ -8,7 +8,6 @@ use Rattle.std.proofs.Math.Bool.{and-false, or-false}
 use Rattle.mrc_base.specs.declared.Fact.{Fact}
 use Rattle.mrc_rows.specs.Limits.{limit_of_rows}
 use Rattle.mrc_rows.specs.Rows.{is_within, row_of}
-use Rattle.mrc_rows.specs.Joining.{is_kept_before}
 use Rattle.mrc_rows.proofs.Rows.{placed}
 
 -- what is joined so far, at one fact
@@ -76,6 +75,10 @@ nothing_joined false true true within set shown none =
     fresh set e = rw e refl
 
 -- the rows before one that are joined
+
+-- the fact has a place in a row before the one of this number
+abbrev pub is_kept_before : ℕ → Fact → Bool
+is_kept_before number g = is_within g && nat_lt (row_of g) number
 
 pub none_before : (g : Fact) (had there : Bool) → had ≡ (had || (is_kept_before 0 g && there))
 none_before g had there =

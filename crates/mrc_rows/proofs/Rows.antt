@@ -17,13 +17,13 @@ use Rattle.mrc_base.specs.declared.Fact.TheVariants.{Hold, Carry, Backup}
 use Rattle.mrc_base.specs.declared.PortRight.{PortRight}
 use Rattle.mrc_base.specs.declared.PortRight.TheVariants.{Send, Receive, SendOnce}
 use Rattle.mrc_facts.specs.Order.{fact_cmp, is_same, is_before, right_number, kind, first_number, second_number, last_byte}
-use Rattle.mrc_facts.specs.Sets.{has, with_fact, without, first, after, begins_after, are_ascending, IsAscending}
+use Rattle.mrc_facts.specs.Sets.{has, with_fact, first, after, begins_after, are_ascending, IsAscending}
 use Rattle.mrc_facts.proofs.Total.{fact_total, exact, not_before, not_before_itself, equal_from_same, same_itself}
 use Rattle.mrc_facts.proofs.Total.{same_right}
 use Rattle.mrc_facts.proofs.Members.{one_list, has-with_fact, first_is_least, after_is_next, none_after}
 use Rattle.mrc_facts.specs.Laws.{IsLeast, IsNext}
 use Rattle.mrc_facts.proofs.Comparing.{cmp_less, three_less}
-use Rattle.mrc_facts.proofs.Removing.{has-without, ascending-without, length-without}
+use Rattle.mrc_facts.proofs.Removing.{without, has-without, ascending-without, length-without}
 use Rattle.mrc_bits.specs.Bits.{is_set}
 use Rattle.mrc_base.specs.Limits.{limit_of_tasks}
 use Rattle.mrc_rows.specs.Limits.{limit_of_classes, limit_of_words, limit_of_rows, limit_of_groups}

@@ -7,13 +7,13 @@ use Rattle.std.proofs.lemmas.Bool.{cases_Bool, and_parts, and_from, or_cases, or
 use Rattle.std.proofs.Math.Bool.{or-false, or_assoc}
 use Rattle.mrc_base.specs.declared.Fact.{Fact}
 use Rattle.mrc_facts.specs.Order.{fact_cmp, is_before, is_same}
-use Rattle.mrc_facts.specs.Sets.{has, with_fact, without, first, after, IsAscending}
+use Rattle.mrc_facts.specs.Sets.{has, with_fact, first, after, IsAscending}
 use Rattle.mrc_facts.specs.Laws.{IsLeast, IsNext}
 use Rattle.mrc_facts.proofs.Total.{fact_total, equal_from_same, same_itself}
 use Rattle.mrc_facts.proofs.Members.{one_list, has-with_fact, first_is_least, after_is_next, none_after}
 use Rattle.mrc_facts.proofs.Members.{or_swap}
 use Rattle.mrc_facts.proofs.Walking.{place, IsStep, has_more, walk_ends}
-use Rattle.mrc_facts.proofs.Removing.{has-without, ascending-without, length-without}
+use Rattle.mrc_facts.proofs.Removing.{without, has-without, ascending-without, length-without}
 use Rattle.mrc_rows.specs.Rows.{is_within, IsWithin}
 use Rattle.mrc_rows.specs.Halves.{IsWhole, Whole, earlier}
 use Rattle.mrc_rows.proofs.Rows.{with_there, ascending_with, length_with, neither_before}

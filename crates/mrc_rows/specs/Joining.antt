@@ -73,7 +73,3 @@ pub record IsNumber (row : Row) (number : ℕ) : Type 0 where
   pub at : (g : Fact) → IsTrue (is_within g) → is_of row g ≡ (row_of g == number)
   pub within : (g : Fact) → is_of row g ≡ true
       → is_within g ≡ nat_lt (place_of g) limit_of_classes
-
--- the fact has a place in a row before the one of this number
-abbrev pub is_kept_before : ℕ → Fact → Bool
-is_kept_before number g = is_within g && nat_lt (row_of g) number

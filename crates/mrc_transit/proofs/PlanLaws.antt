@@ -27,7 +27,7 @@ use Rattle.mrc_model.proofs.Maps.{get-empty}
 use Rattle.mrc_desc.specs.declared.message.Header.{Header}
 use Rattle.mrc_desc.specs.View.{HasHeader}
 use Rattle.mrc_ports.specs.Queues.{is_full_for, is_out_of_room}
-use Rattle.mrc_filter.specs.declared.form.Form.{Form}
+use Rattle.mrc_filter.specs.declared.form.AcceptedForm.{AcceptedForm}
 use Rattle.mrc_filter.specs.Places.{IsJudged}
 use Rattle.mrc_transit.specs.declared.sending.SendFault.{SendFault}
 use Rattle.mrc_transit.specs.declared.sending.SendFault.TheVariants as faults
@@ -184,7 +184,7 @@ module _ (W : Wiring) (s : Store) (own t : ℕ) (m : Message) (h : Header)
               (at_port w (Some dest) live) denied
               (ap (λ c. judge W c m) (sym class_is) ∙ judged)
 
-          module _ (form : Form) (judged : IsJudged W class m (Ok form)) where
+          module _ (form : AcceptedForm) (judged : IsJudged W class m (Ok form)) where
             form_is : judge W dest.class m ≡ Ok form.found.now
             form_is = ap (λ c. judge W c m) (sym class_is) ∙ judged.1
 

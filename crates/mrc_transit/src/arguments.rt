@@ -15,10 +15,10 @@ ghost use Rattle.mrc_transit.specs.Sending.{take_admitted, fault_reply};
 ghost use Rattle.mrc_transit.specs.Queueing.{names_in, names_of};
 
 use crate::scratch::Scratch;
-use crate::sending::{SendFault, Slot, admit};
+use crate::sending::{SendFault, SlotPlace, admit};
 use mrc_base::{Disp, TaskId};
 use mrc_desc::Argument;
-use mrc_filter::Form;
+use mrc_filter::AcceptedForm;
 use mrc_model::{Code, Item};
 use mrc_names::Space;
 use mrc_ports::Store;
@@ -32,7 +32,7 @@ impl Scratch {
         wired: &Wired,
         store: &Store,
         space: &Space,
-        slot: &Slot,
+        slot: &SlotPlace,
         disp: Disp,
         name: u32,
     ) -> Result<Item, SendFault>
@@ -64,7 +64,7 @@ impl Scratch {
         wired: &Wired,
         store: &Store,
         space: &Space,
-        slot: &Slot,
+        slot: &SlotPlace,
         disp: Disp,
         names: &[u32],
     ) -> Result<(), SendFault>
@@ -94,7 +94,7 @@ impl Scratch {
         wired: &Wired,
         store: &Store,
         space: &Space,
-        slot: &Slot,
+        slot: &SlotPlace,
         argument: &Argument,
     ) -> Result<(), SendFault>
         requires { HasRoom (names_in (argument_of argument.now)) self.old }
@@ -128,7 +128,7 @@ impl Scratch {
         store: &Store,
         space: &Space,
         own: TaskId,
-        form: &Form<'_>,
+        form: &AcceptedForm<'_>,
         arguments: &[Argument],
     ) -> Result<(), SendFault>
         requires few { length arguments.now < 2 ^ 32 }
@@ -145,7 +145,7 @@ impl Scratch {
         ensures rests { AreRests space.now self.old.rests → AreRests space.now self.new.rests }
     {
         for (i, argument) in arguments.iter().enumerate() {
-            let slot = Slot {
+            let slot = SlotPlace {
                 own,
                 sort: form.found.sort(i),
                 argument: i as u32,

@@ -19,5 +19,5 @@ pub use laws::taken_is_carried;
 pub use receiving::{ReceiveFault, next_size, receive};
 pub use scratch::Scratch;
 pub use send_plan::{SendPlan, copy_in};
-pub use sending::{SendFault, Slot, admit, may_item};
+pub use sending::{SendFault, SlotPlace, admit, may_item};
 pub use written::{Written, WrittenRoom};

@@ -23,7 +23,7 @@ pub enum SendFault {
 /// Where a name is in a message, and who sends it: the class of the sender, the type of the name's
 /// slot, and the number of its argument.
 #[derive(Clone, Copy, Debug, PartialEq, Eq)]
-pub struct Slot {
+pub struct SlotPlace {
     /// The wired task whose class the sender has.
     pub own: TaskId,
     /// The number of the slot's type in the wiring.
@@ -89,7 +89,7 @@ pub(crate) fn judge_reply(
 
 /// Whether the type of a slot admits the class of the port that is carried there, and the sender is
 /// trusted to send the right, if a live right is carried.
-pub fn admit(wired: &Wired, store: &Store, slot: &Slot, item: &Item) -> Result<(), SendFault>
+pub fn admit(wired: &Wired, store: &Store, slot: &SlotPlace, item: &Item) -> Result<(), SendFault>
     ensures ok { OnOk result (admit_item (wiring_of wired.now) slot.now.own store.now slot.now.sort
         slot.now.argument item.now ≡ Ok tt) }
     ensures refused { IfErr result (λ fault. admit_item (wiring_of wired.now) slot.now.own store.now

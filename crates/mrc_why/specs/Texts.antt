@@ -21,10 +21,6 @@ use Rattle.mrc_why.specs.Lines.{Numbered}
 use Rattle.mrc_why.specs.Sources.{AreSources}
 use Rattle.mrc_why.specs.Trees.{tree_lines}
 
--- a name of a subsystem
-abbrev pub dotted : List ℕ → List ℕ → List ℕ
-dotted subsystem name = subsystem ++ (codes "." ++ name)
-
 -- a slot: `S.ROUTINE.ARGUMENT (S.TYPE)`
 abbrev pub slot_text : SlotNames → List ℕ
 slot_text names =

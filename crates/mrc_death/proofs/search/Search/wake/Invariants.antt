@@ -1,4 +1,4 @@
-use Rattle.mrc_death.specs.Search.{Walk}
+use Rattle.mrc_death.proofs.Following.{Walk}
 use Rattle.mrc_death.proofs.search.Search.wake.Given as goal
 
 abbrev pub invariant-loop-at : goal.invariant-loop-at

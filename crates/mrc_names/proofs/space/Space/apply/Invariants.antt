@@ -1,5 +1,6 @@
 use Rattle.std.proofs.Common.{◌≡◌}
-use Rattle.mrc_names.specs.Leaving.{patched_by, CanPatch}
+use Rattle.mrc_names.specs.Leaving.{patched_by}
+use Rattle.mrc_names.proofs.LeavingLaws.{CanPatch}
 use Rattle.mrc_names.proofs.space.Space.apply.Given as goal
 
 -- what is left of the changes can be put there, and leads to where all lead

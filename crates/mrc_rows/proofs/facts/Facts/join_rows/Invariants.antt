@@ -2,7 +2,7 @@ use Rattle.std.proofs.Common.{◌≡◌, ◌<◌}
 use Rattle.std.specs.Prelude.{◌||◌, ◌&&◌}
 use Rattle.mrc_base.specs.declared.Fact.{Fact}
 use Rattle.mrc_facts.specs.Sets.{has, IsAscending}
-use Rattle.mrc_rows.specs.Joining.{is_kept_before}
+use Rattle.mrc_rows.proofs.Joins.{is_kept_before}
 use Rattle.mrc_rows.proofs.facts.Facts.join_rows.Given as goal
 
 -- the rows up to here are joined

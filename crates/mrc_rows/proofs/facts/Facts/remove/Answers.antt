@@ -1,5 +1,5 @@
 use Rattle.std.proofs.Common.{sym, ◌∙◌}
-use Rattle.mrc_facts.specs.Sets.{without}
+use Rattle.mrc_facts.proofs.Removing.{without}
 use Rattle.mrc_rows.proofs.Wholes.{whole_as, whole_less_row, whole_less_other}
 use Rattle.mrc_rows.proofs.facts.Facts.remove.Goals as goal
 

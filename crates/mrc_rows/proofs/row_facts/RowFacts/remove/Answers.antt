@@ -1,8 +1,8 @@
 use Rattle.std.proofs.Common.{ap, sym, ◌∙◌}
 use Rattle.std.proofs.Common.{List}
 use Rattle.mrc_base.specs.declared.Fact.{Fact}
-use Rattle.mrc_facts.specs.Sets.{has, without}
-use Rattle.mrc_facts.proofs.Removing.{has-without}
+use Rattle.mrc_facts.specs.Sets.{has}
+use Rattle.mrc_facts.proofs.Removing.{without, has-without}
 use Rattle.mrc_rows.proofs.Rows.{shown_as, view_of, removed_shows}
 use Rattle.mrc_rows.proofs.row_facts.RowFacts.remove.Goals as goal
 

@@ -1,7 +1,7 @@
 use Rattle.std.proofs.Common.{◌∙◌, sym, ap}
 use Rattle.mrc_model.specs.Map.{len}
 use Rattle.mrc_ports.proofs.SlotLaws.{len_values}
-use Rattle.mrc_ports.proofs.slots.Slots.len.Goals as goal
+use Rattle.mrc_ports.proofs.slots.PortSlots.len.Goals as goal
 
 pub returns : goal.returns
 returns c =

@@ -1,7 +1,7 @@
 use Rattle.std.proofs.Common.{◌∙◌, sym}
 use Rattle.mrc_map.proofs.EntryLaws.{not_some}
 use Rattle.mrc_ports.proofs.SlotLaws.{rewritten_at, get_there, get_nowhere, occupied}
-use Rattle.mrc_ports.proofs.slots.Slots.replace.Goals as goal
+use Rattle.mrc_ports.proofs.slots.PortSlots.replace.Goals as goal
 
 pub remove-former-requires : goal.remove-former-requires
 remove-former-requires c =

@@ -1,7 +1,7 @@
 use Rattle.std.proofs.Common.{◌∙◌, sym, ap}
 use Rattle.std.specs.Option.{option_copied}
 use Rattle.mrc_ports.proofs.SlotLaws.{get_there, get_nowhere}
-use Rattle.mrc_ports.proofs.slots.Slots.get.Goals as goal
+use Rattle.mrc_ports.proofs.slots.PortSlots.get.Goals as goal
 
 pub returns-in-Some-get : goal.returns-in-Some-get
 returns-in-Some-get c =

@@ -1,6 +1,6 @@
 use Rattle.std.proofs.Common.{◌∙◌, sym}
 use Rattle.mrc_ports.proofs.SlotLaws.{removed_from, removed_none, get_there, get_nowhere, occupied}
-use Rattle.mrc_ports.proofs.slots.Slots.remove.Goals as goal
+use Rattle.mrc_ports.proofs.slots.PortSlots.remove.Goals as goal
 
 pub remove-requires-in-Some : goal.remove-requires-in-Some
 remove-requires-in-Some c =

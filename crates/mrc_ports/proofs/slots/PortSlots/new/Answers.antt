@@ -1,5 +1,5 @@
 use Rattle.mrc_ports.proofs.SlotLaws.{none_kept}
-use Rattle.mrc_ports.proofs.slots.Slots.new.Goals as goal
+use Rattle.mrc_ports.proofs.slots.PortSlots.new.Goals as goal
 
 pub invariant_of-result : goal.invariant_of-result
 invariant_of-result c =

@@ -1,6 +1,6 @@
 use Rattle.std.proofs.Common.{◌∙◌, sym, ap}
 use Rattle.mrc_ports.proofs.SlotLaws.{added_reserved}
-use Rattle.mrc_ports.proofs.slots.Slots.add.Goals as goal
+use Rattle.mrc_ports.proofs.slots.PortSlots.add.Goals as goal
 
 pub invariant_of-self-2 : goal.invariant_of-self-2
 invariant_of-self-2 c =

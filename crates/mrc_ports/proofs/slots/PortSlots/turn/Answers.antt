@@ -1,7 +1,7 @@
 use Rattle.std.proofs.Common.{rules}
 use Rattle.mrc_ports.specs.Burials.{left_of}
 use Rattle.mrc_ports.proofs.SlotLaws.{turned_kept, turned_values}
-use Rattle.mrc_ports.proofs.slots.Slots.turn.Goals as goal
+use Rattle.mrc_ports.proofs.slots.PortSlots.turn.Goals as goal
 
 pub invariant_of-self : goal.invariant_of-self
 invariant_of-self c =
