@@ -3,7 +3,7 @@
     trial = Trial(name, wiring, lines, interfaces)
     play([trial, ..])
     trial.faults()      where the kernel is not as `Known` of known.py is, as lines of text
-    trial.is_plain()    whether it is as tests/machine.py is, without any difference
+    trial.is_plain()    whether it is as tests/oracles/machine.py is, without any difference
     trial.entries()     the names of the entries that the script shows
 """
 

@@ -1,4 +1,4 @@
-"""The machine of tests/machine.py with the known differences: it does what GNU Mach does.
+"""The machine of tests/oracles/machine.py with the known differences: it does what GNU Mach does.
 
 `Known(wiring, interfaces, without)` is that machine. `without` names differences that it does not
 have, by their names in entries.py, which says in words what each is. `answers(machine, lines)` are
@@ -13,12 +13,9 @@ import collections
 import copy
 import pickle
 import struct
-import sys
 
-from cases import ROOT, words_of
+from cases import words_of
 from entries import ENTRIES
-
-sys.path.insert(0, str(ROOT / "tests"))
 import machine
 from machine import DEAD, GIVES, INTERFACES, NEEDS, NULL, Argument, Entry, Machine, Queued, Refused
 from machine import carried, code, drop_if_spent, turn_names, turn_port

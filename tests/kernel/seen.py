@@ -5,7 +5,7 @@
     play([breach.case, ..])
     breach.is_seen(), breach.told()                     whether it was seen; what is printed of it
 
-Answers are those of `replay`. The machine of tests/machine.py makes the calls of the script, and
+Answers are those of `replay`. The machine of tests/oracles/machine.py makes the calls of the script, and
 then says who holds the right, under which name. The kernel alone is asked whether this is so:
 
 - The name has a right of that kind.
@@ -19,14 +19,11 @@ then says who holds the right, under which name. The kernel alone is asked wheth
 """
 
 import re
-import sys
 
-from cases import ROOT, Case
+from cases import Case
 from entries import ENTRIES
 from known import Known
-
-sys.path.insert(0, str(ROOT / "tests"))
-from machine import MASKS, Machine, Queued, words as packed
+from machine import Machine, Queued, words as packed
 
 HEAD = r"(REAL|NO) ((?:trusted )?line \d+) hold (\S+) (\S+) (\S+)( not reached)?"
 WORD = {"send": "send", "receive": "receive", "once": "send-once"}
@@ -114,7 +111,7 @@ class Breach:
                 if self.machine.ports[port].cls == self.cls.replace(":", " "):
                     return task, name, port, through
             ways += self.commanded(task, through, {known for known, _ in ways})
-        raise ValueError(f"{self.head}: the machine of tests/machine.py has no such breach")
+        raise ValueError(f"{self.head}: the machine of tests/oracles/machine.py has no such breach")
 
     def commanded(self, task, through, known):
         """The tasks that a task commands and that are not known, with the ways to them."""

@@ -1,0 +1,769 @@
+"""Answers that programs read, apart from machcheck: what their objects have, and what the printed texts say of them.
+
+Written from docs/FORMATS.md, sections 6 and 9, and docs/FAULTS.md, not from the program. `read` reads the one line that an
+answer is, `wrong` compares an object with the forms of the schema, and `object_of` makes of the texts of a command, with
+quotes and places, the object that says the same.
+"""
+
+import functools
+import json
+import re
+from dataclasses import dataclass, field
+from pathlib import Path
+
+COMMANDS = ["verify", "mend", "attack", "check", "explain", "facts", "graph", "slots", "promises", "replay", "live", "mig"]
+# The options with a word, and those without one.
+WORDED = ["wiring", "policy", "cert", "script", "fact", "task", "class", "right", "most", "line", "out", "format"]
+FACT_TEXT = r"hold \S+ \S+ \S+|carry \S+ \S+ \S+|backup \S+ \S+"
+STEP_TEXT = re.compile(rf"(\d+) (K\d+) ({FACT_TEXT})(?: from (\d+)(?: (\d+))?)?(?: by (.+))?")
+SLOT_TEXT = re.compile(r"(\w+)\.(\w+)\.(\w+) \((\w+)\.(\w+)\)")
+
+
+class Wrong(Exception):
+    """An answer is not as it has to be."""
+
+
+# The line of an answer
+
+
+def ascending(pairs):
+    """The members of an object, whose keys come in alphabetical order, each once."""
+    keys = [key for key, _ in pairs]
+    if keys != sorted(set(keys)):
+        raise Wrong(f"keys that are no ascending list: {keys}")
+    return dict(pairs)
+
+
+def refuse(text):
+    raise Wrong(f"no whole number: {text}")
+
+
+def read(line):
+    """The object of an answer: one line, without blanks between its parts, in which nothing is escaped without need."""
+    try:
+        text = line.decode()
+        value = json.loads(text, object_pairs_hook=ascending, parse_constant=refuse, parse_float=refuse)
+    except ValueError as found:
+        raise Wrong(f"no JSON: {found}: {line!r}") from None
+    if not isinstance(value, dict):
+        raise Wrong(f"no object: {text}")
+    if text != json.dumps(value, ensure_ascii=False, separators=(",", ":")) + "\n":
+        raise Wrong(f"not written in the one way: {text!r}")
+    return value
+
+
+# The schema, version 1. A form is a type, the forms of the members of an object, the form of each item of a list, or a
+# value by itself; a tuple has the forms of which one has to be.
+
+NAME = re.compile(r"[A-Za-z_][A-Za-z0-9_]{0,63}")
+CLASS = re.compile(r"(port|task|births):[A-Za-z_][A-Za-z0-9_]*(:([1-9]|1[0-5]))?")
+RULE = re.compile(r"K([1-9]|10)")
+RIGHT = ("send", "receive", "once")
+FACT = (
+    {"class": CLASS, "kind": "hold", "right": RIGHT, "task": NAME, "text": str},
+    {"class": CLASS, "kind": "carry", "right": RIGHT, "text": str, "to": CLASS},
+    {"class": CLASS, "kind": "backup", "notify": CLASS, "text": str},
+)
+BY = (
+    None,
+    {"kind": "line", "line": int},
+    {"argument": NAME, "kind": "slot", "routine": NAME, "subsystem": NAME, "type": str},
+    {"kind": "subsystem", "subsystem": NAME},
+    {"kind": "task", "task": NAME},
+)
+STEP = {"by": BY, "fact": FACT, "from": [int], "rule": RULE}
+BROKEN = {"fact": FACT, "line": int, "steps": [STEP], "text": str}
+REASON = {
+    "fact": (None, FACT),
+    "kind": ("counts", "missing", "not closed", "trusted", "forbidden"),
+    "line": (None, int),
+    "rule": (None, RULE),
+}
+COUNTS = {"fact": None, "kind": "counts", "line": None, "rule": None}
+# How many lines a change mends is there if two or more are broken, in the first object of the change.
+CHANGE = tuple(
+    {**change, **more}
+    for more in ({}, {"mends": int})
+    for change in (
+        {"kind": "remove", "line": int, "text": str},
+        {"kind": "change", "line": int, "text": str},
+        {"kind": "add", "text": str},
+    )
+)
+MENDS = {
+    "cause": (None, {"lines": int, "text": str}),
+    "command": "mend",
+    "complete": bool,
+    "mends": [{"changes": [CHANGE], "loses": int}],
+    "schema": 1,
+}
+ATTACK = {"calls": [str], "cut": bool, "fact": FACT, "line": int, "real": bool, "text": str, "trusted": bool}
+DISPOSITION = ("MOVE_RECEIVE", "MOVE_SEND", "MOVE_SEND_ONCE", "COPY_SEND", "MAKE_SEND", "MAKE_SEND_ONCE")
+SLOT = {
+    "admits": (None, [CLASS]),
+    "argument": NAME,
+    "disposition": tuple(f"MACH_MSG_TYPE_{word}" for word in DISPOSITION),
+    "id": int,
+    "message": ("request", "reply"),
+    "routine": NAME,
+    "subsystem": NAME,
+    "type": NAME,
+}
+PROMISE = {
+    "class": (None, CLASS),
+    "line": int,
+    "right": (None, RIGHT),
+    "task": (None, NAME),
+    "text": str,
+    "verb": ("takes", "gives", "sends", "replies", "replies fit"),
+}
+DRAWN = {"fact": FACT, "first": bool, "forbidden": (None, int)}
+EVENT = {"call": str, "number": int, "reply": str, "task": re.compile(rf"{NAME.pattern}|@\d+")}
+LEFT = {"carries": [{"argument": str, "type": str}], "id": int, "line": int, "routine": str, "word": str}
+ANSWER = (
+    {"answer": "YES", "command": ("verify", "attack", "check"), "notices": [str], "schema": 1},
+    {
+        "answer": "NO",
+        "broken": [BROKEN],
+        "command": "verify",
+        "common": (None, {"fact": FACT, "lines": int}),
+        "exposed": (None, BROKEN),
+        "notices": [str],
+        "schema": 1,
+    },
+    {"answer": "NO", "command": ("check", "live"), "notices": [str], "reason": REASON, "schema": 1},
+    {"answer": "attacks", "attacks": [ATTACK], "command": "attack", "notices": [str], "schema": 1},
+    {"answer": ("chain", "none"), "command": "explain", "fact": FACT, "schema": 1, "steps": [STEP]},
+    {"answer": "facts", "command": "facts", "facts": [FACT], "schema": 1},
+    {"answer": "NO", "command": ("facts", "graph"), "reason": COUNTS, "schema": 1},
+    {"answer": "graph", "classes": [CLASS], "command": "graph", "facts": [DRAWN], "schema": 1, "tasks": [NAME]},
+    {"answer": "none", "command": "graph", "fact": FACT, "schema": 1},
+    {"answer": "slots", "command": "slots", "schema": 1, "slots": [SLOT]},
+    {"answer": "promises", "command": "promises", "promises": [PROMISE], "schema": 1},
+    {"answer": "replay", "command": "replay", "events": [EVENT], "ports": int, "schema": 1},
+    {"answer": ("journal", "all wait"), "command": "live", "events": [EVENT], "ports": int, "schema": 1, "waits": [int]},
+    {"answer": "YES", "command": "mend", "schema": 1},
+    {"answer": ("changes", "none"), **MENDS},
+    {
+        "answer": ("cut", "not cut"),
+        "command": "mig",
+        "files": [{"before": [str], "file": str, "left_out": [LEFT], "read": int}],
+        "schema": 1,
+    },
+    {
+        "answer": "fault",
+        "column": (None, int),
+        "command": tuple(COMMANDS),
+        "fault": str,
+        "file": (None, str),
+        "line": (None, int),
+        "notes": [str],
+        "schema": 1,
+        "text": (None, str),
+    },
+)
+
+
+def wrong(value, form, path="answer"):
+    """What of a value is not of its form, or None."""
+    if isinstance(form, tuple):
+        return None if any(wrong(value, one) is None for one in form) else f"{path} has none of its forms: {value!r}"
+    if isinstance(form, dict):
+        if not isinstance(value, dict) or value.keys() != form.keys():
+            return f"{path} has other keys than {[*form]}: {value!r}"
+        return next(filter(None, (wrong(value[key], one, f"{path}.{key}") for key, one in form.items())), None)
+    if isinstance(form, list):
+        if not isinstance(value, list):
+            return f"{path} is no list: {value!r}"
+        return next(filter(None, (wrong(item, form[0], f"{path}[{n}]") for n, item in enumerate(value))), None)
+    if isinstance(form, re.Pattern):
+        fits = isinstance(value, str) and form.fullmatch(value)
+    elif form is int:
+        fits = type(value) is int and value >= 0
+    elif isinstance(form, type):
+        fits = isinstance(value, form)
+    else:
+        fits = type(value) is type(form) and value == form
+    return None if fits else f"{path} is wrong: {value!r}"
+
+
+def difference(right, value, path="answer"):
+    """The first part in which a value is not right, or None."""
+    if isinstance(right, dict) and isinstance(value, dict) and right.keys() == value.keys():
+        return next(filter(None, (difference(right[key], value[key], f"{path}.{key}") for key in right)), None)
+    if isinstance(right, list) and isinstance(value, list) and len(right) == len(value):
+        parts = (difference(*pair, f"{path}[{n}]") for n, pair in enumerate(zip(right, value)))
+        return next(filter(None, parts), None)
+    is_same = type(right) is type(value) and right == value
+    return None if is_same else f"{path} is not {json.dumps(right)[:500]} but {json.dumps(value)[:500]}"
+
+
+# How texts are shown
+
+
+def shown(text):
+    """A text without control characters."""
+    names = {"\n": r"\n", "\t": r"\t", "\r": r"\r", "\\": r"\\"}
+    is_control = lambda sign: ord(sign) < 0x20 or 0x7F <= ord(sign) < 0xA0
+    return "".join(names.get(sign) or (f"\\x{ord(sign):02x}" if is_control(sign) else sign) for sign in text)
+
+
+def unshown(text):
+    """The text that is shown so."""
+    names = {"n": "\n", "t": "\t", "r": "\r", "\\": "\\"}
+    return re.sub(r"\\(x..|.)", lambda sign: names.get(sign[1]) or chr(int(sign[1][1:], 16)), text)
+
+
+# A command
+
+
+@dataclass
+class Asked:
+    """A command by its words: what it is, its options and flags, and its MIG files."""
+
+    words: list
+    options: dict = field(default_factory=dict)
+    files: list = field(default_factory=list)
+
+    def __post_init__(self):
+        left = self.words[1:]
+        while left:
+            word = left.pop(0)
+            name, _, value = word.removeprefix("--").partition("=")
+            if word.startswith("--"):
+                self.options[name] = value if "=" in word else left.pop(0) if name in WORDED and left else True
+            else:
+                self.files.append(word)
+
+    @property
+    def command(self):
+        return self.words[0]
+
+    def has(self, option):
+        return option in self.options
+
+    def without(self, *options):
+        """Its words without these options, which have no word of their own."""
+        return [word for word in self.words if word not in [f"--{option}" for option in options]]
+
+    def free_of(self, option):
+        """Its words without this option, which has a word of its own."""
+        words, name = [], f"--{option}"
+        for before, word in zip(["", *self.words], self.words):
+            if before != name and word != name and not word.startswith(f"{name}="):
+                words.append(word)
+        return words
+
+    def named(self):
+        """The files that it names."""
+        return [self.options[name] for name in ("wiring", "policy", "cert", "script") if self.has(name)] + self.files
+
+
+@dataclass
+class Printed:
+    """What a run prints, and its status."""
+
+    status: int
+    out: str
+    err: str
+
+    def lines(self):
+        return self.out.split("\n")[:-1]
+
+    def notices(self):
+        return self.err.split("\n")[:-1]
+
+
+@dataclass
+class Texts:
+    """What a command prints as text: by itself, and with all that is behind it (`whole`): quotes, sources and places; and
+    the same of all lines of a policy, if one is asked for (`every`)."""
+
+    plain: Printed
+    whole: Printed
+    every: Printed
+
+
+def whole_words(asked):
+    """The words of a command of which all is printed that its object says."""
+    by = ["--by"] if asked.command == "explain" and not asked.has("by") else []
+    return [asked.command, "--verbose", *by, *asked.without("verbose", "tree", "brief")[1:]]
+
+
+def every_words(asked, words):
+    """The words of a command about all lines of a policy."""
+    return words if asked.command != "verify" else Asked(words).free_of("line")
+
+
+# The objects of texts
+
+
+def fact_object(text):
+    """A fact by its text."""
+    kind, first, second, *right = text.split(" ")
+    if kind == "hold":
+        return {"class": second, "kind": kind, "right": right[0], "task": first, "text": text}
+    if kind == "carry":
+        return {"class": second, "kind": kind, "right": right[0], "text": text, "to": first}
+    return {"class": first, "kind": kind, "notify": second, "text": text}
+
+
+def source_object(rule, source):
+    """Where a step comes from, by the text behind `by`."""
+    if source is None:
+        return None
+    if rule == "K1":
+        return {"kind": "line", "line": int(source.removeprefix("line "))}
+    if rule == "K4":
+        subsystem, routine, argument, of, type_name = SLOT_TEXT.fullmatch(source).groups()
+        if of != subsystem:
+            raise Wrong(f"a slot of two subsystems: {source}")
+        return {"argument": argument, "kind": "slot", "routine": routine, "subsystem": subsystem, "type": type_name}
+    if rule == "K5":
+        return {"kind": "subsystem", "subsystem": source}
+    if rule != "K7" or not source.startswith("task:"):
+        raise Wrong(f"{rule} has no such source: {source}")
+    return {"kind": "task", "task": source.removeprefix("task:")}
+
+
+def step_object(number, line):
+    """A step by its line."""
+    parts = STEP_TEXT.fullmatch(line)
+    if not parts or int(parts[1]) != number:
+        raise Wrong(f"no step: {line}")
+    _, rule, fact, *places, source = parts.groups()
+    places = [int(place) for place in places if place]
+    return {"by": source_object(rule, source), "fact": fact_object(fact), "from": places, "rule": rule}
+
+
+def steps_object(lines):
+    return [step_object(number, line) for number, line in enumerate(lines)]
+
+
+@functools.lru_cache(8)
+def lines_in(path, stamp):
+    """The lines of a file that was changed last at this time."""
+    return path.read_bytes().decode().split("\n")
+
+
+def line_of(path, number):
+    """The line of this number of a file, without blanks at its ends."""
+    stamp = path.stat()
+    return lines_in(path, (stamp.st_ino, stamp.st_size, stamp.st_mtime_ns))[number - 1].strip(" \t\r")
+
+
+def first_common(lines):
+    """What the first line says that several chains have in common, if it does, and the other lines."""
+    found = re.fullmatch(rf"# (\d+) of (\d+) lines by: ({FACT_TEXT})", lines[0])
+    if not found:
+        return None, None, lines
+    return {"fact": fact_object(found[3]), "lines": int(found[1])}, int(found[2]), lines[1:]
+
+
+def blocks(lines):
+    """The lines that begin at the margin, each with those below it, without their two blanks."""
+    found = []
+    for line in lines:
+        if line.startswith("  ") and found:
+            found[-1][1].append(line[2:])
+        else:
+            found.append((line, []))
+    return found
+
+
+def broken_object(head, below, folder, asked):
+    """An exposed task or a broken line: whether it is the first, and its object."""
+    kind, line, fact = re.fullmatch(rf"NO (trusted|forbidden) line (\d+) ({FACT_TEXT})", head).groups()
+    text = line_of(folder / asked.options["wiring" if kind == "trusted" else "policy"], int(line))
+    if below[0] != f"# {shown(text)}":
+        raise Wrong(f"another quote than {shown(text)!r}: {below[0]!r}")
+    steps = [] if asked.has("brief") else steps_object(below[1:])
+    return kind == "trusted", {"fact": fact_object(fact), "line": int(line), "steps": steps, "text": text}
+
+
+def verify_object(folder, asked, texts):
+    told = {"command": "verify", "notices": texts.plain.notices(), "schema": 1}
+    if texts.whole.out == "YES\n":
+        return {"answer": "YES", **told}
+    common, count, lines = first_common(texts.whole.lines())
+    found = [broken_object(head, below, folder, asked) for head, below in blocks(lines)]
+    _, _, every = first_common(texts.every.lines())
+    exposed = [made for is_task, made in (broken_object(*block, folder, asked) for block in blocks(every)) if is_task]
+    broken = [made for is_task, made in found if not is_task]
+    if common and (count != len(broken) or asked.has("line")):
+        raise Wrong(f"{count} lines are broken of {len(broken)}")
+    return {"answer": "NO", "broken": broken, "common": common, "exposed": exposed[0] if exposed else None, **told}
+
+
+def reason_object(line):
+    """The reason why a certificate is refused, by its line."""
+    made = dict(COUNTS)
+    if line == "NO counts":
+        return made
+    kind, number, fact = re.fullmatch(rf"NO (missing|not closed K\d+|\w+ line (\d+))(?: ({FACT_TEXT}))?", line).groups()
+    made["kind"] = kind.split(" line")[0].split(" K")[0]
+    made["fact"] = fact_object(fact) if fact else None
+    made["line"] = int(number) if number else None
+    made["rule"] = kind.removeprefix("not closed ") if "K" in kind else None
+    return made
+
+
+def check_object(folder, asked, texts):
+    told = {"command": "check", "notices": texts.plain.notices(), "schema": 1}
+    if texts.plain.out == "YES\n":
+        return {"answer": "YES", **told}
+    (line,) = texts.plain.lines()
+    return {"answer": "NO", "reason": reason_object(line), **told}
+
+
+def cut_lines(notices):
+    """Which lines were not searched to the end, by the lines on standard error: whether of a trusted task, and the number."""
+    found = (re.fullmatch(r"machcheck: attack: (trusted )?line (\d+): not all ways were tried", line) for line in notices)
+    return {(bool(parts[1]), int(parts[2])) for parts in found if parts}
+
+
+def attack_object(folder, asked, texts):
+    told = {"command": "attack", "notices": texts.plain.notices(), "schema": 1}
+    if texts.plain.out == "YES\n":
+        return {"answer": "YES", **told}
+    lines, cut, attacks = texts.plain.lines(), cut_lines(texts.plain.notices()), []
+    if asked.has("line") and lines[0].startswith("# REAL"):
+        lines = [lines[0].removeprefix("# "), *(f"  {line}" for line in lines[1:])]
+    for head, calls in blocks(lines):
+        word, trusted, line, fact, behind = re.fullmatch(
+            rf"(REAL|NO) (trusted )?line (\d+) ({FACT_TEXT})( not reached)?", head).groups()
+        if (word == "NO") != bool(behind) or word == "NO" and calls:
+            raise Wrong(f"calls of {head}: {calls}")
+        text = line_of(folder / asked.options["wiring" if trusted else "policy"], int(line))
+        attacks.append({"calls": calls, "cut": (bool(trusted), int(line)) in cut, "fact": fact_object(fact),
+                        "line": int(line), "real": word == "REAL", "text": text, "trusted": bool(trusted)})
+    return {"answer": "attacks", "attacks": attacks, **told}
+
+
+def explain_object(folder, asked, texts):
+    lines = texts.whole.lines()
+    steps = [] if lines == ["none"] else steps_object(lines)
+    answer = "chain" if steps else "none"
+    return {"answer": answer, "command": "explain", "fact": fact_object(asked.options["fact"]), "schema": 1, "steps": steps}
+
+
+def facts_object(folder, asked, texts):
+    told = {"command": "facts", "schema": 1}
+    if texts.plain.out == "NO counts\n":
+        return {"answer": "NO", "reason": dict(COUNTS), **told}
+    return {"answer": "facts", "facts": [fact_object(line) for line in texts.plain.lines()], **told}
+
+
+def slots_object(folder, asked, texts, value):
+    """What is said of slots, if their lines are those that are printed. The lines say less than the object."""
+    requests = {(slot["subsystem"], slot["routine"], slot["argument"], slot["type"])
+                for slot in value["slots"] if slot["message"] == "request"}
+    text = ""
+    for slot in value["slots"]:
+        subsystem, routine, argument, of = names = tuple(slot[key] for key in ("subsystem", "routine", "argument", "type"))
+        if slot["message"] == "request" or names not in requests:
+            admits = "any" if slot["admits"] is None else ", ".join(slot["admits"]) or "none"
+            text += f"{subsystem}.{routine}.{argument} ({subsystem}.{of}): {admits}\n"
+    if text != texts.plain.out:
+        raise Wrong(f"other slots than\n{text}:\n{texts.plain.out}")
+    return value
+
+
+def promise_object(folder, asked, line):
+    """What a line of a wiring asks, by what is printed of it and by its words."""
+    task, text, number = re.fullmatch(r"(\w+|each task): (.*) \(line (\d+)\)", line).groups()
+    words = line_of(folder / asked.options["wiring"], int(number)).split("#")[0].split()
+    made = {"class": None, "line": int(number), "right": None, "task": task, "text": text}
+    if words[:1] == ["replies"]:
+        return {**made, "task": None, "verb": "replies fit"}
+    _, of, verb, *limit = words
+    if of != task:
+        raise Wrong(f"line {number} is of another task than {task}: {words}")
+    if limit != ["none"]:
+        right, *named = limit if verb != "replies" else ["once", *limit]
+        name = ":".join([*named[:2], *(str(int(kind)) for kind in named[2:] if int(kind))])
+        made.update({"class": name, "right": right})
+    return {**made, "verb": verb}
+
+
+def promises_object(folder, asked, texts):
+    promises = [promise_object(folder, asked, line) for line in texts.plain.lines()]
+    return {"answer": "promises", "command": "promises", "promises": promises, "schema": 1}
+
+
+NODE_LINE = re.compile(r'  "(\w+)" \[shape=box,label="([^"]*)"\];')
+EDGE_LINE = re.compile(r'  "([^"]+)" -> "([^"]+)" \[label="([^"]*)"([^\]]*)\];')
+LOOKS = {(True, False): "", (False, False): ",style=dashed", (True, True): ",color=red",
+         (False, True): ",style=dashed,color=red"}
+
+
+def drawn_edges(value, nodes):
+    """The edges of a drawing of these nodes: the tail, the head and the looks of each, with its rights."""
+    edges = {}
+    for drawn in value["facts"]:
+        fact = drawn["fact"]
+        if fact["kind"] == "hold":
+            (tail,) = [node for node, tasks in nodes.items() if fact["task"] in tasks]
+            look = LOOKS[drawn["first"], drawn["forbidden"] is not None]
+            edges.setdefault((tail, fact["class"], look), set()).add(fact["right"])
+        elif fact["kind"] == "carry":
+            edges.setdefault((fact["to"], fact["class"], ",style=dotted,arrowhead=vee"), set()).add(fact["right"])
+        else:
+            edges[fact["class"], fact["notify"], ",style=dotted,arrowhead=tee"] = {"backup"}
+    return edges
+
+
+def forbidden_lines(folder, asked):
+    """The first line of the policy that forbids each hold, by the text of the hold."""
+    if not asked.has("policy"):
+        return {}
+    lines, found = (folder / asked.options["policy"]).read_text().split("\n"), {}
+    for number, line in enumerate(lines, 1):
+        if (words := line.split("#")[0].split())[:1] == ["forbid"]:
+            _, task, right, *of = words
+            of = [*of[:2], *(str(int(kind)) for kind in of[2:] if int(kind))]
+            found.setdefault(f"hold {task} {':'.join(of)} {right}", number)
+    return found
+
+
+def graph_object(folder, asked, texts, value):
+    """What is said of a drawing, if the drawing that is printed is one of the same facts."""
+    told = {"command": "graph", "schema": 1}
+    if texts.plain.out == "NO counts\n":
+        return {"answer": "NO", "reason": dict(COUNTS), **told}
+    if texts.plain.out == "none\n":
+        return {"answer": "none", "fact": fact_object(asked.options["fact"]), **told}
+    nodes, edges, lines = {}, {}, texts.plain.lines()
+    for line in lines[2:-1]:
+        if node := NODE_LINE.fullmatch(line):
+            nodes[node[1]] = node[2].split("\\n")
+        else:
+            tail, head, rights, look = EDGE_LINE.fullmatch(line).groups()
+            edges[tail, head, look] = set(rights.split(", "))
+    if edges != drawn_edges(value, nodes):
+        raise Wrong(f"other edges than\n{drawn_edges(value, nodes)}:\n{edges}")
+    facts, forbidden = [drawn["fact"] for drawn in value["facts"]], forbidden_lines(folder, asked)
+    if {name for tasks in nodes.values() for name in tasks} != {*value["tasks"]}:
+        raise Wrong(f"other tasks than {value['tasks']}: {nodes}")
+    if {fact[key] for fact in facts for key in ("class", "to", "notify") if key in fact} != {*value["classes"]}:
+        raise Wrong(f"other classes than those of the facts: {value['classes']}")
+    for drawn in value["facts"]:
+        if drawn["forbidden"] != forbidden.get(drawn["fact"]["text"]):
+            raise Wrong(f"another line forbids {drawn}: {forbidden}")
+    return value
+
+
+def call_of(words):
+    """The words of a call as they are written once: HEX without blanks, numbers without zeros before them, and no kind 0."""
+    name, *parameters = words
+    if name == "send":
+        return f"send {''.join(parameters).lower()}"
+    if name == "allocate" and len(parameters) == 3 and int(parameters[2]) == 0:
+        parameters.pop()
+    number = re.compile(r"[+-]?\d+")
+    return " ".join(["receive" if name == "wait" else name,
+                     *(str(int(word)) if number.fullmatch(word) else word for word in parameters)])
+
+
+def script_of(folder, asked):
+    """The lines of a script that say something: the task, and the call."""
+    lines = (folder / asked.options["script"]).read_text().split("\n")
+    said = [words for line in lines if (words := line.split("#")[0].split())]
+    return [(re.sub(r"@0*(?=\d)", "@", words[0]), call_of(words[1:])) for words in said]
+
+
+def events_object(folder, asked, lines):
+    """The events of a script, by what is printed of them, and how many ports are live. Each task makes the calls of its
+    lines in order."""
+    *lines, end = lines
+    calls, events = {}, []
+    for task, call in reversed(script_of(folder, asked)):
+        calls.setdefault(task, []).append(call)
+    for number, line in enumerate(lines):
+        at, task, reply = line.split(" ", 2)
+        if int(at) != number:
+            raise Wrong(f"another number: {line}")
+        events.append({"call": calls[task].pop(), "number": number, "reply": reply, "task": task})
+    count, ports = re.fullmatch(r"end events (\d+) ports (\d+)", end).groups()
+    if int(count) != len(events):
+        raise Wrong(f"another number of events than {len(events)}: {end}")
+    return {"events": events, "ports": int(ports), "schema": 1}
+
+
+def replay_object(folder, asked, texts):
+    return {"answer": "replay", "command": "replay", **events_object(folder, asked, texts.plain.lines())}
+
+
+def live_object(folder, asked, texts):
+    if texts.plain.status == 1:
+        (line,) = texts.plain.lines()
+        return {"answer": "NO", "command": "live", "notices": [], "reason": reason_object(line), "schema": 1}
+    waits = ALL_WAIT.search(texts.plain.err)
+    lines = [int(number) for number in waits[1].split()] if waits else []
+    events = events_object(folder, asked, texts.plain.lines())
+    return {"answer": "all wait" if waits else "journal", "command": "live", "waits": lines, **events}
+
+
+def change_object(folder, asked, line):
+    """A line of a mend: its number, the change with how many lines it mends, and how many facts the mend loses, if the line
+    says so."""
+    removes, changes, adds = r"remove line (\d+) # ([^#]*?)", r"change line (\d+) # ([^#]*?)", r"add ([^#]*?)"
+    parts = re.fullmatch(rf"(\d+) (?:{removes}|{changes}|{adds})(?: # ([^#]*))?", line)
+    if not parts:
+        raise Wrong(f"no line of a mend: {line}")
+    number, removed, words, changed, text, added, note = parts.groups()
+    lost = re.search(r"loses (\d+) facts", note or "")
+    count = re.search(r"mends (\d+) (?:more )?of \d+ lines$", note or "")
+    if removed:
+        text = line_of(folder / asked.options["wiring"], int(removed))
+        if " ".join(text.split("#")[0].split()) != words:
+            raise Wrong(f"line {removed} has other words than {words}: {text}")
+        change = {"kind": "remove", "line": int(removed), "text": text}
+    elif changed:
+        change = {"kind": "change", "line": int(changed), "text": text}
+    else:
+        change = {"kind": "add", "text": added}
+    if count:
+        change["mends"] = int(count[1])
+    return int(number), change, int(lost[1]) if lost else None
+
+
+def mend_object(folder, asked, texts):
+    told = {"command": "mend", "schema": 1}
+    lines = texts.plain.lines()
+    if lines == ["YES"]:
+        return {"answer": "YES", **told}
+    found = re.fullmatch(rf"# all (\d+) broken lines have ({FACT_TEXT}) in their chains", lines[0])
+    cause = {"lines": int(found[1]), "text": found[2]} if found else None
+    mends = []
+    for line in [] if lines[-1] == "none" else lines[bool(found) :]:
+        number, change, lost = change_object(folder, asked, line)
+        if (number > len(mends)) != (lost is not None):
+            raise Wrong(f"a mend says once what it loses: {line}")
+        if number > len(mends):
+            mends.append({"changes": [], "loses": lost})
+        mends[-1]["changes"].append(change)
+    complete = "machcheck: mend: not all changes were tried" not in texts.plain.notices()
+    return {"answer": "changes" if mends else "none", "cause": cause, "complete": complete, "mends": mends, **told}
+
+
+def left_object(line):
+    """A routine that is left out, by its line."""
+    place, name, number, word, carried = re.fullmatch(
+        r"(\d+): routine (\w+|\?) \(id (\d+)\) left out: (.*?)(?:, carries ([\w?]+ \([\w?]+\)(?:, [\w?]+ \([\w?]+\))*))?",
+        line).groups()
+    carries = re.findall(r"([\w?]+) \(([\w?]+)\)", carried or "")
+    return {
+        "carries": [{"argument": argument, "type": of} for argument, of in carries],
+        "id": int(number),
+        "line": int(place),
+        "routine": name,
+        "word": unshown(word),
+    }
+
+
+def file_object(name, lines):
+    """What a file is cut to, by its lines, which are taken away."""
+    start = f"{shown(name)}:"
+    left, before = [], []
+    while routine := re.match(r"\d+: routine ", lines[0].removeprefix(start)):
+        left.append(left_object(lines.pop(0).removeprefix(start)))
+    told = re.fullmatch(r" (\d+) routines? that carr\w+ rights (?:are|is) not in the model: (.*)",
+                        lines[0].removeprefix(start))
+    if told:
+        before = told[2].split(", ")
+        if len(before) != int(told[1]):
+            raise Wrong(f"another number of routines: {lines[0]}")
+        lines.pop(0)
+    carrying = sum(bool(routine["carries"]) for routine in left)
+    count, of, rights = re.fullmatch(r" (\d+) of (\d+) routines read(?:, (\d+) of those left out carr\w+ rights)?",
+                                     lines.pop(0).removeprefix(start)).groups()
+    if int(of) != int(count) + len(left) or int(rights or 0) != carrying:
+        raise Wrong(f"another number of routines of {name}")
+    return {"before": before, "file": name, "left_out": left, "read": int(count)}
+
+
+def mig_object(folder, asked, texts):
+    lines = texts.plain.notices()
+    files = [file_object(name, lines) for name in asked.files]
+    if lines:
+        raise Wrong(f"other lines: {lines}")
+    return {"answer": "not cut" if texts.plain.status else "cut", "command": "mig", "files": files, "schema": 1}
+
+
+def place_of(folder, asked, file, lines):
+    """The place of a fault, by the lines behind it: the line, its column and its whole text; and the notes."""
+    place = re.fullmatch(re.escape(f"{file}:") + r"(\d+):(\d+)", lines[0]) if lines else None
+    if not place:
+        return None, None, None, [line[2:] for line in lines]
+    (path,) = {folder / name for name in asked.named() if shown(name) == file}
+    line, column = int(place[1]), int(place[2])
+    text = path.read_bytes().decode().split("\n")[line - 1]
+    before = len(shown(text[: column - 1]))
+    if lines[1] != f"  {shown(text)}" or not re.fullmatch(rf"  {before * ' '}\^+", lines[2]):
+        raise Wrong(f"another line or other carets than of {text!r}: {lines[1:3]}")
+    return line, column, text, [note[2:] for note in lines[3:]]
+
+
+def up_to_fault(err):
+    """What is printed up to the line of the fault. Behind it may be its place and notes."""
+    lines = err.split("\n")[:-1]
+    last = max((at for at, line in enumerate(lines) if line.startswith("machcheck: ")), default=-1)
+    return "".join(f"{line}\n" for line in lines[: last + 1])
+
+
+def fault_object(folder, asked, texts):
+    plain, whole = up_to_fault(texts.plain.err), texts.whole.err
+    if not whole.startswith(plain) or texts.plain.err not in (plain, whole):
+        raise Wrong(f"another fault: {whole}")
+    head, _, fault = plain.split("\n")[-2].removeprefix("machcheck: ").rpartition(": ")
+    line, column, text, notes = place_of(folder, asked, head, whole[len(plain) :].split("\n")[:-1])
+    return {
+        "answer": "fault",
+        "column": column,
+        "command": asked.command,
+        "fault": fault,
+        "file": head or None,
+        "line": line,
+        "notes": notes,
+        "schema": 1,
+        "text": text,
+    }
+
+
+OBJECTS = {
+    "verify": verify_object,
+    "check": check_object,
+    "explain": explain_object,
+    "facts": facts_object,
+    "graph": graph_object,
+    "slots": slots_object,
+    "promises": promises_object,
+    "replay": replay_object,
+    "live": live_object,
+    "mend": mend_object,
+    "attack": attack_object,
+    "mig": mig_object,
+}
+# Those of which the object says more than the text: they are given the object too.
+MORE = ("graph", "slots")
+ALL_WAIT = re.compile(r": AllWait((?: \d+)+)$", re.M)
+
+
+def is_fault(plain):
+    """Whether a run ends with a fault of a command. A journal that ends because all tasks wait is an answer."""
+    return plain.status == 2 and up_to_fault(plain.err) != "" and not ALL_WAIT.search(plain.err)
+
+
+def has_object(asked, plain):
+    """Whether a run has an object: all but faults of the words."""
+    is_of_words = plain.err.startswith("error: ") or plain.err == "machcheck: arguments: NotUtf8\n"
+    return asked.command in COMMANDS and not is_of_words
+
+
+def object_of(folder, asked, texts, value):
+    """The object of an answer, or of a fault, with its keys in alphabetical order. Of some it is the one that is given, if
+    the texts agree with it."""
+    more = [value] if asked.command in MORE and not is_fault(texts.plain) else []
+    made = (fault_object if is_fault(texts.plain) else OBJECTS[asked.command])(Path(folder), asked, texts, *more)
+    return dict(sorted(made.items()))
