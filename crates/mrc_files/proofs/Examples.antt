@@ -1,6 +1,7 @@
 -- Paths, part files and counts worked out.
-use Rattle.std.proofs.Common.{◌≡◌, ℕ, [], ◌++◌, Some, None, refl, arith}
+use Rattle.std.proofs.Common.{◌≡◌, ◌⊎◌, ℕ, List, [], ◌∷◌, ◌++◌, Some, None, refl, inl, inr, arith}
 use Rattle.std.specs.Prelude.{codes, decimal}
+use Rattle.mrc_files.specs.Files.{Held, KeepsOthers}
 use Rattle.mrc_files.specs.Paths.{folder, name, linked, part}
 use Rattle.mrc_files.specs.Streams.{IsOneMore, IsAtMostMore}
 
@@ -46,3 +47,27 @@ two_of_five = omega arith
 -- a count that was lost stays so
 lost : IsOneMore None (Some 4) → ⊥
 lost e = e
+
+-- a folder in which all names lead to one file, except the empty name, which has a file of its own
+abbrev two_files : (own file : List ℕ) → Held
+two_files own file [] = Some own
+two_files own file (byte ∷ name) = Some file
+
+-- the one file is written by one of its names: the others have its bytes too, and the file of its
+-- own keeps what it had
+links_follow : (own old new : List ℕ)
+    → KeepsOthers (two_files own old) (two_files own new) (codes "a")
+links_follow own old new [] = inl refl
+links_follow own old new (byte ∷ name) = inr (refl, refl)
+
+-- if the other is emptied too, it is not kept
+not_both : (own new : ℕ)
+    → KeepsOthers (two_files (own ∷ []) []) (two_files [] (new ∷ [])) (codes "a")
+    → ⊥
+not_both own new kept = by (kept [])
+  where
+    by : (Some [] ≡ Some (own ∷ []))
+        ⊎ ((Some (own ∷ []) ≡ Some []) × (Some [] ≡ Some (new ∷ [])))
+        → ⊥
+    by (inl e) = cc
+    by (inr both) = let e = both.0 in cc

@@ -1,4 +1,5 @@
--- Believe. Which bytes files have, and what a refused writing leaves. This profile's own choice.
+-- Believe. Which bytes files have, what a refused writing leaves, and that a writing changes no
+-- other file. This profile's own choice.
 use Rattle.std.specs.Prelude.{◌≡◌, ◌≤◌, ◌<◌, ◌⊎◌, ℕ, List, ◌∷◌, ◌++◌, Option, length, take, IfSome}
 use Rattle.std.specs.List.{All, AllZip}
 use Rattle.mrc_base.specs.Limits.{limit_of_file}
@@ -43,3 +44,10 @@ HasWritten held file bytes Memory = ⊥
 abbrev pub IsLeftBy : Held → Held → List ℕ → List ℕ → OrMemory WriteFault → Type 0
 IsLeftBy before after file bytes refusal =
     (after ≡ before) ⊎ HasWritten after file bytes refusal
+
+-- Each name has what it had, if a file was written and no other was. Another name may lead to that
+-- file, as by a link: then both had the same, and they have the same again.
+abbrev pub KeepsOthers : Held → Held → List ℕ → Type 0
+KeepsOthers before after file = (other : List ℕ)
+    → (after other ≡ before other)
+    ⊎ ((before other ≡ before file) × (after other ≡ after file))

@@ -7,8 +7,8 @@ use Rattle.std.specs.declared.io.ErrorKind.TheVariants.{IsADirectory, Permission
 use Rattle.mrc_files.specs.declared.streams.ReadFailure.{ReadFailure}
 use Rattle.mrc_files.specs.declared.streams.ReadFailure.TheVariants.{Missing, NotAFolder, IsAFolder}
 use Rattle.mrc_files.specs.declared.streams.ReadFailure.TheVariants.{Denied, Other}
-use Rattle.mrc_files.specs.declared.streams.ReadFault.{ReadFault}
-use Rattle.mrc_files.specs.declared.streams.ReadFault.TheVariants.{ReadFailed, Memory}
+use Rattle.mrc_files.specs.declared.streams.InputFault.{InputFault}
+use Rattle.mrc_files.specs.declared.streams.InputFault.TheVariants.{ReadFailed, Memory}
 
 -- what the system says of a failed read
 abbrev pub failure : ErrorKind → ReadFailure
@@ -19,7 +19,7 @@ failure PermissionDenied = Denied
 failure kind = Other
 
 -- the fault of a read that failed: out of memory is reported as such, and all else as a failed read
-abbrev pub read_fault : ErrorKind → ReadFault
+abbrev pub read_fault : ErrorKind → InputFault
 read_fault OutOfMemory = Memory
 read_fault kind = ReadFailed (failure kind)
 
@@ -40,5 +40,5 @@ IsAtMostMore None (Some more) most = ⊥
 IsAtMostMore (Some count) (Some more) most = more ≤ count + most
 
 -- the fault is that of a failed read
-abbrev pub IsFailedRead : ReadFault → Type 0
+abbrev pub IsFailedRead : InputFault → Type 0
 IsFailedRead fault = (why : ReadFailure) × (fault ≡ ReadFailed why)

@@ -11,6 +11,6 @@ mod system;
 pub use folders::{Folder, Unread, bytes_of, bytes_of_all, read_file};
 pub use paths::{linked, name_of, part_path};
 pub use streams::{
-    ReadFailure, ReadFault, Sink, Source, WriteFault, read_all, read_fault, write_text,
+    InputFault, ReadFailure, Sink, Source, WriteFault, read_all, read_fault, write_text,
 };
 pub use system::Disk;

@@ -33,7 +33,7 @@ pub enum ReadFailure {
 
 /// Why a file was not read.
 #[derive(Clone, Copy, Debug, PartialEq, Eq, thiserror::Error)]
-pub enum ReadFault {
+pub enum InputFault {
     /// It can't be opened, or a read failed.
     #[error("ReadFailed")]
     ReadFailed(ReadFailure),
@@ -67,12 +67,12 @@ fn failure(kind: ErrorKind) -> ReadFailure
 }
 
 /// The fault of a read that failed, or of a file that can't be opened.
-pub fn read_fault(error: &io::Error) -> ReadFault
+pub fn read_fault(error: &io::Error) -> InputFault
     ensures { result ≡ read_fault (error_kind error.now) }
 {
     match error.kind() {
-        ErrorKind::OutOfMemory => ReadFault::Memory,
-        kind => ReadFault::ReadFailed(failure(kind)),
+        ErrorKind::OutOfMemory => InputFault::Memory,
+        kind => InputFault::ReadFailed(failure(kind)),
     }
 }
 
@@ -86,14 +86,14 @@ pub trait Source {
     ghost failures: { Self → Option ℕ };
 
     /// One read: how many bytes came, none at the end.
-    fn read_some(&mut self, buffer: &mut [u8]) -> Result<usize, ReadFault>
+    fn read_some(&mut self, buffer: &mut [u8]) -> Result<usize, InputFault>
         ensures kept { length buffer.new ≡ length buffer.old }
         ensures some { IfOk result (λ count. (count ≤ length buffer.old)
             × Consumes (remaining self.old) (remaining self.new) (take count buffer.new)) }
         ensures end { IfOk result (λ count. count ≡ 0 → 0 < length buffer.old
             → IsAtEnd (remaining self.new)) }
         ensures err { OnErr result (Keeps (remaining self.old) (remaining self.new)) }
-        ensures fault { IfErr result (λ fault. fault ≡ ReadFault.TooBig → ⊥) }
+        ensures fault { IfErr result (λ fault. fault ≡ InputFault.TooBig → ⊥) }
         ensures counted { IsOneMore (reads self.old) (reads self.new) }
         ensures passed { OnOk result (failures self.new ≡ failures self.old) }
         ensures failed { OnErr result (IsOneMore (failures self.old) (failures self.new)) };
@@ -107,7 +107,7 @@ impl<R: Read> Source for R {
 
     ghost failures = { λ _. None };
 
-    fn read_some(&mut self, buffer: &mut [u8]) -> Result<usize, ReadFault> {
+    fn read_some(&mut self, buffer: &mut [u8]) -> Result<usize, InputFault> {
         for _ in 0..u64::MAX {
             match self.read(buffer) {
                 Ok(count) => return Ok(count),
@@ -118,7 +118,7 @@ impl<R: Read> Source for R {
                 }
             }
         }
-        Err(ReadFault::ReadFailed(ReadFailure::Other))
+        Err(InputFault::ReadFailed(ReadFailure::Other))
     }
 }
 
@@ -126,12 +126,12 @@ impl<R: Read> Source for R {
 const BUFFER: usize = 4096;
 
 /// All bytes of a source, or `TooBig` if there are more than the limit.
-pub fn read_all<S: Source>(alloc: Global, source: &mut S, limit: u32) -> Result<Vec<u8>, ReadFault>
+pub fn read_all<S: Source>(alloc: Global, source: &mut S, limit: u32) -> Result<Vec<u8>, InputFault>
     // Where it is known what there is to read, that was read.
     ensures whole { IfOk result
         (λ bytes. IfSome (S.remaining source.old) (λ known. bytes.items ≡ known)) }
     ensures within { IfOk result (λ bytes. vec_len bytes ≤ limit) }
-    ensures too_big { IfErr result (λ fault. fault ≡ ReadFault.TooBig
+    ensures too_big { IfErr result (λ fault. fault ≡ InputFault.TooBig
         → IfSome (S.remaining source.old) (λ known. limit < length known)) }
     // One byte more than the limit is read at most.
     ensures few { LosesAtMost (S.remaining source.old) (S.remaining source.new) (limit + 1) }
@@ -152,10 +152,10 @@ pub fn read_all<S: Source>(alloc: Global, source: &mut S, limit: u32) -> Result<
             return Ok(bytes);
         }
         if bytes.extend_from_slice(&buffer[..count]).is_err() {
-            return Err(ReadFault::Memory);
+            return Err(InputFault::Memory);
         }
     }
-    Err(ReadFault::TooBig)
+    Err(InputFault::TooBig)
 }
 
 /// What bytes are written to.

@@ -11,8 +11,8 @@ use Rattle.mrc_live.specs.declared.event.Event.{Event}
 use Rattle.mrc_live.specs.declared.event.Made.{Made}
 use Rattle.mrc_live.specs.Runs.{part_of}
 use Rattle.mrc_live.specs.Desks.{SeatState}
-use Rattle.mrc_live.specs.Parts.{AreApart, IsSeated, ArePlaced, Follows, IsNext}
-use Rattle.mrc_live.specs.Parts.{made_of}
+use Rattle.mrc_live.specs.Parts.{AreApart, ArePlaced, Follows, HasPlace, HavePlaces, IsNext}
+use Rattle.mrc_live.specs.Parts.{IsSeated, IsThere, made_of}
 
 -- one list has one element at a place
 pub one_there : {X : Type 0} (xs : List X) (i j : ℕ) (x y : X) → slice_get xs i ≡ Some x
@@ -145,3 +145,50 @@ pub placed_apart : (seats : List SeatState) (places : List ℕ) → ArePlaced se
     → AreApart seats
 placed_apart seats places placed i j s t at there same = sym (placed i s at).1
     ∙ ap (λ n. slice_index places n) same ∙ (placed j t there).1
+
+-- the place of one seat's number more
+pub places_more : (seats : List SeatState) (places : List ℕ) (n : ℕ) (mine : SeatState)
+    → slice_get seats n ≡ Some mine → mine.number < length places
+    → ((i : ℕ) (s : SeatState) → i < n → slice_get seats i ≡ Some s → HasPlace seats places s)
+    → (i : ℕ) (s : SeatState) → i < n + 1 → slice_get seats i ≡ Some s
+    → HasPlace seats (slice_set places mine.number n) s
+places_more seats places n mine at inside was i s less there =
+    elim (eqb_tells s.number mine.number) [
+      | inl is ↦
+          let now : slice_index (slice_set places mine.number n) s.number ≡ n =
+          ap (λ k. slice_index (slice_set places mine.number n) k) is.1
+          ∙ get_or-set_same places mine.number n 0 inside in
+          (mine, (ap (λ k. slice_get seats k) now ∙ at, sym is.1))
+      | inr is ↦
+          let same : i ≡ n → ⊥ = λ here. is.1
+          (ap (λ (t : SeatState). t.number) (one_there seats i n s mine there at here)) in
+          let old = was i s (omega (arith, less, same)) there in
+          let now = get_or-set_other places mine.number s.number n 0 is.1 in
+          (old.0, (ap (λ k. slice_get seats k) now ∙ old.1.0, old.1.1))
+    ]
+
+-- a number has no seat if its place is past the seats, or has another number
+pub absent_outside : (seats : List SeatState) (places : List ℕ) (number : ℕ)
+    → ArePlaced seats places → length seats ≤ slice_index places number
+    → IsThere seats number → ⊥
+absent_outside seats places number placed outside there =
+    let here = sym (placed there.0 there.1.0 there.1.1).1
+    ∙ ap (λ n. slice_index places n) there.1.2 in
+    omega (arith, outside, here, slice_get_within seats there.0 there.1.0 there.1.1)
+
+pub absent_there : (seats : List SeatState) (places : List ℕ) (number : ℕ) (mine : SeatState)
+    → ArePlaced seats places → slice_get seats (slice_index places number) ≡ Some mine
+    → mine.number ≢ number → IsThere seats number → ⊥
+absent_there seats places number mine placed at other there =
+    let here = sym (placed there.0 there.1.0 there.1.1).1
+    ∙ ap (λ n. slice_index places n) there.1.2 in
+    let one = one_there seats there.0 (slice_index places number) there.1.0 mine there.1.1 at here in
+    other (ap (λ (s : SeatState). s.number) (sym one) ∙ there.1.2)
+
+-- two seats have one number if the place of a seat's number is another
+pub twice_there : (seats : List SeatState) (places : List ℕ) (i : ℕ) (mine : SeatState)
+    → HavePlaces seats places → slice_get seats i ≡ Some mine
+    → slice_index places mine.number ≢ i → AreApart seats → ⊥
+twice_there seats places i mine have at other apart =
+    let place = have i mine at in
+    other (apart (slice_index places mine.number) i place.0 mine place.1.0 at place.1.1)

@@ -30,6 +30,11 @@ pub record DeskState : Type 0 where
   pub total : ℕ
   pub left : ℕ
 
+-- a server without its lock: the desk, and what the server shows
+pub record ServerState : Type 0 where
+  pub desk : DeskState
+  pub shown : Case
+
 -- What is so whenever the lock is free: the journal is a run to the machine's world, of no more
 -- events than its limit; the book's total is their number; and each part is with a seat or left.
 pub record IsKept (guarded : Guard) (events : List Event) (limit made total left : ℕ)

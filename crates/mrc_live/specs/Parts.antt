@@ -2,13 +2,15 @@
 -- choice.
 use Rattle.std.specs.Prelude.{◌≡◌, ◌≢◌, ◌<◌, ◌≤◌, ◌⊎◌, ℕ, List, Some, length, take, slice_get}
 use Rattle.std.specs.Prelude.{slice_index}
-use Rattle.mrc_base.specs.Limits.{limit_of_events, limit_of_seats}
+use Rattle.mrc_base.specs.Limits.{limit_of_seats}
 use Rattle.mrc_check.specs.Verdict.{Case}
 use Rattle.mrc_live.specs.declared.event.Event.{Event}
 use Rattle.mrc_live.specs.declared.event.Made.{Made}
-use Rattle.mrc_live.specs.Runs.{IsJournal, part_of}
-use Rattle.mrc_live.specs.Desks.{SeatState}
-use Rattle.mrc_model.specs.World.{World}
+use Rattle.mrc_live.specs.declared.finishing.FinishFault.{FinishFault}
+use Rattle.mrc_live.specs.declared.finishing.FinishFault.TheVariants.{Differs, SeatsMissing}
+use Rattle.mrc_live.specs.declared.finishing.FinishFault.TheVariants.{Swapped}
+use Rattle.mrc_live.specs.Runs.{part_of}
+use Rattle.mrc_live.specs.Desks.{DeskState, SeatState}
 
 -- each seat's list is its part of the journal
 abbrev pub EachIsItsPart : List SeatState → List Event → Type 0
@@ -42,6 +44,17 @@ abbrev pub ArePlaced : List SeatState → List ℕ → Type 0
 ArePlaced seats places =
     (i : ℕ) (s : SeatState) → slice_get seats i ≡ Some s
     → (s.number < limit_of_seats) × (slice_index places s.number ≡ i)
+
+-- the place that the seat's number has is that of a seat of this number
+abbrev pub HasPlace : List SeatState → List ℕ → SeatState → Type 0
+HasPlace seats places s =
+    (t : SeatState) × ((slice_get seats (slice_index places s.number) ≡ Some t)
+    × (t.number ≡ s.number))
+
+-- so it is of each seat
+abbrev pub HavePlaces : List SeatState → List ℕ → Type 0
+HavePlaces seats places =
+    (i : ℕ) (s : SeatState) → slice_get seats i ≡ Some s → HasPlace seats places s
 
 -- what a seat keeps of an event
 abbrev pub made_of : Event → Made
@@ -81,23 +94,20 @@ pub record IsFirstDifference (seats : List SeatState) (events : List Event) (at 
       × (Continues seats (take at events) e → ⊥))
       ⊎ ((at ≡ length events) × SomeGoesOn seats events)
 
--- The journal of a machine, whichever case that runs, first differs from the seats' lists at this
--- place.
-pub record DifferAt (seats : List SeatState) (at : ℕ) : Type 0 where
-  pub case : Case
-  pub events : List Event
-  pub world : World
-  pub run : IsJournal case events world
-  pub few : length events ≤ limit_of_events
-  pub first : IsFirstDifference seats events at
+-- no two seats have one number, and there is a seat of each number below this one
+pub record AreAll (seats : List SeatState) (made : ℕ) : Type 0 where
+  pub apart : AreApart seats
+  pub there : (number : ℕ) → number < made → IsThere seats number
 
--- the seats' lists are the parts of the journal of a machine that runs another case than this one
-pub record AreOfAnother (shown : Case) (seats : List SeatState) : Type 0 where
-  pub case : Case
-  pub events : List Event
-  pub world : World
-  pub run : IsJournal case events world
-  pub few : length events ≤ limit_of_events
-  pub other : case ≢ shown
-  pub parts : EachIsItsPart seats events
-  pub owners : AllAreSeated seats events
+-- Why these seats do not finish a server that shows this case, by the desk under its lock: the
+-- first of three reasons.
+abbrev pub IsFinishFault : DeskState → Case → List SeatState → FinishFault → Type 0
+-- a seat that was made is not among them, or two have one number
+IsFinishFault d shown seats SeatsMissing = AreAll seats d.made → ⊥
+-- all are there, and the journal first differs from their lists at this place
+IsFinishFault d shown seats (Differs at) =
+    AreAll seats d.made × IsFirstDifference seats d.events at
+-- the lists are the parts of the journal, and the machine runs another case
+IsFinishFault d shown seats Swapped =
+    AreAll seats d.made × EachIsItsPart seats d.events × AllAreSeated seats d.events
+    × (d.confined ≢ shown)

@@ -3,14 +3,12 @@
 ghost use Rattle.std.specs.Prelude.{◌≡◌, ◌≢◌, ◌↔◌, ◌<◌, ◌≤◌, ◌+◌, ◌^◌, ℕ, List, [], ◌∷◌, ◌++◌};
 ghost use Rattle.std.specs.Prelude.{Some, IfNone, IfSome, IsFalse, IsTrue, length, slice_get};
 ghost use Rattle.std.specs.Prelude.{slice_index};
-ghost use Rattle.mrc_base.specs.Limits.{limit_of_events, limit_of_seats};
+ghost use Rattle.mrc_base.specs.Limits.{limit_of_seats};
 ghost use Rattle.mrc_live.specs.declared.event.Event.{Event};
-ghost use Rattle.mrc_live.specs.declared.finishing.Why.TheVariants.{Differs, Swapped};
 ghost use Rattle.mrc_live.specs.Desks.{SeatState};
 ghost use Rattle.mrc_live.specs.Parts.{AllAreSeated, AreApart, ArePlaced, Continues, EachIsItsPart};
-ghost use Rattle.mrc_live.specs.Parts.{Follows, IsFirstDifference, IsNext, IsSeated, IsThere};
-ghost use Rattle.mrc_live.specs.Parts.{made_of};
-ghost use Rattle.mrc_live.specs.Runs.{IsJournal};
+ghost use Rattle.mrc_live.specs.Parts.{Follows, HavePlaces, IsFinishFault, IsFirstDifference};
+ghost use Rattle.mrc_live.specs.Parts.{IsNext, IsSeated, IsThere, made_of};
 
 use crate::desk::Desk;
 use crate::event::{Event, Made};
@@ -24,8 +22,8 @@ pub(crate) const PLACES: usize = SEATS as usize;
 
 /// Why a server was not finished.
 #[derive(Clone, Copy, Debug, PartialEq, Eq)]
-pub enum Why {
-    /// A seat is absent.
+pub enum FinishFault {
+    /// A seat that was made is absent, or two have one number.
     SeatsMissing,
     /// This event is the first that is not the next one of its seat's list; or the number of
     /// events, if a list goes on.
@@ -34,58 +32,51 @@ pub enum Why {
     Swapped,
 }
 
-/// Why these seats do not finish this desk, or `None` if they do.
+/// Why these seats do not finish this desk: the first reason, or `None` if they do.
 pub(crate) fn judge<L: Ledger>(
     desk: &Desk<L>,
     confined: &Confined,
     seats: &[Seat<L>],
-) -> Option<Why>
+) -> Option<FinishFault>
     ensures parts { IfNone result (EachIsItsPart seats.now desk.now.events) }
     ensures owners { IfNone result (AllAreSeated seats.now desk.now.events) }
     ensures apart { IfNone result (AreApart seats.now) }
     ensures confined { IfNone result (desk.now.confined ≡ confined.now) }
-    ensures there { IfNone result ((number : ℕ) → number < desk.now.made
-        → IsThere seats.now number) }
-    ensures swapped { result ≡ Some Swapped → (desk.now.confined ≢ confined.now)
-        × EachIsItsPart seats.now desk.now.events × AllAreSeated seats.now desk.now.events }
-    ensures differs { (at : ℕ) → result ≡ Some (Differs at)
-        → IsFirstDifference seats.now desk.now.events at }
-    ensures kept { IsJournal desk.now.confined desk.now.events desk.now.world }
-    ensures within { length desk.now.events ≤ limit_of_events }
+    ensures fault { IfSome result (IsFinishFault desk.now confined.now seats.now) }
 {
     let events = desk.events();
     let places = places_of(seats);
     if !are_placed(seats, &places) || !are_all_there(seats, &places, desk.made()) {
-        return Some(Why::SeatsMissing);
+        return Some(FinishFault::SeatsMissing);
     }
     if let Some(at) = first_difference(events, seats, &places) {
-        return Some(Why::Differs(at));
+        return Some(FinishFault::Differs(at));
     }
     if !desk.confined().same(confined) {
-        return Some(Why::Swapped);
+        return Some(FinishFault::Swapped);
     }
     None
 }
 
 /// The place of each seat's number.
-pub(crate) fn places_of<L: Ledger>(seats: &[Seat<L>]) -> [usize; PLACES] {
+pub(crate) fn places_of<L: Ledger>(seats: &[Seat<L>]) -> [usize; PLACES]
+    ensures { HavePlaces seats.now result }
+{
     let mut places = [0usize; PLACES];
     for i in 0..seats.len() {
-        let number = seats[i].number() as usize;
-        if number < PLACES {
-            places[number] = i;
-        }
+        places[seats[i].number() as usize] = i;
     }
     places
 }
 
 /// Whether each seat is at its place, so that no two have one number.
 pub(crate) fn are_placed<L: Ledger>(seats: &[Seat<L>], places: &[usize; PLACES]) -> bool
-    ensures { IsTrue result → ArePlaced seats.now places.now }
+    requires { HavePlaces seats.now places.now }
+    ensures placed { IsTrue result → ArePlaced seats.now places.now }
+    ensures twice { IsFalse result → AreApart seats.now → ⊥ }
 {
     for i in 0..seats.len() {
-        let number = seats[i].number() as usize;
-        if number >= PLACES || places[number] != i {
+        if places[seats[i].number() as usize] != i {
             return false;
         }
     }
@@ -98,8 +89,11 @@ pub(crate) fn are_all_there<L: Ledger>(
     places: &[usize; PLACES],
     made: u32,
 ) -> bool
-    requires { made ≤ limit_of_seats }
-    ensures { IsTrue result → ((number : ℕ) → number < made → IsThere seats.now number) }
+    requires few { made ≤ limit_of_seats }
+    requires placed { ArePlaced seats.now places.now }
+    ensures there { IsTrue result → ((number : ℕ) → number < made → IsThere seats.now number) }
+    ensures absent { IsFalse result
+        → ((number : ℕ) → number < made → IsThere seats.now number) → ⊥ }
 {
     for number in 0..made {
         let place = places[number as usize];
@@ -202,8 +196,7 @@ fn all_end<L: Ledger>(seats: &[Seat<L>], next: &[usize; PLACES]) -> bool
 {
     for i in 0..seats.len() {
         let seat = &seats[i];
-        let number = seat.number() as usize;
-        if number >= PLACES || next[number] != seat.calls().len() {
+        if next[seat.number() as usize] != seat.calls().len() {
             return false;
         }
     }

@@ -10,6 +10,6 @@ mod seat;
 
 pub use desk::{Desk, NotReceived, NotSeated, NotTaken};
 pub use event::{Event, Journal, Made};
-pub use finishing::Why;
-pub use live::{Live, NotOpened, Unfinished};
+pub use finishing::FinishFault;
+pub use live::{Live, NotOpened, Unfinished, Unlocked};
 pub use seat::Seat;

@@ -5,11 +5,9 @@ ghost use Rattle.std.specs.Prelude.{ℕ, OnOk, Err};
 ghost use Rattle.mrc_base.specs.Limits.{limit_of_events, limit_of_parts, limit_of_seats};
 ghost use Rattle.mrc_confine.specs.Guards.{wiring_in};
 ghost use Rattle.mrc_live.specs.declared.desk.NotSeated.TheVariants.{NoSuchTask};
-ghost use Rattle.mrc_live.specs.declared.finishing.Why.TheVariants.{Differs, Swapped};
 ghost use Rattle.mrc_live.specs.Desks.{seat_after, call_in, fresh};
 ghost use Rattle.mrc_live.specs.Runs.{IsJournal};
-ghost use Rattle.mrc_live.specs.Parts.{AllAreSeated, AreApart, AreOfAnother, DifferAt};
-ghost use Rattle.mrc_live.specs.Parts.{EachIsItsPart};
+ghost use Rattle.mrc_live.specs.Parts.{AllAreSeated, AreApart, EachIsItsPart, IsFinishFault};
 ghost use Rattle.mrc_machine.specs.declared.call.Call.TheVariants.{Receive};
 ghost use Rattle.mrc_machine.specs.declared.reply.Reply.TheVariants.{Refused};
 ghost use Rattle.mrc_model.specs.First.{first};
@@ -17,7 +15,7 @@ ghost use Rattle.mrc_model.specs.declared.Code.TheVariants.{MachRcvTimedOut};
 
 use crate::desk::{Desk, NotReceived, NotSeated, NotTaken};
 use crate::event::Journal;
-use crate::finishing::{Why, judge};
+use crate::finishing::{FinishFault, judge};
 use crate::office::{Bells, Office, ring_all};
 use crate::seat::Seat;
 use mrc_base::TaskId;
@@ -203,32 +201,73 @@ impl<L: Ledger> Live<L> {
         ensures parts { IfOk result (λ r. EachIsItsPart seats.items r.0) }
         ensures owners { IfOk result (λ r. AllAreSeated seats.items r.0) }
         ensures apart { OnOk result (AreApart seats.items) }
-        // The journal behind the lock is one of a machine; no clause can name which.
-        ensures differs { (at : ℕ)
-            → IfErr result (λ f. f.why ≡ Differs at → DifferAt seats.items at) }
-        ensures swapped { IfErr result (λ f. f.why ≡ Swapped → AreOfAnother self seats.items) }
-        ensures returned { IfErr result (λ f. (f.live ≡ self) × (f.seats.items ≡ seats.items)) }
+        // Which fault it is, by the desk that comes back.
+        ensures fault { IfErr result (λ f. IsFinishFault f.server.desk self seats.items f.fault) }
+        ensures returned { IfErr result
+            (λ f. (f.server.shown ≡ self) × (f.seats.items ≡ seats.items)) }
     {
         let Live {
             office,
             bells,
             confined,
         } = self;
-        let Office { desk, idle, bound } = office.into_inner();
-        match judge(&desk, &confined, seats.as_slice()) {
+        let office = office.into_inner();
+        match judge(&office.desk, &confined, seats.as_slice()) {
             None => {
+                let Office { desk, idle, bound } = office;
                 drop((bells, confined, seats));
                 Ok(desk.into_parts())
             }
-            Some(why) => Err(Unfinished {
-                why,
-                live: Live {
-                    office: Mutex::new(Office { desk, idle, bound }),
+            Some(fault) => Err(Unfinished {
+                fault,
+                server: Unlocked {
+                    office,
                     bells,
                     confined,
                 },
                 seats,
             }),
+        }
+    }
+}
+
+/// A server without its lock. Contracts see the desk, and what the server shows.
+#[derive(Drop)]
+pub struct Unlocked<L: Ledger> {
+    office: Office<L>,
+    bells: Bells,
+    confined: Confined,
+}
+
+impl<L: Ledger> Model for Unlocked<L> {
+    ghost use Rattle.mrc_live.specs.Desks.{ServerState};
+
+    ghost Value = { ServerState };
+
+    ghost view = { λ s. record { desk = s.office.desk; shown = s.confined } };
+}
+
+impl<L: Ledger> Unlocked<L> {
+    /// What lay under the lock.
+    pub fn desk(&self) -> &Desk<L>
+        ensures { result.now ≡ self.now.desk }
+    {
+        &self.office.desk
+    }
+
+    /// Puts it under a lock again.
+    pub fn lock(self) -> Live<L>
+        ensures { result ≡ self.shown }
+    {
+        let Unlocked {
+            office,
+            bells,
+            confined,
+        } = self;
+        Live {
+            office: Mutex::new(office),
+            bells,
+            confined,
         }
     }
 }
@@ -246,9 +285,9 @@ pub struct NotOpened {
 #[derive(Drop)]
 pub struct Unfinished<L: Ledger> {
     /// Why.
-    pub why: Why,
-    /// The server.
-    pub live: Live<L>,
+    pub fault: FinishFault,
+    /// The server, with the journal as it is.
+    pub server: Unlocked<L>,
     /// The seats.
     pub seats: Vec<Seat<L>>,
 }

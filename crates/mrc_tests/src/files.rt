@@ -1,6 +1,6 @@
 //! Readers and writers that give or take few bytes a call, are interrupted, and fail in mid-stream.
 
-use mrc_files::{ReadFailure, ReadFault, WriteFault, read_all, write_text};
+use mrc_files::{InputFault, ReadFailure, WriteFault, read_all, write_text};
 use std::alloc::Global;
 use std::io;
 use std::io::{ErrorKind, Read, Write};
@@ -38,7 +38,7 @@ fn zeros_read(
     alloc: Global,
     left: usize,
     last: Option<ErrorKind>,
-) -> (Result<usize, ReadFault>, usize) {
+) -> (Result<usize, InputFault>, usize) {
     let mut reader = Zeros {
         interrupted: false,
         left,
@@ -53,14 +53,19 @@ fn zeros_read(
 #[test]
 fn reads(rt: HostRuntime) {
     let broken = Some(ErrorKind::BrokenPipe);
-    let failed: Result<usize, ReadFault> = Err(ReadFault::ReadFailed(ReadFailure::Other));
+    let failed: Result<usize, InputFault> = Err(InputFault::ReadFailed(ReadFailure::Other));
     for (left, last, want, rest) in [
         (0, None, Ok(0), 0),
         (4, None, Ok(4), 0),
-        (5, None, Err(ReadFault::TooBig), 0),
-        (9, broken, Err(ReadFault::TooBig), 4),
-        (3, broken, Err(ReadFault::ReadFailed(ReadFailure::Other)), 0),
-        (3, Some(ErrorKind::OutOfMemory), Err(ReadFault::Memory), 0),
+        (5, None, Err(InputFault::TooBig), 0),
+        (9, broken, Err(InputFault::TooBig), 4),
+        (
+            3,
+            broken,
+            Err(InputFault::ReadFailed(ReadFailure::Other)),
+            0,
+        ),
+        (3, Some(ErrorKind::OutOfMemory), Err(InputFault::Memory), 0),
     ] {
         assert_eq!(rt; zeros_read(rt.alloc(), left, last), (want, rest));
     }

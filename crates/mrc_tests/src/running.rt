@@ -5,14 +5,14 @@ ghost use Rattle.std.specs.Prelude.{◌≡◌, ◌≤◌};
 ghost use Rattle.mrc_base.specs.Limits.{limit_of_events, limit_of_parts};
 
 use crate::gates::Meeting;
-use crate::server::opened;
-use crate::starting::{Stop, confined_of, script_of};
+use crate::server::{finished, opened, seat};
+use crate::starting::{Stop, confined_of, note, script_of};
 use crate::systems::FILES;
+use mrc_base::TaskId;
 use mrc_base::limits::PARTS;
-use mrc_base::{OrMemory, TaskId};
 use mrc_check::Confined;
-use mrc_live::Live;
-use mrc_report::{LiveFault, Script, Served, run_live, serve};
+use mrc_live::{Live, NotSeated, Seat};
+use mrc_report::{LiveFault, Script, Served, Stopped, run_live, serve};
 use std::alloc::AllocError;
 use std::marker::Brand;
 use std::sync::Wait;
@@ -107,39 +107,100 @@ fn take_seats<L: Ledger, R: Wait>(rt: &R, live: &Live<L>, count: u32) {
     }
 }
 
-/// Runs the script if there is one seat left. The fault, and how many seats came back.
-fn run_out<L: Ledger + Send + Sync, R: AllocGlobal + Threads + Wait + Sync>(
+/// Whether a new server has no seat more behind so many.
+fn has_run_out<L: Ledger, R: AllocGlobal + Eprint + Threads + Wait + Sync>(
     rt: &R,
-    live: &Live<L>,
-) -> Result<Option<(LiveFault, usize)>, Stop> {
-    take_seats(rt, live, 255);
-    let script = script_of(rt.alloc(), live.confined(), OPENS, true)?;
-    let answer = run_live(rt, rt.alloc(), live, script, &Meeting::of(0));
-    let stopped = match &answer {
-        Err(OrMemory::Fault(stopped)) => Some((stopped.fault, stopped.seats.len())),
-        _ => None,
-    };
-    drop(answer);
-    Ok(stopped)
-}
-
-/// The same of a new server.
-fn run_out_of_new<L: Ledger + Send + Sync, R: AllocGlobal + Eprint + Threads + Wait + Sync>(
-    rt: &R,
+    count: u32,
     blank: Blank,
-) -> Result<Option<(LiveFault, usize)>, Stop>
+) -> Result<bool, Stop>
     requires name { blank.name ≡ L.name }
     requires parts { (blank.parts ≡ L.parts) × (L.parts ≡ limit_of_parts) }
 {
     let live = opened::<L, _>(rt, &FILES, 8, blank)?;
-    let stopped = run_out(rt, &live);
-    drop(live);
-    stopped
+    take_seats(rt, &live, count);
+    let answer = live.seat(rt, TaskId(0));
+    let full = matches!(&answer, Err(NotSeated::TooManySeats));
+    drop((answer, live));
+    Ok(full)
 }
 
 #[test]
 fn seats_run_out(rt: HostRuntime) -> Result<(), Fail> {
-    let stopped = run_out_of_new::<Brand, _>(&rt, Blank::new(PARTS))?;
-    assert_eq!(rt; stopped, Some((LiveFault::TooManySeats, 1)));
+    let last = has_run_out::<Brand, _>(&rt, 255, Blank::new(PARTS))?;
+    let full = has_run_out::<Brand, _>(&rt, 256, Blank::new(PARTS))?;
+    assert_eq!(rt; (last, full), (false, true));
+    Ok(())
+}
+
+/// The seats after a run, and its fault if it was refused.
+type Ran<L> = (Vec<Seat<L>>, Option<LiveFault>);
+
+/// A run of the script that opens a file, by these seats.
+fn ran_by<L: Ledger + Send + Sync, R: AllocGlobal + Threads + Wait + Sync>(
+    rt: &R,
+    live: &Live<L>,
+    seats: Vec<Seat<L>>,
+) -> Result<Ran<L>, Stop> {
+    let script = match script_of(rt.alloc(), live.confined(), OPENS, true) {
+        Ok(script) => script,
+        Err(stop) => {
+            drop(seats);
+            return Err(stop);
+        }
+    };
+    match run_live(rt, rt.alloc(), live, seats, script, &Meeting::of(0)) {
+        Ok(seats) => Ok((seats, None)),
+        Err(Stopped { fault, seats }) => Ok((seats, Some(fault))),
+    }
+}
+
+/// The same by a seat of each task.
+fn ran<L: Ledger + Send + Sync, R: AllocGlobal + Threads + Wait + Sync>(
+    rt: &R,
+    live: &Live<L>,
+) -> Result<Ran<L>, Stop> {
+    let mut seats = Vec::new(rt.alloc());
+    seats.push(seat(rt, live, 0)?)?;
+    seats.push(seat(rt, live, 1)?)?;
+    ran_by(rt, live, seats)
+}
+
+/// The fault of a run at a new server, and whether both seats came back that finish it.
+fn ran_at_new<L: Ledger + Send + Sync, R: AllocGlobal + Eprint + Threads + Wait + Sync>(
+    rt: &R,
+    blank: Blank,
+) -> Result<(Option<LiveFault>, bool), Stop>
+    requires name { blank.name ≡ L.name }
+    requires parts { (blank.parts ≡ L.parts) × (L.parts ≡ limit_of_parts) }
+{
+    let live = opened::<L, _>(rt, &FILES, 8, blank)?;
+    match ran(rt, &live) {
+        Ok((seats, fault)) => {
+            let ended = finished(live, seats);
+            let back = ended.is_ok();
+            drop(ended);
+            Ok((fault, back))
+        }
+        Err(stop) => {
+            drop(live);
+            Err(stop)
+        }
+    }
+}
+
+// If memory runs out in the run, also in one of its threads, both seats come back: to be run with
+// each allocation refused in turn.
+#[test]
+fn seats_come_back(rt: HostRuntime) -> Result<(), Fail> {
+    let ran = match ran_at_new::<Brand, _>(&rt, Blank::new(PARTS)) {
+        Err(Stop::Memory) => ran_at_new::<Brand, _>(&rt, Blank::new(PARTS)),
+        ran => ran,
+    };
+    let (fault, back) = ran?;
+    if fault == Some(LiveFault::Memory) {
+        note(&rt, "run_live");
+    }
+    assert!(rt; matches!(fault, None | Some(LiveFault::Memory)));
+    assert!(rt; back);
     Ok(())
 }

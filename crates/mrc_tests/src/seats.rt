@@ -11,7 +11,7 @@ use crate::starting::{Stop, note};
 use crate::systems::ALONE;
 use mrc_base::TaskId;
 use mrc_base::limits::PARTS;
-use mrc_live::{Live, NotSeated, Seat, Unfinished, Why};
+use mrc_live::{FinishFault, Live, NotSeated, Seat, Unfinished};
 use mrc_machine::Call;
 use mrc_model::Code;
 use std::marker::Brand;
@@ -93,20 +93,25 @@ fn answers_of<L: Ledger, R: AllocGlobal + Eprint + Wait>(
     Ok((answers, alone))
 }
 
-/// Finishes with one seat more than was passed. The number of events, if a seat was missing and the
-/// others came back.
+/// Finishes with one seat more than was passed. The number of events, if a seat was missing, and the
+/// others came back with the journal.
 fn finish_with<L: Ledger>(back: Unfinished<L>, last: Option<Seat<L>>) -> usize {
     let Unfinished {
-        why,
-        live,
+        fault,
+        server,
         mut seats,
     } = back;
-    let missing = why == Why::SeatsMissing && seats.len() == 2;
+    let missing = fault == FinishFault::SeatsMissing && seats.len() == 2;
+    let shown = server.desk().events().len();
     if let Some(last) = last {
         drop(seats.push(last));
     }
-    let events = events(live, seats);
-    if missing { events } else { 0 }
+    let events = events(server.lock(), seats);
+    if missing && shown == events {
+        events
+    } else {
+        0
+    }
 }
 
 /// Finishes without the last of the seats, and then with all. The number of events.

@@ -16,7 +16,7 @@ loop-i-preserved g c =
     × (slice_index c.args.places.now s.number ≡ k)) c.args.seats.now c.loop-i.i mine there here
     (λ k s less at. c.loop-i.invariant k s less at) k s less at
 
-pub returns : goal.returns
-returns g c = λ is i s at.
+pub returns-clause-placed : goal.returns-clause-placed
+returns-clause-placed g c = λ is i s at.
     let low = slice_get_within c.args.seats.now i s at in
     c.loop-i.invariant i s (search rules) at
