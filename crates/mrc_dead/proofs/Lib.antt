@@ -1,0 +1,3 @@
+pub mod Numbers
+pub mod Quiet
+pub mod SlotSteps

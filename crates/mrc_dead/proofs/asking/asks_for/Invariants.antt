@@ -1,0 +1,12 @@
+use Rattle.std.proofs.Common.{◌≡◌, false}
+use Rattle.mrc_facts.specs.Sets.{has}
+use Rattle.mrc_model.specs.Wiring.{classes}
+use Rattle.mrc_wiring.specs.Table.{wiring_of}
+use Rattle.mrc_dead.specs.Asking.{any_below, asks_by}
+use Rattle.mrc_dead.proofs.asking.asks_for.Given as goal
+
+-- at no class before this one
+abbrev pub invariant-loop-class : goal.invariant-loop-class
+invariant-loop-class l =
+    (l.class-end ≡ classes (wiring_of l.wired))
+    × (any_below (asks_by (wiring_of l.wired) (has l.facts) l.item l.task) l.class ≡ false)

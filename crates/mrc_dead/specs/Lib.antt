@@ -1,0 +1,4 @@
+pub mod Asking
+pub mod Dead
+pub mod Searching
+pub mod Laws
