@@ -27,10 +27,11 @@ _machcheck() {
         esac
         ;;
     mend)
-        options='--wiring --policy --most --format --verbose --help'
+        options='--wiring --policy --line --most --format --verbose --help'
         case $before in
         --wiring) kind=file ;;
         --policy) kind=file ;;
+        --line) kind=nothing ;;
         --most) kind=nothing ;;
         --format) kind=words options='text json' ;;
         esac

@@ -18,6 +18,7 @@ complete -c machcheck -n __fish_use_subcommand -a mend -d 'Looks for changes of 
 complete -c machcheck -n '__fish_seen_subcommand_from help' -a mend
 complete -c machcheck -n '__fish_seen_subcommand_from mend' -l wiring -r -F -d 'Tasks, ports and their first rights'
 complete -c machcheck -n '__fish_seen_subcommand_from mend' -l policy -r -F -d 'The forbidden holdings'
+complete -c machcheck -n '__fish_seen_subcommand_from mend' -l line -x -d 'Only this line of the policy: other lines may stay broken'
 complete -c machcheck -n '__fish_seen_subcommand_from mend' -l most -x -d 'How many mends are printed, 1 to 1000000: 10 if it is not given'
 complete -c machcheck -n '__fish_seen_subcommand_from mend' -l format -x -a 'text json' -d 'How the answer is printed: text, or json for one JSON object'
 complete -c machcheck -n '__fish_seen_subcommand_from mend' -l verbose -d 'Shows where a fault is, and what may help to mend it'

@@ -43,6 +43,7 @@ _machcheck() {
             _arguments -s \
                 '--wiring=[Tasks, ports and their first rights]:FILE:_files' \
                 '--policy=[The forbidden holdings]:FILE:_files' \
+                '--line=[Only this line of the policy\: other lines may stay broken]:N:' \
                 '--most=[How many mends are printed, 1 to 1000000\: 10 if it is not given]:N:' \
                 '--format=[How the answer is printed\: text, or json for one JSON object]:FORMAT:(text json)' \
                 '--verbose[Shows where a fault is, and what may help to mend it]' \

@@ -21,7 +21,7 @@ other_none same has = sym (ap (λ (n : Text). has_option n (codes "format")) sam
 
 pub names_subcommand : NamesItsSubcommand
 names_subcommand name rows (Case files (Verify showing)) is = sym is.1.0
-names_subcommand name rows (Case files (Mend most format)) is = sym is.1.0
+names_subcommand name rows (Case files (Mend line most format)) is = sym is.1.0
 names_subcommand name rows (Case files (Attack line most format)) is = sym is.1.0
 names_subcommand name rows (Case files (Check verbose format)) is = sym is.1.0
 names_subcommand name rows (Case files (Make out workers)) is = sym is.1.0
@@ -36,7 +36,7 @@ names_subcommand name rows (Mig files) is = sym is.0
 
 pub format_of_options : HasFormatOfOptions
 format_of_options name rows (Case files (Verify showing)) is has = is.1.1.format
-format_of_options name rows (Case files (Mend most format)) is has = is.1.2
+format_of_options name rows (Case files (Mend line most format)) is has = is.1.3
 format_of_options name rows (Case files (Attack line most format)) is has = is.1.3
 format_of_options name rows (Case files (Check verbose format)) is has = is.1.2
 format_of_options name rows (Case files (Make out workers)) is has =
@@ -53,7 +53,7 @@ format_of_options name rows (Mig files) is has = is.1.format
 pub text_without_option : IsTextWithoutOption
 text_without_option name rows (Case files (Verify showing)) is none =
     absurd (true≢false (other_none is.1.0 none))
-text_without_option name rows (Case files (Mend most format)) is none =
+text_without_option name rows (Case files (Mend line most format)) is none =
     absurd (true≢false (other_none is.1.0 none))
 text_without_option name rows (Case files (Attack line most format)) is none =
     absurd (true≢false (other_none is.1.0 none))

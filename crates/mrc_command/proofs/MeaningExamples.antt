@@ -35,7 +35,7 @@ usage command =
 -- the whole table
 all_commands : map usage commands
     ≡ codes "verify wiring= policy= [tree] [brief] [line=] [format=] [verbose] defs*"
-    ∷ codes "mend wiring= policy= [most=] [format=] [verbose] defs*"
+    ∷ codes "mend wiring= policy= [line=] [most=] [format=] [verbose] defs*"
     ∷ codes "attack wiring= policy= [line=] [most=] [format=] [verbose] defs*"
     ∷ codes "check wiring= policy= cert= [format=] [verbose] defs*"
     ∷ codes "make wiring= out= [workers=N] [verbose] defs*"

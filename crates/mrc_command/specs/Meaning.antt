@@ -94,8 +94,9 @@ pub record IsShowing (rows : List Row) (showing : Showing) : Type 0 where
 -- the question that a subcommand of this name asks with these options
 abbrev pub Asks : Text → List Row → Question → Type 0
 Asks name rows (Verify showing) = (name ≡ codes "verify") × IsShowing rows showing
-Asks name rows (Mend most format) =
-    (name ≡ codes "mend") × (most ≡ unwrap_or (number_given (first_of (codes "most") rows)) 10)
+Asks name rows (Mend line most format) =
+    (name ≡ codes "mend") × (line ≡ number_given (first_of (codes "line") rows))
+    × (most ≡ unwrap_or (number_given (first_of (codes "most") rows)) 10)
     × (format ≡ format_given rows)
 Asks name rows (Attack line most format) =
     (name ≡ codes "attack") × (line ≡ number_given (first_of (codes "line") rows))
@@ -127,7 +128,7 @@ Asks name rows (Live format) = (name ≡ codes "live") × (format ≡ format_giv
 -- the files that a question needs besides the wiring are named
 abbrev pub has_files : Question → FileNames → Bool
 has_files (Verify showing) files = is_some files.policy
-has_files (Mend most format) files = is_some files.policy
+has_files (Mend line most format) files = is_some files.policy
 has_files (Attack line most format) files = is_some files.policy
 has_files (Check verbose format) files = is_some files.policy && is_some files.certificate
 has_files (Replay format) files = is_some files.script
@@ -186,7 +187,7 @@ IsRefusal given NoMemory = Unit {0}
 -- the subcommand that asks a question
 abbrev pub question_word : Question → List ℕ
 question_word (Verify showing) = codes "verify"
-question_word (Mend most format) = codes "mend"
+question_word (Mend line most format) = codes "mend"
 question_word (Attack line most format) = codes "attack"
 question_word (Check verbose format) = codes "check"
 question_word (Make out workers) = codes "make"
@@ -206,7 +207,7 @@ command_word (Mig files) = codes "mig"
 -- how the answer to a question is to be printed: as text if its subcommand has no `--format`
 abbrev pub question_format : Question → Format
 question_format (Verify showing) = showing.format
-question_format (Mend most format) = format
+question_format (Mend line most format) = format
 question_format (Attack line most format) = format
 question_format (Check verbose format) = format
 question_format (Make out workers) = Plain

@@ -68,9 +68,10 @@ pub enum Question<'a> {
     Verify {
         showing: Showing,
     },
-    /// Which changes of the wiring, `most` of them at most, lead to a yes? 0 if the text is no
-    /// number.
+    /// Which changes of the wiring, `most` of them at most, lead to a yes? With `line` only that
+    /// line of the policy is looked at. Both are 0 if the text is no number.
     Mend {
+        line: Option<usize>,
         most: usize,
         format: Format,
     },
@@ -372,10 +373,14 @@ fn question_asked<'a>(name: &str, matches: &ArgMatches<'a>) -> Option<Question<'
         "verify" => Some(Question::Verify {
             showing: showing_asked(matches),
         }),
-        "mend" => Some(Question::Mend {
-            most: number_given(matches, "most").unwrap_or(10),
-            format: format_given(matches),
-        }),
+        "mend" => {
+            let only = number_given(matches, "line");
+            Some(Question::Mend {
+                line: only,
+                most: number_given(matches, "most").unwrap_or(10),
+                format: format_given(matches),
+            })
+        }
         "attack" => Some(Question::Attack {
             line: number_given(matches, "line"),
             most: number_given(matches, "most").unwrap_or(30),

@@ -182,11 +182,15 @@ line: `K remove line N # WORDS` with the words of the line, `K change line N # L
 as it then is, `K add admit S.TYPE CLASS # restricts S.TYPE`, or `K add trust TASK VERB none`. The
 lines with the same K are to be made together. The smallest changes come first, and of one size
 those that lose the fewest facts. Each one that is printed has been judged: with it the answer is
-YES. At most three changes are made together. --most says how many are printed, and is 10 if it
-is not given.
+YES. At most three changes are made together; only if no so few are found, or if more than eight
+lines are broken, there may be more. --most says how many are printed, and is 10 if it is not given.
 
 If several lines of the policy are broken, a first line may print a fact that the chains of all
-have in common: `# all N broken lines have FACT in their chains`.
+have in common: `# all N broken lines have FACT in their chains`. Behind each change is how many of
+the broken lines it mends in addition to those before it.
+
+With --line N only line N of the policy is looked at: with the changes it is not broken, and no
+trusted task can be rewritten, while other lines may be broken.
 
 --format json prints the changes as one JSON object, and a fault too. docs/FORMATS.md describes
 these objects. Standard error is the same as without it.
@@ -195,8 +199,9 @@ Exit status:
   0  changes were printed, or YES: nothing has to be changed
   1  `none` was printed: no such changes were found
   2  a fault on standard error, as `machcheck: FILE: FAULT`: a file can't be read or has
-     no meaning, --most is not a number from 1 to 1000000 (BadMost), --format is not text or
-     json (BadFormat), the command line is wrong, the output was not taken, or memory ran out
+     no meaning, --line is not a number from 1 to 4294967295 (BadLine) or that line is not
+     broken (NotBroken), --most is not a number from 1 to 1000000 (BadMost), --format is not text
+     or json (BadFormat), the command line is wrong, the output was not taken, or memory ran out
 
 Read on in README.md, and in docs/ARCHITECTURE.md.";
 

@@ -90,6 +90,9 @@ pub(crate) const COMMANDS: [Entry; 13] = [
             WIRING,
             POLICY,
             row! {
+                Free "line" "N" "Only this line of the policy: other lines may stay broken"
+            },
+            row! {
                 Free "most" "N" "How many mends are printed, 1 to 1000000: 10 if it is not given"
             },
             FORMAT,

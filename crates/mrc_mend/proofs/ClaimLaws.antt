@@ -60,11 +60,11 @@ pub mends_of : (defs : List (List ℕ)) (interfaces : List Interface) (texts : T
     (answer : Answer)
     → interfaces_of defs ≡ Ok interfaces
     → AreAnswered (MendOver interfaces texts) answer
-    → AreAnswered (IsMend defs texts.wiring texts.policy) answer
+    → AreAnswered (IsMend defs texts.wiring texts.policy texts.only) answer
 mends_of defs interfaces texts Nothing e all = tt
 mends_of defs interfaces texts (Found mends) e all =
     All-weaker (λ (m : Mend). MendOver interfaces texts m.changes.items)
-    (λ (m : Mend). IsMend defs texts.wiring texts.policy m.changes.items)
+    (λ (m : Mend). IsMend defs texts.wiring texts.policy texts.only m.changes.items)
     (λ m mend. record {
       stated = mend.stated;
       means = stated_same defs (mended texts.wiring m.changes.items) texts.policy interfaces e

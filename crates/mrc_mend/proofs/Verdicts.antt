@@ -1,6 +1,6 @@
 -- What the first broken line means, and what a verdict says of changes.
-use Rattle.std.proofs.Common.{◌≡◌, true, false, List, [], ◌∷◌, map, Option, Some, None, refl, sym}
-use Rattle.std.proofs.Common.{ap, subst, IsTrue, if◌then◌else◌}
+use Rattle.std.proofs.Common.{◌≡◌, true, false, List, [], ◌∷◌, map, Option, Some, None, refl}
+use Rattle.std.proofs.Common.{Ok, sym, ap, subst, IsTrue, if◌then◌else◌}
 use Rattle.std.specs.Prelude.{find, IfSome, IfNone}
 use Rattle.std.specs.Option.{option_map}
 use Rattle.mrc_base.specs.declared.Fact.{Fact}
@@ -14,6 +14,12 @@ use Rattle.mrc_check.specs.Trusted.{AreSecure}
 use Rattle.mrc_check.specs.Verdict.{line_number}
 use Rattle.mrc_check.proofs.Accepted.{none_forbidden}
 use Rattle.mrc_why.specs.Broken.{is_broken, forbidden_fact, HasYes, HasNoYes}
+use Rattle.mrc_forms.specs.Tables.{Table as Interface}
+use Rattle.mrc_check.specs.Texts.{Stated}
+use Rattle.mrc_mend.specs.declared.changes.Change.{Change}
+use Rattle.mrc_mend.specs.declared.judging.Verdict.{Verdict}
+use Rattle.mrc_mend.specs.declared.judging.Verdict.TheVariants as verdict
+use Rattle.mrc_mend.specs.Judging.{Texts, IfMending, MendOver, of_line, stated_with}
 
 -- a line that is found forbids a fact of the set
 found_line : (facts : List Fact) (lines : List ForbiddenLine) (line : ForbiddenLine)
@@ -61,3 +67,14 @@ no_of claim facts (Some line) least e = λ set yes secure.
     let found = found_line facts claim.lines line (sym e) in
     yes.allowed (holding_of line) found.0
     (least.least (forbidden_fact line) found.1 set yes.closed)
+
+-- what is said of changes by what the text with them means is so of them
+pub mends_over : (interfaces : List Interface) (texts : Texts) (changes : List Change)
+    (stated : Stated) (v : Verdict)
+    → stated_with interfaces texts changes ≡ Ok stated
+    → IfMending (HasYes (of_line texts.only stated.claim)) v
+    → IfMending (MendOver interfaces texts changes) v
+mends_over interfaces texts changes stated (verdict.Mends lost) means is_yes =
+    record { stated = stated; means = means; yes = is_yes }
+mends_over interfaces texts changes stated (verdict.Fails next) means is_yes = tt
+mends_over interfaces texts changes stated verdict.Senseless means is_yes = tt

@@ -1,6 +1,7 @@
 -- Believe. What is printed of mends. This profile's own choice.
 use Rattle.std.specs.Prelude.{ℕ, ◌+◌, ◌-◌, List, [], ◌∷◌, ◌++◌, map, flat_map, codes, decimal}
 use Rattle.std.specs.Prelude.{Option, Some, None, slice_index_or, string_bytes, if◌then◌else◌}
+use Rattle.std.specs.List.{slice_get}
 use Rattle.std.specs.Str.{is_utf8}
 use Rattle.mrc_wiring_text.specs.Lexis.{lines, words}
 use Rattle.mrc_mend.specs.declared.causes.Cause.{Cause}
@@ -50,40 +51,70 @@ change_lines wiring (Narrow c) = narrowed_line c ∷ []
 change_lines wiring (Restrict r) = map (restricting_line r) (admit_lines r r.classes.items)
 change_lines wiring (Limit l) = added_line (trust_line l) ∷ []
 
--- what comes before the words of what a mend loses: behind a type that is restricted, a comma
-abbrev pub loses_sign : List Change → List ℕ
-loses_sign (Restrict r ∷ rest) = codes ","
-loses_sign changes = codes " #"
+-- what comes before the words behind the first line of a change: behind a type that is restricted,
+-- a comma
+abbrev pub note_sign : Change → List ℕ
+note_sign (Restrict r) = codes ","
+note_sign change = codes " #"
 
--- what a mend loses, as it stands behind its first line
-abbrev pub loses : Mend → List ℕ
-loses mend =
-    loses_sign mend.changes.items ++ (codes " loses " ++ (decimal mend.lost ++ codes " facts"))
+-- how many of so many broken lines the first change of a mend mends, if that is told
+abbrev pub first_mends : ℕ → Option ℕ → List ℕ
+first_mends broken None = []
+first_mends broken (Some n) =
+    codes ", mends " ++ (decimal n ++ (codes " of " ++ (decimal broken ++ codes " lines")))
+
+-- what a mend loses, and how many lines its first change mends, as it stands behind its first line
+abbrev pub first_note : ℕ → Mend → Change → List ℕ
+first_note broken mend change =
+    note_sign change ++ (codes " loses " ++ (decimal mend.lost ++ (codes " facts"
+    ++ first_mends broken (slice_get mend.mended.items 0))))
+
+-- how many lines more a further change of a mend mends, as it stands behind the first line of the
+-- change, if it is told
+abbrev pub further_note : ℕ → Option ℕ → Change → List ℕ
+further_note broken None change = []
+further_note broken (Some n) change =
+    note_sign change
+    ++ (codes " mends " ++ (decimal n ++ (codes " more of " ++ (decimal broken ++ codes " lines"))))
 
 -- a line of the mend of this number, with what stands behind it
 abbrev pub numbered_line : ℕ → (behind line : List ℕ) → List ℕ
 numbered_line k behind line = decimal k ++ (codes " " ++ (line ++ (behind ++ codes "\n")))
 
--- the lines of the mend of this number, with what stands behind the first
+-- the lines of a change of the mend of this number, with what stands behind the first
 abbrev pub numbered : ℕ → List ℕ → List (List ℕ) → List ℕ
 numbered k behind [] = []
 numbered k behind (line ∷ rest) =
     numbered_line k behind line ++ flat_map (numbered_line k []) rest
 
--- a mend of this number
-abbrev pub mend_text : List ℕ → ℕ → Mend → List ℕ
-mend_text wiring k mend =
-    numbered k (loses mend) (flat_map (change_lines wiring) mend.changes.items)
+-- further changes of the mend of this number, of which the first is at place n of the mend
+abbrev pub further_text : List ℕ → (broken k : ℕ) → (mended : List ℕ) → ℕ → List Change → List ℕ
+further_text wiring broken k mended n [] = []
+further_text wiring broken k mended n (change ∷ rest) =
+    numbered k (further_note broken (slice_get mended n) change) (change_lines wiring change)
+    ++ further_text wiring broken k mended (n + 1) rest
+
+-- changes of the mend of this number
+abbrev pub changes_text : List ℕ → (broken k : ℕ) → Mend → List Change → List ℕ
+changes_text wiring broken k mend [] = []
+changes_text wiring broken k mend (change ∷ rest) =
+    numbered k (first_note broken mend change) (change_lines wiring change)
+    ++ further_text wiring broken k mend.mended.items 1 rest
+
+-- a mend of this number, if so many lines were broken
+abbrev pub mend_text : List ℕ → (broken k : ℕ) → Mend → List ℕ
+mend_text wiring broken k mend = changes_text wiring broken k mend mend.changes.items
 
 -- mends, of which the first has this number
-abbrev pub mends_from : List ℕ → ℕ → List Mend → List ℕ
-mends_from wiring k [] = []
-mends_from wiring k (mend ∷ rest) = mend_text wiring k mend ++ mends_from wiring (k + 1) rest
+abbrev pub mends_from : List ℕ → (broken k : ℕ) → List Mend → List ℕ
+mends_from wiring broken k [] = []
+mends_from wiring broken k (mend ∷ rest) =
+    mend_text wiring broken k mend ++ mends_from wiring broken (k + 1) rest
 
 -- the mends that were found, or that there are none
-abbrev pub found_text : List ℕ → List Mend → List ℕ
-found_text wiring [] = codes "none\n"
-found_text wiring (mend ∷ rest) = mends_from wiring 1 (mend ∷ rest)
+abbrev pub found_text : List ℕ → ℕ → List Mend → List ℕ
+found_text wiring broken [] = codes "none\n"
+found_text wiring broken (mend ∷ rest) = mends_from wiring broken 1 (mend ∷ rest)
 
 -- how many lines are broken
 abbrev pub broken_count : ℕ → List ℕ
@@ -103,4 +134,5 @@ cause_line (Some cause) = shared_line cause
 -- and the mends
 abbrev pub mends_text : List ℕ → Answer → List ℕ
 mends_text wiring Nothing = codes "YES\n"
-mends_text wiring (Found mends) = cause_line mends.cause ++ found_text wiring mends.mends.items
+mends_text wiring (Found mends) =
+    cause_line mends.cause ++ found_text wiring mends.broken mends.mends.items

@@ -1,24 +1,27 @@
 //! The mends of a wiring.
 
-ghost use Rattle.std.specs.Prelude.{◌≡◌, IfOk, IfErr, Err, map};
+ghost use Rattle.std.specs.Prelude.{◌≡◌, IfOk, IfErr, IfSome, Err, map};
 ghost use Rattle.mrc_base.specs.Reading.{UnlessMemory};
 ghost use Rattle.mrc_interface.specs.Reading.{GivesAs, interfaces_of, step};
 ghost use Rattle.mrc_check.specs.Texts.{InDefs, meaningless, stated_of};
+ghost use Rattle.mrc_mend.specs.Causes.{IsCause};
 ghost use Rattle.mrc_mend.specs.Judging.{MendOver, IsMend, AreAnswered, AreAtMost};
-ghost use Rattle.mrc_mend.specs.Judging.{IsNeeded, IsNeededOf, HasCause};
+ghost use Rattle.mrc_mend.specs.Judging.{of_line, IsNeeded, IsNeededOf, HasCause};
 
 use crate::causes::{Cause, cause_of};
 use crate::changes::Change;
 use crate::cutting::children;
 use crate::heading::edition;
-use crate::judging::{Texts, first_objection, stated_over};
+use crate::judging::{Texts, asked_lines, first_objection, stated_over};
+use crate::looking::look;
 use crate::losing::First;
-use crate::searching::{Searched, search};
+use crate::searching::Searched;
+use crate::weighing::broken_numbers;
 use mrc_base::{Copies, OrMemory};
 use mrc_check::{CaseFault, Stated};
 use mrc_closure::make_alone;
 use mrc_interface::read_interfaces;
-use mrc_wiring::Interfaces;
+use mrc_wiring::{Claim, Interfaces};
 use std::alloc::{AllocError, Global};
 
 /// Changes after which the answer is yes.
@@ -28,6 +31,22 @@ pub struct Mend {
     pub changes: Vec<Change>,
     /// How many facts of the wiring's least set are lost by them.
     pub lost: usize,
+    /// How many of the broken lines each change mends in addition to those before it; nothing if
+    /// fewer than two lines were broken.
+    pub mended: Vec<usize>,
+}
+
+impl Mend {
+    /// The changes, which lose so many facts. It is not counted yet how many lines they mend.
+    pub(crate) fn uncounted(alloc: Global, changes: Vec<Change>, lost: usize) -> Mend
+        ensures { result.changes ≡ changes }
+    {
+        Mend {
+            changes,
+            lost,
+            mended: Vec::new(alloc),
+        }
+    }
 }
 
 /// The mends that were found.
@@ -37,6 +56,8 @@ pub struct Mends {
     pub mends: Vec<Mend>,
     /// Whether the search ended at its bound, so that there may be more.
     pub cut_off: bool,
+    /// How many lines were broken, of those that are asked for.
+    pub broken: usize,
     /// What all broken lines have in common, if they are two or more.
     pub cause: Option<Cause>,
 }
@@ -56,6 +77,20 @@ pub trait Progress {
     fn tried(&mut self, tries: usize);
 }
 
+/// What the broken lines have in common, if all are asked for.
+fn shared_cause(
+    alloc: Global,
+    claim: &Claim,
+    only: Option<usize>,
+) -> Result<Option<Cause>, AllocError>
+    ensures { IfOk result (λ cause. IfSome cause (IsCause claim.now)) }
+{
+    match only {
+        Some(_) => Ok(None),
+        None => cause_of(alloc, claim),
+    }
+}
+
 /// What there is to mend of texts that have this meaning.
 fn answered<P: Progress>(
     alloc: Global,
@@ -67,29 +102,34 @@ fn answered<P: Progress>(
 ) -> Result<Answer, AllocError>
     ensures mends { IfOk result (AreAnswered (MendOver interfaces texts.now)) }
     ensures within { IfOk result (AreAtMost most) }
-    ensures needed { IfOk result (IsNeeded first.now.claim) }
+    ensures needed { IfOk result (IsNeeded (of_line texts.now.only first.now.claim)) }
     ensures cause { IfOk result (HasCause first.now.claim) }
 {
     let wired = first.claim.wired();
     let made = make_alone(alloc, wired)?;
     let facts = &made.facts;
-    let Some(fact) = first_objection(&first.claim, facts) else {
+    let objection = first_objection(alloc, &first.claim, texts.only, facts)?;
+    let Some(fact) = objection else {
         return Ok(Answer::Nothing);
     };
+    let lines = asked_lines(alloc, first.claim.lines(), texts.only)?;
+    let broken = broken_numbers(alloc, &lines, facts)?;
     let before = First {
         wired,
         facts,
-        lines: first.claim.lines(),
+        lines: &lines,
+        broken: &broken,
         edition: edition(alloc, texts.wiring)?,
     };
     let next = children(alloc, &before, first, facts, &[], &fact)?;
-    let cause = cause_of(alloc, &first.claim)?;
-    let Searched { mends, cut_off } = search(
+    let cause = shared_cause(alloc, &first.claim, texts.only)?;
+    let Searched { mends, cut_off } = look(
         alloc, interfaces, texts, &before, next, most, progress,
     )?;
     Ok(Answer::Found(Mends {
         mends,
         cut_off,
+        broken: broken.len(),
         cause,
     }))
 }
@@ -110,24 +150,27 @@ fn interfaces_of(alloc: Global, defs: &[Vec<u8>]) -> Result<Interfaces, OrMemory
 }
 
 /// The mends of a wiring for a policy over MIG files, all from their bytes: `most` of them at most,
-/// those of fewer changes first. Else the first of the files that has no meaning.
+/// those of fewer changes first. They mend all lines of the policy, or only the line of the number
+/// that is asked for. Else the first of the files that has no meaning.
 pub fn find_mends<P: Progress>(
     alloc: Global,
     defs: &[Vec<u8>],
     wiring: &[u8],
     policy: &[u8],
+    only: Option<usize>,
     most: usize,
     progress: &mut P,
 ) -> Result<Answer, OrMemory<CaseFault>>
     // Each mend that is answered was judged yes, applied as it is printed.
     ensures found { IfOk result (AreAnswered
-        (IsMend (map (λ bytes. bytes.items) defs.now) wiring.now policy.now)) }
+        (IsMend (map (λ bytes. bytes.items) defs.now) wiring.now policy.now only)) }
     // There are no more than that.
     ensures within { IfOk result (AreAtMost most) }
-    // Nothing is to be mended if and only if the least set is a yes; else no set is, and what the
-    // broken lines are said to have in common is in the chain of each.
+    // Nothing is to be mended if and only if the least set is a yes to the lines that are asked
+    // for; else no set is, and what the broken lines are said to have in common is in the chain of
+    // each.
     ensures needed { IfOk result (IsNeededOf
-        (stated_of (map (λ bytes. bytes.items) defs.now) wiring.now policy.now)) }
+        (stated_of (map (λ bytes. bytes.items) defs.now) wiring.now policy.now) only) }
     // Which fault it is: that of the first file.
     ensures fault { IfErr result (UnlessMemory (λ fault.
         stated_of (map (λ bytes. bytes.items) defs.now) wiring.now policy.now
@@ -138,6 +181,10 @@ pub fn find_mends<P: Progress>(
         Ok(stated) => stated,
         Err((_, refusal)) => return Err(refusal),
     };
-    let texts = Texts { wiring, policy };
+    let texts = Texts {
+        wiring,
+        policy,
+        only,
+    };
     Ok(answered(alloc, interfaces, &texts, &first, most, progress)?)
 }

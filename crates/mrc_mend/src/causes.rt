@@ -1,11 +1,14 @@
 //! What all broken lines of a policy have in common.
 
 ghost use Rattle.std.specs.Prelude.{IfOk, IfSome, IsTrue};
+ghost use Rattle.std.specs.List.{All, Contains};
+ghost use Rattle.mrc_closure.specs.Chains.{place_list};
 ghost use Rattle.mrc_mend.specs.Causes.{IsConcluded, AreShared, IsCauseOf, IsCause};
+ghost use Rattle.mrc_mend.specs.Causes.{IsUsed, HaveNoIdle, IsUsedUp};
 
 use mrc_base::{ClassId, Fact, PortRight};
 use mrc_classes::RuleName;
-use mrc_closure::Step;
+use mrc_closure::{Places, Step};
 use mrc_why::{Broken, verify};
 use mrc_wiring::{Claim, Wired};
 use mrc_words::fact_text;
@@ -18,6 +21,54 @@ pub struct Cause {
     pub lines: usize,
     /// The fact as it is printed.
     pub fact: String,
+}
+
+/// Whether the place is among these.
+fn has_place(places: Places, place: usize) -> bool
+    ensures { IsTrue result → Contains (place_list places) place }
+{
+    match places {
+        Places::Empty => false,
+        Places::One(one) => one == place,
+        Places::Two(one, other) => one == place || other == place,
+    }
+}
+
+/// Whether a step has the one at this place among its premises.
+fn is_used(steps: &[Step], place: usize) -> bool
+    ensures { IsTrue result → IsUsed steps.now place }
+{
+    for step in steps {
+        if has_place(step.premises, place) {
+            return true;
+        }
+    }
+    false
+}
+
+/// Whether each step but the last is a premise of another. A chain is short, so that each is looked
+/// for by itself.
+fn have_no_idle(steps: &[Step]) -> bool
+    ensures { IsTrue result → HaveNoIdle steps.now }
+{
+    for place in 1..steps.len() {
+        if !is_used(steps, place - 1) {
+            return false;
+        }
+    }
+    true
+}
+
+/// Whether no chain has an idle step.
+fn are_used_up(broken: &[Broken]) -> bool
+    ensures { IsTrue result → All IsUsedUp broken.now }
+{
+    for line in broken {
+        if !have_no_idle(line.steps()) {
+            return false;
+        }
+    }
+    true
 }
 
 /// Whether a step concludes the fact.
@@ -75,7 +126,8 @@ fn shared_fact(wired: &Wired, first: &[Step], broken: &[Broken]) -> Option<Fact>
     found
 }
 
-/// What two or more broken lines have in common.
+/// What two or more broken lines have in common, if no chain has an idle step: what that concludes
+/// need not be in the chain.
 fn cause_of_lines(
     alloc: Global,
     claim: &Claim,
@@ -87,6 +139,9 @@ fn cause_of_lines(
     let [first, _, ..] = broken else {
         return Ok(None);
     };
+    if !are_used_up(broken) {
+        return Ok(None);
+    }
     match shared_fact(wired, first.steps(), broken) {
         Some(fact) => {
             let fact = fact_text(alloc, wired, fact)?;
@@ -102,5 +157,7 @@ pub(crate) fn cause_of(alloc: Global, claim: &Claim) -> Result<Option<Cause>, Al
     ensures { IfOk result (λ cause. IfSome cause (IsCause claim.now)) }
 {
     let verdict = verify(alloc, claim)?;
-    cause_of_lines(alloc, claim, &verdict.broken)
+    let cause = cause_of_lines(alloc, claim, &verdict.broken);
+    drop(verdict);
+    cause
 }

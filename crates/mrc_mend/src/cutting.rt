@@ -2,7 +2,7 @@
 
 use crate::carrying::{TypeNames, carried};
 use crate::changes::{Change, NamedClass, Narrowing, Restriction};
-use crate::extending::{DEEPEST, extended, narrowing_of, restriction_of};
+use crate::extending::{extended, narrowing_of, restriction_of};
 use crate::losing::First;
 use crate::narrowing::{Accepted, items_of_step, narrowed};
 use crate::trusting::{limitation_of, names_actor};
@@ -332,7 +332,7 @@ fn cuts(alloc: Global, node: &Node<'_>, steps: &[Step]) -> Result<Vec<Vec<Change
 }
 
 /// The changes to be tried if these were not enough, since the fact is objected to: each cuts a
-/// chain that derives the fact. There are none after as many changes as a mend may have.
+/// chain that derives the fact.
 pub(crate) fn children(
     alloc: Global,
     first: &First<'_>,
@@ -341,9 +341,6 @@ pub(crate) fn children(
     changes: &[Change],
     goal: &Fact,
 ) -> Result<Vec<Vec<Change>>, AllocError> {
-    if changes.len() >= DEEPEST {
-        return Ok(Vec::new(alloc));
-    }
     let node = Node {
         first: *first,
         wired: stated.claim.wired(),

@@ -5,7 +5,7 @@ use crate::changes::{Change, Limitation, NamedClass, Narrowing, Restriction, add
 use mrc_wiring::verb_number;
 use std::alloc::{AllocError, Global};
 
-/// How many changes a mend has at most.
+/// How many changes a mend has at most that is found by trying all of so many.
 pub(crate) const DEEPEST: usize = 3;
 
 /// Whether the restriction is of the type.

@@ -1,13 +1,13 @@
 //! Whether changes mend a wiring.
 
-ghost use Rattle.std.specs.Prelude.{◌≡◌, find, IfOk, IfSome, IfNone};
+ghost use Rattle.std.specs.Prelude.{◌≡◌, ◌==◌, filter, find, IfOk, IfSome, IfNone};
 ghost use Rattle.mrc_facts.specs.Sets.{has};
 ghost use Rattle.mrc_model.specs.Rules.{IsLeast};
 ghost use Rattle.mrc_wiring.specs.Table.{wiring_of};
 ghost use Rattle.mrc_check.specs.Trusted.{AreSecure};
 ghost use Rattle.mrc_why.specs.Broken.{is_broken, HasYes, HasNoYes};
 ghost use Rattle.mrc_check.specs.Texts.{GivesOrReturns, meaningless, stated_over};
-ghost use Rattle.mrc_mend.specs.Judging.{MendOver, IfMending};
+ghost use Rattle.mrc_mend.specs.Judging.{asked_lines, of_line, MendOver, IfMending};
 
 use crate::changes::{Change, mended};
 use crate::cutting::children;
@@ -21,11 +21,13 @@ use mrc_wiring::{Claim, ForbiddenLine, Interfaces};
 use std::alloc::{AllocError, Global};
 use std::marker::Model;
 
-/// The bytes of a wiring that is to be mended, and of a policy.
+/// The bytes of a wiring that is to be mended, and of a policy, and the number of the only line of
+/// the policy that is asked for, if not all are.
 #[derive(Drop)]
 pub(crate) struct Texts<'a> {
     pub(crate) wiring: &'a [u8],
     pub(crate) policy: &'a [u8],
+    pub(crate) only: Option<usize>,
 }
 
 impl<'a> Model for Texts<'a> {
@@ -33,7 +35,11 @@ impl<'a> Model for Texts<'a> {
 
     ghost Value = { definitions.Texts };
 
-    ghost view = { λ t. record { wiring = t.wiring.now; policy = t.policy.now } };
+    ghost view = { λ t. record {
+      wiring = t.wiring.now;
+      policy = t.policy.now;
+      only = t.only;
+    } };
 }
 
 /// What changes do.
@@ -45,6 +51,36 @@ pub(crate) enum Verdict {
     Fails(Vec<Vec<Change>>),
     /// The text with the changes has no meaning.
     Senseless,
+}
+
+/// Those of the lines that have this number.
+fn lines_of(
+    alloc: Global,
+    lines: &[ForbiddenLine],
+    number: usize,
+) -> Result<Vec<ForbiddenLine>, AllocError>
+    ensures { IfOk result (λ found.
+        found.items ≡ filter (λ line. line.line == number) lines.now) }
+{
+    lines
+        .iter()
+        .copied()
+        .filter(|line| line.line as usize == number)
+        .collect(alloc)
+}
+
+/// Those of a policy's lines that are asked for: all, or those of one number.
+pub(crate) fn asked_lines(
+    alloc: Global,
+    lines: &[ForbiddenLine],
+    only: Option<usize>,
+) -> Result<Vec<ForbiddenLine>, AllocError>
+    ensures { IfOk result (λ asked. asked.items ≡ asked_lines only lines.now) }
+{
+    match only {
+        None => lines.to_vec(alloc),
+        Some(number) => lines_of(alloc, lines, number),
+    }
 }
 
 /// The first of the lines that forbids one of the facts.
@@ -59,31 +95,43 @@ fn broken_of(lines: &[ForbiddenLine], facts: &Facts) -> Option<ForbiddenLine>
     None
 }
 
-/// The first line that forbids a fact of the least set, by which no task could rewrite a trusted
-/// one. If there is none, the least set is a yes; if there is one, no set is.
-fn first_broken(claim: &Claim, facts: &Facts) -> Option<ForbiddenLine>
+/// The first line that is asked for and forbids a fact of the least set, by which no task could
+/// rewrite a trusted one. If there is none, the least set is a yes to these lines; if there is one,
+/// no set is.
+fn first_broken(
+    alloc: Global,
+    claim: &Claim,
+    only: Option<usize>,
+    facts: &Facts,
+) -> Result<Option<ForbiddenLine>, AllocError>
     requires least { IsLeast (wiring_of claim.now.table) (has facts.now) }
     requires secure { AreSecure (wiring_of claim.now.table) (has facts.now)
         claim.now.table.trusts }
-    ensures yes { IfNone result (HasYes claim.now) }
-    ensures no { IfSome result (λ line. HasNoYes claim.now) }
+    ensures yes { IfOk result (λ line. IfNone line (HasYes (of_line only claim.now))) }
+    ensures no { IfOk result (λ line. IfSome line (λ _. HasNoYes (of_line only claim.now))) }
 {
-    broken_of(claim.lines(), facts)
+    let asked = asked_lines(alloc, claim.lines(), only)?;
+    Ok(broken_of(&asked, facts))
 }
 
 /// The first fact of the least set that is objected to: the hold by which a task could rewrite a
-/// trusted one, or else what the first broken line forbids. If there is none, the least set is a
-/// yes; if there is one, no set is.
-pub(crate) fn first_objection(claim: &Claim, facts: &Facts) -> Option<Fact>
+/// trusted one, or else what the first broken line forbids that is asked for. If there is none, the
+/// least set is a yes to these lines; if there is one, no set is.
+pub(crate) fn first_objection(
+    alloc: Global,
+    claim: &Claim,
+    only: Option<usize>,
+    facts: &Facts,
+) -> Result<Option<Fact>, AllocError>
     requires { IsLeast (wiring_of claim.now.table) (has facts.now) }
-    ensures yes { IfNone result (HasYes claim.now) }
-    ensures no { IfSome result (λ fact. HasNoYes claim.now) }
+    ensures yes { IfOk result (λ fact. IfNone fact (HasYes (of_line only claim.now))) }
+    ensures no { IfOk result (λ fact. IfSome fact (λ _. HasNoYes (of_line only claim.now))) }
 {
     match first_exposed(claim.wired(), facts) {
-        Some((_, fact)) => Some(fact),
-        None => match first_broken(claim, facts) {
-            Some(line) => Some(forbidden_fact(&line)),
-            None => None,
+        Some((_, fact)) => Ok(Some(fact)),
+        None => match first_broken(alloc, claim, only, facts)? {
+            Some(line) => Ok(Some(forbidden_fact(&line))),
+            None => Ok(None),
         },
     }
 }
@@ -107,33 +155,54 @@ pub(crate) fn stated_over(
     }
 }
 
-/// What the changes do that have this meaning.
-fn verdict_of(
+/// What more is to be tried after these changes, since the fact is objected to; nothing if they are
+/// the last.
+fn next_of(
     alloc: Global,
     first: &First<'_>,
     stated: &Stated,
+    facts: &Facts,
     changes: &[Change],
+    fact: &Fact,
+    are_last: bool,
+) -> Result<Vec<Vec<Change>>, AllocError> {
+    if are_last {
+        return Ok(Vec::new(alloc));
+    }
+    children(alloc, first, stated, facts, changes, fact)
+}
+
+/// What the changes do that have this meaning.
+fn verdict_of(
+    alloc: Global,
+    only: Option<usize>,
+    first: &First<'_>,
+    stated: &Stated,
+    changes: &[Change],
+    are_last: bool,
 ) -> Result<Verdict, AllocError>
-    ensures { IfOk result (IfMending (HasYes stated.now.claim)) }
+    ensures { IfOk result (IfMending (HasYes (of_line only stated.now.claim))) }
 {
     let wired = stated.claim.wired();
     let made = make_alone(alloc, wired)?;
-    match first_objection(&stated.claim, &made.facts) {
+    match first_objection(alloc, &stated.claim, only, &made.facts)? {
         None => Ok(Verdict::Mends(lost(alloc, first, wired, &made.facts)?)),
         Some(fact) => {
-            let next = children(alloc, first, stated, &made.facts, changes, &fact)?;
+            let next = next_of(alloc, first, stated, &made.facts, changes, &fact, are_last)?;
             Ok(Verdict::Fails(next))
         }
     }
 }
 
-/// What the changes do. The interfaces come back, unless memory runs out.
+/// What the changes do. The interfaces come back, unless memory runs out. If the changes are the
+/// last, it is not looked at what more is to be tried.
 pub(crate) fn judged(
     alloc: Global,
     interfaces: Interfaces,
     texts: &Texts<'_>,
     first: &First<'_>,
     changes: &[Change],
+    are_last: bool,
 ) -> Result<(Interfaces, Verdict), AllocError>
     ensures kept { IfOk result (λ judged. judged.0 ≡ interfaces) }
     ensures mends { IfOk result (λ judged.
@@ -142,7 +211,7 @@ pub(crate) fn judged(
     let text = mended(alloc, texts.wiring, changes)?;
     match stated_over(alloc, interfaces, &text, texts.policy) {
         Ok(stated) => {
-            let verdict = verdict_of(alloc, first, &stated, changes)?;
+            let verdict = verdict_of(alloc, texts.only, first, &stated, changes, are_last)?;
             Ok((stated.claim.into_wired().into_interfaces(), verdict))
         }
         Err((interfaces, refusal)) => match refusal {

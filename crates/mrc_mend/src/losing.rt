@@ -6,14 +6,17 @@ use mrc_wiring::{ForbiddenLine, Wired};
 use mrc_wiring_text::Edition;
 use mrc_words::{fact_named, fact_text};
 use std::alloc::{AllocError, Global};
+use std::collections::BTreeMap;
 
 /// A wiring before any change, with its least set.
 #[derive(Clone, Copy)]
 pub(crate) struct First<'a> {
     pub(crate) wired: &'a Wired,
     pub(crate) facts: &'a Facts,
-    /// What the policy forbids.
+    /// What the policy forbids, so far as it is asked for.
     pub(crate) lines: &'a [ForbiddenLine],
+    /// The numbers of those of these lines that are broken.
+    pub(crate) broken: &'a BTreeMap<u32, ()>,
     /// The edition of its text.
     pub(crate) edition: Edition,
 }

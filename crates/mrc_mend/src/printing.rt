@@ -2,11 +2,13 @@
 
 ghost use Rattle.std.specs.Prelude.{◌≡◌, ◌++◌, [], flat_map, IfOk, OnOk, map};
 ghost use Rattle.std.specs.Prelude.{string_bytes};
+ghost use Rattle.std.specs.List.{slice_get};
 ghost use Rattle.mrc_wiring_text.specs.Lexis.{words};
 ghost use Rattle.mrc_mend.specs.Texts as definitions;
 ghost use Rattle.mrc_mend.specs.Texts.{behind_blank, if_text, line_words, removed_line};
 ghost use Rattle.mrc_mend.specs.Texts.{narrowed_line, added_line, restricting_line, change_lines};
-ghost use Rattle.mrc_mend.specs.Texts.{loses_sign, loses, numbered_line, numbered, mend_text};
+ghost use Rattle.mrc_mend.specs.Texts.{note_sign, first_mends, first_note, further_note};
+ghost use Rattle.mrc_mend.specs.Texts.{numbered_line, numbered, further_text, mend_text};
 ghost use Rattle.mrc_mend.specs.Texts.{mends_from, found_text, broken_count, shared_line};
 ghost use Rattle.mrc_mend.specs.Texts.{cause_line};
 ghost use Rattle.mrc_mend.specs.Mending.{admit_lines, trust_line};
@@ -143,18 +145,6 @@ fn add_change(
     }
 }
 
-/// What is told of changes.
-fn changes_told(alloc: Global, wiring: &[u8], changes: &[Change]) -> Result<Vec<String>, AllocError>
-    ensures { IfOk result (λ told. map string_bytes told.items
-        ≡ flat_map (change_lines wiring.now) changes.now) }
-{
-    let mut told = Vec::new(alloc);
-    for change in changes {
-        add_change(alloc, &mut told, wiring, change)?;
-    }
-    Ok(told)
-}
-
 /// A line of the mend of this number, with what stands behind it.
 fn numbered_line(
     alloc: Global,
@@ -185,7 +175,7 @@ fn add_lines(
     Ok(())
 }
 
-/// The lines of the mend of this number, with what stands behind the first.
+/// The lines of a change of the mend of this number, with what stands behind the first.
 fn numbered(
     alloc: Global,
     number: usize,
@@ -205,54 +195,169 @@ fn numbered(
     }
 }
 
-/// What comes before the words of what a mend loses.
-fn loses_sign(changes: &[Change]) -> &'static str
-    ensures { result.now ≡ loses_sign changes.now }
+/// What comes before the words behind the first line of a change.
+fn note_sign(change: &Change) -> &'static str
+    ensures { result.now ≡ note_sign change.now }
 {
-    match changes {
-        [Change::Restrict(_), ..] => ",",
-        _ => " #",
+    match change {
+        Change::Restrict(_) => ",",
+        Change::Remove(_) | Change::Narrow(_) | Change::Limit(_) => " #",
     }
 }
 
-/// What a mend loses, as it stands behind its first line.
-fn loses(alloc: Global, mend: &Mend) -> Result<String, AllocError>
-    ensures { IfOk result (λ text. string_bytes text ≡ loses mend.now) }
+/// How many of so many broken lines the first change of a mend mends, if that is told.
+fn first_mends(alloc: Global, broken: usize, mended: Option<usize>) -> Result<String, AllocError>
+    ensures { IfOk result (λ text. string_bytes text ≡ first_mends broken mended) }
 {
-    let sign = loses_sign(&mend.changes);
-    let lost = mend.lost;
-    format!(in alloc; "{sign} loses {lost} facts")
+    match mended {
+        Some(mended) => format!(in alloc; ", mends {mended} of {broken} lines"),
+        None => Ok(String::new(alloc)),
+    }
 }
 
-/// A mend of this number.
-fn mend_text(alloc: Global, wiring: &[u8], number: usize, mend: &Mend) -> Result<String, AllocError>
-    ensures { IfOk result (λ text. string_bytes text ≡ mend_text wiring.now number mend.now) }
+/// What a mend loses, and how many lines its first change mends, as it stands behind its first
+/// line.
+fn first_note(
+    alloc: Global,
+    broken: usize,
+    mend: &Mend,
+    change: &Change,
+) -> Result<String, AllocError>
+    ensures { IfOk result (λ text.
+        string_bytes text ≡ first_note broken mend.now change.now) }
 {
-    let loses = loses(alloc, mend)?;
-    let lines = changes_told(alloc, wiring, &mend.changes)?;
-    numbered(alloc, number, loses.as_str(), &lines)
+    let sign = note_sign(change);
+    let lost = mend.lost;
+    let mends = first_mends(alloc, broken, mend.mended.get(0).copied())?;
+    format!(in alloc; "{sign} loses {lost} facts{mends}")
+}
+
+/// How many lines more a further change of a mend mends, as it stands behind the first line of the
+/// change, if it is told.
+fn further_note(
+    alloc: Global,
+    broken: usize,
+    mended: Option<usize>,
+    change: &Change,
+) -> Result<String, AllocError>
+    ensures { IfOk result (λ text.
+        string_bytes text ≡ further_note broken mended change.now) }
+{
+    let Some(mended) = mended else {
+        return Ok(String::new(alloc));
+    };
+    let sign = note_sign(change);
+    format!(in alloc; "{sign} mends {mended} more of {broken} lines")
+}
+
+/// A change of the mend of this number, with what stands behind its first line.
+fn change_text(
+    alloc: Global,
+    wiring: &[u8],
+    number: usize,
+    behind: &str,
+    change: &Change,
+) -> Result<String, AllocError>
+    ensures { IfOk result (λ text. string_bytes text
+        ≡ numbered number behind.now (change_lines wiring.now change.now)) }
+{
+    let mut lines = Vec::new(alloc);
+    add_change(alloc, &mut lines, wiring, change)?;
+    numbered(alloc, number, behind, &lines)
+}
+
+/// The change at this place of the mend of this number, which is not its first.
+fn further_change(
+    alloc: Global,
+    wiring: &[u8],
+    broken: usize,
+    number: usize,
+    mended: &[usize],
+    place: usize,
+    change: &Change,
+) -> Result<String, AllocError>
+    ensures { IfOk result (λ text. string_bytes text
+        ≡ numbered number (further_note broken (slice_get mended.now place) change.now)
+        (change_lines wiring.now change.now)) }
+{
+    let behind = further_note(alloc, broken, mended.get(place).copied(), change)?;
+    change_text(alloc, wiring, number, behind.as_str(), change)
+}
+
+/// Further changes of the mend of this number, behind its first.
+fn further_text(
+    alloc: Global,
+    wiring: &[u8],
+    broken: usize,
+    number: usize,
+    mended: &[usize],
+    changes: &[Change],
+) -> Result<String, AllocError>
+    ensures { IfOk result (λ text. string_bytes text
+        ≡ further_text wiring.now broken number mended.now 1 changes.now) }
+{
+    let mut text = String::new(alloc);
+    for (place, change) in changes.iter().enumerate() {
+        let told = further_change(alloc, wiring, broken, number, mended, place + 1, change)?;
+        text.push_str(told.as_str())?;
+    }
+    Ok(text)
+}
+
+/// A mend of this number, if so many lines were broken.
+fn mend_text(
+    alloc: Global,
+    wiring: &[u8],
+    broken: usize,
+    number: usize,
+    mend: &Mend,
+) -> Result<String, AllocError>
+    ensures { IfOk result (λ text.
+        string_bytes text ≡ mend_text wiring.now broken number mend.now) }
+{
+    match mend.changes.as_slice() {
+        [] => Ok(String::new(alloc)),
+        [first, rest @ ..] => {
+            let behind = first_note(alloc, broken, mend, first)?;
+            let told = change_text(alloc, wiring, number, behind.as_str(), first)?;
+            let further = further_text(alloc, wiring, broken, number, &mend.mended, rest)?;
+            format!(in alloc; "{told}{further}")
+        }
+    }
 }
 
 /// The mends, the first of number 1.
-fn mends_from(alloc: Global, wiring: &[u8], mends: &[Mend]) -> Result<String, AllocError>
-    ensures { IfOk result (λ text. string_bytes text ≡ mends_from wiring.now 1 mends.now) }
+fn mends_from(
+    alloc: Global,
+    wiring: &[u8],
+    broken: usize,
+    mends: &[Mend],
+) -> Result<String, AllocError>
+    ensures { IfOk result (λ text.
+        string_bytes text ≡ mends_from wiring.now broken 1 mends.now) }
 {
     let mut text = String::new(alloc);
     for (place, mend) in mends.iter().enumerate() {
-        let told = mend_text(alloc, wiring, place + 1, mend)?;
+        let told = mend_text(alloc, wiring, broken, place + 1, mend)?;
         text.push_str(told.as_str())?;
     }
     Ok(text)
 }
 
 /// The mends that were found, or that there are none.
-fn found_text(alloc: Global, wiring: &[u8], mends: &[Mend]) -> Result<String, AllocError>
-    ensures { IfOk result (λ text. string_bytes text ≡ found_text wiring.now mends.now) }
+fn found_text(
+    alloc: Global,
+    wiring: &[u8],
+    broken: usize,
+    mends: &[Mend],
+) -> Result<String, AllocError>
+    ensures { IfOk result (λ text.
+        string_bytes text ≡ found_text wiring.now broken mends.now) }
 {
     if mends.is_empty() {
         String::from_str(alloc, "none\n")
     } else {
-        mends_from(alloc, wiring, mends)
+        mends_from(alloc, wiring, broken, mends)
     }
 }
 
@@ -293,7 +398,7 @@ pub fn mends_text(alloc: Global, wiring: &[u8], answer: &Answer) -> Result<Strin
         Answer::Nothing => String::from_str(alloc, "YES\n"),
         Answer::Found(found) => {
             let cause = cause_line(alloc, &found.cause)?;
-            let mends = found_text(alloc, wiring, &found.mends)?;
+            let mends = found_text(alloc, wiring, found.broken, &found.mends)?;
             format!(in alloc; "{cause}{mends}")
         }
     }

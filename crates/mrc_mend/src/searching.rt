@@ -1,4 +1,4 @@
-//! The search for mends: fewer changes first.
+//! The search for mends that tries all of few changes: fewer changes first.
 
 ghost use Rattle.std.specs.Prelude.{◌≡◌, ◌≤◌, length, IfOk, OnOk};
 ghost use Rattle.mrc_mend.specs.Judging.{MendOver, AllAre};
@@ -63,7 +63,7 @@ impl Queue {
 }
 
 /// Whether one of the mends is a part of the changes.
-fn is_covered(found: &[Mend], changes: &[Change]) -> bool {
+pub(crate) fn is_covered(found: &[Mend], changes: &[Change]) -> bool {
     for mend in found {
         if includes_all(changes, mend.changes.as_slice()) {
             return true;
@@ -96,7 +96,7 @@ fn next_of(queue: &mut Queue, found: &[Mend], most: usize) -> Option<Vec<Change>
 }
 
 /// Adds a mend, and drops those of which it is a part.
-fn add_mend(
+pub(crate) fn add_mend(
     interfaces: &Interfaces,
     texts: &Texts<'_>,
     found: &mut Vec<Mend>,
@@ -125,9 +125,20 @@ fn try_one(
     ensures kept { IfOk result (λ tried. tried ≡ interfaces) }
     ensures mends { OnOk result (AllAre (MendOver interfaces texts.now) found.new.items) }
 {
-    let (interfaces, verdict) = judged(alloc, interfaces, texts, first, changes.as_slice())?;
+    let are_last = changes.len() >= DEEPEST;
+    let (interfaces, verdict) = judged(
+        alloc,
+        interfaces,
+        texts,
+        first,
+        changes.as_slice(),
+        are_last,
+    )?;
     match verdict {
-        Verdict::Mends(lost) => add_mend(&interfaces, texts, found, Mend { changes, lost })?,
+        Verdict::Mends(lost) => {
+            let mend = Mend::uncounted(alloc, changes, lost);
+            add_mend(&interfaces, texts, found, mend)?
+        }
         Verdict::Fails(next) => queue.add_all(alloc, next)?,
         Verdict::Senseless => {}
     }
@@ -135,14 +146,14 @@ fn try_one(
 }
 
 /// How many wirings are judged at most, where this is the first.
-fn tries_for(first: &First<'_>) -> usize {
+pub(crate) fn tries_for(first: &First<'_>) -> usize {
     let places = first.wired.tasks() as usize * first.wired.classes() as usize;
     let cost = places.saturating_add(first.facts.len() / FACTS);
     (COSTS / cost.max(1)).clamp(FEWEST, TRIES)
 }
 
 /// The best of the mends, so many at most.
-fn best(
+pub(crate) fn best(
     interfaces: &Interfaces,
     texts: &Texts<'_>,
     mut found: Vec<Mend>,
@@ -156,6 +167,26 @@ fn best(
     found.sort_by_key(|mend| (mend.changes.len(), mend.lost))?;
     found.truncate(most);
     Ok(found)
+}
+
+/// How many wirings were judged, and how many are to be at most.
+#[derive(Drop)]
+pub(crate) struct Tries {
+    pub(crate) done: usize,
+    pub(crate) most: usize,
+}
+
+impl Tries {
+    /// Whether one more is to be judged.
+    pub(crate) fn are_left(&self) -> bool {
+        self.done < self.most
+    }
+
+    /// One more was judged.
+    pub(crate) fn count<P: Progress>(&mut self, progress: &mut P) {
+        self.done = self.done.saturating_add(1);
+        progress.tried(self.done);
+    }
 }
 
 /// What a search has found.
@@ -174,6 +205,7 @@ pub(crate) fn search<P: Progress>(
     first: &First<'_>,
     next: Vec<Vec<Change>>,
     most: usize,
+    tries: &mut Tries,
     progress: &mut P,
 ) -> Result<Searched, AllocError>
     ensures mends { IfOk result (λ mends.
@@ -183,7 +215,7 @@ pub(crate) fn search<P: Progress>(
     let mut queue = Queue::new(alloc);
     let mut found = Vec::new(alloc);
     queue.add_all(alloc, next)?;
-    for tries in 0..tries_for(first) {
+    for _ in 0..tries_for(first) {
         let Some(changes) = next_of(&mut queue, found.as_slice(), most) else {
             let mends = best(&interfaces, texts, found, most)?;
             return Ok(Searched {
@@ -194,7 +226,7 @@ pub(crate) fn search<P: Progress>(
         interfaces = try_one(
             alloc, interfaces, texts, first, changes, &mut queue, &mut found,
         )?;
-        progress.tried(tries + 1);
+        tries.count(progress);
     }
     let cut_off = next_of(&mut queue, found.as_slice(), most).is_some();
     let mends = best(&interfaces, texts, found, most)?;

@@ -10,8 +10,8 @@ pub returns : goal.returns
 returns c =
     let claim = c.args.claim.now in
     let found = c.in_ok-verdict in
-    IfOk-weaker c.cause_of_lines.result _ _
+    IfOk-weaker c.cause_of_lines-cause.result _ _
     (cause_of_claim claim found.verdict.broken.items found.ensures.lines found.ensures.chains)
-    (subst (λ (bs : List BrokenLine). IfOk c.cause_of_lines.result
+    (subst (λ (bs : List BrokenLine). IfOk c.cause_of_lines-cause.result
     (λ cause. IfSome cause (IsCauseOf claim.table bs)))
-    c.deref.ensures.value c.cause_of_lines.ensures)
+    c.deref.ensures.value c.cause_of_lines-cause.ensures)

@@ -6,5 +6,5 @@ use Rattle.mrc_mend.proofs.printing.mends_from.Given as goal
 
 abbrev pub invariant-loop-place : goal.invariant-loop-place
 invariant-loop-place l =
-    string_bytes l.text ++ mends_from l.wiring (l.place + 1) (drop l.place l.mends)
-    ≡ mends_from l.wiring 1 l.mends
+    string_bytes l.text ++ mends_from l.wiring l.broken (l.place + 1) (drop l.place l.mends)
+    ≡ mends_from l.wiring l.broken 1 l.mends

@@ -1,0 +1,9 @@
+use Rattle.std.proofs.Common.{rules}
+use Rattle.mrc_mend.proofs.Verdicts.{mends_over}
+use Rattle.mrc_mend.proofs.judging.judged.Goals as goal
+
+-- what is judged is the text with the changes
+pub returns-in-Ok-clause-mends : goal.returns-in-Ok-clause-mends
+returns-in-Ok-clause-mends c =
+    mends_over c.args.interfaces c.args.texts.now c.args.changes.now c.in-Ok.stated
+    c.in_ok-verdict-in-Ok.verdict (search rules) c.in_ok-verdict-in-Ok.ensures
