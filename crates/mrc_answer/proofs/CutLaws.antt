@@ -9,12 +9,13 @@ use Rattle.std.proofs.lemmas.Option.{slice_get_read}
 use Rattle.mrc_base.specs.declared.memory.OrMemory.{OrMemory}
 use Rattle.mrc_base.specs.declared.memory.OrMemory.TheVariants.{Fault, Memory}
 use Rattle.mrc_base.specs.Reading.{UnlessMemory}
-use Rattle.mrc_files.specs.Files.{Held, HasBytes, AreHeld, IsLeftBy}
+use Rattle.mrc_files.specs.Files.{Held, HasBytes, AreHeld}
 use Rattle.mrc_files.specs.declared.streams.WriteFault.{WriteFault}
 use Rattle.mrc_files.proofs.FileLaws.{zip_more}
 use Rattle.mrc_wiring.proofs.Steps.{next_is}
 use Rattle.mrc_answer.specs.declared.answers.NamedCut.{NamedCut}
 use Rattle.mrc_answer.specs.Cutting.{IsCutTo, IsNoFile, IsFirstUncut, Writing, IsStopped}
+use Rattle.mrc_answer.specs.Cutting.{IsNotTaken}
 use Rattle.mrc_answer.specs.declared.faults.Uncut.{Uncut}
 
 -- those before, the one at a place, and those behind
@@ -115,7 +116,7 @@ pub stopped_here : (before now after : Held) (writings : List Writing) (i : ℕ)
     → w ≡ get_or writings i w
     → (IsStopped now (drop i writings) after w.path refusal
     → IsStopped before writings after w.path refusal)
-    → IsLeftBy now after w.path w.bytes refusal
+    → IsNotTaken now after w refusal
     → IsSomeAnd (slice_get writings i) (λ w. IsStopped before writings after w.path refusal)
 stopped_here before now after writings i w refusal less is so left =
     subst (λ found. IsSomeAnd found (λ w. IsStopped before writings after w.path refusal))

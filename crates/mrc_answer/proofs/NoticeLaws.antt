@@ -1,7 +1,8 @@
 -- What is told besides an answer: of MIG files and of trusted tasks, one after the other; and all
 -- of it by the least set.
+use Rattle.std.proofs.Common.{Bool}
 use Rattle.std.proofs.Common.{◌≡◌, ◌∙◌, ℕ, ◌+◌, ◌<◌, ◌≤◌, List, [], ◌∷◌, ◌++◌, length, map, drop}
-use Rattle.std.proofs.Common.{get_or, append_assoc, ap, sym, Vec, Global, Result, Ok, Err, Some}
+use Rattle.std.proofs.Common.{get_or, append_assoc, ap, subst, sym, Vec, Global, Result, Ok, Err, Some, None, Option, refl}
 use Rattle.std.proofs.lemmas.List.{append-nil, drop_all}
 use Rattle.std.proofs.lemmas.Option.{slice_get-get_or}
 use Rattle.std.specs.Prelude.{IfOk}
@@ -10,14 +11,20 @@ use Rattle.mrc_facts.specs.Sets.{has}
 use Rattle.mrc_model.specs.Rules.{IsLeast}
 use Rattle.mrc_mig_cut.specs.Carrying.{carriers}
 use Rattle.mrc_wiring.proofs.Steps.{next_is}
+use Rattle.mrc_check.specs.Texts.{Stated}
 use Rattle.mrc_wiring.specs.Claims.{Claimed}
+use Rattle.mrc_wiring_text.specs.declared.reading.Line.{Line}
+use Rattle.mrc_wiring_text.specs.declared.wiring.WiringSays.{WiringSays}
 use Rattle.mrc_wiring.specs.Table.{Table, wiring_of}
 use Rattle.mrc_why.proofs.Verdicts.{least_one}
 use Rattle.mrc_words.specs.Words.{task_text, task_word}
-use Rattle.mrc_answer.specs.Files.{Files}
+use Rattle.mrc_answer.specs.Files.{Files, given}
 use Rattle.mrc_answer.specs.Notices.{left_out, is_trusted, name_if, trusted_from, trusted_names}
 use Rattle.mrc_answer.specs.Notices.{Notices, notices_of, yes_notices_of, AreNotices}
-use Rattle.mrc_answer.specs.Notices.{AreYesNotices}
+use Rattle.mrc_answer.specs.Notices.{AreYesNotices, Notification, is_empty, notification_from}
+use Rattle.mrc_answer.specs.PlainLines.{PlainLine, plain_lines}
+use Rattle.mrc_answer.specs.LeakyLines.{LeakyLine, leaky_lines}
+use Rattle.mrc_dead.specs.Dead.{DeadParts, dead_parts}
 
 -- the texts of files
 abbrev pub texts_of : List (Vec ℕ Global) → List (List ℕ)
@@ -73,39 +80,82 @@ names_end table names t all so =
     sym (append-nil names)
     ∙ (ap (λ ns. names ++ trusted_from table.trusts t ns) (sym (drop_all t table.names all)) ∙ so)
 
--- what is told besides a no is that by the least set
-pub no_by_least : {E : Type 0} (files : Files) (claim : Claimed) (facts : List Fact)
-    (trusted : List (List ℕ)) (result : Result Notices E)
-    → IsLeast (wiring_of claim.table) (has facts)
+-- what is told of parts is told of all
+pub notices_made : (files : Files) (lines : List (Line WiringSays)) (claim : Claimed)
+    (set : Fact → Bool) (left : List (List (List ℕ))) (notification : Option Notification)
+    (empty : Bool) (plain : List PlainLine) (leaky : List LeakyLine) (dead : DeadParts)
+    (trusted : List (List ℕ))
+    → left ≡ left_out files.texts.defs
+    → notification ≡ notification_from 0 claim.table.interfaces
+    → empty ≡ is_empty claim.lines
+    → plain ≡ plain_lines claim.table (given files.texts.policy)
+    → leaky ≡ leaky_lines set claim.lines
+    → dead ≡ dead_parts claim.table lines set
+    → record {
+      left_out = left;
+      notification = notification;
+      is_empty_policy = empty;
+      plain = plain;
+      leaky = leaky;
+      dead = dead;
+      trusted = trusted;
+      wired = None;
+    } ≡ record (notices_of files (record { lines = lines; claim = claim }) set) {
+      trusted = trusted;
+    }
+notices_made files lines claim set left notification empty plain leaky dead trusted a b c d e f =
+    rw (a, b, c, d, e, f) refl
+
+-- what is told by the parts of what files mean is told by that
+pub by_parts : {E : Type 0} (files : Files) (set : Fact → Bool) (trusted : List (List ℕ))
+    (lines items : List (Line WiringSays)) (claim : Claimed) (meant : Stated)
+    (result : Result Notices E)
+    → lines ≡ items
+    → record { lines = items; claim = claim } ≡ meant
     → IfOk result (λ notices. notices
-    ≡ record (notices_of files claim (has facts)) { trusted = trusted })
+    ≡ record (notices_of files (record { lines = lines; claim = claim }) set) {
+      trusted = trusted;
+    })
+    → IfOk result (λ notices. notices
+    ≡ record (notices_of files meant set) { trusted = trusted })
+by_parts files set trusted lines items claim meant result same view told =
+    subst (λ (m : Stated). IfOk result (λ notices. notices
+    ≡ record (notices_of files m set) { trusted = trusted }))
+    (ap (λ (ls : List (Line WiringSays)). record { lines = ls; claim = claim }) same ∙ view) told
+
+-- what is told besides a no is that by the least set
+pub no_by_least : {E : Type 0} (files : Files) (meant : Stated) (facts : List Fact)
+    (trusted : List (List ℕ)) (result : Result Notices E)
+    → IsLeast (wiring_of meant.claim.table) (has facts)
+    → IfOk result (λ notices. notices
+    ≡ record (notices_of files meant (has facts)) { trusted = trusted })
     → trusted ≡ []
-    → IfOk result (AreNotices files claim)
-no_by_least files claim facts trusted (Ok notices) its_least is empty = λ set least.
+    → IfOk result (AreNotices files meant)
+no_by_least files meant facts trusted (Ok notices) its_least is empty = λ set least.
     is
-    ∙ (ap (λ (names : List (List ℕ)). record (notices_of files claim (has facts)) {
+    ∙ (ap (λ (names : List (List ℕ)). record (notices_of files meant (has facts)) {
       trusted = names;
     }) empty
-    ∙ ap (notices_of files claim)
-    (least_one (wiring_of claim.table) (has facts) set its_least least))
-no_by_least files claim facts trusted (Err e) its_least is empty = tt
+    ∙ ap (notices_of files meant)
+    (least_one (wiring_of meant.claim.table) (has facts) set its_least least))
+no_by_least files meant facts trusted (Err e) its_least is empty = tt
 
 -- and so is what is told besides a yes
-pub yes_by_least : (files : Files) (claim : Claimed) (facts : List Fact) (notices made : Notices)
+pub yes_by_least : (files : Files) (meant : Stated) (facts : List Fact) (notices made : Notices)
     (table : Table)
-    → IsLeast (wiring_of claim.table) (has facts)
-    → notices ≡ record (notices_of files claim (has facts)) {
-      trusted = trusted_names claim.table;
+    → IsLeast (wiring_of meant.claim.table) (has facts)
+    → notices ≡ record (notices_of files meant (has facts)) {
+      trusted = trusted_names meant.claim.table;
     }
-    → table ≡ claim.table
+    → table ≡ meant.claim.table
     → made ≡ record notices { wired = Some table }
-    → AreYesNotices files claim made
-yes_by_least files claim facts notices made table its_least are same is set least =
+    → AreYesNotices files meant made
+yes_by_least files meant facts notices made table its_least are same is set least =
     is
     ∙ (ap (λ (n : Notices). record n { wired = Some table }) are
-    ∙ (ap (λ (t : Table). record (notices_of files claim (has facts)) {
-      trusted = trusted_names claim.table;
+    ∙ (ap (λ (t : Table). record (notices_of files meant (has facts)) {
+      trusted = trusted_names meant.claim.table;
       wired = Some t;
     }) same
-    ∙ ap (yes_notices_of files claim)
-    (least_one (wiring_of claim.table) (has facts) set its_least least)))
+    ∙ ap (yes_notices_of files meant)
+    (least_one (wiring_of meant.claim.table) (has facts) set its_least least)))

@@ -97,7 +97,7 @@ pub broken_so : {E : Type 0} (line only : Option ℕ) (files : Files) (inside me
     → IsAsked only verdict.exposed verdict.broken.items
     → IfOk result (λ reply. reply.answer
     ≡ Broken (record { stated = meant; verdict = verdict; only = only }))
-    → IfOk result (λ reply. AreNotices files meant.claim reply.notices)
+    → IfOk result (λ reply. AreNotices files meant reply.notices)
     → IfOk result (λ reply. IsVerified line files reply.answer reply.notices)
 broken_so line only files inside meant verdict (Ok reply) same says judged of_line shown is noted =
     let found = subst (IsNo verdict line) same judged in
@@ -115,6 +115,25 @@ broken_so line only files inside meant verdict (Ok reply) same says judged of_li
     })
 broken_so line only files inside meant verdict (Err e) same says judged of_line shown is noted = tt
 
+-- `verify`: a yes
+pub allowed_so : {E : Type 0} (line : Option ℕ) (files : Files) (inside meant : Stated)
+    (result : Result Reply E)
+    → inside ≡ meant
+    → stated files.texts ≡ Ok meant
+    → HasYes inside.claim
+    → IfOk result (λ reply. reply.answer ≡ Yes)
+    → IfOk result (λ reply. AreYesNotices files meant reply.notices)
+    → IfOk result (λ reply. IsVerified line files reply.answer reply.notices)
+allowed_so line files inside meant (Ok reply) same says has_yes is noted =
+    let allowed : IsAllowed files reply.notices = record {
+      meant = meant;
+      says = says;
+      yes = subst (λ (s : Stated). HasYes s.claim) same has_yes;
+      are_notices = noted;
+    } in
+    subst (λ (a : Answer). IsVerified line files a reply.notices) (sym is) allowed
+allowed_so line files inside meant (Err e) same says has_yes is noted = tt
+
 -- `attack`: a yes of texts whose least set is one, if no line is asked for
 pub unattacked_so : {E : Type 0} (line : Option ℕ) (files : Files) (inside meant : Stated)
     (result : Result Reply E)
@@ -123,7 +142,7 @@ pub unattacked_so : {E : Type 0} (line : Option ℕ) (files : Files) (inside mea
     → stated files.texts ≡ Ok meant
     → HasYes inside.claim
     → IfOk result (λ reply. reply.answer ≡ Yes)
-    → IfOk result (λ reply. AreYesNotices files meant.claim reply.notices)
+    → IfOk result (λ reply. AreYesNotices files meant reply.notices)
     → IfOk result (λ reply. IsAttacked line files reply.answer reply.notices)
 unattacked_so line files inside meant (Ok reply) same all says has_yes is noted =
     let allowed : IsAllowed files reply.notices = record {
@@ -162,7 +181,7 @@ attacks_so line only files inside meant verdict (Ok reply) same says judged of_l
           a.found.items) (sym on.only_is)
           (subst (λ (s : Stated). All (IsAttack (form_of only) s.claim.table) a.found.items)
           (sym on.of) on.leaks);
-      are_notices = subst (λ (s : Stated). AreNotices files s.claim reply.notices) (sym on.of)
+      are_notices = subst (λ (s : Stated). AreNotices files s reply.notices) (sym on.of)
           on.are_notices;
     })
 attacks_so line only files inside meant verdict (Err e) same says judged of_line on = tt

@@ -45,8 +45,8 @@ pub record IsSameNameOf (file : List ℕ) (answer : Answer) : Type 0 where
 abbrev pub IsAnswer : (before after : Held) → Question → Files → Answer → Notices → Type 0
 IsAnswer before after (questions.Verify showing) files answer notices =
     IsVerified showing.line files answer notices
-IsAnswer before after (questions.Mend most format) files answer notices =
-    IsMending most files answer × (notices ≡ no_notices)
+IsAnswer before after (questions.Mend line most format) files answer notices =
+    IsMending line most files answer × (notices ≡ no_notices)
 IsAnswer before after (questions.Attack line most format) files answer notices =
     IsAttacked line files answer notices
 IsAnswer before after (questions.Check verbose format) files answer notices =
@@ -72,7 +72,8 @@ IsAnswer before after (questions.Live format) files answer notices =
 -- the word of an option can't be what it is asked to be: that is found before any file is read
 abbrev pub IsBadWord : Question → WordFault → Type 0
 IsBadWord (questions.Verify showing) BadLine = IsBadLine showing.line
-IsBadWord (questions.Mend most format) BadMost = IsBadMost most
+IsBadWord (questions.Mend line most format) BadMost = IsBadMost most
+IsBadWord (questions.Mend line most format) BadLine = IsBadLine line
 IsBadWord (questions.Attack line most format) BadMost = IsBadMost most
 IsBadWord (questions.Attack line most format) BadLine = IsBadLine line
 IsBadWord question word = ⊥

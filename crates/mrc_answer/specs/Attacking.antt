@@ -20,4 +20,4 @@ pub record AreAttacksOn (only : Option ℕ) (files : Files) (stated : Stated)
   pub only_is : attacked.only ≡ only
   pub lines : map aim_of attacked.found.items ≡ aims only exposed broken
   pub leaks : All (IsAttack (form_of only) stated.claim.table) attacked.found.items
-  pub are_notices : AreNotices files stated.claim reply.notices
+  pub are_notices : AreNotices files stated reply.notices

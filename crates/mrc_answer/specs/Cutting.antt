@@ -1,8 +1,8 @@
 -- Believe. What MIG files are cut to, which files are written, and which file can't be cut or
 -- written. This profile's own choice.
 use Rattle.std.specs.Prelude.{◌≡◌, ◌⊎◌, ℕ, Bool, true, false, not, ◌&&◌, ◌||◌, List, [], ◌∷◌, ◌++◌}
-use Rattle.std.specs.Prelude.{Option, Some, None, map, length, codes, string_bytes, nat_lt, bytes_eq}
-use Rattle.std.specs.Prelude.{if◌then◌else◌}
+use Rattle.std.specs.Prelude.{Option, Some, None, map, length, codes, string_bytes, nat_lt}
+use Rattle.std.specs.Prelude.{bytes_eq, if◌then◌else◌}
 use Rattle.std.specs.List.{AllZip, list_any, count_by}
 use Rattle.mrc_base.specs.declared.memory.OrMemory.{OrMemory}
 use Rattle.mrc_forms.specs.Tables.{Table}
@@ -11,7 +11,7 @@ use Rattle.mrc_mig_cut.specs.declared.cutting.CutFile.{CutFile}
 use Rattle.mrc_mig_cut.specs.Carrying.{carries, carrying, carriers}
 use Rattle.mrc_mig_cut.specs.Cuts.{IsCut}
 use Rattle.mrc_files.specs.declared.streams.WriteFault.{WriteFault}
-use Rattle.mrc_files.specs.Files.{Held, HasBytes, IsFirstUnread, IsLeftBy}
+use Rattle.mrc_files.specs.Files.{Held, HasBytes, IsFirstUnread, IsLeftBy, KeepsOthers}
 use Rattle.mrc_files.specs.Paths.{name}
 use Rattle.mrc_command.specs.declared.command.MigFiles.{MigFiles}
 use Rattle.mrc_command.specs.declared.command.Strictness.{Strictness}
@@ -112,20 +112,29 @@ writing_of folder cut = record {
 abbrev pub writings_of : MigFiles → List NamedCut → List Writing
 writings_of files cuts = map (writing_of files.out.now) cuts
 
--- The files were written one after the other, and held these bytes then. What one of them holds
+-- a file was written: it holds its bytes, and no other file changed
+abbrev pub IsTaken : (before after : Held) → Writing → Type 0
+IsTaken before after writing =
+    HasBytes after writing.path writing.bytes × KeepsOthers before after writing.path
+
+-- a file was not written whole: it holds what it took, or nothing changed; and no other file did
+abbrev pub IsNotTaken : (before after : Held) → Writing → OrMemory WriteFault → Type 0
+IsNotTaken before after writing refusal = IsLeftBy before after writing.path writing.bytes refusal
+    × KeepsOthers before after writing.path
+
+-- The files were written one after the other, and no other file changed. What one of them holds
 -- once others were written is not said: two paths may be one file.
 abbrev pub AreWritten : Held → List Writing → Held → Type 0
 AreWritten before [] after = after ≡ before
 AreWritten before (writing ∷ rest) after =
-    (next : Held) × HasBytes next writing.path writing.bytes × AreWritten next rest after
+    (next : Held) × IsTaken before next writing × AreWritten next rest after
 
 -- the files were written one after the other up to this one, which was refused
 abbrev pub IsStopped : Held → List Writing → Held → List ℕ → OrMemory WriteFault → Type 0
 IsStopped before [] after path refusal = ⊥
 IsStopped before (writing ∷ rest) after path refusal =
-    ((path ≡ writing.path) × IsLeftBy before after writing.path writing.bytes refusal)
-    ⊎ ((next : Held) × HasBytes next writing.path writing.bytes
-    × IsStopped next rest after path refusal)
+    ((path ≡ writing.path) × IsNotTaken before after writing refusal)
+    ⊎ ((next : Held) × IsTaken before next writing × IsStopped next rest after path refusal)
 
 -- what became of the files: all were written; or, if too little is read of them, none; or they were
 -- up to one that was refused

@@ -1,6 +1,6 @@
 -- Believe. What is told besides an answer: routines that carry rights and are dropped from MIG
--- files, routines of notifications, a policy that is easily read wrongly, and trusted tasks. This
--- profile's own choice.
+-- files, routines of notifications, a policy that is easily read wrongly, parts that can do
+-- nothing, and trusted tasks. This profile's own choice.
 use Rattle.std.specs.Prelude.{◌≡◌, ℕ, ◌+◌, ◌==◌, Bool, true, false, ◌||◌, List, [], ◌∷◌, ◌++◌, map}
 use Rattle.std.specs.Prelude.{Option, Some, None, bytes_eq, codes, find}
 use Rattle.std.specs.List.{list_any}
@@ -12,8 +12,9 @@ use Rattle.mrc_forms.specs.Tables.{Table as Interface, forms_by}
 use Rattle.mrc_mig_cut.specs.Carrying.{carriers}
 use Rattle.mrc_wiring.specs.declared.claim.ForbiddenLine.{ForbiddenLine}
 use Rattle.mrc_wiring.specs.declared.table.TrustedLine.{TrustedLine}
-use Rattle.mrc_wiring.specs.Claims.{Claimed}
 use Rattle.mrc_wiring.specs.Table.{Table, wiring_of}
+use Rattle.mrc_dead.specs.Dead.{DeadParts, dead_parts, no_dead_parts}
+use Rattle.mrc_check.specs.Texts.{Stated}
 use Rattle.mrc_answer.specs.Files.{Files, given}
 use Rattle.mrc_answer.specs.PlainLines.{PlainLine, plain_lines}
 use Rattle.mrc_answer.specs.LeakyLines.{LeakyLine, leaky_lines}
@@ -30,6 +31,7 @@ pub record Notices : Type 0 where
   pub is_empty_policy : Bool
   pub plain : List PlainLine
   pub leaky : List LeakyLine
+  pub dead : DeadParts
   pub trusted : List (List ℕ)
   pub wired : Option Table
 
@@ -41,6 +43,7 @@ no_notices = record {
   is_empty_policy = false;
   plain = [];
   leaky = [];
+  dead = no_dead_parts;
   trusted = [];
   wired = None;
 }
@@ -100,36 +103,37 @@ trusted_from lines n (name ∷ names) =
 abbrev pub trusted_names : Table → List (List ℕ)
 trusted_names table = trusted_from table.trusts 0 table.names
 
--- what is told besides a no of files and their claim, by a set of facts
-abbrev pub notices_of : Files → Claimed → (Fact → Bool) → Notices
-notices_of files claim set = record {
+-- what is told besides a no of files and what they mean, by a set of facts
+abbrev pub notices_of : Files → Stated → (Fact → Bool) → Notices
+notices_of files meant set = record {
   left_out = left_out files.texts.defs;
-  notification = notification_from 0 claim.table.interfaces;
-  is_empty_policy = is_empty claim.lines;
-  plain = plain_lines claim.table (given files.texts.policy);
-  leaky = leaky_lines set claim.lines;
+  notification = notification_from 0 meant.claim.table.interfaces;
+  is_empty_policy = is_empty meant.claim.lines;
+  plain = plain_lines meant.claim.table (given files.texts.policy);
+  leaky = leaky_lines set meant.claim.lines;
+  dead = dead_parts meant.claim.table meant.lines set;
   trusted = [];
   wired = None;
 }
 
 -- the same besides a yes: also which tasks are trusted, and the wiring
-abbrev pub yes_notices_of : Files → Claimed → (Fact → Bool) → Notices
-yes_notices_of files claim set = record (notices_of files claim set) {
-  trusted = trusted_names claim.table;
-  wired = Some claim.table;
+abbrev pub yes_notices_of : Files → Stated → (Fact → Bool) → Notices
+yes_notices_of files meant set = record (notices_of files meant set) {
+  trusted = trusted_names meant.claim.table;
+  wired = Some meant.claim.table;
 }
 
 -- these are told besides a no, by the least set
-abbrev pub AreNotices : Files → Claimed → Notices → Type 0
-AreNotices files claim notices =
-    (set : Fact → Bool) → IsLeast (wiring_of claim.table) set
-    → notices ≡ notices_of files claim set
+abbrev pub AreNotices : Files → Stated → Notices → Type 0
+AreNotices files meant notices =
+    (set : Fact → Bool) → IsLeast (wiring_of meant.claim.table) set
+    → notices ≡ notices_of files meant set
 
 -- these are told besides a yes, by the least set
-abbrev pub AreYesNotices : Files → Claimed → Notices → Type 0
-AreYesNotices files claim notices =
-    (set : Fact → Bool) → IsLeast (wiring_of claim.table) set
-    → notices ≡ yes_notices_of files claim set
+abbrev pub AreYesNotices : Files → Stated → Notices → Type 0
+AreYesNotices files meant notices =
+    (set : Fact → Bool) → IsLeast (wiring_of meant.claim.table) set
+    → notices ≡ yes_notices_of files meant set
 
 -- what is told besides the reason why a certificate is refused
 abbrev pub left_out_alone : Files → Notices

@@ -13,8 +13,8 @@ use Rattle.mrc_wiring.specs.Table.{wiring_of}
 use Rattle.mrc_check.specs.Texts.{Stated, meaningless}
 use Rattle.mrc_why.specs.Broken.{BrokenLine, ExposedTask, broken_lines}
 use Rattle.mrc_why.specs.Broken.{AreBroken, IsDerived, IsExposedOf, IsReached, HasYes, HasNoYes}
-use Rattle.mrc_attack.specs.declared.printing.Form.{Form}
-use Rattle.mrc_attack.specs.declared.printing.Form.TheVariants.{Listed, Script}
+use Rattle.mrc_attack.specs.declared.printing.Listing.{Listing}
+use Rattle.mrc_attack.specs.declared.printing.Listing.TheVariants.{Listed, Script}
 use Rattle.mrc_attack.specs.Attacks.{IsAttack, aim_of, aims}
 use Rattle.mrc_answer.specs.declared.answers.Answer.{Answer}
 use Rattle.mrc_answer.specs.declared.answers.Answer.TheVariants.{Yes, Broken, Attacks, Fault}
@@ -60,7 +60,7 @@ pub record IsAllowed (files : Files) (notices : Notices) : Type 0 where
   pub meant : Stated
   pub says : stated files.texts ≡ Ok meant
   pub yes : HasYes meant.claim
-  pub are_notices : AreYesNotices files meant.claim notices
+  pub are_notices : AreYesNotices files meant notices
 
 -- The policy is broken: these are the first trusted task that another could rewrite, with a chain
 -- that derives the hold by which it could, and the lines that are broken, with chains that derive
@@ -76,7 +76,7 @@ pub record IsBroken (line : Option ℕ) (files : Files) (notices : Notices) (b :
   pub only : b.only ≡ line
   pub asked : IfSome line (λ n. IsBrokenAt b.stated.claim n true)
   pub shown : IsAsked b.only b.verdict.exposed b.verdict.broken.items
-  pub are_notices : AreNotices files b.stated.claim notices
+  pub are_notices : AreNotices files b.stated notices
 
 -- the line which is asked for is not broken
 pub record IsNotBroken (line : Option ℕ) (files : Files) : Type 0 where
@@ -103,7 +103,7 @@ IsVerified line files answer notices = ⊥
 -- Attacks.
 
 -- a script is printed by itself if one line is asked for
-abbrev pub form_of : Option ℕ → Form
+abbrev pub form_of : Option ℕ → Listing
 form_of None = Listed
 form_of (Some line) = Script
 
@@ -122,7 +122,7 @@ pub record AreAttacks (line : Option ℕ) (files : Files) (notices : Notices) (a
   pub asked : IfSome line (λ n. IsBrokenAt a.stated.claim n true)
   pub lines : map aim_of a.found.items ≡ aims a.only exposed broken
   pub leaks : All (IsAttack (form_of a.only) a.stated.claim.table) a.found.items
-  pub are_notices : AreNotices files a.stated.claim notices
+  pub are_notices : AreNotices files a.stated notices
 
 -- what `attack` answers, with its notices: a yes only if no line is asked for
 abbrev pub IsAttacked : Option ℕ → Files → Answer → Notices → Type 0

@@ -24,7 +24,7 @@ use crate::graph::graphed;
 use crate::live::live_served;
 use crate::make::made;
 use crate::mend::mended;
-use crate::mig::{cut_files, same_name};
+use crate::mig::{Ready, cut_files, same_name};
 use crate::notices::no_notices;
 use crate::replay::replayed;
 use crate::systems::{promises, slots};
@@ -32,7 +32,7 @@ use crate::verify::verified;
 use mrc_attack::Progress as Looks;
 use mrc_base::limits::EVENTS;
 use mrc_command::{Command, FileNames, MigFiles, Question};
-use mrc_files::{Folder, ReadFault, Unread, bytes_of_all};
+use mrc_files::{Folder, InputFault, Unread, bytes_of_all};
 use mrc_mend::Progress;
 use std::alloc::{AllocError, Global};
 use std::sync::Wait;
@@ -90,9 +90,21 @@ fn bad_word(question: Question<'_>) -> Option<WordFault>
     match question {
         Question::Verify { showing } if is_bad_line(showing.line) => Some(WordFault::BadLine),
         Question::Mend { most, .. } if is_bad_most(most) => Some(WordFault::BadMost),
+        Question::Mend { line, .. } if is_bad_line(line) => Some(WordFault::BadLine),
         Question::Attack { most, .. } if is_bad_most(most) => Some(WordFault::BadMost),
         Question::Attack { line, .. } if is_bad_line(line) => Some(WordFault::BadLine),
         _ => None,
+    }
+}
+
+/// An answer with which nothing is told besides.
+fn alone<'a>(alloc: Global, answer: Answer<'a>) -> Reply<'a>
+    ensures answer { result.answer ≡ answer.entry }
+    ensures notices { result.notices ≡ no_notices }
+{
+    Reply {
+        answer,
+        notices: no_notices(alloc),
     }
 }
 
@@ -114,52 +126,31 @@ fn question_answered<'a, F: Folder, R: Threads + Wait + Sync, P: Progress + Look
         Question::Verify { showing } => verified(alloc, files, showing.line),
         Question::Attack { line, most, .. } => attacked(alloc, files, line, most, progress),
         Question::Check { .. } => checked(rt, alloc, files),
-        Question::Mend { most, .. } => Ok(Reply {
-            answer: mended(alloc, files, most, progress)?,
-            notices: no_notices(alloc),
-        }),
-        Question::Make { out, workers } => Ok(Reply {
-            answer: made(rt, folder, alloc, files, out, workers)?,
-            notices: no_notices(alloc),
-        }),
-        Question::Explain { fact, .. } => Ok(Reply {
-            answer: explained(alloc, files, fact)?,
-            notices: no_notices(alloc),
-        }),
+        Question::Mend { line, most, .. } => Ok(alone(
+            alloc,
+            mended(alloc, files, line, most, progress)?,
+        )),
+        Question::Make { out, workers } => Ok(alone(
+            alloc,
+            made(rt, folder, alloc, files, out, workers)?,
+        )),
+        Question::Explain { fact, .. } => Ok(alone(alloc, explained(alloc, files, fact)?)),
         Question::Facts {
             task,
             class,
             right,
             ..
-        } => Ok(Reply {
-            answer: listed(alloc, files, task, class, right)?,
-            notices: no_notices(alloc),
-        }),
+        } => Ok(alone(alloc, listed(alloc, files, task, class, right)?)),
         Question::Graph {
             fact,
             task,
             holds,
             ..
-        } => Ok(Reply {
-            answer: graphed(alloc, files, fact, task, holds)?,
-            notices: no_notices(alloc),
-        }),
-        Question::Slots { .. } => Ok(Reply {
-            answer: slots(alloc, files)?,
-            notices: no_notices(alloc),
-        }),
-        Question::Promises { .. } => Ok(Reply {
-            answer: promises(alloc, files)?,
-            notices: no_notices(alloc),
-        }),
-        Question::Replay { .. } => Ok(Reply {
-            answer: replayed(alloc, files)?,
-            notices: no_notices(alloc),
-        }),
-        Question::Live { .. } => Ok(Reply {
-            answer: live_served(rt, alloc, files, EVENTS)?,
-            notices: no_notices(alloc),
-        }),
+        } => Ok(alone(alloc, graphed(alloc, files, fact, task, holds)?)),
+        Question::Slots { .. } => Ok(alone(alloc, slots(alloc, files)?)),
+        Question::Promises { .. } => Ok(alone(alloc, promises(alloc, files)?)),
+        Question::Replay { .. } => Ok(alone(alloc, replayed(alloc, files)?)),
+        Question::Live { .. } => Ok(alone(alloc, live_served(rt, alloc, files, EVENTS)?)),
     }
 }
 
@@ -207,15 +198,15 @@ fn bad_word_answered<'a>(alloc: Global, word: WordFault) -> Answered<'a>
 fn unread_answered<'a>(
     alloc: Global,
     file: &'a str,
-    fault: ReadFault,
+    fault: InputFault,
 ) -> Result<Answered<'a>, AllocError>
     ensures read { IfOk result (λ answered. answered.read ≡ reads.Nothing) }
     ensures answer { IfOk result (λ answered. IsUnreadOf file.now answered.reply.answer) }
     ensures notices { IfOk result (λ answered. answered.reply.notices ≡ no_notices) }
 {
     match fault {
-        ReadFault::Memory => Err(AllocError),
-        ReadFault::TooBig | ReadFault::ReadFailed(_) => Ok(Answered {
+        InputFault::Memory => Err(AllocError),
+        InputFault::TooBig | InputFault::ReadFailed(_) => Ok(Answered {
             read: WasRead::Nothing,
             reply: Reply {
                 answer: Answer::Fault(Fault::Unread(Unread { file, fault })),
@@ -268,11 +259,12 @@ fn same_name_answered<'a>(alloc: Global, file: &'a str) -> Answered<'a>
 }
 
 /// What is answered of MIG files of these bytes.
-fn texts_cut<'a, F: Folder>(
+fn texts_cut<'a, F: Folder, T: Ready>(
     folder: &mut F,
     alloc: Global,
     files: &MigFiles<'a>,
     texts: Vec<Vec<u8>>,
+    ready: &mut T,
 ) -> Result<Answered<'a>, AllocError>
     requires held { AreHeld (F.held folder.old) (mig_names files.now)
         (map (λ text. text.items) texts.items) }
@@ -281,7 +273,7 @@ fn texts_cut<'a, F: Folder>(
     ensures kept { IsOkAnd result (λ answered. MayChange answered.reply.answer)
         ⊎ (F.held folder.new ≡ F.held folder.old) }
 {
-    match cut_files(folder, alloc, files, texts.as_slice()) {
+    match cut_files(folder, alloc, files, texts.as_slice(), ready) {
         Ok(answer) => Ok(Answered {
             read: WasRead::Defs(texts),
             reply: Reply {
@@ -298,10 +290,11 @@ fn texts_cut<'a, F: Folder>(
 
 /// What is answered of MIG files that are to be cut. That two have one name is answered whatever
 /// they hold.
-fn mig_answered<'a, F: Folder>(
+fn mig_answered<'a, F: Folder, T: Ready>(
     folder: &mut F,
     alloc: Global,
     files: &MigFiles<'a>,
+    ready: &mut T,
 ) -> Result<Answered<'a>, AllocError>
     ensures right { IfOk result
         (IsAnswered (F.held folder.old) (F.held folder.new) (commands.Mig files.now)) }
@@ -312,19 +305,21 @@ fn mig_answered<'a, F: Folder>(
         return Ok(same_name_answered(alloc, file));
     }
     match bytes_of_all(folder, alloc, files.defs.as_slice()) {
-        Ok(texts) => texts_cut(folder, alloc, files, texts),
+        Ok(texts) => texts_cut(folder, alloc, files, texts, ready),
         Err(unread) => unread_answered(alloc, unread.file, unread.fault),
     }
 }
 
 /// What is answered of a command, over the files of a folder. Only a certificate that is made, or
-/// MIG files that are cut, are written there.
-pub fn answer<'a, F: Folder, R: Threads + Wait + Sync, P: Progress + Looks>(
+/// MIG files that are cut, are written there. Before MIG files are written, what depends on it is
+/// made ready. Out of memory changes no file.
+pub fn answer<'a, F: Folder, R: Threads + Wait + Sync, P: Progress + Looks, T: Ready>(
     rt: &R,
     folder: &mut F,
     alloc: Global,
     command: Command<'a>,
     progress: &mut P,
+    ready: &mut T,
 ) -> Result<Answered<'a>, AllocError>
     // The answer and what is told besides are right of the command, and of what the files held that
     // it names, so far as that is known.
@@ -339,6 +334,6 @@ pub fn answer<'a, F: Folder, R: Threads + Wait + Sync, P: Progress + Looks>(
         Command::Case(names, question) => {
             case_answered(rt, folder, alloc, names, question, progress)
         }
-        Command::Mig(files) => mig_answered(folder, alloc, &files),
+        Command::Mig(files) => mig_answered(folder, alloc, &files, ready),
     }
 }

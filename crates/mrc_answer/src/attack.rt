@@ -18,20 +18,19 @@ use crate::files::Files;
 use crate::gathering::notices;
 use crate::notices::Notices;
 use crate::replies::{meaning_reply, unbroken_reply, yes_reply};
-use mrc_attack::{Attack, Form, Progress, attacks};
+use mrc_attack::{Attack, Listing, Progress, attacks};
 use mrc_base::OrMemory;
 use mrc_check::Stated;
 use mrc_why::{Broken, Verdict, verify};
-use mrc_wiring::Claim;
 use std::alloc::{AllocError, Global};
 
 /// A script is printed by itself if one line is asked for.
-fn form_of(only: Option<u32>) -> Form
+fn form_of(only: Option<u32>) -> Listing
     ensures { result ≡ form_of only }
 {
     match only {
-        None => Form::Listed,
-        Some(_) => Form::Script,
+        None => Listing::Listed,
+        Some(_) => Listing::Script,
     }
 }
 
@@ -54,22 +53,30 @@ pub(crate) fn number_in(broken: &[Broken], number: usize) -> Option<u32>
 fn found_by<P: Progress>(
     alloc: Global,
     files: &Files<'_>,
-    claim: &Claim,
+    stated: &Stated,
     verdict: &Verdict,
     only: Option<u32>,
     most: usize,
     progress: &mut P,
 ) -> Result<(Vec<Attack>, Notices), AllocError>
-    requires { IsLeast (wiring_of claim.now.table) (has verdict.now.facts) }
+    requires { IsLeast (wiring_of stated.now.claim.table) (has verdict.now.facts) }
     ensures lines { IfOk result (λ both. map aim_of both.0.items
         ≡ aims only verdict.now.exposed verdict.now.broken.items) }
     ensures leaks { IfOk result (λ both.
-        All (IsAttack (form_of only) claim.now.table) both.0.items) }
-    ensures notices { IfOk result (λ both. AreNotices files.now claim.now both.1) }
+        All (IsAttack (form_of only) stated.now.claim.table) both.0.items) }
+    ensures notices { IfOk result (λ both. AreNotices files.now stated.now both.1) }
 {
-    let notices = notices(alloc, files, claim, &verdict.facts)?;
+    let notices = notices(alloc, files, stated, &verdict.facts)?;
     let form = form_of(only);
-    match attacks(alloc, claim.wired(), verdict, form, only, most, progress) {
+    match attacks(
+        alloc,
+        stated.claim.wired(),
+        verdict,
+        form,
+        only,
+        most,
+        progress,
+    ) {
         Ok(found) => Ok((found, notices)),
         Err(error) => {
             drop(notices);
@@ -93,7 +100,7 @@ fn attacks_reply<'a, P: Progress>(
     ensures { IfOk result
         (AreAttacksOn only files.now stated verdict.exposed verdict.broken.items) }
 {
-    let both = found_by(alloc, files, &stated.claim, &verdict, only, most, progress);
+    let both = found_by(alloc, files, &stated, &verdict, only, most, progress);
     drop(verdict);
     match both {
         Ok((found, notices)) => Ok(Reply {

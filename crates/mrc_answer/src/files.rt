@@ -8,7 +8,7 @@ ghost use Rattle.mrc_answer.specs.Files.{given, word_of, names_if_given, all_nam
 ghost use Rattle.mrc_answer.specs.Files.{AreRead};
 
 use mrc_command::FileNames;
-use mrc_files::{Folder, ReadFault, Unread, bytes_of, bytes_of_all};
+use mrc_files::{Folder, InputFault, Unread, bytes_of, bytes_of_all};
 use std::alloc::Global;
 use std::marker::Model;
 
@@ -97,7 +97,7 @@ fn bytes_if_given<'a, F: Folder>(
     ensures fit { IfOk result (λ _. All (Fits (F.held folder.now)) (names_if_given file.entry)) }
     ensures first { IfErr result (λ unread.
         IsFirstUnread (F.held folder.now) (names_if_given file.entry) unread.file.now) }
-    ensures too_big { IfErr result (λ unread. unread.fault ≡ ReadFault.TooBig
+    ensures too_big { IfErr result (λ unread. unread.fault ≡ InputFault.TooBig
         → Exceeds (F.held folder.now) unread.file.now) }
 {
     match file {
@@ -119,7 +119,7 @@ pub fn texts_of<'a, F: Folder>(
     ensures read { IfOk result (λ texts. AreRead (F.held folder.now) names.now texts) }
     ensures first { IfErr result (λ unread.
         IsFirstUnread (F.held folder.now) (all_names names.now) unread.file.now) }
-    ensures too_big { IfErr result (λ unread. unread.fault ≡ ReadFault.TooBig
+    ensures too_big { IfErr result (λ unread. unread.fault ≡ InputFault.TooBig
         → Exceeds (F.held folder.now) unread.file.now) }
 {
     let defs = bytes_of_all(folder, alloc, names.defs.as_slice())?;

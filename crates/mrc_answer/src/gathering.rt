@@ -8,6 +8,8 @@ ghost use Rattle.mrc_wiring.specs.Table.{wiring_of};
 ghost use Rattle.mrc_words.specs.Words.{task_word};
 ghost use Rattle.mrc_mig_cut.specs.Carrying.{carriers};
 ghost use Rattle.mrc_answer.specs.Notices.{AreNotices, AreYesNotices, notices_of, is_empty};
+ghost use Rattle.mrc_answer.specs.Files.{given};
+ghost use Rattle.mrc_answer.specs.PlainLines as definitions;
 ghost use Rattle.mrc_answer.specs.Notices.{left_out, left_out_alone, left_out_and_trusted};
 ghost use Rattle.mrc_answer.specs.Notices.{is_notification, notification_in, notification_from};
 ghost use Rattle.mrc_answer.specs.Notices.{is_trusted, name_if, trusted_names};
@@ -15,12 +17,15 @@ ghost use Rattle.mrc_answer.specs.Notices.{is_trusted, name_if, trusted_names};
 use crate::files::Files;
 use crate::leaky_lines::leaky_lines;
 use crate::notices::{Notices, Notification};
-use crate::plain_lines::plain_lines;
+use crate::plain_lines::{PlainLine, plain_lines};
 use mrc_base::TaskId;
+use mrc_check::Stated;
+use mrc_dead::{DeadParts, dead_parts};
 use mrc_forms::{Form, Interface, MessageKind};
 use mrc_mig_cut::carriers;
 use mrc_rows::Facts;
 use mrc_wiring::{Claim, ForbiddenLine, TrustedLine, Wired};
+use mrc_wiring_text::WiringLine;
 use mrc_words::task_word;
 use std::alloc::{AllocError, Global};
 
@@ -135,46 +140,96 @@ fn is_empty(lines: &[ForbiddenLine]) -> bool
     lines.is_empty()
 }
 
-/// What is told of files and their claim by these facts, besides an answer with which these tasks
-/// are told as trusted.
-fn notices_with(
+/// Of each MIG file of these, the routines that carry rights and are dropped from it.
+fn left_out_of(alloc: Global, files: &Files<'_>) -> Result<Vec<Vec<String>>, AllocError>
+    ensures { IfOk result (λ left. map (λ names. map string_bytes names.items) left.items
+        ≡ left_out files.now.texts.defs) }
+{
+    left_out(alloc, files.texts.defs.as_slice())
+}
+
+/// The lines of the policy of these files that name births without a kind, of a task that has
+/// births of further kinds.
+fn plain_lines_of(
     alloc: Global,
     files: &Files<'_>,
+    wired: &Wired,
+) -> Result<Vec<PlainLine>, AllocError>
+    ensures { IfOk result (λ plain. plain.items
+        ≡ definitions.plain_lines wired.now (given files.now.texts.policy)) }
+{
+    plain_lines(alloc, wired, files.texts.policy())
+}
+
+/// What is told of files, these lines of their wiring and their claim by these facts, besides an
+/// answer with which these tasks are told as trusted.
+fn notices_by(
+    alloc: Global,
+    files: &Files<'_>,
+    lines: &[WiringLine],
     claim: &Claim,
     facts: &Facts,
     trusted: Vec<String>,
 ) -> Result<Notices, AllocError>
     ensures { IfOk result (λ notices. notices
-        ≡ record (notices_of files.now claim.now (has facts.now)) {
-          trusted = map string_bytes trusted.items;
-        }) }
+        ≡ record (notices_of files.now (record { lines = lines.now; claim = claim.now })
+        (has facts.now)) { trusted = map string_bytes trusted.items }) }
 {
-    let left_out = left_out(alloc, files.texts.defs.as_slice())?;
-    let notification = notification(alloc, claim.wired().interfaces())?;
-    let plain = plain_lines(alloc, claim.wired(), files.texts.policy())?;
+    let wired = claim.wired();
+    let left_out = left_out_of(alloc, files)?;
+    let notification = notification(alloc, wired.interfaces())?;
+    let plain = plain_lines_of(alloc, files, wired)?;
     let leaky = leaky_lines(alloc, facts, claim.lines())?;
+    let dead = dead_parts(alloc, wired, lines, facts)?;
     Ok(Notices {
         left_out,
         notification,
         is_empty_policy: is_empty(claim.lines()),
         plain,
         leaky,
+        dead,
         trusted,
         wired: None,
     })
 }
 
-/// What is told besides a no of files and their claim, by the least set of its wiring.
+/// The same of files that mean this.
+fn notices_with(
+    alloc: Global,
+    files: &Files<'_>,
+    stated: &Stated,
+    facts: &Facts,
+    trusted: Vec<String>,
+) -> Result<Notices, AllocError>
+    ensures { IfOk result (λ notices. notices
+        ≡ record (notices_of files.now stated.now (has facts.now)) {
+          trusted = map string_bytes trusted.items;
+        }) }
+{
+    let lines = stated.lines.as_slice();
+    notices_by(alloc, files, lines, &stated.claim, facts, trusted)
+}
+
+/// What is told besides a no of files and what they mean, by the least set of its wiring.
 pub(crate) fn notices(
     alloc: Global,
     files: &Files<'_>,
-    claim: &Claim,
+    stated: &Stated,
     facts: &Facts,
 ) -> Result<Notices, AllocError>
-    requires { IsLeast (wiring_of claim.now.table) (has facts.now) }
-    ensures { IfOk result (AreNotices files.now claim.now) }
+    requires { IsLeast (wiring_of stated.now.claim.table) (has facts.now) }
+    ensures { IfOk result (AreNotices files.now stated.now) }
 {
-    notices_with(alloc, files, claim, facts, Vec::new(alloc))
+    notices_with(alloc, files, stated, facts, Vec::new(alloc))
+}
+
+/// The wiring alone.
+fn into_wired(stated: Stated) -> Wired
+    ensures { result ≡ stated.claim.table }
+{
+    let Stated { lines, claim } = stated;
+    drop(lines);
+    claim.into_wired()
 }
 
 /// The same with this wiring.
@@ -187,6 +242,7 @@ fn with_wired(notices: Notices, wired: Wired) -> Notices
         is_empty_policy,
         plain,
         leaky,
+        dead,
         trusted,
         wired: none,
     } = notices;
@@ -197,6 +253,7 @@ fn with_wired(notices: Notices, wired: Wired) -> Notices
         is_empty_policy,
         plain,
         leaky,
+        dead,
         trusted,
         wired: Some(wired),
     }
@@ -206,32 +263,32 @@ fn with_wired(notices: Notices, wired: Wired) -> Notices
 fn trusted_notices(
     alloc: Global,
     files: &Files<'_>,
-    claim: &Claim,
+    stated: &Stated,
     facts: &Facts,
 ) -> Result<Notices, AllocError>
     ensures { IfOk result (λ notices. notices
-        ≡ record (notices_of files.now claim.now (has facts.now)) {
-          trusted = trusted_names claim.now.table;
+        ≡ record (notices_of files.now stated.now (has facts.now)) {
+          trusted = trusted_names stated.now.claim.table;
         }) }
 {
-    let trusted = trusted_names(alloc, claim.wired())?;
-    notices_with(alloc, files, claim, facts, trusted)
+    let trusted = trusted_names(alloc, stated.claim.wired())?;
+    notices_with(alloc, files, stated, facts, trusted)
 }
 
-/// What is told besides a yes of files and their claim, by the least set of its wiring.
+/// What is told besides a yes of files and what they mean, by the least set of its wiring.
 pub(crate) fn yes_notices(
     alloc: Global,
     files: &Files<'_>,
-    claim: Claim,
+    stated: Stated,
     facts: &Facts,
 ) -> Result<Notices, AllocError>
-    requires { IsLeast (wiring_of claim.table) (has facts.now) }
-    ensures { IfOk result (AreYesNotices files.now claim) }
+    requires { IsLeast (wiring_of stated.claim.table) (has facts.now) }
+    ensures { IfOk result (AreYesNotices files.now stated) }
 {
-    match trusted_notices(alloc, files, &claim, facts) {
-        Ok(notices) => Ok(with_wired(notices, claim.into_wired())),
+    match trusted_notices(alloc, files, &stated, facts) {
+        Ok(notices) => Ok(with_wired(notices, into_wired(stated))),
         Err(error) => {
-            drop(claim);
+            drop(stated);
             Err(error)
         }
     }
@@ -254,6 +311,7 @@ fn check_notices(
         is_empty_policy: false,
         plain: Vec::new(alloc),
         leaky: Vec::new(alloc),
+        dead: DeadParts::none(alloc),
         trusted,
         wired: None,
     })

@@ -45,7 +45,7 @@ pub use leaky_lines::LeakyLine;
 pub use live::live_served;
 pub use make::made;
 pub use mend::mended;
-pub use mig::cut_files;
+pub use mig::{Ready, cut_files};
 pub use notices::{Notices, Notification};
 pub use plain_lines::PlainLine;
 pub use replay::replayed;

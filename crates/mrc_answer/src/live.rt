@@ -79,8 +79,8 @@ fn confined_served<'a, R: Threads + Wait + Sync>(
 }
 
 /// What comes of a script whose tasks run as threads, with a journal of so many events at most. A
-/// script has fewer lines than [`mrc_base::limits::EVENTS`], so with that limit its journal is never
-/// full.
+/// script has fewer lines than [`mrc_base::limits::EVENTS`], so with that limit its journal is
+/// never full.
 pub fn live_served<'a, R: Threads + Wait + Sync>(
     rt: &R,
     alloc: Global,

@@ -26,7 +26,8 @@ fn draft_written<F: Folder>(
     out: &str,
     draft: &Draft,
 ) -> Result<usize, OrMemory<Unwritten>>
-    ensures whole { IfOk result (IsWritten out.now (F.held folder.new) (content draft.now)) }
+    ensures whole { IfOk result (IsWritten out.now (F.held folder.old) (F.held folder.new)
+        (content draft.now)) }
     ensures part { IfErr result (UnlessMemory (IsPartWritten out.now (F.held folder.old)
         (F.held folder.new) (content draft.now))) }
     // If memory runs out before the file is written, no file is changed.

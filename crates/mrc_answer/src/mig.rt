@@ -34,12 +34,21 @@ pub(crate) fn same_name<'a>(files: &[&'a str]) -> Option<&'a str>
     None
 }
 
-/// Writes what files are cut to, if enough is read of them.
-fn end_of<F: Folder>(
+/// What is made ready before MIG files are written, as the texts that are printed of them: then no
+/// memory is needed for it once they are written.
+pub trait Ready {
+    /// Makes that ready for files that are cut to this.
+    fn make_ready(&mut self, alloc: Global, cuts: &[NamedCut<'_>]) -> Result<(), AllocError>;
+}
+
+/// Writes what files are cut to, if enough is read of them. Before the first is written, what
+/// depends on it is made ready.
+fn end_of<F: Folder, T: Ready>(
     folder: &mut F,
     alloc: Global,
     files: &MigFiles<'_>,
     cuts: &[NamedCut<'_>],
+    ready: &mut T,
 ) -> Result<CutEnd, AllocError>
     ensures right { IfOk result
         (HasEnd files.now (F.held folder.old) (F.held folder.new) cuts.now) }
@@ -48,6 +57,7 @@ fn end_of<F: Folder>(
     if !are_written(files.strict, cuts) {
         return Ok(CutEnd::Little);
     }
+    ready.make_ready(alloc, cuts)?;
     let writings = writings_of(alloc, files.out, cuts)?;
     match write_all(folder, alloc, writings) {
         Ok(()) => Ok(CutEnd::Written),
@@ -55,13 +65,14 @@ fn end_of<F: Folder>(
     }
 }
 
-/// What MIG files of these bytes are cut to. If enough is read of them, they are written; out of
-/// memory before the first file is written changes no file.
-pub fn cut_files<'a, F: Folder>(
+/// What MIG files of these bytes are cut to. If enough is read of them, they are written. Out of
+/// memory changes no file, also if it runs out for what is made ready before.
+pub fn cut_files<'a, F: Folder, T: Ready>(
     folder: &mut F,
     alloc: Global,
     files: &MigFiles<'a>,
     texts: &[Vec<u8>],
+    ready: &mut T,
 ) -> Result<Answer<'a>, AllocError>
     requires count { length (mig_names files.now) ≡ length texts.now }
     ensures right { IfOk result (AreCutOfTexts files.now (F.held folder.old) (F.held folder.new)
@@ -70,7 +81,7 @@ pub fn cut_files<'a, F: Folder>(
     ensures kept { IsOkAnd result MayChange ⊎ (F.held folder.new ≡ F.held folder.old) }
 {
     match cuts_of(alloc, files.defs.as_slice(), texts) {
-        Ok(cuts) => match end_of(folder, alloc, files, cuts.as_slice()) {
+        Ok(cuts) => match end_of(folder, alloc, files, cuts.as_slice(), ready) {
             Ok(end) => Ok(Answer::Cut(Cuts { cuts, end })),
             Err(error) => {
                 drop(cuts);

@@ -5,6 +5,7 @@ ghost use Rattle.mrc_answer.specs.Notices.{no_notices};
 
 use crate::leaky_lines::LeakyLine;
 use crate::plain_lines::PlainLine;
+use mrc_dead::DeadParts;
 use mrc_wiring::Wired;
 use std::alloc::Global;
 use std::marker::Model;
@@ -43,6 +44,8 @@ pub struct Notices {
     /// The lines of the policy that hold while their task may come to hold another right on their
     /// class.
     pub leaky: Vec<LeakyLine>,
+    /// The parts of the system that can do nothing.
+    pub dead: DeadParts,
     /// With a yes the names of the tasks that lines of the wiring trust.
     pub trusted: Vec<String>,
     /// With a yes to a policy the wiring, by which the lines of the policy are printed. Other
@@ -63,6 +66,7 @@ impl Model for Notices {
       is_empty_policy = n.is_empty_policy;
       plain = n.plain.items;
       leaky = n.leaky.items;
+      dead = n.dead;
       trusted = map string_bytes n.trusted.items;
       wired = n.wired;
     } };
@@ -78,6 +82,7 @@ pub(crate) fn no_notices(alloc: Global) -> Notices
         is_empty_policy: false,
         plain: Vec::new(alloc),
         leaky: Vec::new(alloc),
+        dead: DeadParts::none(alloc),
         trusted: Vec::new(alloc),
         wired: None,
     }

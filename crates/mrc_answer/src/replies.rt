@@ -27,11 +27,9 @@ pub(crate) fn yes_reply<'a>(
     requires { IsLeast (wiring_of stated.claim.table) (has facts.now) }
     ensures answer { IfOk result (λ reply. reply.answer ≡ answers.Yes) }
     ensures notices { IfOk result (λ reply.
-        AreYesNotices files.now stated.claim reply.notices) }
+        AreYesNotices files.now stated reply.notices) }
 {
-    let Stated { lines, claim } = stated;
-    drop(lines);
-    let notices = yes_notices(alloc, files, claim, facts)?;
+    let notices = yes_notices(alloc, files, stated, facts)?;
     Ok(Reply {
         answer: Answer::Yes,
         notices,

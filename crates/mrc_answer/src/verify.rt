@@ -36,9 +36,9 @@ fn broken_reply<'a>(
       only = only;
     }) }
     ensures notices { IfOk result (λ reply.
-        AreNotices files.now stated.claim reply.notices) }
+        AreNotices files.now stated reply.notices) }
 {
-    match notices(alloc, files, &stated.claim, &verdict.facts) {
+    match notices(alloc, files, &stated, &verdict.facts) {
         Ok(notices) => Ok(Reply {
             answer: Answer::Broken(BrokenPolicy {
                 stated,

@@ -11,8 +11,8 @@ use Rattle.mrc_wiring.specs.Table.{Table}
 use Rattle.mrc_words.specs.Words.{◌␣◌, fact_text}
 use Rattle.mrc_why.specs.Broken.{BrokenLine, ExposedTask, forbidden_fact}
 use Rattle.mrc_attack.specs.declared.aims.Aim.{Aim}
-use Rattle.mrc_attack.specs.declared.printing.Form.{Form}
-use Rattle.mrc_attack.specs.declared.printing.Form.TheVariants.{Listed, Script}
+use Rattle.mrc_attack.specs.declared.printing.Listing.{Listing}
+use Rattle.mrc_attack.specs.declared.printing.Listing.TheVariants.{Listed, Script}
 use Rattle.mrc_attack.specs.declared.attacking.Attack.{Attack}
 use Rattle.mrc_attack.specs.Leaks.{IsLeak}
 
@@ -78,33 +78,33 @@ no_line table aim = codes "NO" ␣ (aim_words table aim ++ codes " not reached\n
 
 -- what of the printed text is the script: in a list what is printed below the heading; by itself
 -- all of it, with the heading as a comment
-abbrev pub script_part : Form → (heading script : List ℕ) → List ℕ
+abbrev pub script_part : Listing → (heading script : List ℕ) → List ℕ
 script_part Listed heading script = script
 script_part Script heading script = codes "# " ++ (heading ++ script)
 
 -- what is printed if there is a script
-abbrev pub real_text : Form → (heading script : List ℕ) → List ℕ
+abbrev pub real_text : Listing → (heading script : List ℕ) → List ℕ
 real_text Listed heading script = heading ++ script_part Listed heading script
 real_text Script heading script = script_part Script heading script
 
 -- what is printed of an attack, with the script if there is one
-abbrev pub found_text : Form → Table → Aim → Option (List ℕ) → List ℕ
-found_text form table aim None = no_line table aim
-found_text form table aim (Some script) = real_text form (real_line table aim) script
+abbrev pub found_text : Listing → Table → Aim → Option (List ℕ) → List ℕ
+found_text listing table aim None = no_line table aim
+found_text listing table aim (Some script) = real_text listing (real_line table aim) script
 
-abbrev pub attack_text : Form → Table → Attack → List ℕ
-attack_text form table attack =
-    found_text form table attack.aim (option_map string_bytes attack.script)
+abbrev pub attack_text : Listing → Table → Attack → List ℕ
+attack_text listing table attack =
+    found_text listing table attack.aim (option_map string_bytes attack.script)
 
 -- attacks, one after the other
-abbrev pub attacks_text : Form → Table → List Attack → List ℕ
-attacks_text form table attacks = flat_map (attack_text form table) attacks
+abbrev pub attacks_text : Listing → Table → List Attack → List ℕ
+attacks_text listing table attacks = flat_map (attack_text listing table) attacks
 
 -- where there is a script, the part of the printed text that is one breaks the line
-abbrev pub IsAttack : Form → Table → Attack → Type 0
-IsAttack form table attack = IfSome attack.script (λ script.
+abbrev pub IsAttack : Listing → Table → Attack → Type 0
+IsAttack listing table attack = IfSome attack.script (λ script.
     IsLeak table (holding_of attack.aim.line)
-    (script_part form (real_line table attack.aim) (string_bytes script)))
+    (script_part listing (real_line table attack.aim) (string_bytes script)))
 
 -- what is printed if not all ways were tried for an attack
 abbrev pub cut_line : Attack → List ℕ

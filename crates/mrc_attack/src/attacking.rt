@@ -7,7 +7,7 @@ ghost use Rattle.mrc_attack.specs.Attacks.{aims, aim_of, IsAttack, broken_aims};
 
 use crate::aims::{Aim, broken_aim, exposed_aim};
 use crate::judging::is_leak;
-use crate::printing::{Form, real_line, script_part};
+use crate::printing::{Listing, real_line, script_part};
 use crate::searching::{Brought, Hunt, Progress, searched};
 use mrc_classes::Rules;
 use mrc_closure::Step;
@@ -30,19 +30,19 @@ pub struct Attack {
 fn judged(
     alloc: Global,
     wired: &Wired,
-    form: Form,
+    listing: Listing,
     aim: Aim,
     brought: Brought,
 ) -> Result<Attack, AllocError>
     ensures aim { IfOk result (λ attack. attack.aim ≡ aim) }
-    ensures leak { IfOk result (IsAttack form wired.now) }
+    ensures leak { IfOk result (IsAttack listing wired.now) }
 {
     let Brought { script, cut } = brought;
     let Some(calls) = &script else {
         return Ok(Attack { aim, script, cut });
     };
     let heading = real_line(alloc, wired, &aim)?;
-    let text = script_part(alloc, form, heading.as_str(), calls.as_str())?;
+    let text = script_part(alloc, listing, heading.as_str(), calls.as_str())?;
     if is_leak(alloc, wired, &aim.line, text.as_str())? {
         let cut = false;
         return Ok(Attack { aim, script, cut });
@@ -60,16 +60,17 @@ fn add_attack<P: Progress>(
     found: &mut Vec<Attack>,
     progress: &mut P,
 ) -> Result<(), AllocError>
-    requires { All (IsAttack hunt.now.form hunt.now.wired.now) found.old.items }
+    requires { All (IsAttack hunt.now.listing hunt.now.wired.now) found.old.items }
     ensures aims { OnOk result
         (map aim_of found.new.items ≡ map aim_of found.old.items ++ option_to_list aim) }
-    ensures leaks { OnOk result (All (IsAttack hunt.now.form hunt.now.wired.now) found.new.items) }
+    ensures leaks { OnOk result
+        (All (IsAttack hunt.now.listing hunt.now.wired.now) found.new.items) }
 {
     let Some(aim) = aim else {
         return Ok(());
     };
     let brought = searched(alloc, hunt, &aim.line, chain, progress)?;
-    let attack = judged(alloc, hunt.wired, hunt.form, aim, brought)?;
+    let attack = judged(alloc, hunt.wired, hunt.listing, aim, brought)?;
     found.push(attack)?;
     Ok(())
 }
@@ -83,10 +84,11 @@ fn add_attacks<P: Progress>(
     found: &mut Vec<Attack>,
     progress: &mut P,
 ) -> Result<(), AllocError>
-    requires { All (IsAttack hunt.now.form hunt.now.wired.now) found.old.items }
+    requires { All (IsAttack hunt.now.listing hunt.now.wired.now) found.old.items }
     ensures aims { OnOk result (map aim_of found.new.items
         ≡ map aim_of found.old.items ++ flat_map (broken_aims only) broken.now) }
-    ensures leaks { OnOk result (All (IsAttack hunt.now.form hunt.now.wired.now) found.new.items) }
+    ensures leaks { OnOk result
+        (All (IsAttack hunt.now.listing hunt.now.wired.now) found.new.items) }
 {
     for line in broken {
         let aim = broken_aim(only, line);
@@ -106,7 +108,7 @@ fn all_attacks<P: Progress>(
     ensures lines { IfOk result (λ found. map aim_of found.items
         ≡ aims only verdict.now.exposed verdict.now.broken.items) }
     ensures leaks { IfOk result (λ found.
-        All (IsAttack hunt.now.form hunt.now.wired.now) found.items) }
+        All (IsAttack hunt.now.listing hunt.now.wired.now) found.items) }
 {
     let mut found = Vec::new(alloc);
     let (aim, chain) = exposed_aim(only, &verdict.exposed);
@@ -122,7 +124,7 @@ pub fn attacks<P: Progress>(
     alloc: Global,
     wired: &Wired,
     verdict: &Verdict,
-    form: Form,
+    listing: Listing,
     only: Option<u32>,
     most: usize,
     progress: &mut P,
@@ -131,13 +133,13 @@ pub fn attacks<P: Progress>(
     ensures lines { IfOk result (λ found. map aim_of found.items
         ≡ aims only verdict.now.exposed verdict.now.broken.items) }
     // What is printed of each script is read as one, and its calls break the line.
-    ensures leaks { IfOk result (λ found. All (IsAttack form wired.now) found.items) }
+    ensures leaks { IfOk result (λ found. All (IsAttack listing wired.now) found.items) }
 {
     let rules = Rules::new(alloc, wired)?;
     let hunt = Hunt {
         wired,
         rules: &rules,
-        form,
+        listing,
         most,
     };
     let found = all_attacks(alloc, &hunt, verdict, only, progress);

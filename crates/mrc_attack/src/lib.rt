@@ -21,5 +21,5 @@ mod step;
 pub use aims::Aim;
 pub use attacking::{Attack, attacks};
 pub use judging::is_leak;
-pub use printing::{Form, attacks_text, cut_text};
+pub use printing::{Listing, attacks_text, cut_text};
 pub use searching::Progress;

@@ -14,19 +14,19 @@ use std::alloc::{AllocError, Global};
 
 /// How an attack is printed.
 #[derive(Clone, Copy, Debug, PartialEq, Eq)]
-pub enum Form {
+pub enum Listing {
     /// In a list: the script is below the heading, behind two blanks.
     Listed,
     /// As a script by itself: the heading is a comment.
     Script,
 }
 
-impl Form {
+impl Listing {
     /// The blanks before each line of a script.
     pub(crate) fn blanks(self) -> &'static str {
         match self {
-            Form::Listed => "  ",
-            Form::Script => "",
+            Listing::Listed => "  ",
+            Listing::Script => "",
         }
     }
 }
@@ -71,26 +71,31 @@ fn no_line(alloc: Global, wired: &Wired, aim: &Aim) -> Result<String, AllocError
 /// The part of what is printed that is the script.
 pub(crate) fn script_part(
     alloc: Global,
-    form: Form,
+    listing: Listing,
     heading: &str,
     script: &str,
 ) -> Result<String, AllocError>
     ensures { IfOk result (λ text.
-        string_bytes text ≡ script_part form heading.now script.now) }
+        string_bytes text ≡ script_part listing heading.now script.now) }
 {
-    match form {
-        Form::Listed => String::from_str(alloc, script),
-        Form::Script => format!(in alloc; "# {heading}{script}"),
+    match listing {
+        Listing::Listed => String::from_str(alloc, script),
+        Listing::Script => format!(in alloc; "# {heading}{script}"),
     }
 }
 
 /// What is printed if there is a script.
-fn real_text(alloc: Global, form: Form, heading: &str, script: &str) -> Result<String, AllocError>
-    ensures { IfOk result (λ text. string_bytes text ≡ real_text form heading.now script.now) }
+fn real_text(
+    alloc: Global,
+    listing: Listing,
+    heading: &str,
+    script: &str,
+) -> Result<String, AllocError>
+    ensures { IfOk result (λ text. string_bytes text ≡ real_text listing heading.now script.now) }
 {
-    match form {
-        Form::Listed => format!(in alloc; "{heading}{script}"),
-        Form::Script => script_part(alloc, form, heading, script),
+    match listing {
+        Listing::Listed => format!(in alloc; "{heading}{script}"),
+        Listing::Script => script_part(alloc, listing, heading, script),
     }
 }
 
@@ -98,17 +103,17 @@ fn real_text(alloc: Global, form: Form, heading: &str, script: &str) -> Result<S
 fn attack_text(
     alloc: Global,
     wired: &Wired,
-    form: Form,
+    listing: Listing,
     attack: &Attack,
 ) -> Result<String, AllocError>
     ensures { IfOk result (λ text.
-        string_bytes text ≡ attack_text form wired.now attack.now) }
+        string_bytes text ≡ attack_text listing wired.now attack.now) }
 {
     match &attack.script {
         None => no_line(alloc, wired, &attack.aim),
         Some(script) => {
             let heading = real_line(alloc, wired, &attack.aim)?;
-            real_text(alloc, form, heading.as_str(), script.as_str())
+            real_text(alloc, listing, heading.as_str(), script.as_str())
         }
     }
 }
@@ -118,15 +123,15 @@ fn attack_text(
 pub fn attacks_text(
     alloc: Global,
     wired: &Wired,
-    form: Form,
+    listing: Listing,
     found: &[Attack],
 ) -> Result<String, AllocError>
     ensures exact { IfOk result (λ text.
-        string_bytes text ≡ definitions.attacks_text form wired.now found.now) }
+        string_bytes text ≡ definitions.attacks_text listing wired.now found.now) }
 {
     let mut text = String::new(alloc);
     for attack in found {
-        let one = attack_text(alloc, wired, form, attack)?;
+        let one = attack_text(alloc, wired, listing, attack)?;
         text.push_str(one.as_str())?;
     }
     Ok(text)

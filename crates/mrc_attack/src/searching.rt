@@ -3,7 +3,7 @@
 use crate::actions::Action;
 use crate::calls::script_text;
 use crate::play::{Mark, Play};
-use crate::printing::Form;
+use crate::printing::Listing;
 use crate::run::Run;
 use crate::step::turn;
 use mrc_base::Fact;
@@ -27,7 +27,7 @@ pub trait Progress {
 pub(crate) struct Hunt<'a> {
     pub(crate) wired: &'a Wired,
     pub(crate) rules: &'a Rules,
-    pub(crate) form: Form,
+    pub(crate) listing: Listing,
     /// How many chains are played at most.
     pub(crate) most: usize,
 }
@@ -189,7 +189,7 @@ impl Search<'_> {
     fn script(&self, actions: Vec<Action>) -> Result<Option<String>, AllocError> {
         let actions = self.shortened(actions)?;
         let mut run = Run::new(self.alloc, self.hunt.wired)?;
-        let script = script_text(&mut run, self.hunt.form, &actions);
+        let script = script_text(&mut run, self.hunt.listing, &actions);
         drop(run);
         script
     }

@@ -153,17 +153,7 @@ unfolding get
 found_value m x v w e f = same_value v w (sym e ∙ f)
 
 module _ (s : Store) (d : Doomed) where
-  pub goes_-- after all links from here on, at this backup, the ports that waited are found; a is the search
--- before
-pub record Walk (s : Store) (d : Doomed) (backup : ℕ) (a z : Search) (at : ℕ) : Type 0 where
-  pub step : Step s d [] a z
-  pub links : z.links.items ≡ a.links.items
-  pub heads : z.heads ≡ a.heads
-  pub within : at ≤ length a.links.items
-  pub left : (p : ℕ) → Linked a.links.items backup (head_at a.heads backup) p → (has z.dead.items p
-      ≡ true) ⊎ Linked a.links.items backup at p
-
-part : (hs : List Held) (i : ℕ) (h : Held)
+  pub goes_part : (hs : List Held) (i : ℕ) (h : Held)
       → Goes s d hs
       → i < length hs
       → h ≡ get_or hs i h

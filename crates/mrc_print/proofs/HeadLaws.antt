@@ -1,7 +1,7 @@
 -- Texts that begin with `NO `.
 use Rattle.std.proofs.Common.{◌≡◌, ◌<◌, ◌+◌, ◌||◌, ◌++◌, ◌∷◌, ◌∙◌, ℕ, Bool, true, false, List, []}
 use Rattle.std.proofs.Common.{Option, Some, None, refl, ap, subst, sym, length, take}
-use Rattle.std.specs.Prelude.{slice_index_or}
+use Rattle.std.specs.Prelude.{◌==◌, IfSome, slice_index_or}
 use Rattle.std.specs.List.{list_any}
 use Rattle.std.proofs.lemmas.List.{take_more}
 use Rattle.std.proofs.lemmas.List.Folds.{list_any-append}
@@ -13,6 +13,13 @@ use Rattle.mrc_print.specs.Heads.{IsHead, HasNo, IsNo, IsNoIf}
 pub no_more : (head more text : List ℕ) → text ≡ head ++ more → IsNo head → IsNo text
 no_more head more text is (rest, begins) =
     (rest ++ more, is ∙ ap (λ h. h ++ more) begins)
+
+-- whether a broken line is asked for, by both crates' words
+pub asked_so : (only : Option ℕ) (broken : BrokenLine) (asked : Bool)
+    → (only ≡ None → asked ≡ true) → IfSome only (λ number. asked ≡ (broken.line.line == number))
+    → asked ≡ is_asked only broken
+asked_so None broken asked all one = all refl
+asked_so (Some n) broken asked all one = one
 
 -- one text after another
 pub no_both : (one two : Bool) (a b : List ℕ) → IsNoIf one a → IsNoIf two b

@@ -23,7 +23,7 @@ of_question : (before after : Held) (question : Question) (files : Files) (b : B
     → IsAnswer before after question files (answers.Broken b) notices
     → IsShown (answers.Broken b)
 of_question before after (Verify showing) files b notices is = is.shown
-of_question before after (Mend most format) files b notices is = absurd is.0
+of_question before after (Mend line most format) files b notices is = absurd is.0
 of_question before after (Attack line most format) files b notices is = absurd is
 of_question before after (Check verbose format) files b notices is = absurd is
 of_question before after (Make out workers) files b notices is = absurd is.0

@@ -5,6 +5,7 @@ use Rattle.std.specs.Prelude.{All, IfOk, None, String, false, slice_index_or, st
 use Rattle.std.proofs.lemmas.List.{map-append, take_all, take_more}
 use Rattle.std.proofs.lemmas.List.Elements.{All-append, All-cons, All-nil}
 use Rattle.mrc_answer.specs.Notices.{Notices}
+use Rattle.mrc_dead.specs.Dead.{no_dead_parts}
 use Rattle.mrc_print.specs.Silence.{HasNoNames, AreNone}
 use Rattle.mrc_print.proofs.EmptyLaws.{first_empty, rest_empty}
 
@@ -50,17 +51,19 @@ pub none_told : {E : Type 0} (seen notices : Notices)
     → (empty ≡ [] → seen.is_empty_policy ≡ false)
     → (named ≡ [] → notices.plain ≡ [])
     → (named ≡ [] → notices.leaky ≡ [])
+    → (named ≡ [] → notices.dead ≡ no_dead_parts)
     → (trusted ≡ [] → seen.trusted ≡ [])
     → besides ≡ empty ++ (named ++ trusted)
     → IfOk r (λ text. string_bytes text ≡ dropped ++ (notification ++ besides))
     → IfOk r (λ text. string_bytes text ≡ [] → AreNone notices)
-none_told seen notices dropped notification empty named trusted besides (Err e) same a b c p l t
+none_told seen notices dropped notification empty named trusted besides (Err e) same a b c p l d t
     are is = tt
-none_told seen notices dropped notification empty named trusted besides (Ok text) same a b c p l t
+none_told seen notices dropped notification empty named trusted besides (Ok text) same a b c p l d t
     are is =
     λ none.
     let whole : dropped ++ (notification ++ besides) ≡ [] = sym is ∙ none in
-    let behind : notification ++ besides ≡ [] = rest_empty dropped (notification ++ besides) whole in
+    let behind : notification ++ besides ≡ [] =
+    rest_empty dropped (notification ++ besides) whole in
     let last : empty ++ (named ++ trusted) ≡ [] =
     sym are ∙ rest_empty notification besides behind in
     let both : named ++ trusted ≡ [] = rest_empty empty (named ++ trusted) last in
@@ -73,6 +76,7 @@ none_told seen notices dropped notification empty named trusted besides (Ok text
           (c (first_empty empty (named ++ trusted) last));
       plain = p (first_empty named trusted both);
       leaky = l (first_empty named trusted both);
+      dead = d (first_empty named trusted both);
       trusted = subst (λ (n : Notices). n.trusted ≡ []) same
           (t (rest_empty named trusted both));
     }

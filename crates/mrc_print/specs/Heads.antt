@@ -50,8 +50,8 @@ wiring_text (Texts files) = files.texts.wiring
 wiring_text read = []
 
 -- The text is right of an answer, so far as it is said: exactly for attacks, mends, and answers of
--- one line; by its first word for a broken policy and for a reason; and for answers that are printed
--- as they are made, or on standard error alone, it is empty.
+-- one line; by its first word for a broken policy and for a reason; and for answers that are
+-- printed as they are made, or on standard error alone, it is empty.
 abbrev pub IsHeadOf : WasRead → Answer → List ℕ → Type 0
 IsHeadOf read Yes text = text ≡ codes "YES\n"
 IsHeadOf read (Broken b) text = HasNo text

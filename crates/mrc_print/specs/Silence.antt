@@ -1,5 +1,6 @@
 -- Believe. That there is nothing to tell besides an answer. This profile's own choice.
 use Rattle.std.specs.Prelude.{◌≡◌, false, List, [], ℕ, All, None}
+use Rattle.mrc_dead.specs.Dead.{no_dead_parts}
 use Rattle.mrc_answer.specs.Notices.{Notices}
 
 -- no routine is dropped from a MIG file
@@ -13,4 +14,5 @@ pub record AreNone (notices : Notices) : Type 0 where
   pub policy : notices.is_empty_policy ≡ false
   pub plain : notices.plain ≡ []
   pub leaky : notices.leaky ≡ []
+  pub dead : notices.dead ≡ no_dead_parts
   pub trusted : notices.trusted ≡ []

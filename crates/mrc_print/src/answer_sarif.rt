@@ -1,44 +1,48 @@
 //! The logs of answers.
 
-use crate::answer_json::Making;
 use crate::faults::fault_parts;
 use crate::reading::{defs_texts, names_of};
-use crate::sarif::{broken_sarif, fault_sarif, yes_sarif};
-use mrc_answer::{Answer, BrokenPolicy};
+use mrc_answer::{Answer, BrokenPolicy, WasRead};
+use mrc_objects::{Placed, broken_sarif, fault_sarif, yes_sarif};
+use mrc_place::Hint;
 use mrc_why::Sources;
-use std::alloc::AllocError;
+use std::alloc::{AllocError, Global};
 
 /// The log of a policy that is broken.
-fn broken_log(making: &Making<'_, '_>, broken: &BrokenPolicy) -> Result<String, AllocError> {
-    let alloc = making.alloc;
-    let Some(names) = names_of(making.read) else {
+fn broken_log(
+    alloc: Global,
+    read: &WasRead<'_>,
+    broken: &BrokenPolicy,
+    errors: &str,
+) -> Result<String, AllocError> {
+    let Some(names) = names_of(read) else {
         return Ok(String::new(alloc));
     };
     let stated = &broken.stated;
     let sources = Sources::new(alloc, stated.claim.wired(), stated.lines.as_slice())?;
-    broken_sarif(
+    let placed = Placed {
         alloc,
         names,
-        defs_texts(making.read),
-        &sources,
-        broken.only,
-        &broken.verdict,
-        making.errors,
-    )
+        texts: defs_texts(read),
+        sources: &sources,
+    };
+    broken_sarif(&placed, broken.only, &broken.verdict, errors)
 }
 
 /// The log of an answer of `verify`: nothing of other answers.
 pub(crate) fn answer_sarif(
-    making: &Making<'_, '_>,
+    alloc: Global,
+    read: &WasRead<'_>,
     answer: &Answer<'_>,
+    errors: &str,
+    hint: &Hint,
 ) -> Result<String, AllocError> {
-    let alloc = making.alloc;
     match answer {
-        Answer::Yes => yes_sarif(alloc, making.errors),
-        Answer::Broken(broken) => broken_log(making, broken),
+        Answer::Yes => yes_sarif(alloc, errors),
+        Answer::Broken(broken) => broken_log(alloc, read, broken, errors),
         Answer::Fault(fault) => {
-            let parts = fault_parts(alloc, making.read, fault)?;
-            fault_sarif(alloc, &parts, making.hint)
+            let parts = fault_parts(alloc, read, fault)?;
+            fault_sarif(alloc, &parts, hint)
         }
         _ => Ok(String::new(alloc)),
     }

@@ -6,17 +6,15 @@ ghost use Rattle.mrc_answer.specs.Verified as verified;
 ghost use Rattle.mrc_print.specs.Heads.{HasNo, IsHeadOf, IsShown};
 
 use crate::asked::Asked;
-use crate::lines::Quoted;
-use crate::promises::promises_text;
 use crate::reading::{policy_text, wiring_text};
 use crate::reasons::reason_line;
-use crate::slots::slots_text;
 use crate::text::{Manner, no_text};
 use mrc_answer::{Answer, BrokenPolicy, Explained, WasRead};
-use mrc_attack::{Form, attacks_text};
+use mrc_attack::{Listing, attacks_text};
 use mrc_command::Showing;
 use mrc_draw::{facts_text, graph_text};
 use mrc_mend::mends_text;
+use mrc_objects::{TextLines, promises_text, slots_text};
 use mrc_why::{Layout, Sources, chain_text, plain_lines};
 use std::alloc::{AllocError, Global};
 
@@ -31,11 +29,11 @@ fn chains_of(showing: Showing) -> Option<Layout> {
 }
 
 /// The lines of a text, if they are quoted.
-fn quoted_if(alloc: Global, asked: bool, text: &[u8]) -> Result<Quoted<'_>, AllocError> {
+fn quoted_if(alloc: Global, asked: bool, text: &[u8]) -> Result<Option<TextLines<'_>>, AllocError> {
     if asked {
-        Quoted::of(alloc, text)
+        Ok(Some(TextLines::of(alloc, text)?))
     } else {
-        Ok(Quoted::nothing())
+        Ok(None)
     }
 }
 
@@ -74,12 +72,12 @@ fn broken_text(
 }
 
 /// A script is printed by itself if one line is asked for.
-fn form_of(only: Option<u32>) -> Form
+fn form_of(only: Option<u32>) -> Listing
     ensures { result ≡ verified.form_of only }
 {
     match only {
-        None => Form::Listed,
-        Some(_) => Form::Script,
+        None => Listing::Listed,
+        Some(_) => Listing::Script,
     }
 }
 
@@ -108,7 +106,7 @@ fn listing_text(
             let claim = &drawing.stated.claim;
             graph_text(alloc, claim.wired(), &drawing.facts, claim.lines())
         }
-        Answer::Slots(system) => slots_text(alloc, &system.wired, system.lines.as_slice()),
+        Answer::Slots(system) => slots_text(alloc, system),
         Answer::Promises(system) => promises_text(alloc, system.lines.as_slice()),
         _ => Ok(String::new(alloc)),
     }

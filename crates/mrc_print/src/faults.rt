@@ -5,19 +5,11 @@ use mrc_answer::{Fault, Unwritten, WasRead, WordFault};
 use mrc_base::OrMemory;
 use mrc_check::CaseFault;
 use mrc_command::shown;
-use mrc_files::{ReadFault, Unread, WriteFault};
+use mrc_files::{InputFault, Unread, WriteFault};
+use mrc_objects::{FaultParts, parts_text};
 use std::alloc::{AllocError, Global};
 
-/// A fault as it is printed.
-#[derive(Drop)]
-pub(crate) struct FaultParts {
-    /// The file or the option that it is about, as it is shown: none, if memory ran out.
-    pub(crate) subject: Option<String>,
-    /// Its name.
-    pub(crate) name: String,
-}
-
-/// A fault of this file or this option.
+/// A fault of this name, about this file or this option.
 fn parts_of(alloc: Global, subject: &str, name: String) -> Result<FaultParts, AllocError> {
     let subject = shown(alloc, subject)?;
     Ok(FaultParts {
@@ -67,9 +59,9 @@ pub fn file_of<'a>(read: &'a WasRead<'_>, fault: &CaseFault) -> &'a str {
 /// The parts of a file that can't be read.
 fn unread_parts(alloc: Global, unread: &Unread<'_>) -> Result<FaultParts, AllocError> {
     match unread.fault {
-        ReadFault::Memory => memory_parts(alloc),
-        ReadFault::TooBig => named_parts(alloc, unread.file, "TooBig"),
-        ReadFault::ReadFailed(_) => named_parts(alloc, unread.file, "ReadFailed"),
+        InputFault::Memory => memory_parts(alloc),
+        InputFault::TooBig => named_parts(alloc, unread.file, "TooBig"),
+        InputFault::ReadFailed(_) => named_parts(alloc, unread.file, "ReadFailed"),
     }
 }
 
@@ -104,15 +96,6 @@ pub(crate) fn fault_parts(
         Fault::Uncut(uncut) => parts_of(alloc, uncut.file, uncut.fault.to_string(alloc)?),
         Fault::SameName(file) => named_parts(alloc, file, "SameName"),
         Fault::Unserved(fault) => parts_of(alloc, script_name(read), fault.to_string(alloc)?),
-    }
-}
-
-/// The line of a fault, without its line feed.
-pub(crate) fn parts_text(alloc: Global, parts: &FaultParts) -> Result<String, AllocError> {
-    let name = parts.name.as_str();
-    match &parts.subject {
-        Some(subject) => format!(in alloc; "machcheck: {subject}: {name}"),
-        None => format!(in alloc; "machcheck: {name}"),
     }
 }
 

@@ -1,8 +1,10 @@
 //! What is told besides an answer, as lines.
 
 ghost use Rattle.std.specs.Prelude.{◌≡◌, ◌++◌, false, [], All, IfOk, None, map, string_bytes};
+ghost use Rattle.mrc_dead.specs.Dead.{no_dead_parts};
 ghost use Rattle.mrc_print.specs.Silence.{HasNoNames, AreNone};
 
+use crate::dead_notices::{Printed, dead_text};
 use crate::reading::{defs_name, policy_name, wiring_name};
 use mrc_answer::{Answer, Answered, LeakyLine, Notices, Notification, PlainLine, Reply, WasRead};
 use mrc_base::{ClassId, PortRight, TaskId};
@@ -12,7 +14,7 @@ use mrc_words::{class_word, right_word, task_word};
 use std::alloc::{AllocError, Global};
 
 /// So many lines are printed at most of a kind.
-const MOST_LINES: usize = 10;
+pub(crate) const MOST_LINES: usize = 10;
 
 /// The line of a notice.
 pub(crate) fn line_of(alloc: Global, place: &str, text: &str) -> Result<String, AllocError>
@@ -142,26 +144,17 @@ fn class_text(alloc: Global, wired: Option<&Wired>, class: ClassId) -> Result<St
 
 /// The words of kinds, with a comma and a blank between each two.
 fn kinds_text(alloc: Global, kinds: &[u8]) -> Result<String, AllocError> {
-    let mut text = String::new(alloc);
-    for kind in kinds {
-        if !text.is_empty() {
-            text.push_str(", ")?;
-        }
-        text.push_str(kind_word(*kind))?;
-    }
-    Ok(text)
+    let words: Vec<&str> = kinds.iter().map(|kind| kind_word(*kind)).collect(alloc)?;
+    words.join(alloc, ", ")
 }
 
 /// The words of rights, with an `and` between each two.
 fn rights_text(alloc: Global, rights: &[PortRight]) -> Result<String, AllocError> {
-    let mut text = String::new(alloc);
-    for right in rights {
-        if !text.is_empty() {
-            text.push_str(" and ")?;
-        }
-        text.push_str(right_word(*right))?;
-    }
-    Ok(text)
+    let words: Vec<&str> = rights
+        .iter()
+        .map(|right| right_word(*right))
+        .collect(alloc)?;
+    words.join(alloc, " and ")
 }
 
 /// The line of a line that names births without a kind.
@@ -179,21 +172,6 @@ fn plain_line(
     line_at(alloc, policy, plain.number(), text.as_str())
 }
 
-/// The lines of further lines that name births without a kind, as many as are printed.
-fn further_plain(
-    alloc: Global,
-    wired: Option<&Wired>,
-    policy: &str,
-    further: &[PlainLine],
-) -> Result<String, AllocError> {
-    let mut text = String::new(alloc);
-    for one in further.iter().take(MOST_LINES - 1) {
-        let line = plain_line(alloc, wired, policy, one)?;
-        text.push_str(line.as_str())?;
-    }
-    Ok(text)
-}
-
 /// The first lines that name births without a kind, and how many more there are.
 #[tactic(auto, using(crate::proofs::EmptyLaws::first_empty, crate::proofs::EmptyLaws::rest_empty))]
 fn plain_lines(
@@ -208,7 +186,11 @@ fn plain_lines(
         return Ok(String::new(alloc));
     };
     let first = plain_line(alloc, wired, policy, first)?;
-    let further = further_plain(alloc, wired, policy, further)?;
+    let further: String = further
+        .iter()
+        .take(MOST_LINES - 1)
+        .map(|one| plain_line(alloc, wired, policy, one))
+        .try_collect(alloc)?;
     let more = more_line(
         alloc,
         policy,
@@ -236,21 +218,6 @@ fn leaky_line(
     line_at(alloc, policy, line.line as usize, text.as_str())
 }
 
-/// The lines of further lines that hold while another right may be held, as many as are printed.
-fn further_leaky(
-    alloc: Global,
-    wired: Option<&Wired>,
-    policy: &str,
-    further: &[LeakyLine],
-) -> Result<String, AllocError> {
-    let mut text = String::new(alloc);
-    for one in further.iter().take(MOST_LINES - 1) {
-        let line = leaky_line(alloc, wired, policy, one)?;
-        text.push_str(line.as_str())?;
-    }
-    Ok(text)
-}
-
 /// The first lines that hold while another right may be held, and how many more there are.
 #[tactic(auto, using(crate::proofs::EmptyLaws::first_empty, crate::proofs::EmptyLaws::rest_empty))]
 fn leaky_lines(
@@ -265,7 +232,11 @@ fn leaky_lines(
         return Ok(String::new(alloc));
     };
     let first = leaky_line(alloc, wired, policy, first)?;
-    let further = further_leaky(alloc, wired, policy, further)?;
+    let further: String = further
+        .iter()
+        .take(MOST_LINES - 1)
+        .map(|one| leaky_line(alloc, wired, policy, one))
+        .try_collect(alloc)?;
     let more = more_line(
         alloc,
         policy,
@@ -288,20 +259,24 @@ fn trusted_line(alloc: Global, file: &str, names: &[String]) -> Result<String, A
     line_of(alloc, file, text.as_str())
 }
 
-/// The lines that name tasks and classes of the wiring.
+/// The lines that name parts of the wiring.
 #[tactic(auto, using(crate::proofs::EmptyLaws::first_empty, crate::proofs::EmptyLaws::rest_empty))]
 fn named_lines(
     alloc: Global,
+    read: &WasRead<'_>,
     wired: Option<&Wired>,
-    policy: &str,
     notices: &Notices,
 ) -> Result<String, AllocError>
     ensures plain { IfOk result (λ text. string_bytes text ≡ [] → notices.now.plain ≡ []) }
     ensures leaky { IfOk result (λ text. string_bytes text ≡ [] → notices.now.leaky ≡ []) }
+    ensures dead { IfOk result (λ text.
+        string_bytes text ≡ [] → notices.now.dead ≡ no_dead_parts) }
 {
+    let policy = policy_name(read);
     let plain = plain_lines(alloc, wired, policy, notices.plain.as_slice())?;
     let leaky = leaky_lines(alloc, wired, policy, notices.leaky.as_slice())?;
-    joined(alloc, plain.as_str(), leaky.as_str(), "")
+    let dead = dead_text(alloc, &Printed { read, wired }, &notices.dead)?;
+    joined(alloc, plain.as_str(), leaky.as_str(), dead.as_str())
 }
 
 /// The wiring of an answer: that of its system, or that of its notices.
@@ -326,7 +301,7 @@ pub(crate) fn notices_text(alloc: Global, answered: &Answered<'_>) -> Result<Str
     let notification = notification_line(alloc, read, &notices.notification)?;
     let empty = empty_line(alloc, policy_name(read), notices.is_empty_policy)?;
     let wired = wired_of(&answered.reply);
-    let named = named_lines(alloc, wired, policy_name(read), notices)?;
+    let named = named_lines(alloc, read, wired, notices)?;
     let trusted = trusted_line(alloc, wiring_name(read), notices.trusted.as_slice())?;
     let named = joined(alloc, empty.as_str(), named.as_str(), trusted.as_str())?;
     joined(

@@ -7,22 +7,22 @@ ghost use Rattle.mrc_print.specs.Heads as heads;
 ghost use Rattle.mrc_print.specs.Heads.{HasHead, InText, IsShown, pending_text};
 ghost use Rattle.mrc_print.specs.Silence.{AreNone};
 
-use crate::answer_json::{Making, answer_json};
+use crate::answer_json::answer_json;
 use crate::answer_sarif::answer_sarif;
 use crate::answer_text::answer_text;
 use crate::asked::{Asked, format_of};
 use crate::cuts::cuts_text;
 use crate::faults::fault_line;
-use crate::json_events::{journal_json, replay_json};
 use crate::notices::{joined, line_of, notices_text};
-use crate::reading::script_name;
+use crate::reading::{policy_text, script_name, wiring_text};
 use crate::reasons::stale_note;
 use mrc_answer::{Answer, Answered, Fault, Waiting, WasRead};
 use mrc_attack::cut_text;
 use mrc_command::Format;
 use mrc_files::Sink;
+use mrc_objects::{EventObjects, Making};
 use mrc_place::Hint;
-use mrc_report::{Unprinted, replay, waits_text};
+use mrc_report::{Unprinted, replay, replay_by, waits_text};
 use std::alloc::{AllocError, Global};
 
 /// That not all changes were tried, if that is so.
@@ -97,15 +97,15 @@ pub fn output(
     let answer = &answered.reply.answer;
     let making = Making {
         alloc,
-        asked,
-        read,
-        errors,
-        hint,
+        command: asked.word(),
+        notices: errors,
+        wiring: wiring_text(read),
+        policy: policy_text(read),
     };
     match format_of(asked) {
         Format::Text => answer_text(alloc, asked, read, answer),
-        Format::Json => answer_json(&making, answer),
-        Format::Sarif => answer_sarif(&making, answer),
+        Format::Json => answer_json(&making, asked.showing().brief, read, answer, hint),
+        Format::Sarif => answer_sarif(alloc, read, answer, errors, hint),
     }
 }
 
@@ -142,10 +142,14 @@ fn print_objects<S: Sink>(
     ensures failed { IfErr result (HasFailed (S.failures sink.old) (S.failures sink.new)) }
 {
     match &answered.reply.answer {
-        Answer::Replay(both) => replay_json(alloc, &both.wired, &both.script, sink),
-        Answer::Journal(ran) => journal_json(alloc, ran, None, sink),
+        Answer::Replay(both) => {
+            let objects = EventObjects::of_replay();
+            replay_by(alloc, &both.wired, &both.script, &objects, sink)
+        }
+        Answer::Journal(ran) => ran.print_by(alloc, &EventObjects::of_run(), sink),
         Answer::Waits(waiting) => {
-            journal_json(alloc, &waiting.ran, Some(waiting.lines.as_slice()), sink)
+            let objects = EventObjects::of_waiting(waiting.lines.as_slice());
+            waiting.ran.print_by(alloc, &objects, sink)
         }
         _ => Ok(()),
     }

@@ -7,8 +7,8 @@ ghost use Rattle.mrc_answer.specs.Verified as verified;
 ghost use Rattle.mrc_answer.specs.Verified.{asked_task, IsAsked};
 ghost use Rattle.mrc_print.specs.Heads.{IsHead, HasNo, IsNo, IsNoIf};
 
-use crate::common::{Common, common_of};
-use crate::lines::Quoted;
+use mrc_command::shown;
+use mrc_objects::{Common, TextLines, common_of, is_asked};
 use mrc_why::{
     Broken, Exposed, Layout, Sources, Step, Verdict, broken_line, chain_text, exposed_line,
 };
@@ -16,16 +16,16 @@ use mrc_words::fact_text;
 use std::alloc::{AllocError, Global};
 
 /// How a `NO` is printed.
-#[derive(Debug, Drop)]
-pub struct Manner<'a> {
+#[derive(Drop)]
+pub(crate) struct Manner<'a> {
     /// A first line names the fact that most chains have in common.
-    pub common: bool,
+    pub(crate) common: bool,
     /// The layout of chains: none, if they are not printed.
-    pub chains: Option<Layout>,
+    pub(crate) chains: Option<Layout>,
     /// The lines of the wiring, if they are quoted.
-    pub wiring: Quoted<'a>,
+    pub(crate) wiring: Option<TextLines<'a>>,
     /// The lines of the policy, if they are quoted.
-    pub policy: Quoted<'a>,
+    pub(crate) policy: Option<TextLines<'a>>,
 }
 
 /// What a text is made with: chains of which files, in which manner, and the number of a line, if
@@ -38,15 +38,20 @@ struct Printing<'a> {
     only: Option<u32>,
 }
 
+/// The quote of the line of this number: `  # TEXT`. Nothing, if nothing is quoted.
+fn quote(alloc: Global, lines: &Option<TextLines<'_>>, number: u32) -> Result<String, AllocError> {
+    let Some(lines) = lines else {
+        return Ok(String::new(alloc));
+    };
+    let text = shown(alloc, lines.line(number))?;
+    format!(in alloc; "  # {text}\n")
+}
+
 /// A text with two blanks before each of its lines.
 fn indented(alloc: Global, text: &str) -> Result<String, AllocError> {
-    let mut indented = String::new(alloc);
-    for line in text.split_terminator('\n') {
-        indented.push_str("  ")?;
-        indented.push_str(line)?;
-        indented.push_str("\n")?;
-    }
-    Ok(indented)
+    text.split_terminator('\n')
+        .map(|line| format!(in alloc; "  {line}\n"))
+        .try_collect(alloc)
 }
 
 /// A chain behind two blanks, if chains are printed.
@@ -68,7 +73,7 @@ fn broken_part(printing: &Printing<'_>, broken: &Broken) -> Result<String, Alloc
     let alloc = printing.alloc;
     let line = broken.line();
     let head = broken_line(alloc, printing.sources.wired(), line)?;
-    let quote = printing.manner.policy.line(alloc, line.line)?;
+    let quote = quote(alloc, &printing.manner.policy, line.line)?;
     let chain = chain_if(printing, broken.steps())?;
     format!(in alloc; "{head}{quote}{chain}")
 }
@@ -79,22 +84,13 @@ fn exposed_part(printing: &Printing<'_>, exposed: &Exposed) -> Result<String, Al
 {
     let alloc = printing.alloc;
     let head = exposed_line(alloc, printing.sources.wired(), exposed)?;
-    let quote = printing.manner.wiring.line(alloc, exposed.line())?;
+    let quote = quote(alloc, &printing.manner.wiring, exposed.line())?;
     let chain = chain_if(printing, exposed.steps())?;
     format!(in alloc; "{head}{quote}{chain}")
 }
 
-/// Whether the broken line is asked for: all are, or those of one number.
-pub fn is_asked(only: Option<u32>, broken: &Broken) -> bool
-    ensures { result ≡ verified.is_asked only broken.now }
-{
-    match only {
-        None => true,
-        Some(number) => broken.line().line == number,
-    }
-}
-
 /// A broken line that is asked for. Nothing, if it is not.
+#[tactic(auto, using(crate::proofs::HeadLaws::asked_so))]
 fn part_if_asked(printing: &Printing<'_>, broken: &Broken) -> Result<String, AllocError>
     ensures { IfOk result (λ text.
         IsNoIf (verified.is_asked printing.now.only broken.now) (string_bytes text)) }
@@ -183,7 +179,7 @@ fn text_of(
 /// each broken line; or those broken lines alone that have the number which is asked for. Behind
 /// each come its quote and its chain, as is asked for, and before all the fact that most chains
 /// have in common.
-pub fn no_text(
+pub(crate) fn no_text(
     alloc: Global,
     sources: &Sources<'_>,
     manner: &Manner<'_>,

@@ -28,7 +28,7 @@ made_changes : (before after : Held) (question : Question) (files : Files) (coun
     → IsAnswer before after question files (Made count) notices
     → Changes question
 made_changes before after (Verify showing) files count notices is = absurd is
-made_changes before after (Mend most format) files count notices is = absurd is.0
+made_changes before after (Mend line most format) files count notices is = absurd is.0
 made_changes before after (Attack line most format) files count notices is = absurd is
 made_changes before after (Check verbose format) files count notices is = absurd is
 made_changes before after (Make out workers) files count notices is = tt
@@ -46,7 +46,7 @@ cut_changes : (before after : Held) (question : Question) (files : Files) (cuts 
     → IsAnswer before after question files (Cut cuts) notices
     → Changes question
 cut_changes before after (Verify showing) files cuts notices is = absurd is
-cut_changes before after (Mend most format) files cuts notices is = absurd is.0
+cut_changes before after (Mend line most format) files cuts notices is = absurd is.0
 cut_changes before after (Attack line most format) files cuts notices is = absurd is
 cut_changes before after (Check verbose format) files cuts notices is = absurd is
 cut_changes before after (Make out workers) files cuts notices is = tt
@@ -64,7 +64,7 @@ unwritten_changes : (before after : Held) (question : Question) (files : Files) 
     → IsAnswer before after question files (Fault (Unwritten u)) notices
     → Changes question
 unwritten_changes before after (Verify showing) files u notices is = absurd is.0
-unwritten_changes before after (Mend most format) files u notices is = absurd is.0
+unwritten_changes before after (Mend line most format) files u notices is = absurd is.0
 unwritten_changes before after (Attack line most format) files u notices is = absurd is.0
 unwritten_changes before after (Check verbose format) files u notices is = absurd is.0
 unwritten_changes before after (Make out workers) files u notices is = tt

@@ -40,7 +40,8 @@ HasOut (Case names question) = Changes question
 HasOut (Mig files) = Unit {0}
 
 -- It is answered of the command that the words ask for, and right of what the files held that they
--- name; and this text is printed of it, of which something is said only if the answer is for people.
+-- name; and this text is printed of it. Something is said of the text only if the answer is for
+-- people.
 pub record IsReplied (watched : Watched) (words : List (List ℕ)) (before after : Held)
     (answered : Answered) (text : List ℕ) : Type 0 where
   pub request : Request
@@ -62,8 +63,8 @@ pub record WentOut (watched : Watched) (words : List (List ℕ)) (before after :
   pub notices : errors ≡ [] → AreNone answered.reply.notices
   pub err : watched.err ≡ false → Appends silent told errors
 
--- so many bytes of what is printed of an answer went out: all of it, or memory ran out for the rest,
--- or standard output took no more
+-- so many bytes of what is printed of an answer went out: all of it, or memory ran out for the
+-- rest, or standard output took no more
 pub record WentInPart (watched : Watched) (words : List (List ℕ)) (before after : Held)
     (old new : Option (List ℕ)) : Type 0 where
   pub answered : Answered

@@ -41,8 +41,8 @@ pub record IsFrontOut (format : Format) (answered : Answered) (text : List ℕ)
   pub front : Appends old new (take count (text ++ rest))
 
 -- What is printed of an answer went to standard output, which held `old` and holds `new`. What went
--- to standard error, which held `silent` and holds `told`, is empty only if there is nothing to tell
--- besides the answer.
+-- to standard error, which held `silent` and holds `told`, is empty only if there is nothing to
+-- tell besides the answer.
 pub record IsTold (format : Format) (answered : Answered) (old new silent told : Option (List ℕ))
     : Type 0 where
   pub text : List ℕ

@@ -7,7 +7,7 @@ use mrc_answer::{Answer, Answered, Fault, Texts, Uncut, Unwritten, WasRead, Word
 use mrc_base::OrMemory;
 use mrc_check::{CaseFault, System};
 use mrc_command::Question;
-use mrc_files::{ReadFault, Unread, WriteFault};
+use mrc_files::{InputFault, Unread, WriteFault};
 use mrc_place::Hint;
 use mrc_print::{Asked, file_of, unwritten_of};
 use std::alloc::{AllocError, Global};
@@ -63,11 +63,11 @@ fn one_noted(alloc: Global, note: &str) -> Result<Help, AllocError> {
 /// What helps with a file that can't be read: what the system says of it.
 fn unread_help(alloc: Global, unread: &Unread<'_>) -> Result<Help, AllocError> {
     match unread.fault {
-        ReadFault::ReadFailed(failure) => {
+        InputFault::ReadFailed(failure) => {
             let note = failure.to_string(alloc)?;
             one_noted(alloc, note.as_str())
         }
-        ReadFault::TooBig | ReadFault::Memory => Ok(no_help(alloc)),
+        InputFault::TooBig | InputFault::Memory => Ok(no_help(alloc)),
     }
 }
 

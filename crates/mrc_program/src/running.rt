@@ -16,17 +16,21 @@ ghost use Rattle.mrc_program.specs.Writing.{has_fault};
 
 use crate::behind::{Helping, help_behind};
 use crate::progress::{Counter, Nobody};
-use mrc_answer::{Answer, Answered, CutEnd, Notices, answer, status_of};
+use mrc_answer::{Answer, Answered, CutEnd, NamedCut, Notices, Ready, answer, status_of};
 use mrc_command::{
     Command, Format, NoCommand, Question, Request, Showing, Told, WordsFault, asked_format, read,
     words_line,
 };
 use mrc_files::{Folder, write_text};
 use mrc_place::Hint;
-use mrc_print::{Asked, errors, output, print_pending, print_unwritten, unwritten_of};
+use mrc_print::{
+    Asked, WrittenTexts, errors, format_of, output, print_pending, print_unwritten, unwritten_of,
+    written_texts,
+};
 use mrc_report::Unprinted;
 use std::alloc::{AllocError, Global};
 use std::io::Write;
+use std::mem::replace;
 use std::sync::Wait;
 use std::thread::Threads;
 
@@ -49,6 +53,32 @@ struct AnswerTexts {
     err: String,
     /// The text behind it that helps with a fault.
     behind: String,
+}
+
+/// Makes the texts of MIG files before these are written.
+#[derive(Drop)]
+struct Preparing<'a> {
+    /// What is asked.
+    asked: Asked<'a>,
+    /// The texts, once they are made.
+    texts: Option<WrittenTexts>,
+}
+
+impl Ready for Preparing<'_> {
+    fn make_ready(&mut self, alloc: Global, cuts: &[NamedCut<'_>]) -> Result<(), AllocError> {
+        let texts = written_texts(alloc, self.asked, cuts)?;
+        drop(replace(&mut self.texts, Some(texts)));
+        Ok(())
+    }
+}
+
+/// What was made before files were written.
+#[derive(Drop)]
+struct Prepared {
+    /// An empty text with room for the line of a certificate.
+    room: String,
+    /// The texts of MIG files.
+    texts: Option<WrittenTexts>,
 }
 
 /// The question as it is answered: if a person looks at standard output, the lines that are broken
@@ -106,6 +136,7 @@ fn answer_shown<'a, F: Folder, R: Threads + Wait + Sync, E: Write>(
     alloc: Global,
     command: Command<'a>,
     watched: bool,
+    preparing: &mut Preparing<'_>,
     err: &mut E,
 ) -> Result<Answered<'a>, AllocError>
     ensures right { IfOk result (IsAnswered (F.held folder.old) (F.held folder.new) command.entry) }
@@ -114,9 +145,10 @@ fn answer_shown<'a, F: Folder, R: Threads + Wait + Sync, E: Write>(
     ensures silent { watched ≡ false → E.contents err.new ≡ E.contents err.old }
 {
     if watched {
-        answer(rt, folder, alloc, command, &mut Counter { err, played: 0 })
+        let mut counter = Counter { err, played: 0 };
+        answer(rt, folder, alloc, command, &mut counter, preparing)
     } else {
-        answer(rt, folder, alloc, command, &mut Nobody)
+        answer(rt, folder, alloc, command, &mut Nobody, preparing)
     }
 }
 
@@ -165,6 +197,7 @@ fn are_none(notices: &Notices) -> bool
         && !notices.is_empty_policy
         && notices.plain.is_empty()
         && notices.leaky.is_empty()
+        && notices.dead.is_none()
         && notices.trusted.is_empty()
 }
 
@@ -212,22 +245,78 @@ fn made_texts(alloc: Global, room: String, answered: &Answered<'_>) -> Option<An
     }
 }
 
-/// The texts that are printed of an answer. `room` has room for the line of a certificate.
+/// A text for standard output that is for programs alone: for people it is empty.
+fn for_programs(alloc: Global, asked: Asked<'_>, text: String) -> String
+    ensures { InText (format_of asked.entry) (string_bytes result ≡ []) }
+{
+    if format_of(asked) == Format::Text {
+        String::new(alloc)
+    } else {
+        text
+    }
+}
+
+/// What is printed of MIG files that were cut and all written, if it is that, and if it was made
+/// before.
+fn cut_texts(
+    alloc: Global,
+    asked: Asked<'_>,
+    texts: Option<WrittenTexts>,
+    answered: &Answered<'_>,
+) -> Option<AnswerTexts>
+    ensures out { InText (format_of asked.entry)
+        (IfSome result (λ printed. HasHead answered.now (string_bytes printed.out))) }
+    ensures err { IfSome result (λ _. AreNone answered.now.reply.notices) }
+{
+    let Answer::Cut(cuts) = &answered.reply.answer else {
+        return None;
+    };
+    if !matches!(cuts.end, CutEnd::Written) || !are_none(&answered.reply.notices) {
+        return None;
+    }
+    let WrittenTexts { out, err } = texts?;
+    Some(AnswerTexts {
+        out: for_programs(alloc, asked, out),
+        err,
+        behind: String::new(alloc),
+    })
+}
+
+/// The texts of an answer that were made before files were written, if they were.
+fn prepared_texts(
+    alloc: Global,
+    asked: Asked<'_>,
+    prepared: Prepared,
+    answered: &Answered<'_>,
+) -> Option<AnswerTexts>
+    requires { string_bytes prepared.room ≡ [] }
+    ensures out { InText (format_of asked.entry)
+        (IfSome result (λ printed. HasHead answered.now (string_bytes printed.out))) }
+    ensures err { IfSome result (λ _. AreNone answered.now.reply.notices) }
+{
+    let Prepared { room, texts } = prepared;
+    match made_texts(alloc, room, answered) {
+        Some(printed) => Some(printed),
+        None => cut_texts(alloc, asked, texts, answered),
+    }
+}
+
+/// The texts that are printed of an answer. Those that were prepared need no memory.
 fn texts_of(
     alloc: Global,
     asked: Asked<'_>,
     helping: Helping<'_>,
     answered: &Answered<'_>,
-    room: String,
+    prepared: Prepared,
 ) -> Result<AnswerTexts, AllocError>
-    requires room { string_bytes room ≡ [] }
+    requires room { string_bytes prepared.room ≡ [] }
     requires shown { IsShown answered.now.reply.answer }
     ensures out { InText (format_of asked.entry)
         (IfOk result (λ printed. HasHead answered.now (string_bytes printed.out))) }
     ensures err { IfOk result (λ printed.
         string_bytes printed.err ≡ [] → AreNone answered.now.reply.notices) }
 {
-    if let Some(printed) = made_texts(alloc, room, answered) {
+    if let Some(printed) = prepared_texts(alloc, asked, prepared, answered) {
         return Ok(printed);
     }
     let err = errors(alloc, asked, answered)?;
@@ -286,8 +375,9 @@ fn write_unwritten<E: Write>(err: &mut E, answer: &Answer<'_>) {
     }
 }
 
-/// Writes the text for standard error. With status 2 the line of a file that did not take all
-/// its bytes is behind it, and then what helps with a fault. Returns this status, or 2 if not all is taken.
+/// Writes the text for standard error. With status 2 the line of a file that did not take all its
+/// bytes is behind it, and then what helps with a fault. Returns this status, or 2 if not all is
+/// taken.
 fn write_errors<E: Write>(err: &mut E, answer: &Answer<'_>, printed: &AnswerTexts, status: u8) -> u8
     ensures status { (result ≡ status) ⊎ (result ≡ 2) }
     ensures err { result ≢ 2 → Appends (E.contents err.old) (E.contents err.new)
@@ -341,11 +431,11 @@ fn write_answer<O: Write, E: Write>(
     asked: Asked<'_>,
     helping: Helping<'_>,
     answered: &Answered<'_>,
-    room: String,
+    prepared: Prepared,
     out: &mut O,
     err: &mut E,
 ) -> u8
-    requires room { string_bytes room ≡ [] }
+    requires room { string_bytes prepared.room ≡ [] }
     requires shown { IsShown answered.now.reply.answer }
     ensures status { (result ≡ status_of answered.now.reply.answer) ⊎ (result ≡ 2) }
     // Another status than 2 says that all went out.
@@ -356,7 +446,7 @@ fn write_answer<O: Write, E: Write>(
         ⊎ IsToldInPart (format_of asked.entry) answered.now
         (O.contents out.old) (O.contents out.new) }
 {
-    match texts_of(alloc, asked, helping, answered, room) {
+    match texts_of(alloc, asked, helping, answered, prepared) {
         Ok(texts) => write_printed(alloc, asked, answered, &texts, out, err),
         Err(AllocError) => {
             write_unwritten(err, &answered.reply.answer);
@@ -399,9 +489,14 @@ fn run_request<F: Folder, R: Threads + Wait + Sync, O: Write, E: Write>(
         wanted: shows || asked_format(&command) != Format::Text,
         shows,
     };
-    match answer_shown(rt, folder, alloc, command, watched.err, err) {
+    let mut preparing = Preparing { asked, texts: None };
+    match answer_shown(rt, folder, alloc, command, watched.err, &mut preparing, err) {
         Ok(answered) => {
-            let status = write_answer(alloc, asked, helping, &answered, room, out, err);
+            let prepared = Prepared {
+                room,
+                texts: preparing.texts,
+            };
+            let status = write_answer(alloc, asked, helping, &answered, prepared, out, err);
             drop(answered);
             status
         }

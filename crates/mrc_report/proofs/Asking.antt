@@ -1,11 +1,12 @@
 -- The calls of a part of a script.
-use Rattle.std.proofs.Common.{◌≡◌, ◌+◌, ℕ, List, [], ◌∷◌, ◌++◌, Some, Bool, true, false, take}
+use Rattle.std.proofs.Common.{◌≡◌, ◌+◌, ℕ, List, [], ◌∷◌, ◌++◌, None, Some, Bool, true, false}
+use Rattle.std.proofs.Common.{take}
 use Rattle.std.proofs.Common.{drop, slice_get, refl, sym, ap, ◌∙◌, subst, ◌==◌, cond}
-use Rattle.std.proofs.lemmas.List.{take-append-drop, append-nil}
+use Rattle.std.proofs.lemmas.List.{append_assoc, take-append-drop, append-nil}
 use Rattle.mrc_live.proofs.Following.{take_next}
 use Rattle.mrc_live.specs.Desks.{SeatState}
 use Rattle.mrc_machine.specs.declared.call.Call.{Call}
-use Rattle.mrc_report.specs.Plays.{asked_of, calls_of, Begins, IsPlayed}
+use Rattle.mrc_report.specs.Plays.{asked_of, calls_of, Begins, IsPlayed, IsSameSeat}
 use Rattle.mrc_report.specs.declared.playing.Halt.{Halt}
 use Rattle.mrc_report.specs.declared.script.TaskCall.{TaskCall}
 use Rattle.mrc_wiring_text.specs.declared.reading.Line.{Line}
@@ -57,12 +58,43 @@ asked_other task lines k l at other =
     ∙ (λ i. asked_of task (take k lines) ++ cond (other i) (l.says.call ∷ []) [])
     ∙ append-nil (asked_of task (take k lines))
 
+-- one line more behind the calls that were there before: one of the task, and another
+pub said_mine : (task : ℕ) (lines : List (Line TaskCall)) (k : ℕ) (l : Line TaskCall)
+    (xs ys : List Call)
+    → slice_get lines k ≡ Some l → (l.says.task == task) ≡ true
+    → ys ≡ xs ++ asked_of task (take k lines)
+    → ys ++ l.says.call ∷ [] ≡ xs ++ asked_of task (take (k + 1) lines)
+said_mine task lines k l xs ys at mine were =
+    ap (λ (us : List Call). us ++ l.says.call ∷ []) were
+    ∙ append_assoc xs (asked_of task (take k lines)) (l.says.call ∷ [])
+    ∙ ap (λ us. xs ++ us) (sym (asked_mine task lines k l at mine))
+
+pub said_other : (task : ℕ) (lines : List (Line TaskCall)) (k : ℕ) (l : Line TaskCall)
+    (xs ys : List Call)
+    → slice_get lines k ≡ Some l → (l.says.task == task) ≡ false
+    → ys ≡ xs ++ asked_of task (take k lines)
+    → ys ≡ xs ++ asked_of task (take (k + 1) lines)
+said_other task lines k l xs ys at other were =
+    were ∙ ap (λ us. xs ++ us) (sym (asked_other task lines k l at other))
+
 -- where it was halted the calls of the first lines have been made
-pub played_part : (task : ℕ) (lines : List (Line TaskCall)) (s : SeatState) (h : Halt) (k : ℕ)
-    → s.task ≡ task → calls_of s ≡ asked_of task (take k lines)
-    → IsPlayed task lines s (Some h)
-played_part task lines s h k same calls = record {
-  task_is = same;
+pub played_part : (lines : List (Line TaskCall)) (before s : SeatState) (h : Halt) (k : ℕ)
+    → IsSameSeat before s
+    → calls_of s ≡ calls_of before ++ asked_of before.task (take k lines)
+    → IsPlayed lines before s (Some h)
+played_part lines before s h k same calls = record {
+  seat = same;
   whole = λ none. absurd cc;
-  begun = subst (Begins (asked_of task lines)) (sym calls) (part_begins task lines k);
+  begun = (asked_of before.task (take k lines), (calls, part_begins before.task lines k));
+}
+
+-- and else those of all
+pub played_whole : (lines : List (Line TaskCall)) (before s : SeatState)
+    → IsSameSeat before s → calls_of s ≡ calls_of before ++ asked_of before.task lines
+    → IsPlayed lines before s None
+played_whole lines before s same calls = record {
+  seat = same;
+  whole = λ none. calls;
+  begun =
+      (asked_of before.task lines, (calls, ([], append-nil (asked_of before.task lines))));
 }

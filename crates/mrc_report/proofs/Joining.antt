@@ -1,19 +1,22 @@
 -- The threads of a script, joined one after the other, and what they have done.
 use Rattle.std.proofs.Common.{◌≡◌, ◌+◌, ℕ, zero, suc, List, [], ◌∷◌, ◌++◌, Option, Some, None}
 use Rattle.std.proofs.Common.{length, map, slice_get, refl, sym, ap, ◌∙◌, subst, MatchResult}
-use Rattle.std.proofs.Common.{IfOk, IfErr}
-use Rattle.std.proofs.lemmas.List.{length-map, map-append}
+use Rattle.std.proofs.Common.{IfOk, IfErr, inl, inr, option_map}
+use Rattle.std.proofs.lemmas.List.{append_assoc, map-append}
+use Rattle.std.proofs.lemmas.Option.{slice_get-map}
 use Rattle.std.specs.Prelude.{Result, Ok, Err}
 use Rattle.mrc_base.proofs.Places.{each_pushed}
 use Rattle.mrc_live.proofs.Following.{one_there}
 use Rattle.mrc_live.specs.Desks.{SeatState}
 use Rattle.mrc_live.specs.declared.event.Made.{Made}
 use Rattle.mrc_report.proofs.JournalLaws.{map_there}
-use Rattle.mrc_report.specs.Plays.{AreEnded, AreFresh, IsPlayed, IsRefused, SaysAll, SaysFirst}
-use Rattle.mrc_report.specs.Plays.{asked_of, earlier, fault_of, first_halt}
+use Rattle.mrc_report.specs.Plays.{AreEnded, AreFresh, Begins, Ending, IsPlayed, IsRefused}
+use Rattle.mrc_report.specs.Plays.{SaysAll, SaysFirst, asked_of, calls_of, earlier, first_halt}
 use Rattle.mrc_report.specs.declared.playing.Halt.{Halt}
 use Rattle.mrc_report.specs.declared.playing.Halt.TheVariants.{Stopped as Halted}
 use Rattle.mrc_report.specs.declared.playing.Halt.TheVariants.{JournalFull, Memory}
+use Rattle.mrc_report.specs.declared.playing.LiveFault.{LiveFault}
+use Rattle.mrc_report.specs.declared.playing.LiveFault.TheVariants.{AllWait}
 use Rattle.mrc_report.specs.declared.script.TaskCall.{TaskCall}
 use Rattle.mrc_wiring_text.specs.declared.reading.Line.{Line}
 
@@ -60,82 +63,130 @@ none_of (Some Halted) (Some b) none = absurd cc
 none_of (Some JournalFull) b none = absurd cc
 none_of (Some Memory) b none = absurd cc
 
-none_there : (ends : List (SeatState × Option Halt)) (t : ℕ) (e : SeatState × Option Halt)
-    → first_halt (map (λ x. x.1) ends) ≡ None → slice_get ends t ≡ Some e → e.1 ≡ None
-none_there [] t e none at = absurd cc
+none_there : (ends : List Ending) (k : ℕ) (e : Ending)
+    → first_halt (map (λ x. x.halt) ends) ≡ None → slice_get ends k ≡ Some e → e.halt ≡ None
+none_there [] k e none at = absurd cc
 none_there (x ∷ ends) zero e none at =
-    ap (λ (y : SeatState × Option Halt). y.1) (sym (one_there (x ∷ ends) 0 0 x e refl at refl))
-    ∙ (none_of x.1 (first_halt (map (λ y. y.1) ends)) none).0
-none_there (x ∷ ends) (suc t) e none at =
-    none_there ends t e (none_of x.1 (first_halt (map (λ y. y.1) ends)) none).1 at
+    ap (λ (y : Ending). y.halt) (sym (one_there (x ∷ ends) 0 0 x e refl at refl))
+    ∙ (none_of x.halt (first_halt (map (λ y. y.halt) ends)) none).0
+none_there (x ∷ ends) (suc k) e none at =
+    none_there ends k e (none_of x.halt (first_halt (map (λ y. y.halt) ends)) none).1 at
 
 -- no thread, and one more
-pub none_ended : (lines : List (Line TaskCall)) → AreEnded lines [] None
+pub none_ended : (lines : List (Line TaskCall)) → AreEnded lines [] [] None
 none_ended lines = record {
   ends = [];
-  seats_are = refl;
-  played = λ t e at. absurd cc;
+  before_are = refl;
+  after_are = refl;
+  played = λ k e at. absurd cc;
   first_is = refl;
 }
 
-pub one_more : (lines : List (Line TaskCall)) (seats more : List SeatState)
-    (first next : Option Halt) (s : SeatState) (halt : Option Halt)
-    → AreEnded lines seats first → IsPlayed (length seats) lines s halt
-    → more ≡ seats ++ s ∷ [] → next ≡ earlier first halt → AreEnded lines more next
-one_more lines seats more first next s halt ended played longer later =
+pub one_more : (lines : List (Line TaskCall)) (olds seats more_olds more : List SeatState)
+    (first next : Option Halt) (old s : SeatState) (halt : Option Halt)
+    → AreEnded lines olds seats first → IsPlayed lines old s halt
+    → more_olds ≡ olds ++ old ∷ [] → more ≡ seats ++ s ∷ [] → next ≡ earlier first halt
+    → AreEnded lines more_olds more next
+one_more lines olds seats more_olds more first next old s halt ended played older longer later =
     let ends = ended.ends in
-    let many : length seats ≡ length ends =
-    ap length ended.seats_are ∙ length-map ends (λ e. e.0) in record {
-      ends = ends ++ (s, halt) ∷ [];
-      seats_are = longer ∙ ap (λ ss. ss ++ s ∷ []) ended.seats_are
-          ∙ sym (map-append (λ e. e.0) ends ((s, halt) ∷ []));
-      played = each_pushed (λ t e. IsPlayed t lines e.0 e.1) ends (s, halt) ended.played
-          (subst (λ n. IsPlayed n lines s halt) many played);
+    let end : Ending = record { before = old; after = s; halt = halt } in record {
+      ends = ends ++ end ∷ [];
+      before_are = older ∙ ap (λ ss. ss ++ old ∷ []) ended.before_are
+          ∙ sym (map-append (λ (e : Ending). e.before) ends (end ∷ []));
+      after_are = longer ∙ ap (λ ss. ss ++ s ∷ []) ended.after_are
+          ∙ sym (map-append (λ (e : Ending). e.after) ends (end ∷ []));
+      played = each_pushed (λ k (e : Ending). IsPlayed lines e.before e.after e.halt) ends end
+          ended.played played;
       first_is = later ∙ ap (λ f. earlier f halt) ended.first_is
-          ∙ sym (first_pushed (map (λ e. e.1) ends) halt)
-          ∙ ap first_halt (sym (map-append (λ e. e.1) ends ((s, halt) ∷ [])));
+          ∙ sym (first_pushed (map (λ (e : Ending). e.halt) ends) halt)
+          ∙ ap first_halt (sym (map-append (λ (e : Ending). e.halt) ends (end ∷ [])));
     }
 
--- the thread of a seat
-end_of : (lines : List (Line TaskCall)) (seats : List SeatState) (first : Option Halt)
-    → (ended : AreEnded lines seats first) → (t : ℕ) (s : SeatState) → slice_get seats t ≡ Some s
-    → (e : SeatState × Option Halt) × ((slice_get ended.ends t ≡ Some e) × (e.0 ≡ s))
-end_of lines seats first ended t s at =
-    map_there (λ e. e.0) ended.ends t s
-    (ap (λ ss. slice_get ss t) (sym ended.seats_are) ∙ at)
+-- what came of a seat that had made no call
+fresh_end : (lines : List (Line TaskCall)) (before after : List SeatState) (first : Option Halt)
+    → (ended : AreEnded lines before after first) → AreFresh before
+    → (t : ℕ) (s : SeatState) → slice_get after t ≡ Some s
+    → (e : Ending) × (slice_get ended.ends t ≡ Some e) × (e.after ≡ s)
+    × (e.before.task ≡ t) × (e.before.calls ≡ [])
+fresh_end lines before after first ended fresh t s at =
+    let one = map_there (λ (e : Ending). e.after) ended.ends t s
+    (ap (λ ss. slice_get ss t) (sym ended.after_are) ∙ at) in
+    let here = ap (λ ss. slice_get ss t) ended.before_are
+    ∙ slice_get-map (λ (e : Ending). e.before) ended.ends t
+    ∙ ap (option_map (λ (e : Ending). e.before)) one.1.0 in
+    let is = fresh t one.0.before here in
+    (one.0, one.1.0, one.1.1, is.0, is.1)
 
-pub says_all : (lines : List (Line TaskCall)) (seats : List SeatState) (first : Option Halt)
-    → first ≡ None → AreEnded lines seats first → SaysAll lines seats
-says_all lines seats first none ended t s at =
-    let one = end_of lines seats first ended t s at in
-    let whole = none_there ended.ends t one.0 (sym ended.first_is ∙ none) one.1.0 in
-    let played = subst (λ x. IsPlayed t lines x one.0.1) one.1.1
-    (ended.played t one.0 one.1.0) in
-    (played.task_is, played.whole whole)
+pub says_all : (lines : List (Line TaskCall)) (before after : List SeatState)
+    → AreEnded lines before after None → AreFresh before → SaysAll lines after
+says_all lines before after ended fresh t s at =
+    let one = fresh_end lines before after None ended fresh t s at in
+    let e = one.0 in
+    let played = ended.played t e one.1 in
+    let whole = played.whole (none_there ended.ends t e (sym ended.first_is) one.1)
+    ∙ ap (λ (ms : List Made). map (λ (m : Made). m.call) ms ++ asked_of e.before.task lines) one.4
+    ∙ ap (λ task. asked_of task lines) one.3 in
+    subst (λ (x : SeatState). (x.task ≡ t) × (calls_of x ≡ asked_of t lines)) one.2
+    (played.seat.1 ∙ one.3, whole)
 
-pub says_first : (lines : List (Line TaskCall)) (seats : List SeatState) (first : Option Halt)
-    → AreEnded lines seats first → SaysFirst lines seats
-says_first lines seats first ended t s at =
-    let one = end_of lines seats first ended t s at in
-    let played = subst (λ x. IsPlayed t lines x one.0.1) one.1.1
-    (ended.played t one.0 one.1.0) in
-    (played.task_is, played.begun)
+pub says_first : (lines : List (Line TaskCall)) (before after : List SeatState)
+    (first : Option Halt)
+    → AreEnded lines before after first → AreFresh before → SaysFirst lines after
+says_first lines before after first ended fresh t s at =
+    let one = fresh_end lines before after first ended fresh t s at in
+    let e = one.0 in
+    let played = ended.played t e one.1 in
+    let front = played.begun.0 in
+    let calls : calls_of e.after ≡ front = played.begun.1.0
+    ∙ ap (λ (ms : List Made). map (λ (m : Made). m.call) ms ++ front) one.4 in
+    let begins : Begins (asked_of t lines) front =
+    subst (λ task. Begins (asked_of task lines) front) one.3 played.begun.1.1 in
+    subst (λ (x : SeatState). (x.task ≡ t) × Begins (asked_of t lines) (calls_of x)) one.2 (
+      played.seat.1 ∙ one.3,
+      subst (Begins (asked_of t lines)) (sym calls) begins,
+    )
 
--- a run is refused by the fault of the first halt
-pub refused_by : (tasks : ℕ) (lines : List (Line TaskCall)) (halt : Halt) (seats : List SeatState)
-    → length seats ≡ tasks → AreEnded lines seats (Some halt)
-    → IsRefused tasks lines (fault_of halt) seats
-refused_by tasks lines Halted seats all ended = (all, (Halted, (refl, ended)))
-refused_by tasks lines JournalFull seats all ended = (all, (JournalFull, (refl, ended)))
-refused_by tasks lines Memory seats all ended = (all, (Memory, (refl, ended)))
+-- what all seats have made if all wait
+pub waits_first : (lines : List (Line TaskCall)) (before after : List SeatState)
+    (fault : LiveFault)
+    → fault ≡ AllWait → IsRefused lines before fault after → AreFresh before
+    → SaysFirst lines after
+waits_first lines before after fault waits (inl out) fresh =
+    absurd (let no = sym waits ∙ out.0 in cc)
+waits_first lines before after fault waits (inr halted) fresh =
+    says_first lines before after (Some halted.0) halted.1.1 fresh
 
--- a seat that has made no call has made the first of any
-pub fresh_first : (lines : List (Line TaskCall)) (seats : List SeatState)
-    → AreFresh seats → SaysFirst lines seats
-fresh_first lines seats fresh t s at = (
-  (fresh t s at).0,
-  (
-    asked_of t lines,
-    ap (λ calls. map (λ (m : Made). m.call) calls ++ asked_of t lines) (fresh t s at).1,
-  ),
-)
+-- a fact of each element of a list, of its first one, of those behind it, and of one more
+pub first_of : {X : Type 0} (x : X) (xs ys : List X) (P : X → Type 0) → xs ≡ x ∷ ys
+    → ((k : ℕ) (y : X) → slice_get xs k ≡ Some y → P y) → P x
+first_of x xs ys P is each = each zero x (ap (λ zs. slice_get zs 0) is)
+
+pub later_of : {X : Type 0} (x : X) (xs ys : List X) (P : X → Type 0) → xs ≡ x ∷ ys
+    → ((k : ℕ) (y : X) → slice_get xs k ≡ Some y → P y)
+    → (k : ℕ) (y : X) → slice_get ys k ≡ Some y → P y
+later_of x xs ys P is each k y at =
+    each (suc k) y (ap (λ zs. slice_get zs (suc k)) is ∙ at)
+
+pub grown_of : {X : Type 0} (x : X) (xs more : List X) (P : X → Type 0) → more ≡ xs ++ x ∷ []
+    → ((k : ℕ) (y : X) → slice_get xs k ≡ Some y → P y) → P x
+    → (k : ℕ) (y : X) → slice_get more k ≡ Some y → P y
+grown_of x xs more P longer each holds k y at =
+    each_pushed (λ k z. P z) xs x each holds k y (ap (λ zs. slice_get zs k) (sym longer) ∙ at)
+
+-- one element goes from what is left to what is done
+pub moved : {X Y : Type 0} {all : List Y} (x : X) (xs more : List X) (f : X → Y) (y : Y)
+    (rest later : List Y)
+    → more ≡ xs ++ x ∷ [] → f x ≡ y → rest ≡ y ∷ later → map f xs ++ rest ≡ all
+    → map f more ++ later ≡ all
+moved x xs more f y rest later longer is next was =
+    ap (λ ws. map f ws ++ later) longer
+    ∙ ap (λ ys. ys ++ later) (map-append f xs (x ∷ []))
+    ∙ append_assoc (map f xs) (f x ∷ []) later
+    ∙ ap (λ z. map f xs ++ z ∷ later) is
+    ∙ ap (λ ys. map f xs ++ ys) (sym next) ∙ was
+
+pub taken_on : {X Y : Type 0} {all : List Y} (x : X) (rest later : List X) (f : X → Y)
+    (done : List Y)
+    → rest ≡ x ∷ later → all ≡ done ++ map f rest → all ≡ (done ++ f x ∷ []) ++ map f later
+taken_on x rest later f done next was =
+    was ∙ ap (λ ws. done ++ map f ws) next ∙ sym (append_assoc done (f x ∷ []) (map f later))

@@ -1,6 +1,6 @@
--- Believe. Only what `run_live` cites: which calls the seats have made, and which refusal comes
--- first. This profile's own choice.
-use Rattle.std.specs.Prelude.{◌≡◌, ◌<◌, ℕ, List, [], ◌∷◌, ◌++◌, length, Option, None, Some, map}
+-- Believe. Only what `run_live` cites: what came of the seats, and which refusal comes first. This
+-- profile's own choice.
+use Rattle.std.specs.Prelude.{◌≡◌, ◌⊎◌, ℕ, List, [], ◌∷◌, ◌++◌, Option, None, Some, map}
 use Rattle.std.specs.Prelude.{if◌then◌else◌, ◌==◌, slice_get}
 use Rattle.mrc_live.specs.Desks.{SeatState}
 use Rattle.mrc_machine.specs.declared.call.Call.{Call}
@@ -26,13 +26,72 @@ calls_of s = map (λ m. m.call) s.calls
 abbrev pub Begins : {X : Type 0} → List X → List X → Type 0
 Begins {X} whole front = (rest : List X) × (front ++ rest ≡ whole)
 
--- the seat is of this task, and has made the calls of its lines, or, where it was halted, those of
--- the first of them
-pub record IsPlayed (task : ℕ) (lines : List (Line TaskCall)) (s : SeatState)
+-- it is the same seat of the same task
+abbrev pub IsSameSeat : SeatState → SeatState → Type 0
+IsSameSeat before after = (after.number ≡ before.number) × (after.task ≡ before.task)
+
+-- behind the calls that the seat had it has made the first of these
+abbrev pub HasMadeFirst : List Call → SeatState → SeatState → Type 0
+HasMadeFirst whole before after =
+    (front : List Call) × ((calls_of after ≡ calls_of before ++ front) × Begins whole front)
+
+-- What came of a seat in a run of these lines: behind the calls that it had it has made those of
+-- its task's lines, in order, and no others, or, if it was halted, those of the first of the lines.
+pub record IsPlayed (lines : List (Line TaskCall)) (before after : SeatState)
     (halt : Option Halt) : Type 0 where
-  pub task_is : s.task ≡ task
-  pub whole : halt ≡ None → calls_of s ≡ asked_of task lines
-  pub begun : Begins (asked_of task lines) (calls_of s)
+  pub seat : IsSameSeat before after
+  pub whole : halt ≡ None → calls_of after ≡ calls_of before ++ asked_of before.task lines
+  pub begun : HasMadeFirst (asked_of before.task lines) before after
+
+-- of two halts in the order of their seats: the first that is not a stop, or else a stop, if there
+-- is one
+abbrev pub earlier : Option Halt → Option Halt → Option Halt
+earlier None next = next
+earlier (Some Halted) None = Some Halted
+earlier (Some Halted) (Some next) = Some next
+earlier (Some JournalFull) next = Some JournalFull
+earlier (Some Memory) next = Some Memory
+
+-- the same of all
+abbrev pub first_halt : List (Option Halt) → Option Halt
+first_halt [] = None
+first_halt (halt ∷ halts) = earlier halt (first_halt halts)
+
+-- a seat before a run and after it, with its halt if it was halted
+pub record Ending : Type 0 where
+  pub before : SeatState
+  pub after : SeatState
+  pub halt : Option Halt
+
+-- What came of seats in a run of these lines: each comes back in its place. This is the first of
+-- their halts.
+pub record AreEnded (lines : List (Line TaskCall)) (before after : List SeatState)
+    (first : Option Halt) : Type 0 where
+  pub ends : List Ending
+  pub before_are : before ≡ map (λ e. e.before) ends
+  pub after_are : after ≡ map (λ e. e.after) ends
+  pub played : (k : ℕ) (e : Ending) → slice_get ends k ≡ Some e
+      → IsPlayed lines e.before e.after e.halt
+  pub first_is : first ≡ first_halt (map (λ e. e.halt) ends)
+
+-- what a run reports of the halt that came first: if it is a stop, all wait
+abbrev pub fault_of : Halt → LiveFault
+fault_of Halted = faults.AllWait
+fault_of JournalFull = faults.JournalFull
+fault_of Memory = faults.Memory
+
+-- A run of these seats was refused by this fault: it is that of the first halt, or memory ran out
+-- before any call. In either case all seats come back.
+abbrev pub IsRefused
+    : List (Line TaskCall) → List SeatState → LiveFault → List SeatState → Type 0
+IsRefused lines before fault after =
+    ((fault ≡ faults.Memory) × (after ≡ before))
+    ⊎ ((halt : Halt) × ((fault ≡ fault_of halt) × AreEnded lines before after (Some halt)))
+
+-- the seats are of the tasks in order, and have made no calls
+abbrev pub AreFresh : List SeatState → Type 0
+AreFresh seats =
+    (t : ℕ) (s : SeatState) → slice_get seats t ≡ Some s → (s.task ≡ t) × (s.calls ≡ [])
 
 -- the seats are of the tasks in order, and each has made the calls of its task's lines, in order,
 -- and no others
@@ -46,46 +105,3 @@ abbrev pub SaysFirst : List (Line TaskCall) → List SeatState → Type 0
 SaysFirst lines seats =
     (t : ℕ) (s : SeatState) → slice_get seats t ≡ Some s
     → (s.task ≡ t) × Begins (asked_of t lines) (calls_of s)
-
--- of two halts in task order: the first that is not a stop, or else a stop, if there is one
-abbrev pub earlier : Option Halt → Option Halt → Option Halt
-earlier None next = next
-earlier (Some Halted) None = Some Halted
-earlier (Some Halted) (Some next) = Some next
-earlier (Some JournalFull) next = Some JournalFull
-earlier (Some Memory) next = Some Memory
-
--- the same of all
-abbrev pub first_halt : List (Option Halt) → Option Halt
-first_halt [] = None
-first_halt (halt ∷ halts) = earlier halt (first_halt halts)
-
--- Each thread has ended with its seat, and with a halt if it was halted: the seats are of the tasks
--- in order. This is the first of the halts.
-pub record AreEnded (lines : List (Line TaskCall)) (seats : List SeatState) (first : Option Halt)
-    : Type 0 where
-  pub ends : List (SeatState × Option Halt)
-  pub seats_are : seats ≡ map (λ e. e.0) ends
-  pub played : (t : ℕ) (e : SeatState × Option Halt) → slice_get ends t ≡ Some e
-      → IsPlayed t lines e.0 e.1
-  pub first_is : first ≡ first_halt (map (λ e. e.1) ends)
-
--- what a run reports of the halt that came first: if it is a stop, all wait
-abbrev pub fault_of : Halt → LiveFault
-fault_of Halted = faults.AllWait
-fault_of JournalFull = faults.JournalFull
-fault_of Memory = faults.Memory
-
--- the seats are of the tasks in order, and have made no calls
-abbrev pub AreFresh : List SeatState → Type 0
-AreFresh seats =
-    (t : ℕ) (s : SeatState) → slice_get seats t ≡ Some s → (s.task ≡ t) × (s.calls ≡ [])
-
--- A run of so many tasks was refused by this fault, with these seats. If there are too few seats, a
--- task has none, and no call was made. Else each task has one, and the fault is that of the first
--- halt of their threads.
-abbrev pub IsRefused : ℕ → List (Line TaskCall) → LiveFault → List SeatState → Type 0
-IsRefused tasks lines faults.TooManySeats seats = (length seats < tasks) × AreFresh seats
-IsRefused tasks lines fault seats =
-    (length seats ≡ tasks)
-    × ((halt : Halt) × ((fault ≡ fault_of halt) × AreEnded lines seats (Some halt)))

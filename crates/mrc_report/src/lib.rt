@@ -17,7 +17,7 @@ mod streaming;
 mod table;
 
 pub use calling::call_text;
-pub use mrc_files::{ReadFault, WriteFault, read_all, read_fault, write_text};
+pub use mrc_files::{InputFault, WriteFault, read_all, read_fault, write_text};
 pub use outgoing::Unprinted;
 pub use parameters::{Parameter, Value, bytes_of_digits, digit_value, joined};
 pub use playing::LiveFault;

@@ -1,7 +1,7 @@
 //! What the thread of one task does.
 
 ghost use Rattle.std.specs.Prelude.{◌≡◌, [], ◌∷◌, ◌++◌, ◌==◌, OnErr, OnOk};
-ghost use Rattle.mrc_report.specs.Plays.{IsPlayed, calls_of};
+ghost use Rattle.mrc_report.specs.Plays.{IsPlayed, IsSameSeat, calls_of};
 
 use crate::script::{Script, TaskCall};
 use mrc_base::{Gate, TaskId};
@@ -16,9 +16,6 @@ use thiserror::Error;
 /// Why not all lines of a script were said.
 #[derive(Clone, Copy, Debug, PartialEq, Eq, Error)]
 pub enum LiveFault {
-    /// There are as many seats as there may be.
-    #[error("TooManySeats")]
-    TooManySeats,
     /// The journal has as many events as it may have.
     #[error("JournalFull")]
     JournalFull,
@@ -58,7 +55,7 @@ fn call<L: Ledger, R: Wait>(
 ) -> Result<(), Halt>
     ensures said { OnOk result (calls_of seat.new ≡ calls_of seat.old ++ call.now ∷ []) }
     ensures err { OnErr result (calls_of seat.new ≡ calls_of seat.old) }
-    ensures task { seat.new.task ≡ seat.old.task }
+    ensures same { IsSameSeat seat.old seat.new }
 {
     let Ok(copy) = call.copy(alloc) else {
         return Err(Halt::Memory);
@@ -81,7 +78,7 @@ fn say<L: Ledger, R: Wait>(
 ) -> Result<(), Halt>
     ensures said { OnOk result (calls_of seat.new ≡ calls_of seat.old ++ says.now.call ∷ []) }
     ensures err { OnErr result (calls_of seat.new ≡ calls_of seat.old) }
-    ensures task { seat.new.task ≡ seat.old.task }
+    ensures same { IsSameSeat seat.old seat.new }
 {
     if !says.waits {
         return call(rt, alloc, live, seat, &says.call);
@@ -113,8 +110,7 @@ fn say_lines<L: Ledger, R: Wait>(
     seat: &mut Seat<L>,
     script: &Script,
 ) -> Option<Halt>
-    requires { seat.old.calls ≡ [] }
-    ensures { IsPlayed seat.old.task script.now seat.new result }
+    ensures { IsPlayed script.now seat.old seat.new result }
 {
     let task = seat.task();
     for line in script.lines() {
@@ -141,8 +137,7 @@ pub(crate) fn play<L: Ledger, R: Wait, G: Gate>(
     seat: Seat<L>,
     script: &Script,
 ) -> Played<L>
-    requires { seat.calls ≡ [] }
-    ensures { IsPlayed seat.task script.now result.seat result.halt }
+    ensures { IsPlayed script.now seat result.seat result.halt }
 {
     let mut seat = seat;
     if !stop.load(Ordering::SeqCst) {

@@ -1,16 +1,13 @@
 //! Scripts, run by tasks as threads.
 
-ghost use Rattle.std.specs.Prelude.{◌≡◌, ◌<◌, ◌≤◌, ℕ, [], IfErr, IfOk, IsFalse, IsTrue};
-ghost use Rattle.std.specs.Prelude.{MatchResult, Some, slice_get, vec_capacity, vec_len};
-ghost use Rattle.mrc_base.specs.Reading.{UnlessMemory};
-ghost use Rattle.mrc_confine.specs.Guards.{wiring_in};
-ghost use Rattle.mrc_report.specs.Plays.{AreEnded, AreFresh, IsPlayed, IsRefused, SaysAll};
-ghost use Rattle.mrc_report.specs.Plays.{SaysFirst, earlier, fault_of};
+ghost use Rattle.std.specs.Prelude.{◌≡◌, ◌≤◌, ℕ, [], IfErr, IfOk, MatchResult, None, Some, map};
+ghost use Rattle.std.specs.Prelude.{slice_get, vec_capacity, vec_len};
+ghost use Rattle.mrc_report.specs.Plays.{AreEnded, IsPlayed, IsRefused, earlier, fault_of};
 
 use crate::playing::{Halt, LiveFault, Played, play};
 use crate::script::Script;
-use mrc_base::{Gate, OrMemory, TaskId};
-use mrc_live::{Live, NotSeated, Seat};
+use mrc_base::Gate;
+use mrc_live::{Live, Seat};
 use std::alloc::Global;
 use std::snapshot::Snapshot;
 use std::sync::Wait;
@@ -19,18 +16,26 @@ use std::sync::ledger::Ledger;
 use std::thread;
 use std::thread::{Promise, PromisedHandle, Scope, Threads};
 
-/// What a thread promises: that its seat has made the calls of this task's lines.
+/// What a thread promises: that this seat has made the calls of its task's lines.
 #[derive(Drop)]
-struct Lines {
-    task: TaskId,
+struct Lines<L: Ledger> {
+    seat: Snapshot<Seat<L>>,
     script: Snapshot<Script>,
 }
 
-impl<L: Ledger> Promise<Played<L>> for Lines {
-    ghost kept_by = { λ p r. IsPlayed p.task p.script.value r.seat r.halt };
+impl<L: Ledger> Promise<Played<L>> for Lines<L> {
+    ghost kept_by = { λ p r. IsPlayed p.script.value p.seat.value r.seat r.halt };
 }
 
-/// Starts a task's thread. Where none can be made the seat comes back with no calls, and the run is
+/// A seat's thread that runs, or what came back if none could be made.
+#[derive(Drop)]
+struct Running<L: Ledger> {
+    /// The seat as it was before.
+    before: Snapshot<Seat<L>>,
+    thread: Result<PromisedHandle<Played<L>, Lines<L>>, Played<L>>,
+}
+
+/// Starts a seat's thread. If none can be made the seat comes back as it was, and the run is
 /// stopped.
 fn start<'s, E, L: Ledger + Send + Sync, R: Wait + Sync, G: Gate>(
     scope: &Scope<'s, E>,
@@ -41,57 +46,41 @@ fn start<'s, E, L: Ledger + Send + Sync, R: Wait + Sync, G: Gate>(
     stop: &'s AtomicBool,
     seat: Seat<L>,
     script: &'s Script,
-) -> Result<PromisedHandle<Played<L>, Lines>, Played<L>>
-    requires { seat.calls ≡ [] }
-    ensures task { IfOk result (λ h. h.promise.task ≡ seat.task) }
-    ensures script { IfOk result (λ h. h.promise.script.value ≡ script.now) }
-    ensures err { IfErr result (λ p. IsPlayed seat.task script.now p.seat p.halt) }
+) -> Running<L>
+    ensures before { result.before.value ≡ seat }
+    ensures seat { IfOk result.thread (λ h. h.promise.seat.value ≡ seat) }
+    ensures script { IfOk result.thread (λ h. h.promise.script.value ≡ script.now) }
+    ensures err { IfErr result.thread (λ p. IsPlayed script.now seat p.seat p.halt) }
 {
+    let before = Snapshot::of(&seat);
     let promise = Lines {
-        task: seat.task(),
+        seat: Snapshot::of(&seat),
         script: Snapshot::of(script),
     };
     let job = move || -> Played<L>
-        requires { seat.calls ≡ [] }
-        ensures { IsPlayed seat.task script.entry.now result.seat result.halt }
+        ensures { IsPlayed script.entry.now seat result.seat result.halt }
     { play(rt, alloc, live, gate, stop, seat, script) };
     match scope.spawn_with(promise, job) {
-        Ok(handle) => Ok(handle),
+        Ok(handle) => Running {
+            before,
+            thread: Ok(handle),
+        },
         Err(refused) => {
             stop.store(true, Ordering::SeqCst);
             live.wake_all(rt);
             let Played { seat, .. } = (refused.value)();
-            Err(Played {
-                seat,
-                halt: Some(Halt::Memory),
-            })
+            Running {
+                before,
+                thread: Err(Played {
+                    seat,
+                    halt: Some(Halt::Memory),
+                }),
+            }
         }
     }
 }
 
-/// A thread that runs, or what came back where none could be made.
-type Running<L> = Result<PromisedHandle<Played<L>, Lines>, Played<L>>;
-
-/// Makes each task's seat, in task order, before any thread is started: so a task that waits knows
-/// that all who may send to it are there. Whether there were enough seats.
-fn seat_all<L: Ledger, R: Wait>(rt: &R, live: &Live<L>, seats: &mut Vec<Seat<L>>) -> bool
-    requires empty { seats.old.items ≡ [] }
-    requires room { (wiring_in live.now).tasks ≤ vec_capacity seats.old }
-    ensures each { AreFresh seats.new.items }
-    ensures all { IsTrue result → vec_len seats.new ≡ (wiring_in live.now).tasks }
-    ensures few { IsFalse result → vec_len seats.new < (wiring_in live.now).tasks }
-{
-    for task in 0..u32::from(live.confined().wired().tasks()) {
-        match live.seat(rt, TaskId(task)) {
-            Ok(seat) => seats.push_reserved(seat),
-            Err(NotSeated::TooManySeats) => return false,
-            Err(NotSeated::NoSuchTask) => unreachable!(),
-        }
-    }
-    true
-}
-
-/// Starts the thread of each seat, in task order.
+/// Starts the thread of each seat, in order.
 fn start_all<'s, E, L: Ledger + Send + Sync, R: Wait + Sync, G: Gate>(
     scope: &Scope<'s, E>,
     rt: &'s R,
@@ -103,12 +92,13 @@ fn start_all<'s, E, L: Ledger + Send + Sync, R: Wait + Sync, G: Gate>(
     script: &'s Script,
     running: &mut Vec<Running<L>>,
 )
-    requires fresh { AreFresh seats.items }
     requires empty { running.old.items ≡ [] }
     requires room { vec_len seats ≤ vec_capacity running.old }
-    ensures each { (t : ℕ) (x : _) → slice_get running.new.items t ≡ Some x → MatchResult x
-        (λ h. (h.promise.task ≡ t) × (h.promise.script.value ≡ script.now))
-        (λ p. IsPlayed t script.now p.seat p.halt) }
+    ensures before { map (λ x. x.before.value) running.new.items ≡ seats.items }
+    ensures each { (k : ℕ) (x : _) → slice_get running.new.items k ≡ Some x
+        → MatchResult x.thread
+        (λ h. (h.promise.seat.value ≡ x.before.value) × (h.promise.script.value ≡ script.now))
+        (λ p. IsPlayed script.now x.before.value p.seat p.halt) }
     ensures len { vec_len running.new ≡ vec_len seats }
 {
     for seat in seats {
@@ -118,17 +108,20 @@ fn start_all<'s, E, L: Ledger + Send + Sync, R: Wait + Sync, G: Gate>(
 
 /// What a thread handed back.
 fn ended<L: Ledger, R: Threads>(rt: &R, one: Running<L>) -> Played<L>
-    ensures { MatchResult one
-        (λ h. IsPlayed h.promise.task h.promise.script.value result.seat result.halt)
+    ensures { MatchResult one.thread
+        (λ h. IsPlayed h.promise.script.value h.promise.seat.value result.seat result.halt)
         (λ p. result ≡ p) }
 {
-    match one {
+    let Running { before, thread } = one;
+    drop(before);
+    match thread {
         Ok(handle) => handle.join(rt),
         Err(played) => played,
     }
 }
 
-/// Of two in task order: the first that is not a stop, or else a stop, if there is one.
+/// Of two in the order of their seats: the first that is not a stop, or else a stop, if there is
+/// one.
 fn earlier(first: Option<Halt>, next: Option<Halt>) -> Option<Halt>
     ensures { result ≡ earlier first next }
 {
@@ -139,21 +132,22 @@ fn earlier(first: Option<Halt>, next: Option<Halt>) -> Option<Halt>
     }
 }
 
-/// Joins all threads. The seats come in task order, with the first fault by task number, or else
-/// a stop, if there was one.
+/// Joins all threads. The seats come back in their order, with the first fault, or else a stop, if
+/// there was one.
 fn join_all<L: Ledger, R: Threads>(
     rt: &R,
     running: Vec<Running<L>>,
     seats: Vec<Seat<L>>,
     script: &Script,
 ) -> (Vec<Seat<L>>, Option<Halt>)
-    requires each { (t : ℕ) (x : _) → slice_get running.items t ≡ Some x → MatchResult x
-        (λ h. (h.promise.task ≡ t) × (h.promise.script.value ≡ script.now))
-        (λ p. IsPlayed t script.now p.seat p.halt) }
+    requires each { (k : ℕ) (x : _) → slice_get running.items k ≡ Some x
+        → MatchResult x.thread
+        (λ h. (h.promise.seat.value ≡ x.before.value) × (h.promise.script.value ≡ script.now))
+        (λ p. IsPlayed script.now x.before.value p.seat p.halt) }
     requires empty { seats.items ≡ [] }
     requires room { vec_len running ≤ vec_capacity seats }
-    ensures len { vec_len result.0 ≡ vec_len running }
-    ensures ended { AreEnded script.now result.0.items result.1 }
+    ensures ended { AreEnded script.now (map (λ x. x.before.value) running.items)
+        result.0.items result.1 }
 {
     let mut seats = seats;
     let mut first = None;
@@ -176,12 +170,12 @@ fn fault_of(halt: Halt) -> LiveFault
     }
 }
 
-/// Why a run was refused: the first fault by task number, with the seats that were made.
+/// Why a run was refused, with all seats that were passed, in their order.
 #[derive(Drop)]
 pub struct Stopped<L: Ledger> {
     /// Why.
     pub fault: LiveFault,
-    /// The seats, in task order.
+    /// The seats.
     pub seats: Vec<Seat<L>>,
 }
 
@@ -193,24 +187,22 @@ fn run_in<'s, E, L: Ledger + Send + Sync, R: Threads + Wait + Sync, G: Gate>(
     live: &'s Live<L>,
     gate: &'s G,
     stop: &'s AtomicBool,
+    seats: Vec<Seat<L>>,
     script: &'s Script,
-) -> Result<Vec<Seat<L>>, OrMemory<Stopped<L>>>
-    ensures all { IfOk result (λ seats. vec_len seats ≡ (wiring_in live.now).tasks) }
-    ensures whole { IfOk result (λ seats. SaysAll script.now seats.items) }
-    ensures begun { IfErr result (UnlessMemory (λ f. SaysFirst script.now f.seats.items)) }
-    ensures refused { IfErr result (UnlessMemory (λ f. IsRefused
-        (wiring_in live.now).tasks script.now f.fault f.seats.items)) }
+) -> Result<Vec<Seat<L>>, Stopped<L>>
+    ensures ran { IfOk result (λ done. AreEnded script.now seats.items done.items None) }
+    ensures refused { IfErr result
+        (λ f. IsRefused script.now seats.items f.fault f.seats.items) }
 {
-    let tasks = usize::from(live.confined().wired().tasks());
-    let mut fresh = Vec::with_capacity(alloc, tasks)?;
-    let mut running = Vec::with_capacity(alloc, tasks)?;
-    let seats = Vec::with_capacity(alloc, tasks)?;
-    if !seat_all(rt, live, &mut fresh) {
-        return Err(OrMemory::Fault(Stopped {
-            fault: LiveFault::TooManySeats,
-            seats: fresh,
-        }));
-    }
+    let (Ok(mut running), Ok(done)) = (
+        Vec::with_capacity(alloc, seats.len()),
+        Vec::with_capacity(alloc, seats.len()),
+    ) else {
+        return Err(Stopped {
+            fault: LiveFault::Memory,
+            seats,
+        });
+    };
     start_all(
         scope,
         rt,
@@ -218,16 +210,16 @@ fn run_in<'s, E, L: Ledger + Send + Sync, R: Threads + Wait + Sync, G: Gate>(
         live,
         gate,
         stop,
-        fresh,
+        seats,
         script,
         &mut running,
     );
-    let (seats, first) = join_all(rt, running, seats, script);
+    let (seats, first) = join_all(rt, running, done, script);
     match first {
-        Some(halt) => Err(OrMemory::Fault(Stopped {
+        Some(halt) => Err(Stopped {
             fault: fault_of(halt),
             seats,
-        })),
+        }),
         None => Ok(seats),
     }
 }
@@ -237,57 +229,49 @@ pub(crate) fn run_script<L: Ledger + Send + Sync, R: Threads + Wait + Sync, G: G
     rt: &R,
     alloc: Global,
     live: &Live<L>,
+    seats: Vec<Seat<L>>,
     script: &Script,
     gate: &G,
-) -> Result<Vec<Seat<L>>, OrMemory<Stopped<L>>>
-    ensures all { IfOk result
-        (λ seats. vec_len seats ≡ (wiring_in live.now).tasks) }
-    ensures whole { IfOk result (λ seats. SaysAll script.now seats.items) }
-    ensures begun { IfErr result (UnlessMemory (λ f. SaysFirst script.now f.seats.items)) }
-    ensures refused { IfErr result (UnlessMemory (λ f. IsRefused
-        (wiring_in live.now).tasks script.now f.fault f.seats.items)) }
+) -> Result<Vec<Seat<L>>, Stopped<L>>
+    ensures ran { IfOk result (λ done. AreEnded script.now seats.items done.items None) }
+    ensures refused { IfErr result
+        (λ f. IsRefused script.now seats.items f.fault f.seats.items) }
 {
     let stop = AtomicBool::new(false);
     let stop = &stop;
     thread::scope(
         thread::scope_env(),
         rt,
-        |scope| -> Result<Vec<Seat<L>>, OrMemory<Stopped<L>>>
-            ensures all { IfOk result
-                (λ seats. vec_len seats ≡ (wiring_in live.entry.now).tasks) }
-            ensures whole { IfOk result (λ seats. SaysAll script.entry.now seats.items) }
-            ensures begun { IfErr result
-                (UnlessMemory (λ f. SaysFirst script.entry.now f.seats.items)) }
-            ensures refused { IfErr result (UnlessMemory (λ f. IsRefused
-                (wiring_in live.entry.now).tasks script.entry.now f.fault f.seats.items)) }
-        { run_in(scope, rt, alloc, live, gate, stop, script) },
+        |scope| -> Result<Vec<Seat<L>>, Stopped<L>>
+            ensures ran { IfOk result
+                (λ done. AreEnded script.entry.now seats.items done.items None) }
+            ensures refused { IfErr result
+                (λ f. IsRefused script.entry.now seats.items f.fault f.seats.items) }
+        { run_in(scope, rt, alloc, live, gate, stop, seats, script) },
     )
 }
 
-/// Runs a script at a server: one thread and one seat for each wired task, in task order. Each
-/// thread enters the gate once, with its task's number, before its first line, also if it has no
-/// line. A fault of one stops the others, and so does the last that begins to wait for a message
-/// when each other waits or has said all its lines: `AllWait`. Out of memory is reported if there
-/// is none before a seat is made.
+/// Runs a script by these seats of a server, in one thread for each: a seat makes the calls of its
+/// task's lines. Each thread enters the gate once, with its task's number, before its first line,
+/// also if it has no line. A fault of one stops the others, and so does the last that begins to
+/// wait for a message when each other waits or has said all its lines: `AllWait`. Another seat of
+/// the server that has not left is waited for.
 pub fn run_live<L: Ledger + Send + Sync, R: Threads + Wait + Sync, G: Gate>(
     rt: &R,
     alloc: Global,
     live: &Live<L>,
+    seats: Vec<Seat<L>>,
     script: Script,
     gate: &G,
-) -> Result<Vec<Seat<L>>, OrMemory<Stopped<L>>>
-    // One seat for each task.
-    ensures all { IfOk result (λ seats. vec_len seats ≡ (wiring_in live.now).tasks) }
-    // Each has made the calls of its task's lines, in order, and no others.
-    ensures whole { IfOk result (λ seats. SaysAll script seats.items) }
-    // With a refusal each that was made has made the first of them.
-    ensures begun { IfErr result (UnlessMemory (λ f. SaysFirst script f.seats.items)) }
-    // The refusal is the first by task number, and each task's seat comes back; or there are too
-    // few seats, and no call was made.
-    ensures refused { IfErr result (UnlessMemory (λ f. IsRefused
-        (wiring_in live.now).tasks script f.fault f.seats.items)) }
+) -> Result<Vec<Seat<L>>, Stopped<L>>
+    // The seats come back in their order. Each has made the calls of its task's lines, in order,
+    // and no others.
+    ensures ran { IfOk result (λ done. AreEnded script seats.items done.items None) }
+    // So they do with a refusal, also if memory runs out. Then each has made the first of them, and
+    // the fault is the first in their order; or memory ran out before any call.
+    ensures refused { IfErr result (λ f. IsRefused script seats.items f.fault f.seats.items) }
 {
-    let ran = run_script(rt, alloc, live, &script, gate);
+    let ran = run_script(rt, alloc, live, seats, &script, gate);
     drop(script);
     ran
 }

@@ -1,12 +1,13 @@
 //! A script, run by tasks as threads from what was checked to what is printed.
 
-ghost use Rattle.std.specs.Prelude.{◌≡◌, ◌≤◌, IfErr, IfOk, OnOk, length, take, vec_len};
+ghost use Rattle.std.specs.Prelude.{◌≡◌, ◌≤◌, [], IfErr, IfOk, IsTrue, OnOk, length, take};
+ghost use Rattle.std.specs.Prelude.{vec_capacity, vec_len};
 ghost use Rattle.std.specs.Io.KnownBytes.{Appends};
 ghost use Rattle.mrc_base.specs.Limits.{limit_of_events, limit_of_parts};
 ghost use Rattle.mrc_confine.specs.Guards.{wiring_in};
 ghost use Rattle.mrc_report.specs.Journal.{journal_text};
 ghost use Rattle.mrc_report.specs.Output.{HasFailed, HasGrown, HasGrownIn, written};
-ghost use Rattle.mrc_report.specs.Plays.{SaysAll, SaysFirst};
+ghost use Rattle.mrc_report.specs.Plays.{AreFresh, SaysAll, SaysFirst};
 ghost use Rattle.mrc_report.specs.Served.{IsServed};
 
 use crate::halting::waiting_lines;
@@ -16,11 +17,11 @@ use crate::printing::{end_line, event_line};
 use crate::running::{Stopped, run_script};
 use crate::script::Script;
 use crate::streaming::{EventPrinter, print_events};
-use mrc_base::{Gate, OrMemory};
+use mrc_base::{Gate, OrMemory, TaskId};
 use mrc_check::Confined;
 use mrc_confine::Guarded;
 use mrc_files::Sink;
-use mrc_live::{Event, Journal, Live, NotOpened, Seat, Unfinished, Why};
+use mrc_live::{Event, FinishFault, Journal, Live, NotOpened, NotSeated, Seat, Unfinished};
 use mrc_wiring::Wired;
 use std::alloc::Global;
 use std::marker::Model;
@@ -140,7 +141,6 @@ type Unserved = (OrMemory<ServeFault>, Confined);
 /// The fault of a run that has no journal to print.
 fn stopped(fault: LiveFault) -> OrMemory<ServeFault> {
     match fault {
-        LiveFault::TooManySeats => OrMemory::Fault(ServeFault::TooManySeats),
         LiveFault::JournalFull => OrMemory::Fault(ServeFault::JournalFull),
         LiveFault::Memory => OrMemory::Memory,
         LiveFault::AllWait => OrMemory::Fault(ServeFault::Awake),
@@ -149,16 +149,20 @@ fn stopped(fault: LiveFault) -> OrMemory<ServeFault> {
 
 /// Why a server was not finished, and what was checked.
 fn unfinished<L: Ledger>(refused: Unfinished<L>) -> Unserved
-    ensures { result.1 ≡ refused.live }
+    ensures { result.1 ≡ refused.server.shown }
 {
-    let Unfinished { why, live, seats } = refused;
+    let Unfinished {
+        fault,
+        server,
+        seats,
+    } = refused;
     drop(seats);
-    let fault = match why {
-        Why::SeatsMissing => ServeFault::SeatsMissing,
-        Why::Differs(at) => ServeFault::Differs(at),
-        Why::Swapped => ServeFault::Swapped,
+    let fault = match fault {
+        FinishFault::SeatsMissing => ServeFault::SeatsMissing,
+        FinishFault::Differs(at) => ServeFault::Differs(at),
+        FinishFault::Swapped => ServeFault::Swapped,
     };
-    (OrMemory::Fault(fault), live.into_confined())
+    (OrMemory::Fault(fault), server.lock().into_confined())
 }
 
 /// Prints a journal: a line for each event, and the last line.
@@ -235,6 +239,41 @@ fn halted<L: Ledger>(
     }
 }
 
+/// Makes each task's seat, in task order, before any thread is started: so a task that waits knows
+/// that all who may send to it are there. Whether there were enough seats.
+fn seat_all<L: Ledger, R: Wait>(rt: &R, live: &Live<L>, seats: &mut Vec<Seat<L>>) -> bool
+    requires empty { seats.old.items ≡ [] }
+    requires room { (wiring_in live.now).tasks ≤ vec_capacity seats.old }
+    ensures each { AreFresh seats.new.items }
+    ensures all { IsTrue result → vec_len seats.new ≡ (wiring_in live.now).tasks }
+{
+    for task in 0..u32::from(live.confined().wired().tasks()) {
+        match live.seat(rt, TaskId(task)) {
+            Ok(seat) => seats.push_reserved(seat),
+            Err(NotSeated::TooManySeats) => return false,
+            Err(NotSeated::NoSuchTask) => unreachable!(),
+        }
+    }
+    true
+}
+
+/// A seat for each task, in task order.
+fn seats_of<L: Ledger, R: Wait>(
+    rt: &R,
+    alloc: Global,
+    live: &Live<L>,
+) -> Result<Vec<Seat<L>>, OrMemory<ServeFault>>
+    ensures each { IfOk result (λ seats. AreFresh seats.items) }
+    ensures all { IfOk result (λ seats. vec_len seats ≡ (wiring_in live.now).tasks) }
+{
+    let mut seats = Vec::with_capacity(alloc, usize::from(live.confined().wired().tasks()))?;
+    if seat_all(rt, live, &mut seats) {
+        return Ok(seats);
+    }
+    drop(seats);
+    Err(OrMemory::Fault(ServeFault::TooManySeats))
+}
+
 /// What came of a script at a server.
 fn run_at<L: Ledger + Send + Sync, R: Threads + Wait + Sync, G: Gate>(
     rt: &R,
@@ -246,18 +285,19 @@ fn run_at<L: Ledger + Send + Sync, R: Threads + Wait + Sync, G: Gate>(
     ensures served { IfOk result (IsServed live.claim.table script.now) }
     ensures returned { IfErr result (λ refused. refused.1 ≡ live) }
 {
-    match run_script(rt, alloc, &live, script, gate) {
+    let seats = match seats_of(rt, alloc, &live) {
+        Ok(seats) => seats,
+        Err(fault) => return Err((fault, live.into_confined())),
+    };
+    match run_script(rt, alloc, &live, seats, script, gate) {
         Ok(seats) => whole(live, seats, script),
-        Err(OrMemory::Memory) => Err((OrMemory::Memory, live.into_confined())),
         Err(
-            OrMemory::Fault(
-                Stopped {
-                    fault: LiveFault::AllWait,
-                    seats,
-                },
-            ),
+            Stopped {
+                fault: LiveFault::AllWait,
+                seats,
+            },
         ) => halted(alloc, live, seats, script),
-        Err(OrMemory::Fault(Stopped { fault, seats })) => {
+        Err(Stopped { fault, seats }) => {
             drop(seats);
             Err((stopped(fault), live.into_confined()))
         }

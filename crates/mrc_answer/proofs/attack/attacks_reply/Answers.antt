@@ -1,9 +1,4 @@
-use Rattle.std.proofs.Common.{refl, subst}
-use Rattle.std.specs.List.{All}
-use Rattle.mrc_check.specs.Texts.{Stated}
-use Rattle.mrc_attack.specs.Attacks.{IsAttack}
-use Rattle.mrc_answer.specs.Notices.{AreNotices}
-use Rattle.mrc_answer.specs.Verified.{form_of}
+use Rattle.std.proofs.Common.{refl}
 use Rattle.mrc_answer.proofs.attack.attacks_reply.Goals as goal
 
 pub returns-in-Ok : goal.returns-in-Ok
@@ -15,8 +10,6 @@ returns-in-Ok g c =
       of = refl;
       only_is = refl;
       lines = c.in-Ok.ensures.lines;
-      leaks = subst (λ (s : Stated). All (IsAttack (form_of c.args.only) s.claim.table) found.items)
-          c.stated.view_is c.in-Ok.ensures.leaks;
-      are_notices = subst (λ (s : Stated). AreNotices c.args.files.now s.claim c.in-Ok.notices)
-          c.stated.view_is c.in-Ok.ensures.notices;
+      leaks = c.in-Ok.ensures.leaks;
+      are_notices = c.in-Ok.ensures.notices;
     }

@@ -4,5 +4,5 @@ use Rattle.mrc_answer.proofs.gathering.notices.Goals as goal
 
 pub returns : goal.returns
 returns c =
-    no_by_least c.args.files.now c.args.claim.now c.args.facts.now _ c.notices_with.result
+    no_by_least c.args.files.now c.args.stated.now c.args.facts.now _ c.notices_with.result
     c.requires c.notices_with.ensures (search rules)

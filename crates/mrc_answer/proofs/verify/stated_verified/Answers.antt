@@ -3,8 +3,18 @@ use Rattle.std.specs.Prelude.{IfSome}
 use Rattle.mrc_check.specs.Texts.{Stated}
 use Rattle.mrc_why.specs.Broken.{BrokenLine, line_of}
 use Rattle.mrc_answer.specs.Verified.{IsBrokenAt, has_number}
-use Rattle.mrc_answer.proofs.VerdictLaws.{asked_all, asked_one, broken_at, broken_so, no_both}
+use Rattle.mrc_answer.proofs.VerdictLaws.{allowed_so, asked_all, asked_one, broken_at}
+use Rattle.mrc_answer.proofs.VerdictLaws.{broken_so, no_both}
 use Rattle.mrc_answer.proofs.verify.stated_verified.Goals as goal
+
+pub returns-then-is_yes-clause-right : goal.returns-then-is_yes-clause-right
+returns-then-is_yes-clause-right c =
+    let inside = c.stated.inside in
+    allowed_so c.args.line c.args.files.now
+    (record { lines = inside.lines.items; claim = inside.claim }) c.args.stated
+    c.yes_reply-reply.result c.stated.view_is c.requires
+    (c.in-Ok.ensures.yes (sym c.is_yes.ensures ∙ c.if-is_yes.true))
+    c.yes_reply-reply.ensures.answer c.yes_reply-reply.ensures.notices
 
 pub returns-in-None-clause-right : goal.returns-in-None-clause-right
 returns-in-None-clause-right c =

@@ -9,5 +9,5 @@ invariant-loop-line g l = record {
   aims : map aim_of l.found.items
       ≡ map aim_of l.initial.found.items
       ++ flat_map (broken_aims l.only) (take l.line-index l.broken);
-  leaks : All (IsAttack l.hunt.form l.hunt.wired.now) l.found.items;
+  leaks : All (IsAttack l.hunt.listing l.hunt.wired.now) l.found.items;
 }

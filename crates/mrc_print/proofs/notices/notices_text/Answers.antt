@@ -17,7 +17,7 @@ returns c =
           (names_so c.as_slice.result.now inside.left_out.items dropped c.as_slice.ensures.value
           c.in_ok-dropped.ensures)
           c.in_ok-notification.ensures c.in_ok-empty.ensures c.in_ok-named.ensures.plain
-          c.in_ok-named.ensures.leaky
+          c.in_ok-named.ensures.leaky c.in_ok-named.ensures.dead
           (texts_so c.as_slice-2.result.now inside.trusted.items trusted
           c.as_slice-2.ensures.value c.in_ok-trusted.ensures)
           (three_so besides c.as_str.result.now c.as_str-2.result.now c.as_str-3.result.now empty

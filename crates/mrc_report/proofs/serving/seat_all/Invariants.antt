@@ -2,7 +2,7 @@
 use Rattle.std.proofs.Common.{◌≡◌, ◌≤◌, vec_capacity, vec_len}
 use Rattle.mrc_confine.specs.Guards.{wiring_in}
 use Rattle.mrc_report.specs.Plays.{AreFresh}
-use Rattle.mrc_report.proofs.running.seat_all.Given as goal
+use Rattle.mrc_report.proofs.serving.seat_all.Given as goal
 
 abbrev pub invariant-loop-task : goal.invariant-loop-task
 invariant-loop-task g l =

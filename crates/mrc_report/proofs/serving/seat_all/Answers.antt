@@ -1,6 +1,6 @@
 use Rattle.std.proofs.Common.{◌≡◌, [], length, rules}
 use Rattle.mrc_base.proofs.Places.{each_grown}
-use Rattle.mrc_report.proofs.running.seat_all.Goals as goal
+use Rattle.mrc_report.proofs.serving.seat_all.Goals as goal
 
 pub loop-task-preserved : goal.loop-task-preserved
 loop-task-preserved g c =
