@@ -10,6 +10,13 @@
 //! - `symbols`: each symbol of a MIG text
 //! - `basic`: the basic type of a name
 //! - `value`: the value of an expression, and where the first token stands that is behind it
+//! - `edition`: the edition of a MIG text
+//! - `tokens2`, `places2`, `value2`, `types2`: of a MIG text as one of the second edition, each
+//! token
+//!   with its place and its text, and behind them the marks of lines; the file and the line of each
+//! token; the value of an expression and how many tokens are behind it; each type that is declared
+//!   with its numbers, bits, count and alignment, and what an argument of it is by what is sent, by
+//!   what is received, and with each number that gives what is received
 //! - `forms`: the table of forms of a MIG file
 //! - `names`: the forms of a MIG file by the names of their routines, with those of their arguments
 //! - `cut`: what is left out of a MIG text that is cut, and the table of forms of what is left
@@ -48,6 +55,7 @@ mod resolved;
 mod samples;
 mod systems;
 mod tokens;
+mod wide;
 mod wirings;
 
 use anyhow::Result;
@@ -64,6 +72,11 @@ fn answer(alloc: Global, kind: &str, text: &str, other: &str) -> Result<String> 
         "symbols" => tokens::symbols(alloc, text),
         "basic" => tokens::basic(alloc, text),
         "value" => tokens::value(alloc, text),
+        "edition" => wide::edition(alloc, text),
+        "tokens2" => wide::tokens(alloc, text),
+        "places2" => wide::places(alloc, text),
+        "value2" => wide::value(alloc, text),
+        "types2" => wide::types(alloc, text),
         "forms" => forms::forms(alloc, text.as_bytes()),
         "names" => forms::names(alloc, text.as_bytes()),
         "cut" => cuts::cut_forms(alloc, text),

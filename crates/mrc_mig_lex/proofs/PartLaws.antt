@@ -38,7 +38,7 @@ use Rattle.mrc_mig_lex.specs.Parts.{Part, Ends, is_fresh, NoClose, stays_open, I
 use Rattle.mrc_mig_lex.specs.Parts.{IsToken, IsPart, AreParts, tokens_among, HasTokens}
 
 -- whether only blanks stand on the line, after one more character
-abbrev fresh_after : Bool → ℕ → Bool
+abbrev pub fresh_after : Bool → ℕ → Bool
 fresh_after fresh c = cond (c == line_feed) true (fresh && is_blank c)
 
 -- ---- lines
@@ -97,7 +97,7 @@ stays_stale (c ∷ ys) pass =
     ap (λ b. fold fresh_after b ys) (cond-false (c == line_feed) true false (not-true _ parts.0))
     ∙ stays_stale ys parts.1
 
-stale : (fresh : Bool) (c : ℕ) (ys : List ℕ) → is_blank c ≡ false
+pub stale : (fresh : Bool) (c : ℕ) (ys : List ℕ) → is_blank c ≡ false
     → list_all (λ d. not (d == line_feed)) ys ≡ true → fold fresh_after fresh (c ∷ ys) ≡ false
 stale fresh c ys other pass =
     let not_feed : (c == line_feed) ≡ false = (or_parts _ (c == line_feed) other).1 in
@@ -118,7 +118,7 @@ run_stops : (test : ℕ → Bool) (c : ℕ) (rest : List ℕ) → test c ≡ fal
 run_stops test c rest stop = cond-false (test c) (1 + prefix_len test rest) 0 stop
 
 -- a run of characters that pass, and then one that doesn't
-prefix_len_run : (test : ℕ → Bool) (body after : List ℕ) → list_all test body ≡ true
+pub prefix_len_run : (test : ℕ → Bool) (body after : List ℕ) → list_all test body ≡ true
     → Ends test after → prefix_len test (body ++ after) ≡ length body
 prefix_len_run test [] [] _ _ = refl
 prefix_len_run test [] (c ∷ after) _ ends = run_stops test c after ends
@@ -127,7 +127,7 @@ prefix_len_run test (c ∷ body) after pass ends =
     run_goes_on test c (body ++ after) parts.0
     ∙ ap suc (prefix_len_run test body after parts.1 ends)
 
-run_passes : (test : ℕ → Bool) (rest : List ℕ)
+pub run_passes : (test : ℕ → Bool) (rest : List ℕ)
     → list_all test (take (prefix_len test rest) rest) ≡ true
 run_passes test [] = refl
 run_passes test (c ∷ rest) =
@@ -137,7 +137,7 @@ run_passes test (c ∷ rest) =
     (λ stop. ap (λ n. list_all test (take n (c ∷ rest))) (run_stops test c rest stop))
     (cases_Bool (test c))
 
-run_ends : (test : ℕ → Bool) (rest : List ℕ) → Ends test (drop (prefix_len test rest) rest)
+pub run_ends : (test : ℕ → Bool) (rest : List ℕ) → Ends test (drop (prefix_len test rest) rest)
 run_ends test [] = tt
 run_ends test (c ∷ rest) =
     ⊎_elim
@@ -158,7 +158,7 @@ list_all-weaker p q (c ∷ xs) weaker pass =
 name_not_blank : (c : ℕ) → begins_name c ≡ true → is_blank c ≡ false
 name_not_blank c h = grind (arith, nat_tests)
 
-digit_not_blank : (c : ℕ) → is_ascii_digit c ≡ true → is_blank c ≡ false
+pub digit_not_blank : (c : ℕ) → is_ascii_digit c ≡ true → is_blank c ≡ false
 digit_not_blank c h = grind (arith, nat_tests)
 
 -- ---- what is read is a part
@@ -569,7 +569,7 @@ token_read at before Directive bytes after (line, split, fresh, pass, ends) =
     (ap (λ f. piece_at at f 35 (line ++ after)) fresh ∙ ap (λ n. Ok (token Directive n))
     (prefix_len_run (λ c. not (c == line_feed)) line after pass ends))
 
-part_read : (at : ℕ) (before : List ℕ) (kind : Option TokenKind) (bytes after : List ℕ)
+pub part_read : (at : ℕ) (before : List ℕ) (kind : Option TokenKind) (bytes after : List ℕ)
     → IsPart kind before bytes after → IsRead at (is_fresh before) kind bytes after
 unfolding piece_at
 part_read at before (Some kind) bytes after is_token =

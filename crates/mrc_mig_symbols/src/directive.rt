@@ -27,7 +27,7 @@ const LINE: &[u8; 4] = b"line";
 
 /// What a line is.
 #[tactic(auto, unfolding(crate::specs::Directives::directive_of))]
-pub(crate) fn directive_of(text: &str) -> Directive
+pub fn directive_of(text: &str) -> Directive
     ensures { result ≡ directive_of text.now }
 {
     let Some(line) = after_bytes(text.as_bytes(), HASH) else {
@@ -126,7 +126,7 @@ enum Place {
 
 /// Whether blanks and whole comments are all that there is.
 #[tactic(auto, unfolding(crate::specs::Directives::is_empty_from))]
-fn is_empty_line(line: &[u8]) -> bool
+pub fn is_empty_line(line: &[u8]) -> bool
     ensures { result ≡ is_empty_from (Some Outside) line.now }
 {
     let mut place = Place::Outside;

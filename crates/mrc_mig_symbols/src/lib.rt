@@ -11,10 +11,10 @@ mod symbol;
 mod tokens;
 mod word;
 
-pub use directive::{Directive, without_blanks};
+pub use directive::{Directive, directive_of, is_empty_line, without_blanks};
 pub use expressions::expression;
 pub use fault::{Feature, ParseFault, Stop, StopReason, fault_of, place_of, stop_at};
 pub use laws::expressions_by_grammar;
 pub use symbol::{Rest, Symbol, name, sign};
 pub use tokens::{Tokens, lex};
-pub use word::{Basic, Direction, Word, basic_of};
+pub use word::{Basic, Direction, Word, basic_of, word_of};

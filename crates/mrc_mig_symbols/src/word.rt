@@ -156,7 +156,7 @@ fn word_in(table: &[(&str, Word)], text: &str) -> Option<Word>
 }
 
 /// The reserved word that the text is, in any case. It is compared with those of its length alone.
-pub(crate) fn word_of(text: &str) -> Option<Word>
+pub fn word_of(text: &str) -> Option<Word>
     ensures { result ≡ word_of text.now }
 {
     match text.len() {

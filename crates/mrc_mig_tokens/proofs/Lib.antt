@@ -1,0 +1,11 @@
+pub mod LeftLemmas
+pub mod LoopLemmas
+pub mod SumLemmas
+pub mod FrontLemmas
+pub mod LexLemmas
+pub mod EditionLemmas
+pub mod SumRuns
+pub mod SumRanges
+pub mod SumsRead
+pub mod SumsSpelled
+pub mod SumLaw

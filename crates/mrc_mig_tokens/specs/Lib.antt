@@ -1,0 +1,12 @@
+pub mod Lines
+pub mod Editions
+pub mod Symbols
+pub mod Fronts
+pub mod Tokens
+pub mod Parts
+pub mod Reading
+pub mod Partials
+pub mod Sums
+pub mod SumGrammar
+pub mod Readers
+pub mod Examples

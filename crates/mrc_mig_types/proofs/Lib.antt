@@ -1,0 +1,10 @@
+pub mod PhraseLemmas
+pub mod BasicPhrases
+pub mod LayerPhrases
+pub mod StructPhrases
+pub mod SpecPhrases
+pub mod MeaningLemmas
+pub mod LayoutLemmas
+pub mod FlagLemmas
+pub mod StructLemmas
+pub mod StandardLemmas

@@ -1,0 +1,9 @@
+pub mod Meanings
+pub mod Layout
+pub mod Basics
+pub mod Table
+pub mod Shapes
+pub mod Reading
+pub mod Readers
+pub mod Specs
+pub mod Examples
