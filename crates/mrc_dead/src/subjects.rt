@@ -95,7 +95,12 @@ pub(crate) fn add_subject(
         (subjects.new ≡ with_subject subjects.old (option_map string_bytes one.now)) }
 {
     match one {
-        Some(one) => subjects.add(alloc, one.as_str()),
+        Some(one) => {
+            if is_among(subjects, one.as_str()) {
+                return Ok(());
+            }
+            subjects.add(alloc, one.as_str())
+        }
         None => Ok(()),
     }
 }
