@@ -77,9 +77,9 @@ pub(crate) fn places(alloc: Global, text: &str) -> Result<String> {
     let count = tokens.len();
     for number in 0..count {
         let source = source_of(text, tokens.lines(), tokens.at(number));
-        let file = source.file.map(std::str::from_utf8);
-        match file {
-            Some(Ok(file)) => write!(out, "{file}:{} ", source.line)?,
+        let name = source.file.unwrap_or(&[]);
+        match std::str::from_utf8(name) {
+            Ok(file) if !file.is_empty() => write!(out, "{file}:{} ", source.line)?,
             _ => write!(out, "{} ", source.line)?,
         }
     }
