@@ -18,8 +18,7 @@ use Rattle.mrc_wiring_text.specs.Texts.{IsWiring, IsPolicy}
 use Rattle.mrc_wiring.specs.Table.{Table}
 use Rattle.mrc_wiring.specs.declared.faults.ResolveFault.{ResolveFault}
 use Rattle.mrc_wiring.specs.declared.faults.ResolveFault.TheVariants.{TooManyNames}
-use Rattle.mrc_wiring.specs.GivenLines.{task_names}
-use Rattle.mrc_wiring.specs.Resolving.{resolved}
+use Rattle.mrc_wiring.specs.Resolving.{resolved, task_names}
 use Rattle.mrc_wiring.specs.Claims.{Claimed, forbidden_lines}
 use Rattle.mrc_certificate.specs.declared.fault.DraftFault.{DraftFault}
 use Rattle.mrc_certificate.specs.Spelling.{Spells, content}

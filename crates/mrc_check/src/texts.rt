@@ -5,7 +5,7 @@ ghost use Rattle.std.specs.Option.{option_map};
 ghost use Rattle.mrc_base.specs.Reading.{UnlessMemory};
 ghost use Rattle.mrc_interface.specs.Reading.{GivesAs, step};
 ghost use Rattle.mrc_wiring.specs.declared.faults.ResolveFault.{ResolveFault};
-ghost use Rattle.mrc_wiring.specs.GivenLines.{task_names};
+ghost use Rattle.mrc_wiring.specs.Resolving.{task_names};
 ghost use Rattle.mrc_check.specs.Verdict.{Case};
 ghost use Rattle.mrc_check.specs.Texts.{SayYes, GivesOrReturns, meaningless};
 ghost use Rattle.mrc_check.specs.Texts.{InWiring, lines_fault, system_over, system_of, stated_by};

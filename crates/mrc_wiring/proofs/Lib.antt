@@ -15,14 +15,8 @@ pub mod AllTasks
 pub mod Classes
 pub mod Forms
 pub mod FirstHolds
-pub mod SortLaws
 pub mod SortPlaceLaws
 pub mod Takers
 pub mod Findings
 pub mod FormSorts
 pub mod LabelForms
-pub mod ClashLaws
-pub mod GivenRows
-pub mod GivenLines
-pub mod GivenSteps
-pub mod GivenOnes

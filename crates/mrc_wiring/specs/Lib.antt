@@ -10,10 +10,8 @@ pub mod Trusting
 pub mod FirstState
 pub mod Names
 pub mod Labels
-pub mod ClashLaw
 pub mod ClassNumbers
 pub mod Resolving
-pub mod GivenLines
 pub mod State
 pub mod Kept
 pub mod Slots
@@ -21,4 +19,3 @@ pub mod Finding
 pub mod Told
 pub mod Claims
 pub mod Examples
-pub mod GivenExamples

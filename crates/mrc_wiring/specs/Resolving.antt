@@ -6,7 +6,7 @@ use Rattle.std.specs.Prelude.{◌∷◌, length, bytes_eq}
 use Rattle.std.specs.Prelude.{Option, Some, None, Result, Ok, Err, nat_le, nat_lt, is_some}
 use Rattle.std.specs.Prelude.{position}
 use Rattle.std.specs.Prelude.{if◌then◌else◌, slice_get, option_and_then}
-use Rattle.std.specs.List.{list_any}
+use Rattle.std.specs.List.{list_any, filter_map}
 use Rattle.std.specs.Option.{ok_or}
 use Rattle.mrc_base.specs.Limits.{limit_of_tasks, limit_of_wired_ports, limit_of_interfaces}
 use Rattle.mrc_base.specs.Limits.{limit_of_names}
@@ -258,6 +258,15 @@ started interfaces =
 -- what the lines mean over the interfaces
 abbrev pub resolved : List Interface → List (Line WiringSays) → Result Table ResolveFault
 resolved interfaces lines = started interfaces >>= λ table. add_lines table lines
+
+-- the name of a `task` line
+abbrev pub task_named : WiringSays → Option (List ℕ)
+task_named (Task name) = Some name
+task_named other = None
+
+-- the names of the `task` lines, in their order
+abbrev pub task_names : List (Line WiringSays) → List (List ℕ)
+task_names lines = filter_map (λ (line : Line WiringSays). task_named line.says) lines
 
 -- the table that a change left is the one that is said, unless memory ran out
 abbrev pub Adds : Result (Unit {0}) (OrMemory ResolveFault) → Table → Result Table ResolveFault

@@ -1,5 +1,5 @@
 use Rattle.std.proofs.Common.{◌≡◌, drop, slice_get}
-use Rattle.mrc_wiring.specs.GivenLines.{task_names}
+use Rattle.mrc_wiring.specs.Resolving.{task_names}
 use Rattle.mrc_check.proofs.texts.task_named.Given as goal
 
 -- the name is that at this place among those of the lines that are left

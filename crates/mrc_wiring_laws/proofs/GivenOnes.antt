@@ -20,10 +20,10 @@ use Rattle.mrc_wiring.specs.Sorts.{is_sort, sorts_of}
 use Rattle.mrc_wiring.specs.Table.{Table}
 use Rattle.mrc_wiring.specs.Names.{number_of, class_said}
 use Rattle.mrc_wiring.specs.Labels.{interface_number, label_said}
-use Rattle.mrc_wiring.specs.GivenLines.{admit_lines, HasRow, HasBirthsLine, AreBirthsOf, IsClassOf}
-use Rattle.mrc_wiring.specs.GivenLines.{IsAdmitOf, TablesOfLinesAreOne}
+use Rattle.mrc_wiring_laws.specs.GivenLines.{admit_lines, HasRow, HasBirthsLine, AreBirthsOf, IsClassOf}
+use Rattle.mrc_wiring_laws.specs.GivenLines.{IsAdmitOf, TablesOfLinesAreOne}
 use Rattle.mrc_wiring.proofs.BirthLaws.{IsBefore, before_is, before_then}
-use Rattle.mrc_wiring.proofs.GivenRows.{each_in}
+use Rattle.mrc_wiring_laws.proofs.GivenRows.{each_in}
 
 -- ---- lists
 

@@ -1,10 +1,11 @@
 //! What holds of the numbers of types and of classes, of labels that clash, and of births and admit
-//! lines.
+//! lines. Each law is the contract of a function that does nothing.
+#![tactic(auto)]
 
-ghost use Rattle.mrc_wiring.specs.ClashLaw.{ClashesAreTwoItems};
 ghost use Rattle.mrc_wiring.specs.ClassNumbers.{BirthsAreNumbered};
-ghost use Rattle.mrc_wiring.specs.GivenLines.{TablesAreOfLines, TablesOfLinesAreOne};
 ghost use Rattle.mrc_wiring.specs.Sorts.{SortsAreNumbered, SortsAreTypes};
+ghost use Rattle.mrc_wiring_laws.specs.ClashLaw.{ClashesAreTwoItems};
+ghost use Rattle.mrc_wiring_laws.specs.GivenLines.{TablesAreOfLines, TablesOfLinesAreOne};
 
 /// Two types of port arguments have one number if and only if they are of one interface and have
 /// one name; and the number of a type of no port argument is none of theirs.

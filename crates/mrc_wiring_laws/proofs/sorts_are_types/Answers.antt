@@ -1,5 +1,5 @@
-use Rattle.mrc_wiring.proofs.SortLaws.{sorts_types, sorts_numbered}
-use Rattle.mrc_wiring.proofs.laws.sorts_are_types.Goals as goal
+use Rattle.mrc_wiring_laws.proofs.SortLaws.{sorts_types, sorts_numbered}
+use Rattle.mrc_wiring_laws.proofs.sorts_are_types.Goals as goal
 
 pub returns-clause-types : goal.returns-clause-types
 returns-clause-types c = sorts_types

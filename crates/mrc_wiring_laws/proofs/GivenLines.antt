@@ -30,13 +30,13 @@ use Rattle.mrc_wiring.specs.Names.{number_of, class_said, numbered, births_said}
 use Rattle.mrc_wiring.specs.Labels.{interface_number, label_said}
 use Rattle.mrc_wiring.specs.Resolving.{with_births}
 use Rattle.mrc_wiring.specs.Resolving.{with_admit}
-use Rattle.mrc_wiring.specs.GivenLines.{is_admit}
-use Rattle.mrc_wiring.specs.GivenLines.{admit_lines, HasBirthsLine, IsClassOf, IsAdmitOf}
-use Rattle.mrc_wiring.specs.GivenLines.{AreAdmitsOf}
-use Rattle.mrc_wiring.proofs.GivenRows.{snoc_get}
-use Rattle.mrc_wiring.proofs.GivenRows.{put_own}
-use Rattle.mrc_wiring.proofs.GivenRows.{put_other, put_from, not_said, has_put}
-use Rattle.mrc_wiring.proofs.GivenRows.{row_is}
+use Rattle.mrc_wiring_laws.specs.GivenLines.{is_admit}
+use Rattle.mrc_wiring_laws.specs.GivenLines.{admit_lines, HasBirthsLine, IsClassOf, IsAdmitOf}
+use Rattle.mrc_wiring_laws.specs.GivenLines.{AreAdmitsOf}
+use Rattle.mrc_wiring_laws.proofs.GivenRows.{snoc_get}
+use Rattle.mrc_wiring_laws.proofs.GivenRows.{put_own}
+use Rattle.mrc_wiring_laws.proofs.GivenRows.{put_other, put_from, not_said, has_put}
+use Rattle.mrc_wiring_laws.proofs.GivenRows.{row_is}
 
 -- ---- what a line keeps
 

@@ -10,7 +10,7 @@ use Rattle.mrc_wiring_text.specs.declared.reading.Line.{Line}
 use Rattle.mrc_wiring_text.specs.declared.policy.ClassName.{ClassName}
 use Rattle.mrc_wiring_text.specs.declared.items.Item.{Item}
 use Rattle.mrc_wiring_text.specs.declared.wiring.WiringSays.{WiringSays}
-use Rattle.mrc_wiring_text.specs.declared.wiring.WiringSays.TheVariants.{Task, Port, Births, Admit}
+use Rattle.mrc_wiring_text.specs.declared.wiring.WiringSays.TheVariants.{Port, Births, Admit}
 use Rattle.mrc_wiring.specs.declared.names.NumberedClass.{NumberedClass}
 use Rattle.mrc_wiring.specs.declared.table.AdmitLine.{AdmitLine}
 use Rattle.mrc_wiring.specs.declared.births.BirthRow.{BirthRow}
@@ -19,12 +19,7 @@ use Rattle.mrc_wiring.specs.Sorts.{is_sort, sorts_of}
 use Rattle.mrc_wiring.specs.Table.{Table}
 use Rattle.mrc_wiring.specs.Names.{number_of, class_said}
 use Rattle.mrc_wiring.specs.Labels.{interface_number, label_said}
-use Rattle.mrc_wiring.specs.Resolving.{resolved}
-
--- the name of a `task` line
-abbrev pub task_named : WiringSays → Option (List ℕ)
-task_named (Task name) = Some name
-task_named other = None
+use Rattle.mrc_wiring.specs.Resolving.{task_names, resolved}
 
 -- the name of a `port` line
 abbrev pub port_named : WiringSays → Option (List ℕ)
@@ -35,10 +30,6 @@ port_named other = None
 abbrev pub is_admit : WiringSays → Bool
 is_admit (Admit subsystem type_name class) = true
 is_admit other = false
-
--- the names of the `task` lines, in their order
-abbrev pub task_names : List (Line WiringSays) → List (List ℕ)
-task_names lines = filter_map (λ (line : Line WiringSays). task_named line.says) lines
 
 -- the names of the `port` lines, in their order
 abbrev pub port_names : List (Line WiringSays) → List (List ℕ)

@@ -20,7 +20,7 @@ use Rattle.mrc_wiring.specs.Table.{Table, wiring_of}
 use Rattle.mrc_wiring.specs.ModelForms.{model_form}
 use Rattle.mrc_wiring.specs.Finding.{message_forms}
 use Rattle.mrc_wiring.specs.Labels.{ids_by, ids_of, is_known, clash_among, HasId, AreClashing}
-use Rattle.mrc_wiring.specs.ClashLaw.{ClashesAreTwoItems}
+use Rattle.mrc_wiring_laws.specs.ClashLaw.{ClashesAreTwoItems}
 use Rattle.mrc_wiring.proofs.Findings.{messages_there, messages_not}
 
 -- the ids of an item are those of its forms

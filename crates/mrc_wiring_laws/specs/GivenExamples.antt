@@ -17,9 +17,10 @@ use Rattle.mrc_wiring.specs.declared.names.ClassKind.TheVariants as kinds
 use Rattle.mrc_wiring.specs.declared.table.AdmitLine.{AdmitLine}
 use Rattle.mrc_wiring.specs.Births.{put_row, new_row, said_row}
 use Rattle.mrc_wiring.specs.Table.{Table}
-use Rattle.mrc_wiring.specs.Resolving.{resolved, add_task, add_births, place_births, add_admit}
-use Rattle.mrc_wiring.specs.GivenLines.{task_names, admit_lines, HasRow, HasBirthsLine}
-use Rattle.mrc_wiring.specs.GivenLines.{AreBirthsOf, IsAdmitOf}
+use Rattle.mrc_wiring.specs.Resolving.{task_names, resolved, add_task, add_births, place_births}
+use Rattle.mrc_wiring.specs.Resolving.{add_admit}
+use Rattle.mrc_wiring_laws.specs.GivenLines.{admit_lines, HasRow, HasBirthsLine}
+use Rattle.mrc_wiring_laws.specs.GivenLines.{AreBirthsOf, IsAdmitOf}
 
 -- subsystem files 3000; a reply with one port argument of type file_t
 abbrev files : Interface

@@ -47,14 +47,15 @@ use Rattle.mrc_wiring.specs.Resolving.{place_hold, right_held, port_birth, kerne
 use Rattle.mrc_wiring.specs.Resolving.{add_hold_port, add_hold_task, add_admit, trusted_said}
 use Rattle.mrc_wiring.specs.Resolving.{add_trust, add_fit, add_line, add_lines, empty_table}
 use Rattle.mrc_wiring.specs.Resolving.{has_twice, started}
-use Rattle.mrc_wiring.specs.GivenLines.{task_named, port_named, is_admit, task_names, port_names}
-use Rattle.mrc_wiring.specs.GivenLines.{HasBirthsLine, AreBirthsOf, IsClassOf, IsAdmitOf}
-use Rattle.mrc_wiring.specs.GivenLines.{AreAdmitsOf}
-use Rattle.mrc_wiring.specs.GivenLines.{HasRow, TablesAreOfLines}
-use Rattle.mrc_wiring.proofs.GivenRows.{place_kept, map_quiet, map_more, each_in}
-use Rattle.mrc_wiring.proofs.GivenRows.{is_row_of, row_once}
-use Rattle.mrc_wiring.proofs.GivenLines.{IsGrown, AreRows, IsRowOf, IsOther, rows_quiet}
-use Rattle.mrc_wiring.proofs.GivenLines.{rows_said, births_grown, admits_quiet, admits_more}
+use Rattle.mrc_wiring.specs.Resolving.{task_named, task_names}
+use Rattle.mrc_wiring_laws.specs.GivenLines.{port_named, is_admit, port_names}
+use Rattle.mrc_wiring_laws.specs.GivenLines.{HasBirthsLine, AreBirthsOf, IsClassOf, IsAdmitOf}
+use Rattle.mrc_wiring_laws.specs.GivenLines.{AreAdmitsOf}
+use Rattle.mrc_wiring_laws.specs.GivenLines.{HasRow, TablesAreOfLines}
+use Rattle.mrc_wiring_laws.proofs.GivenRows.{place_kept, map_quiet, map_more, each_in}
+use Rattle.mrc_wiring_laws.proofs.GivenRows.{is_row_of, row_once}
+use Rattle.mrc_wiring_laws.proofs.GivenLines.{IsGrown, AreRows, IsRowOf, IsOther, rows_quiet}
+use Rattle.mrc_wiring_laws.proofs.GivenLines.{rows_said, births_grown, admits_quiet, admits_more}
 use Rattle.mrc_wiring.proofs.Resolved.{resolved_is_table}
 
 -- the table of the lines so far

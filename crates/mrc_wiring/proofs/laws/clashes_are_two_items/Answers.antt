@@ -1,5 +1,0 @@
-use Rattle.mrc_wiring.proofs.ClashLaws.{clashes_items}
-use Rattle.mrc_wiring.proofs.laws.clashes_are_two_items.Goals as goal
-
-pub returns : goal.returns
-returns c = record { clashes = clashes_items }

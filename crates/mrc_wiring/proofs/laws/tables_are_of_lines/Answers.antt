@@ -1,9 +1,0 @@
-use Rattle.mrc_wiring.proofs.GivenOnes.{tables_one}
-use Rattle.mrc_wiring.proofs.GivenSteps.{tables_of_lines}
-use Rattle.mrc_wiring.proofs.laws.tables_are_of_lines.Goals as goal
-
-pub returns-clause-lines : goal.returns-clause-lines
-returns-clause-lines c = tables_of_lines
-
-pub returns-clause-only : goal.returns-clause-only
-returns-clause-only c = tables_one

@@ -1,0 +1,6 @@
+pub mod ClashLaws
+pub mod GivenLines
+pub mod GivenOnes
+pub mod GivenRows
+pub mod GivenSteps
+pub mod SortLaws

@@ -1,0 +1,3 @@
+pub mod ClashLaw
+pub mod GivenLines
+pub mod GivenExamples
