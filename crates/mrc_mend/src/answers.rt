@@ -75,6 +75,10 @@ pub enum Answer {
 pub trait Progress {
     /// So many wirings were judged.
     fn tried(&mut self, tries: usize);
+
+    /// A mend was found, of which these lines are printed. One that is found later may be a part of
+    /// it, and then stands in its place.
+    fn found(&mut self, lines: &[String]);
 }
 
 /// What the broken lines have in common, if all are asked for.

@@ -17,6 +17,7 @@ mod narrowing;
 mod printing;
 mod searching;
 mod stepping;
+mod telling;
 mod trusting;
 mod weighing;
 

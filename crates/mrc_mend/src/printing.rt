@@ -119,7 +119,7 @@ fn trusting_line(alloc: Global, limitation: &Limitation) -> Result<String, Alloc
 }
 
 /// Adds what is told of a change: a line that is left out or narrowed, or those that are added.
-fn add_change(
+pub(crate) fn add_change(
     alloc: Global,
     told: &mut Vec<String>,
     wiring: &[u8],

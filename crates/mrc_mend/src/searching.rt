@@ -8,6 +8,7 @@ use crate::changes::Change;
 use crate::extending::{DEEPEST, includes_all, key_of};
 use crate::judging::{Texts, Verdict, judged};
 use crate::losing::First;
+use crate::telling::tell_last;
 use mrc_wiring::Interfaces;
 use std::alloc::{AllocError, Global};
 use std::collections::BTreeMap;
@@ -223,10 +224,12 @@ pub(crate) fn search<P: Progress>(
                 cut_off: false,
             });
         };
+        let before = found.len();
         interfaces = try_one(
             alloc, interfaces, texts, first, changes, &mut queue, &mut found,
         )?;
         tries.count(progress);
+        tell_last(alloc, texts.wiring, &found, before, progress)?;
     }
     let cut_off = next_of(&mut queue, found.as_slice(), most).is_some();
     let mends = best(&interfaces, texts, found, most)?;

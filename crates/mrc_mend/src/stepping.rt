@@ -9,6 +9,7 @@ use crate::extending::DEEPEST;
 use crate::judging::{Texts, Verdict, judged};
 use crate::losing::First;
 use crate::searching::{Searched, Tries, add_mend, best, is_covered};
+use crate::telling::tell_last;
 use crate::weighing::{Weight, weighed};
 use mrc_wiring::Interfaces;
 use std::alloc::{AllocError, Global};
@@ -276,9 +277,11 @@ pub(crate) fn steps<P: Progress>(
         if is_done || found.len() >= most || !tries.are_left() {
             break;
         }
+        let before = found.len();
         interfaces = add_walked(
             alloc, interfaces, texts, first, start, &mut found, tries, progress,
         )?;
+        tell_last(alloc, texts.wiring, &found, before, progress)?;
     }
     let mends = best(&interfaces, texts, found, most)?;
     drop(interfaces);

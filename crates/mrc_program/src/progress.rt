@@ -7,7 +7,7 @@ use std::io::Write;
 const FIRST: usize = 16;
 
 /// Prints how many wirings were judged, or how many chains were played for all lines of a policy:
-/// after the first 16, and then each time their number has doubled.
+/// after the first 16, and then each time their number has doubled. Prints each mend as it is found.
 #[derive(Drop)]
 pub(crate) struct Counter<'a, E: Write> {
     /// Standard error, at which a person looks.
@@ -26,11 +26,26 @@ impl<'a, E: Write> Counter<'a, E> {
             let _ = write_text(self.err, b"\n");
         }
     }
+
+    /// A line of these words and a text.
+    fn tell(&mut self, words: &str, text: &str) {
+        let _ = write_text(self.err, words.as_bytes());
+        let _ = write_text(self.err, text.as_bytes());
+        let _ = write_text(self.err, b"\n");
+    }
 }
 
 impl<'a, E: Write> mrc_mend::Progress for Counter<'a, E> {
     fn tried(&mut self, tries: usize) {
         self.count(b"machcheck: mend: wirings tried: ", tries);
+    }
+
+    fn found(&mut self, lines: &[String]) {
+        let mut words = "machcheck: mend: found: ";
+        for line in lines {
+            self.tell(words, line.as_str());
+            words = "machcheck: mend: with: ";
+        }
     }
 }
 
@@ -47,6 +62,8 @@ pub(crate) struct Nobody;
 
 impl mrc_mend::Progress for Nobody {
     fn tried(&mut self, _tries: usize) {}
+
+    fn found(&mut self, _lines: &[String]) {}
 }
 
 impl mrc_attack::Progress for Nobody {
