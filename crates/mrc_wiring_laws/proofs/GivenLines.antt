@@ -50,6 +50,20 @@ pub record IsGrown (table u : Table) : Type 0 where
   pub rows_kept : (t kind : ℕ) → has_row table.births t kind ≡ true
       → has_row u.births t kind ≡ true
 
+-- they do where they are the same
+pub same_grown : (table u : Table)
+    → table.interfaces ≡ u.interfaces
+    → table.names ≡ u.names
+    → table.ports ≡ u.ports
+    → table.births ≡ u.births
+    → IsGrown table u
+same_grown table u faces names ports births = record {
+  interfaces_same = faces;
+  names_kept = λ name t e. subst (λ (ns : List (List ℕ)). number_of ns name ≡ Some t) names e;
+  ports_kept = λ name p e. subst (λ (ns : List (List ℕ)). number_of ns name ≡ Some p) ports e;
+  rows_kept = λ t kind has. subst (λ (rows : List BirthRow). has_row rows t kind ≡ true) births has;
+}
+
 said_kept : (table u : Table) (lines : List (Line WiringSays)) (line : Line WiringSays)
     (t kind : ℕ) (label : List LabelItem)
     → IsGrown table u
@@ -291,7 +305,7 @@ rows_said table lines line task kind items t label says number means none are = 
 
 -- ---- admit lines
 
-class_said_kept : (table u : Table) (name : ClassName) (class : NumberedClass)
+pub class_said_kept : (table u : Table) (name : ClassName) (class : NumberedClass)
     → IsGrown table u
     → class_said table.names table.ports table.births name ≡ Some class
     → class_said u.names u.ports u.births name ≡ Some class
@@ -378,12 +392,7 @@ admits_more table lines line admit verb is are =
     u = with_admit table admit
 
     grown : IsGrown table u
-    grown = record {
-      interfaces_same = refl;
-      names_kept = λ name n e. e;
-      ports_kept = λ name n e. e;
-      rows_kept = λ t kind has. has;
-    }
+    grown = same_grown table u refl refl refl refl
 
     each_more : (i : ℕ) (one : Line WiringSays) (new : AdmitLine)
         → slice_get (admit_lines lines ++ line ∷ []) i ≡ Some one

@@ -20,15 +20,15 @@ use Rattle.mrc_wiring.specs.Sorts.{is_sort, sorts_of}
 use Rattle.mrc_wiring.specs.Table.{Table}
 use Rattle.mrc_wiring.specs.Names.{number_of, class_said}
 use Rattle.mrc_wiring.specs.Labels.{interface_number, label_said}
-use Rattle.mrc_wiring_laws.specs.GivenLines.{admit_lines, HasRow, HasBirthsLine, AreBirthsOf, IsClassOf}
-use Rattle.mrc_wiring_laws.specs.GivenLines.{IsAdmitOf, TablesOfLinesAreOne}
+use Rattle.mrc_wiring_laws.specs.GivenLines.{admit_lines, HasRow, HasBirthsLine, AreBirthsOf}
+use Rattle.mrc_wiring_laws.specs.GivenLines.{IsClassOf, IsAdmitOf, TablesOfLinesAreOne}
 use Rattle.mrc_wiring.proofs.BirthLaws.{IsBefore, before_is, before_then}
 use Rattle.mrc_wiring_laws.proofs.GivenRows.{each_in}
 
 -- ---- lists
 
 -- lists of one length with the same elements at their places are one
-same_by_places : {X : Type 0} (xs ys : List X)
+pub same_by_places : {X : Type 0} (xs ys : List X)
     → length xs ≡ length ys
     → ((i : ℕ) (x y : X) → slice_get xs i ≡ Some x → slice_get ys i ≡ Some y → x ≡ y)
     → xs ≡ ys

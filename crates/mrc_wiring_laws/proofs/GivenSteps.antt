@@ -31,31 +31,37 @@ use Rattle.mrc_wiring_text.specs.declared.wiring.WiringSays.TheVariants.{HoldPor
 use Rattle.mrc_wiring_text.specs.declared.wiring.WiringSays.TheVariants.{Trust, RepliesFit}
 use Rattle.mrc_wiring.specs.declared.names.NumberedClass.{NumberedClass}
 use Rattle.mrc_wiring.specs.declared.table.AdmitLine.{AdmitLine}
+use Rattle.mrc_wiring.specs.declared.table.NumberedRight.{NumberedRight}
+use Rattle.mrc_wiring.specs.declared.table.TrustedLine.{TrustedLine}
 use Rattle.mrc_wiring.specs.declared.births.BirthRow.{BirthRow}
 use Rattle.mrc_wiring.specs.declared.faults.ResolveFault.TheVariants.{UnknownName, TwiceNamed}
 use Rattle.mrc_wiring.specs.declared.faults.ResolveFault.TheVariants.{TooMany, TooManyNames}
 use Rattle.mrc_wiring.specs.declared.faults.ResolveFault.TheVariants.{IdClash}
-use Rattle.mrc_wiring.specs.Births.{is_row, has_row, has_said, new_row, said_row}
+use Rattle.mrc_wiring.specs.Births.{is_row, has_said, new_row, said_row}
 use Rattle.mrc_wiring.specs.Sorts.{is_sort, sorts_of}
 use Rattle.mrc_wiring.specs.Table.{Table, IsTable}
 use Rattle.mrc_wiring.specs.Names.{number_of, class_said}
 use Rattle.mrc_wiring.specs.Labels.{interface_number, label_said, clash_among}
 use Rattle.mrc_wiring.specs.Resolving.{with_line, with_task, with_port, with_births, is_over}
-use Rattle.mrc_wiring.specs.Resolving.{with_admit, with_fit, admitted_said}
+use Rattle.mrc_wiring.specs.Resolving.{with_admit, with_trust, with_fit, admitted_said}
 use Rattle.mrc_wiring.specs.Resolving.{add_task, place_port, add_port, place_births, add_births}
 use Rattle.mrc_wiring.specs.Resolving.{place_hold, right_held, port_birth, kernel_birth}
 use Rattle.mrc_wiring.specs.Resolving.{add_hold_port, add_hold_task, add_admit, trusted_said}
 use Rattle.mrc_wiring.specs.Resolving.{add_trust, add_fit, add_line, add_lines, empty_table}
-use Rattle.mrc_wiring.specs.Resolving.{has_twice, started}
+use Rattle.mrc_wiring.specs.Resolving.{verb_said, has_twice, started, resolved}
 use Rattle.mrc_wiring.specs.Resolving.{task_named, task_names}
 use Rattle.mrc_wiring_laws.specs.GivenLines.{port_named, is_admit, port_names}
 use Rattle.mrc_wiring_laws.specs.GivenLines.{HasBirthsLine, AreBirthsOf, IsClassOf, IsAdmitOf}
 use Rattle.mrc_wiring_laws.specs.GivenLines.{AreAdmitsOf}
 use Rattle.mrc_wiring_laws.specs.GivenLines.{HasRow, TablesAreOfLines}
+use Rattle.mrc_wiring_laws.specs.TrustedLines.{is_trust, IsRightOf, IsTrustOf, TrustsAreOfLines}
 use Rattle.mrc_wiring_laws.proofs.GivenRows.{place_kept, map_quiet, map_more, each_in}
 use Rattle.mrc_wiring_laws.proofs.GivenRows.{is_row_of, row_once}
-use Rattle.mrc_wiring_laws.proofs.GivenLines.{IsGrown, AreRows, IsRowOf, IsOther, rows_quiet}
+use Rattle.mrc_wiring_laws.proofs.GivenLines.{IsGrown, same_grown, AreRows, IsRowOf, IsOther}
+use Rattle.mrc_wiring_laws.proofs.GivenLines.{rows_quiet}
 use Rattle.mrc_wiring_laws.proofs.GivenLines.{rows_said, births_grown, admits_quiet, admits_more}
+use Rattle.mrc_wiring_laws.proofs.TrustedLines.{AreTrusted, is_fit, trusted_quiet, trusted_more}
+use Rattle.mrc_wiring_laws.proofs.TrustedLines.{fit_more, none_trusted, right_with}
 use Rattle.mrc_wiring.proofs.Resolved.{resolved_is_table}
 
 -- the table of the lines so far
@@ -66,6 +72,7 @@ pub record IsSoFar (interfaces : List Interface) (lines : List (Line WiringSays)
   pub ports : table.ports ≡ port_names lines
   pub rows : AreRows table lines
   pub admits : AreAdmitsOf table lines
+  pub trusted : AreTrusted table lines
 
 -- ---- the names of one line more
 
@@ -93,7 +100,7 @@ ports_more lines line name e =
 
 -- ---- one line more
 
--- a line of what neither names nor admits nor says anything of births
+-- a line that neither names nor admits nor says anything of births
 abbrev IsPlain : WiringSays → Type 0
 IsPlain says =
     (task_named says ≡ None)
@@ -110,8 +117,9 @@ plain_more : (interfaces : List Interface) (lines : List (Line WiringSays))
     → table.ports ≡ u.ports
     → table.births ≡ u.births
     → table.admits ≡ u.admits
+    → AreTrusted u (lines ++ line ∷ [])
     → IsSoFar interfaces (lines ++ line ∷ []) u
-plain_more interfaces lines line table u is plain faces names ports births admits = record {
+plain_more interfaces lines line table u is plain faces names ports births admits trusted = record {
   interfaces_are = sym faces ∙ is.interfaces_are;
   tasks = sym names ∙ is.tasks ∙ sym (tasks_quiet lines line plain.0);
   ports = sym ports ∙ is.ports ∙ sym (ports_quiet lines line plain.1);
@@ -119,16 +127,11 @@ plain_more interfaces lines line table u is plain faces names ports births admit
       (λ row at. subst (λ (rows : List BirthRow). IsIn row rows) births at)
       (λ row at. inl (subst (λ (rows : List BirthRow). IsIn row rows) (sym births) at)) is.rows;
   admits = admits_quiet table u lines line grown plain.2 admits is.admits;
+  trusted = trusted;
 }
   where
     grown : IsGrown table u
-    grown = record {
-      interfaces_same = faces;
-      names_kept = λ name t e. subst (λ (ns : List (List ℕ)). number_of ns name ≡ Some t) names e;
-      ports_kept = λ name p e. subst (λ (ns : List (List ℕ)). number_of ns name ≡ Some p) ports e;
-      rows_kept = λ t kind has. subst (λ (rows : List BirthRow). has_row rows t kind ≡ true)
-          births has;
-    }
+    grown = same_grown table u faces names ports births
 
 task_more : (interfaces : List Interface) (lines : List (Line WiringSays))
     (line : Line WiringSays) (table : Table) (name : List ℕ)
@@ -146,6 +149,8 @@ task_more interfaces lines line table name is says = record {
       (λ row at. from row (in_append row table.births (new_row (length table.names) 0 ∷ []) at))
       is.rows;
   admits = admits_quiet table u lines line grown (ap is_admit says) refl is.admits;
+  trusted = trusted_quiet table u lines line grown (ap is_trust says) (ap is_fit says) refl refl
+      is.trusted;
 }
   where
     u : Table
@@ -186,6 +191,8 @@ port_more interfaces lines line table name receiver accepts t label is says = re
   rows = rows_quiet table u lines line grown (λ task kind items e. other task kind items
       (sym says ∙ e)) (λ row at. at) (λ row at. inl at) is.rows;
   admits = admits_quiet table u lines line grown (ap is_admit says) refl is.admits;
+  trusted = trusted_quiet table u lines line grown (ap is_trust says) (ap is_fit says) refl refl
+      is.trusted;
 }
   where
     u : Table
@@ -220,6 +227,8 @@ births_more interfaces lines line table task kind items t label is says number m
   rows = rows_said table lines line task kind items t label says number means none is.rows;
   admits = admits_quiet table (with_births table t kind label) lines line
       (births_grown table t kind label) (ap is_admit says) refl is.admits;
+  trusted = trusted_quiet table (with_births table t kind label) lines line
+      (births_grown table t kind label) (ap is_trust says) (ap is_fit says) refl refl is.trusted;
 }
 
 admit_more : (interfaces : List Interface) (lines : List (Line WiringSays))
@@ -237,15 +246,12 @@ admit_more interfaces lines line table subsystem type_name class admit is says m
       (λ task kind items e. other task kind items (sym says ∙ e)) (λ row at. at)
       (λ row at. inl at) is.rows;
   admits = admits_more table lines line admit (ap is_admit says) means is.admits;
+  trusted = trusted_quiet table (with_admit table admit) lines line grown (ap is_trust says)
+      (ap is_fit says) refl refl is.trusted;
 }
   where
     grown : IsGrown table (with_admit table admit)
-    grown = record {
-      interfaces_same = refl;
-      names_kept = λ name n e. e;
-      ports_kept = λ name n e. e;
-      rows_kept = λ t kind has. has;
-    }
+    grown = same_grown table (with_admit table admit) refl refl refl refl
 
     other : (task : List ℕ) (kind : ℕ) (items : List Item)
         → Admit subsystem type_name class ≡ Births task kind items
@@ -326,9 +332,16 @@ line_more : (interfaces : List Interface) (lines : List (Line WiringSays)) (tabl
     (line : Line WiringSays) (first : FirstLine)
     → IsSoFar interfaces lines table
     → IsPlain line.says
+    → is_trust line.says ≡ false
+    → is_fit line.says ≡ false
     → IsSoFar interfaces (lines ++ line ∷ []) (with_line table first)
-line_more interfaces lines table line first is plain =
-    plain_more interfaces lines line table (with_line table first) is plain refl refl refl refl refl
+line_more interfaces lines table line first is plain no_trust no_fit =
+    plain_more interfaces lines line table u is plain refl refl refl refl refl
+    (trusted_quiet table u lines line (same_grown table u refl refl refl refl) no_trust no_fit refl
+    refl is.trusted)
+  where
+    u : Table
+    u = with_line table first
 
 hold_placed : (table u : Table) (t p : ℕ) (right : PortRight)
     → place_hold table t p right ≡ Ok u
@@ -351,7 +364,7 @@ hold_port_step interfaces lines table u n holder right port is e =
     subst (IsSoFar interfaces (lines ++ line_of n (HoldPort holder right port) ∷ []))
     (hold_placed table u t.0 p.0 (right_held right) p.2)
     (line_more interfaces lines table (line_of n (HoldPort holder right port))
-    (HoldLine t.0 p.0 (right_held right)) is (refl, refl, refl, λ task kind items f. cc))
+    (HoldLine t.0 p.0 (right_held right)) is (refl, refl, refl, λ task kind items f. cc) refl refl)
 
 hold_task_step : (interfaces : List Interface) (lines : List (Line WiringSays)) (table u : Table)
     (n : ℕ) (holder task : List ℕ)
@@ -365,7 +378,7 @@ hold_task_step interfaces lines table u n holder task is e =
     subst (IsSoFar interfaces (lines ++ line_of n (HoldTask holder task) ∷ []))
     (hold_placed table u t.0 p.0 Send p.2)
     (line_more interfaces lines table (line_of n (HoldTask holder task))
-    (HoldLine t.0 p.0 Send) is (refl, refl, refl, λ one kind items f. cc))
+    (HoldLine t.0 p.0 Send) is (refl, refl, refl, λ one kind items f. cc) refl refl)
 
 -- the class that an admit line names
 class_of_line : (table : Table) (n : ℕ) (said : Option ClassName) (class : Option NumberedClass)
@@ -403,6 +416,30 @@ admit_step interfaces lines table u n subsystem type_name class is e =
       class_is = class_of_line table n class admitted.0 admitted.1;
     })
 
+-- the right on a class that a `trust` line names
+right_of_line : (table : Table) (n : ℕ) (said : Option TrustedRight) (right : Option NumberedRight)
+    → trusted_said table n said ≡ Ok right
+    → IsRightOf table said right
+right_of_line table n None right e = sym (ok_is None right e)
+right_of_line table n (Some on) right e =
+    let named = bind_ok (ok_or (class_said table.names table.ports table.births on.class)
+    (UnknownName n)) _ right e in (
+      named.0,
+      sym (ok_is (Some (right_with on.right named.0)) right named.2),
+      ok_or_is _ (UnknownName n) named.0 named.1,
+    )
+
+trust_more : (interfaces : List Interface) (lines : List (Line WiringSays)) (table : Table)
+    (line : Line WiringSays) (trusted : TrustedLine)
+    → IsSoFar interfaces lines table
+    → IsPlain line.says
+    → is_trust line.says ≡ true
+    → IsTrustOf table line trusted
+    → IsSoFar interfaces (lines ++ line ∷ []) (with_trust table trusted)
+trust_more interfaces lines table line trusted is plain verb means =
+    plain_more interfaces lines line table (with_trust table trusted) is plain refl refl refl refl
+    refl (trusted_more table lines line trusted verb means is.trusted)
+
 trust_step : (interfaces : List Interface) (lines : List (Line WiringSays)) (table u : Table)
     (n : ℕ) (task : List ℕ) (verb : TrustVerb) (right : Option TrustedRight)
     → IsSoFar interfaces lines table
@@ -412,10 +449,25 @@ unfolding add_trust
 trust_step interfaces lines table u n task verb right is e =
     let t = bind_ok (ok_or (number_of table.names task) (UnknownName n)) _ u e in
     let on = bind_ok (trusted_said table n right) _ u t.2 in
+    let trusted : TrustedLine = record {
+      line = n;
+      verb = verb_said verb;
+      task = t.0;
+      right = on.0;
+    } in
     subst (IsSoFar interfaces (lines ++ line_of n (Trust task verb right) ∷ []))
-    (ok_is _ u on.2)
-    (plain_more interfaces lines (line_of n (Trust task verb right)) table _ is
-    (refl, refl, refl, λ one kind items f. cc) refl refl refl refl refl)
+    (ok_is (with_trust table trusted) u on.2)
+    (trust_more interfaces lines table (line_of n (Trust task verb right)) trusted is
+    (refl, refl, refl, λ one kind items f. cc) refl record {
+      task = task;
+      word = verb;
+      right = right;
+      says = refl;
+      line_is = refl;
+      verb_is = refl;
+      task_is = ok_or_is _ (UnknownName n) t.0 t.1;
+      right_is = right_of_line table n right on.0 on.1;
+    })
 
 fit_step : (interfaces : List Interface) (lines : List (Line WiringSays)) (table u : Table)
     (n : ℕ)
@@ -428,7 +480,8 @@ fit_step interfaces lines table u n is e =
     subst (IsSoFar interfaces (lines ++ line_of n RepliesFit ∷ []))
     (ok_is (with_fit table) u once.1)
     (plain_more interfaces lines (line_of n RepliesFit) table (with_fit table) is
-    (refl, refl, refl, λ one kind items f. cc) refl refl refl refl refl)
+    (refl, refl, refl, λ one kind items f. cc) refl refl refl refl refl
+    (fit_more table lines (line_of n RepliesFit) refl once.0 is.trusted))
 
 step : (interfaces : List Interface) (lines : List (Line WiringSays)) (table u : Table) (n : ℕ)
     (says : WiringSays)
@@ -482,6 +535,7 @@ no_line interfaces = record {
     many = refl;
     each = λ i line admit first second. absurd (none-some line first);
   };
+  trusted = none_trusted interfaces;
 }
 
 started_so_far : (interfaces : List Interface) (u : Table)
@@ -574,15 +628,30 @@ births_are table lines are is = record {
   ascending = is.births.ascending;
 }
 
+-- what is so at the last line
+at_last : (interfaces : List Interface) (lines : List (Line WiringSays)) (table : Table)
+    → resolved interfaces lines ≡ Ok table
+    → IsSoFar interfaces lines table
+at_last interfaces lines table e =
+    let first = bind_ok (started interfaces) _ table e in
+    steps interfaces [] lines first.0 table (started_so_far interfaces first.0 first.1) first.2
+
 pub tables_of_lines : TablesAreOfLines
 tables_of_lines interfaces lines table e =
-    let first = bind_ok (started interfaces) _ table e in
-    let all = steps interfaces [] lines first.0 table
-    (started_so_far interfaces first.0 first.1) first.2 in
+    let all = at_last interfaces lines table e in
     record {
       interfaces_are = all.interfaces_are;
       tasks = all.tasks;
       ports = all.ports;
       births = births_are table lines all.rows (resolved_is_table interfaces lines table e);
       admits = all.admits;
+    }
+
+pub trusts_of_lines : TrustsAreOfLines
+trusts_of_lines interfaces lines table e =
+    let all = at_last interfaces lines table e in
+    record {
+      given = tables_of_lines interfaces lines table e;
+      trusts = all.trusted.trusts;
+      fits = all.trusted.fits;
     }

@@ -4,3 +4,5 @@ pub mod GivenOnes
 pub mod GivenRows
 pub mod GivenSteps
 pub mod SortLaws
+pub mod TrustedLines
+pub mod TrustedOnes

@@ -1,3 +1,5 @@
 pub mod ClashLaw
 pub mod GivenLines
 pub mod GivenExamples
+pub mod TrustedLines
+pub mod TrustedExamples
