@@ -241,9 +241,9 @@ fn flag(rest: Rest<'_>) -> Result<Rest<'_>, Stop>
     }
 }
 
-/// Passes flags, each behind a comma.
+/// Passes flags, each behind a comma. A comma behind which none stands is Unexpected.
 #[tactic(auto, using(mrc_mig_tokens::proofs::LoopLemmas::many_ends, mrc_mig_tokens::proofs::LoopLemmas::many_goes_on, mrc_mig_tokens::proofs::LoopLemmas::many_done), unfolding(crate::specs::Reading::flags_at, crate::specs::Reading::begins_flag))]
-pub(crate) fn flags(rest: Rest<'_>) -> Result<Rest<'_>, Stop>
+pub fn flags(rest: Rest<'_>) -> Result<Rest<'_>, Stop>
     ensures { Answers left result (flags_at (left rest.entry)) }
 {
     let mut rest = rest;

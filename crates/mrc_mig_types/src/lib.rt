@@ -12,6 +12,7 @@ mod structs;
 mod table;
 mod types;
 
+pub use basics::flags;
 pub use laws::specs_by_grammar;
 pub use meaning::{Count, Meaning, Tag};
 pub use shapes::{By, Rights, Shape, rights_of, shape_of};

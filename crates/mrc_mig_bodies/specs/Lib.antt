@@ -1,0 +1,9 @@
+pub mod Bodies
+pub mod Carried
+pub mod Examples
+pub mod Laws
+pub mod Listed
+pub mod Objections
+pub mod Parameters
+pub mod Rights
+pub mod Roles
