@@ -18,6 +18,9 @@
 //!   with its numbers, bits, count and alignment, and what an argument of it is by what is sent, by
 //!   what is received, and with each number that gives what is received
 //! - `forms`: the table of forms of a MIG file
+//! - `forms2`: of a MIG text as one of the second edition, the subsystem, each routine with its
+//!   messages or with the word for which it is left out and what it may carry, and behind them the
+//!   types that are not read
 //! - `names`: the forms of a MIG file by the names of their routines, with those of their arguments
 //! - `cut`: what is left out of a MIG text that is cut, and the table of forms of what is left
 //! - `rest`: what is left of it, with ` / ` between its lines
@@ -52,6 +55,7 @@ mod policies;
 mod prefixes;
 mod repeats;
 mod resolved;
+mod rows;
 mod samples;
 mod systems;
 mod tokens;
@@ -78,6 +82,7 @@ fn answer(alloc: Global, kind: &str, text: &str, other: &str) -> Result<String> 
         "value2" => wide::value(alloc, text),
         "types2" => wide::types(alloc, text),
         "forms" => forms::forms(alloc, text.as_bytes()),
+        "forms2" => rows::forms(alloc, text),
         "names" => forms::names(alloc, text.as_bytes()),
         "cut" => cuts::cut_forms(alloc, text),
         "rest" => cuts::cut_lines(alloc, text),

@@ -12,7 +12,7 @@ use std::alloc::{AllocError, Global};
 use std::fmt::Write;
 
 /// The tokens of a text.
-fn lexed(alloc: Global, text: &str) -> Result<Tokens<'_>> {
+pub(crate) fn lexed(alloc: Global, text: &str) -> Result<Tokens<'_>> {
     match lex(alloc, text) {
         Ok(tokens) => Ok(tokens),
         Err(OrMemory::Fault(LexFault::OpenComment(at))) => bail!("OpenComment {at}"),
@@ -113,7 +113,7 @@ fn put_count(out: &mut String, count: Count) -> Result<(), AllocError> {
     }
 }
 
-fn put_rights(out: &mut String, rights: Rights) -> Result<(), AllocError> {
+pub(crate) fn put_rights(out: &mut String, rights: Rights) -> Result<(), AllocError> {
     match rights {
         Rights::Nothing => write!(out, "none"),
         Rights::Only(number) => write!(out, "{number}"),
@@ -123,7 +123,7 @@ fn put_rights(out: &mut String, rights: Rights) -> Result<(), AllocError> {
     }
 }
 
-fn put_shape(out: &mut String, shape: Shape) -> Result<(), AllocError> {
+pub(crate) fn put_shape(out: &mut String, shape: Shape) -> Result<(), AllocError> {
     let (bits, count, is_bound) = match shape {
         Shape::AnyData => return write!(out, "any"),
         Shape::Data {

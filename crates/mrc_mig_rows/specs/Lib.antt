@@ -1,0 +1,14 @@
+pub mod Ends
+pub mod Kinds
+pub mod Headings
+pub mod Words
+pub mod Names
+pub mod Parts
+pub mod Declarations
+pub mod Carried
+pub mod Rows
+pub mod Files
+pub mod Readers
+pub mod Statements
+pub mod Examples
+pub mod Laws
