@@ -19,7 +19,7 @@ use Rattle.mrc_model.specs.Wiring.{AnyData, Form, ItemTypes, OfReply, OfRequest,
 use Rattle.mrc_model.specs.Wiring.{Shape, Wiring, type_numbers}
 use Rattle.mrc_model.specs.Wiring.{accepts_routine, form_id, form_shapes, forms, has_routine}
 use Rattle.mrc_model.specs.Wiring.{accepts_replier, accepts_reply, fits_at, interface, is_answered}
-use Rattle.mrc_model.specs.Wiring.{is_answered_at, is_routine, is_routine_of, item_forms, label}
+use Rattle.mrc_model.specs.Wiring.{is_answered_at, brings_reply, is_routine_of, item_forms, label}
 use Rattle.mrc_model.specs.declared.Denied.{Denied}
 use Rattle.mrc_model.specs.declared.Denied.TheVariants.{ReplySlot, WrongDisposition, WrongShape}
 use Rattle.mrc_model.specs.declared.LabelItem.{LabelItem}
@@ -155,18 +155,18 @@ in_map g (x ∷ xs) y (later i) = let (v, in_xs, is) = in_map g xs y i in (v, la
 
 -- a routine's request that is a form of an item of a label is of an interface with a routine
 item_routine : (W : Wiring) (f : RequestForm) (x : LabelItem) → IsIn (OfRequest f) (item_forms W x)
-    → is_routine f ≡ true → has_routine W x ≡ true
+    → brings_reply f ≡ true → has_routine W x ≡ true
 item_routine W f (RequestOf s) i e =
     let (g, in_requests, is) = in_map OfRequest (interface W s).requests (OfRequest f) i in
     let same : g ≡ f = cc in
-    in_any is_routine g (interface W s).requests in_requests (ap is_routine same ∙ e)
+    in_any brings_reply g (interface W s).requests in_requests (ap brings_reply same ∙ e)
 item_routine W f (ReplyOf s) i e =
     let (g, in_replies, is) = in_map OfReply (interface W s).replies (OfRequest f) i in absurd (cc)
 item_routine W f Destroyed i e = elim i [ ]
 
 -- so the class whose form it is accepts routines
 pub routine_accepted : (W : Wiring) (d : ℕ) (f : RequestForm) → IsIn (OfRequest f) (forms W d)
-    → is_routine f ≡ true
+    → brings_reply f ≡ true
     → accepts_routine W d ≡ true
 unfolding forms accepts_routine
 routine_accepted W d f i e = of_items (label W d) i
@@ -187,8 +187,8 @@ answered W id c (RequestOf s) e =
     let z = and_parts (list_any (is_routine_of id) (interface W s).requests) (accepts_reply W c s) e
     in
     and_from _ _
-    (any_more (is_routine_of id) is_routine (interface W s).requests
-    (λ f h. (and_parts (is_routine f) (f.id == id) h).0) z.0) z.1
+    (any_more (is_routine_of id) brings_reply (interface W s).requests
+    (λ f h. (and_parts (brings_reply f) (f.id == id) h).0) z.0) z.1
 answered W id c (ReplyOf s) e = cc
 answered W id c Destroyed e = cc
 

@@ -19,7 +19,7 @@ use Rattle.mrc_model.proofs.Tries.{Gives, bind, bind_, checked, found, gives_err
 use Rattle.mrc_model.proofs.Tries.{not_refused}
 use Rattle.mrc_model.specs.CallSend.{call_send, fits_item, fits_port, not_receive, take_reply_by}
 use Rattle.mrc_model.specs.Death.{append}
-use Rattle.mrc_model.specs.Filter.{fits_reply, fits_request}
+use Rattle.mrc_model.specs.Filter.{fits_once, fits_reply, fits_request}
 use Rattle.mrc_model.specs.IsIn.{IsIn}
 use Rattle.mrc_model.specs.Map.{get}
 use Rattle.mrc_model.specs.Message.{Message}
@@ -28,7 +28,7 @@ use Rattle.mrc_model.specs.Rights.{is_once}
 use Rattle.mrc_model.specs.Rules.{CanSendBy, FactSet, by_once, by_send}
 use Rattle.mrc_model.specs.Wiring.{Form, OfReply, OfRequest, RequestForm, Wiring, form_shapes}
 use Rattle.mrc_model.specs.Trust.{may_item}
-use Rattle.mrc_model.specs.Wiring.{fits_at, forms, is_routine, is_routine_kind, may}
+use Rattle.mrc_model.specs.Wiring.{fits_at, forms, brings_reply, brings_reply_kind, may}
 use Rattle.mrc_model.specs.World.{Held, Parcel, Store, World, class_of, item_rights, receives}
 use Rattle.mrc_model.specs.World.{task_class}
 use Rattle.mrc_model.specs.declared.Item.{Item}
@@ -36,7 +36,7 @@ use Rattle.mrc_model.specs.declared.Item.TheVariants.{Dead as DeadItem, Null as 
 use Rattle.mrc_model.specs.declared.Item.TheVariants.{Right as RightItem}
 use Rattle.mrc_model.specs.declared.Verb.TheVariants.{Replies}
 use Rattle.mrc_model.specs.declared.RequestKind.{RequestKind}
-use Rattle.mrc_model.specs.declared.RequestKind.TheVariants.{Routine, Simple}
+use Rattle.mrc_model.specs.declared.RequestKind.TheVariants.{Routine, Simple, Replied}
 use Rattle.mrc_cover.proofs.Carrying.{IsCarried, carries_nothing, carries_then, carries_weaker}
 use Rattle.mrc_cover.proofs.Carrying.{take_args_carry, take_item_carries}
 use Rattle.mrc_cover.proofs.Judging.{judge_says, replier_accepted, routine_accepted}
@@ -74,29 +74,34 @@ not_moved_back : (x : Disp) (p q : ℕ) → not_receive x ≡ true
     → receives q [] ≡ receives q (right_on p (given x) ∷ [])
 not_moved_back x p q e = sym (not_moved x p q e)
 
--- a form admits a reply right only as a send-once right, of a routine's request
+-- a form admits a reply right only as a send-once right, of a request that may bring one
 reply_once : (f : Form) (n : ℕ) (x : Disp) → fits_reply f n ≡ true → disp_of_number n ≡ Some x
-    → (r : RequestForm) × (f ≡ OfRequest r) × (is_routine r ≡ true) × (given x ≡ SendOnce)
+    → (r : RequestForm) × (f ≡ OfRequest r) × (brings_reply r ≡ true) × (given x ≡ SendOnce)
     × ((needed x ≡ SendOnce) ⊎ (needed x ≡ Receive))
 reply_once (OfRequest r) n x fit is =
     let (routine, gives, needs) = by_kind r.kind fit in (r, refl, routine, gives, needs)
   where
-    by_kind : (k : RequestKind) → fits_request k n ≡ true
-        → (is_routine_kind k ≡ true) × (given x ≡ SendOnce) ×
-        ((needed x ≡ SendOnce) ⊎ (needed x ≡ Receive))
-    by_kind Routine fit = elim (or_cases (n == 0) (n == 18 || n == 21) fit) [
+    by_once : fits_once n ≡ true
+        → (given x ≡ SendOnce) × ((needed x ≡ SendOnce) ⊎ (needed x ≡ Receive))
+    by_once fit = elim (or_cases (n == 0) (n == 18 || n == 21) fit) [
       | inl z ↦ absurd (not_None x (sym is ∙ ap disp_of_number (eqb-true n 0 z)))
       | inr z ↦ elim (or_cases (n == 18) (n == 21) z) [
         | inl a ↦
             let same : MoveSendOnce ≡ x = same_Some MoveSendOnce x
             (sym (ap disp_of_number (eqb-true n 18 a)) ∙ is) in
-            (refl, ap given (sym same), inl (ap needed (sym same)))
+            (ap given (sym same), inl (ap needed (sym same)))
         | inr a ↦
             let same : MakeSendOnce ≡ x = same_Some MakeSendOnce x
             (sym (ap disp_of_number (eqb-true n 21 a)) ∙ is) in
-            (refl, ap given (sym same), inr (ap needed (sym same)))
+            (ap given (sym same), inr (ap needed (sym same)))
       ]
     ]
+
+    by_kind : (k : RequestKind) → fits_request k n ≡ true
+        → (brings_reply_kind k ≡ true) × (given x ≡ SendOnce) ×
+        ((needed x ≡ SendOnce) ⊎ (needed x ≡ Receive))
+    by_kind Routine fit = (refl, by_once fit)
+    by_kind Replied fit = (refl, by_once fit)
     by_kind Simple fit = absurd (not_None x (sym is ∙ ap disp_of_number (eqb-true n 0 fit)))
 reply_once (OfReply r) n x fit is =
     absurd (not_None x (sym is ∙ ap disp_of_number (eqb-true n 0 fit)))

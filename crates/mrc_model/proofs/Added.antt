@@ -22,7 +22,7 @@ use Rattle.mrc_model.specs.declared.FirstLine.TheVariants.{Task as TaskLine, Por
 use Rattle.mrc_model.specs.declared.FirstLine.TheVariants.{Hold as HoldLine}
 use Rattle.mrc_model.specs.Map.{get}
 use Rattle.mrc_model.specs.Message.{Message, Arg, Data, Ports}
-use Rattle.mrc_model.specs.Wiring.{Wiring, Shape, interface, is_limited, is_routine, has_routine}
+use Rattle.mrc_model.specs.Wiring.{Wiring, Shape, interface, is_limited, brings_reply, has_routine}
 use Rattle.mrc_model.specs.Wiring.{is_answered}
 use Rattle.mrc_model.specs.Wiring.{label, forms, admits, may}
 use Rattle.mrc_model.specs.Wiring.{accepts_destroyed, accepts_routine, accepts_reply}
@@ -232,7 +232,7 @@ additions_refuse W w t call = step_guards W w t call
 any_routine : (W : Wiring) (c : ℕ) (x : LabelItem) → is_answered W c x ≡ true
     → has_routine W x ≡ true
 any_routine W c (RequestOf s) e =
-    (and_parts (list_any is_routine (interface W s).requests) (accepts_reply W c s) e).0
+    (and_parts (list_any brings_reply (interface W s).requests) (accepts_reply W c s) e).0
 any_routine W c (ReplyOf s) e = cc
 any_routine W c Destroyed e = cc
 

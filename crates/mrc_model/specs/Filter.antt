@@ -7,7 +7,7 @@ use Rattle.std.specs.Prelude.{None, Result, Ok, Err, nat_le, ◌==◌, if◌then
 use Rattle.std.specs.List.{list_all, list_any}
 use Rattle.mrc_base.specs.declared.Disp.TheVariants.{MoveSendOnce, MakeSendOnce}
 use Rattle.mrc_model.specs.declared.RequestKind.{RequestKind}
-use Rattle.mrc_model.specs.declared.RequestKind.TheVariants.{Routine, Simple}
+use Rattle.mrc_model.specs.declared.RequestKind.TheVariants.{Routine, Simple, Replied}
 use Rattle.mrc_model.specs.declared.Denied.{Denied}
 use Rattle.mrc_model.specs.declared.Denied.TheVariants.{NoSuchId, WrongShape, WrongDisposition}
 use Rattle.mrc_model.specs.declared.Denied.TheVariants.{ReplySlot}
@@ -77,15 +77,18 @@ abbrev pub expected : Form → List Arg → List Shape
 expected (OfRequest f) args = f.shapes
 expected (OfReply f) args = if is_zero_data args then f.shapes else first_alone f.shapes
 
--- a routine takes no disposition for the reply port or one that gives a send-once right, a
--- simpleroutine takes none
-abbrev pub fits_request : RequestKind → ℕ → Bool
-fits_request Routine x =
-    x == 0 || (x == disp_number MoveSendOnce || x == disp_number MakeSendOnce)
-fits_request Simple x = x == 0
+-- no disposition, or one that gives a send-once right
+abbrev pub fits_once : ℕ → Bool
+fits_once x = x == 0 || (x == disp_number MoveSendOnce || x == disp_number MakeSendOnce)
 
--- the form goes with this disposition of the reply port: a routine's request takes one that gives a
--- send-once right, or none
+-- A routine takes no disposition for the reply port or one that gives a send-once right, and so does
+-- a simpleroutine with a reply port; another simpleroutine takes none.
+abbrev pub fits_request : RequestKind → ℕ → Bool
+fits_request Routine x = fits_once x
+fits_request Simple x = x == 0
+fits_request Replied x = fits_once x
+
+-- the form goes with this disposition of the reply port; a reply has none
 abbrev pub fits_reply : Form → ℕ → Bool
 fits_reply (OfRequest f) x = fits_request f.kind x
 fits_reply (OfReply f) x = x == 0

@@ -9,7 +9,7 @@ use Rattle.mrc_base.specs.declared.PortRight.{PortRight}
 use Rattle.mrc_model.specs.declared.Verb.{Verb}
 use Rattle.mrc_model.specs.declared.Verb.TheVariants.{Takes, Gives, Sends, Replies}
 use Rattle.mrc_model.specs.declared.RequestKind.{RequestKind}
-use Rattle.mrc_model.specs.declared.RequestKind.TheVariants.{Routine, Simple}
+use Rattle.mrc_model.specs.declared.RequestKind.TheVariants.{Routine, Simple, Replied}
 use Rattle.mrc_model.specs.declared.LabelItem.{LabelItem}
 use Rattle.mrc_model.specs.declared.LabelItem.TheVariants.{Request as RequestOf, Reply as ReplyOf}
 use Rattle.mrc_model.specs.declared.LabelItem.TheVariants.{Destroyed}
@@ -42,7 +42,8 @@ pub record Shape : Type 0 where
   pub is_bound : Bool
   pub sort : ℕ
 
--- the body of a request. A routine's request has a reply, a simpleroutine's has none
+-- The body of a request. A routine's request has a reply, a simpleroutine's has none; that of a
+-- simpleroutine with a reply port may bring a reply right, and has no reply of its own.
 pub record RequestForm : Type 0 where
   pub id : ℕ
   pub kind : RequestKind
@@ -158,23 +159,23 @@ item_forms W Destroyed = []
 unfoldable pub forms : Wiring → ℕ → List Form
 forms W c = flat_map (item_forms W) (label W c)
 
--- the request has a reply
-abbrev pub is_routine_kind : RequestKind → Bool
-is_routine_kind Routine = true
-is_routine_kind Simple = false
+-- a request of this kind may bring a reply right
+abbrev pub brings_reply_kind : RequestKind → Bool
+brings_reply_kind Routine = true
+brings_reply_kind Simple = false
+brings_reply_kind Replied = true
 
--- the form is a routine's
-abbrev pub is_routine : RequestForm → Bool
-is_routine f = is_routine_kind f.kind
+-- the request may bring a reply right
+abbrev pub brings_reply : RequestForm → Bool
+brings_reply f = brings_reply_kind f.kind
 
--- the item stands for requests of an interface that has a routine
+-- the item stands for requests of an interface that has one which may bring a reply right
 abbrev pub has_routine : Wiring → LabelItem → Bool
-has_routine W (RequestOf s) = list_any is_routine (interface W s).requests
+has_routine W (RequestOf s) = list_any brings_reply (interface W s).requests
 has_routine W (ReplyOf s) = false
 has_routine W Destroyed = false
 
--- the class accepts requests of an interface that has a routine, so a reply right can come with
--- them
+-- the class accepts requests of an interface that has one which may bring a reply right
 unfoldable pub accepts_routine : Wiring → ℕ → Bool
 accepts_routine W c = list_any (has_routine W) (label W c)
 
@@ -188,24 +189,25 @@ is_reply_of s Destroyed = false
 unfoldable pub accepts_reply : Wiring → ℕ → ℕ → Bool
 accepts_reply W c s = list_any (is_reply_of s) (label W c)
 
--- the item stands for requests of an interface that has a routine, and class c accepts its replies
+-- the item stands for requests of an interface that has one which may bring a reply right, and
+-- class c accepts its replies
 abbrev pub is_answered : Wiring → ℕ → LabelItem → Bool
-is_answered W c (RequestOf s) = list_any is_routine (interface W s).requests && accepts_reply W c s
+is_answered W c (RequestOf s) = list_any brings_reply (interface W s).requests && accepts_reply W c s
 is_answered W c (ReplyOf s) = false
 is_answered W c Destroyed = false
 
--- Some request to class d can carry a reply right on a port of class c: one of an interface with a
--- routine, whose replies c accepts if reply ports have to fit.
+-- Some request to class d can carry a reply right on a port of class c: one of an interface whose
+-- replies c accepts if reply ports have to fit.
 unfoldable pub accepts_replier : Wiring → ℕ → ℕ → Bool
 accepts_replier W d c =
     if W.replies_fit then list_any (is_answered W c) (label W d) else accepts_routine W d
 
--- the request is a routine's and has this id
+-- the request may bring a reply right and has this id
 abbrev pub is_routine_of : ℕ → RequestForm → Bool
-is_routine_of id f = is_routine f && f.id == id
+is_routine_of id f = brings_reply f && f.id == id
 
--- the item stands for requests of an interface that has a routine with this id, and class c accepts
--- its replies
+-- the item stands for requests of an interface that has one with this id which may bring a reply
+-- right, and class c accepts its replies
 abbrev pub is_answered_at : Wiring → ℕ → ℕ → LabelItem → Bool
 is_answered_at W id c (RequestOf s) =
     list_any (is_routine_of id) (interface W s).requests && accepts_reply W c s

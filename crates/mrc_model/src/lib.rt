@@ -65,13 +65,16 @@ pub enum Backup {
     Port(PortId),
 }
 
-/// Whether a request has a reply.
+/// Whether a request has a reply, and whether it may bring a reply right.
 #[derive(Clone, Copy, Debug, PartialEq, Eq)]
 pub enum RequestKind {
     /// A request of a routine, which has a reply.
     Routine,
     /// A request of a simpleroutine, which has none.
     Simple,
+    /// A request of a simpleroutine with a reply port: it may bring a reply right, and has no reply
+    /// of its own.
+    Replied,
 }
 
 /// What a class of ports accepts. An interface stands by its number in the wiring.

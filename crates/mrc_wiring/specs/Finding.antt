@@ -6,7 +6,7 @@ use Rattle.mrc_model.specs.CallSend.{first_sort}
 use Rattle.mrc_model.specs.declared.LabelItem.{LabelItem}
 use Rattle.mrc_model.specs.declared.LabelItem.TheVariants as items
 use Rattle.mrc_model.specs.Wiring.{Wiring, Shape, Form, OfRequest, OfReply}
-use Rattle.mrc_model.specs.Wiring.{form_id, interface, item_forms, label, is_routine}
+use Rattle.mrc_model.specs.Wiring.{form_id, interface, item_forms, label, brings_reply}
 use Rattle.mrc_model.specs.Wiring.{is_routine_of}
 use Rattle.mrc_forms.specs.Tables.{Table as Interface}
 use Rattle.mrc_forms.specs.declared.form.MessageKind.{MessageKind}
@@ -46,7 +46,7 @@ placed forms place = option_and_then (λ o. o) (slice_get forms place)
 
 -- the form is that of a routine's request
 abbrev pub is_of_routine : Form → Bool
-is_of_routine (OfRequest form) = is_routine form
+is_of_routine (OfRequest form) = brings_reply form
 is_of_routine (OfReply form) = false
 
 -- there is a form, and it is that of a routine's request
