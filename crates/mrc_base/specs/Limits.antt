@@ -19,7 +19,11 @@ limit_of_interfaces = 16
 
 -- message ids of an interface, those that it skips counted
 abbrev pub limit_of_ids : ℕ
-limit_of_ids = 100
+limit_of_ids = 1000
+
+-- message ids of a MIG file of edition 1, those that it skips counted
+abbrev pub limit_of_first_edition_ids : ℕ
+limit_of_first_edition_ids = 100
 
 -- arguments of a routine
 abbrev pub limit_of_arguments : ℕ

@@ -12,7 +12,9 @@ pub const KINDS: u8 = 16;
 /// Interfaces of a wiring, at most.
 pub const INTERFACES: usize = 16;
 /// Message ids of an interface, at most, those that it skips counted.
-pub const IDS: usize = 100;
+pub const IDS: usize = 1000;
+/// Message ids of a MIG file of edition 1, at most, those that it skips counted.
+pub const FIRST_EDITION_IDS: usize = 100;
 /// Arguments of a routine, at most.
 pub const ARGUMENTS: usize = 32;
 /// Lines of a text, at most.
@@ -55,6 +57,7 @@ pub fn limits_are_defined()
     ensures kinds { KINDS ≡ limit.limit_of_kinds }
     ensures interfaces { INTERFACES ≡ limit.limit_of_interfaces }
     ensures ids { IDS ≡ limit.limit_of_ids }
+    ensures first_edition_ids { FIRST_EDITION_IDS ≡ limit.limit_of_first_edition_ids }
     ensures arguments { ARGUMENTS ≡ limit.limit_of_arguments }
     ensures lines { LINES ≡ limit.limit_of_lines }
     ensures name { NAME ≡ limit.limit_of_name }

@@ -197,7 +197,7 @@ impl<'t> Maker<'t> {
         routine: &Text<'t>,
         line: Line,
     ) -> Result<Option<&'t str>, AllocError> {
-        if self.ids as usize >= limits::IDS {
+        if self.ids as usize >= limits::FIRST_EDITION_IDS {
             return Ok(Some("TooMany"));
         }
         if let Some(word) = self.refused(alloc, routine)? {
@@ -413,7 +413,7 @@ impl<'t> Maker<'t> {
         let before = self.ids.saturating_sub(self.skips);
         let most = (limits::NUMBER + 1)
             .saturating_sub(first)
-            .min(limits::IDS as u32);
+            .min(limits::FIRST_EDITION_IDS as u32);
         let count = self.skips.min(most.saturating_sub(before));
         push_skips(&mut self.text, count)?;
         push_notes(&mut self.text, source.tokens)?;

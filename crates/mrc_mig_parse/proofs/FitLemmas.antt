@@ -9,7 +9,7 @@ use Rattle.std.proofs.lemmas.List.{length-map}
 use Rattle.std.proofs.lemmas.List.Folds.{list_all-append, list_all-map}
 use Rattle.std.proofs.lemmas.Bool.{and_from, and_parts, le-leb, lt-ltb, eqb-false}
 use Rattle.std.proofs.lemmas.Option.{same_Some, cond_some}
-use Rattle.mrc_base.specs.Limits.{limit_of_items, limit_of_arguments, limit_of_ids}
+use Rattle.mrc_base.specs.Limits.{limit_of_items, limit_of_arguments, limit_of_first_edition_ids}
 use Rattle.mrc_mig_lex.specs.Tokens.{Lexeme}
 use Rattle.mrc_mig_symbols.specs.declared.word.Basic.{Basic}
 use Rattle.mrc_mig_symbols.specs.declared.word.Basic.TheVariants.{Plain}
@@ -219,7 +219,7 @@ resolved_fit ps found seen e = by (count_by is_marked ps == 0) e
 -- what is declared so far
 pub record StateFits (s : State) : Type 0 where
   pub types : types_fit s.types ≡ true
-  pub few : length s.rows ≤ limit_of_ids
+  pub few : length s.rows ≤ limit_of_first_edition_ids
   pub rows : list_all row_fits s.rows ≡ true
 
 with_one : (types : List (List ℕ × Shape)) (name : List ℕ) (shape : Shape)
@@ -264,7 +264,7 @@ line_fits (marker is) fits = fits
 line_fits (include {s = s} {t = t} is declares) fits = include_fits s.has_table s t fits declares
 
 -- with one row more, where there may be one more
-one_more_row : (s : State) (row : Row) → StateFits s → length s.rows < limit_of_ids
+one_more_row : (s : State) (row : Row) → StateFits s → length s.rows < limit_of_first_edition_ids
     → row_fits row ≡ true → StateFits (with_row s row)
 one_more_row s row all room fits = record {
   types = all.types;

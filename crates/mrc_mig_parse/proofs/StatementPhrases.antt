@@ -2,7 +2,7 @@
 use Rattle.std.proofs.Common.{◌≡◌, ℕ, ◌<◌, Bool, true, false, List, [], ◌∷◌, ◌++◌, length, Option}
 use Rattle.std.proofs.Common.{Some, refl, sym, ap, ◌∙◌, subst, append_assoc}
 use Rattle.std.proofs.lemmas.Option.{same_Some}
-use Rattle.mrc_base.specs.Limits.{limit_of_ids}
+use Rattle.mrc_base.specs.Limits.{limit_of_first_edition_ids}
 use Rattle.mrc_mig_lex.specs.Tokens.{Lexeme}
 use Rattle.mrc_mig_lex.specs.declared.token.Sign.TheVariants.{Semicolon, Equals, OpenParenthesis}
 use Rattle.mrc_mig_lex.specs.declared.token.Sign.TheVariants.{CloseParenthesis}
@@ -113,7 +113,7 @@ behind_word word s t tokens rest is others made =
 
 -- a statement that takes an id
 row_is : (word : Reserved) (s : State) (tokens : List Lexeme) (found : State × List Lexeme)
-    → length s.rows < limit_of_ids → first_of tokens ≡ Word word
+    → length s.rows < limit_of_first_edition_ids → first_of tokens ≡ Word word
     → row_by word s (tail_of tokens) ≡ Some found → StatementIs s tokens found
 row_is words.Routine s tokens found few is e =
     let (read, routined, last) = in_two _ _ found e in

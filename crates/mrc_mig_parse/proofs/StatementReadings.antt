@@ -2,7 +2,7 @@
 use Rattle.std.proofs.Common.{◌≡◌, ℕ, ◌<◌, Bool, true, false, List, [], ◌∷◌, ◌++◌, length, Some}
 use Rattle.std.proofs.Common.{refl, ap, ◌∙◌, append_assoc}
 use Rattle.std.proofs.lemmas.Bool.{lt-ltb}
-use Rattle.mrc_base.specs.Limits.{limit_of_ids}
+use Rattle.mrc_base.specs.Limits.{limit_of_first_edition_ids}
 use Rattle.mrc_mig_lex.specs.Tokens.{Lexeme}
 use Rattle.mrc_mig_lex.specs.declared.token.Sign.TheVariants.{Semicolon, Equals}
 use Rattle.mrc_mig_symbols.specs.declared.symbol.Symbol.TheVariants.{Word, Sign}
@@ -71,10 +71,10 @@ worded_read word s first others read is e = ap (λ symbol. statement_by symbol s
 
 -- one that takes an id, where there may be one more
 counted_read : (word : Reserved) (s : State) (first : Lexeme) (others : List Lexeme) (read : State
-    × List Lexeme) → length s.rows < limit_of_ids → row_by word s others ≡ Some read
+    × List Lexeme) → length s.rows < limit_of_first_edition_ids → row_by word s others ≡ Some read
     → row_at word s (first ∷ others) ≡ Some read
 unfolding row_at tail_of
-counted_read word s first others read few e = let less = lt-ltb (length s.rows) limit_of_ids few in
+counted_read word s first others read few e = let less = lt-ltb (length s.rows) limit_of_first_edition_ids few in
     rw less e
 
 pub regroup_declaration : (type options : List Lexeme) (semicolon : Lexeme) (rest : List Lexeme)

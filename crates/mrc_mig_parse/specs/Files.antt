@@ -5,7 +5,7 @@ use Rattle.std.specs.Prelude.{ℕ, List, [], ◌∷◌, ◌++◌, length, codes,
 use Rattle.std.specs.Prelude.{Some, None, is_some, nat_lt, if◌then◌else◌}
 use Rattle.std.specs.List.{list_any}
 use Rattle.std.specs.Str.{bytes_eq}
-use Rattle.mrc_base.specs.Limits.{limit_of_ids}
+use Rattle.mrc_base.specs.Limits.{limit_of_first_edition_ids}
 use Rattle.mrc_mig_lex.specs.Tokens.{Lexeme}
 use Rattle.mrc_mig_lex.specs.declared.token.Sign.TheVariants as signs
 use Rattle.mrc_mig_symbols.specs.declared.directive.Directive.{Directive}
@@ -198,7 +198,7 @@ row_by _ s tokens = None
 -- the same, where there may be one id more
 unfoldable pub row_at : Word → State → List Lexeme → Option (State × List Lexeme)
 row_at word s tokens =
-    guard (nat_lt (length s.rows) limit_of_ids) >>= λ _. row_by word s (tail_of tokens)
+    guard (nat_lt (length s.rows) limit_of_first_edition_ids) >>= λ _. row_by word s (tail_of tokens)
 
 -- a string or a header
 abbrev pub is_imported : Symbol → Bool

@@ -3,7 +3,7 @@
 -- choice.
 use Rattle.std.specs.Prelude.{◌≡◌, ℕ, ◌<◌, ◌≤◌, List, [], ◌∷◌, ◌++◌, length, map, Bool, true, false}
 use Rattle.std.specs.Prelude.{◌&&◌, ◌||◌, Option, Some, None}
-use Rattle.mrc_base.specs.Limits.{limit_of_name, limit_of_arguments, limit_of_ids}
+use Rattle.mrc_base.specs.Limits.{limit_of_name, limit_of_arguments, limit_of_first_edition_ids}
 use Rattle.mrc_mig_lex.specs.Tokens.{Lexeme}
 use Rattle.mrc_mig_lex.specs.declared.token.Sign.TheVariants.{Semicolon, Colon, Comma, Equals}
 use Rattle.mrc_mig_lex.specs.declared.token.Sign.TheVariants.{OpenParenthesis, CloseParenthesis}
@@ -307,20 +307,20 @@ pub data IsStatement : State → List Lexeme → State → Type 0 where
   -- `routine name ( arguments ) ;`
   routine : {s : State} {word : Lexeme} {others : List Lexeme} {name : List ℕ} {items : List Item}
       → Is (Word words.Routine) word
-      → length s.rows < limit_of_ids
+      → length s.rows < limit_of_first_edition_ids
       → IsRoutine false s others name items
       → IsStatement s (word ∷ others) (with_row s (Routine name items))
   -- `simpleroutine name ( arguments ) ;`
   simple_routine : {s : State} {word : Lexeme} {others : List Lexeme} {name : List ℕ}
       {items : List Item}
       → Is (Word words.SimpleRoutine) word
-      → length s.rows < limit_of_ids
+      → length s.rows < limit_of_first_edition_ids
       → IsRoutine true s others name items
       → IsStatement s (word ∷ others) (with_row s (SimpleRoutine name items))
   -- `skip ;`, which takes an id
   skip : {s : State} {word semicolon : Lexeme}
       → Is (Word words.Skip) word
-      → length s.rows < limit_of_ids
+      → length s.rows < limit_of_first_edition_ids
       → Is (Sign Semicolon) semicolon
       → IsStatement s (word ∷ semicolon ∷ []) (with_row s Skip)
   -- one that declares nothing

@@ -5,7 +5,7 @@
 use Rattle.std.specs.Prelude.{ℕ, List, [], length, Bool, true, false, not, ◌&&◌, ◌||◌, Option}
 use Rattle.std.specs.Prelude.{Some, None, nat_lt, if◌then◌else◌, Result}
 use Rattle.std.specs.Option.{ok_or}
-use Rattle.mrc_base.specs.Limits.{limit_of_ids}
+use Rattle.mrc_base.specs.Limits.{limit_of_first_edition_ids}
 use Rattle.mrc_mig_lex.specs.Tokens.{Lexeme}
 use Rattle.mrc_mig_lex.specs.declared.token.Sign.TheVariants as signs
 use Rattle.mrc_mig_symbols.specs.declared.directive.Directive.{Directive}
@@ -408,7 +408,7 @@ row_stop_by _ s tokens = unexpected tokens
 -- the same, which stops at its word where there may be no id more
 unfoldable pub row_stop : Word → State → List Lexeme → Stop
 row_stop word s tokens =
-    first_stop (guard (nat_lt (length s.rows) limit_of_ids)) (stop why.TooMany tokens)
+    first_stop (guard (nat_lt (length s.rows) limit_of_first_edition_ids)) (stop why.TooMany tokens)
     (λ _. row_stop_by word s (tail_of tokens))
 
 -- behind `import`, `uimport` and `simport`

@@ -345,7 +345,7 @@ fn entry<'t>(
         (row_at word (state_of file.old) (left rest.entry)) }
     ensures fault { StopsAtOrMemory result (row_stop word (state_of file.old) (left rest.entry)) }
 {
-    if file.entries.len() >= limits::IDS {
+    if file.entries.len() >= limits::FIRST_EDITION_IDS {
         return Err(OrMemory::Fault(rest.stop(StopReason::TooMany)));
     }
     row(alloc, file, word, rest.next())

@@ -2,7 +2,7 @@
 
 ghost use Rattle.std.specs.Prelude.{◌≡◌, ◌≤◌, map, length, IsTrue};
 ghost use Rattle.std.specs.List.{list_all};
-ghost use Rattle.mrc_base.specs.Limits.{limit_of_ids};
+ghost use Rattle.mrc_base.specs.Limits.{limit_of_first_edition_ids};
 ghost use Rattle.mrc_mig_parse.specs.Bounds.{row_fits};
 ghost use Rattle.mrc_mig_parse.specs.Meanings.{row_of};
 
@@ -57,7 +57,7 @@ pub struct Subsystem {
 impl Model for Subsystem {
     ghost use Rattle.std.specs.Prelude.{◌≡◌, ◌≤◌, map, length, string_bytes, true};
     ghost use Rattle.std.specs.List.{list_all};
-    ghost use Rattle.mrc_base.specs.Limits.{limit_of_ids};
+    ghost use Rattle.mrc_base.specs.Limits.{limit_of_first_edition_ids};
     ghost use Rattle.mrc_mig_parse.specs.Files.{Meaning};
     ghost use Rattle.mrc_mig_parse.specs.Bounds.{row_fits};
     ghost use Rattle.mrc_mig_parse.specs.Meanings.{row_of};
@@ -70,7 +70,7 @@ impl Model for Subsystem {
       rows = map row_of s.entries.items;
     } };
 
-    ghost invariant = { λ s. (length s.entries.items ≤ limit_of_ids)
+    ghost invariant = { λ s. (length s.entries.items ≤ limit_of_first_edition_ids)
         × (list_all row_fits (map row_of s.entries.items) ≡ true) };
 }
 
@@ -93,7 +93,7 @@ impl Subsystem {
     /// sizes and counts that types can have.
     pub fn entries(&self) -> &[Entry]
         ensures shown { map row_of result.now ≡ self.now.rows }
-        ensures few { length result.now ≤ limit_of_ids }
+        ensures few { length result.now ≤ limit_of_first_edition_ids }
         ensures kept { IsTrue (list_all row_fits (map row_of result.now)) }
     {
         self.entries.as_slice()

@@ -1,5 +1,5 @@
--- Step. What a row that is left out may carry: of the parts of its parenthesis, and of the result of
--- a `function`, in the order of the text.
+-- Step. What a row that is left out may carry: of the parts of its parenthesis, and of the result
+-- of a `function`, in the order of the text.
 use Rattle.std.specs.Prelude.{ℕ, List, [], ◌∷◌, ◌++◌, length, map, filter, Bool, true, false}
 use Rattle.std.specs.Prelude.{Option, Result, Ok, Err}
 use Rattle.mrc_base.specs.Reading.{◌>>=◌}

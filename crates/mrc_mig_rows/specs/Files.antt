@@ -1,6 +1,7 @@
 -- Step. The statements of a file, one after the other, and the first fault of a file.
 use Rattle.std.specs.Prelude.{ℕ, ◌+◌, ◌++◌, List, [], ◌∷◌, length, min, Bool, true}
 use Rattle.std.specs.Prelude.{false, not, Option, Some, None, Result, Ok, Err}
+use Rattle.mrc_base.specs.Limits.{limit_of_ids}
 use Rattle.mrc_base.specs.Reading.{◌>>=◌}
 use Rattle.mrc_mig_symbols.specs.declared.fault.Stop.{Stop}
 use Rattle.mrc_mig_symbols.specs.Symbols.{unexpected_at}
@@ -20,7 +21,6 @@ use Rattle.mrc_mig_rows.specs.Headings.{Subsystem, heading_at, skip_at}
 use Rattle.mrc_mig_rows.specs.Kinds.{statement_kind}
 use Rattle.mrc_mig_rows.specs.Names.{Names, none_taken, with_name}
 use Rattle.mrc_mig_rows.specs.Rows.{RowSays, Where, row_at, name_at}
-use Rattle.mrc_mig_rows.specs.Words.{limit_of_ids}
 
 -- what statements say: the types, the subsystem, how many ids are taken, the names of the rows, the
 -- rows, and the types that are not read

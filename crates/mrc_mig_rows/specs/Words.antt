@@ -2,7 +2,7 @@
 -- profile's own choice. A place is how many tokens are left there.
 use Rattle.std.specs.Prelude.{ℕ, ◌+◌, List, length, Bool, Option, Some, None}
 use Rattle.std.specs.Prelude.{nat_lt, nat_le, if◌then◌else◌}
-use Rattle.mrc_base.specs.Limits.{limit_of_name, limit_of_number}
+use Rattle.mrc_base.specs.Limits.{limit_of_ids, limit_of_name, limit_of_number}
 use Rattle.mrc_mig_bodies.specs.declared.objections.LeftOutWord.{LeftOutWord}
 use Rattle.mrc_mig_bodies.specs.declared.objections.LeftOutWord.TheVariants as found
 use Rattle.mrc_mig_bodies.specs.declared.objections.Objection.{Objection}
@@ -12,10 +12,6 @@ use Rattle.mrc_mig_rows.specs.declared.words.RowWord.{RowWord}
 use Rattle.mrc_mig_rows.specs.declared.words.RowWord.TheVariants as words
 use Rattle.mrc_mig_rows.specs.declared.words.Told.{Told}
 use Rattle.mrc_mig_rows.specs.Kinds.{is_old}
-
--- ids of a file, those that are skipped counted
-abbrev pub limit_of_ids : ℕ
-limit_of_ids = 1000
 
 -- the largest id that a row takes: a routine's reply is 100 above its request
 abbrev pub last_id : RowKind → ℕ → ℕ

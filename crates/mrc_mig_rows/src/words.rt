@@ -11,7 +11,7 @@ use mrc_base::limits;
 use mrc_mig_bodies::{LeftOutWord, Objection};
 
 /// Ids of a file, at most, those that are skipped counted.
-pub(crate) const IDS: u64 = 1000;
+pub(crate) const IDS: u64 = limits::IDS as u64;
 
 /// The largest id.
 const LARGEST: u64 = limits::NUMBER as u64;

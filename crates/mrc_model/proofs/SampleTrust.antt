@@ -6,7 +6,7 @@ use Rattle.mrc_base.specs.declared.Right.TheVariants as named
 use Rattle.mrc_base.specs.declared.Disp.TheVariants.{MoveReceive, CopySend, MakeSend, MakeSendOnce}
 use Rattle.mrc_model.specs.declared.Verb.{Verb}
 use Rattle.mrc_model.specs.declared.Verb.TheVariants.{Takes, Gives, Sends, Replies}
-use Rattle.mrc_model.specs.declared.RequestKind.TheVariants.{Routine}
+use Rattle.mrc_model.specs.declared.RequestKind.TheVariants.{Replied, Routine}
 use Rattle.mrc_model.specs.declared.LabelItem.TheVariants.{Request as RequestOf, Reply as ReplyOf}
 use Rattle.mrc_model.specs.declared.LabelItem.TheVariants.{Destroyed}
 use Rattle.mrc_model.specs.declared.FirstLine.TheVariants.{Task as TaskLine, Port as PortLine}
@@ -247,6 +247,26 @@ unfolding ◌>>=◌ ◌>>◌ check refuse_if or_refuse empty get insert alter_al
     accepts_reply fits_at judge restart take unused entry_of give_item insert_at append target
     take_item call_send call_allocate step first
 reply_port_of_another_interface = refl
+
+-- subsystem note 970; simpleroutine note(server : mach_port_t; ureplyport reply :
+-- mach_port_make_send_once_t);
+abbrev note : Interface
+note = record { requests = record { id = 970; kind = Replied; shapes = [] } ∷ []; replies = [] }
+
+-- A simpleroutine with a reply port brings a send-once right, or none. If reply ports have to fit,
+-- it is one on a port that accepts the replies of its interface.
+pub replied_request_brings_a_right :
+    Replays (record (asking_with []) { interfaces = note ∷ []; replies_fit = true }) (
+    event 0 (Allocate 1 named.Receive 0) (Name 3) ∷
+    event 0 (asked 19 2 21 3 970 []) Done ∷
+    event 0 (sent 19 2 970 []) Done ∷
+    event 0 (asked 19 2 20 3 970 []) (DeniedBy ReplySlot) ∷
+    event 1 (asked 20 2 21 2 970 []) (DeniedBy ReplySlot) ∷
+    []) 4
+unfolding ◌>>=◌ ◌>>◌ check refuse_if or_refuse empty get insert alter_all len keys forms admits may
+    accepts_reply fits_at judge restart take unused entry_of give_item insert_at append target
+    take_item call_send call_allocate step first
+replied_request_brings_a_right = refl
 
 -- trust l gives none: l takes what it likes, and so it counts as f in the first state
 pub counts_as_what_it_takes_from :

@@ -3,6 +3,7 @@
 //! definitions stand in `specs/`; here are the enums that they speak of, and the laws about them.
 #![tactic(auto)]
 
+ghost use Rattle.std.specs.Prelude.{◌≡◌};
 ghost use Rattle.mrc_model.specs.Additions.{AdditionsKeepYes, AdditionsOnlyRefuse};
 ghost use Rattle.mrc_model.specs.Additions.{LimitedCountsAlone};
 ghost use Rattle.mrc_model.specs.Breach.{HoldingsAreHeld};
@@ -10,6 +11,7 @@ ghost use Rattle.mrc_model.specs.FirstHoldings.{FirstHoldingsAreGiven, SoundIfFe
 ghost use Rattle.mrc_model.specs.Headline.{DyingIsLeast, FirstHasSpaces, SpacesAreKept};
 ghost use Rattle.mrc_model.specs.Headline.{TasksAreKept};
 ghost use Rattle.mrc_model.specs.Rules.{DerivationsAreLeast};
+ghost use Rattle.mrc_model.specs.Wiring.{brings_reply_kind};
 
 use mrc_base::{Copies, PortId, PortRight, TaskId};
 use std::alloc::{AllocError, Global};
@@ -75,6 +77,19 @@ pub enum RequestKind {
     /// A request of a simpleroutine with a reply port: it may bring a reply right, and has no reply
     /// of its own.
     Replied,
+}
+
+impl RequestKind {
+    /// Whether a request of this kind may bring a reply right.
+    pub fn brings_reply(self) -> bool
+        ensures { result ≡ brings_reply_kind self }
+    {
+        match self {
+            RequestKind::Routine => true,
+            RequestKind::Simple => false,
+            RequestKind::Replied => true,
+        }
+    }
 }
 
 /// What a class of ports accepts. An interface stands by its number in the wiring.
