@@ -6,7 +6,8 @@ ghost use Rattle.std.specs.List.{list_all};
 ghost use Rattle.mrc_model.specs.Wiring as model;
 ghost use Rattle.mrc_model.specs.Filter.{has_size, difference, first_difference, is_zero_data};
 ghost use Rattle.mrc_model.specs.Filter.{expected};
-ghost use Rattle.mrc_model.specs.Filter.{fits_reply, judge_found};
+ghost use Rattle.mrc_model.specs.Message.{is_port_arg};
+ghost use Rattle.mrc_model.specs.Filter.{fits_once, fits_reply, judge_found};
 ghost use Rattle.mrc_desc.specs.View.{argument_of, arguments_of};
 ghost use Rattle.mrc_wiring.specs.Finding.{form_by};
 
@@ -20,25 +21,43 @@ use mrc_wiring::{TypedArgument, TypedForm};
 fn has_size(says: &TypedArgument, argument: &Argument) -> bool
     ensures { result ≡ has_size says.now (argument_of argument.now) }
 {
-    let shape = says.shape;
-    let number = shape.number as usize;
-    shape.size == argument.size()
-        && if shape.is_bound {
+    let items = says.items;
+    let number = items.number as usize;
+    items.size == argument.size()
+        && if items.is_bound {
             argument.number() <= number
         } else {
             argument.number() == number
         }
 }
 
+/// Whether the argument has port rights.
+fn is_ports(argument: &Argument) -> bool
+    ensures { result ≡ is_port_arg (argument_of argument.now) }
+{
+    match argument {
+        Argument::Data { .. } => false,
+        Argument::Ports { .. } => true,
+    }
+}
+
 /// How the argument, which has this number, differs from what the form says of it.
 fn difference(number: u32, says: &TypedArgument, argument: &Argument) -> Option<Denied>
     ensures { result ≡ difference number says.now.types says.now (argument_of argument.now) }
 {
+    let types = says.items.types;
+    if types.is_any_data() {
+        return if is_ports(argument) {
+            Some(Denied::WrongShape(number))
+        } else {
+            None
+        };
+    }
     if !has_size(says, argument) {
         Some(Denied::WrongShape(number))
-    } else if says.shape.name == argument.name() {
+    } else if types.has(argument.name()) {
         None
-    } else if is_port_number(says.shape.name) && is_port_number(argument.name()) {
+    } else if types.has_rights() && is_port_number(argument.name()) {
         Some(Denied::WrongDisposition(number))
     } else {
         Some(Denied::WrongShape(number))
@@ -102,19 +121,25 @@ fn expected<'a>(form: &'a TypedForm, args: &[Argument]) -> &'a [TypedArgument]
     }
 }
 
+/// Whether a request that may bring a reply right goes with the disposition of the reply port.
+fn fits_once(disp: u8) -> bool
+    ensures { result ≡ fits_once disp }
+{
+    let number = u16::from(disp);
+    number == 0
+        || number == Disp::MoveSendOnce.number()
+        || number == Disp::MakeSendOnce.number()
+}
+
 /// Whether the form goes with the disposition of the reply port.
 fn fits_reply(kind: FormKind, disp: u8) -> bool
     ensures { (id : ℕ) (shapes : List model.Shape)
         → result ≡ fits_reply (form_by kind id shapes) disp }
 {
     match kind {
-        FormKind::Request(RequestKind::Routine) => {
-            let number = u16::from(disp);
-            number == 0
-                || number == Disp::MoveSendOnce.number()
-                || number == Disp::MakeSendOnce.number()
-        }
+        FormKind::Request(RequestKind::Routine) => fits_once(disp),
         FormKind::Request(RequestKind::Simple) => disp == 0,
+        FormKind::Request(RequestKind::Replied) => fits_once(disp),
         FormKind::Reply => disp == 0,
     }
 }

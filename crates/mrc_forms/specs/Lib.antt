@@ -1,3 +1,4 @@
+pub mod Types
 pub mod Shapes
 pub mod Forms
 pub mod Tables

@@ -4,11 +4,13 @@ ghost use Rattle.std.specs.Prelude.{◌≡◌, ◌≤◌, ◌+◌, length, slice
 ghost use Rattle.std.specs.List.{list_all};
 ghost use Rattle.std.specs.Option.{option_map};
 ghost use Rattle.mrc_base.specs.Limits.{limit_of_arguments};
-ghost use Rattle.mrc_forms.specs.Shapes.{shape_fits};
+ghost use Rattle.mrc_forms.specs.Shapes.{items_fit};
 ghost use Rattle.mrc_forms.specs.Forms.{argument_fits, empty_form, has_name, slot_named};
 ghost use Rattle.mrc_forms.specs.Forms.{with_argument};
+ghost use Rattle.mrc_forms.specs.Types.{dispositions_of};
 
-use crate::shape::Shape;
+use crate::shape::Items;
+use crate::types::ItemTypes;
 use mrc_base::{Copies, Disp, copy_all, same_all};
 use mrc_model::RequestKind;
 use std::alloc::{AllocError, Global};
@@ -38,7 +40,7 @@ pub struct Argument {
     /// Its name in the routine; that of a return code is `RetCode`.
     pub name: String,
     /// What its data look like.
-    pub shape: Shape,
+    pub items: Items,
 }
 
 impl Model for Argument {
@@ -47,19 +49,28 @@ impl Model for Argument {
 
     ghost Value = { forms.Argument };
 
-    ghost view = { λ a. record { name = string_bytes a.name; shape = a.shape } };
+    ghost view = { λ a. record { name = string_bytes a.name; items = a.items } };
 }
 
-/// An argument that carries port rights. Where the argument is an array, each of its items is such
+/// An argument that can carry port rights. Where the argument is an array, each of its items is such
 /// a right.
 #[derive(Debug, Drop)]
 pub struct Slot {
     /// Its number among the arguments of the body, from 0.
     pub argument: usize,
-    /// How the sender hands the rights over.
-    pub disposition: Disp,
+    /// What its items may be.
+    pub types: ItemTypes,
     /// The name of its type: that which stands behind the argument's colon.
     pub type_name: String,
+}
+
+impl Slot {
+    /// The dispositions by which a sender may hand the rights over, in the order of their numbers.
+    pub fn dispositions(&self) -> &'static [Disp]
+        ensures { result.now ≡ dispositions_of self.now.types }
+    {
+        self.types.dispositions()
+    }
 }
 
 impl Model for Slot {
@@ -70,7 +81,7 @@ impl Model for Slot {
 
     ghost view = { λ s. record {
       argument = s.argument;
-      disposition = s.disposition;
+      types = s.types;
       type_name = string_bytes s.type_name;
     } };
 }
@@ -111,8 +122,8 @@ impl Model for Form {
 const RETURN_CODE: &str = "RetCode";
 
 /// What the return code's data look like: one INTEGER_32.
-const CODE: Shape = Shape {
-    name: 2,
+const CODE: Items = Items {
+    types: ItemTypes::One(2),
     size: 32,
     number: 1,
     is_bound: false,
@@ -183,7 +194,7 @@ impl Form {
         if kind == FormKind::Reply {
             arguments.push(Argument {
                 name: String::from_str(alloc, RETURN_CODE)?,
-                shape: CODE,
+                items: CODE,
             })?;
         }
         Ok(Form {
@@ -195,29 +206,29 @@ impl Form {
         })
     }
 
-    /// Puts an argument behind the others. Where it carries port rights it is a slot, of the type
+    /// Puts an argument behind the others. Where it can carry port rights it is a slot, of the type
     /// of this name.
     pub fn push(
         &mut self,
         alloc: Global,
         name: &str,
-        shape: Shape,
+        items: Items,
         type_name: &str,
     ) -> Result<(), AllocError>
         requires room { length self.old.arguments ≤ limit_of_arguments }
-        requires fits { IsTrue (shape_fits shape) }
-        ensures { OnOk result (self.new ≡ with_argument self.old name.now shape type_name.now) }
+        requires fits { IsTrue (items_fit items) }
+        ensures { OnOk result (self.new ≡ with_argument self.old name.now items type_name.now) }
     {
-        if let Some(disposition) = Disp::of_number(shape.name) {
+        if items.types.has_rights() {
             self.slots.push(Slot {
                 argument: self.arguments.len(),
-                disposition,
+                types: items.types,
                 type_name: String::from_str(alloc, type_name)?,
             })?;
         }
         self.arguments.push(Argument {
             name: String::from_str(alloc, name)?,
-            shape,
+            items,
         })?;
         Ok(())
     }
@@ -227,12 +238,12 @@ impl Copies for Argument {
     fn copy(&self, alloc: Global) -> Result<Argument, AllocError> {
         Ok(Argument {
             name: String::from_str(alloc, self.name.as_str())?,
-            shape: self.shape,
+            items: self.items,
         })
     }
 
     fn same(&self, other: &Argument) -> bool {
-        self.name == other.name && self.shape == other.shape
+        self.name == other.name && self.items == other.items
     }
 }
 
@@ -240,14 +251,14 @@ impl Copies for Slot {
     fn copy(&self, alloc: Global) -> Result<Slot, AllocError> {
         Ok(Slot {
             argument: self.argument,
-            disposition: self.disposition,
+            types: self.types,
             type_name: String::from_str(alloc, self.type_name.as_str())?,
         })
     }
 
     fn same(&self, other: &Slot) -> bool {
         self.argument == other.argument
-            && self.disposition == other.disposition
+            && self.types == other.types
             && self.type_name == other.type_name
     }
 }

@@ -1,7 +1,6 @@
 //! The forms of a subsystem's messages by their ids.
 
-ghost use Rattle.std.specs.Prelude.{◌≡◌, ◌≤◌, ◌↔◌, length, None, string_bytes};
-ghost use Rattle.std.specs.Prelude.{IfOk, IfSome, IsTrue};
+ghost use Rattle.std.specs.Prelude.{◌≡◌, ◌≤◌, ◌↔◌, length, string_bytes, IfOk, IsTrue};
 ghost use Rattle.std.specs.Option.{option_map};
 ghost use Rattle.mrc_base.specs.Limits.{limit_of_ids};
 ghost use Rattle.mrc_forms.specs.declared.form.MessageKind.TheVariants as messages;
@@ -83,7 +82,7 @@ impl Model for Interface {
 }
 
 impl Interface {
-    /// The table of these rows, 100 at most, of which the first stands at this id. In each row the
+    /// The table of these rows, 1,000 at most, of which the first stands at this id. In each row the
     /// request is a form of a request with the id of the row's place, the reply one of a reply
     /// with an id 100 above it.
     pub fn new(name: String, base: u32, rows: Vec<Row>) -> Interface
@@ -105,7 +104,7 @@ impl Interface {
         self.name.as_str()
     }
 
-    /// The first id, and how many ids there are, 100 at most. Those of skips count, those of
+    /// The first id, and how many ids there are, 1,000 at most. Those of skips count, those of
     /// replies do not.
     pub fn ids(&self) -> (u32, usize)
         ensures first { result.0 ≡ self.now.base }
@@ -143,13 +142,10 @@ impl Interface {
         row.form(kind)
     }
 
-    /// The form of the request that has this id. No id is that of a request and of a reply.
+    /// The form of the request that has this id.
     pub fn request_form(&self, id: u32) -> Option<&Form>
-        ensures exact { option_map (λ form. form.now) result
-            ≡ form_of messages.Request self.now id }
-        ensures once { IfSome result (λ _. form_of messages.Reply self.now id ≡ None) }
+        ensures { option_map (λ form. form.now) result ≡ form_of messages.Request self.now id }
     {
-        let _ids = self.ids();
         self.form_of(MessageKind::Request, id)
     }
 

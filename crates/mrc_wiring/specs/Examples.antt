@@ -2,8 +2,8 @@
 use Rattle.std.specs.Prelude.{◌≡◌, ℕ, Bool, true, false, List, [], ◌∷◌, Option, Some, None}
 use Rattle.std.specs.Prelude.{Result, Ok, Err}
 use Rattle.std.specs.Prelude.{refl, codes, length}
-use Rattle.mrc_base.specs.declared.Disp.TheVariants.{CopySend}
 use Rattle.mrc_base.specs.declared.PortRight.TheVariants.{Send, SendOnce}
+use Rattle.mrc_forms.specs.declared.types.ItemTypes.TheVariants.{One}
 use Rattle.mrc_forms.specs.declared.form.FormKind.TheVariants as kind
 use Rattle.mrc_forms.specs.Forms.{Argument, return_code}
 use Rattle.mrc_forms.specs.Tables.{Table as Interface}
@@ -34,7 +34,7 @@ use Rattle.mrc_wiring.specs.Resolving.{add_admit, add_trust, add_fit}
 abbrev argument : List ℕ → ℕ → ℕ → ℕ → Argument
 argument name number size count = record {
   name = name;
-  shape = record { name = number; size = size; number = count; is_bound = false };
+  items = record { types = One number; size = size; number = count; is_bound = false };
 }
 
 -- subsystem fsys 3000; type file_t = MACH_MSG_TYPE_COPY_SEND; type path_t = c_string[64];
@@ -56,7 +56,7 @@ fsys = record {
       id = 3100;
       kind = kind.Reply;
       arguments = return_code ∷ argument (codes "file") 19 32 1 ∷ [];
-      slots = record { argument = 1; disposition = CopySend; type_name = codes "file_t" } ∷ [];
+      slots = record { argument = 1; types = One 19; type_name = codes "file_t" } ∷ [];
     };
   } ∷ [];
 }

@@ -9,9 +9,10 @@ use Rattle.mrc_forms.specs.declared.form.MessageKind.{MessageKind}
 use Rattle.mrc_forms.specs.declared.form.MessageKind.TheVariants.{Request, Reply}
 use Rattle.mrc_forms.specs.Forms.{Argument, Slot, Form}
 use Rattle.mrc_forms.specs.Tables.{Row, Table, form_in, forms_by}
+use Rattle.mrc_forms.specs.Types.{types_of}
 use Rattle.mrc_model.specs.declared.RequestKind.{RequestKind}
 use Rattle.mrc_model.specs.declared.RequestKind.TheVariants.{Simple}
-use Rattle.mrc_model.specs.Wiring.{OneOf, Shape, RequestForm, ReplyForm, Interface}
+use Rattle.mrc_model.specs.Wiring.{Shape, RequestForm, ReplyForm, Interface}
 use Rattle.mrc_model.specs.Wiring.{Form as ModelForm, OfRequest, OfReply}
 use Rattle.mrc_wiring.specs.Sorts.{Sort, sort_number}
 
@@ -27,10 +28,10 @@ is_at i slot = slot.argument == i
 -- the argument of this number in a body that has these slots
 abbrev pub shape_of : List Sort → ℕ → List Slot → ℕ → Argument → Shape
 shape_of sorts s slots i argument = record {
-  types = OneOf (argument.shape.name ∷ []);
-  size = argument.shape.size;
-  number = argument.shape.number;
-  is_bound = argument.shape.is_bound;
+  types = types_of argument.items.types;
+  size = argument.items.size;
+  number = argument.items.number;
+  is_bound = argument.items.is_bound;
   sort = slot_number sorts s (find (is_at i) slots);
 }
 

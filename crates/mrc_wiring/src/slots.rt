@@ -23,7 +23,7 @@ impl Wired {
     fn argument_takes(&self, argument: &TypedArgument, disp: Disp, carried: ClassId) -> bool
         ensures { result ≡ shape_takes (wiring_of self.now) disp carried argument.now }
     {
-        argument.shape.name == disp.number() && self.admits(argument.sort, carried)
+        argument.items.types.has(disp.number()) && self.admits(argument.sort, carried)
     }
 
     /// Whether an argument of the form is such a slot.
@@ -91,7 +91,7 @@ impl Wired {
             ≡ (is_set row.old c || form_takes (wiring_of self.now) disp c form.now) }
     {
         for argument in form.arguments() {
-            if argument.shape.name == disp.number() {
+            if argument.items.types.has(disp.number()) {
                 self.join_admitted(row, argument.sort);
             }
         }
@@ -134,14 +134,16 @@ impl Wired {
         }
     }
 
-    /// Whether the item stands for requests of an interface that has a routine.
+    /// Whether the item stands for requests of an interface that has one which may bring a reply
+    /// right.
     fn has_routine(&self, item: LabelItem) -> bool
         ensures { result ≡ has_routine (wiring_of self.now) item }
     {
         has_form_of_routine(self.item_forms(item))
     }
 
-    /// Whether the class accepts requests of an interface that has a routine.
+    /// Whether the class accepts requests of an interface that has one which may bring a reply
+    /// right.
     #[tactic(auto, unfolding(mrc_model::specs::Wiring::accepts_routine))]
     pub fn accepts_routine(&self, class: ClassId) -> bool
         ensures { result ≡ accepts_routine (wiring_of self.now) class }
@@ -167,8 +169,8 @@ impl Wired {
         false
     }
 
-    /// Whether the item stands for requests of an interface that has a routine, whose replies the
-    /// class accepts.
+    /// Whether the item stands for requests of an interface that has one which may bring a reply
+    /// right, and whose replies the class accepts.
     fn is_answered(&self, item: LabelItem, class: ClassId) -> bool
         ensures { result ≡ is_answered (wiring_of self.now) class item }
     {
@@ -195,8 +197,7 @@ impl Wired {
     }
 
     /// Whether a reply right on a port of the class can come with some request to class `to`: with
-    /// one of an interface that has a routine, whose replies the class accepts if reply ports have
-    /// to fit.
+    /// one of an interface whose replies the class accepts if reply ports have to fit.
     #[tactic(auto, unfolding(mrc_model::specs::Wiring::accepts_replier))]
     pub fn accepts_replier(&self, to: ClassId, class: ClassId) -> bool
         ensures { result ≡ accepts_replier (wiring_of self.now) to class }
@@ -208,7 +209,7 @@ impl Wired {
         }
     }
 
-    /// Whether the interface of this number has a routine of the id.
+    /// Whether the interface of this number has a request of the id which may bring a reply right.
     fn has_routine_at(&self, number: usize, id: u32) -> bool
         ensures { result ≡ list_any (is_routine_of id)
             (interface (wiring_of self.now) number).requests }
@@ -216,8 +217,8 @@ impl Wired {
         has_form_of_id(self.item_forms(LabelItem::Request(number)), id)
     }
 
-    /// Whether the item stands for requests of an interface that has a routine of the id, whose
-    /// replies the class accepts.
+    /// Whether the item stands for requests of an interface that has one of the id which may bring
+    /// a reply right, and whose replies the class accepts.
     fn is_answered_at(&self, item: LabelItem, id: u32, class: ClassId) -> bool
         ensures { result ≡ is_answered_at (wiring_of self.now) id class item }
     {
@@ -275,7 +276,7 @@ fn is_reply_of(number: usize, item: LabelItem) -> bool
     }
 }
 
-/// Whether there is a form, and it is that of a routine's request with the id.
+/// Whether there is a form, and it is that of a request with the id which may bring a reply right.
 fn is_there_of_id(form: &Option<TypedForm>, id: u32) -> bool
     ensures { result ≡ is_there_of_id id form.now }
 {
@@ -285,7 +286,7 @@ fn is_there_of_id(form: &Option<TypedForm>, id: u32) -> bool
     }
 }
 
-/// Whether one of the forms that are there is that of a routine's request with the id.
+/// Whether one of the forms that are there is that of such a request with the id.
 fn has_form_of_id(forms: &[Option<TypedForm>], id: u32) -> bool
     ensures { result ≡ list_any (is_there_of_id id) forms.now }
 {
@@ -302,7 +303,7 @@ fn is_destroyed_item(item: LabelItem) -> bool
     }
 }
 
-/// Whether there is a form, and it is that of a routine's request.
+/// Whether there is a form, and it is that of a request which may bring a reply right.
 fn is_there_of_routine(form: &Option<TypedForm>) -> bool
     ensures { result ≡ is_there_of_routine form.now }
 {
@@ -312,7 +313,7 @@ fn is_there_of_routine(form: &Option<TypedForm>) -> bool
     }
 }
 
-/// Whether one of the forms that are there is that of a routine's request.
+/// Whether one of the forms that are there is that of such a request.
 fn has_form_of_routine(forms: &[Option<TypedForm>]) -> bool
     ensures { result ≡ list_any is_there_of_routine forms.now }
 {

@@ -8,7 +8,7 @@ ghost use Rattle.mrc_wiring.specs.ModelForms.{request_kind, typed_forms, typed_f
 
 use crate::sorts::Sorts;
 use mrc_base::{Copies, copy_all, same_all};
-use mrc_forms::{Form, FormKind, Interface, MessageKind, RequestKind, Shape, Slot};
+use mrc_forms::{Form, FormKind, Interface, Items, MessageKind, RequestKind, Slot};
 use std::alloc::{AllocError, Global};
 use std::marker::Model;
 
@@ -16,23 +16,23 @@ use std::marker::Model;
 #[derive(Debug, Drop)]
 pub struct TypedArgument {
     /// What its data look like.
-    pub shape: Shape,
-    /// The number of its type, which `Wired::admits` asks for; if it carries no port rights, a
+    pub items: Items,
+    /// The number of its type, which `Wired::admits` asks for; if it can carry no port rights, a
     /// number that no type has.
     pub sort: usize,
 }
 
 impl Model for TypedArgument {
-    ghost use Rattle.std.specs.Prelude.{[], ◌∷◌};
+    ghost use Rattle.mrc_forms.specs.Types.{types_of};
     ghost use Rattle.mrc_model.specs.Wiring as model;
 
     ghost Value = { model.Shape };
 
     ghost view = { λ a. record {
-      types = model.OneOf (a.shape.name ∷ []);
-      size = a.shape.size;
-      number = a.shape.number;
-      is_bound = a.shape.is_bound;
+      types = types_of a.items.types;
+      size = a.items.size;
+      number = a.items.number;
+      is_bound = a.items.is_bound;
       sort = a.sort;
     } };
 }
@@ -40,13 +40,13 @@ impl Model for TypedArgument {
 impl Copies for TypedArgument {
     fn copy(&self, _: Global) -> Result<TypedArgument, AllocError> {
         Ok(TypedArgument {
-            shape: self.shape,
+            items: self.items,
             sort: self.sort,
         })
     }
 
     fn same(&self, other: &TypedArgument) -> bool {
-        self.shape == other.shape && self.sort == other.sort
+        self.items == other.items && self.sort == other.sort
     }
 }
 
@@ -92,7 +92,7 @@ fn typed_arguments(
     let mut typed = Vec::new(alloc);
     for (number, argument) in form.arguments().iter().enumerate() {
         typed.push(TypedArgument {
-            shape: argument.shape,
+            items: argument.items,
             sort: slot_number(sorts, interface, form.slots(), number),
         })?;
     }
@@ -163,11 +163,14 @@ impl TypedForm {
         }
     }
 
-    /// Whether it is that of a routine's request.
+    /// Whether it is that of a request which may bring a reply right.
     pub(crate) fn is_of_routine(&self) -> bool
         ensures { result ≡ is_of_routine self.now }
     {
-        matches!(self.kind, FormKind::Request(RequestKind::Routine))
+        match self.kind {
+            FormKind::Request(kind) => kind.brings_reply(),
+            FormKind::Reply => false,
+        }
     }
 }
 
