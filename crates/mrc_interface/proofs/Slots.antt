@@ -1,73 +1,80 @@
 -- Slots, and the arguments that they are.
-use Rattle.std.proofs.Common.{◌≡◌, ℕ, zero, suc, ◌+◌, List, [], ◌∷◌, ◌++◌, map, Option}
-use Rattle.std.proofs.Common.{Some, None, refl, sym, ap, ◌∙◌, subst, arith}
-use Rattle.std.specs.Prelude.{slice_get}
+use Rattle.std.proofs.Common.{◌≡◌, ℕ, zero, suc, ◌+◌, List, [], ◌∷◌, ◌++◌, map}
+use Rattle.std.proofs.Common.{Bool, true, false, Some, refl, sym, ap, ◌∙◌, subst, arith}
+use Rattle.std.specs.Prelude.{slice_get, if◌then◌else◌}
 use Rattle.std.specs.Option.{option_map}
 use Rattle.std.proofs.lemmas.Option.{slice_get-map}
 use Rattle.mrc_base.specs.declared.Disp.{Disp}
 use Rattle.mrc_model.specs.IsIn.{IsIn, here, later}
-use Rattle.mrc_base.specs.Disposition.{disp_of_number}
 use Rattle.mrc_base.proofs.Lists.{map_is}
 use Rattle.mrc_model.proofs.Maps.{same_Some, not_None}
 use Rattle.mrc_mig_parse.specs.Arguments.{Item}
 use Rattle.mrc_forms.specs.declared.form.FormKind.{FormKind}
 use Rattle.mrc_forms.specs.declared.form.FormKind.TheVariants.{Request, Reply}
-use Rattle.mrc_forms.specs.Forms.{Argument, Slot, slot_by}
+use Rattle.mrc_forms.specs.declared.types.ItemTypes.TheVariants.{One}
+use Rattle.mrc_forms.specs.Forms.{Argument, Slot}
+use Rattle.mrc_forms.specs.Types.{dispositions_of, has_rights}
+use Rattle.mrc_forms.proofs.Rights.{handed_is_right}
 use Rattle.mrc_interface.specs.Bodies.{argument_of, slots_from, body, form_of}
 use Rattle.mrc_interface.specs.Laws.{HasSlot}
 
 -- a slot of this number and disposition is among these
 abbrev HasSlotIn : List Slot → ℕ → Disp → Type 0
-HasSlotIn slots i d = (slot : Slot) × IsIn slot slots × (slot.argument ≡ i) × (slot.disposition ≡ d)
+HasSlotIn slots i d =
+    (slot : Slot) × IsIn slot slots × (slot.argument ≡ i) × IsIn d (dispositions_of slot.types)
 
 -- the item in this place is of this disposition
 abbrev IsPortAt : List Item → ℕ → Disp → Type 0
 IsPortAt items j d = (item : Item) × (slice_get items j ≡ Some item)
-    × (disp_of_number item.shape.name ≡ Some d)
+    × IsIn d (dispositions_of (One item.shape.name))
+
+-- the slots, if the first item is one
+abbrev slots_if : ℕ → Item → List Item → Bool → List Slot
+slots_if n item items b =
+    (if b then record { argument = n; types = One item.shape.name; type_name = item.type_name } ∷ []
+    else []) ++ slots_from (n + 1) items
 
 -- each slot is an item of its disposition
 pub slot_is_port : (n : ℕ) (items : List Item) (i : ℕ) (d : Disp)
     → HasSlotIn (slots_from n items) i d → (j : ℕ) × (n + j ≡ i) × IsPortAt items j d
 slot_is_port n [] i d h = elim h.1 [ ]
 slot_is_port n (item ∷ items) i d h =
-    by (disp_of_number item.shape.name) refl h (λ more.
+    by (has_rights (One item.shape.name)) h (λ more.
     let (j, e, is) = slot_is_port (n + 1) items i d more in (suc j, omega (arith, e), is))
   where
-    by : (o : Option Disp) → disp_of_number item.shape.name ≡ o
-        → HasSlotIn (slot_by n item.type_name o ++ slots_from (n + 1) items) i d
+    by : (b : Bool) → HasSlotIn (slots_if n item items b) i d
         → (HasSlotIn (slots_from (n + 1) items) i d
         → (j : ℕ) × (n + j ≡ i) × IsPortAt (item ∷ items) j d)
         → (j : ℕ) × (n + j ≡ i) × IsPortAt (item ∷ items) j d
-    by None is more later_on = later_on more
-    by (Some x) is (slot, here, e, of) later_on =
-        (0, omega (arith, e), (item, refl, is ∙ ap Some of))
-    by (Some x) is (slot, later there, e, of) later_on = later_on (slot, there, e, of)
+    by false more later_on = later_on more
+    by true (slot, here, e, of) later_on = (0, omega (arith, e), (item, refl, of))
+    by true (slot, later there, e, of) later_on = later_on (slot, there, e, of)
 
 -- each item of a disposition is a slot
 pub port_is_slot : (n : ℕ) (items : List Item) (j : ℕ) (d : Disp) → IsPortAt items j d
     → HasSlotIn (slots_from n items) (n + j) d
 port_is_slot n [] j d p = absurd (not_None p.0 (sym p.1))
 port_is_slot n (item ∷ items) zero d p =
-    let is : disp_of_number item.shape.name ≡ Some d =
-    ap (λ (x : Item). disp_of_number x.shape.name) (same_Some _ _ p.1) ∙ p.2 in
+    let is : IsIn d (dispositions_of (One item.shape.name)) =
+    subst (λ (x : Item). IsIn d (dispositions_of (One x.shape.name))) (sym (same_Some _ _ p.1))
+    p.2 in
     let e : n ≡ n + 0 = omega arith in
-    subst (λ (o : Option Disp). HasSlotIn (slot_by n item.type_name o ++ slots_from (n + 1) items)
-    (n + 0) d) (sym is)
-    (record { argument = n; disposition = d; type_name = item.type_name }, here, e, refl)
+    subst (λ (b : Bool). HasSlotIn (slots_if n item items b) (n + 0) d)
+    (sym (handed_is_right (One item.shape.name) d is))
+    (record { argument = n; types = One item.shape.name; type_name = item.type_name }, here, e, is)
 port_is_slot n (item ∷ items) (suc j) d p =
     let r = port_is_slot (n + 1) items j d p in
     let e : n + 1 + j ≡ n + suc j = omega arith in
-    let by : (o : Option Disp)
-    → HasSlotIn (slot_by n item.type_name o ++ slots_from (n + 1) items) (n + suc j) d = elim [
-      | None ↦ (r.0, r.1, r.2 ∙ e, r.3)
-      | Some x ↦ (r.0, later r.1, r.2 ∙ e, r.3)
+    let by : (b : Bool) → HasSlotIn (slots_if n item items b) (n + suc j) d = elim [
+      | false ↦ (r.0, r.1, r.2 ∙ e, r.3)
+      | true ↦ (r.0, later r.1, r.2 ∙ e, r.3)
     ] in
-    by (disp_of_number item.shape.name)
+    by (has_rights (One item.shape.name))
 
 -- the argument in this place carries port rights in this way
 abbrev IsPortArgument : List Argument → ℕ → Disp → Type 0
 IsPortArgument arguments i d = (argument : Argument) × (slice_get arguments i ≡ Some argument)
-    × (disp_of_number argument.shape.name ≡ Some d)
+    × IsIn d (dispositions_of argument.items.types)
 
 -- the same of the items
 item_of_argument : (items : List Item) (j : ℕ) (d : Disp)
@@ -75,7 +82,7 @@ item_of_argument : (items : List Item) (j : ℕ) (d : Disp)
 item_of_argument items j d p =
     let (item, at, is) = map_is argument_of (slice_get items j) p.0
     (sym (slice_get-map argument_of items j) ∙ p.1) in
-    (item, at, ap (λ (a : Argument). disp_of_number a.shape.name) is ∙ p.2)
+    (item, at, subst (λ (a : Argument). IsIn d (dispositions_of a.items.types)) (sym is) p.2)
 
 argument_of_item : (items : List Item) (j : ℕ) (d : Disp) → IsPortAt items j d
     → IsPortArgument (map argument_of items) j d
@@ -110,8 +117,8 @@ argument_is_slot name id (Request k) items i d p =
     (port_is_slot 0 (body (Request k) items) i d
     (item_of_argument (body (Request k) items) i d p))
 argument_is_slot name id Reply items zero d p =
-    absurd (not_None d (sym p.2
-    ∙ ap (λ (a : Argument). disp_of_number a.shape.name) (sym (same_Some _ _ p.1))))
+    elim (subst (λ (a : Argument). IsIn d (dispositions_of a.items.types)) (sym (same_Some _ _ p.1))
+    p.2) [ ]
 argument_is_slot name id Reply items (suc j) d p =
     let e : 1 + j ≡ suc j = omega arith in
     subst (λ (k : ℕ). HasSlotIn (slots_from 1 (body Reply items)) k d) e

@@ -4,12 +4,13 @@
 -- to.
 use Rattle.std.specs.Prelude.{ℕ, ◌+◌, ◌++◌, Bool, true, false, List, [], ◌∷◌, length, map}
 use Rattle.std.specs.List.{filter}
-use Rattle.mrc_base.specs.Disposition.{disp_of_number}
 use Rattle.mrc_mig_symbols.specs.declared.word.Direction.{Direction}
 use Rattle.mrc_mig_symbols.specs.declared.word.Direction.TheVariants as directions
 use Rattle.mrc_mig_parse.specs.Arguments.{Item}
 use Rattle.mrc_forms.specs.declared.form.FormKind.{FormKind}
 use Rattle.mrc_forms.specs.declared.form.FormKind.TheVariants.{Request, Reply}
+use Rattle.mrc_forms.specs.declared.types.ItemTypes.TheVariants.{One}
+use Rattle.mrc_forms.specs.Shapes.{items_of}
 use Rattle.mrc_forms.specs.Forms.{Argument, Slot, Form, in_front, slot_by}
 
 -- an argument that goes this way is in the body of such a message
@@ -26,11 +27,11 @@ body kind items = filter (λ item. is_in_body kind item.direction) items
 
 -- what the body shows of an argument
 abbrev pub argument_of : Item → Argument
-argument_of item = record { name = item.name; shape = item.shape }
+argument_of item = record { name = item.name; items = items_of item.shape }
 
 -- this argument, where it carries port rights, which has this number
 abbrev pub slot_of_item : ℕ → Item → List Slot
-slot_of_item i item = slot_by i item.type_name (disp_of_number item.shape.name)
+slot_of_item i item = slot_by i item.type_name (One item.shape.name)
 
 -- those of these arguments that carry port rights, where the first has the number i
 abbrev pub slots_from : ℕ → List Item → List Slot

@@ -4,7 +4,6 @@
 use Rattle.std.specs.Prelude.{◌≡◌, ℕ, ◌+◌, List, [], ◌∷◌, Some, Ok, Err, slice_get, ◌↔◌}
 use Rattle.mrc_base.specs.declared.Disp.{Disp}
 use Rattle.mrc_model.specs.IsIn.{IsIn}
-use Rattle.mrc_base.specs.Disposition.{disp_of_number}
 use Rattle.mrc_model.specs.declared.RequestKind.TheVariants as requests
 use Rattle.mrc_mig_parse.specs.Arguments.{Item}
 use Rattle.mrc_mig_parse.specs.Files.{Meaning, Row as Statement, Routine, SimpleRoutine, Skip}
@@ -12,6 +11,7 @@ use Rattle.mrc_forms.specs.declared.form.FormKind.{FormKind}
 use Rattle.mrc_forms.specs.declared.form.FormKind.TheVariants.{Request, Reply}
 use Rattle.mrc_forms.specs.declared.form.MessageKind.{MessageKind}
 use Rattle.mrc_forms.specs.Forms.{Argument, Slot, Form}
+use Rattle.mrc_forms.specs.Types.{dispositions_of}
 use Rattle.mrc_forms.specs.Tables.{Table, message_of, form_of as form_with_id}
 use Rattle.mrc_interface.specs.Bodies.{form_of}
 use Rattle.mrc_interface.specs.Subsystems.{table_of}
@@ -43,16 +43,17 @@ FoundByIds =
 -- a slot of this disposition and this place is there
 abbrev pub HasSlot : Form → ℕ → Disp → Type 0
 HasSlot form i disposition =
-    (slot : Slot) × IsIn slot form.slots × (slot.argument ≡ i) × (slot.disposition ≡ disposition)
+    (slot : Slot) × IsIn slot form.slots × (slot.argument ≡ i)
+    × IsIn disposition (dispositions_of slot.types)
 
--- the slots are exactly the arguments whose type number is a disposition's
+-- the slots are exactly the arguments one of whose type numbers is a disposition's
 abbrev pub SlotsArePorts : Type 0
 SlotsArePorts =
     (name : List ℕ) (id : ℕ) (kind : FormKind) (items : List Item) (i : ℕ) (disposition : Disp)
     → HasSlot (form_of name id kind items) i disposition
     ↔ ((argument : Argument)
     × (slice_get (form_of name id kind items).arguments i ≡ Some argument)
-    × (disp_of_number argument.shape.name ≡ Some disposition))
+    × IsIn disposition (dispositions_of argument.items.types))
 
 -- reading finds exactly the table that bytes have
 abbrev pub ReadsInterface : Type 0

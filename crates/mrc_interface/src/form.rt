@@ -5,7 +5,7 @@ ghost use Rattle.mrc_mig_parse.specs.Bounds.{items_fit};
 ghost use Rattle.mrc_mig_parse.specs.Meanings.{item_of};
 ghost use Rattle.mrc_interface.specs.Bodies.{is_in_body, form_of};
 
-use mrc_forms::{Form, FormKind};
+use mrc_forms::{Form, FormKind, Items};
 use mrc_mig_parse::{Argument, Direction};
 use std::alloc::{AllocError, Global};
 
@@ -35,8 +35,9 @@ pub(crate) fn form_of(
     let mut form = Form::empty(alloc, name, id, kind)?;
     for argument in arguments {
         if is_in_body(kind, argument.direction) {
-            let type_name = argument.type_name.as_str();
-            form.push(alloc, argument.name.as_str(), argument.shape, type_name)?;
+            let name = argument.name.as_str();
+            let items = Items::of(argument.shape);
+            form.push(alloc, name, items, argument.type_name.as_str())?;
         }
     }
     Ok(form)

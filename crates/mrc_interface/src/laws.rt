@@ -10,7 +10,7 @@ pub fn forms_are_found_by_ids()
     ensures found { FoundByIds }
 {}
 
-/// The slots of a form are exactly those of its arguments whose type number is a disposition's.
+/// The slots of a form are exactly those of its arguments that have a disposition's type number.
 pub fn slots_are_ports()
     ensures ports { SlotsArePorts }
 {}

@@ -11,7 +11,7 @@ pub use fault::{DefsFault, FileFault, InterfaceFault};
 pub use interface::forms_of;
 pub use laws::{files_are_read, forms_are_found_by_ids, slots_are_ports};
 pub use mrc_forms::{
-    Argument, Form, FormKind, Interface, MessageKind, RequestKind, Row, Shape, Slot,
+    Argument, Form, FormKind, Interface, ItemTypes, Items, MessageKind, RequestKind, Row, Slot,
 };
 pub use mrc_mig_lex::LexFault;
 pub use mrc_mig_parse::{Feature, ParseFault};

@@ -44,22 +44,22 @@ typed_at kind interfaces s =
 abbrev pub placed : List (Option Form) → ℕ → Option Form
 placed forms place = option_and_then (λ o. o) (slice_get forms place)
 
--- the form is that of a routine's request
+-- the form is that of a request which may bring a reply right
 abbrev pub is_of_routine : Form → Bool
 is_of_routine (OfRequest form) = brings_reply form
 is_of_routine (OfReply form) = false
 
--- there is a form, and it is that of a routine's request
+-- there is a form, and it is that of a request which may bring a reply right
 abbrev pub is_there_of_routine : Option Form → Bool
 is_there_of_routine None = false
 is_there_of_routine (Some form) = is_of_routine form
 
--- the form is that of a routine's request with this id
+-- the form is that of a request with this id which may bring a reply right
 abbrev pub is_of_id : ℕ → Form → Bool
 is_of_id id (OfRequest form) = is_routine_of id form
 is_of_id id (OfReply form) = false
 
--- there is a form, and it is that of a routine's request with this id
+-- there is a form, and it is that of a request with this id which may bring a reply right
 abbrev pub is_there_of_id : ℕ → Option Form → Bool
 is_there_of_id id None = false
 is_there_of_id id (Some form) = is_of_id id form
