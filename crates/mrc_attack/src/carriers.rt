@@ -3,12 +3,18 @@
 
 use mrc_base::{ClassId, Disp, PortRight, give, limits, need};
 use mrc_desc::Desc;
-use mrc_forms::{FormKind, MessageKind, RequestKind, Shape};
+use mrc_forms::{FormKind, ItemTypes, Items, MessageKind};
 use mrc_model::LabelItem;
 use mrc_wiring::{TypedForm, Wired};
 
 /// The bytes of a header.
 const HEADER: usize = 24;
+
+/// The type number of bytes.
+const INTEGER_8: u16 = 9;
+
+/// The type number of numbers of 32 bits.
+const INTEGER_32: u16 = 2;
 
 /// A form that a class accepts, and which of its arguments carries the right: none if it is the
 /// reply port.
@@ -43,23 +49,40 @@ impl Carrier {
     }
 }
 
+/// A type number that the items may have: that of the disposition, if they have to carry a right.
+fn number_of(types: ItemTypes, carried: Option<Disp>) -> u16 {
+    match (carried, types) {
+        (Some(disp), _) => disp.number(),
+        (None, ItemTypes::AnyData) => INTEGER_8,
+        (None, ItemTypes::One(number)) => number,
+        (None, ItemTypes::Send) => Disp::CopySend.number(),
+        (None, ItemTypes::SendOnce) => Disp::MakeSendOnce.number(),
+        (None, ItemTypes::Any) => INTEGER_32,
+    }
+}
+
 /// How an argument is described: with as few items as it may have, but one if it has to carry a
-/// right.
-pub(crate) fn desc_of(shape: Shape, is_carrying: bool) -> Desc {
-    let Shape { name, size, .. } = shape;
-    let number = if shape.is_bound {
-        u32::from(is_carrying)
-    } else {
-        shape.number
+/// right, by this disposition.
+pub(crate) fn desc_of(items: Items, carried: Option<Disp>) -> Desc {
+    let name = number_of(items.types, carried);
+    let (size, number) = match items.types {
+        ItemTypes::AnyData => (8, 0),
+        _ if items.is_bound => (items.size, u32::from(carried.is_some())),
+        _ => (items.size, items.number),
     };
     Desc { name, size, number }
 }
 
-/// How many bytes the message has if the argument of this place carries a right.
-fn size_of(form: &TypedForm, place: Option<usize>) -> usize {
+/// By which disposition the argument of this number carries a right, if it is the slot.
+pub(crate) fn carried_at(slot: Option<(usize, Disp)>, number: usize) -> Option<Disp> {
+    slot.filter(|slot| slot.0 == number).map(|slot| slot.1)
+}
+
+/// How many bytes the message has if this slot carries a right.
+fn size_of(form: &TypedForm, slot: Option<(usize, Disp)>) -> usize {
     let mut size = HEADER;
     for (number, argument) in form.arguments().iter().enumerate() {
-        let desc = desc_of(argument.shape, place == Some(number));
+        let desc = desc_of(argument.items, carried_at(slot, number));
         size = size.saturating_add(desc.argument_size());
     }
     size
@@ -69,7 +92,7 @@ fn size_of(form: &TypedForm, place: Option<usize>) -> usize {
 /// the smaller message is better.
 fn offer(best: &mut Best, form: &TypedForm, carrier: Carrier) {
     let is_moved = matches!(carrier.slot, Some((_, Disp::MoveSend)));
-    let size = size_of(form, carrier.slot.map(|slot| slot.0));
+    let size = size_of(form, carrier.slot);
     let is_better = match *best {
         Some((was_moved, least, _)) => (is_moved, size) < (was_moved, least),
         None => true,
@@ -79,10 +102,18 @@ fn offer(best: &mut Best, form: &TypedForm, carrier: Carrier) {
     }
 }
 
+/// Whether it is a request which may bring a reply right.
+fn brings_reply(kind: FormKind) -> bool {
+    match kind {
+        FormKind::Request(kind) => kind.brings_reply(),
+        FormKind::Reply => false,
+    }
+}
+
 /// Whether the request is answered, to a port of the class that is carried.
 fn is_answered(wired: &Wired, load: &Load, form: &TypedForm, item: LabelItem) -> bool {
     match item {
-        LabelItem::Request(number) if form.kind() == FormKind::Request(RequestKind::Routine) => {
+        LabelItem::Request(number) if brings_reply(form.kind()) => {
             !wired.replies_fit() || wired.label(load.class).contains(&LabelItem::Reply(number))
         }
         _ => false,
@@ -97,10 +128,10 @@ fn offer_form(wired: &Wired, load: &Load, form: &TypedForm, item: LabelItem, bes
         offer(best, form, Carrier { item, id, slot });
     }
     for (number, argument) in form.arguments().iter().enumerate() {
-        if let Some(disp) = Disp::of_number(argument.shape.name) {
-            let fits = load.rights == Some((need(disp), give(disp)));
+        for disp in argument.items.types.dispositions() {
+            let fits = load.rights == Some((need(*disp), give(*disp)));
             if fits && wired.admits(argument.sort, load.class) {
-                let slot = Some((number, disp));
+                let slot = Some((number, *disp));
                 offer(best, form, Carrier { item, id, slot });
             }
         }

@@ -1,9 +1,9 @@
 //! Messages that carry a right: all else is zeros and nulls.
 
-use crate::carriers::{Carrier, desc_of};
+use crate::carriers::{Carrier, carried_at, desc_of};
 use mrc_base::Disp;
 use mrc_desc::{Argument, Arguments, Bytes, Header, Message, Names};
-use mrc_forms::Shape;
+use mrc_forms::Items;
 use mrc_wiring::{TypedForm, Wired};
 use std::alloc::{AllocError, Global};
 
@@ -14,13 +14,18 @@ pub(crate) struct By {
     pub(crate) disp: Disp,
 }
 
-/// An argument of zeros and nulls, of which the first name may carry a right.
-fn filled(alloc: Global, shape: Shape, carried: Option<u32>) -> Result<Argument, AllocError> {
-    let desc = desc_of(shape, carried.is_some());
+/// An argument of zeros and nulls, of which the first name carries a right, if it has to.
+fn filled(
+    alloc: Global,
+    items: Items,
+    carried: Option<Disp>,
+    name: u32,
+) -> Result<Argument, AllocError> {
+    let desc = desc_of(items, carried);
     let count = desc.number as usize;
     if let Some(disp) = Disp::of_number(desc.name) {
         let mut names = vec![in alloc; 0u32; count]?;
-        if let (Some(first), Some(name)) = (names.first_mut(), carried) {
+        if let (Some(first), Some(_)) = (names.first_mut(), carried) {
             *first = name;
         }
         let names = Names::from(names);
@@ -35,13 +40,13 @@ fn filled(alloc: Global, shape: Shape, carried: Option<u32>) -> Result<Argument,
 fn filled_all(
     alloc: Global,
     form: &TypedForm,
-    place: Option<usize>,
+    slot: Option<(usize, Disp)>,
     name: u32,
 ) -> Result<Vec<Argument>, AllocError> {
     let mut arguments = Vec::new(alloc);
     for (number, typed) in form.arguments().iter().enumerate() {
-        let carried = (place == Some(number)).then_some(name);
-        arguments.push(filled(alloc, typed.shape, carried)?)?;
+        let carried = carried_at(slot, number);
+        arguments.push(filled(alloc, typed.items, carried, name)?)?;
     }
     Ok(arguments)
 }
@@ -78,7 +83,6 @@ pub(crate) fn message_of(
     let Some(form) = wired.item_form(carrier.item, carrier.id) else {
         return Ok(None);
     };
-    let place = carrier.slot.map(|slot| slot.0);
-    let arguments = Arguments::from(filled_all(alloc, form, place, carried.name)?);
+    let arguments = Arguments::from(filled_all(alloc, form, carrier.slot, carried.name)?);
     Ok(Message::new(header_of(carrier, to, carried), arguments).ok())
 }

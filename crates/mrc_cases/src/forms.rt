@@ -3,7 +3,7 @@
 use crate::messages::bytes_of;
 use anyhow::{Result, bail};
 use mrc_base::OrMemory;
-use mrc_forms::{Form, FormKind, Interface, MessageKind, RequestKind, Shape};
+use mrc_forms::{Form, FormKind, Interface, ItemTypes, Items, MessageKind, RequestKind};
 use mrc_interface::{FileFault, read_interface, read_interfaces};
 use std::alloc::{AllocError, Global};
 use std::fmt::Write;
@@ -12,22 +12,38 @@ fn kind_word(kind: FormKind) -> &'static str {
     match kind {
         FormKind::Request(RequestKind::Routine) => "request",
         FormKind::Request(RequestKind::Simple) => "simple",
+        FormKind::Request(RequestKind::Replied) => "replied",
         FormKind::Reply => "reply",
     }
 }
 
-/// An argument as its name, size and number, with `*` behind a number that is a bound.
-fn put_shape(out: &mut String, shape: &Shape) -> Result<(), AllocError> {
-    let star = if shape.is_bound { "*" } else { "" };
-    write!(out, " {}/{}/{}{star}", shape.name, shape.size, shape.number)
+fn put_types(out: &mut String, types: ItemTypes) -> Result<(), AllocError> {
+    match types {
+        ItemTypes::AnyData => write!(out, "any"),
+        ItemTypes::One(number) => write!(out, "{number}"),
+        ItemTypes::Send => write!(out, "17+19+20"),
+        ItemTypes::SendOnce => write!(out, "18+21"),
+        ItemTypes::Any => write!(out, "0-21"),
+    }
 }
 
-/// The slots of a form, by argument, disposition and type.
+/// An argument as its type numbers, size and number, with `*` behind a number that is a bound.
+fn put_items(out: &mut String, items: Items) -> Result<(), AllocError> {
+    write!(out, " ")?;
+    put_types(out, items.types)?;
+    if items.types.is_any_data() {
+        return Ok(());
+    }
+    let star = if items.is_bound { "*" } else { "" };
+    write!(out, "/{}/{}{star}", items.size, items.number)
+}
+
+/// The slots of a form, by argument, type numbers and type.
 fn put_slots(out: &mut String, form: &Form) -> Result<(), AllocError> {
     for slot in form.slots() {
-        let disposition = slot.disposition.number();
-        let type_name = slot.type_name.as_str();
-        write!(out, " {}:{disposition}:{type_name}", slot.argument)?;
+        write!(out, " {}:", slot.argument)?;
+        put_types(out, slot.types)?;
+        write!(out, ":{}", slot.type_name.as_str())?;
     }
     Ok(())
 }
@@ -36,7 +52,7 @@ fn put_slots(out: &mut String, form: &Form) -> Result<(), AllocError> {
 fn put_form(out: &mut String, form: &Form) -> Result<(), AllocError> {
     write!(out, "; {} {}", kind_word(form.kind()), form.id())?;
     for argument in form.arguments() {
-        put_shape(out, &argument.shape)?;
+        put_items(out, argument.items)?;
     }
     put_slots(out, form)
 }

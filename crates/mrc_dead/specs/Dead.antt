@@ -3,7 +3,7 @@
 use Rattle.std.specs.Prelude.{ℕ, ◌+◌, ◌==◌, ◌&&◌, ◌||◌, Bool, true, false, not, List, [], ◌∷◌, ◌++◌}
 use Rattle.std.specs.Prelude.{length, bytes_eq, codes, find, slice_get, is_some, flat_map}
 use Rattle.std.specs.Prelude.{Option, Some, None, option_and_then, if◌then◌else◌}
-use Rattle.std.specs.List.{list_any}
+use Rattle.std.specs.List.{list_all, list_any}
 use Rattle.mrc_base.specs.declared.Disp.{Disp}
 use Rattle.mrc_base.specs.declared.Fact.{Fact}
 use Rattle.mrc_base.specs.declared.Fact.TheVariants.{Hold}
@@ -11,7 +11,7 @@ use Rattle.mrc_base.specs.declared.PortRight.TheVariants.{SendOnce}
 use Rattle.mrc_base.specs.Disposition.{needed, given}
 use Rattle.mrc_model.specs.declared.LabelItem.{LabelItem}
 use Rattle.mrc_model.specs.declared.LabelItem.TheVariants as items
-use Rattle.mrc_model.specs.declared.RequestKind.TheVariants.{Routine, Simple}
+use Rattle.mrc_model.specs.declared.RequestKind.TheVariants.{Replied, Routine, Simple}
 use Rattle.mrc_model.specs.declared.Verb.TheVariants.{Sends, Replies}
 use Rattle.mrc_model.specs.Wiring.{Wiring, classes, births_class, admits, may}
 use Rattle.mrc_forms.specs.declared.form.MessageKind.{MessageKind}
@@ -19,6 +19,7 @@ use Rattle.mrc_forms.specs.declared.form.MessageKind.TheVariants as messages
 use Rattle.mrc_forms.specs.declared.form.FormKind.{FormKind}
 use Rattle.mrc_forms.specs.declared.form.FormKind.TheVariants as kinds
 use Rattle.mrc_forms.specs.Forms.{Argument, Slot, Form}
+use Rattle.mrc_forms.specs.Types.{dispositions_of}
 use Rattle.mrc_forms.specs.Tables.{Row, Table as Interface}
 use Rattle.mrc_name_table.specs.Names.{number_of, with_name}
 use Rattle.mrc_wiring_text.specs.declared.reading.Line.{Line}
@@ -87,6 +88,7 @@ quiet_lines table set lines = flat_map (quiet_by table set) lines
 abbrev pub is_routine_kind : FormKind → Bool
 is_routine_kind (kinds.Request Routine) = true
 is_routine_kind (kinds.Request Simple) = false
+is_routine_kind (kinds.Request Replied) = false
 is_routine_kind kinds.Reply = false
 
 -- there is a form, and it is that of a routine's request
@@ -242,13 +244,15 @@ pub record Wanted : Type 0 where
   pub interface : ℕ
   pub type_name : List ℕ
 
--- the slot of this message is such a one, and is dead
+-- the slot of this message is such a one, and is dead by each of its dispositions
 abbrev pub is_dead_slot : Wanted → MessageKind → Option Slot → Bool
 is_dead_slot w kind None = false
 is_dead_slot w kind (Some slot) =
     bytes_eq slot.type_name w.type_name
-    && is_dead (wiring_of w.table) w.set (item_of kind w.interface) slot.disposition
-    (sort_number (sorts_of w.table.interfaces) w.interface slot.type_name)
+    && list_all
+    (λ x. is_dead (wiring_of w.table) w.set (item_of kind w.interface) x
+    (sort_number (sorts_of w.table.interfaces) w.interface slot.type_name))
+    (dispositions_of slot.types)
 
 -- the slot, if it is to be in the list
 abbrev pub slot_if : Bool → List ℕ → List ℕ → List DeadSlot

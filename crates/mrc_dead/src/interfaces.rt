@@ -68,6 +68,7 @@ fn is_routine_kind(kind: FormKind) -> bool
     match kind {
         FormKind::Request(RequestKind::Routine) => true,
         FormKind::Request(RequestKind::Simple) => false,
+        FormKind::Request(RequestKind::Replied) => false,
         FormKind::Reply => false,
     }
 }

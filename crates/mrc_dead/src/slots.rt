@@ -168,14 +168,12 @@ fn is_dead_slot(search: &Search<'_>, kind: MessageKind, slot: &Slot, sort: usize
         search.now.interface slot.now.type_name }
     ensures { result ≡ is_dead_slot (wanted search.now) kind (Some slot.now) }
 {
+    let tasks = tasks_of(search, kind);
     slot.type_name.as_str() == search.type_name
-        && are_idle(
-            search.wired,
-            search.facts,
-            slot.disposition,
-            sort,
-            tasks_of(search, kind),
-        )
+        && slot
+            .dispositions()
+            .iter()
+            .all(|disp| are_idle(search.wired, search.facts, *disp, sort, tasks))
 }
 
 /// Puts the slot of these names at the end, if it is dead.

@@ -39,7 +39,7 @@ fn add_form(
     };
     for slot in form.slots() {
         if slot.type_name.as_str() == type_name {
-            dispositions.push(slot.disposition)?;
+            dispositions.extend_from_slice(slot.dispositions())?;
         }
     }
     Ok(())

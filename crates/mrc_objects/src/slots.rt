@@ -4,7 +4,7 @@
 use crate::json::{SCHEMA, json_text};
 use mrc_base::{ClassId, Disp};
 use mrc_check::System;
-use mrc_forms::{Argument, Form, Interface, MessageKind, Row, Slot};
+use mrc_forms::{Argument, Form, Interface, ItemTypes, MessageKind, Row, Slot};
 use mrc_wiring::{Wired, item_of};
 use mrc_wiring_text::{WiringLine, WiringSays};
 use mrc_words::class_word;
@@ -107,8 +107,19 @@ fn message_word(kind: MessageKind) -> &'static str {
     }
 }
 
-/// The name of a disposition.
-fn disposition_word(disposition: Disp) -> &'static str {
+/// The name of a disposition, or of those among which the sender chooses.
+fn disposition_word(types: ItemTypes) -> &'static str {
+    match types {
+        ItemTypes::AnyData => "",
+        ItemTypes::One(number) => Disp::of_number(number).map_or("", number_word),
+        ItemTypes::Send => "MACH_MSG_TYPE_PORT_SEND",
+        ItemTypes::SendOnce => "MACH_MSG_TYPE_PORT_SEND_ONCE",
+        ItemTypes::Any => "MACH_MSG_TYPE_POLYMORPHIC",
+    }
+}
+
+/// The name of one disposition.
+fn number_word(disposition: Disp) -> &'static str {
     match disposition {
         Disp::MoveReceive => "MACH_MSG_TYPE_MOVE_RECEIVE",
         Disp::MoveSend => "MACH_MSG_TYPE_MOVE_SEND",
@@ -145,7 +156,7 @@ fn slot_object<'a>(
         admits: admits(alloc, types, message, slot)?,
         again: is_again(message, name, type_name),
         argument: name,
-        disposition: disposition_word(slot.disposition),
+        disposition: disposition_word(slot.types),
         id: message.form.id(),
         message: message_word(message.kind),
         routine: message.form.name(),

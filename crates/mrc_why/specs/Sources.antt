@@ -7,15 +7,18 @@ use Rattle.std.specs.Prelude.{slice_get, IfSome}
 use Rattle.mrc_base.specs.declared.PortRight.{PortRight}
 use Rattle.mrc_base.specs.declared.PortRight.TheVariants.{Send}
 use Rattle.mrc_base.specs.declared.Fact.TheVariants.{Hold, Carry}
+use Rattle.mrc_base.specs.declared.Disp.{Disp}
 use Rattle.mrc_base.specs.Disposition.{needed, given}
 use Rattle.mrc_model.specs.IsIn.{IsIn}
 use Rattle.mrc_model.specs.declared.LabelItem.{LabelItem}
 use Rattle.mrc_model.specs.declared.LabelItem.TheVariants as label
-use Rattle.mrc_model.specs.declared.RequestKind.TheVariants.{Routine}
-use Rattle.mrc_model.specs.Wiring.{Wiring, label as label_of, admits, kernel_class}
+use Rattle.mrc_model.specs.Wiring.{Wiring, label as label_of, admits, brings_reply_kind}
+use Rattle.mrc_model.specs.Wiring.{kernel_class}
 use Rattle.mrc_forms.specs.declared.form.MessageKind.{MessageKind}
+use Rattle.mrc_forms.specs.declared.form.FormKind.{FormKind}
 use Rattle.mrc_forms.specs.declared.form.FormKind.TheVariants as kinds
 use Rattle.mrc_forms.specs.Forms.{Argument, Slot, Form}
+use Rattle.mrc_forms.specs.Types.{dispositions_of}
 use Rattle.mrc_forms.specs.Tables.{Row, Table as Interface, form_in}
 use Rattle.mrc_wiring.specs.ModelForms.{is_at}
 use Rattle.mrc_wiring.specs.Sorts.{sorts_of, sort_number}
@@ -63,12 +66,14 @@ pub record AreNamesOf (interface : Interface) (form : Form) (argument : Argument
   pub of_argument : names.argument.now ≡ argument.name
   pub of_type : names.type_name.now ≡ slot.type_name
 
--- the slot, whose type has this number, needs a right q, hands it over as r, and its type admits
--- class c
+-- by one of its dispositions the slot, whose type has this number, needs a right q and hands it over
+-- as r, and its type admits class c
 pub record IsPassing (W : Wiring) (c : ℕ) (q r : PortRight) (slot : Slot) (sort : ℕ)
     : Type 0 where
-  pub needs : needed slot.disposition ≡ q
-  pub gives : given slot.disposition ≡ r
+  pub disposition : Disp
+  pub of_slot : IsIn disposition (dispositions_of slot.types)
+  pub needs : needed disposition ≡ q
+  pub gives : given disposition ≡ r
   pub admits : admits W sort c ≡ true
 
 -- the number of the type of a slot
@@ -91,16 +96,21 @@ pub record IsSlot (table : Table) (d c : ℕ) (q r : PortRight) (names : SlotNam
   pub in_label : IsIn item (label_of (wiring_of table) d)
   pub slot : IsItemSlot table item c q r names
 
--- the interface has a routine
+-- a form of the kind is that of a request which may bring a reply right
+abbrev pub BringsReply : FormKind → Type 0
+BringsReply (kinds.Request kind) = brings_reply_kind kind ≡ true
+BringsReply kinds.Reply = ⊥
+
+-- the interface has a request which may bring a reply right
 pub record HasRoutine (interface : Interface) : Type 0 where
   pub row : Row
   pub in_rows : IsIn row interface.rows
   pub form : Form
   pub request : row.request ≡ Some form
-  pub routine : form.kind ≡ kinds.Request Routine
+  pub routine : BringsReply form.kind
 
--- The item stands for the requests of the subsystem of this name, which has a routine. If reply
--- ports have to fit, class c accepts the replies of the subsystem.
+-- The item stands for the requests of the subsystem of this name, which has one that may bring a
+-- reply right. If reply ports have to fit, class c accepts the replies of the subsystem.
 pub record IsRoutineItem (table : Table) (item : LabelItem) (c : ℕ) (name : List ℕ) : Type 0 where
   pub number : ℕ
   pub is : item ≡ label.Request number

@@ -9,14 +9,15 @@ ghost use Rattle.mrc_model.specs.Wiring.{label as label_of};
 ghost use Rattle.mrc_wiring.specs.ModelForms.{is_at};
 ghost use Rattle.mrc_wiring.specs.Finding.{item_of};
 ghost use Rattle.mrc_wiring.specs.Table.{wiring_of};
-ghost use Rattle.mrc_why.specs.Sources.{IsPassing, IsItemSlot, IsSlot};
+ghost use Rattle.mrc_base.specs.Disposition.{given, needed};
+ghost use Rattle.mrc_why.specs.Sources.{BringsReply, IsPassing, IsItemSlot, IsSlot};
 ghost use Rattle.mrc_why.specs.Sources.{HasRoutine, IsRoutineItem, AcceptsRoutine};
 ghost use Rattle.mrc_why.specs.Slots.{IsFormPlace, IsRoutineForm};
 
 use crate::origins::SlotNames;
-use mrc_base::{ClassId, PortRight, give, need};
+use mrc_base::{ClassId, Disp, PortRight, give, need};
 use mrc_classes::same_right;
-use mrc_forms::{Form, FormKind, Interface, MessageKind, RequestKind, Row, Slot};
+use mrc_forms::{Form, FormKind, Interface, MessageKind, Row, Slot};
 use mrc_model::LabelItem;
 use mrc_wiring::{TypedForm, Wired, item_of};
 
@@ -36,14 +37,24 @@ fn slot_at(form: &Form, argument: usize) -> Option<&Slot>
     form.slots().iter().find(|slot| slot.argument == argument)
 }
 
+/// Whether the right is handed over by the disposition.
+fn hands_over(disp: Disp, passing: &Passing) -> bool
+    ensures { IsTrue result → (needed disp ≡ passing.now.held) × (given disp ≡ passing.now.right) }
+{
+    same_right(need(disp), passing.held) && same_right(give(disp), passing.right)
+}
+
 /// Whether the slot, of a type of this number, lets the right pass.
 fn passes(wired: &Wired, slot: &Slot, sort: usize, passing: &Passing) -> bool
     ensures { IsTrue result → IsPassing (wiring_of wired.now) passing.now.class passing.now.held
         passing.now.right slot.now sort }
 {
-    same_right(need(slot.disposition), passing.held)
-        && same_right(give(slot.disposition), passing.right)
-        && wired.admits(sort, passing.class)
+    for disp in slot.dispositions() {
+        if hands_over(*disp, passing) {
+            return wired.admits(sort, passing.class);
+        }
+    }
+    false
 }
 
 /// The first argument of the form that is a slot and lets the right pass.
@@ -138,17 +149,27 @@ pub(crate) fn slot_of<'a>(wired: &'a Wired, to: ClassId, passing: &Passing) -> O
     None
 }
 
-/// Whether it is the form of a routine's request.
+/// Whether a form of the kind is that of a request which may bring a reply right.
+fn brings_reply(kind: FormKind) -> bool
+    ensures { IsTrue result → BringsReply kind }
+{
+    match kind {
+        FormKind::Request(kind) => kind.brings_reply(),
+        FormKind::Reply => false,
+    }
+}
+
+/// Whether it is the form of a request which may bring a reply right.
 fn is_routine(form: Option<&Form>) -> bool
     ensures { IsTrue result → IsRoutineForm (option_map (λ form. form.now) form.entry) }
 {
     match form {
-        Some(form) => form.kind() == FormKind::Request(RequestKind::Routine),
+        Some(form) => brings_reply(form.kind()),
         None => false,
     }
 }
 
-/// Whether the interface has a routine.
+/// Whether the interface has a request which may bring a reply right.
 fn has_routine(interface: &Interface) -> bool
     ensures { IsTrue result → HasRoutine interface.now }
 {
