@@ -35,9 +35,9 @@ pub(crate) fn form_of(
     let mut form = Form::empty(alloc, name, id, kind)?;
     for argument in arguments {
         if is_in_body(kind, argument.direction) {
-            let name = argument.name.as_str();
             let items = Items::of(argument.shape);
-            form.push(alloc, name, items, argument.type_name.as_str())?;
+            let type_name = argument.type_name.as_str();
+            form.push(alloc, argument.name.as_str(), items, type_name)?;
         }
     }
     Ok(form)
