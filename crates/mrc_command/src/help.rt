@@ -11,7 +11,8 @@ pub(crate) const PROGRAM_HELP: &str = "Exit status of each command:
      left of MIG files
 
 With --verbose a fault is followed by its place: the line of the file with a mark below the word,
-and what may help to mend it. If standard error is a terminal, this is always so.
+and what may help to mend it; and `mend` and `attack` say how far they have come. If standard error
+is a terminal, this is always so.
 
 With --format json, which all commands but `make` have, the answer is one JSON object for programs,
 and that of a fault is printed too. If the command line is wrong, there is none.

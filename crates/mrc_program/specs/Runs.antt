@@ -1,7 +1,7 @@
 -- Believe. What a run of the program promises: which answer went out of what the words ask for, of
 -- which command it is right, what went to standard error with it, and which files changed. This
 -- profile's own choice.
-use Rattle.std.specs.Prelude.{◌≡◌, ◌||◌, ℕ, Bool, false, List, [], Option, take}
+use Rattle.std.specs.Prelude.{◌≡◌, ◌&&◌, ◌||◌, ℕ, Bool, true, false, List, [], Option, take}
 use Rattle.std.specs.Io.KnownBytes.{Appends}
 use Rattle.mrc_answer.specs.declared.asking.Answered.{Answered}
 use Rattle.mrc_answer.specs.Answers.{IsAnswered, MayChange}
@@ -9,7 +9,7 @@ use Rattle.mrc_answer.specs.Statuses.{status_of}
 use Rattle.mrc_command.specs.declared.command.Command.{Command}
 use Rattle.mrc_command.specs.declared.command.Command.TheVariants.{Case, Mig}
 use Rattle.mrc_command.specs.declared.command.Question.{Question}
-use Rattle.mrc_command.specs.declared.command.Question.TheVariants.{Make, Verify}
+use Rattle.mrc_command.specs.declared.command.Question.TheVariants.{Attack, Make, Mend, Verify}
 use Rattle.mrc_command.specs.declared.command.Request.{Request}
 use Rattle.mrc_command.specs.Meaning.{Means, asked_format}
 use Rattle.mrc_files.specs.Files.{Held}
@@ -49,9 +49,24 @@ pub record IsReplied (watched : Watched) (words : List (List ℕ)) (before after
   pub right : IsAnswered before after (seen watched.out request.command) answered
   pub printed : InText (asked_format request.command) (IsPrinted answered text)
 
+-- the question is answered by a search that can tell how far it has come
+abbrev pub is_search : Question → Bool
+is_search (Mend line most format) = true
+is_search (Attack line most format) = true
+is_search other = false
+
+-- the same of a command
+abbrev pub searches : Command → Bool
+searches (Case names question) = is_search question
+searches (Mig files) = false
+
+-- A search tells how far it has come: a person looks at standard error, or the words ask for it.
+abbrev pub counts : Watched → Request → Bool
+counts watched request = watched.err || (request.verbose && searches request.command)
+
 -- An answer with this status went out whole: standard output held `old`, and holds `new`. What went
 -- to standard error with it is empty only if there is nothing to tell besides the answer. Nothing
--- else went there if no person looks at it: it held `silent`, and holds `told`.
+-- else went there if no search tells how far it has come: it held `silent`, and holds `told`.
 pub record WentOut (watched : Watched) (words : List (List ℕ)) (before after : Held) (status : ℕ)
     (old new silent told : Option (List ℕ)) : Type 0 where
   pub answered : Answered
@@ -61,7 +76,7 @@ pub record WentOut (watched : Watched) (words : List (List ℕ)) (before after :
   pub out : Appends old new text
   pub errors : List ℕ
   pub notices : errors ≡ [] → AreNone answered.reply.notices
-  pub err : watched.err ≡ false → Appends silent told errors
+  pub err : counts watched replied.request ≡ false → Appends silent told errors
 
 -- so many bytes of what is printed of an answer went out: all of it, or memory ran out for the
 -- rest, or standard output took no more

@@ -1,4 +1,4 @@
-//! How far a search for mends or for calls has come, for a person who looks on.
+//! How far a search for mends or calls has come, for who looks on and for `--verbose`.
 
 use mrc_files::write_text;
 use std::io::Write;
@@ -10,7 +10,7 @@ const FIRST: usize = 16;
 /// after the first 16, and then each time their number has doubled. Prints each mend as it is found.
 #[derive(Drop)]
 pub(crate) struct Counter<'a, E: Write> {
-    /// Standard error, at which a person looks.
+    /// Standard error.
     pub(crate) err: &'a mut E,
     /// How many chains were played.
     pub(crate) played: usize,
@@ -56,7 +56,7 @@ impl<'a, E: Write> mrc_attack::Progress for Counter<'a, E> {
     }
 }
 
-/// Prints nothing, since nobody looks on.
+/// Prints nothing, since nobody looks on or asks for it.
 #[derive(Drop)]
 pub(crate) struct Nobody;
 

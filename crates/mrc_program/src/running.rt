@@ -1,6 +1,7 @@
 //! The program from its words to its status.
 
-ghost use Rattle.std.specs.Prelude.{◌≡◌, ◌≢◌, ◌≤◌, ◌⊎◌, ℕ, false, List, [], IfErr, IfOk, IsOkAnd};
+ghost use Rattle.std.specs.Prelude.{◌≡◌, ◌≢◌, ◌≤◌, ◌⊎◌, ◌&&◌, ◌||◌, ℕ, false, List, []};
+ghost use Rattle.std.specs.Prelude.{IfErr, IfOk, IsOkAnd};
 ghost use Rattle.std.specs.Prelude.{◌++◌, IfSome, IsTrue, OnErr, OnOk, codes, decimal, map};
 ghost use Rattle.std.specs.Prelude.{string_bytes};
 ghost use Rattle.std.specs.Io.KnownBytes.{Appends};
@@ -10,7 +11,8 @@ ghost use Rattle.mrc_command.specs.CommandLine.{AsksHelp};
 ghost use Rattle.mrc_command.specs.Meaning.{Means, asked_format};
 ghost use Rattle.mrc_print.specs.Heads.{HasHead, InText, IsShown, format_of};
 ghost use Rattle.mrc_print.specs.Silence.{AreNone};
-ghost use Rattle.mrc_program.specs.Runs.{HaveChanged, WentInPart, WentOut, seen, seen_question};
+ghost use Rattle.mrc_program.specs.Runs.{HaveChanged, WentInPart, WentOut, is_search, searches};
+ghost use Rattle.mrc_program.specs.Runs.{seen, seen_question};
 ghost use Rattle.mrc_program.specs.Writing.{IsFrontOut, IsTold, IsToldInPart, IsWholeOut};
 ghost use Rattle.mrc_program.specs.Writing.{has_fault};
 
@@ -128,28 +130,52 @@ fn defs_of<'a>(alloc: Global, command: &Command<'a>) -> Vec<&'a str> {
     }
 }
 
-/// The answer to a command. If a person looks at standard error, it is printed there how far a long
-/// search has come. Else nothing is.
+/// The answer to a command. If a search `counts`, it is printed to standard error how far it has
+/// come. Else nothing is.
 fn answer_shown<'a, F: Folder, R: Threads + Wait + Sync, E: Write>(
     rt: &R,
     folder: &mut F,
     alloc: Global,
     command: Command<'a>,
-    watched: bool,
+    counts: bool,
     preparing: &mut Preparing<'_>,
     err: &mut E,
 ) -> Result<Answered<'a>, AllocError>
     ensures right { IfOk result (IsAnswered (F.held folder.old) (F.held folder.new) command.entry) }
     ensures kept { IsOkAnd result (λ answered. MayChange answered.reply.answer)
         ⊎ (F.held folder.new ≡ F.held folder.old) }
-    ensures silent { watched ≡ false → E.contents err.new ≡ E.contents err.old }
+    ensures silent { counts ≡ false → E.contents err.new ≡ E.contents err.old }
 {
-    if watched {
+    if counts {
         let mut counter = Counter { err, played: 0 };
         answer(rt, folder, alloc, command, &mut counter, preparing)
     } else {
         answer(rt, folder, alloc, command, &mut Nobody, preparing)
     }
+}
+
+/// Whether the question is answered by a search that can tell how far it has come.
+fn is_search(question: &Question<'_>) -> bool
+    ensures { result ≡ is_search question.now }
+{
+    matches!(question, Question::Mend { .. } | Question::Attack { .. })
+}
+
+/// The same of a command.
+fn searches(command: &Command<'_>) -> bool
+    ensures { result ≡ searches command.now }
+{
+    match command {
+        Command::Case(_, question) => is_search(question),
+        Command::Mig(_) => false,
+    }
+}
+
+/// Whether a search tells how far it has come.
+fn counts(watched: Watched, verbose: bool, command: &Command<'_>) -> bool
+    ensures { result ≡ (watched.err || (verbose && searches command.now)) }
+{
+    watched.err || (verbose && searches(command))
 }
 
 /// Whether an answer is a fault, or has one.
@@ -480,6 +506,7 @@ fn run_request<F: Folder, R: Threads + Wait + Sync, O: Write, E: Write>(
         → HaveChanged watched words (F.held folder.old) (F.held folder.new)) }
 {
     let Request { command, verbose } = request;
+    let counts = counts(watched, verbose, &command);
     let command = seen(watched.out, command);
     let asked = asked_of(&command);
     let defs = defs_of(alloc, &command);
@@ -490,7 +517,7 @@ fn run_request<F: Folder, R: Threads + Wait + Sync, O: Write, E: Write>(
         shows,
     };
     let mut preparing = Preparing { asked, texts: None };
-    match answer_shown(rt, folder, alloc, command, watched.err, &mut preparing, err) {
+    match answer_shown(rt, folder, alloc, command, counts, &mut preparing, err) {
         Ok(answered) => {
             let prepared = Prepared {
                 room,
@@ -523,8 +550,8 @@ fn write_told<O: Write, E: Write>(alloc: Global, told: &Told, out: &mut O, err: 
 }
 
 /// Runs the program on the words of a command line, its own name first, and on the files of a
-/// folder. If a person looks at `err`, it prints there how far a long search has come, and behind a
-/// fault what helps with it; `--verbose` also asks for that. If a person looks at `out`, `verify`
+/// folder. If a person looks at `err`, or the words have `--verbose`, it prints there how far a long
+/// search has come, and behind a fault what helps with it. If a person looks at `out`, `verify`
 /// prints the text of each line that is broken. The status is 0 for `YES`, for mends, for a
 /// certificate that is made, for a chain, for facts, for a drawing, for slots, for promises, for a
 /// replay, for a journal, for MIG files that are cut and for help and the version, 1 for `NO`, for

@@ -32,7 +32,7 @@ returns-in-Ok-clause-whole g c not_two words means =
       notices = told.notices;
       err = λ off. subst (λ (old : Option (List ℕ)). Appends old
           (g.E.Write.contents c.write_answer-status.new.err) told.errors)
-          (c.in-Ok.ensures.silent off) told.err;
+          (c.in-Ok.ensures.silent (c.counts-counts.ensures ∙ off)) told.err;
     }
 
 pub returns-in-Ok-clause-front : goal.returns-in-Ok-clause-front
