@@ -100,8 +100,8 @@ reply_once (OfRequest r) n x fit is =
     by_kind : (k : RequestKind) → fits_request k n ≡ true
         → (brings_reply_kind k ≡ true) × (given x ≡ SendOnce) ×
         ((needed x ≡ SendOnce) ⊎ (needed x ≡ Receive))
-    by_kind Routine fit = (refl, by_once fit)
-    by_kind Replied fit = (refl, by_once fit)
+    by_kind Routine fit = let (gives, needs) = by_once fit in (refl, gives, needs)
+    by_kind Replied fit = let (gives, needs) = by_once fit in (refl, gives, needs)
     by_kind Simple fit = absurd (not_None x (sym is ∙ ap disp_of_number (eqb-true n 0 fit)))
 reply_once (OfReply r) n x fit is =
     absurd (not_None x (sym is ∙ ap disp_of_number (eqb-true n 0 fit)))

@@ -170,10 +170,13 @@ fn is_dead_slot(search: &Search<'_>, kind: MessageKind, slot: &Slot, sort: usize
 {
     let tasks = tasks_of(search, kind);
     slot.type_name.as_str() == search.type_name
-        && slot
-            .dispositions()
-            .iter()
-            .all(|disp| are_idle(search.wired, search.facts, *disp, sort, tasks))
+        && slot.dispositions().iter().all(|disp| are_idle(
+            search.wired,
+            search.facts,
+            *disp,
+            sort,
+            tasks,
+        ))
 }
 
 /// Puts the slot of these names at the end, if it is dead.

@@ -1,28 +1,15 @@
 -- How arguments meet shapes, place by place.
 use Rattle.std.proofs.Common.{◌≡◌, ℕ, ◌+◌, ◌<◌, ◌≤◌, Bool, true, false, List, [], ◌∷◌}
-use Rattle.std.proofs.Common.{length, drop, cond, Option, Some, None, refl, ap, sym, ◌∙◌}
+use Rattle.std.proofs.Common.{length, drop, cond, Option, Some, None, ap, sym, ◌∙◌}
 use Rattle.std.proofs.Common.{arith, get_or}
-use Rattle.std.specs.List.{list_any}
 use Rattle.std.proofs.lemmas.List.{drop_all, get_or_default}
 use Rattle.mrc_model.specs.declared.Denied.{Denied}
 use Rattle.mrc_model.specs.declared.Denied.TheVariants.{WrongShape}
-use Rattle.mrc_model.specs.Message.{Arg, Data, Ports, is_port_arg}
-use Rattle.std.specs.Prelude.{◌&&◌, ◌==◌}
-use Rattle.mrc_base.specs.Disposition.{is_port_number}
-use Rattle.mrc_model.specs.declared.Denied.TheVariants.{WrongDisposition}
-use Rattle.mrc_model.specs.Filter.{arg_name, has_size, difference, or_behind, first_difference}
+use Rattle.mrc_model.specs.Filter.{difference, or_behind, first_difference}
 use Rattle.mrc_desc.specs.declared.argument.Argument.{Argument}
-use Rattle.mrc_desc.specs.View.{argument_of, arguments_of, desc_of}
+use Rattle.mrc_desc.specs.View.{argument_of, arguments_of}
 use Rattle.mrc_desc.proofs.Walks.{item_first}
-use Rattle.mrc_model.specs.Wiring.{Shape, type_numbers}
-use Rattle.mrc_forms.specs.Types.{has_rights, is_any_data, types_of}
-use Rattle.mrc_forms.specs.declared.types.ItemTypes.{ItemTypes}
-use Rattle.mrc_forms.specs.declared.types.ItemTypes.TheVariants.{AnyData, One, Send, SendOnce, Any}
-
--- what a descriptor says is what the filter looks at
-pub name_of : (a : Arg) → (desc_of a).name ≡ arg_name a
-name_of (Data name size number bytes) = refl
-name_of (Ports disp names) = refl
+use Rattle.mrc_model.specs.Wiring.{Shape}
 
 -- a choice that is made
 pub chosen : {X : Type 0} (b : Bool) (x y : X) → true ≡ b → cond b x y ≡ x
@@ -30,30 +17,6 @@ chosen b x y e = ap (λ c. cond c x y) (sym e)
 
 pub not_chosen : {X : Type 0} (b : Bool) (x y : X) → false ≡ b → cond b x y ≡ y
 not_chosen b x y e = ap (λ c. cond c x y) (sym e)
-
--- the difference of one argument from data of any kind
-pub of_any_data : (i : ℕ) (types : ItemTypes) (s : Shape) (a : Arg) → types_of types ≡ s.types
-    → is_any_data types ≡ true
-    → difference i s.types s a ≡ cond (is_port_arg a) (Some (WrongShape i)) None
-of_any_data i AnyData s a e is = sym (ap (λ types. difference i types s a) e)
-of_any_data i (One number) s a e is = cc
-of_any_data i Send s a e is = cc
-of_any_data i SendOnce s a e is = cc
-of_any_data i Any s a e is = cc
-
--- the difference of one argument from a shape of these types
-pub of_types : (i : ℕ) (types : ItemTypes) (s : Shape) (a : Arg) → types_of types ≡ s.types
-    → is_any_data types ≡ false
-    → difference i s.types s a
-    ≡ cond (has_size s a)
-    (cond (list_any (λ n. n == arg_name a) (type_numbers (types_of types))) None
-    (cond (has_rights types && is_port_number (arg_name a)) (Some (WrongDisposition i))
-    (Some (WrongShape i)))) (Some (WrongShape i))
-of_types i AnyData s a e is = cc
-of_types i (One number) s a e is = sym (ap (λ types. difference i types s a) e)
-of_types i Send s a e is = sym (ap (λ types. difference i types s a) e)
-of_types i SendOnce s a e is = sym (ap (λ types. difference i types s a) e)
-of_types i Any s a e is = sym (ap (λ types. difference i types s a) e)
 
 -- the first difference from place i on
 abbrev pub differs_from : ℕ → List Shape → List Argument → Option Denied

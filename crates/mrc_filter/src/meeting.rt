@@ -126,9 +126,7 @@ fn fits_once(disp: u8) -> bool
     ensures { result ≡ fits_once disp }
 {
     let number = u16::from(disp);
-    number == 0
-        || number == Disp::MoveSendOnce.number()
-        || number == Disp::MakeSendOnce.number()
+    number == 0 || number == Disp::MoveSendOnce.number() || number == Disp::MakeSendOnce.number()
 }
 
 /// Whether the form goes with the disposition of the reply port.
