@@ -4,7 +4,7 @@ ghost use Rattle.std.specs.Prelude.{◌≡◌, ◌++◌, ◌<◌, [], IfOk, OnOk
 ghost use Rattle.std.specs.Prelude.{slice_get};
 ghost use Rattle.std.specs.Prelude.{string_bytes};
 ghost use Rattle.std.specs.Option.{option_map};
-ghost use Rattle.std.specs.List.{list_any};
+ghost use Rattle.std.specs.List.{list_all, list_any};
 ghost use Rattle.mrc_facts.specs.Sets.{has};
 ghost use Rattle.mrc_forms.specs.Tables.{form_in};
 ghost use Rattle.mrc_model.specs.IsIn.{IsIn};
@@ -142,6 +142,16 @@ fn are_idle(wired: &Wired, facts: &Facts, disp: Disp, sort: usize, tasks: &[u16]
     !tasks.is_empty() && !some_fills(wired, facts, disp, sort, tasks)
 }
 
+/// Whether that is so of a slot of each of these dispositions.
+fn are_all_idle(wired: &Wired, facts: &Facts, disps: &[Disp], sort: usize, tasks: &[u16]) -> bool
+    ensures { result ≡ list_all
+        (λ disp. are_idle (wiring_of wired.now) (has facts.now) disp sort tasks.now) disps.now }
+{
+    disps
+        .iter()
+        .all(|disp| are_idle(wired, facts, *disp, sort, tasks))
+}
+
 /// The tasks that may ask another for this message.
 fn tasks_of<'a>(search: &Search<'a>, kind: MessageKind) -> &'a [u16]
     requires { KnowsAskers search.now }
@@ -168,15 +178,14 @@ fn is_dead_slot(search: &Search<'_>, kind: MessageKind, slot: &Slot, sort: usize
         search.now.interface slot.now.type_name }
     ensures { result ≡ is_dead_slot (wanted search.now) kind (Some slot.now) }
 {
-    let tasks = tasks_of(search, kind);
     slot.type_name.as_str() == search.type_name
-        && slot.dispositions().iter().all(|disp| are_idle(
+        && are_all_idle(
             search.wired,
             search.facts,
-            *disp,
+            slot.dispositions(),
             sort,
-            tasks,
-        ))
+            tasks_of(search, kind),
+        )
 }
 
 /// Puts the slot of these names at the end, if it is dead.

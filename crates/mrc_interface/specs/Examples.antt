@@ -2,7 +2,6 @@
 use Rattle.std.specs.Prelude.{◌≡◌, ℕ, List, [], ◌∷◌, ◌++◌, Option, Some, None, Result, Ok, Err}
 use Rattle.std.specs.Prelude.{refl, codes, option_map}
 use Rattle.std.specs.Str.{is_utf8, chars}
-use Rattle.mrc_base.specs.declared.Disp.TheVariants.{CopySend}
 use Rattle.mrc_mig_lex.specs.Pieces.{piece_at}
 use Rattle.mrc_mig_lex.specs.declared.fault.LexFault.TheVariants.{BadCharacter}
 use Rattle.mrc_mig_symbols.specs.Symbols.{many, symbol_of, first_of, text_of, tail_of, after_sign}
@@ -23,6 +22,8 @@ use Rattle.mrc_mig_parse.specs.Files.{statements_at, meaning_of}
 use Rattle.mrc_interface.specs.declared.fault.InterfaceFault.{InterfaceFault}
 use Rattle.mrc_interface.specs.declared.fault.InterfaceFault.TheVariants.{IdRange}
 use Rattle.mrc_model.specs.declared.RequestKind.TheVariants.{Simple}
+use Rattle.mrc_forms.specs.declared.types.ItemTypes.TheVariants.{One}
+use Rattle.mrc_forms.specs.Shapes.{items_of}
 use Rattle.mrc_forms.specs.declared.form.FormKind.TheVariants as kinds
 use Rattle.mrc_forms.specs.declared.form.MessageKind.TheVariants.{Request, Reply}
 use Rattle.mrc_forms.specs.Forms.{Argument, Form, return_code}
@@ -41,7 +42,7 @@ item name direction type_number = record {
 
 -- the same in a body
 abbrev argument : List ℕ → ℕ → Argument
-argument name type_number = record { name = name; shape = one type_number 32 }
+argument name type_number = record { name = name; items = items_of (one type_number 32) }
 
 -- the routine `next`, with a request port, that takes an int and gives one, a skip, and the routine
 -- `stop`, with a request port alone
@@ -101,7 +102,7 @@ pub slot_of_a_reply :
       rows = Routine (codes "r") (item (codes "port") RequestPort 19
           ∷ item (codes "new") Out 19 ∷ []) ∷ [];
     }) 1100)
-    ≡ Some (record { argument = 1; disposition = CopySend; type_name = codes "t" } ∷ [])
+    ≡ Some (record { argument = 1; types = One 19; type_name = codes "t" } ∷ [])
 slot_of_a_reply = refl
 
 -- the id of a reply may be the last one
@@ -142,7 +143,7 @@ pub names_of_a_file : interface_of
               kind = kinds.Request Simple;
               arguments = argument (codes "n") 19 ∷ [];
               slots =
-                  record { argument = 0; disposition = CopySend; type_name = codes "t" } ∷ [];
+                  record { argument = 0; types = One 19; type_name = codes "t" } ∷ [];
             });
             reply = None;
           } ∷ [];

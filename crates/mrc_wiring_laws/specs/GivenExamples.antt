@@ -1,7 +1,7 @@
 -- Worked. Which lines of a wiring the births and the admit lines of its table are of.
 use Rattle.std.specs.Prelude.{◌≡◌, ℕ, false, List, [], ◌∷◌, Some, None, Ok, refl, codes}
 use Rattle.std.proofs.Common.{inr}
-use Rattle.mrc_base.specs.declared.Disp.TheVariants.{CopySend}
+use Rattle.mrc_forms.specs.declared.types.ItemTypes.TheVariants.{One}
 use Rattle.mrc_forms.specs.declared.form.FormKind.TheVariants as kind
 use Rattle.mrc_forms.specs.Forms.{return_code}
 use Rattle.mrc_forms.specs.Tables.{Table as Interface}
@@ -34,7 +34,7 @@ files = record {
       id = 3100;
       kind = kind.Reply;
       arguments = return_code ∷ [];
-      slots = record { argument = 0; disposition = CopySend; type_name = codes "file_t" } ∷ [];
+      slots = record { argument = 0; types = One 19; type_name = codes "file_t" } ∷ [];
     };
   } ∷ [];
 }

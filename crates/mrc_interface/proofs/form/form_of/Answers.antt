@@ -14,7 +14,7 @@ pub push-requires-clause-fits : goal.push-requires-clause-fits
 push-requires-clause-fits c =
     let arguments = c.args.arguments.now in
     let fit = (and_parts _ _ c.requires).1 in
-    subst (λ (items : Items). items_fit items ≡ true) (sym c.of.ensures)
+    subst (λ (items : Items). items_fit items ≡ true) (sym c.of-items.ensures)
     (subst (λ (a : Argument). shape_fits a.shape ≡ true) (sym c.argument-item.is)
     (AllPass-from_list_all (λ (a : Argument). shape_fits a.shape) arguments
     (sym (list_all-map (λ (item : Item). shape_fits item.shape) item_of arguments) ∙ fit)
