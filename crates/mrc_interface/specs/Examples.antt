@@ -23,7 +23,7 @@ use Rattle.mrc_interface.specs.declared.fault.InterfaceFault.{InterfaceFault}
 use Rattle.mrc_interface.specs.declared.fault.InterfaceFault.TheVariants.{IdRange}
 use Rattle.mrc_model.specs.declared.RequestKind.TheVariants.{Simple}
 use Rattle.mrc_forms.specs.declared.types.ItemTypes.TheVariants.{One}
-use Rattle.mrc_forms.specs.Shapes.{items_of}
+use Rattle.mrc_forms.specs.Shapes.{items_of as items_of_shape}
 use Rattle.mrc_forms.specs.declared.form.FormKind.TheVariants as kinds
 use Rattle.mrc_forms.specs.declared.form.MessageKind.TheVariants.{Request, Reply}
 use Rattle.mrc_forms.specs.Forms.{Argument, Form, return_code}
@@ -42,7 +42,7 @@ item name direction type_number = record {
 
 -- the same in a body
 abbrev argument : List ℕ → ℕ → Argument
-argument name type_number = record { name = name; items = items_of (one type_number 32) }
+argument name type_number = record { name = name; items = items_of_shape (one type_number 32) }
 
 -- the routine `next`, with a request port, that takes an int and gives one, a skip, and the routine
 -- `stop`, with a request port alone
