@@ -1,0 +1,9 @@
+pub mod MarkLemmas
+pub mod ShapeLemmas
+pub mod BodyLemmas
+pub mod FormLemmas
+pub mod RowLemmas
+pub mod FileLemmas
+pub mod TableLemmas
+pub mod LawLemmas
+pub mod SlotLemmas
