@@ -58,7 +58,11 @@ fn put_form(out: &mut String, form: &Form) -> Result<(), AllocError> {
 }
 
 /// The forms of an id: that of its request, and that of its reply.
-fn put_forms(out: &mut String, interface: &Interface, id: u32) -> Result<(), AllocError> {
+pub(crate) fn put_forms(
+    out: &mut String,
+    interface: &Interface,
+    id: u32,
+) -> Result<(), AllocError> {
     if let Some(form) = interface.request_form(id) {
         put_form(out, form)?;
     }
@@ -68,10 +72,16 @@ fn put_forms(out: &mut String, interface: &Interface, id: u32) -> Result<(), All
     Ok(())
 }
 
-/// The subsystem's name, its first id and how many ids it has, and each form.
+/// The subsystem's name, its first id and how many ids it has.
+pub(crate) fn head_text(alloc: Global, interface: &Interface) -> Result<String, AllocError> {
+    let (base, count) = interface.ids();
+    format!(in alloc; "{} {base} {count}", interface.name())
+}
+
+/// The same, and each form.
 fn table_text(alloc: Global, interface: &Interface) -> Result<String, AllocError> {
     let (base, count) = interface.ids();
-    let mut text = format!(in alloc; "{} {base} {count}", interface.name())?;
+    let mut text = head_text(alloc, interface)?;
     let mut id = base;
     for _ in 0..count {
         put_forms(&mut text, interface, id)?;

@@ -18,9 +18,9 @@
 //!   with its numbers, bits, count and alignment, and what an argument of it is by what is sent, by
 //!   what is received, and with each number that gives what is received
 //! - `forms`: the table of forms of a MIG file
-//! - `forms2`: of a MIG text as one of the second edition, the subsystem, each routine with its
-//!   messages or with the word for which it is left out and what it may carry, and behind them the
-//!   types that are not read
+//! - `forms2`: the table of forms of a MIG text as one of the second edition; among them the rows
+//!   that are left out, with their words and what they may carry, and behind them the types that are
+//!   not read
 //! - `names`: the forms of a MIG file by the names of their routines, with those of their arguments
 //! - `cut`: what is left out of a MIG text that is cut, and the table of forms of what is left
 //! - `rest`: what is left of it, with ` / ` between its lines

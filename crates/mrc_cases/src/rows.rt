@@ -1,13 +1,13 @@
-//! The rows of MIG texts of the second edition.
+//! The forms of MIG texts of the second edition, and the rows that are left out.
 
-use crate::wide::{lexed, put_rights, put_shape};
+use crate::forms::{head_text, put_forms};
+use crate::wide::lexed;
 use anyhow::{Result, bail};
 use mrc_base::OrMemory;
-use mrc_mig_bodies::{Entry, Messages, Request};
-use mrc_mig_rows::{Carried, Content, File, Row, RowWord, Told, UnreadType, place_of, read_rows};
+use mrc_mig_forms::{Forms, LeftOut, Unread, read_forms};
+use mrc_mig_rows::{RowWord, place_of};
 use mrc_mig_symbols::{Stop, StopReason};
 use mrc_mig_tokens::{Edition, Tokens, edition_of};
-use mrc_mig_types::Shape;
 use std::alloc::{AllocError, Global};
 use std::fmt::Write;
 
@@ -37,111 +37,86 @@ fn put_stop(out: &mut String, tokens: &Tokens<'_>, stop: Stop) -> Result<(), All
     }
 }
 
-/// The items of a body, and those of them that are slots: by number, rights and type.
-fn put_body(out: &mut String, body: &[Entry<'_>]) -> Result<(), AllocError> {
-    for entry in body {
-        write!(out, " ")?;
-        put_shape(out, entry.shape())?;
+/// A name, or `?` for none.
+fn name_text(name: &Option<String>) -> &str {
+    match name {
+        Some(name) => name.as_str(),
+        None => "?",
     }
-    for (number, entry) in body.iter().enumerate() {
-        put_slot(out, number, *entry)?;
-    }
-    Ok(())
-}
-
-/// The item of this number, if it is a slot.
-fn put_slot(out: &mut String, number: usize, entry: Entry<'_>) -> Result<(), AllocError> {
-    let Shape::Slot { rights, .. } = entry.shape() else {
-        return Ok(());
-    };
-    let Entry::Argument { type_name, .. } = entry else {
-        return Ok(());
-    };
-    write!(out, " {number}:")?;
-    put_rights(out, rights)?;
-    write!(out, ":{type_name}")
-}
-
-/// The messages of a routine that is read.
-fn put_read(
-    out: &mut String,
-    id: u64,
-    request: Request,
-    messages: &Messages<'_>,
-) -> Result<(), AllocError> {
-    let word = match request {
-        Request::Routine => "request",
-        Request::Simple => "simple",
-        Request::Replied => "replied",
-    };
-    write!(out, "; {word} {id}")?;
-    put_body(out, &messages.request)?;
-    if request != Request::Routine {
-        return Ok(());
-    }
-    write!(out, "; reply {}", id.wrapping_add(100))?;
-    put_body(out, &messages.reply)
 }
 
 /// A row that is left out: its name, its word and where, and what it may carry.
-fn put_left(
-    out: &mut String,
-    tokens: &Tokens<'_>,
-    row: &Row<'_>,
-    told: Told,
-    carried: &[Carried<'_>],
-) -> Result<(), AllocError> {
-    let name = row.name.unwrap_or("?");
-    let at = place_of(tokens, told.at);
-    write!(
-        out,
-        "; left {} {name} {} {at}",
-        row.id,
-        word_text(told.word)
-    )?;
-    for argument in carried {
-        write!(out, " {}:{}", argument.name, argument.type_name)?;
+fn put_left(out: &mut String, tokens: &Tokens<'_>, left: &LeftOut) -> Result<(), AllocError> {
+    let name = name_text(&left.routine);
+    let word = word_text(left.word);
+    let at = place_of(tokens, left.stop);
+    write!(out, "; left {} {name} {word} {at}", left.id)?;
+    for carrier in &left.carried {
+        write!(
+            out,
+            " {}:{}",
+            carrier.name.as_str(),
+            carrier.type_name.as_str()
+        )?;
     }
     Ok(())
 }
 
-fn put_row(out: &mut String, tokens: &Tokens<'_>, row: &Row<'_>) -> Result<(), AllocError> {
-    match &row.content {
-        Content::Read { request, messages } => put_read(out, row.id, *request, messages),
-        Content::LeftOut { told, carried } => put_left(out, tokens, row, *told, carried),
+/// The row that is left out first, if it has this id; and those that are left.
+fn put_left_at<'l>(
+    out: &mut String,
+    tokens: &Tokens<'_>,
+    left_out: &'l [LeftOut],
+    id: u64,
+) -> Result<&'l [LeftOut], AllocError> {
+    match left_out {
+        [left, behind @ ..] if left.id == id => {
+            put_left(out, tokens, left)?;
+            Ok(behind)
+        }
+        _ => Ok(left_out),
     }
 }
 
+/// The rows by their ids, those behind the last id at the end.
+fn put_rows(out: &mut String, tokens: &Tokens<'_>, forms: &Forms) -> Result<(), AllocError> {
+    let (base, count) = forms.interface.ids();
+    let mut left_out = forms.left_out.as_slice();
+    let mut id = base;
+    for _ in 0..count {
+        put_forms(out, &forms.interface, id)?;
+        left_out = put_left_at(out, tokens, left_out, u64::from(id))?;
+        id = id.wrapping_add(1);
+    }
+    for left in left_out {
+        put_left(out, tokens, left)?;
+    }
+    Ok(())
+}
+
 /// A type that is not read, and why.
-fn put_unread(
-    out: &mut String,
-    tokens: &Tokens<'_>,
-    unread: &UnreadType<'_>,
-) -> Result<(), AllocError> {
-    write!(out, "; type {} ", unread.name.unwrap_or("?"))?;
+fn put_unread(out: &mut String, tokens: &Tokens<'_>, unread: &Unread) -> Result<(), AllocError> {
+    write!(out, "; type {} ", name_text(&unread.name))?;
     put_stop(out, tokens, unread.stop)
 }
 
 /// The subsystem with its first id and how many it takes, its rows, and the types that are not
 /// read.
-fn table_text(alloc: Global, tokens: &Tokens<'_>, file: &File<'_>) -> Result<String, AllocError> {
-    let heading = file.heading;
-    let mut out = format!(in alloc; "{} {} {}", heading.name, heading.base, file.ids)?;
-    for row in &file.rows {
-        put_row(&mut out, tokens, row)?;
-    }
-    for unread in &file.unread {
+fn table_text(alloc: Global, tokens: &Tokens<'_>, forms: &Forms) -> Result<String, AllocError> {
+    let mut out = head_text(alloc, &forms.interface)?;
+    put_rows(&mut out, tokens, forms)?;
+    for unread in &forms.unread {
         put_unread(&mut out, tokens, unread)?;
     }
     Ok(out)
 }
 
-/// The rows of a text.
+/// The forms and the rows of a text.
 pub(crate) fn forms(alloc: Global, text: &str) -> Result<String> {
     let tokens = lexed(alloc, text)?;
     let received = edition_of(text) == Edition::Received;
-    match read_rows(alloc, &tokens, received) {
-        Ok(file) => Ok(table_text(alloc, &tokens, &file)?),
+    match read_forms(alloc, &tokens, received) {
+        Ok(forms) => Ok(table_text(alloc, &tokens, &forms)?),
         Err(OrMemory::Fault(stop)) => {
             let mut out = String::new(alloc);
             put_stop(&mut out, &tokens, stop)?;

@@ -2,11 +2,10 @@
 
 use anyhow::{Result, bail};
 use mrc_base::OrMemory;
+use mrc_mig_forms::source_of;
 use mrc_mig_lex::{LexFault, Sign};
 use mrc_mig_symbols::{Stop, Word};
-use mrc_mig_tokens::{
-    Edition, Rest, Symbol, Tokens, any_name, edition_of, lex, sign, source_of, sum_value,
-};
+use mrc_mig_tokens::{Edition, Rest, Symbol, Tokens, any_name, edition_of, lex, sign, sum_value};
 use mrc_mig_types::{By, Count, Meaning, Rights, Shape, Tag, Types, shape_of, spec};
 use std::alloc::{AllocError, Global};
 use std::fmt::Write;
@@ -113,7 +112,7 @@ fn put_count(out: &mut String, count: Count) -> Result<(), AllocError> {
     }
 }
 
-pub(crate) fn put_rights(out: &mut String, rights: Rights) -> Result<(), AllocError> {
+fn put_rights(out: &mut String, rights: Rights) -> Result<(), AllocError> {
     match rights {
         Rights::Nothing => write!(out, "none"),
         Rights::Only(number) => write!(out, "{number}"),
@@ -123,7 +122,7 @@ pub(crate) fn put_rights(out: &mut String, rights: Rights) -> Result<(), AllocEr
     }
 }
 
-pub(crate) fn put_shape(out: &mut String, shape: Shape) -> Result<(), AllocError> {
+fn put_shape(out: &mut String, shape: Shape) -> Result<(), AllocError> {
     let (bits, count, is_bound) = match shape {
         Shape::AnyData => return write!(out, "any"),
         Shape::Data {
