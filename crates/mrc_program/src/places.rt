@@ -1,18 +1,16 @@
 //! What helps with a fault of a text, by the text's role.
 
-use crate::notes::{draft_note, one_note};
+use crate::notes::draft_note;
 use mrc_answer::{Files, Texts};
 use mrc_certificate::DraftFault;
 use mrc_check::{CaseFault, PolicyFault, WiringFault};
-use mrc_interface::{DefsFault, FileFault, LexFault, ParseFault, read_interfaces};
+use mrc_hints::{mig_hint, names_hint, policy_name_hint, script_hint, wiring_name_hint};
+use mrc_interface::{DefsFault, FileFault, LexFault, ParseFault};
 use mrc_line_hints::{policy_line_hint, wiring_line_hint};
 use mrc_mig_cut::CutFault;
-use mrc_mig_hints::mig_hint;
-use mrc_name_hints::{names_hint, policy_name_hint, wiring_name_hint};
-use mrc_place::Hint;
-use mrc_script_hints::script_hint;
+use mrc_place::{Hint, one_note};
 use mrc_wiring::{ClaimFault, ResolveFault};
-use mrc_wiring_text::{TextFault, read_wiring};
+use mrc_wiring_text::TextFault;
 use std::alloc::{AllocError, Global};
 use std::str;
 
@@ -34,11 +32,8 @@ fn wiring_names_hint(
     let Ok(text) = str::from_utf8(files.texts.wiring.as_slice()) else {
         return Ok(None);
     };
-    let Ok(interfaces) = read_interfaces(alloc, files.texts.defs.as_slice()) else {
-        return Ok(None);
-    };
     let names = files.names.defs.as_slice();
-    let hint = wiring_name_hint(alloc, text, interfaces.as_slice(), names, fault)?;
+    let hint = wiring_name_hint(alloc, text, names, files.texts.defs.as_slice(), fault)?;
     Ok(Some(hint))
 }
 
@@ -70,10 +65,10 @@ fn policy_names_hint(
     let Ok(text) = str::from_utf8(texts.policy()) else {
         return Ok(None);
     };
-    let Ok(lines) = read_wiring(alloc, texts.wiring.as_slice()) else {
+    let Ok(wiring) = str::from_utf8(texts.wiring.as_slice()) else {
         return Ok(None);
     };
-    let hint = policy_name_hint(alloc, text, lines.as_slice(), fault)?;
+    let hint = policy_name_hint(alloc, text, wiring, fault)?;
     Ok(Some(hint))
 }
 
@@ -99,17 +94,16 @@ fn script_text_hint(
     live: bool,
     fault: TextFault,
 ) -> Result<Option<Hint>, AllocError> {
-    let Ok(lines) = read_wiring(alloc, texts.wiring.as_slice()) else {
+    let Ok(wiring) = str::from_utf8(texts.wiring.as_slice()) else {
         return Ok(None);
     };
-    let hint = script_hint(alloc, texts.script(), lines.as_slice(), live, fault)?;
+    let hint = script_hint(alloc, texts.script(), wiring, live, fault)?;
     Ok(Some(hint))
 }
 
 /// What helps with a fault of the certificate.
 fn certificate_hint(alloc: Global, fault: DraftFault) -> Result<Hint, AllocError> {
-    let notes = one_note(alloc, draft_note(fault))?;
-    Ok(Hint { spot: None, notes })
+    Ok(Hint::of_notes(one_note(alloc, draft_note(fault))?))
 }
 
 /// What helps with the fault of a text: nothing, if memory runs out while the texts are read.

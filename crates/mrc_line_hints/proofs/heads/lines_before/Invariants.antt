@@ -1,9 +1,9 @@
--- The lines so far are no more than the bytes that were read.
-use Rattle.std.proofs.Common.{◌≤◌, ◌+◌, length}
+-- Each line takes some of what is left, and there are no more than were asked for.
+use Rattle.std.proofs.Common.{◌≤◌, length}
 use Rattle.mrc_line_hints.proofs.heads.lines_before.Given as goal
 
-abbrev pub invariant-loop-rest : goal.invariant-loop-rest
-invariant-loop-rest l = l.count + length l.rest ≤ length l.text
+abbrev pub invariant-loop-count : goal.invariant-loop-count
+invariant-loop-count l = l.count ≤ l.most
 
-abbrev pub decreases-loop-rest : goal.decreases-loop-rest
-decreases-loop-rest l = length l.rest
+abbrev pub decreases-loop-count : goal.decreases-loop-count
+decreases-loop-count l = length l.rest

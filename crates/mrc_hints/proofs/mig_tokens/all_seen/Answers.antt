@@ -1,0 +1,11 @@
+-- One token fewer is left.
+use Rattle.std.proofs.Common.{sym, ◌∙◌, subst, length, ◌<◌}
+use Rattle.mrc_mig_symbols.specs.Readers.{left}
+use Rattle.mrc_mig_symbols.proofs.ReadingLemmas.{tail_is_shorter}
+use Rattle.mrc_hints.proofs.mig_tokens.all_seen.Goals as goal
+
+pub loop-rest-smaller : goal.loop-rest-smaller
+loop-rest-smaller c =
+    let some = sym c.is_empty.ensures ∙ c.loop-rest-test.true in
+    subst (λ rest. length rest < length (left c.loop-rest.rest)) (sym c.next-rest.ensures)
+    (tail_is_shorter (left c.loop-rest.rest) some)
