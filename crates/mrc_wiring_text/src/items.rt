@@ -37,6 +37,13 @@ impl Model for Items {
 }
 
 impl Items {
+    /// These items.
+    pub fn new(items: Vec<Item>) -> Items
+        ensures { result ≡ items.items }
+    {
+        Items { items }
+    }
+
     /// The items in order.
     pub fn as_slice(&self) -> &[Item]
         ensures { result.now ≡ self.now }
