@@ -1,0 +1,4 @@
+pub mod ProductLemmas
+pub mod ListLemmas
+pub mod TextLemmas
+pub mod OldLemmas

@@ -1,0 +1,10 @@
+pub mod Once
+pub mod Known
+pub mod Steps
+pub mod Lists
+pub mod Products
+pub mod Standing
+pub mod Worked
+pub mod ProductLaws
+pub mod ListLaws
+pub mod OldLaws

@@ -1,0 +1,268 @@
+-- Worked. Wirings and what they stand for: those of tasks, groups, sets and products, one whole
+-- system, and the smallest wiring of each refusal. In `lines` the number of each line is that of the
+-- text, whose first line is its heading.
+use Rattle.std.specs.Prelude.{◌≡◌, ℕ, ◌+◌, List, [], ◌∷◌, ◌++◌, Option, Some, None, codes, refl, map}
+use Rattle.mrc_base.specs.declared.PortRight.TheVariants as right
+use Rattle.mrc_wiring_text.specs.declared.items.Item.TheVariants.{Request, Reply, Destroyed}
+use Rattle.mrc_wiring_text.specs.declared.policy.ClassName.{ClassName}
+use Rattle.mrc_wiring_text.specs.declared.policy.ClassName.TheVariants as class
+use Rattle.mrc_wiring_text.specs.declared.reading.Line.{Line}
+use Rattle.mrc_wiring_text.specs.declared.trust.TrustVerb.TheVariants as verb
+use Rattle.mrc_wiring_text.specs.declared.wiring.HeldRight.TheVariants as held
+use Rattle.mrc_wiring_text.specs.declared.wiring.WiringSays.{WiringSays}
+use Rattle.mrc_wiring_text.specs.declared.wiring.WiringSays.TheVariants as core
+use Rattle.mrc_stand_for.specs.declared.faults.StandFault.{StandFault}
+use Rattle.mrc_stand_for.specs.declared.faults.StandFault.TheVariants.{BadLine, UnknownName, Empty}
+use Rattle.mrc_stand_for.specs.declared.faults.StandFault.TheVariants.{Late, TwiceNamed, TooMany}
+use Rattle.mrc_stand_for.specs.declared.standing.StandsFor.{StandsFor}
+use Rattle.mrc_stand_for.specs.declared.wide.Kinds.TheVariants as kinds
+use Rattle.mrc_stand_for.specs.declared.wide.Place.TheVariants as place
+use Rattle.mrc_stand_for.specs.declared.wide.RightVerb.TheVariants as verbs
+use Rattle.mrc_stand_for.specs.declared.wide.SlotName.{SlotName}
+use Rattle.mrc_stand_for.specs.declared.wide.Tasks.TheVariants as tasks
+use Rattle.mrc_stand_for.specs.declared.wide.WideClass.{WideClass}
+use Rattle.mrc_stand_for.specs.declared.wide.WideClass.TheVariants as wide
+use Rattle.mrc_stand_for.specs.declared.wide.WideSays.{WideSays}
+use Rattle.mrc_stand_for.specs.declared.wide.WideSays.TheVariants.{Task, Group, Set, Port, PortOf}
+use Rattle.mrc_stand_for.specs.declared.wide.WideSays.TheVariants.{Births, Replies, HoldSend}
+use Rattle.mrc_stand_for.specs.declared.wide.WideSays.TheVariants.{HoldOnce, Admit, Trust}
+use Rattle.mrc_stand_for.specs.declared.wide.WideSays.TheVariants.{TrustReplies, TrustNone}
+use Rattle.mrc_stand_for.specs.declared.wide.WideSays.TheVariants.{RepliesFit}
+use Rattle.mrc_stand_for.specs.declared.wide.Whom.TheVariants as whom
+use Rattle.mrc_stand_for.specs.Standing.{stand_for}
+
+-- lines, the first of which has number n
+abbrev lines : ℕ → List WideSays → List (Line WideSays)
+lines n [] = []
+lines n (says ∷ rest) = record { number = n; says = says } ∷ lines (n + 1) rest
+
+-- what a line of this number stands for
+abbrev of : ℕ → List WiringSays → List (Line WiringSays)
+of n says = map (λ s. record { number = n; says = s }) says
+
+-- all lines are stood for
+abbrev all_of : List (Line WiringSays) → StandsFor
+all_of core = record { lines = core; fault = None }
+
+-- those in front of the first that is refused
+abbrev front : List (Line WiringSays) → StandFault → StandsFor
+front core fault = record { lines = core; fault = Some fault }
+
+-- names of one letter
+abbrev a : List ℕ
+a = codes "a"
+
+abbrev b : List ℕ
+b = codes "b"
+
+abbrev c : List ℕ
+c = codes "c"
+
+abbrev d : List ℕ
+d = codes "d"
+
+abbrev g : List ℕ
+g = codes "g"
+
+abbrev p : List ℕ
+p = codes "p"
+
+abbrev q : List ℕ
+q = codes "q"
+
+abbrev s : List ℕ
+s = codes "s"
+
+abbrev u : List ℕ
+u = codes "u"
+
+-- `births T K` as a class of a line
+abbrev of_kind : List ℕ → ℕ → WideClass
+of_kind task kind = wide.Births (whom.Who task) (kinds.One kind)
+
+-- `task a, b, c`, `hold a, b send task other`
+pub others : stand_for (lines 2 (
+    Task (a ∷ b ∷ c ∷ [])
+    ∷ HoldSend (tasks.Listed (a ∷ b ∷ [])) (place.Task whom.Other ∷ []) ∷ []))
+    ≡ all_of (of 2 (core.Task a ∷ core.Task b ∷ core.Task c ∷ [])
+    ++ of 3 (core.HoldTask a b ∷ core.HoldTask a c ∷ core.HoldTask b a ∷ core.HoldTask b c ∷ []))
+others = refl
+
+-- `task a, b, c, d`, `group g c, a, c`, `port p receiver d accepts none`,
+-- `hold all but g, b send port p`, `hold g, a once port p`
+pub groups : stand_for (lines 2 (
+    Task (a ∷ b ∷ c ∷ d ∷ []) ∷ Group g (tasks.Listed (c ∷ a ∷ c ∷ [])) ∷ Port p d []
+    ∷ HoldSend (tasks.AllBut (g ∷ b ∷ [])) (place.Port p ∷ [])
+    ∷ HoldOnce (tasks.Listed (g ∷ a ∷ [])) (p ∷ []) ∷ []))
+    ≡ all_of (of 2 (core.Task a ∷ core.Task b ∷ core.Task c ∷ core.Task d ∷ [])
+    ++ of 4 (core.Port p d [] ∷ []) ++ of 5 (core.HoldPort d held.Send p ∷ [])
+    ++ of 6 (core.HoldPort c held.SendOnce p ∷ core.HoldPort a held.SendOnce p ∷ []))
+groups = refl
+
+-- a right of b on a class that it gives
+abbrev gives : List ℕ → ClassName → WiringSays
+gives task on = core.Trust task verb.Gives (Some (record { right = right.Send; class = on }))
+
+abbrev gives_once : List ℕ → ClassName → WiringSays
+gives_once task on =
+    core.Trust task verb.Gives (Some (record { right = right.SendOnce; class = on }))
+
+-- `task a, b`, `births a 1 accepts destroyed`, `port p of births a 1`, `set s births a any`,
+-- `trust b gives send, once s`
+pub members : stand_for (lines 2 (
+    Task (a ∷ b ∷ []) ∷ Births (tasks.Listed (a ∷ [])) 1 (Destroyed ∷ []) ∷ PortOf p a 1
+    ∷ Set s (wide.Births (whom.Who a) kinds.Any ∷ [])
+    ∷ Trust (tasks.Listed (b ∷ [])) (verbs.Gives ∷ []) (right.Send ∷ right.SendOnce ∷ [])
+    (wide.Set s ∷ []) ∷ []))
+    ≡ all_of (of 2 (core.Task a ∷ core.Task b ∷ [])
+    ++ of 3 (core.Births a 1 (Destroyed ∷ []) ∷ [])
+    ++ of 4 (core.Port p a (Destroyed ∷ []) ∷ [])
+    ++ of 6 (gives b (class.Births a 0) ∷ gives b (class.Births a 1) ∷ gives b (class.Port p)
+    ∷ gives_once b (class.Births a 0) ∷ gives_once b (class.Births a 1)
+    ∷ gives_once b (class.Port p) ∷ []))
+members = refl
+
+-- `task a, b`, `births all 8 replies s, ns`, `births b 1 accepts request s, ns, reply s, ns,
+-- destroyed`
+pub counted_kinds : stand_for (lines 2 (
+    Task (a ∷ b ∷ []) ∷ Replies tasks.All 8 (s ∷ codes "ns" ∷ [])
+    ∷ Births (tasks.Listed (b ∷ [])) 1 (Request s ∷ Request (codes "ns") ∷ Reply s
+    ∷ Reply (codes "ns") ∷ Destroyed ∷ []) ∷ []))
+    ≡ all_of (of 2 (core.Task a ∷ core.Task b ∷ [])
+    ++ of 3 (core.Births a 8 (Reply s ∷ []) ∷ core.Births a 9 (Reply (codes "ns") ∷ [])
+    ∷ core.Births b 8 (Reply s ∷ []) ∷ core.Births b 9 (Reply (codes "ns") ∷ []) ∷ [])
+    ++ of 4 (core.Births b 1 (Request s ∷ Request (codes "ns") ∷ Reply s ∷ Reply (codes "ns")
+    ∷ Destroyed ∷ []) ∷ []))
+counted_kinds = refl
+
+-- a task is trusted with replies of a class
+abbrev replies : List ℕ → ClassName → WiringSays
+replies task on =
+    core.Trust task verb.Replies (Some (record { right = right.SendOnce; class = on }))
+
+-- `task a, b`, `trust all takes, replies none`, `trust a, b replies births other, task b`,
+-- `trust b gives any task a`
+pub trusted : stand_for (lines 2 (
+    Task (a ∷ b ∷ []) ∷ TrustNone tasks.All (verb.Takes ∷ verb.Replies ∷ [])
+    ∷ TrustReplies (tasks.Listed (a ∷ b ∷ []))
+    (wide.Births whom.Other (kinds.One 0) ∷ wide.Task (whom.Who b) ∷ [])
+    ∷ Trust (tasks.Listed (b ∷ [])) (verbs.Gives ∷ [])
+    (right.Send ∷ right.Receive ∷ right.SendOnce ∷ []) (wide.Task (whom.Who a) ∷ []) ∷ []))
+    ≡ all_of (of 2 (core.Task a ∷ core.Task b ∷ [])
+    ++ of 3 (core.Trust a verb.Takes None ∷ core.Trust a verb.Replies None
+    ∷ core.Trust b verb.Takes None ∷ core.Trust b verb.Replies None ∷ [])
+    ++ of 4 (replies a (class.Births b 0) ∷ replies a (class.Task b)
+    ∷ replies b (class.Births a 0) ∷ replies b (class.Task b) ∷ [])
+    ++ of 5 (gives b (class.Task a)
+    ∷ core.Trust b verb.Gives (Some (record { right = right.Receive; class = class.Task a }))
+    ∷ gives_once b (class.Task a) ∷ []))
+trusted = refl
+
+-- a whole system: `task server, a, b`, `port gate receiver server accepts request s`,
+-- `births server 1 accepts request s`, `births server 2 accepts request s`,
+-- `births a 0 accepts reply s_a`, `births b 0 accepts reply s_b`, `hold a, b send port gate`,
+-- `admit s_a.open.q births server 1` and `admit s_b.open.q births server 2`, here by the type of q,
+-- and `replies fit`
+pub system : stand_for (
+    lines 2 (Task (codes "server" ∷ a ∷ b ∷ []) ∷ [])
+    ++ lines 4 (Port (codes "gate") (codes "server") (Request s ∷ [])
+    ∷ Births (tasks.Listed (codes "server" ∷ [])) 1 (Request s ∷ [])
+    ∷ Births (tasks.Listed (codes "server" ∷ [])) 2 (Request s ∷ [])
+    ∷ Births (tasks.Listed (a ∷ [])) 0 (Reply (codes "s_a") ∷ [])
+    ∷ Births (tasks.Listed (b ∷ [])) 0 (Reply (codes "s_b") ∷ [])
+    ∷ HoldSend (tasks.Listed (a ∷ b ∷ [])) (place.Port (codes "gate") ∷ [])
+    ∷ Admit (record { subsystem = codes "s_a"; type_name = codes "session_t" } ∷ [])
+    (Some (of_kind (codes "server") 1 ∷ []))
+    ∷ Admit (record { subsystem = codes "s_b"; type_name = codes "session_t" } ∷ [])
+    (Some (of_kind (codes "server") 2 ∷ [])) ∷ RepliesFit ∷ []))
+    ≡ all_of (of 2 (core.Task (codes "server") ∷ core.Task a ∷ core.Task b ∷ [])
+    ++ of 4 (core.Port (codes "gate") (codes "server") (Request s ∷ []) ∷ [])
+    ++ of 5 (core.Births (codes "server") 1 (Request s ∷ []) ∷ [])
+    ++ of 6 (core.Births (codes "server") 2 (Request s ∷ []) ∷ [])
+    ++ of 7 (core.Births a 0 (Reply (codes "s_a") ∷ []) ∷ [])
+    ++ of 8 (core.Births b 0 (Reply (codes "s_b") ∷ []) ∷ [])
+    ++ of 9 (core.HoldPort a held.Send (codes "gate")
+    ∷ core.HoldPort b held.Send (codes "gate") ∷ [])
+    ++ of 10 (core.Admit (codes "s_a") (codes "session_t")
+    (Some (class.Births (codes "server") 1)) ∷ [])
+    ++ of 11 (core.Admit (codes "s_b") (codes "session_t")
+    (Some (class.Births (codes "server") 2)) ∷ [])
+    ++ of 12 (core.RepliesFit ∷ []))
+system = refl
+
+-- `task a, b, c`, `group u b, c`, `port p receiver a accepts none`, `births a 1 accepts none`,
+-- `births u 1 accepts none`
+abbrev three : List WideSays
+three =
+    Task (a ∷ b ∷ c ∷ []) ∷ Group u (tasks.Listed (b ∷ c ∷ [])) ∷ Port p a []
+    ∷ Births (tasks.Listed (a ∷ [])) 1 [] ∷ Births (tasks.Listed (u ∷ [])) 1 [] ∷ []
+
+abbrev three_lines : List (Line WiringSays)
+three_lines =
+    of 2 (core.Task a ∷ core.Task b ∷ core.Task c ∷ []) ++ of 4 (core.Port p a [] ∷ [])
+    ++ of 5 (core.Births a 1 [] ∷ []) ++ of 6 (core.Births b 1 [] ∷ core.Births c 1 [] ∷ [])
+
+-- `task a, b`, `group g all but a`, `task c`
+pub task_is_late : stand_for (lines 2 (
+    Task (a ∷ b ∷ []) ∷ Group g (tasks.AllBut (a ∷ [])) ∷ Task (c ∷ []) ∷ []))
+    ≡ front (of 2 (core.Task a ∷ core.Task b ∷ [])) (Late 4)
+task_is_late = refl
+
+-- `set s births u any`, `births b 2 accepts none`
+pub kind_is_late : stand_for (lines 2 (three ++ (
+    Set s (wide.Births (whom.Who u) kinds.Any ∷ []) ∷ Births (tasks.Listed (b ∷ [])) 2 [] ∷ [])))
+    ≡ front three_lines (Late 8)
+kind_is_late = refl
+
+-- `set s births c any`, `port q of births c 1`
+pub port_is_late : stand_for (lines 2 (three ++ (
+    Set s (wide.Births (whom.Who c) kinds.Any ∷ []) ∷ PortOf q c 1 ∷ [])))
+    ≡ front three_lines (Late 8)
+port_is_late = refl
+
+-- `task a`, `port p of births a 0`, `births a 0 accepts destroyed`
+pub births_are_late : stand_for (lines 2 (
+    Task (a ∷ []) ∷ PortOf p a 0 ∷ Births (tasks.Listed (a ∷ [])) 0 (Destroyed ∷ []) ∷ []))
+    ≡ front (of 2 (core.Task a ∷ []) ++ of 3 (core.Port p a [] ∷ [])) (Late 4)
+births_are_late = refl
+
+-- `group h all but u, a`
+pub all_but_all : stand_for (lines 2 (three ++ (
+    Group (codes "h") (tasks.AllBut (u ∷ a ∷ [])) ∷ [])))
+    ≡ front three_lines (Empty 7)
+all_but_all = refl
+
+-- `task a`, `hold a send task other`
+pub no_other : stand_for (lines 2 (
+    Task (a ∷ []) ∷ HoldSend (tasks.Listed (a ∷ [])) (place.Task whom.Other ∷ []) ∷ []))
+    ≡ front (of 2 (core.Task a ∷ [])) (Empty 3)
+no_other = refl
+
+-- `group g a`, `task a`
+pub task_below : stand_for (lines 2 (Group g (tasks.Listed (a ∷ [])) ∷ Task (a ∷ []) ∷ []))
+    ≡ front [] (UnknownName 2)
+task_below = refl
+
+-- `births u 2 accepts none`, `set s births all 2`
+pub kind_of_some : stand_for (lines 2 (three ++ (
+    Births (tasks.Listed (u ∷ [])) 2 []
+    ∷ Set s (wide.Births whom.All (kinds.One 2) ∷ []) ∷ [])))
+    ≡ front (three_lines ++ of 7 (core.Births b 2 [] ∷ core.Births c 2 [] ∷ [])) (UnknownName 8)
+kind_of_some = refl
+
+-- `task u`
+pub task_is_a_group : stand_for (lines 2 (three ++ (Task (u ∷ []) ∷ [])))
+    ≡ front three_lines (TwiceNamed 7)
+task_is_a_group = refl
+
+-- `task a`, `births a 15 replies ns, ns`
+pub kind_16 : stand_for (lines 2 (
+    Task (a ∷ []) ∷ Replies (tasks.Listed (a ∷ [])) 15 (codes "ns" ∷ codes "ns" ∷ []) ∷ []))
+    ≡ front (of 2 (core.Task a ∷ [])) (BadLine 3)
+kind_16 = refl
+
+-- `task a, b`, `set s task other`, which has no holder
+pub no_holder : stand_for (lines 2 (
+    Task (a ∷ b ∷ []) ∷ Set s (wide.Task whom.Other ∷ []) ∷ []))
+    ≡ front (of 2 (core.Task a ∷ core.Task b ∷ [])) (BadLine 3)
+no_holder = refl

@@ -1,0 +1,16 @@
+//! What a wiring of version 4 stands for: the lines of version 3 that its wide lines are written
+//! in place of, or the first line that stands for none.
+#![tactic(auto)]
+
+mod faults;
+mod known;
+pub mod laws;
+mod lists;
+mod several;
+mod standing;
+mod wide;
+
+pub use faults::StandFault;
+pub use several::Several;
+pub use standing::StandsFor;
+pub use wide::{Kinds, Place, RightVerb, SlotName, Tasks, Whom, WideClass, WideLine, WideSays};
