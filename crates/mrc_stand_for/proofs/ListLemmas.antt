@@ -60,8 +60,8 @@ number_in n k less =
 kind_in : (known : Known) (task : List ℕ) (kind : ℕ) → has_kind known task kind ≡ true
     → Contains (kind_classes known task kind) (class.Births task kind)
 kind_in known task kind has =
-    subst (λ b. Contains (if b then births_classes known task kind else []) (class.Births task kind))
-    (sym has) (first_in (class.Births task kind) _)
+    subst (λ b. Contains (if b then births_classes known task kind else [])
+    (class.Births task kind)) (sym has) (first_in (class.Births task kind) _)
 
 pub any_has_each_kind : AnyHasEachKind
 any_has_each_kind = λ known task kind less has.

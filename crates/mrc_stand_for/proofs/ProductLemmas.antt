@@ -8,8 +8,8 @@ use Rattle.mrc_wiring_text.specs.declared.items.Item.TheVariants as item
 use Rattle.mrc_wiring_text.specs.declared.wiring.WiringSays.{WiringSays}
 use Rattle.mrc_wiring_text.specs.declared.wiring.WiringSays.TheVariants as core
 use Rattle.mrc_stand_for.specs.Products.{births_lines, reply_lines, replies_lines, once_line}
-use Rattle.mrc_stand_for.specs.Products.{once_lines, admit_line, admit_lines, trust_line, trust_lines}
-use Rattle.mrc_stand_for.specs.Products.{verb_lines, trust_none, none_lines}
+use Rattle.mrc_stand_for.specs.Products.{once_lines, admit_line, admit_lines, trust_line}
+use Rattle.mrc_stand_for.specs.Products.{trust_lines, verb_lines, trust_none, none_lines}
 use Rattle.mrc_stand_for.specs.ProductLaws.{BirthsAreOfEachTask, RepliesAreOfEachTask, KindsCountUp}
 use Rattle.mrc_stand_for.specs.ProductLaws.{OncesAreProducts, AdmitsAreProducts, TrustsAreProducts}
 use Rattle.mrc_stand_for.specs.ProductLaws.{NonesAreProducts}

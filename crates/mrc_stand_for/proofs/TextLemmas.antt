@@ -1,6 +1,6 @@
 -- Once a line has named all tasks, no line below adds one.
-use Rattle.std.proofs.Common.{◌≡◌, ◌||◌, ◌&&◌, ◌+◌, ℕ, Bool, true, false, List, [], ◌∷◌, ◌++◌, refl, sym, ap}
-use Rattle.std.proofs.Common.{◌∙◌, subst, Result, Ok, Err, Option, Some, None, length, map}
+use Rattle.std.proofs.Common.{◌≡◌, ◌||◌, ◌&&◌, ◌+◌, ℕ, Bool, true, false, List, [], ◌∷◌, ◌++◌, refl}
+use Rattle.std.proofs.Common.{sym, ap, ◌∙◌, subst, Result, Ok, Err, Option, Some, None, length, map}
 use Rattle.std.specs.Prelude.{not, nat_le, nat_lt, if◌then◌else◌}
 use Rattle.std.specs.List.{list_any}
 use Rattle.mrc_base.specs.Limits.{limit_of_kinds}
@@ -34,8 +34,8 @@ use Rattle.mrc_stand_for.specs.Lists.{tasks_of, classes_of, ports_of}
 use Rattle.mrc_stand_for.specs.ListLaws.{AllAreOfTheText}
 use Rattle.mrc_stand_for.specs.Products.{births_lines, replies_lines, once_lines, admit_lines}
 use Rattle.mrc_stand_for.specs.Products.{admit_none, verb_of, trust_lines, none_lines}
-use Rattle.mrc_stand_for.specs.Standing.{names_all, class_names_all, place_names_all, closing, naming}
-use Rattle.mrc_stand_for.specs.Standing.{Stands, stands, stood_so_far, add_group, add_set}
+use Rattle.mrc_stand_for.specs.Standing.{names_all, class_names_all, place_names_all, closing}
+use Rattle.mrc_stand_for.specs.Standing.{naming, Stands, stands, stood_so_far, add_group, add_set}
 use Rattle.mrc_stand_for.specs.Standing.{accepts_said, add_member, add_sends, add_trusts}
 use Rattle.mrc_stand_for.specs.Standing.{group_stands, set_stands, member_stands, births_stands}
 use Rattle.mrc_stand_for.specs.Standing.{replies_stands, send_stands, once_stands, admit_stands}

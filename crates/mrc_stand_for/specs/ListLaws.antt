@@ -1,6 +1,6 @@
 -- Law. What the lists of a line stand for: `all but` and `other` are all tasks but those that they
 -- leave out, `any` is each kind, and a list that names all tasks has those of the whole text.
-use Rattle.std.specs.Prelude.{◌≡◌, ◌<◌, ◌&&◌, ℕ, Bool, true, not, bytes_eq, List, Contains, Some, Ok}
+use Rattle.std.specs.Prelude.{◌≡◌, ◌<◌, ◌&&◌, ℕ, true, not, bytes_eq, List, Contains, Some, Ok}
 use Rattle.mrc_base.specs.Limits.{limit_of_kinds}
 use Rattle.mrc_wiring_text.specs.declared.policy.ClassName.TheVariants as class
 use Rattle.mrc_wiring_text.specs.declared.reading.Line.{Line}

@@ -1,5 +1,5 @@
--- Law. A line of one name in each of its lists, which are there, is the line of version 3 with these
--- names.
+-- Law. A line with one name in each of its lists, each of which is there, is the line of version 3
+-- with these names.
 use Rattle.std.specs.Prelude.{◌≡◌, ℕ, true, List, [], ◌∷◌}
 use Rattle.mrc_wiring_text.specs.declared.items.Item.{Item}
 use Rattle.mrc_wiring_text.specs.declared.wiring.HeldRight.TheVariants as held

@@ -1,5 +1,5 @@
--- Law. A line stands for the product of its lists: a line of version 3 is among those of a wide line
--- exactly if each of its parts is in the list of that part.
+-- Law. A line stands for the product of its lists: a line of version 3 is among those of a wide
+-- line exactly if each of its parts is in the list of that part.
 use Rattle.std.specs.Prelude.{◌≡◌, ◌+◌, ◌↔◌, ℕ, List, [], ◌∷◌, Contains, Some, slice_get}
 use Rattle.mrc_base.specs.declared.PortRight.{PortRight}
 use Rattle.mrc_wiring_text.specs.declared.items.Item.{Item}
@@ -10,8 +10,8 @@ use Rattle.mrc_wiring_text.specs.declared.wiring.WiringSays.{WiringSays}
 use Rattle.mrc_wiring_text.specs.declared.wiring.WiringSays.TheVariants as core
 use Rattle.mrc_stand_for.specs.declared.wide.SlotName.{SlotName}
 use Rattle.mrc_stand_for.specs.Products.{births_lines, reply_lines, replies_lines, once_line}
-use Rattle.mrc_stand_for.specs.Products.{once_lines, admit_line, admit_lines, trust_line, trust_lines}
-use Rattle.mrc_stand_for.specs.Products.{trust_none, none_lines}
+use Rattle.mrc_stand_for.specs.Products.{once_lines, admit_line, admit_lines, trust_line}
+use Rattle.mrc_stand_for.specs.Products.{trust_lines, trust_none, none_lines}
 
 -- births: a line for each of the tasks
 abbrev pub BirthsAreOfEachTask : Type 0

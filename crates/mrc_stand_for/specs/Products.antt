@@ -64,7 +64,8 @@ verb_of right.Sends = verb.Sends
 
 -- a task may do this by a verb with a right on a class
 abbrev pub trust_line : List ℕ → TrustVerb → PortRight → ClassName → WiringSays
-trust_line task verb right class = core.Trust task verb (Some (record { right = right; class = class }))
+trust_line task verb right class =
+    core.Trust task verb (Some (record { right = right; class = class }))
 
 -- by a verb with each of the rights on each of the classes
 abbrev pub verb_lines : List ℕ → List PortRight → List ClassName → TrustVerb → List WiringSays

@@ -1,7 +1,7 @@
 -- Worked. Wirings and what they stand for: those of tasks, groups, sets and products, one whole
--- system, and the smallest wiring of each refusal. In `lines` the number of each line is that of the
--- text, whose first line is its heading.
-use Rattle.std.specs.Prelude.{◌≡◌, ℕ, ◌+◌, List, [], ◌∷◌, ◌++◌, Option, Some, None, codes, refl, map}
+-- system, and the smallest wiring of each refusal. Each line has its number in a text whose first
+-- line is the heading.
+use Rattle.std.specs.Prelude.{◌≡◌, ℕ, ◌+◌, List, [], ◌∷◌, ◌++◌, Some, None, codes, refl, map}
 use Rattle.mrc_base.specs.declared.PortRight.TheVariants as right
 use Rattle.mrc_wiring_text.specs.declared.items.Item.TheVariants.{Request, Reply, Destroyed}
 use Rattle.mrc_wiring_text.specs.declared.policy.ClassName.{ClassName}
