@@ -1,24 +1,19 @@
 -- What lists of tasks and of births have, and that the tasks stay once they are closed.
-use Rattle.std.proofs.Common.{◌≡◌, ◌+◌, ◌<◌, ◌&&◌, ◌||◌, ℕ, zero, suc, Bool, true, false, List, []}
-use Rattle.std.proofs.Common.{◌∷◌, ◌++◌, length, get_or, refl, sym, ap, ◌∙◌, subst, arith, Contains}
-use Rattle.std.proofs.Common.{Result, Ok, Err, Option, Some, None, inl, inr, ◌⊎◌}
+use Rattle.std.proofs.Common.{◌≡◌, ◌+◌, ◌<◌, ◌&&◌, ◌||◌, ℕ, Bool, true, false, List, []}
+use Rattle.std.proofs.Common.{◌∷◌, length, get_or, refl, sym, ap, ◌∙◌, subst, arith, Contains}
+use Rattle.std.proofs.Common.{Ok, Err}
 use Rattle.std.specs.Prelude.{not, bytes_eq, nat_eq, if◌then◌else◌}
-use Rattle.std.specs.List.{list_any, flat_map, range_with_len}
-use Rattle.std.proofs.lemmas.Bool.{cases_Bool}
+use Rattle.std.specs.List.{range_with_len}
 use Rattle.std.proofs.lemmas.Slice.Eq.{bytes_eq-Decides}
 use Rattle.std.proofs.lemmas.Map.Views.{any-filter_same}
 use Rattle.std.proofs.lemmas.List.FromFn.{length-range_with_len, get_or-range_with_len}
 use Rattle.mrc_base.specs.Limits.{limit_of_kinds}
-use Rattle.mrc_base.specs.Reading.{◌>>=◌}
-use Rattle.mrc_base.proofs.Steps.{bind_ok, not_stopped}
-use Rattle.mrc_wiring_text.specs.declared.policy.ClassName.{ClassName}
 use Rattle.mrc_wiring_text.specs.declared.policy.ClassName.TheVariants as class
-use Rattle.mrc_stand_for.specs.declared.faults.StandFault.{StandFault}
 use Rattle.mrc_stand_for.specs.declared.faults.StandFault.TheVariants.{Empty}
 use Rattle.mrc_stand_for.specs.declared.known.Known.{Known}
 use Rattle.mrc_stand_for.specs.Once.{is_among}
-use Rattle.mrc_stand_for.specs.Known.{has_kind, births_classes, kind_classes, all_births}
-use Rattle.mrc_stand_for.specs.Lists.{all_but, others_of}
+use Rattle.mrc_stand_for.specs.Known.{has_kind, births_classes, kind_classes}
+use Rattle.mrc_stand_for.specs.Lists.{all_but}
 use Rattle.mrc_stand_for.specs.Steps.{filled}
 use Rattle.mrc_stand_for.specs.ListLaws.{AllButAreTheOthers, OthersAreNotTheHolder, AnyHasEachKind}
 use Rattle.mrc_stand_for.proofs.ProductLemmas.{first_in, lists_from}

@@ -1,9 +1,8 @@
 -- Lines of one name in each list.
-use Rattle.std.proofs.Common.{◌≡◌, ◌||◌, ℕ, Bool, true, false, List, [], ◌∷◌, refl, ap, ◌∙◌, cond}
+use Rattle.std.proofs.Common.{◌≡◌, ◌||◌, Bool, true, false, [], ◌∷◌, refl, ap}
 use Rattle.mrc_wiring_text.specs.declared.wiring.HeldRight.TheVariants as held
 use Rattle.mrc_wiring_text.specs.declared.wiring.WiringSays.TheVariants as core
 use Rattle.mrc_stand_for.specs.declared.known.Known.{Known}
-use Rattle.mrc_stand_for.specs.Once.{is_among}
 use Rattle.mrc_stand_for.specs.OldLaws.{BirthsOfOneTask, SendOfOneTask, OnceOfOneTask}
 use Rattle.mrc_stand_for.specs.OldLaws.{KernelOfOneTask}
 use Rattle.mrc_stand_for.specs.Standing.{closing, stands}

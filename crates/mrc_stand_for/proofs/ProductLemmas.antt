@@ -1,16 +1,15 @@
 -- Elements of lists that are made of other lists.
-use Rattle.std.proofs.Common.{◌≡◌, ◌+◌, ◌<◌, ◌↔◌, ◌⊎◌, inl, inr, ℕ, zero, suc, List, [], ◌∷◌, ◌++◌}
+use Rattle.std.proofs.Common.{◌≡◌, ◌+◌, ◌<◌, ◌⊎◌, inl, inr, ℕ, zero, suc, List, [], ◌∷◌, ◌++◌}
 use Rattle.std.proofs.Common.{map, length, get_or, refl, sym, ap, ◌∙◌, subst, arith, Contains}
 use Rattle.std.specs.Prelude.{Some, slice_get}
 use Rattle.std.specs.List.{flat_map}
 use Rattle.std.proofs.lemmas.List.Concat.{flat_map-cons}
 use Rattle.mrc_wiring_text.specs.declared.items.Item.TheVariants as item
-use Rattle.mrc_wiring_text.specs.declared.wiring.WiringSays.{WiringSays}
 use Rattle.mrc_wiring_text.specs.declared.wiring.WiringSays.TheVariants as core
-use Rattle.mrc_stand_for.specs.Products.{births_lines, reply_lines, replies_lines, once_line}
-use Rattle.mrc_stand_for.specs.Products.{once_lines, admit_line, admit_lines, trust_line}
-use Rattle.mrc_stand_for.specs.Products.{trust_lines, verb_lines, trust_none, none_lines}
-use Rattle.mrc_stand_for.specs.ProductLaws.{BirthsAreOfEachTask, RepliesAreOfEachTask, KindsCountUp}
+use Rattle.mrc_stand_for.specs.Products.{births_lines, reply_lines, once_line}
+use Rattle.mrc_stand_for.specs.Products.{admit_line, trust_line}
+use Rattle.mrc_stand_for.specs.Products.{verb_lines, trust_none}
+use Rattle.mrc_stand_for.specs.ProductLaws.{BirthsAreOfEachTask, RepliesAreOfEachTask}
 use Rattle.mrc_stand_for.specs.ProductLaws.{OncesAreProducts, AdmitsAreProducts, TrustsAreProducts}
 use Rattle.mrc_stand_for.specs.ProductLaws.{NonesAreProducts}
 

@@ -1,10 +1,9 @@
 -- Once a line has named all tasks, no line below adds one.
 use Rattle.std.proofs.Common.{◌≡◌, ◌||◌, ◌&&◌, ◌+◌, ℕ, Bool, true, false, List, [], ◌∷◌, ◌++◌, refl}
-use Rattle.std.proofs.Common.{sym, ap, ◌∙◌, subst, Result, Ok, Err, Option, Some, None, length, map}
-use Rattle.std.specs.Prelude.{not, nat_le, nat_lt, if◌then◌else◌}
+use Rattle.std.proofs.Common.{ap, ◌∙◌, subst, Result, Ok, Err, Some, None, length, map}
+use Rattle.std.specs.Prelude.{not, nat_le, nat_lt}
 use Rattle.std.specs.List.{list_any}
 use Rattle.mrc_base.specs.Limits.{limit_of_kinds}
-use Rattle.mrc_base.specs.Reading.{◌>>=◌}
 use Rattle.mrc_base.specs.declared.PortRight.{PortRight}
 use Rattle.mrc_base.specs.declared.PortRight.TheVariants as right
 use Rattle.mrc_base.proofs.Steps.{bind_ok, not_stopped}
@@ -21,22 +20,20 @@ use Rattle.mrc_stand_for.specs.declared.faults.StandFault.TheVariants.{TwiceName
 use Rattle.mrc_stand_for.specs.declared.known.Known.{Known}
 use Rattle.mrc_stand_for.specs.declared.lists.Found.{Found}
 use Rattle.mrc_stand_for.specs.declared.standing.Standing.{Standing}
-use Rattle.mrc_stand_for.specs.declared.standing.StandsFor.{StandsFor}
 use Rattle.mrc_stand_for.specs.declared.wide.Place.{Place}
 use Rattle.mrc_stand_for.specs.declared.wide.SlotName.{SlotName}
 use Rattle.mrc_stand_for.specs.declared.wide.Tasks.{Tasks}
 use Rattle.mrc_stand_for.specs.declared.wide.WideClass.{WideClass}
 use Rattle.mrc_stand_for.specs.declared.wide.WideSays.{WideSays}
 use Rattle.mrc_stand_for.specs.declared.wide.WideSays.TheVariants as says
-use Rattle.mrc_stand_for.specs.Once.{is_among, with_each, same_slot, same_verb, same_right}
-use Rattle.mrc_stand_for.specs.Known.{has_group, has_set, has_kind, has_named, births_said}
+use Rattle.mrc_stand_for.specs.Once.{is_among, with_each, same_verb, same_right}
+use Rattle.mrc_stand_for.specs.Known.{has_group, has_set, has_kind, has_named}
 use Rattle.mrc_stand_for.specs.Lists.{tasks_of, classes_of, ports_of}
 use Rattle.mrc_stand_for.specs.ListLaws.{AllAreOfTheText}
-use Rattle.mrc_stand_for.specs.Products.{births_lines, replies_lines, once_lines, admit_lines}
-use Rattle.mrc_stand_for.specs.Products.{admit_none, verb_of, trust_lines, none_lines}
+use Rattle.mrc_stand_for.specs.Products.{verb_of, trust_lines}
 use Rattle.mrc_stand_for.specs.Standing.{names_all, class_names_all, place_names_all, closing}
 use Rattle.mrc_stand_for.specs.Standing.{naming, Stands, stands, stood_so_far, add_group, add_set}
-use Rattle.mrc_stand_for.specs.Standing.{accepts_said, add_member, add_sends, add_trusts}
+use Rattle.mrc_stand_for.specs.Standing.{add_member, add_sends, add_trusts}
 use Rattle.mrc_stand_for.specs.Standing.{group_stands, set_stands, member_stands, births_stands}
 use Rattle.mrc_stand_for.specs.Standing.{replies_stands, send_stands, once_stands, admit_stands}
 use Rattle.mrc_stand_for.specs.Standing.{trust_stands, none_stands, line_stands, is_late, is_group}

@@ -1,5 +1,5 @@
 -- Believe. What is known of the lines above. This profile's own choice.
-use Rattle.std.specs.Prelude.{ℕ, Bool, false, ◌&&◌, ◌||◌, nat_eq, bytes_eq, List, [], ◌∷◌, ◌++◌}
+use Rattle.std.specs.Prelude.{ℕ, Bool, false, ◌&&◌, ◌||◌, nat_eq, bytes_eq, List, [], ◌∷◌}
 use Rattle.std.specs.Prelude.{map, filter, find, Option, if◌then◌else◌}
 use Rattle.std.specs.List.{list_any, flat_map, range_with_len}
 use Rattle.mrc_base.specs.Limits.{limit_of_kinds}

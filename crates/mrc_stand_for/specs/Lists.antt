@@ -2,7 +2,6 @@
 -- is unknown, or that a list stands for nothing. This profile's own choice.
 use Rattle.std.specs.Prelude.{ℕ, not, List, [], ◌∷◌, ◌++◌, map, filter, Option, Some, None}
 use Rattle.std.specs.Prelude.{Result, Ok, Err, if◌then◌else◌, bytes_eq}
-use Rattle.std.specs.Option.{ok_or}
 use Rattle.mrc_base.specs.Reading.{◌>>=◌}
 use Rattle.mrc_wiring_text.specs.declared.policy.ClassName.{ClassName}
 use Rattle.mrc_wiring_text.specs.declared.policy.ClassName.TheVariants as class

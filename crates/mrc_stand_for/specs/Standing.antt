@@ -11,7 +11,6 @@ use Rattle.mrc_base.specs.declared.memory.OrMemory.TheVariants.{Fault, Memory}
 use Rattle.mrc_base.specs.declared.PortRight.{PortRight}
 use Rattle.mrc_base.specs.declared.PortRight.TheVariants as right
 use Rattle.mrc_wiring_text.specs.declared.items.Item.{Item}
-use Rattle.mrc_wiring_text.specs.declared.policy.ClassName.{ClassName}
 use Rattle.mrc_wiring_text.specs.declared.policy.ClassName.TheVariants as class
 use Rattle.mrc_wiring_text.specs.declared.reading.Line.{Line}
 use Rattle.mrc_wiring_text.specs.declared.wiring.WiringSays.{WiringSays}
@@ -21,17 +20,13 @@ use Rattle.mrc_wiring_text.specs.declared.trust.TrustVerb.TheVariants as verb
 use Rattle.mrc_stand_for.specs.declared.faults.StandFault.{StandFault}
 use Rattle.mrc_stand_for.specs.declared.faults.StandFault.TheVariants.{BadLine, UnknownName, Late}
 use Rattle.mrc_stand_for.specs.declared.faults.StandFault.TheVariants.{TwiceNamed, TooMany}
-use Rattle.mrc_stand_for.specs.declared.known.ClassSet.{ClassSet}
-use Rattle.mrc_stand_for.specs.declared.known.Group.{Group}
 use Rattle.mrc_stand_for.specs.declared.known.Known.{Known}
 use Rattle.mrc_stand_for.specs.declared.known.KnownBirths.{KnownBirths}
 use Rattle.mrc_stand_for.specs.declared.lists.Found.{Found}
 use Rattle.mrc_stand_for.specs.declared.standing.Standing.{Standing}
 use Rattle.mrc_stand_for.specs.declared.standing.StandsFor.{StandsFor}
-use Rattle.mrc_stand_for.specs.declared.wide.Kinds.{Kinds}
 use Rattle.mrc_stand_for.specs.declared.wide.Place.{Place}
 use Rattle.mrc_stand_for.specs.declared.wide.Place.TheVariants as place
-use Rattle.mrc_stand_for.specs.declared.wide.RightVerb.{RightVerb}
 use Rattle.mrc_stand_for.specs.declared.wide.SlotName.{SlotName}
 use Rattle.mrc_stand_for.specs.declared.wide.Tasks.{Tasks}
 use Rattle.mrc_stand_for.specs.declared.wide.Tasks.TheVariants as tasks

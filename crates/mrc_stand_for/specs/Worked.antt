@@ -13,12 +13,11 @@ use Rattle.mrc_wiring_text.specs.declared.wiring.WiringSays.{WiringSays}
 use Rattle.mrc_wiring_text.specs.declared.wiring.WiringSays.TheVariants as core
 use Rattle.mrc_stand_for.specs.declared.faults.StandFault.{StandFault}
 use Rattle.mrc_stand_for.specs.declared.faults.StandFault.TheVariants.{BadLine, UnknownName, Empty}
-use Rattle.mrc_stand_for.specs.declared.faults.StandFault.TheVariants.{Late, TwiceNamed, TooMany}
+use Rattle.mrc_stand_for.specs.declared.faults.StandFault.TheVariants.{Late, TwiceNamed}
 use Rattle.mrc_stand_for.specs.declared.standing.StandsFor.{StandsFor}
 use Rattle.mrc_stand_for.specs.declared.wide.Kinds.TheVariants as kinds
 use Rattle.mrc_stand_for.specs.declared.wide.Place.TheVariants as place
 use Rattle.mrc_stand_for.specs.declared.wide.RightVerb.TheVariants as verbs
-use Rattle.mrc_stand_for.specs.declared.wide.SlotName.{SlotName}
 use Rattle.mrc_stand_for.specs.declared.wide.Tasks.TheVariants as tasks
 use Rattle.mrc_stand_for.specs.declared.wide.WideClass.{WideClass}
 use Rattle.mrc_stand_for.specs.declared.wide.WideClass.TheVariants as wide
