@@ -78,6 +78,18 @@ fn put_left_at<'l>(
     }
 }
 
+/// The rows that are left out.
+fn put_all_left(
+    out: &mut String,
+    tokens: &Tokens<'_>,
+    left_out: &[LeftOut],
+) -> Result<(), AllocError> {
+    for left in left_out {
+        put_left(out, tokens, left)?;
+    }
+    Ok(())
+}
+
 /// The rows by their ids, those behind the last id at the end.
 fn put_rows(out: &mut String, tokens: &Tokens<'_>, forms: &Forms) -> Result<(), AllocError> {
     let (base, count) = forms.interface.ids();
@@ -88,10 +100,7 @@ fn put_rows(out: &mut String, tokens: &Tokens<'_>, forms: &Forms) -> Result<(), 
         left_out = put_left_at(out, tokens, left_out, u64::from(id))?;
         id = id.wrapping_add(1);
     }
-    for left in left_out {
-        put_left(out, tokens, left)?;
-    }
-    Ok(())
+    put_all_left(out, tokens, left_out)
 }
 
 /// A type that is not read, and why.
