@@ -19,8 +19,8 @@ pub record Argument : Type 0 where
 abbrev pub argument_fits : Argument → Bool
 argument_fits argument = items_fit argument.items
 
--- An argument that can carry port rights: its number in the body, from 0, what its items may be, and
--- the name of its type.
+-- An argument that can carry port rights: its number in the body, from 0, what its items may be,
+-- and the name of its type.
 pub record Slot : Type 0 where
   pub argument : ℕ
   pub types : ItemTypes

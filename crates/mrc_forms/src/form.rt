@@ -52,8 +52,8 @@ impl Model for Argument {
     ghost view = { λ a. record { name = string_bytes a.name; items = a.items } };
 }
 
-/// An argument that can carry port rights. Where the argument is an array, each of its items is such
-/// a right.
+/// An argument that can carry port rights. Where the argument is an array, each of its items is
+/// such a right.
 #[derive(Debug, Drop)]
 pub struct Slot {
     /// Its number among the arguments of the body, from 0.

@@ -82,8 +82,8 @@ impl Model for Interface {
 }
 
 impl Interface {
-    /// The table of these rows, 1,000 at most, of which the first stands at this id. In each row the
-    /// request is a form of a request with the id of the row's place, the reply one of a reply
+    /// The table of these rows, 1,000 at most, of which the first stands at this id. In each row
+    /// the request is a form of a request with the id of the row's place, the reply one of a reply
     /// with an id 100 above it.
     pub fn new(name: String, base: u32, rows: Vec<Row>) -> Interface
         requires few { length rows.items ≤ limit_of_ids }

@@ -17,6 +17,7 @@ abbrev pub numbers_by : Meaning → By → List ℕ
 numbers_by found by.Sent = right_numbers found.sent found.received
 numbers_by found by.Received = right_numbers found.received found.received
 numbers_by found by.Picked = right_numbers Picked found.received
+numbers_by found by.PickedReceived = right_numbers Picked found.received
 
 -- there is a number
 abbrev pub are_some : List ℕ → Bool

@@ -14,7 +14,7 @@ fn rights_by(meaning: Meaning, by: By) -> Rights
     match by {
         By::Sent => rights_of(meaning.sent, meaning.received),
         By::Received => rights_of(meaning.received, meaning.received),
-        By::Picked => rights_of(Tag::Picked, meaning.received),
+        By::Picked | By::PickedReceived => rights_of(Tag::Picked, meaning.received),
     }
 }
 

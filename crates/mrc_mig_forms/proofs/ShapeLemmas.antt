@@ -139,3 +139,4 @@ pub shape_kept : (found : Meaning) (judged : By) → Kept (shape_of found judged
 shape_kept found by.Sent = by_kept found.sent found.sent found
 shape_kept found by.Received = by_kept found.received found.received found
 shape_kept found by.Picked = by_kept Picked found.sent found
+shape_kept found by.PickedReceived = by_kept Picked found.received found

@@ -198,7 +198,8 @@ row_by _ s tokens = None
 -- the same, where there may be one id more
 unfoldable pub row_at : Word → State → List Lexeme → Option (State × List Lexeme)
 row_at word s tokens =
-    guard (nat_lt (length s.rows) limit_of_first_edition_ids) >>= λ _. row_by word s (tail_of tokens)
+    guard (nat_lt (length s.rows) limit_of_first_edition_ids)
+    >>= λ _. row_by word s (tail_of tokens)
 
 -- a string or a header
 abbrev pub is_imported : Symbol → Bool

@@ -47,10 +47,11 @@ nothing_said = record {
 abbrev pub sum_of_ids : ℕ → ℕ → ℕ
 sum_of_ids a b = min (a + b) 18446744073709551615
 
--- by which type numbers the messages of a subsystem are judged: those of a text as received by all
--- that give the right, the replies of a kernel's server by what is received
+-- by which type numbers the messages of a subsystem are judged: the rights of a text as received by
+-- all that give the right, the replies of a kernel's server by what is received
 abbrev pub judges : Bool → Bool → Judges
-judges true server = record { request = judged.Picked; reply = judged.Picked }
+judges true true = record { request = judged.Picked; reply = judged.PickedReceived }
+judges true false = record { request = judged.Picked; reply = judged.Picked }
 judges false true = record { request = judged.Sent; reply = judged.Received }
 judges false false = record { request = judged.Sent; reply = judged.Sent }
 

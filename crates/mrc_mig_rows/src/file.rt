@@ -73,7 +73,11 @@ fn judges(received: bool, is_kernel_server: bool) -> Judges
     ensures { result ≡ judges received is_kernel_server }
 {
     match (received, is_kernel_server) {
-        (true, _) => Judges {
+        (true, true) => Judges {
+            request: By::Picked,
+            reply: By::PickedReceived,
+        },
+        (true, false) => Judges {
             request: By::Picked,
             reply: By::Picked,
         },

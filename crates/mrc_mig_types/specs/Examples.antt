@@ -231,6 +231,18 @@ received_right = refl
 pub each_right : shape_of port by.Picked ≡ slot (17 ∷ 19 ∷ 20 ∷ []) 1
 each_right = refl
 
+-- data that is sent as one number and received as another
+abbrev two_numbers : Meaning
+two_numbers = item (Fixed 2) (Fixed 11) 32
+
+pub data_as_sent : shape_of two_numbers by.Picked
+    ≡ record { types = OneOf (2 ∷ []); size = 32; number = 1; is_bound = false }
+data_as_sent = refl
+
+pub data_as_received : shape_of two_numbers by.PickedReceived
+    ≡ record { types = OneOf (11 ∷ []); size = 32; number = 1; is_bound = false }
+data_as_received = refl
+
 -- a right that the sender picks
 pub picked_right : shape_of (item Picked (Fixed 18) 32) by.Sent ≡ slot (18 ∷ 21 ∷ []) 1
 picked_right = refl

@@ -114,11 +114,12 @@ shape_by picks tag found =
     form_by (right_numbers picks found.received) (data_of tag found.bits found.count) found.count
 
 -- an argument of a type: by what is sent, by what is received, or with each disposition that gives
--- the right which is received
+-- the right which is received; of data the number that is sent or received is meant then too
 abbrev pub shape_of : Meaning → By → Form
 shape_of found by.Sent = shape_by found.sent found.sent found
 shape_of found by.Received = shape_by found.received found.received found
 shape_of found by.Picked = shape_by Picked found.sent found
+shape_of found by.PickedReceived = shape_by Picked found.received found
 
 -- the type numbers that code keeps
 abbrev pub numbers_of : Rights → List ℕ

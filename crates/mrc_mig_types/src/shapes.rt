@@ -128,8 +128,10 @@ pub enum By {
     Sent,
     /// The one that is received, by which replies of a kernel's server are sent.
     Received,
-    /// Each one that gives the right which is received.
+    /// Each one that gives the right which is received, and of data the one that is sent.
     Picked,
+    /// The same, and of data the one that is received.
+    PickedReceived,
 }
 
 /// What an argument is in a message: a slot where it carries rights, with one tag or another.
@@ -157,5 +159,6 @@ pub fn shape_of(meaning: Meaning, by: By) -> Shape
         By::Sent => shape_by(meaning.sent, meaning.sent, meaning),
         By::Received => shape_by(meaning.received, meaning.received, meaning),
         By::Picked => shape_by(Tag::Picked, meaning.sent, meaning),
+        By::PickedReceived => shape_by(Tag::Picked, meaning.received, meaning),
     }
 }

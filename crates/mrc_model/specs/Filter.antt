@@ -81,8 +81,8 @@ expected (OfReply f) args = if is_zero_data args then f.shapes else first_alone 
 abbrev pub fits_once : ℕ → Bool
 fits_once x = x == 0 || (x == disp_number MoveSendOnce || x == disp_number MakeSendOnce)
 
--- A routine takes no disposition for the reply port or one that gives a send-once right, and so does
--- a simpleroutine with a reply port; another simpleroutine takes none.
+-- A routine takes no disposition for the reply port or one that gives a send-once right, and so
+-- does a simpleroutine with a reply port; another simpleroutine takes none.
 abbrev pub fits_request : RequestKind → ℕ → Bool
 fits_request Routine x = fits_once x
 fits_request Simple x = x == 0

@@ -192,7 +192,8 @@ accepts_reply W c s = list_any (is_reply_of s) (label W c)
 -- the item stands for requests of an interface that has one which may bring a reply right, and
 -- class c accepts its replies
 abbrev pub is_answered : Wiring → ℕ → LabelItem → Bool
-is_answered W c (RequestOf s) = list_any brings_reply (interface W s).requests && accepts_reply W c s
+is_answered W c (RequestOf s) =
+    list_any brings_reply (interface W s).requests && accepts_reply W c s
 is_answered W c (ReplyOf s) = false
 is_answered W c Destroyed = false
 

@@ -66,8 +66,8 @@ pub record AreNamesOf (interface : Interface) (form : Form) (argument : Argument
   pub of_argument : names.argument.now ≡ argument.name
   pub of_type : names.type_name.now ≡ slot.type_name
 
--- by one of its dispositions the slot, whose type has this number, needs a right q and hands it over
--- as r, and its type admits class c
+-- by one of its dispositions the slot, whose type has this number, needs a right q and hands it
+-- over as r, and its type admits class c
 pub record IsPassing (W : Wiring) (c : ℕ) (q r : PortRight) (slot : Slot) (sort : ℕ)
     : Type 0 where
   pub disposition : Disp
