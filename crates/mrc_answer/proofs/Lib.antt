@@ -5,6 +5,6 @@ mod NoticeLaws
 mod NoticeExamples
 mod VerdictLaws
 mod VerifiedSafe
-pub mod CutLaws
-mod CutExamples
+pub mod MigLaws
+mod MigExamples
 mod AskingLaws

@@ -9,7 +9,7 @@ use Rattle.std.specs.Prelude.{IfOk}
 use Rattle.mrc_base.specs.declared.Fact.{Fact}
 use Rattle.mrc_facts.specs.Sets.{has}
 use Rattle.mrc_model.specs.Rules.{IsLeast}
-use Rattle.mrc_mig_cut.specs.Carrying.{carriers}
+use Rattle.mrc_interface.specs.Left.{carriers, is_old_cut}
 use Rattle.mrc_wiring.proofs.Steps.{next_is}
 use Rattle.mrc_check.specs.Texts.{Stated}
 use Rattle.mrc_wiring.specs.Claims.{Claimed}
@@ -19,7 +19,8 @@ use Rattle.mrc_wiring.specs.Table.{Table, wiring_of}
 use Rattle.mrc_why.proofs.Verdicts.{least_one}
 use Rattle.mrc_words.specs.Words.{task_text, task_word}
 use Rattle.mrc_answer.specs.Files.{Files, given}
-use Rattle.mrc_answer.specs.Notices.{left_out, is_trusted, name_if, trusted_from, trusted_names}
+use Rattle.mrc_answer.specs.Notices.{left_out, cut_before, cut_from, number_if, is_trusted}
+use Rattle.mrc_answer.specs.Notices.{name_if, trusted_from, trusted_names}
 use Rattle.mrc_answer.specs.Notices.{Notices, notices_of, yes_notices_of, AreNotices}
 use Rattle.mrc_answer.specs.Notices.{AreYesNotices, Notification, is_empty, notification_from}
 use Rattle.mrc_answer.specs.PlainLines.{PlainLine, plain_lines}
@@ -50,6 +51,26 @@ pub left_end : (defs : List (Vec ℕ Global)) (i : ℕ) (left total : List (List
 left_end defs i left total all so =
     sym (append-nil left)
     ∙ (ap (λ ds. left ++ left_out (texts_of ds)) (sym (drop_all i defs all)) ∙ so)
+
+-- one file more, and no file is left
+pub cut_more : (defs : List (Vec ℕ Global)) (i : ℕ) (d : Vec ℕ Global) (cut new total : List ℕ)
+    → i < length defs
+    → cut ++ cut_from i (texts_of (drop i defs)) ≡ total
+    → new ≡ cut ++ number_if (is_old_cut (get_or defs i d).items) i
+    → new ++ cut_from (i + 1) (texts_of (drop (i + 1) defs)) ≡ total
+cut_more defs i d cut new total less so added =
+    let rest = cut_from (i + 1) (texts_of (drop (i + 1) defs)) in
+    ap (λ l. l ++ rest) added
+    ∙ (append_assoc cut (number_if (is_old_cut (get_or defs i d).items) i) rest
+    ∙ (ap (λ ds. cut ++ cut_from i (texts_of ds)) (sym (next_is defs i d less)) ∙ so))
+
+pub cut_end : (defs : List (Vec ℕ Global)) (i : ℕ) (cut total : List ℕ)
+    → length defs ≤ i
+    → cut ++ cut_from i (texts_of (drop i defs)) ≡ total
+    → cut ≡ total
+cut_end defs i cut total all so =
+    sym (append-nil cut)
+    ∙ (ap (λ ds. cut ++ cut_from i (texts_of ds)) (sym (drop_all i defs all)) ∙ so)
 
 -- the task of a number is printed by its name
 word_is : (table : Table) (t : ℕ) → t < length table.names
@@ -82,10 +103,11 @@ names_end table names t all so =
 
 -- what is told of parts is told of all
 pub notices_made : (files : Files) (lines : List (Line WiringSays)) (claim : Claimed)
-    (set : Fact → Bool) (left : List (List (List ℕ))) (notification : Option Notification)
-    (empty : Bool) (plain : List PlainLine) (leaky : List LeakyLine) (dead : DeadParts)
+    (set : Fact → Bool) (left : List (List (List ℕ))) (cut : List ℕ)
+    (notification : Option Notification) (empty : Bool) (plain : List PlainLine) (leaky : List LeakyLine) (dead : DeadParts)
     (trusted : List (List ℕ))
     → left ≡ left_out files.texts.defs
+    → cut ≡ cut_before files.texts.defs
     → notification ≡ notification_from 0 claim.table.interfaces
     → empty ≡ is_empty claim.lines
     → plain ≡ plain_lines claim.table (given files.texts.policy)
@@ -93,6 +115,7 @@ pub notices_made : (files : Files) (lines : List (Line WiringSays)) (claim : Cla
     → dead ≡ dead_parts claim.table lines set
     → record {
       left_out = left;
+      cut_before = cut;
       notification = notification;
       is_empty_policy = empty;
       plain = plain;
@@ -103,8 +126,9 @@ pub notices_made : (files : Files) (lines : List (Line WiringSays)) (claim : Cla
     } ≡ record (notices_of files (record { lines = lines; claim = claim }) set) {
       trusted = trusted;
     }
-notices_made files lines claim set left notification empty plain leaky dead trusted a b c d e f =
-    rw (a, b, c, d, e, f) refl
+notices_made files lines claim set left cut notification empty plain leaky dead trusted a b c d e f
+    g =
+    rw (a, b, c, d, e, f, g) refl
 
 -- what is told by the parts of what files mean is told by that
 pub by_parts : {E : Type 0} (files : Files) (set : Fact → Bool) (trusted : List (List ℕ))

@@ -10,7 +10,7 @@ use Rattle.std.specs.Borrow.{Bor}
 use Rattle.mrc_files.specs.Files.{Held, AreHeld, IsFirstUnread}
 use Rattle.mrc_files.specs.declared.folders.Unread.{Unread as UnreadFile}
 use Rattle.mrc_answer.specs.declared.answers.Answer.{Answer}
-use Rattle.mrc_answer.specs.declared.answers.Answer.TheVariants.{Made, Cut, Fault}
+use Rattle.mrc_answer.specs.declared.answers.Answer.TheVariants.{Made, Mig, Fault}
 use Rattle.mrc_answer.specs.declared.asking.Answered.{Answered}
 use Rattle.mrc_answer.specs.declared.asking.WasRead.{WasRead}
 use Rattle.mrc_answer.specs.declared.asking.WasRead.TheVariants.{Nothing, Texts, Defs}
@@ -18,7 +18,7 @@ use Rattle.mrc_answer.specs.declared.faults.Fault.TheVariants.{Unread, Unwritten
 use Rattle.mrc_answer.specs.declared.faults.WordFault.TheVariants.{BadLine, BadMost}
 use Rattle.mrc_answer.specs.declared.faults.WordFault.{WordFault}
 use Rattle.mrc_answer.specs.Checked.{IsChecked}
-use Rattle.mrc_answer.specs.Cutting.{AreCutOfTexts, IsUnread, mig_names}
+use Rattle.mrc_answer.specs.MigTexts.{AreMigOfTexts, IsUnread, mig_names}
 use Rattle.mrc_answer.specs.Explained.{IsExplanation}
 use Rattle.mrc_answer.specs.Files.{AreRead, Files, all_names, word_of}
 use Rattle.mrc_answer.specs.Listed.{IsListing, IsGraph}
@@ -103,14 +103,14 @@ IsReply before after (Mig files) Nothing answer notices =
     IsUnread before files answer × (notices ≡ no_notices)
 IsReply before after (Mig files) (Defs texts) answer notices =
     AreHeld before (mig_names files) (map (λ text. text.items) texts.items)
-    × AreCutOfTexts files before after (map (λ text. text.items) texts.items) answer
+    × AreMigOfTexts files before after (map (λ text. text.items) texts.items) answer
     × (notices ≡ no_notices)
 IsReply before after command read answer notices = ⊥
 
 -- an answer after which files may have changed
 abbrev pub MayChange : Answer → Type 0
 MayChange (Made count) = Unit {0}
-MayChange (Cut cuts) = Unit {0}
+MayChange (Mig mig_texts) = Unit {0}
 MayChange (Fault (Unwritten unwritten)) = Unit {0}
 MayChange answer = ⊥
 

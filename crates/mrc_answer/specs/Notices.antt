@@ -1,6 +1,6 @@
--- Believe. What is told besides an answer: routines that carry rights and are dropped from MIG
--- files, routines of notifications, a policy that is easily read wrongly, parts that can do
--- nothing, and trusted tasks. This profile's own choice.
+-- Believe. What is told besides an answer: routines that may carry rights and are left out of MIG
+-- files, files that an older `mig` has cut, routines of notifications, a policy that is easily read
+-- wrongly, parts that can do nothing, and trusted tasks. This profile's own choice.
 use Rattle.std.specs.Prelude.{◌≡◌, ℕ, ◌+◌, ◌==◌, Bool, true, false, ◌||◌, List, [], ◌∷◌, ◌++◌, map}
 use Rattle.std.specs.Prelude.{Option, Some, None, bytes_eq, codes, find}
 use Rattle.std.specs.List.{list_any}
@@ -9,7 +9,7 @@ use Rattle.mrc_model.specs.Rules.{IsLeast}
 use Rattle.mrc_forms.specs.declared.form.MessageKind.TheVariants.{Request}
 use Rattle.mrc_forms.specs.Forms.{Form}
 use Rattle.mrc_forms.specs.Tables.{Table as Interface, forms_by}
-use Rattle.mrc_mig_cut.specs.Carrying.{carriers}
+use Rattle.mrc_interface.specs.Left.{carriers, is_old_cut}
 use Rattle.mrc_wiring.specs.declared.claim.ForbiddenLine.{ForbiddenLine}
 use Rattle.mrc_wiring.specs.declared.table.TrustedLine.{TrustedLine}
 use Rattle.mrc_wiring.specs.Table.{Table, wiring_of}
@@ -27,6 +27,7 @@ pub record Notification : Type 0 where
 -- All that is told besides an answer.
 pub record Notices : Type 0 where
   pub left_out : List (List (List ℕ))
+  pub cut_before : List ℕ
   pub notification : Option Notification
   pub is_empty_policy : Bool
   pub plain : List PlainLine
@@ -39,6 +40,7 @@ pub record Notices : Type 0 where
 abbrev pub no_notices : Notices
 no_notices = record {
   left_out = [];
+  cut_before = [];
   notification = None;
   is_empty_policy = false;
   plain = [];
@@ -48,9 +50,23 @@ no_notices = record {
   wired = None;
 }
 
--- of each MIG file, the routines that carry rights and are dropped from it
+-- of each MIG file, the routines that may carry rights and are left out of it
 abbrev pub left_out : List (List ℕ) → List (List (List ℕ))
 left_out defs = map carriers defs
+
+-- a number, if it is to be in the list
+abbrev pub number_if : Bool → ℕ → List ℕ
+number_if true n = n ∷ []
+number_if false n = []
+
+-- the numbers of those of the MIG files from this number on that an older `mig` has cut
+abbrev pub cut_from : ℕ → List (List ℕ) → List ℕ
+cut_from n [] = []
+cut_from n (bytes ∷ defs) = number_if (is_old_cut bytes) n ++ cut_from (n + 1) defs
+
+-- the numbers of the MIG files that an older `mig` has cut
+abbrev pub cut_before : List (List ℕ) → List ℕ
+cut_before defs = cut_from 0 defs
 
 -- whether a routine of this name asks for a notification of no senders or of a dead name, or is one
 abbrev pub is_notification : List ℕ → Bool
@@ -107,6 +123,7 @@ trusted_names table = trusted_from table.trusts 0 table.names
 abbrev pub notices_of : Files → Stated → (Fact → Bool) → Notices
 notices_of files meant set = record {
   left_out = left_out files.texts.defs;
+  cut_before = cut_before files.texts.defs;
   notification = notification_from 0 meant.claim.table.interfaces;
   is_empty_policy = is_empty meant.claim.lines;
   plain = plain_lines meant.claim.table (given files.texts.policy);
@@ -137,11 +154,15 @@ AreYesNotices files meant notices =
 
 -- what is told besides the reason why a certificate is refused
 abbrev pub left_out_alone : Files → Notices
-left_out_alone files = record no_notices { left_out = left_out files.texts.defs }
+left_out_alone files = record no_notices {
+  left_out = left_out files.texts.defs;
+  cut_before = cut_before files.texts.defs;
+}
 
 -- what is told besides a certificate that is accepted
 abbrev pub left_out_and_trusted : Files → Table → Notices
 left_out_and_trusted files table = record no_notices {
   left_out = left_out files.texts.defs;
+  cut_before = cut_before files.texts.defs;
   trusted = trusted_names table;
 }

@@ -8,9 +8,9 @@ use Rattle.mrc_answer.specs.declared.answers.Answer.TheVariants.{Yes, Broken, Re
 use Rattle.mrc_answer.specs.declared.answers.Answer.TheVariants.{Mends, Made, Chain, NoChain, Facts}
 use Rattle.mrc_answer.specs.declared.answers.Answer.TheVariants.{OtherCounts, Drawing, NoDrawing}
 use Rattle.mrc_answer.specs.declared.answers.Answer.TheVariants.{Slots, Promises, Replay, Journal}
-use Rattle.mrc_answer.specs.declared.answers.Answer.TheVariants.{Waits, Cut, Fault}
-use Rattle.mrc_answer.specs.declared.answers.CutEnd.{CutEnd}
-use Rattle.mrc_answer.specs.declared.answers.CutEnd.TheVariants as ends
+use Rattle.mrc_answer.specs.declared.answers.Answer.TheVariants.{Waits, Mig, Fault}
+use Rattle.mrc_answer.specs.declared.answers.MigEnd.{MigEnd}
+use Rattle.mrc_answer.specs.declared.answers.MigEnd.TheVariants as ends
 
 -- 1 if a list is empty
 abbrev pub if_none : {X : Type 0} → List X → ℕ
@@ -23,10 +23,10 @@ mend_status Nothing = 0
 mend_status (Found mends) = if_none mends.mends.items
 
 -- of MIG files that were cut: 2 if not all were written
-abbrev pub cut_status : CutEnd → ℕ
-cut_status ends.Written = 0
-cut_status ends.Little = 2
-cut_status (ends.Refused unwritten) = 2
+abbrev pub mig_status : MigEnd → ℕ
+mig_status ends.Written = 0
+mig_status ends.Little = 2
+mig_status (ends.Refused unwritten) = 2
 
 -- of an answer
 abbrev pub status_of : Answer → ℕ
@@ -47,5 +47,5 @@ status_of (Promises s) = 0
 status_of (Replay r) = 0
 status_of (Journal r) = 0
 status_of (Waits w) = 2
-status_of (Cut c) = cut_status c.end
+status_of (Mig c) = mig_status c.end
 status_of (Fault f) = 2

@@ -1,7 +1,7 @@
 //! What is answered to a question, as a value, and what is told besides.
 
 ghost use Rattle.std.specs.Prelude.{◌≡◌, ◌≤◌};
-ghost use Rattle.mrc_answer.specs.Statuses.{cut_status, mend_status, status_of};
+ghost use Rattle.mrc_answer.specs.Statuses.{mig_status, mend_status, status_of};
 
 use crate::faults::{Fault, Unwritten};
 use crate::notices::Notices;
@@ -10,7 +10,7 @@ use mrc_base::Fact;
 use mrc_check::{Refused, Stated, System, Why};
 use mrc_closure::Chain;
 use mrc_draw::Filter;
-use mrc_mig_cut::CutFile;
+use mrc_interface::Forms;
 use mrc_report::{Ran, Script};
 use mrc_rows::Facts;
 use mrc_why::Verdict;
@@ -87,18 +87,22 @@ pub struct Undrawn {
     pub fact: Fact,
 }
 
-/// A MIG file, and what its text is cut to.
+/// A MIG file as a text of edition 2, and what that says.
 #[derive(Drop)]
-pub struct NamedCut<'a> {
+pub struct MigText<'a> {
     /// The name of the file.
     pub file: &'a str,
-    /// What its text is cut to.
-    pub cut: CutFile,
+    /// The text: the file's own bytes, with the line of the edition in front where it is missing.
+    pub bytes: Vec<u8>,
+    /// How many bytes of the text stand in front of the file's own.
+    pub front: usize,
+    /// What is read of the text.
+    pub forms: Forms,
 }
 
-/// What became of MIG files that were cut.
+/// What became of MIG files as texts of edition 2.
 #[derive(Drop)]
-pub enum CutEnd {
+pub enum MigEnd {
     /// All were written.
     Written,
     /// None was: too little is read of them.
@@ -107,13 +111,13 @@ pub enum CutEnd {
     Refused(Unwritten),
 }
 
-/// MIG files that were cut, and what became of them.
+/// MIG files as texts of edition 2, and what became of them.
 #[derive(Drop)]
-pub struct Cuts<'a> {
+pub struct MigTexts<'a> {
     /// The files.
-    pub cuts: Vec<NamedCut<'a>>,
+    pub texts: Vec<MigText<'a>>,
     /// What became of them.
-    pub end: CutEnd,
+    pub end: MigEnd,
 }
 
 /// A wiring, and a script of its tasks.
@@ -171,8 +175,8 @@ pub enum Answer<'a> {
     Journal(Ran),
     /// `live`: the journal of a run after which no task can go on.
     Waits(Waiting),
-    /// `mig`: what MIG files were cut to.
-    Cut(Cuts<'a>),
+    /// `mig`: MIG files as texts of edition 2.
+    Mig(MigTexts<'a>),
     /// There is no answer.
     Fault(Fault<'a>),
 }
@@ -197,14 +201,14 @@ fn mend_status(answer: &mrc_mend::Answer) -> u8
     }
 }
 
-/// The status of MIG files that were cut: 2 if not all were written.
-fn cut_status(end: &CutEnd) -> u8
-    ensures exact { result ≡ cut_status end.now }
+/// The status of MIG files that are to be written: 2 if not all were.
+fn mig_status(end: &MigEnd) -> u8
+    ensures exact { result ≡ mig_status end.now }
     ensures within { result ≤ 2 }
 {
     match end {
-        CutEnd::Written => 0,
-        CutEnd::Little | CutEnd::Refused(_) => 2,
+        MigEnd::Written => 0,
+        MigEnd::Little | MigEnd::Refused(_) => 2,
     }
 }
 
@@ -231,6 +235,6 @@ pub fn status_of(answer: &Answer<'_>) -> u8
         | Answer::NoDrawing(_) => 1,
         Answer::Waits(_) | Answer::Fault(_) => 2,
         Answer::Mends(answer) => mend_status(answer),
-        Answer::Cut(cuts) => cut_status(&cuts.end),
+        Answer::Mig(mig_texts) => mig_status(&mig_texts.end),
     }
 }

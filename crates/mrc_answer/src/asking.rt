@@ -3,7 +3,7 @@
 ghost use Rattle.std.specs.Prelude.{◌≡◌, ◌⊎◌, ◌↔◌, None, IfOk, IfSome, IsOkAnd, IsTrue, map};
 ghost use Rattle.mrc_answer.specs.Answers.{IsAnswer, IsAnsweredOf, IsAnswered, IsBadWord};
 ghost use Rattle.mrc_answer.specs.Answers.{IsUnreadOf, IsSameNameOf, MayChange};
-ghost use Rattle.mrc_answer.specs.Cutting.{mig_names};
+ghost use Rattle.mrc_answer.specs.MigTexts.{mig_names};
 ghost use Rattle.mrc_answer.specs.Notices.{no_notices};
 ghost use Rattle.mrc_answer.specs.Verified.{IsBadLine, IsBadMost};
 ghost use Rattle.mrc_answer.specs.declared.answers.Answer.TheVariants as answers;
@@ -24,7 +24,7 @@ use crate::graph::graphed;
 use crate::live::live_served;
 use crate::make::made;
 use crate::mend::mended;
-use crate::mig::{Ready, cut_files, same_name};
+use crate::mig::{Ready, mig_files, same_name};
 use crate::notices::no_notices;
 use crate::replay::replayed;
 use crate::systems::{promises, slots};
@@ -259,7 +259,7 @@ fn same_name_answered<'a>(alloc: Global, file: &'a str) -> Answered<'a>
 }
 
 /// What is answered of MIG files of these bytes.
-fn texts_cut<'a, F: Folder, T: Ready>(
+fn mig_of_texts<'a, F: Folder, T: Ready>(
     folder: &mut F,
     alloc: Global,
     files: &MigFiles<'a>,
@@ -273,7 +273,7 @@ fn texts_cut<'a, F: Folder, T: Ready>(
     ensures kept { IsOkAnd result (λ answered. MayChange answered.reply.answer)
         ⊎ (F.held folder.new ≡ F.held folder.old) }
 {
-    match cut_files(folder, alloc, files, texts.as_slice(), ready) {
+    match mig_files(folder, alloc, files, texts.as_slice(), ready) {
         Ok(answer) => Ok(Answered {
             read: WasRead::Defs(texts),
             reply: Reply {
@@ -288,7 +288,7 @@ fn texts_cut<'a, F: Folder, T: Ready>(
     }
 }
 
-/// What is answered of MIG files that are to be cut. That two have one name is answered whatever
+/// What is answered of MIG files as texts of edition 2. That two have one name is answered whatever
 /// they hold.
 fn mig_answered<'a, F: Folder, T: Ready>(
     folder: &mut F,
@@ -305,13 +305,13 @@ fn mig_answered<'a, F: Folder, T: Ready>(
         return Ok(same_name_answered(alloc, file));
     }
     match bytes_of_all(folder, alloc, files.defs.as_slice()) {
-        Ok(texts) => texts_cut(folder, alloc, files, texts, ready),
+        Ok(texts) => mig_of_texts(folder, alloc, files, texts, ready),
         Err(unread) => unread_answered(alloc, unread.file, unread.fault),
     }
 }
 
 /// What is answered of a command, over the files of a folder. Only a certificate that is made, or
-/// MIG files that are cut, are written there. Before MIG files are written, what depends on it is
+/// MIG files of a `mig` are written there. Before MIG files are written, what depends on it is
 /// made ready. Out of memory changes no file.
 pub fn answer<'a, F: Folder, R: Threads + Wait + Sync, P: Progress + Looks, T: Ready>(
     rt: &R,

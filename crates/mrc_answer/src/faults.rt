@@ -3,7 +3,7 @@
 use mrc_base::OrMemory;
 use mrc_check::CaseFault;
 use mrc_files::{Unread, WriteFault};
-use mrc_mig_cut::CutFault;
+use mrc_interface::DefsFault;
 use mrc_report::ServeFault;
 
 /// Which word of an option can't be what it is asked to be, and why.
@@ -37,13 +37,14 @@ pub struct Unwritten {
     pub refusal: OrMemory<WriteFault>,
 }
 
-/// A MIG file whose text can't be cut, and why.
+/// A MIG file that is none as a text of edition 2, and why. The place of a fault is one of the file
+/// as it was read.
 #[derive(Drop)]
-pub struct Uncut<'a> {
+pub struct NoMigText<'a> {
     /// The file.
     pub file: &'a str,
     /// Why.
-    pub fault: CutFault,
+    pub fault: DefsFault,
 }
 
 /// Why a question has no answer. Out of memory is none of these.
@@ -57,8 +58,8 @@ pub enum Fault<'a> {
     Word(WordFault),
     /// The file of a certificate did not take all its bytes.
     Unwritten(Unwritten),
-    /// A MIG file can't be cut: the first of those that can't.
-    Uncut(Uncut<'a>),
+    /// What is to be a MIG file of edition 2 is none: the first of those that are none.
+    NoMigText(NoMigText<'a>),
     /// A MIG file has the name of an earlier one.
     SameName(&'a str),
     /// A script whose tasks run as threads was not run to its end.

@@ -6,11 +6,12 @@ ghost use Rattle.mrc_facts.specs.Sets.{has};
 ghost use Rattle.mrc_model.specs.Rules.{IsLeast};
 ghost use Rattle.mrc_wiring.specs.Table.{wiring_of};
 ghost use Rattle.mrc_words.specs.Words.{task_word};
-ghost use Rattle.mrc_mig_cut.specs.Carrying.{carriers};
+ghost use Rattle.mrc_interface.specs.Left.{carriers, is_old_cut};
 ghost use Rattle.mrc_answer.specs.Notices.{AreNotices, AreYesNotices, notices_of, is_empty};
 ghost use Rattle.mrc_answer.specs.Files.{given};
 ghost use Rattle.mrc_answer.specs.PlainLines as definitions;
-ghost use Rattle.mrc_answer.specs.Notices.{left_out, left_out_alone, left_out_and_trusted};
+ghost use Rattle.mrc_answer.specs.Notices.{left_out, number_if, cut_before};
+ghost use Rattle.mrc_answer.specs.Notices.{left_out_alone, left_out_and_trusted};
 ghost use Rattle.mrc_answer.specs.Notices.{is_notification, notification_in, notification_from};
 ghost use Rattle.mrc_answer.specs.Notices.{is_trusted, name_if, trusted_names};
 
@@ -22,14 +23,14 @@ use mrc_base::TaskId;
 use mrc_check::Stated;
 use mrc_dead::{DeadParts, dead_parts};
 use mrc_forms::{Form, Interface, MessageKind};
-use mrc_mig_cut::carriers;
+use mrc_interface::{carriers, is_old_cut};
 use mrc_rows::Facts;
 use mrc_wiring::{Claim, ForbiddenLine, TrustedLine, Wired};
 use mrc_wiring_text::WiringLine;
 use mrc_words::task_word;
 use std::alloc::{AllocError, Global};
 
-/// Adds the routines that carry rights and are dropped from a MIG file of these bytes.
+/// Adds the routines that may carry rights and are left out of a MIG file of these bytes.
 fn add_left_out(alloc: Global, left: &mut Vec<Vec<String>>, bytes: &[u8]) -> Result<(), AllocError>
     ensures { OnOk result (map (λ names. map string_bytes names.items) left.new.items
         ≡ map (λ names. map string_bytes names.items) left.old.items
@@ -40,7 +41,7 @@ fn add_left_out(alloc: Global, left: &mut Vec<Vec<String>>, bytes: &[u8]) -> Res
     Ok(())
 }
 
-/// Of each MIG file, which has these bytes, the routines that carry rights and are dropped from it.
+/// Of each MIG file, which has these bytes, the routines that may carry rights and are left out.
 #[tactic(auto, using(crate::proofs::NoticeLaws::left_more, crate::proofs::NoticeLaws::left_end))]
 fn left_out(alloc: Global, defs: &[Vec<u8>]) -> Result<Vec<Vec<String>>, AllocError>
     ensures { IfOk result (λ left. map (λ names. map string_bytes names.items) left.items
@@ -51,6 +52,34 @@ fn left_out(alloc: Global, defs: &[Vec<u8>]) -> Result<Vec<Vec<String>>, AllocEr
         add_left_out(alloc, &mut left, bytes.as_slice())?;
     }
     Ok(left)
+}
+
+/// Adds the number of a MIG file of these bytes, if an older `mig` has cut it.
+fn add_cut(
+    alloc: Global,
+    cut: &mut Vec<usize>,
+    number: usize,
+    bytes: &[u8],
+) -> Result<(), AllocError>
+    ensures { OnOk result (cut.new.items
+        ≡ cut.old.items ++ number_if (is_old_cut bytes.now) number) }
+{
+    if is_old_cut(alloc, bytes)? {
+        cut.push(number)?;
+    }
+    Ok(())
+}
+
+/// Which of the MIG files, which have these bytes, an older `mig` has cut, by their numbers.
+#[tactic(auto, using(crate::proofs::NoticeLaws::cut_more, crate::proofs::NoticeLaws::cut_end))]
+fn cut_before(alloc: Global, defs: &[Vec<u8>]) -> Result<Vec<usize>, AllocError>
+    ensures { IfOk result (λ cut. cut.items ≡ cut_before (map (λ text. text.items) defs.now)) }
+{
+    let mut cut = Vec::new(alloc);
+    for (number, bytes) in defs.iter().enumerate() {
+        add_cut(alloc, &mut cut, number, bytes.as_slice())?;
+    }
+    Ok(cut)
 }
 
 /// Whether a routine of this name asks for a notification of no senders or of a dead name, or is
@@ -140,12 +169,19 @@ fn is_empty(lines: &[ForbiddenLine]) -> bool
     lines.is_empty()
 }
 
-/// Of each MIG file of these, the routines that carry rights and are dropped from it.
+/// Of each MIG file of these, the routines that may carry rights and are left out.
 fn left_out_of(alloc: Global, files: &Files<'_>) -> Result<Vec<Vec<String>>, AllocError>
     ensures { IfOk result (λ left. map (λ names. map string_bytes names.items) left.items
         ≡ left_out files.now.texts.defs) }
 {
     left_out(alloc, files.texts.defs.as_slice())
+}
+
+/// Which MIG files of these an older `mig` has cut, by their numbers.
+fn cut_before_of(alloc: Global, files: &Files<'_>) -> Result<Vec<usize>, AllocError>
+    ensures { IfOk result (λ cut. cut.items ≡ cut_before files.now.texts.defs) }
+{
+    cut_before(alloc, files.texts.defs.as_slice())
 }
 
 /// The lines of the policy of these files that name births without a kind, of a task that has
@@ -177,12 +213,14 @@ fn notices_by(
 {
     let wired = claim.wired();
     let left_out = left_out_of(alloc, files)?;
+    let cut_before = cut_before_of(alloc, files)?;
     let notification = notification(alloc, wired.interfaces())?;
     let plain = plain_lines_of(alloc, files, wired)?;
     let leaky = leaky_lines(alloc, facts, claim.lines())?;
     let dead = dead_parts(alloc, wired, lines, facts)?;
     Ok(Notices {
         left_out,
+        cut_before,
         notification,
         is_empty_policy: is_empty(claim.lines()),
         plain,
@@ -238,6 +276,7 @@ fn with_wired(notices: Notices, wired: Wired) -> Notices
 {
     let Notices {
         left_out,
+        cut_before,
         notification,
         is_empty_policy,
         plain,
@@ -249,6 +288,7 @@ fn with_wired(notices: Notices, wired: Wired) -> Notices
     drop(none);
     Notices {
         left_out,
+        cut_before,
         notification,
         is_empty_policy,
         plain,
@@ -304,9 +344,11 @@ fn check_notices(
       trusted = map string_bytes trusted.items;
     }) }
 {
-    let left_out = left_out(alloc, files.texts.defs.as_slice())?;
+    let left_out = left_out_of(alloc, files)?;
+    let cut_before = cut_before_of(alloc, files)?;
     Ok(Notices {
         left_out,
+        cut_before,
         notification: None,
         is_empty_policy: false,
         plain: Vec::new(alloc),

@@ -6,7 +6,6 @@ mod answers;
 mod asking;
 mod attack;
 mod check;
-mod cuts;
 mod explain;
 mod facts;
 mod faults;
@@ -20,6 +19,7 @@ mod live;
 mod make;
 mod mend;
 mod mig;
+mod mig_texts;
 mod notices;
 mod plain_lines;
 mod replay;
@@ -30,7 +30,7 @@ mod verify;
 mod writing;
 
 pub use answers::{
-    Answer, Attacked, BrokenPolicy, CutEnd, Cuts, Drawing, Explained, Listed, NamedCut, Reply,
+    Answer, Attacked, BrokenPolicy, Drawing, Explained, Listed, MigEnd, MigText, MigTexts, Reply,
     Underived, Undrawn, Waiting, WiredScript, status_of,
 };
 pub use asking::{Answered, WasRead, answer};
@@ -38,14 +38,14 @@ pub use attack::attacked;
 pub use check::checked;
 pub use explain::explained;
 pub use facts::listed;
-pub use faults::{Fault, Uncut, Unwritten, WordFault};
+pub use faults::{Fault, NoMigText, Unwritten, WordFault};
 pub use files::{Files, Texts, texts_of};
 pub use graph::graphed;
 pub use leaky_lines::LeakyLine;
 pub use live::live_served;
 pub use make::made;
 pub use mend::mended;
-pub use mig::{Ready, cut_files};
+pub use mig::{Ready, mig_files};
 pub use notices::{Notices, Notification};
 pub use plain_lines::PlainLine;
 pub use replay::replayed;

@@ -3,12 +3,12 @@
 ghost use Rattle.std.specs.Prelude.{◌≡◌, ◌⊎◌, IfOk, IsOk, IsOkAnd, length, map};
 ghost use Rattle.std.specs.Option.{option_map};
 ghost use Rattle.mrc_answer.specs.Answers.{MayChange};
-ghost use Rattle.mrc_answer.specs.Cutting.{mig_names, is_named_so, same_name, HasEnd};
-ghost use Rattle.mrc_answer.specs.Cutting.{AreCutOfTexts};
+ghost use Rattle.mrc_answer.specs.MigTexts.{mig_names, is_named_so, same_name, HasEnd};
+ghost use Rattle.mrc_answer.specs.MigTexts.{AreMigOfTexts};
 
-use crate::answers::{Answer, CutEnd, Cuts, NamedCut};
-use crate::cuts::{are_written, cuts_of};
+use crate::answers::{Answer, MigEnd, MigText, MigTexts};
 use crate::faults::Fault;
+use crate::mig_texts::{are_written, mig_texts_of};
 use crate::writing::{write_all, writings_of};
 use mrc_base::OrMemory;
 use mrc_command::MigFiles;
@@ -37,37 +37,37 @@ pub(crate) fn same_name<'a>(files: &[&'a str]) -> Option<&'a str>
 /// What is made ready before MIG files are written, as the texts that are printed of them: then no
 /// memory is needed for it once they are written.
 pub trait Ready {
-    /// Makes that ready for files that are cut to this.
-    fn make_ready(&mut self, alloc: Global, cuts: &[NamedCut<'_>]) -> Result<(), AllocError>;
+    /// Makes that ready for these texts.
+    fn make_ready(&mut self, alloc: Global, mig_texts: &[MigText<'_>]) -> Result<(), AllocError>;
 }
 
-/// Writes what files are cut to, if enough is read of them. Before the first is written, what
-/// depends on it is made ready.
+/// Writes texts of edition 2, if enough is read of them. Before the first is written, what depends
+/// on it is made ready.
 fn end_of<F: Folder, T: Ready>(
     folder: &mut F,
     alloc: Global,
     files: &MigFiles<'_>,
-    cuts: &[NamedCut<'_>],
+    mig_texts: &[MigText<'_>],
     ready: &mut T,
-) -> Result<CutEnd, AllocError>
+) -> Result<MigEnd, AllocError>
     ensures right { IfOk result
-        (HasEnd files.now (F.held folder.old) (F.held folder.new) cuts.now) }
+        (HasEnd files.now (F.held folder.old) (F.held folder.new) mig_texts.now) }
     ensures kept { IsOk result ⊎ (F.held folder.new ≡ F.held folder.old) }
 {
-    if !are_written(files.strict, cuts) {
-        return Ok(CutEnd::Little);
+    if !are_written(files.strict, mig_texts) {
+        return Ok(MigEnd::Little);
     }
-    ready.make_ready(alloc, cuts)?;
-    let writings = writings_of(alloc, files.out, cuts)?;
+    ready.make_ready(alloc, mig_texts)?;
+    let writings = writings_of(alloc, files.out, mig_texts)?;
     match write_all(folder, alloc, writings) {
-        Ok(()) => Ok(CutEnd::Written),
-        Err(unwritten) => Ok(CutEnd::Refused(unwritten)),
+        Ok(()) => Ok(MigEnd::Written),
+        Err(unwritten) => Ok(MigEnd::Refused(unwritten)),
     }
 }
 
-/// What MIG files of these bytes are cut to. If enough is read of them, they are written. Out of
-/// memory changes no file, also if it runs out for what is made ready before.
-pub fn cut_files<'a, F: Folder, T: Ready>(
+/// What MIG files of these bytes are as texts of edition 2. If enough is read of them, these are
+/// written. Out of memory changes no file, also if it runs out for what is made ready before.
+pub fn mig_files<'a, F: Folder, T: Ready>(
     folder: &mut F,
     alloc: Global,
     files: &MigFiles<'a>,
@@ -75,20 +75,23 @@ pub fn cut_files<'a, F: Folder, T: Ready>(
     ready: &mut T,
 ) -> Result<Answer<'a>, AllocError>
     requires count { length (mig_names files.now) ≡ length texts.now }
-    ensures right { IfOk result (AreCutOfTexts files.now (F.held folder.old) (F.held folder.new)
+    ensures right { IfOk result (AreMigOfTexts files.now (F.held folder.old) (F.held folder.new)
         (map (λ text. text.items) texts.now)) }
     // A file is changed only if it is answered what became of the files.
     ensures kept { IsOkAnd result MayChange ⊎ (F.held folder.new ≡ F.held folder.old) }
 {
-    match cuts_of(alloc, files.defs.as_slice(), texts) {
-        Ok(cuts) => match end_of(folder, alloc, files, cuts.as_slice(), ready) {
-            Ok(end) => Ok(Answer::Cut(Cuts { cuts, end })),
+    match mig_texts_of(alloc, files.defs.as_slice(), files.received, texts) {
+        Ok(mig_texts) => match end_of(folder, alloc, files, mig_texts.as_slice(), ready) {
+            Ok(end) => Ok(Answer::Mig(MigTexts {
+                texts: mig_texts,
+                end,
+            })),
             Err(error) => {
-                drop(cuts);
+                drop(mig_texts);
                 Err(error)
             }
         },
-        Err(OrMemory::Fault(uncut)) => Ok(Answer::Fault(Fault::Uncut(uncut))),
+        Err(OrMemory::Fault(no_text)) => Ok(Answer::Fault(Fault::NoMigText(no_text))),
         Err(OrMemory::Memory) => Err(AllocError),
     }
 }

@@ -31,8 +31,10 @@ impl Model for Notification {
 /// What is told besides an answer of what is easily overlooked.
 #[derive(Drop)]
 pub struct Notices {
-    /// Of each MIG file, the names of the routines that carry rights and are dropped from it.
+    /// Of each MIG file, the names of the routines that may carry rights and are left out of it.
     pub left_out: Vec<Vec<String>>,
+    /// The numbers of the MIG files that an older `mig` has cut, from 0.
+    pub cut_before: Vec<usize>,
     /// The first MIG file that has a routine of notifications of no senders or of dead names, of
     /// which the model has none.
     pub notification: Option<Notification>,
@@ -62,6 +64,7 @@ impl Model for Notices {
 
     ghost view = { λ n. record {
       left_out = map (λ names. map string_bytes names.items) n.left_out.items;
+      cut_before = n.cut_before.items;
       notification = n.notification;
       is_empty_policy = n.is_empty_policy;
       plain = n.plain.items;
@@ -78,6 +81,7 @@ pub(crate) fn no_notices(alloc: Global) -> Notices
 {
     Notices {
         left_out: Vec::new(alloc),
+        cut_before: Vec::new(alloc),
         notification: None,
         is_empty_policy: false,
         plain: Vec::new(alloc),

@@ -2,9 +2,9 @@
 
 ghost use Rattle.std.specs.Prelude.{◌≡◌, OnOk, IfOk, IfErr, IsSomeAnd, map, slice_get};
 ghost use Rattle.std.specs.Prelude.{string_bytes};
-ghost use Rattle.mrc_answer.specs.Cutting.{writing_of, AreWritten, IsStopped};
+ghost use Rattle.mrc_answer.specs.MigTexts.{writing_of, AreWritten, IsStopped};
 
-use crate::answers::NamedCut;
+use crate::answers::MigText;
 use crate::faults::Unwritten;
 use mrc_base::OrMemory;
 use mrc_files::{Folder, WriteFault, name_of};
@@ -20,7 +20,7 @@ pub(crate) struct Writing<'c> {
 
 impl<'c> Model for Writing<'c> {
     ghost use Rattle.std.specs.Prelude.{string_bytes};
-    ghost use Rattle.mrc_answer.specs.Cutting as cutting;
+    ghost use Rattle.mrc_answer.specs.MigTexts as cutting;
 
     ghost Value = { cutting.Writing };
 
@@ -34,34 +34,34 @@ struct Stopped {
     refusal: OrMemory<WriteFault>,
 }
 
-/// The file for a cut in a folder: it has the name of the file that was cut.
+/// The file for a text in a folder: it has the name of the file that the text was made of.
 fn writing_of<'c>(
     alloc: Global,
     folder: &str,
-    cut: &'c NamedCut<'_>,
+    mig_text: &'c MigText<'_>,
 ) -> Result<Writing<'c>, AllocError>
-    ensures { IfOk result (λ writing. writing ≡ writing_of folder.now cut.now) }
+    ensures { IfOk result (λ writing. writing ≡ writing_of folder.now mig_text.now) }
 {
-    let name = name_of(cut.file);
+    let name = name_of(mig_text.file);
     let path = format!(in alloc; "{folder}/{name}")?;
     Ok(Writing {
         path,
-        bytes: cut.cut.bytes.as_slice(),
+        bytes: mig_text.bytes.as_slice(),
     })
 }
 
-/// The files for cuts in a folder.
+/// The files for texts in a folder.
 pub(crate) fn writings_of<'c>(
     alloc: Global,
     folder: &str,
-    cuts: &'c [NamedCut<'_>],
+    mig_texts: &'c [MigText<'_>],
 ) -> Result<Vec<Writing<'c>>, AllocError>
     ensures { IfOk result (λ writings.
-        writings.items ≡ map (writing_of folder.now) cuts.now) }
+        writings.items ≡ map (writing_of folder.now) mig_texts.now) }
 {
     let mut writings = Vec::new(alloc);
-    for cut in cuts {
-        let writing = writing_of(alloc, folder, cut)?;
+    for mig_text in mig_texts {
+        let writing = writing_of(alloc, folder, mig_text)?;
         writings.push(writing)?;
     }
     Ok(writings)

@@ -28,15 +28,3 @@ pub fn unescaped(alloc: Global, line: &str) -> Result<String, AllocError> {
     }
     Ok(text)
 }
-
-/// The lines of a text on one line, with these characters between them.
-pub fn on_one_line(alloc: Global, text: &str, between: &str) -> Result<String, AllocError> {
-    let mut joined = String::new(alloc);
-    for line in text.lines() {
-        if !joined.is_empty() {
-            joined.push_str(between)?;
-        }
-        joined.push_str(line)?;
-    }
-    Ok(joined)
-}

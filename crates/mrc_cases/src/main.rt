@@ -22,8 +22,6 @@
 //!   that are left out, with their words and what they may carry, and behind them the types that are
 //!   not read
 //! - `names`: the forms of a MIG file by the names of their routines, with those of their arguments
-//! - `cut`: what is left out of a MIG text that is cut, and the table of forms of what is left
-//! - `rest`: what is left of it, with ` / ` between its lines
 //! - `defs`: a list of MIG files, in hexadecimal digits with `,` between them: their names
 //! - `disposition`: what a number of MIG's port types needs of a sender and gives a receiver
 //! - `message`: in hexadecimal digits, what a message is written as that was read
@@ -45,7 +43,6 @@
 mod answers;
 mod certificates;
 mod claims;
-mod cuts;
 mod escapes;
 mod forms;
 mod judging;
@@ -84,8 +81,6 @@ fn answer(alloc: Global, kind: &str, text: &str, other: &str) -> Result<String> 
         "forms" => forms::forms(alloc, text.as_bytes()),
         "forms2" => rows::forms(alloc, text),
         "names" => forms::names(alloc, text.as_bytes()),
-        "cut" => cuts::cut_forms(alloc, text),
-        "rest" => cuts::cut_lines(alloc, text),
         "defs" => forms::defs(alloc, text),
         "disposition" => numbers::disposition(alloc, text),
         "judge" => judging::judged(alloc, text),

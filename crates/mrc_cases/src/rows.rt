@@ -5,24 +5,11 @@ use crate::wide::lexed;
 use anyhow::{Result, bail};
 use mrc_base::OrMemory;
 use mrc_mig_forms::{Forms, LeftOut, Unread, read_forms};
-use mrc_mig_rows::{RowWord, place_of};
+use mrc_mig_rows::place_of;
 use mrc_mig_symbols::{Stop, StopReason};
 use mrc_mig_tokens::{Edition, Tokens, edition_of};
 use std::alloc::{AllocError, Global};
 use std::fmt::Write;
-
-fn word_text(word: RowWord) -> &'static str {
-    match word {
-        RowWord::TooMany => "TooMany",
-        RowWord::IdRange => "IdRange",
-        RowWord::OldForm => "OldForm",
-        RowWord::Unexpected => "Unexpected",
-        RowWord::UnknownType => "UnknownType",
-        RowWord::NoRequestPort => "NoRequestPort",
-        RowWord::ReplyPort => "ReplyPort",
-        RowWord::TwiceNamed => "TwiceNamed",
-    }
-}
 
 /// Why reading stops, and where.
 fn put_stop(out: &mut String, tokens: &Tokens<'_>, stop: Stop) -> Result<(), AllocError> {
@@ -48,7 +35,7 @@ fn name_text(name: &Option<String>) -> &str {
 /// A row that is left out: its name, its word and where, and what it may carry.
 fn put_left(out: &mut String, tokens: &Tokens<'_>, left: &LeftOut) -> Result<(), AllocError> {
     let name = name_text(&left.routine);
-    let word = word_text(left.word);
+    let word = left.word.as_str();
     let at = place_of(tokens, left.stop);
     write!(out, "; left {} {name} {word} {at}", left.id)?;
     for carrier in &left.carried {

@@ -46,7 +46,7 @@ all_commands : map usage commands
     ∷ codes "promises wiring= [format=] [verbose] defs*"
     ∷ codes "replay wiring= script= [format=] [verbose] defs*"
     ∷ codes "live wiring= policy= cert= script= [format=] [verbose] defs*"
-    ∷ codes "mig out= [strict] [strict-rights] [format=] [verbose] defs+"
+    ∷ codes "mig out= [strict] [strict-rights] [as-received] [format=] [verbose] defs+"
     ∷ []
 all_commands = refl
 

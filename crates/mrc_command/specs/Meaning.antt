@@ -142,6 +142,7 @@ pub record AsksMig (rows : List Row) (files : MigFiles) : Type 0 where
   pub out : first_of (codes "out") rows ≡ Some files.out.now
   pub strict : files.strict
       ≡ strictness_of (has_flag (codes "strict") rows) (has_flag (codes "strict-rights") rows)
+  pub received : files.received ≡ has_flag (codes "as-received") rows
   pub format : files.format ≡ format_given rows
 
 -- the command that a subcommand of this name is with these options

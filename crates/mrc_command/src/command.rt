@@ -161,13 +161,15 @@ pub enum Strictness {
     All,
 }
 
-/// The files of a `mig`, the folder for what they are cut to, and what may not be left out.
+/// The files of a `mig`, the folder of those that are written, and what may not be left out.
 #[derive(Drop)]
 pub struct MigFiles<'a> {
     pub defs: Vec<&'a str>,
     pub out: &'a str,
     pub strict: Strictness,
-    /// How it is printed what was cut.
+    /// Whether the texts that are written are of edition 2 as received.
+    pub received: bool,
+    /// How it is printed what is read.
     pub format: Format,
 }
 
@@ -427,11 +429,13 @@ fn mig_asked<'a>(alloc: Global, matches: &ArgMatches<'a>) -> Result<MigFiles<'a>
     } else {
         Strictness::None
     };
+    let received = has_flag(matches, "as-received");
     let format = format_given(matches);
     Ok(MigFiles {
         defs,
         out,
         strict,
+        received,
         format,
     })
 }

@@ -3,12 +3,12 @@
 pub(crate) const PROGRAM_HELP: &str = "Exit status of each command:
   0  YES was printed, or changes that lead to it, a certificate was made, a chain, facts, a
      drawing, slots or promises were printed, a script was replayed or run by threads, MIG files
-     were cut, or help or the version was printed
+     were written, or help or the version was printed
   1  NO was printed, with a reason, or REAL, with calls, or none: if no chain leads to a fact,
      or if no change was found that leads to YES
   2  a fault was told on standard error: a file can't be read or has no meaning,
      the command line is wrong, the output was not taken, or memory ran out; or nothing is
-     left of MIG files
+     read of MIG files
 
 With --verbose a fault is followed by its place: the line of the file with a mark below the word,
 and what may help to mend it; and `mend` and `attack` say how far they have come. If standard error
@@ -346,15 +346,19 @@ pub(crate) const MIG_HELP: &str = "Files, as docs/MIG.md describes them:
 `bin/machcheck mig` also has the options of the preprocessor, which this program itself does not
 read: -I FOLDER for a folder of included files, -D NAME[=TEXT] and -U NAME for macros.
 
-Each file is cut to one of the same name in the folder that --out names. That one is read: each
-routine that can be read stands in it, and `skip;` at the id of each other. A file that is read as
-it is stays as it is. On standard error a line tells each routine that is left out, as
-`FILE:LINE: routine NAME (id N) left out: WORD, carries ARGUMENT (TYPE), ..`, with the word of the
-file that is the reason, and with the arguments that carry port rights, if there are any. A line
-tells how many routines are read of each file, as
-`FILE: 5 of 8 routines read, 2 of those left out carry rights`. The file that is written names
-these, so that `verify` and `check` report them. Files are written when all are cut, and replaced
-as `make` replaces a certificate.
+Each file is written to one of the same name in the folder that --out names: its own text, with
+the line `#pragma machcheck 2` in front. A text that has this line already is written as it is.
+On standard error a line tells each type that is not read and each routine that is left out, as
+`FILE:LINE: type NAME not read: WORD TEXT` and
+`FILE:LINE: routine NAME (id N) left out: WORD TEXT, carries ARGUMENT (TYPE), ..`, with a word that
+docs/MIG.md explains, the word of the file at which it is told, and the arguments that may carry
+port rights, if there are any. A line tells how many routines are read of each file, as
+`FILE: 5 of 8 routines read, 2 of those left out carry rights`. What `verify` and `check` report of
+a file they find in it again. Files are written when all are read, and replaced as `make` replaces
+a certificate.
+
+--as-received writes the line `#pragma machcheck 2 received`: then each right of a message may be
+sent in each way that gives what its receiver is shown. docs/MIG.md tells when that is asked.
 
 --strict writes nothing if a routine is left out, --strict=rights only if one that carries rights
 is left out.
@@ -366,7 +370,7 @@ Exit status:
   0  the files were written: of one of them at least a routine is read
   2  no routine is read, or --strict or --strict=rights refuses one that is left out: nothing was
      written; or a fault on standard error, as `machcheck: FILE: FAULT`: a file can't be read,
-     can't be cut or was not taken, two files have one name (SameName), --format is not text or
+     has no meaning or was not taken, two files have one name (SameName), --format is not text or
      json (BadFormat), the command line is wrong, or memory ran out
 
 Read on in README.md, and in docs/MIG.md.";

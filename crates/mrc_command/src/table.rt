@@ -219,7 +219,7 @@ pub(crate) const COMMANDS: [Entry; 13] = [
     ),
     (
         "mig",
-        "Cuts MIG files of a system to files that can be read",
+        "Writes MIG files of a system as files that can be read",
         MIG_HELP,
         &[
             row! { Needed "out" "FOLDER" "The folder of the files that are written" },
@@ -228,6 +228,7 @@ pub(crate) const COMMANDS: [Entry; 13] = [
                 Flag "strict-rights" ""
                 "The same as --strict=rights: writes nothing if one that carries rights is left out"
             },
+            row! { Flag "as-received" "" "Takes each right that gives what is received" },
             FORMAT,
             VERBOSE,
             row! { NeededWords "defs" "FILE" "The MIG files, preprocessed" },

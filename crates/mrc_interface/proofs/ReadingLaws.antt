@@ -1,5 +1,5 @@
 -- Reading agrees with what a MIG file is, and with why bytes are none; and so for lists of files.
-use Rattle.std.proofs.Common.{◌≡◌, ℕ, suc, ◌+◌, false, inl, inr, List, [], ◌∷◌}
+use Rattle.std.proofs.Common.{◌≡◌, ℕ, suc, ◌+◌, Bool, true, false, inl, inr, List, [], ◌∷◌}
 use Rattle.std.proofs.Common.{◌++◌, length, Option, Some, None, Result, Ok, Err}
 use Rattle.std.proofs.Common.{refl, sym, ap, subst, ◌∙◌, arith}
 use Rattle.std.specs.Prelude.{IfOk, IfErr}
@@ -22,8 +22,17 @@ use Rattle.mrc_mig_parse.proofs.FilePhrases.{read_is_file, file_is_read}
 use Rattle.mrc_interface.specs.declared.fault.InterfaceFault.{InterfaceFault}
 use Rattle.mrc_interface.specs.Subsystems.{table_of}
 use Rattle.mrc_forms.specs.Tables.{Table}
-use Rattle.mrc_interface.specs.Reading.{IsInterface, AreInterfaces, Reason, NoText, NoTokens}
-use Rattle.mrc_interface.specs.Reading.{NoFile, NoTable, IsReason, Refused, IsFirstRefused}
+use Rattle.mrc_mig_symbols.specs.declared.fault.Stop.{Stop}
+use Rattle.mrc_mig_tokens.specs.Editions.{edition_of}
+use Rattle.mrc_mig_tokens.specs.declared.edition.Edition.{Edition}
+use Rattle.mrc_mig_tokens.specs.declared.edition.Edition.TheVariants.{First, Second, Received}
+use Rattle.mrc_mig_tokens.specs.Tokens.{Lexed, lex}
+use Rattle.mrc_mig_forms.specs.Files.{FormsSay, forms_in}
+use Rattle.mrc_interface.specs.Reading.{IsDefs, IsInterface, AreInterfaces, Reason, NoText}
+use Rattle.mrc_interface.specs.Reading.{NoTokens, NoFile, NoTable, IsReason, Refused}
+use Rattle.mrc_interface.specs.Reading.{IsFirstRefused, SaysFirst, SaysSecond, Says, whole}
+use Rattle.mrc_interface.specs.Reading.{HasNoTokens, IsNoFirst, IsNoSecond, IsNoFile, HasNoTable}
+use Rattle.mrc_interface.specs.Reading.{HasNoFirstTable, said_first, said_second, said_by, defs_of}
 use Rattle.mrc_interface.specs.Reading.{step, interface_of, interfaces_from, interfaces_of, GivesAs}
 
 -- what an answer tells: this of a value, and that of a fault
@@ -46,73 +55,196 @@ no_file tokens none =
     ] in
     by (meaning_of tokens) refl
 
+-- what a text of an edition says is read
+says_read : (edition : Edition) (text : List ℕ) (said : FormsSay) → Says edition text said
+    → said_by edition text ≡ Ok said
+says_read First text said is =
+    rw (
+      only_tokens text is.tokens is.has,
+      file_is_read is.tokens is.subsystem is.is_file,
+      is.is_table,
+    )
+    (ap (λ (s : FormsSay). Ok s) (sym is.all))
+says_read Second text said is = rw (is.has, is.are) refl
+says_read Received text said is = rw (is.has, is.are) refl
+
+-- what the bytes of a file say is read
+pub defs_read : (bytes : List ℕ) (said : FormsSay) → IsDefs bytes said → defs_of bytes ≡ Ok said
+defs_read bytes said is =
+    rw (is_utf8-from_IsUtf8 bytes is.utf8) (says_read (edition_of bytes) bytes said is.says)
+
 -- the table that bytes have is read
 pub interface_read : (bytes : List ℕ) (table : Table) → IsInterface bytes table
     → interface_of bytes ≡ Ok table
 interface_read bytes table is =
-    rw (
-      is_utf8-from_IsUtf8 bytes is.utf8,
-      only_tokens bytes is.tokens is.has,
-      file_is_read is.tokens is.subsystem is.is_file,
-      is.is_table,
-    ) refl
+    rw (defs_read bytes is.said is.is_defs) (ap (λ (t : Table). Ok t) is.is_table)
 
--- the reason why they have none is read
+-- why a text of an edition says nothing is read
+no_tokens_read : (edition : Edition) (text : List ℕ) (fault : LexFault)
+    → HasNoTokens edition text fault
+    → said_by edition text ≡ Err (NoTokens fault)
+no_tokens_read First text fault is = rw is refl
+no_tokens_read Second text fault is = rw is refl
+no_tokens_read Received text fault is = rw is refl
+
+no_file_read : (edition : Edition) (text : List ℕ) → IsNoFile edition text
+    → said_by edition text ≡ Err NoFile
+no_file_read First text is = rw (only_tokens text is.0 is.1, no_file is.0 is.2) refl
+no_file_read Second text is = rw (is.2, is.3) refl
+no_file_read Received text is = rw (is.2, is.3) refl
+
+no_table_read : (edition : Edition) (text : List ℕ) (fault : InterfaceFault)
+    → HasNoTable edition text fault
+    → said_by edition text ≡ Err (NoTable fault)
+no_table_read First text fault is =
+    rw (only_tokens text is.0 is.2, file_is_read is.0 is.1 is.3, is.4) refl
+no_table_read Second text fault is = absurd is
+no_table_read Received text fault is = absurd is
+
+-- why bytes are no file is read
+pub refused_defs : (bytes : List ℕ) (reason : Reason) → IsReason bytes reason
+    → defs_of bytes ≡ Err reason
+refused_defs bytes NoText not_text = rw (no_text bytes not_text) refl
+refused_defs bytes (NoTokens fault) is =
+    rw (is_utf8-from_IsUtf8 bytes is.0) (no_tokens_read (edition_of bytes) bytes fault is.1)
+refused_defs bytes NoFile is =
+    rw (is_utf8-from_IsUtf8 bytes is.0) (no_file_read (edition_of bytes) bytes is.1)
+refused_defs bytes (NoTable fault) is =
+    rw (is_utf8-from_IsUtf8 bytes is.0) (no_table_read (edition_of bytes) bytes fault is.1)
+
+-- the reason why they have no table is read
 pub reason_read : (bytes : List ℕ) (reason : Reason) → IsReason bytes reason
     → interface_of bytes ≡ Err reason
-reason_read bytes NoText not_text = rw (no_text bytes not_text) refl
-reason_read bytes (NoTokens fault) is = rw (is_utf8-from_IsUtf8 bytes is.0, is.1) refl
-reason_read bytes NoFile is =
-    rw (is_utf8-from_IsUtf8 bytes is.0, only_tokens bytes is.1 is.2, no_file is.1 is.3) refl
-reason_read bytes (NoTable fault) is =
-    rw (
-      is_utf8-from_IsUtf8 bytes is.0,
-      only_tokens bytes is.1 is.3,
-      file_is_read is.1 is.2 is.4,
-      is.5,
-    ) refl
+reason_read bytes reason is = rw (refused_defs bytes reason is) refl
 
--- each step of the reading tells its part of what the bytes are
-with_subsystem : (bytes : List ℕ) → IsUtf8 bytes → (tokens : List Lexeme) → HasTokens bytes tokens
-    → (m : Meaning) → IsFile tokens m → (r : Result Table InterfaceFault) → table_of m ≡ r
-    → Tells (IsInterface bytes) (IsReason bytes) (step NoTable r)
-with_subsystem bytes text tokens has m is (Ok table) e = record {
-  utf8 = text;
+-- why a text of edition 1 says nothing
+abbrev WhyFirst : List ℕ → Reason → Type 0
+WhyFirst text NoText = ⊥
+WhyFirst text (NoTokens fault) = HasNoTokens First text fault
+WhyFirst text NoFile = IsNoFirst text
+WhyFirst text (NoTable fault) = HasNoFirstTable text fault
+
+-- each step of the reading of edition 1 tells its part of what the text says
+with_subsystem : (text : List ℕ) (tokens : List Lexeme) → HasTokens text tokens → (m : Meaning)
+    → IsFile tokens m
+    → (r : Result Table InterfaceFault) → table_of m ≡ r
+    → Tells (SaysFirst text) (WhyFirst text) (step NoTable r >>= λ table. Ok (whole table))
+with_subsystem text tokens has m is (Ok table) e = record {
   tokens = tokens;
   has = has;
   subsystem = m;
   is_file = is;
+  table = table;
   is_table = e;
+  all = refl;
 }
-with_subsystem bytes text tokens has m is (Err fault) e = (text, tokens, m, has, is, e)
+with_subsystem text tokens has m is (Err fault) e = (tokens, m, has, is, e)
 
-with_tokens : (bytes : List ℕ) → IsUtf8 bytes → (tokens : List Lexeme) → HasTokens bytes tokens
-    → (o : Option Meaning) → meaning_of tokens ≡ o
-    → Tells (IsInterface bytes) (IsReason bytes)
-    (ok_or o NoFile >>= λ m. step NoTable (table_of m))
-with_tokens bytes text tokens has None none =
-    (text, tokens, has, λ m is. not_None m (sym (file_is_read tokens m is) ∙ none))
-with_tokens bytes text tokens has (Some m) e =
-    with_subsystem bytes text tokens has m (read_is_file tokens m e) (table_of m) refl
+with_tokens : (text : List ℕ) (tokens : List Lexeme) → HasTokens text tokens → (o : Option Meaning)
+    → meaning_of tokens ≡ o
+    → Tells (SaysFirst text) (WhyFirst text)
+    (ok_or o NoFile >>= λ m. step NoTable (table_of m) >>= λ table. Ok (whole table))
+with_tokens text tokens has None none =
+    (tokens, has, λ m is. not_None m (sym (file_is_read tokens m is) ∙ none))
+with_tokens text tokens has (Some m) e =
+    with_subsystem text tokens has m (read_is_file tokens m e) (table_of m) refl
 
-with_text : (bytes : List ℕ) → IsUtf8 bytes → (r : Result (List Lexeme) LexFault)
-    → tokens_of bytes ≡ r
-    → Tells (IsInterface bytes) (IsReason bytes)
+first_told : (text : List ℕ) (r : Result (List Lexeme) LexFault) → tokens_of text ≡ r
+    → Tells (SaysFirst text) (WhyFirst text)
     (step NoTokens r >>= λ tokens. ok_or (meaning_of tokens) NoFile
-    >>= λ m. step NoTable (table_of m))
-with_text bytes text (Ok tokens) e =
-    with_tokens bytes text tokens (has_tokens bytes tokens e) (meaning_of tokens) refl
-with_text bytes text (Err fault) e = (text, e)
+    >>= λ m. step NoTable (table_of m) >>= λ table. Ok (whole table))
+first_told text (Ok tokens) e =
+    with_tokens text tokens (has_tokens text tokens e) (meaning_of tokens) refl
+first_told text (Err fault) e = e
+
+-- why a text of edition 2 says nothing
+abbrev WhySecond : Bool → List ℕ → Reason → Type 0
+WhySecond received text NoText = ⊥
+WhySecond received text (NoTokens fault) = lex text ≡ Err fault
+WhySecond received text NoFile = IsNoSecond received text
+WhySecond received text (NoTable fault) = ⊥
+
+-- each step of the reading of edition 2 tells its part
+with_lexed : (received : Bool) (text : List ℕ) (lexed : Lexed) → lex text ≡ Ok lexed
+    → (r : Result FormsSay Stop) → forms_in received lexed.tokens ≡ r
+    → Tells (SaysSecond received text) (WhySecond received text) (step (λ _. NoFile) r)
+with_lexed received text lexed has (Ok said) e = record { lexed = lexed; has = has; are = e }
+with_lexed received text lexed has (Err stop) e = (lexed, stop, has, e)
+
+second_told : (received : Bool) (text : List ℕ) (r : Result Lexed LexFault) → lex text ≡ r
+    → Tells (SaysSecond received text) (WhySecond received text)
+    (step NoTokens r >>= λ lexed. step (λ _. NoFile) (forms_in received lexed.tokens))
+second_told received text (Ok lexed) e =
+    with_lexed received text lexed e (forms_in received lexed.tokens) refl
+second_told received text (Err fault) e = e
+
+-- why a text of an edition says nothing
+abbrev Why : Edition → List ℕ → Reason → Type 0
+Why First text = WhyFirst text
+Why Second text = WhySecond false text
+Why Received text = WhySecond true text
+
+said_told : (edition : Edition) (text : List ℕ)
+    → Tells (Says edition text) (Why edition text) (said_by edition text)
+said_told First text = first_told text (tokens_of text) refl
+said_told Second text = second_told false text (lex text) refl
+said_told Received text = second_told true text (lex text) refl
+
+-- the same by what the reason is
+abbrev Because : Edition → List ℕ → Reason → Type 0
+Because edition text NoText = ⊥
+Because edition text (NoTokens fault) = HasNoTokens edition text fault
+Because edition text NoFile = IsNoFile edition text
+Because edition text (NoTable fault) = HasNoTable edition text fault
+
+because : (edition : Edition) (text : List ℕ) (reason : Reason) → Why edition text reason
+    → Because edition text reason
+because First text NoText is = is
+because First text (NoTokens fault) is = is
+because First text NoFile is = is
+because First text (NoTable fault) is = is
+because Second text NoText is = is
+because Second text (NoTokens fault) is = is
+because Second text NoFile is = is
+because Second text (NoTable fault) is = is
+because Received text NoText is = is
+because Received text (NoTokens fault) is = is
+because Received text NoFile is = is
+because Received text (NoTable fault) is = is
+
+-- what a text says is what its bytes say
+of_bytes : (bytes : List ℕ) → IsUtf8 bytes → (r : Result FormsSay Reason)
+    → Tells (Says (edition_of bytes) bytes) (Why (edition_of bytes) bytes) r
+    → Tells (IsDefs bytes) (IsReason bytes) r
+of_bytes bytes text (Ok said) is = record { utf8 = text; says = is }
+of_bytes bytes text (Err NoText) is = absurd (because (edition_of bytes) bytes NoText is)
+of_bytes bytes text (Err (NoTokens fault)) is =
+    (text, because (edition_of bytes) bytes (NoTokens fault) is)
+of_bytes bytes text (Err NoFile) is = (text, because (edition_of bytes) bytes NoFile is)
+of_bytes bytes text (Err (NoTable fault)) is =
+    (text, because (edition_of bytes) bytes (NoTable fault) is)
+
+-- what is read tells what the bytes say, or the reason why they say nothing
+pub defs_told : (bytes : List ℕ) (r : Result FormsSay Reason) → defs_of bytes ≡ r
+    → Tells (IsDefs bytes) (IsReason bytes) r
+defs_told bytes r e = subst (Tells (IsDefs bytes) (IsReason bytes)) e
+    (elim (cases_Bool (is_utf8 bytes)) [
+      | inl is ↦ rw is (of_bytes bytes (IsUtf8-from_is_utf8 bytes is) (said_by (edition_of bytes) bytes)
+          (said_told (edition_of bytes) bytes))
+      | inr not_text ↦ rw not_text (λ text. let same = sym (is_utf8-from_IsUtf8 bytes text)
+          ∙ not_text in cc)
+    ])
+
+with_defs : (bytes : List ℕ) (r : Result FormsSay Reason) → Tells (IsDefs bytes) (IsReason bytes) r
+    → Tells (IsInterface bytes) (IsReason bytes) (r >>= λ said. Ok said.table)
+with_defs bytes (Ok said) is = record { said = said; is_defs = is; is_table = refl }
+with_defs bytes (Err reason) is = is
 
 -- what is read tells what the bytes are: this is their table, or the reason why they have none
 pub told : (bytes : List ℕ) (r : Result Table Reason) → interface_of bytes ≡ r
     → Tells (IsInterface bytes) (IsReason bytes) r
 told bytes r e = subst (Tells (IsInterface bytes) (IsReason bytes)) e
-    (elim (cases_Bool (is_utf8 bytes)) [
-      | inl is ↦ rw is (with_text bytes (IsUtf8-from_is_utf8 bytes is) (tokens_of bytes) refl)
-      | inr not_text ↦ rw not_text (λ text. let same = sym (is_utf8-from_IsUtf8 bytes text)
-          ∙ not_text in cc)
-    ])
+    (with_defs bytes (defs_of bytes) (defs_told bytes (defs_of bytes) refl))
 
 -- the tables of files are read, whatever stands before them
 tables_read : (n : ℕ) (files : List (List ℕ)) (tables : List Table) → AreInterfaces files tables

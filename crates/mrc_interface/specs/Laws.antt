@@ -15,8 +15,10 @@ use Rattle.mrc_forms.specs.Types.{dispositions_of}
 use Rattle.mrc_forms.specs.Tables.{Table, message_of, form_of as form_with_id}
 use Rattle.mrc_interface.specs.Bodies.{form_of}
 use Rattle.mrc_interface.specs.Subsystems.{table_of}
-use Rattle.mrc_interface.specs.Reading.{IsInterface, AreInterfaces, Reason, IsReason, Refused}
-use Rattle.mrc_interface.specs.Reading.{IsFirstRefused, interface_of, interfaces_of}
+use Rattle.mrc_mig_forms.specs.Files.{FormsSay}
+use Rattle.mrc_interface.specs.Reading.{IsDefs, IsInterface, AreInterfaces, Reason, IsReason}
+use Rattle.mrc_interface.specs.Reading.{Refused, IsFirstRefused, defs_of, interface_of}
+use Rattle.mrc_interface.specs.Reading.{interfaces_of}
 
 -- the forms of a statement that takes this id
 abbrev pub forms_at : ℕ → Statement → List Form
@@ -54,6 +56,10 @@ SlotsArePorts =
     ↔ ((argument : Argument)
     × (slice_get (form_of name id kind items).arguments i ≡ Some argument)
     × IsIn disposition (dispositions_of argument.items.types))
+
+-- reading finds exactly what bytes say
+abbrev pub ReadsDefs : Type 0
+ReadsDefs = (bytes : List ℕ) (said : FormsSay) → (defs_of bytes ≡ Ok said) ↔ IsDefs bytes said
 
 -- reading finds exactly the table that bytes have
 abbrev pub ReadsInterface : Type 0

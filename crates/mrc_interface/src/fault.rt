@@ -43,6 +43,39 @@ pub enum DefsFault {
     Interface(InterfaceFault),
 }
 
+/// A fault of the tokens, so many bytes earlier.
+fn earlier_lex(fault: LexFault, count: usize) -> LexFault {
+    match fault {
+        LexFault::BadCharacter(at) => LexFault::BadCharacter(at.saturating_sub(count)),
+        LexFault::OpenComment(at) => LexFault::OpenComment(at.saturating_sub(count)),
+        LexFault::NumberTooLarge(at) => LexFault::NumberTooLarge(at.saturating_sub(count)),
+    }
+}
+
+/// A fault of the grammar, so many bytes earlier.
+fn earlier_parse(fault: ParseFault, count: usize) -> ParseFault {
+    match fault {
+        ParseFault::Unexpected(at) => ParseFault::Unexpected(at.saturating_sub(count)),
+        ParseFault::LeftOut(at, feature) => ParseFault::LeftOut(at.saturating_sub(count), feature),
+        ParseFault::UnknownType(at) => ParseFault::UnknownType(at.saturating_sub(count)),
+        ParseFault::TwiceNamed(at) => ParseFault::TwiceNamed(at.saturating_sub(count)),
+        ParseFault::NoRequestPort(at) => ParseFault::NoRequestPort(at.saturating_sub(count)),
+        ParseFault::TooMany(at) => ParseFault::TooMany(at.saturating_sub(count)),
+    }
+}
+
+impl DefsFault {
+    /// The same fault with its place so many bytes earlier: that in a text which is read with so
+    /// many bytes in front.
+    pub fn earlier(self, count: usize) -> DefsFault {
+        match self {
+            DefsFault::NotUtf8 | DefsFault::Interface(_) => self,
+            DefsFault::Lex(fault) => DefsFault::Lex(earlier_lex(fault, count)),
+            DefsFault::Parse(fault) => DefsFault::Parse(earlier_parse(fault, count)),
+        }
+    }
+}
+
 /// The first file of a list that has no table of forms.
 #[derive(Clone, Copy, Debug, PartialEq, Eq)]
 pub struct FileFault {

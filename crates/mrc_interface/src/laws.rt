@@ -1,7 +1,7 @@
 //! What holds of the forms of a subsystem, and of reading files.
 
 ghost use Rattle.mrc_interface.specs.Laws.{FoundByIds, SlotsArePorts};
-ghost use Rattle.mrc_interface.specs.Laws.{ReadsInterface, ReadsReason};
+ghost use Rattle.mrc_interface.specs.Laws.{ReadsDefs, ReadsInterface, ReadsReason};
 ghost use Rattle.mrc_interface.specs.Laws.{ReadsInterfaces, ReadsFirstRefused};
 
 /// The request that is found by an id is that of the statement that takes the id, and a reply that
@@ -15,9 +15,11 @@ pub fn slots_are_ports()
     ensures ports { SlotsArePorts }
 {}
 
-/// Reading finds exactly the table that bytes have, and else exactly the reason why they have none;
-/// of a list of files exactly their tables, and else exactly the first that has none.
+/// Reading finds exactly what bytes say, exactly the table that they have, and else exactly the
+/// reason why they have none; of a list of files exactly their tables, and else exactly the first
+/// that has none.
 pub fn files_are_read()
+    ensures says { ReadsDefs }
     ensures table { ReadsInterface }
     ensures reason { ReadsReason }
     ensures tables { ReadsInterfaces }

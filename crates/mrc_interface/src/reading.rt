@@ -1,22 +1,21 @@
 //! From the bytes of MIG files to the forms of their messages.
 
 ghost use Rattle.std.specs.Prelude.{◌≡◌, List, map, Ok, IfOk, IfErr};
-ghost use Rattle.std.specs.Option.{ok_or};
 ghost use Rattle.mrc_base.specs.Reading.{UnlessMemory};
-ghost use Rattle.mrc_mig_lex.specs.Lexing.{tokens_of};
-ghost use Rattle.mrc_mig_parse.specs.Files.{meaning_of};
-ghost use Rattle.mrc_interface.specs.Subsystems.{table_of};
 ghost use Rattle.mrc_forms.specs.Tables.{Table};
-ghost use Rattle.mrc_interface.specs.Reading.{NoTokens, NoFile, NoTable, reason_of, refused_of};
-ghost use Rattle.mrc_interface.specs.Reading.{IsInterface, IsReason, AreInterfaces, IsFirstRefused};
-ghost use Rattle.mrc_interface.specs.Reading.{step, text_of, interface_of, interfaces_of, GivesAs};
+ghost use Rattle.mrc_mig_forms.specs.Files.{FormsSay};
+ghost use Rattle.mrc_interface.specs.Reading.{IsDefs, IsInterface, IsReason, AreInterfaces};
+ghost use Rattle.mrc_interface.specs.Reading.{IsFirstRefused, reason_of, refused_of, GivesAs};
+ghost use Rattle.mrc_interface.specs.Reading.{step, text_of, said_by, defs_of, interface_of};
+ghost use Rattle.mrc_interface.specs.Reading.{interfaces_of};
 
 use crate::fault::{DefsFault, FileFault};
-use crate::interface::forms_of;
+use crate::first::first_edition;
+use crate::second::second_edition;
 use mrc_base::OrMemory;
 use mrc_forms::Interface;
-use mrc_mig_parse::{Subsystem, parse};
-use mrc_mig_symbols::{Tokens, lex};
+use mrc_mig_forms::Forms;
+use mrc_mig_tokens::{Edition, edition_of};
 use std::alloc::Global;
 use std::str;
 
@@ -30,54 +29,56 @@ fn text_of(bytes: &[u8]) -> Result<&str, OrMemory<DefsFault>>
     }
 }
 
-/// The tokens of a text.
-fn tokens_of(alloc: Global, text: &str) -> Result<Tokens<'_>, OrMemory<DefsFault>>
-    ensures { GivesAs (λ tokens. tokens) reason_of result
-        (step NoTokens (tokens_of text.now)) }
+/// What a text of this edition says.
+fn said_by(alloc: Global, edition: Edition, text: &str) -> Result<Forms, OrMemory<DefsFault>>
+    ensures { GivesAs (λ said. said) reason_of result (said_by edition text.now) }
 {
-    match lex(alloc, text) {
-        Ok(tokens) => Ok(tokens),
-        Err(OrMemory::Fault(fault)) => Err(OrMemory::Fault(DefsFault::Lex(fault))),
-        Err(OrMemory::Memory) => Err(OrMemory::Memory),
+    match edition {
+        Edition::First => first_edition(alloc, text),
+        Edition::Second => second_edition(alloc, text, false),
+        Edition::Received => second_edition(alloc, text, true),
     }
 }
 
-/// The subsystem of tokens.
-fn subsystem_of(alloc: Global, tokens: &Tokens<'_>) -> Result<Subsystem, OrMemory<DefsFault>>
-    ensures { GivesAs (λ subsystem. subsystem) reason_of result
-        (ok_or (meaning_of tokens.now) NoFile) }
+/// What the bytes of a file say.
+fn defs_of(alloc: Global, bytes: &[u8]) -> Result<Forms, OrMemory<DefsFault>>
+    ensures { GivesAs (λ said. said) reason_of result (defs_of bytes.now) }
 {
-    match parse(alloc, tokens) {
-        Ok(subsystem) => Ok(subsystem),
-        Err(OrMemory::Fault(fault)) => Err(OrMemory::Fault(DefsFault::Parse(fault))),
-        Err(OrMemory::Memory) => Err(OrMemory::Memory),
-    }
+    let text = text_of(bytes)?;
+    said_by(alloc, edition_of(text), text)
 }
 
-/// The table of a subsystem.
-fn table_of(alloc: Global, subsystem: Subsystem) -> Result<Interface, OrMemory<DefsFault>>
-    ensures { GivesAs (λ table. table) reason_of result (step NoTable (table_of subsystem)) }
+/// Reads a MIG file from its bytes, of the edition that its first lines name: the table of its
+/// forms with the rows that are left out and the types that are not read, or the fault of the first
+/// step that refuses it. A file of edition 1 leaves nothing out. The steps are the text (UTF-8), its
+/// tokens, the grammar, the ids; so a fault of the tokens is told before any of the grammar.
+pub fn read_defs(alloc: Global, bytes: &[u8]) -> Result<Forms, OrMemory<DefsFault>>
+    // What is read is what the file says that the bytes are.
+    ensures found { IfOk result (IsDefs bytes.now) }
+    // What a file says is read, unless memory runs out.
+    ensures only { (said : FormsSay) → IsDefs bytes.now said →
+        GivesAs (λ said. said) reason_of result (Ok said) }
+    // The fault tells why the bytes are no file.
+    ensures refused { IfErr result (UnlessMemory (λ fault. IsReason bytes.now (reason_of fault))) }
+    // Which step it is: the first.
+    ensures fault { GivesAs (λ said. said) reason_of result (defs_of bytes.now) }
 {
-    match forms_of(alloc, subsystem) {
-        Ok(interface) => Ok(interface),
-        Err((_, OrMemory::Fault(fault))) => Err(OrMemory::Fault(DefsFault::Interface(fault))),
-        Err((_, OrMemory::Memory)) => Err(OrMemory::Memory),
-    }
+    defs_of(alloc, bytes)
 }
 
-/// What the bytes of a file say, step by step.
+/// The table of what the bytes of a file say.
 fn interface_of(alloc: Global, bytes: &[u8]) -> Result<Interface, OrMemory<DefsFault>>
     ensures { GivesAs (λ table. table) reason_of result (interface_of bytes.now) }
 {
-    let text = text_of(bytes)?;
-    let tokens = tokens_of(alloc, text)?;
-    let subsystem = subsystem_of(alloc, &tokens)?;
-    table_of(alloc, subsystem)
+    let Forms {
+        interface,
+        left_out: _,
+        unread: _,
+    } = defs_of(alloc, bytes)?;
+    Ok(interface)
 }
 
-/// Reads a MIG file from its bytes: the table of its forms, or the fault of the first step that
-/// refuses it. The steps are the text (UTF-8), its tokens, the grammar, the ids; so a fault of the
-/// tokens is told before any of the grammar.
+/// Reads a MIG file from its bytes as [`read_defs`] does: the table of its forms alone.
 pub fn read_interface(alloc: Global, bytes: &[u8]) -> Result<Interface, OrMemory<DefsFault>>
     // What is read is the table of the file that the bytes are.
     ensures found { IfOk result (IsInterface bytes.now) }

@@ -2,9 +2,15 @@
 
 use mrc_base::OrMemory;
 use mrc_mig_lex::Sign;
-use mrc_mig_symbols::{Rest, Symbol, Tokens, Word, lex, place_of};
+use mrc_mig_symbols::Word;
+use mrc_mig_tokens::{Rest, Symbol, Tokens, lex};
 use std::alloc::{AllocError, Global};
 use std::str;
+
+/// Where the first of the tokens that are left begins.
+fn place_of(tokens: &Tokens<'_>, rest: Rest<'_>) -> usize {
+    tokens.at(tokens.len().saturating_sub(rest.len()))
+}
 
 fn is_routine(symbol: Symbol) -> bool {
     matches!(symbol, Symbol::Word(Word::Routine | Word::SimpleRoutine))
@@ -57,7 +63,7 @@ fn argument_place(tokens: &Tokens<'_>, name: &str, rest: Rest<'_>) -> Option<usi
             return None;
         }
         if begins_argument(name, rest) {
-            return Some(place_of(tokens, rest.len()));
+            return Some(place_of(tokens, rest));
         }
         rest = rest.next();
     }
@@ -69,7 +75,7 @@ fn subsystem_place(tokens: &Tokens<'_>, rest: Rest<'_>) -> Option<usize> {
     let mut rest = rest;
     while !rest.is_empty() {
         if is_subsystem(rest.first()) {
-            return Some(place_of(tokens, rest.len()));
+            return Some(place_of(tokens, rest));
         }
         rest = rest.next();
     }

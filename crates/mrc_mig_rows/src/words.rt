@@ -40,6 +40,22 @@ pub enum RowWord {
     TwiceNamed,
 }
 
+impl RowWord {
+    /// The word as it is printed.
+    pub fn as_str(self) -> &'static str {
+        match self {
+            RowWord::TooMany => "TooMany",
+            RowWord::IdRange => "IdRange",
+            RowWord::OldForm => "OldForm",
+            RowWord::Unexpected => "Unexpected",
+            RowWord::UnknownType => "UnknownType",
+            RowWord::NoRequestPort => "NoRequestPort",
+            RowWord::ReplyPort => "ReplyPort",
+            RowWord::TwiceNamed => "TwiceNamed",
+        }
+    }
+}
+
 /// A word, and the place at which it is told: how many tokens are left there.
 #[derive(Clone, Copy, Debug, PartialEq, Eq)]
 pub struct Told {

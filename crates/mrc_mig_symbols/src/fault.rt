@@ -1,7 +1,7 @@
 //! Why tokens are no subsystem.
 ghost use Rattle.std.specs.Prelude.{◌≡◌};
 ghost use Rattle.mrc_mig_symbols.specs.Symbols.{stop_at};
-ghost use Rattle.mrc_mig_symbols.specs.Places.{place_of, last_end, fault_of};
+ghost use Rattle.mrc_mig_symbols.specs.Places.{place_of, last_end, fault_at, fault_of};
 ghost use Rattle.mrc_base.specs.declared.memory.OrMemory.TheVariants.{Fault};
 
 use crate::tokens::Tokens;
@@ -137,12 +137,11 @@ pub fn place_of(tokens: &Tokens<'_>, count: usize) -> usize
     }
 }
 
-/// The fault of these tokens for which reading stops.
-pub fn fault_of(tokens: &Tokens<'_>, stop: Stop) -> ParseFault
-    ensures { result ≡ fault_of tokens.now stop }
+/// The fault at this place of a text for which reading stops.
+pub fn fault_at(why: StopReason, at: usize) -> ParseFault
+    ensures { result ≡ fault_at why at }
 {
-    let at = place_of(tokens, stop.left);
-    match stop.why {
+    match why {
         StopReason::Unexpected => ParseFault::Unexpected(at),
         StopReason::LeftOut(feature) => ParseFault::LeftOut(at, feature),
         StopReason::UnknownType => ParseFault::UnknownType(at),
@@ -150,4 +149,11 @@ pub fn fault_of(tokens: &Tokens<'_>, stop: Stop) -> ParseFault
         StopReason::NoRequestPort => ParseFault::NoRequestPort(at),
         StopReason::TooMany => ParseFault::TooMany(at),
     }
+}
+
+/// The fault of these tokens for which reading stops.
+pub fn fault_of(tokens: &Tokens<'_>, stop: Stop) -> ParseFault
+    ensures { result ≡ fault_of tokens.now stop }
+{
+    fault_at(stop.why, place_of(tokens, stop.left))
 }

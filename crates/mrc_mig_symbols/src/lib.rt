@@ -13,7 +13,7 @@ mod word;
 
 pub use directive::{Directive, directive_of, is_empty_line, without_blanks};
 pub use expressions::expression;
-pub use fault::{Feature, ParseFault, Stop, StopReason, fault_of, place_of, stop_at};
+pub use fault::{Feature, ParseFault, Stop, StopReason, fault_at, fault_of, place_of, stop_at};
 pub use laws::expressions_by_grammar;
 pub use symbol::{Rest, Symbol, name, sign};
 pub use tokens::{Tokens, lex};

@@ -94,7 +94,7 @@ impl<'t> Tokens<'t> {
     }
 
     /// The text of the token of this number; nothing where there is none.
-    pub(crate) fn text(&self, number: usize) -> &'t str
+    pub fn text(&self, number: usize) -> &'t str
         ensures { result.now
             ≡ option_map_or (λ (t : Token). t.bytes) (slice_get self.now.tokens number) [] }
     {

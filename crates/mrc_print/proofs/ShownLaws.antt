@@ -71,7 +71,7 @@ of_reply before after command read (answers.Promises s) notices is = tt
 of_reply before after command read (answers.Replay r) notices is = tt
 of_reply before after command read (answers.Journal j) notices is = tt
 of_reply before after command read (answers.Waits w) notices is = tt
-of_reply before after command read (answers.Cut c) notices is = tt
+of_reply before after command read (answers.Mig c) notices is = tt
 of_reply before after command read (answers.Fault f) notices is = tt
 
 -- of what is answered

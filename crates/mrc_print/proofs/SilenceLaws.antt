@@ -47,6 +47,7 @@ pub none_told : {E : Type 0} (seen notices : Notices)
     (dropped notification empty named trusted besides : List ℕ) (r : Result (String Global) E)
     → seen ≡ notices
     → (dropped ≡ [] → All HasNoNames seen.left_out)
+    → (dropped ≡ [] → seen.cut_before ≡ [])
     → (notification ≡ [] → seen.notification ≡ None)
     → (empty ≡ [] → seen.is_empty_policy ≡ false)
     → (named ≡ [] → notices.plain ≡ [])
@@ -56,9 +57,9 @@ pub none_told : {E : Type 0} (seen notices : Notices)
     → besides ≡ empty ++ (named ++ trusted)
     → IfOk r (λ text. string_bytes text ≡ dropped ++ (notification ++ besides))
     → IfOk r (λ text. string_bytes text ≡ [] → AreNone notices)
-none_told seen notices dropped notification empty named trusted besides (Err e) same a b c p l d t
+none_told seen notices dropped notification empty named trusted besides (Err e) same a k b c p l d t
     are is = tt
-none_told seen notices dropped notification empty named trusted besides (Ok text) same a b c p l d t
+none_told seen notices dropped notification empty named trusted besides (Ok text) same a k b c p l d t
     are is =
     λ none.
     let whole : dropped ++ (notification ++ besides) ≡ [] = sym is ∙ none in
@@ -70,6 +71,8 @@ none_told seen notices dropped notification empty named trusted besides (Ok text
     record {
       left_out = subst (λ (n : Notices). All HasNoNames n.left_out) same
           (a (first_empty dropped (notification ++ besides) whole));
+      cut_before = subst (λ (n : Notices). n.cut_before ≡ []) same
+          (k (first_empty dropped (notification ++ besides) whole));
       notification = subst (λ (n : Notices). n.notification ≡ None) same
           (b (first_empty notification besides behind));
       policy = subst (λ (n : Notices). n.is_empty_policy ≡ false) same

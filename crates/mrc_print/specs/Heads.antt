@@ -11,7 +11,7 @@ use Rattle.mrc_answer.specs.declared.answers.Answer.{Answer}
 use Rattle.mrc_answer.specs.declared.answers.Answer.TheVariants.{Yes, Broken, Refused, Attacks}
 use Rattle.mrc_answer.specs.declared.answers.Answer.TheVariants.{Mends, Made, NoChain, OtherCounts}
 use Rattle.mrc_answer.specs.declared.answers.Answer.TheVariants.{NoDrawing, Replay, Journal, Waits}
-use Rattle.mrc_answer.specs.declared.answers.Answer.TheVariants.{Cut, Fault}
+use Rattle.mrc_answer.specs.declared.answers.Answer.TheVariants.{Mig, Fault}
 use Rattle.mrc_answer.specs.declared.asking.Answered.{Answered}
 use Rattle.mrc_answer.specs.declared.asking.WasRead.{WasRead}
 use Rattle.mrc_answer.specs.declared.asking.WasRead.TheVariants.{Texts}
@@ -66,7 +66,7 @@ IsHeadOf read OtherCounts text = text ≡ codes "NO counts\n"
 IsHeadOf read (Replay both) text = text ≡ []
 IsHeadOf read (Journal ran) text = text ≡ []
 IsHeadOf read (Waits waiting) text = text ≡ []
-IsHeadOf read (Cut cuts) text = text ≡ []
+IsHeadOf read (Mig mig_texts) text = text ≡ []
 IsHeadOf read (Fault fault) text = text ≡ []
 IsHeadOf read answer text = Unit {0}
 

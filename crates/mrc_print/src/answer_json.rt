@@ -1,8 +1,8 @@
 //! The objects of answers.
 
-use crate::cuts::cut_files_json;
 use crate::faults::{fault_parts, unwritten_parts};
-use mrc_answer::{Answer, CutEnd, Cuts, WasRead};
+use crate::mig_texts::mig_json;
+use mrc_answer::{Answer, MigEnd, MigTexts, WasRead};
 use mrc_objects::{
     Making, attacks_json, broken_json, chain_json, counts_json, facts_json, fault_json, graph_json,
     mends_json, none_json, promises_json, reason_json, slots_json, undrawn_json, yes_json,
@@ -10,15 +10,19 @@ use mrc_objects::{
 use mrc_place::Hint;
 use std::alloc::{AllocError, Global};
 
-/// The object of MIG files that were cut, or of the one that did not take all its bytes.
-fn cuts_object(making: &Making<'_>, cuts: &Cuts<'_>, hint: &Hint) -> Result<String, AllocError> {
+/// The object of MIG files that were mig_text, or of the one that did not take all its bytes.
+fn mig_answer_object(
+    making: &Making<'_>,
+    mig_texts: &MigTexts<'_>,
+    hint: &Hint,
+) -> Result<String, AllocError> {
     let alloc = making.alloc;
-    if let CutEnd::Refused(unwritten) = &cuts.end {
+    if let MigEnd::Refused(unwritten) = &mig_texts.end {
         let parts = unwritten_parts(alloc, unwritten)?;
         return fault_json(alloc, making.command, &parts, hint);
     }
-    let written = matches!(cuts.end, CutEnd::Written);
-    cut_files_json(alloc, written, cuts.cuts.as_slice())
+    let written = matches!(mig_texts.end, MigEnd::Written);
+    mig_json(alloc, written, mig_texts.texts.as_slice())
 }
 
 /// The object of facts, of drawings, and of what is asked of a system alone: nothing of answers
@@ -63,7 +67,7 @@ pub(crate) fn answer_json(
             attacks_json(making, wired, attacked.found.as_slice())
         }
         Answer::Mends(answer) => mends_json(making, answer),
-        Answer::Cut(cuts) => cuts_object(making, cuts, hint),
+        Answer::Mig(mig_texts) => mig_answer_object(making, mig_texts, hint),
         Answer::Fault(fault) => {
             let parts = fault_parts(making.alloc, read, fault)?;
             fault_json(making.alloc, making.command, &parts, hint)

@@ -142,7 +142,7 @@ pub(crate) fn answer_text(
         Answer::Replay(_)
         | Answer::Journal(_)
         | Answer::Waits(_)
-        | Answer::Cut(_)
+        | Answer::Mig(_)
         | Answer::Fault(_) => Ok(String::new(alloc)),
         Answer::Chain(_)
         | Answer::Facts(_)

@@ -93,7 +93,7 @@ pub(crate) fn fault_parts(
             named_parts(alloc, option, name)
         }
         Fault::Unwritten(unwritten) => unwritten_parts(alloc, unwritten),
-        Fault::Uncut(uncut) => parts_of(alloc, uncut.file, uncut.fault.to_string(alloc)?),
+        Fault::NoMigText(no_text) => parts_of(alloc, no_text.file, no_text.fault.to_string(alloc)?),
         Fault::SameName(file) => named_parts(alloc, file, "SameName"),
         Fault::Unserved(fault) => parts_of(alloc, script_name(read), fault.to_string(alloc)?),
     }

@@ -16,6 +16,9 @@ use std::alloc::{AllocError, Global};
 /// So many lines are printed at most of a kind.
 pub(crate) const MOST_LINES: usize = 10;
 
+/// What is said of a MIG file that an older `mig` has cut.
+const CUT_BEFORE: &str = "cut by an older mig: make it anew";
+
 /// The line of a notice.
 pub(crate) fn line_of(alloc: Global, place: &str, text: &str) -> Result<String, AllocError>
     ensures { IfOk result (λ line. string_bytes line ≡ [] → ⊥) }
@@ -43,7 +46,7 @@ pub(crate) fn carriers_text(alloc: Global, names: &[String]) -> Result<String, A
     format!(in alloc; "{count}{words}{list}")
 }
 
-/// The line of a file from which these routines are dropped: none, if there are none.
+/// The line of a file from which these routines are left out: none, if there are none.
 fn dropped_line(alloc: Global, file: &str, names: &[String]) -> Result<String, AllocError>
     ensures { IfOk result (λ line. string_bytes line ≡ [] → map string_bytes names.now ≡ []) }
 {
@@ -54,7 +57,7 @@ fn dropped_line(alloc: Global, file: &str, names: &[String]) -> Result<String, A
     line_of(alloc, file, text.as_str())
 }
 
-/// A line for each file from which routines are dropped that carry rights.
+/// A line for each file from which routines are left out that may carry rights.
 fn dropped_lines(
     alloc: Global,
     read: &WasRead<'_>,
@@ -69,6 +72,46 @@ fn dropped_lines(
         text.push_str(line.as_str())?;
     }
     Ok(text)
+}
+
+/// The line of a MIG file of this number, which an older `mig` has cut.
+fn cut_line(alloc: Global, read: &WasRead<'_>, number: usize) -> Result<String, AllocError>
+    ensures { IfOk result (λ line. string_bytes line ≡ [] → ⊥) }
+{
+    line_of(alloc, defs_name(read, number), CUT_BEFORE)
+}
+
+/// A line for each of these MIG files, which an older `mig` has cut.
+fn cut_lines(alloc: Global, read: &WasRead<'_>, cut: &[usize]) -> Result<String, AllocError>
+    ensures { IfOk result (λ text. string_bytes text ≡ [] → cut.now ≡ []) }
+{
+    let [first, others @ ..] = cut else {
+        return Ok(String::new(alloc));
+    };
+    let mut text = cut_line(alloc, read, *first)?;
+    for number in others {
+        let line = cut_line(alloc, read, *number)?;
+        text.push_str(line.as_str())?;
+    }
+    Ok(text)
+}
+
+/// The lines of MIG files: from which routines are left out that may carry rights, and which an
+/// older `mig` has cut.
+#[tactic(auto, using(crate::proofs::EmptyLaws::first_empty, crate::proofs::EmptyLaws::rest_empty))]
+fn defs_lines(
+    alloc: Global,
+    read: &WasRead<'_>,
+    left_out: &[Vec<String>],
+    cut: &[usize],
+) -> Result<String, AllocError>
+    ensures left_out { IfOk result (λ text. string_bytes text ≡ []
+        → All HasNoNames (map (λ names. map string_bytes names.items) left_out.now)) }
+    ensures cut { IfOk result (λ text. string_bytes text ≡ [] → cut.now ≡ []) }
+{
+    let dropped = dropped_lines(alloc, read, left_out)?;
+    let cut = cut_lines(alloc, read, cut)?;
+    joined(alloc, dropped.as_str(), cut.as_str(), "")
 }
 
 /// The line of a routine of notifications, if there is one.
@@ -297,7 +340,8 @@ pub(crate) fn notices_text(alloc: Global, answered: &Answered<'_>) -> Result<Str
 {
     let read = &answered.read;
     let notices = &answered.reply.notices;
-    let dropped = dropped_lines(alloc, read, notices.left_out.as_slice())?;
+    let left_out = notices.left_out.as_slice();
+    let dropped = defs_lines(alloc, read, left_out, notices.cut_before.as_slice())?;
     let notification = notification_line(alloc, read, &notices.notification)?;
     let empty = empty_line(alloc, policy_name(read), notices.is_empty_policy)?;
     let wired = wired_of(&answered.reply);

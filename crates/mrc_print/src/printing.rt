@@ -11,8 +11,8 @@ use crate::answer_json::answer_json;
 use crate::answer_sarif::answer_sarif;
 use crate::answer_text::answer_text;
 use crate::asked::{Asked, format_of};
-use crate::cuts::cuts_text;
 use crate::faults::fault_line;
+use crate::mig_texts::mig_texts_text;
 use crate::notices::{joined, line_of, notices_text};
 use crate::reading::{policy_text, script_name, wiring_text};
 use crate::reasons::stale_note;
@@ -54,7 +54,7 @@ fn own_errors(
         Answer::Attacks(attacked) => cut_text(alloc, attacked.found.as_slice()),
         Answer::Mends(answer) => mends_note(alloc, answer),
         Answer::Waits(waiting) => waits_line(alloc, read, waiting),
-        Answer::Cut(cuts) => cuts_text(alloc, cuts.cuts.as_slice()),
+        Answer::Mig(mig_texts) => mig_texts_text(alloc, mig_texts.texts.as_slice()),
         Answer::Fault(Fault::Unwritten(_)) => Ok(String::new(alloc)),
         Answer::Fault(fault) => fault_line(alloc, read, fault),
         _ => Ok(String::new(alloc)),

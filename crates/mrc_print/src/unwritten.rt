@@ -1,6 +1,6 @@
 //! A file that did not take all its bytes, printed without memory.
 
-use mrc_answer::{Answer, CutEnd, Fault, Unwritten};
+use mrc_answer::{Answer, Fault, MigEnd, Unwritten};
 use mrc_base::OrMemory;
 use mrc_files::{Sink, WriteFault, write_text};
 
@@ -9,9 +9,9 @@ use mrc_files::{Sink, WriteFault, write_text};
 pub fn unwritten_of<'a>(answer: &'a Answer<'_>) -> Option<&'a Unwritten> {
     match answer {
         Answer::Fault(Fault::Unwritten(unwritten)) => Some(unwritten),
-        Answer::Cut(cuts) => match &cuts.end {
-            CutEnd::Refused(unwritten) => Some(unwritten),
-            CutEnd::Written | CutEnd::Little => None,
+        Answer::Mig(mig_texts) => match &mig_texts.end {
+            MigEnd::Refused(unwritten) => Some(unwritten),
+            MigEnd::Written | MigEnd::Little => None,
         },
         _ => None,
     }

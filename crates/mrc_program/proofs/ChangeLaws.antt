@@ -1,8 +1,8 @@
 -- Which commands have an answer after which files may have changed.
 use Rattle.std.proofs.Common.{◌≡◌, Bool, ℕ, refl}
 use Rattle.mrc_answer.specs.declared.answers.Answer.{Answer}
-use Rattle.mrc_answer.specs.declared.answers.Answer.TheVariants.{Made, Cut, Fault}
-use Rattle.mrc_answer.specs.declared.answers.Cuts.{Cuts}
+use Rattle.mrc_answer.specs.declared.answers.Answer.TheVariants.{Made, Mig, Fault}
+use Rattle.mrc_answer.specs.declared.answers.MigTexts.{MigTexts}
 use Rattle.mrc_answer.specs.declared.asking.Answered.{Answered}
 use Rattle.mrc_answer.specs.declared.asking.WasRead.{WasRead}
 use Rattle.mrc_answer.specs.declared.asking.WasRead.TheVariants.{Nothing, Texts, Defs}
@@ -40,23 +40,23 @@ made_changes before after (Promises format) files count notices is = absurd is.0
 made_changes before after (Replay format) files count notices is = absurd is.0
 made_changes before after (Live format) files count notices is = absurd is.0
 
--- that MIG files were cut
-cut_changes : (before after : Held) (question : Question) (files : Files) (cuts : Cuts)
+-- that MIG files were mig_text
+mig_changes : (before after : Held) (question : Question) (files : Files) (mig_texts : MigTexts)
     (notices : Notices)
-    → IsAnswer before after question files (Cut cuts) notices
+    → IsAnswer before after question files (Mig mig_texts) notices
     → Changes question
-cut_changes before after (Verify showing) files cuts notices is = absurd is
-cut_changes before after (Mend line most format) files cuts notices is = absurd is.0
-cut_changes before after (Attack line most format) files cuts notices is = absurd is
-cut_changes before after (Check verbose format) files cuts notices is = absurd is
-cut_changes before after (Make out workers) files cuts notices is = tt
-cut_changes before after (Explain fact by format) files cuts notices is = absurd is.0
-cut_changes before after (Facts task class right format) files cuts notices is = absurd is.0
-cut_changes before after (Graph fact task holds format) files cuts notices is = absurd is.0
-cut_changes before after (Slots format) files cuts notices is = absurd is.0
-cut_changes before after (Promises format) files cuts notices is = absurd is.0
-cut_changes before after (Replay format) files cuts notices is = absurd is.0
-cut_changes before after (Live format) files cuts notices is = absurd is.0
+mig_changes before after (Verify showing) files mig_texts notices is = absurd is
+mig_changes before after (Mend line most format) files mig_texts notices is = absurd is.0
+mig_changes before after (Attack line most format) files mig_texts notices is = absurd is
+mig_changes before after (Check verbose format) files mig_texts notices is = absurd is
+mig_changes before after (Make out workers) files mig_texts notices is = tt
+mig_changes before after (Explain fact by format) files mig_texts notices is = absurd is.0
+mig_changes before after (Facts task class right format) files mig_texts notices is = absurd is.0
+mig_changes before after (Graph fact task holds format) files mig_texts notices is = absurd is.0
+mig_changes before after (Slots format) files mig_texts notices is = absurd is.0
+mig_changes before after (Promises format) files mig_texts notices is = absurd is.0
+mig_changes before after (Replay format) files mig_texts notices is = absurd is.0
+mig_changes before after (Live format) files mig_texts notices is = absurd is.0
 
 -- that a file did not take all its bytes
 unwritten_changes : (before after : Held) (question : Question) (files : Files) (u : UnwrittenFile)
@@ -84,8 +84,8 @@ changes_of : (before after : Held) (question : Question) (files : Files) (answer
     → Changes question
 changes_of before after question files (Made count) notices is may =
     made_changes before after question files count notices is
-changes_of before after question files (Cut cuts) notices is may =
-    cut_changes before after question files cuts notices is
+changes_of before after question files (Mig mig_texts) notices is may =
+    mig_changes before after question files mig_texts notices is
 changes_of before after question files (Fault (Unwritten unwritten)) notices is may =
     unwritten_changes before after question files unwritten notices is
 changes_of before after question files answer notices is may = absurd may
@@ -96,7 +96,7 @@ unasked_changes : (held : Held) (names : FileNames) (question : Question) (answe
     → MayChange answer
     → Changes question
 unasked_changes held names question (Made count) why may = absurd why
-unasked_changes held names question (Cut cuts) why may = absurd why
+unasked_changes held names question (Mig mig_texts) why may = absurd why
 unasked_changes held names question (Fault (Unwritten unwritten)) why may = absurd why
 unasked_changes held names question answer why may = absurd may
 

@@ -7,7 +7,7 @@ use Rattle.std.proofs.lemmas.List.{take-append-le, take_all}
 use Rattle.std.specs.Io.KnownBytes.{Appends}
 use Rattle.std.specs.Prelude.{IfErr, OnErr, OnOk}
 use Rattle.mrc_answer.specs.declared.answers.Answer.{Answer}
-use Rattle.mrc_answer.specs.declared.answers.Answer.TheVariants.{Cut, Fault}
+use Rattle.mrc_answer.specs.declared.answers.Answer.TheVariants.{Mig, Fault}
 use Rattle.mrc_answer.specs.declared.asking.Answered.{Answered}
 use Rattle.mrc_answer.specs.declared.asking.WasRead.{WasRead}
 use Rattle.mrc_command.specs.declared.command.Format.{Format}
@@ -21,7 +21,7 @@ use Rattle.mrc_program.specs.Writing.{IsFrontOut, IsPending, IsToldInPart, IsWho
 pub fault_head : (read : WasRead) (answer : Answer) → has_fault answer ≡ true
     → IsHeadOf read answer []
 fault_head read (Fault fault) is = refl
-fault_head read (Cut cuts) is = refl
+fault_head read (Mig mig_texts) is = refl
 fault_head read answer is = absurd cc
 
 -- all of a text is a front of it

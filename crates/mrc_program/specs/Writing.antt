@@ -2,23 +2,23 @@
 use Rattle.std.specs.Prelude.{◌≡◌, ◌++◌, ℕ, Bool, true, false, List, [], Option, take}
 use Rattle.std.specs.Io.KnownBytes.{Appends}
 use Rattle.mrc_answer.specs.declared.answers.Answer.{Answer}
-use Rattle.mrc_answer.specs.declared.answers.Answer.TheVariants.{Cut, Fault}
-use Rattle.mrc_answer.specs.declared.answers.CutEnd.{CutEnd}
-use Rattle.mrc_answer.specs.declared.answers.CutEnd.TheVariants.{Refused}
+use Rattle.mrc_answer.specs.declared.answers.Answer.TheVariants.{Mig, Fault}
+use Rattle.mrc_answer.specs.declared.answers.MigEnd.{MigEnd}
+use Rattle.mrc_answer.specs.declared.answers.MigEnd.TheVariants.{Refused}
 use Rattle.mrc_answer.specs.declared.asking.Answered.{Answered}
 use Rattle.mrc_command.specs.declared.command.Format.{Format}
 use Rattle.mrc_print.specs.Heads.{InText, IsPrinted, pending_text}
 use Rattle.mrc_print.specs.Silence.{AreNone}
 
 -- MIG files were not all written, since one was refused
-abbrev pub is_refused : CutEnd → Bool
+abbrev pub is_refused : MigEnd → Bool
 is_refused (Refused unwritten) = true
 is_refused end = false
 
 -- an answer is a fault, or has one: a file that did not take all its bytes
 abbrev pub has_fault : Answer → Bool
 has_fault (Fault fault) = true
-has_fault (Cut cuts) = is_refused cuts.end
+has_fault (Mig mig_texts) = is_refused mig_texts.end
 has_fault answer = false
 
 -- the text is what is pending of an answer, if it is for people

@@ -2,8 +2,8 @@
 
 use crate::hints::hint_text;
 use crate::notes::{SAME_NAME, UNWRITTEN, name_notes, note_of, one_note};
-use crate::places::{cut_hint, hint_of};
-use mrc_answer::{Answer, Answered, Fault, Texts, Uncut, Unwritten, WasRead, WordFault};
+use crate::places::{hint_of, mig_text_hint};
+use mrc_answer::{Answer, Answered, Fault, NoMigText, Texts, Unwritten, WasRead, WordFault};
 use mrc_base::OrMemory;
 use mrc_check::{CaseFault, System};
 use mrc_command::Question;
@@ -24,7 +24,7 @@ pub(crate) struct Help {
 /// How it is helped with a fault.
 #[derive(Clone, Copy)]
 pub(crate) struct Helping<'a> {
-    /// The names of the MIG files that are cut, in their order.
+    /// The names of the MIG files of a `mig`, in their order.
     pub(crate) defs: &'a [&'a str],
     /// Whether what helps with a fault is wanted: it is shown, or the answer is for programs.
     pub(crate) wanted: bool,
@@ -142,24 +142,22 @@ fn unwritten_help(alloc: Global, unwritten: &Unwritten) -> Result<Help, AllocErr
     }
 }
 
-/// What helps with a MIG file that can't be cut, by its bytes.
-fn cut_help(alloc: Global, uncut: &Uncut<'_>, bytes: &[u8]) -> Result<Help, AllocError> {
-    match cut_hint(alloc, bytes, uncut.fault)? {
-        Some(hint) => help_of(alloc, uncut.file, hint),
-        None => Ok(no_help(alloc)),
-    }
+/// What helps with a MIG file that is none as a text of edition 2, by its bytes.
+fn mig_text_help(alloc: Global, no_text: &NoMigText<'_>, bytes: &[u8]) -> Result<Help, AllocError> {
+    let hint = mig_text_hint(alloc, bytes, &no_text.fault)?;
+    help_of(alloc, no_text.file, hint)
 }
 
 /// The same of files with these names and these bytes.
-fn uncut_help(
+fn no_text_help(
     alloc: Global,
     defs: &[&str],
     texts: &[Vec<u8>],
-    uncut: &Uncut<'_>,
+    no_text: &NoMigText<'_>,
 ) -> Result<Help, AllocError> {
     for (file, text) in defs.iter().zip(texts) {
-        if *file == uncut.file {
-            return cut_help(alloc, uncut, text.as_slice());
+        if *file == no_text.file {
+            return mig_text_help(alloc, no_text, text.as_slice());
         }
     }
     Ok(no_help(alloc))
@@ -170,10 +168,10 @@ fn defs_help(
     alloc: Global,
     defs: &[&str],
     read: &WasRead<'_>,
-    uncut: &Uncut<'_>,
+    no_text: &NoMigText<'_>,
 ) -> Result<Help, AllocError> {
     match read {
-        WasRead::Defs(texts) => uncut_help(alloc, defs, texts.as_slice(), uncut),
+        WasRead::Defs(texts) => no_text_help(alloc, defs, texts.as_slice(), no_text),
         WasRead::Nothing | WasRead::Texts(_) => Ok(no_help(alloc)),
     }
 }
@@ -190,7 +188,7 @@ fn fault_help(
         Fault::Unread(unread) => unread_help(alloc, unread),
         Fault::Meaning(fault) => meaning_help(alloc, asked, read, fault),
         Fault::Word(fault) => word_help(alloc, asked, read, *fault),
-        Fault::Uncut(uncut) => defs_help(alloc, defs, read, uncut),
+        Fault::NoMigText(no_text) => defs_help(alloc, defs, read, no_text),
         Fault::SameName(_) => one_noted(alloc, SAME_NAME),
         Fault::Unwritten(_) | Fault::Unserved(_) => Ok(no_help(alloc)),
     }

@@ -11,7 +11,7 @@ use mrc_words::{class_word, right_named};
 use std::alloc::{AllocError, Global};
 
 /// The sentence about a MIG file that has the name of an earlier one.
-pub(crate) const SAME_NAME: &str = "an earlier file has this name: cut them into two folders";
+pub(crate) const SAME_NAME: &str = "an earlier file has this name: write them into two folders";
 
 /// The sentence about a file that took no byte.
 pub(crate) const UNWRITTEN: &str =

@@ -6,22 +6,84 @@ use mrc_certificate::DraftFault;
 use mrc_check::{CaseFault, PolicyFault, WiringFault};
 use mrc_interface::{DefsFault, FileFault, LexFault, ParseFault, read_interfaces};
 use mrc_line_hints::{policy_line_hint, wiring_line_hint};
-use mrc_mig_cut::CutFault;
 use mrc_mig_hints::mig_hint;
+use mrc_mig_places::subsystem_line;
+use mrc_mig_tokens::{Edition, edition_of, lex};
 use mrc_name_hints::{names_hint, policy_name_hint, wiring_name_hint};
-use mrc_place::Hint;
+use mrc_place::{Hint, byte_spot};
 use mrc_script_hints::script_hint;
 use mrc_wiring::{ClaimFault, ResolveFault};
 use mrc_wiring_text::{TextFault, read_wiring};
 use std::alloc::{AllocError, Global};
 use std::str;
 
+/// What is said of a MIG file without a `subsystem` statement.
+const NO_SUBSYSTEM: &str = "the file has no subsystem";
+
+/// How many bytes the token at this place of a text has, or 0 where none begins.
+fn token_width(alloc: Global, text: &str, at: usize) -> usize {
+    let Ok(tokens) = lex(alloc, text) else {
+        return 2;
+    };
+    (0..tokens.len())
+        .find(|number| tokens.at(*number) == at)
+        .map_or(0, |number| tokens.text(number).len())
+}
+
+/// The place in a text that a fault of edition 2 tells, if it tells one.
+fn second_place(fault: &DefsFault) -> Option<usize> {
+    match *fault {
+        DefsFault::Lex(LexFault::OpenComment(at)) => Some(at),
+        DefsFault::Parse(
+            ParseFault::Unexpected(at)
+            | ParseFault::LeftOut(at, _)
+            | ParseFault::TwiceNamed(at)
+            | ParseFault::TooMany(at),
+        ) => Some(at),
+        _ => None,
+    }
+}
+
+/// The sentences about a fault of edition 2 at this place of a text.
+fn second_notes(alloc: Global, text: &str, at: usize) -> Result<Vec<String>, AllocError> {
+    let is_at_the_end = text.len() <= at || text[at..].trim().is_empty();
+    if is_at_the_end && subsystem_line(alloc, text.as_bytes())?.is_none() {
+        return one_note(alloc, NO_SUBSYSTEM);
+    }
+    Ok(Vec::new(alloc))
+}
+
+/// What helps with a fault of a text of edition 2.
+fn second_hint(alloc: Global, text: &str, fault: &DefsFault) -> Result<Hint, AllocError> {
+    let Some(at) = second_place(fault) else {
+        return Ok(Hint {
+            spot: None,
+            notes: Vec::new(alloc),
+        });
+    };
+    let at = text.floor_char_boundary(at);
+    let end = text.ceil_char_boundary(at.saturating_add(token_width(alloc, text, at)));
+    let spot = byte_spot(alloc, text, at, end.max(at))?;
+    Ok(Hint {
+        spot: Some(spot),
+        notes: second_notes(alloc, text, at)?,
+    })
+}
+
+/// What helps with a fault of a MIG file, by the edition of its text.
+fn edition_hint(alloc: Global, bytes: &[u8], fault: &DefsFault) -> Result<Hint, AllocError> {
+    match str::from_utf8(bytes) {
+        Ok(text) if edition_of(text) != Edition::First => second_hint(alloc, text, fault),
+        _ => mig_hint(alloc, bytes, fault),
+    }
+}
+
 /// What helps with a fault of a MIG file.
 fn defs_hint(alloc: Global, texts: &Texts, fault: &FileFault) -> Result<Option<Hint>, AllocError> {
     let Some(bytes) = texts.defs.get(fault.file) else {
         return Ok(None);
     };
-    let hint = mig_hint(alloc, bytes.as_slice(), &fault.fault)?;
+    let hint = edition_hint(alloc, bytes.as_slice(), &fault.fault)?;
     Ok(Some(hint))
 }
 
@@ -128,62 +190,14 @@ pub(crate) fn hint_of(
     }
 }
 
-/// The sentence of a MIG file without a subsystem, as [`mig_hint`] has it.
-const NO_SUBSYSTEM: &str = "the file has no subsystem";
-
-/// Why a file can't be cut at a brace or a parenthesis.
-const BRACKETS: &str =
-    "a brace may be only where a struct begins or ends, and no parenthesis inside braces";
-
-/// Whether the byte of this number is a brace or a parenthesis.
-fn is_bracket(bytes: &[u8], place: usize) -> bool {
-    matches!(bytes.get(place), Some(b'(' | b')' | b'{' | b'}'))
-}
-
-/// Of these sentences that of a file without a subsystem.
-fn subsystem_notes(alloc: Global, notes: Vec<String>) -> Result<Vec<String>, AllocError> {
-    let mut kept = Vec::new(alloc);
-    for note in notes {
-        if note.as_str() == NO_SUBSYSTEM {
-            kept.push(note)?;
-        }
-    }
-    Ok(kept)
-}
-
-/// The sentences about a MIG file that can't be cut, of those about one that can't be read. It is
-/// not said what may be at the place of the fault: a file that can be cut need not be one that can
-/// be read.
-fn cut_notes(
+/// What helps with the fault of a MIG file that is none as a text of edition 2.
+pub(crate) fn mig_text_hint(
     alloc: Global,
     bytes: &[u8],
     fault: &DefsFault,
-    notes: Vec<String>,
-) -> Result<Vec<String>, AllocError> {
-    match fault {
-        DefsFault::Lex(LexFault::BadCharacter(at)) if is_bracket(bytes, *at) => {
-            let mut notes = Vec::new(alloc);
-            notes.push(String::from_str(alloc, BRACKETS)?)?;
-            Ok(notes)
-        }
-        DefsFault::Parse(ParseFault::Unexpected(_)) => subsystem_notes(alloc, notes),
-        _ => Ok(notes),
+) -> Result<Hint, AllocError> {
+    match str::from_utf8(bytes) {
+        Ok(text) => second_hint(alloc, text, fault),
+        Err(_) => mig_hint(alloc, bytes, fault),
     }
-}
-
-/// What helps with the fault of a MIG file that can't be cut.
-pub(crate) fn cut_hint(
-    alloc: Global,
-    bytes: &[u8],
-    fault: CutFault,
-) -> Result<Option<Hint>, AllocError> {
-    let fault = match fault {
-        CutFault::NotUtf8 => DefsFault::NotUtf8,
-        CutFault::Lex(fault) => DefsFault::Lex(fault),
-        CutFault::Parse(fault) => DefsFault::Parse(fault),
-        CutFault::Rest => return Ok(None),
-    };
-    let Hint { spot, notes } = mig_hint(alloc, bytes, &fault)?;
-    let notes = cut_notes(alloc, bytes, &fault, notes)?;
-    Ok(Some(Hint { spot, notes }))
 }

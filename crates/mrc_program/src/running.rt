@@ -18,7 +18,7 @@ ghost use Rattle.mrc_program.specs.Writing.{has_fault};
 
 use crate::behind::{Helping, help_behind};
 use crate::progress::{Counter, Nobody};
-use mrc_answer::{Answer, Answered, CutEnd, NamedCut, Notices, Ready, answer, status_of};
+use mrc_answer::{Answer, Answered, MigEnd, MigText, Notices, Ready, answer, status_of};
 use mrc_command::{
     Command, Format, NoCommand, Question, Request, Showing, Told, WordsFault, asked_format, read,
     words_line,
@@ -67,8 +67,8 @@ struct Preparing<'a> {
 }
 
 impl Ready for Preparing<'_> {
-    fn make_ready(&mut self, alloc: Global, cuts: &[NamedCut<'_>]) -> Result<(), AllocError> {
-        let texts = written_texts(alloc, self.asked, cuts)?;
+    fn make_ready(&mut self, alloc: Global, mig_texts: &[MigText<'_>]) -> Result<(), AllocError> {
+        let texts = written_texts(alloc, self.asked, mig_texts)?;
         drop(replace(&mut self.texts, Some(texts)));
         Ok(())
     }
@@ -119,7 +119,7 @@ fn asked_of<'a>(command: &Command<'a>) -> Asked<'a>
     }
 }
 
-/// The names of the MIG files that are cut: none, if the command cuts none, or if memory runs out.
+/// The names of the MIG files of a `mig`: none of another command, or if memory runs out.
 fn defs_of<'a>(alloc: Global, command: &Command<'a>) -> Vec<&'a str> {
     match command {
         Command::Case(_, _) => Vec::new(alloc),
@@ -184,7 +184,7 @@ fn has_fault(answer: &Answer<'_>) -> bool
 {
     match answer {
         Answer::Fault(_) => true,
-        Answer::Cut(cuts) => matches!(cuts.end, CutEnd::Refused(_)),
+        Answer::Mig(mig_texts) => matches!(mig_texts.end, MigEnd::Refused(_)),
         _ => false,
     }
 }
@@ -219,6 +219,7 @@ fn are_none(notices: &Notices) -> bool
     ensures { IsTrue result → AreNone notices.now }
 {
     notices.left_out.is_empty()
+        && notices.cut_before.is_empty()
         && notices.notification.is_none()
         && !notices.is_empty_policy
         && notices.plain.is_empty()
@@ -282,9 +283,9 @@ fn for_programs(alloc: Global, asked: Asked<'_>, text: String) -> String
     }
 }
 
-/// What is printed of MIG files that were cut and all written, if it is that, and if it was made
+/// What is printed of MIG files that were all written, if it is that, and if it was made
 /// before.
-fn cut_texts(
+fn mig_answer_texts(
     alloc: Global,
     asked: Asked<'_>,
     texts: Option<WrittenTexts>,
@@ -294,10 +295,10 @@ fn cut_texts(
         (IfSome result (λ printed. HasHead answered.now (string_bytes printed.out))) }
     ensures err { IfSome result (λ _. AreNone answered.now.reply.notices) }
 {
-    let Answer::Cut(cuts) = &answered.reply.answer else {
+    let Answer::Mig(mig_texts) = &answered.reply.answer else {
         return None;
     };
-    if !matches!(cuts.end, CutEnd::Written) || !are_none(&answered.reply.notices) {
+    if !matches!(mig_texts.end, MigEnd::Written) || !are_none(&answered.reply.notices) {
         return None;
     }
     let WrittenTexts { out, err } = texts?;
@@ -323,7 +324,7 @@ fn prepared_texts(
     let Prepared { room, texts } = prepared;
     match made_texts(alloc, room, answered) {
         Some(printed) => Some(printed),
-        None => cut_texts(alloc, asked, texts, answered),
+        None => mig_answer_texts(alloc, asked, texts, answered),
     }
 }
 
@@ -554,7 +555,7 @@ fn write_told<O: Write, E: Write>(alloc: Global, told: &Told, out: &mut O, err: 
 /// search has come, and behind a fault what helps with it. If a person looks at `out`, `verify`
 /// prints the text of each line that is broken. The status is 0 for `YES`, for mends, for a
 /// certificate that is made, for a chain, for facts, for a drawing, for slots, for promises, for a
-/// replay, for a journal, for MIG files that are cut and for help and the version, 1 for `NO`, for
+/// replay, for a journal, for MIG files that are written and for help and the version, 1 for `NO`, for
 /// attacks and for `none`, and 2 for a fault, if too little is read of MIG files, and if all tasks
 /// of a `live` that have lines left wait for messages.
 pub fn run<F: Folder, R: Threads + Wait + Sync, O: Write, E: Write>(
@@ -568,7 +569,7 @@ pub fn run<F: Folder, R: Threads + Wait + Sync, O: Write, E: Write>(
 ) -> u8
     ensures status { result ≤ 2 }
     // With status 0 the answer went out whole: a yes, mends, the making of a certificate, a chain,
-    // facts, a drawing, slots, promises, a replay, a journal or what MIG files are cut to. It is
+    // facts, a drawing, slots, promises, a replay, a journal or what is read of MIG files. It is
     // that to what the words ask for, and right of what the files held that they name, unless they
     // ask for help or the version. What is told besides went to standard error.
     ensures yes { result ≡ 0

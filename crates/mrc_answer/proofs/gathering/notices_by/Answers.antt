@@ -13,9 +13,10 @@ pub returns : goal.returns
 returns c =
     let files = c.args.files.now in
     let set = has c.args.facts.now in
-    notices_made files c.args.lines.now c.args.claim.now set _ _ _ _ _ _
+    notices_made files c.args.lines.now c.args.claim.now set _ _ _ _ _ _ _
     (map string_bytes c.args.trusted.items)
     c.in_ok-left_out.ensures
+    c.in_ok-cut_before.ensures
     (c.in_ok-notification.ensures
     ∙ (ap (notification_from 0) c.interfaces.ensures
     ∙ ap (λ (t : Table). notification_from 0 t.interfaces) c.wired-wired.ensures))

@@ -1,7 +1,7 @@
 use Rattle.std.proofs.Common.{List, ℕ, subst}
 use Rattle.mrc_files.specs.Files.{IsLeftBy, KeepsOthers}
-use Rattle.mrc_answer.specs.Cutting.{Writing, IsNotTaken}
-use Rattle.mrc_answer.proofs.CutLaws.{stopped_here}
+use Rattle.mrc_answer.specs.MigTexts.{Writing, IsNotTaken}
+use Rattle.mrc_answer.proofs.MigLaws.{stopped_here}
 use Rattle.mrc_answer.proofs.writing.write_each.Goals as goal
 
 pub returns-in-Err-clause-stopped : goal.returns-in-Err-clause-stopped

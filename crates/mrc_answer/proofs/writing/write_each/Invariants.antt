@@ -3,7 +3,7 @@ use Rattle.std.proofs.Common.{ℕ, List, drop}
 use Rattle.mrc_base.specs.declared.memory.OrMemory.{OrMemory}
 use Rattle.mrc_files.specs.Files.{Held}
 use Rattle.mrc_files.specs.declared.streams.WriteFault.{WriteFault}
-use Rattle.mrc_answer.specs.Cutting.{AreWritten, IsStopped}
+use Rattle.mrc_answer.specs.MigTexts.{AreWritten, IsStopped}
 use Rattle.mrc_answer.proofs.writing.write_each.Given as goal
 
 abbrev pub invariant-loop-place : goal.invariant-loop-place

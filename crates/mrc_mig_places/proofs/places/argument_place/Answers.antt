@@ -1,7 +1,7 @@
 -- One token fewer is left.
 use Rattle.std.proofs.Common.{sym, ◌∙◌, subst, length, ◌<◌}
-use Rattle.mrc_mig_symbols.specs.Readers.{left}
-use Rattle.mrc_mig_symbols.proofs.ReadingLemmas.{tail_is_shorter}
+use Rattle.mrc_mig_tokens.specs.Reading.{left}
+use Rattle.mrc_mig_tokens.proofs.SumLemmas.{tail_is_shorter}
 use Rattle.mrc_mig_places.proofs.places.argument_place.Goals as goal
 
 pub loop-rest-smaller : goal.loop-rest-smaller

@@ -1,4 +1,4 @@
-use Rattle.std.proofs.Common.{string_bytes}
+use Rattle.std.proofs.Common.{string_bytes, sym, ◌∙◌}
 use Rattle.mrc_print.proofs.SilenceLaws.{names_so, none_told, texts_so, three_if, three_so}
 use Rattle.mrc_print.proofs.notices.notices_text.Goals as goal
 
@@ -14,8 +14,9 @@ returns c =
     record {
       told = none_told _ c.args.answered.now.reply.notices dropped notification empty named trusted
           besides c.joined-2.result c.notices.view_is
-          (names_so c.as_slice.result.now inside.left_out.items dropped c.as_slice.ensures.value
-          c.in_ok-dropped.ensures)
+          (names_so c.as_slice-left_out.result.now inside.left_out.items dropped
+          c.as_slice-left_out.ensures.value c.in_ok-dropped.ensures.left_out)
+          (λ none. sym c.as_slice.ensures.value ∙ c.in_ok-dropped.ensures.cut none)
           c.in_ok-notification.ensures c.in_ok-empty.ensures c.in_ok-named.ensures.plain
           c.in_ok-named.ensures.leaky c.in_ok-named.ensures.dead
           (texts_so c.as_slice-2.result.now inside.trusted.items trusted
