@@ -32,7 +32,7 @@ use Rattle.mrc_interface.specs.Reading.{IsDefs, IsInterface, AreInterfaces, Reas
 use Rattle.mrc_interface.specs.Reading.{NoTokens, NoFile, NoTable, IsReason, Refused}
 use Rattle.mrc_interface.specs.Reading.{IsFirstRefused, SaysFirst, SaysSecond, Says, whole}
 use Rattle.mrc_interface.specs.Reading.{HasNoTokens, IsNoFirst, IsNoSecond, IsNoFile, HasNoTable}
-use Rattle.mrc_interface.specs.Reading.{HasNoFirstTable, said_first, said_second, said_by, defs_of}
+use Rattle.mrc_interface.specs.Reading.{HasNoFirstTable, said_by, defs_of}
 use Rattle.mrc_interface.specs.Reading.{step, interface_of, interfaces_from, interfaces_of, GivesAs}
 
 -- what an answer tells: this of a value, and that of a fault

@@ -1,7 +1,9 @@
 -- Law. Which form an id finds, which arguments are slots; files are read as what they are. Which
 -- form is found by an id, and which arguments are slots, in words apart from how the table is
 -- searched; and that files are read as what they are. After the Server Writer's Guide for MIG.
-use Rattle.std.specs.Prelude.{◌≡◌, ℕ, ◌+◌, List, [], ◌∷◌, Some, Ok, Err, slice_get, ◌↔◌}
+use Rattle.std.specs.Prelude.{◌≡◌, ℕ, ◌+◌, Bool, false, List, [], ◌∷◌, Some, Ok, Err}
+use Rattle.std.specs.Prelude.{slice_get, ◌↔◌}
+use Rattle.std.specs.Str.{IsUtf8}
 use Rattle.mrc_base.specs.declared.Disp.{Disp}
 use Rattle.mrc_model.specs.IsIn.{IsIn}
 use Rattle.mrc_model.specs.declared.RequestKind.TheVariants as requests
@@ -15,10 +17,13 @@ use Rattle.mrc_forms.specs.Types.{dispositions_of}
 use Rattle.mrc_forms.specs.Tables.{Table, message_of, form_of as form_with_id}
 use Rattle.mrc_interface.specs.Bodies.{form_of}
 use Rattle.mrc_interface.specs.Subsystems.{table_of}
+use Rattle.mrc_mig_tokens.specs.Editions.{edition_of}
 use Rattle.mrc_mig_forms.specs.Files.{FormsSay}
 use Rattle.mrc_interface.specs.Reading.{IsDefs, IsInterface, AreInterfaces, Reason, IsReason}
 use Rattle.mrc_interface.specs.Reading.{Refused, IsFirstRefused, defs_of, interface_of}
 use Rattle.mrc_interface.specs.Reading.{interfaces_of}
+use Rattle.mrc_interface.specs.Left.{is_first_edition}
+use Rattle.mrc_interface.specs.Written.{in_second}
 
 -- the forms of a statement that takes this id
 abbrev pub forms_at : ℕ → Statement → List Form
@@ -82,3 +87,12 @@ abbrev pub ReadsFirstRefused : Type 0
 ReadsFirstRefused =
     (files : List (List ℕ)) (refused : Refused)
     → (interfaces_of files ≡ Err refused) ↔ IsFirstRefused files refused
+
+-- a text is of edition 2
+abbrev pub IsSecondEdition : List ℕ → Type 0
+IsSecondEdition text = is_first_edition (edition_of text) ≡ false
+
+-- what `mig` writes of a text is of edition 2
+abbrev pub WrittenIsSecond : Type 0
+WrittenIsSecond =
+    (received : Bool) (bytes : List ℕ) → IsUtf8 bytes → IsSecondEdition (in_second received bytes)

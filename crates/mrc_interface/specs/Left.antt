@@ -1,7 +1,8 @@
 -- Believe. Which routines that are left out of a MIG file may carry rights, and which files an older
 -- `mig` has cut. This profile's own choice.
-use Rattle.std.specs.Prelude.{ℕ, List, [], ◌∷◌, ◌++◌, Bool, true, false, ◌&&◌, ◌||◌, Option, Some, None}
-use Rattle.std.specs.Prelude.{is_some, Result, Ok, Err, codes, if◌then◌else◌}
+use Rattle.std.specs.Prelude.{ℕ, List, [], ◌∷◌, Bool, true, false, ◌&&◌, ◌||◌, Option, Some, None}
+use Rattle.std.specs.Prelude.{◌==◌, Result, Ok, Err, codes, if◌then◌else◌}
+use Rattle.std.specs.List.{filter_map, starts_with}
 use Rattle.std.specs.Str.{is_utf8}
 use Rattle.mrc_mig_lex.specs.Characters.{quote}
 use Rattle.mrc_mig_lex.specs.Tokens.{Lexeme}
@@ -9,7 +10,6 @@ use Rattle.mrc_mig_lex.specs.Lexing.{tokens_of}
 use Rattle.mrc_mig_lex.specs.declared.fault.LexFault.{LexFault}
 use Rattle.mrc_mig_symbols.specs.declared.symbol.Symbol.{Symbol}
 use Rattle.mrc_mig_symbols.specs.declared.symbol.Symbol.TheVariants as symbols
-use Rattle.mrc_mig_symbols.specs.Directives.{after_bytes}
 use Rattle.mrc_mig_symbols.specs.Symbols.{first_of, text_of}
 use Rattle.mrc_mig_tokens.specs.Editions.{edition_of}
 use Rattle.mrc_mig_tokens.specs.declared.edition.Edition.{Edition}
@@ -38,14 +38,13 @@ name_or (Some name) = name
 abbrev pub name_of : LeftOut → List ℕ
 name_of left = name_or left.routine
 
--- the same in a list, if the row may carry rights
-abbrev pub name_if : LeftOut → List (List ℕ)
-name_if left = if carries left then name_of left ∷ [] else []
+-- the same, if the row may carry rights
+abbrev pub name_if : LeftOut → Option (List ℕ)
+name_if left = if carries left then Some (name_of left) else None
 
 -- the names of those of these rows that may carry rights
 abbrev pub carrying : List LeftOut → List (List ℕ)
-carrying [] = []
-carrying (left ∷ left_out) = name_if left ++ carrying left_out
+carrying left_out = filter_map name_if left_out
 
 -- the same of what a file says; of what is none there are none
 abbrev pub carriers_by : Result FormsSay Reason → List (List ℕ)
@@ -75,7 +74,7 @@ is_first (Some text) = is_first_edition (edition_of text)
 
 -- a string that begins with the words by which an older `mig` told what it left out
 abbrev pub is_note_of : Symbol → List ℕ → Bool
-is_note_of symbols.Text bytes = is_some (after_bytes (quote ∷ codes "left out: ") bytes)
+is_note_of symbols.Text bytes = starts_with (λ a b. a == b) bytes (quote ∷ codes "left out: ")
 is_note_of _ bytes = false
 
 -- the first token is such a string

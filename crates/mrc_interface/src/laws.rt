@@ -2,7 +2,7 @@
 
 ghost use Rattle.mrc_interface.specs.Laws.{FoundByIds, SlotsArePorts};
 ghost use Rattle.mrc_interface.specs.Laws.{ReadsDefs, ReadsInterface, ReadsReason};
-ghost use Rattle.mrc_interface.specs.Laws.{ReadsInterfaces, ReadsFirstRefused};
+ghost use Rattle.mrc_interface.specs.Laws.{ReadsInterfaces, ReadsFirstRefused, WrittenIsSecond};
 
 /// The request that is found by an id is that of the statement that takes the id, and a reply that
 /// of the statement that takes an id 100 below. Nothing else is found.
@@ -24,4 +24,9 @@ pub fn files_are_read()
     ensures reason { ReadsReason }
     ensures tables { ReadsInterfaces }
     ensures first { ReadsFirstRefused }
+{}
+
+/// What `mig` writes of a text is a text of edition 2, so it is read as one.
+pub fn written_texts_are_of_edition_2()
+    ensures second { WrittenIsSecond }
 {}

@@ -6,6 +6,7 @@ ghost use Rattle.mrc_interface.specs.Left.{is_first, is_old_cut, name_if, notes_
 ghost use Rattle.mrc_mig_symbols.specs.Readers.{left};
 ghost use Rattle.mrc_mig_lex.specs.Lexing.{tokens_of};
 ghost use Rattle.std.specs.Option.{option_map};
+ghost use Rattle.std.specs.List.{cons_option};
 
 use crate::reading::read_defs;
 use mrc_base::OrMemory;
@@ -38,7 +39,7 @@ pub fn row_name(left: &LeftOut) -> &str
 /// Adds the name of a row that is left out, if it may carry rights.
 fn push_name(alloc: Global, names: &mut Vec<String>, left: &LeftOut) -> Result<(), AllocError>
     ensures { OnOk result (map string_bytes names.new.items
-        ≡ map string_bytes names.old.items ++ name_if left.now) }
+        ≡ map string_bytes names.old.items ++ cons_option (name_if left.now) []) }
 {
     if !carries(left) {
         return Ok(());
@@ -102,6 +103,7 @@ fn is_note(rest: Rest<'_>) -> bool
 }
 
 /// Whether one of the tokens is such a string.
+#[tactic(auto, using(crate::proofs::LeftLaws::none_left, crate::proofs::LeftLaws::note_here, crate::proofs::LeftLaws::note_later, mrc_mig_symbols::proofs::ReadingLemmas::tail_is_shorter))]
 fn has_note(tokens: &Tokens<'_>) -> bool
     ensures { result ≡ has_note tokens.now }
 {

@@ -13,7 +13,9 @@ mod written;
 
 pub use fault::{DefsFault, FileFault, InterfaceFault};
 pub use interface::forms_of;
-pub use laws::{files_are_read, forms_are_found_by_ids, slots_are_ports};
+pub use laws::{
+    files_are_read, forms_are_found_by_ids, slots_are_ports, written_texts_are_of_edition_2,
+};
 pub use left::{carriers, carries, is_old_cut, row_name};
 pub use mrc_forms::{
     Argument, Form, FormKind, Interface, ItemTypes, Items, MessageKind, RequestKind, Row, Slot,
