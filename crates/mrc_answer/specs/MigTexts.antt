@@ -1,6 +1,6 @@
 -- Believe. What MIG files are as texts of edition 2, which files are written, and which file is
 -- none or can't be written. This profile's own choice.
-use Rattle.std.specs.Prelude.{◌≡◌, ◌⊎◌, ℕ, Bool, true, false, not, ◌&&◌, List, [], ◌∷◌, ◌++◌}
+use Rattle.std.specs.Prelude.{◌≡◌, ◌⊎◌, ℕ, Bool, true, false, not, ◌&&◌, ◌||◌, List, [], ◌∷◌, ◌++◌}
 use Rattle.std.specs.Prelude.{Option, Some, None, map, length, codes, string_bytes, nat_lt}
 use Rattle.std.specs.Prelude.{bytes_eq, is_some, if◌then◌else◌}
 use Rattle.std.specs.List.{AllZip, list_any}
@@ -8,7 +8,7 @@ use Rattle.mrc_base.specs.declared.memory.OrMemory.{OrMemory}
 use Rattle.mrc_forms.specs.Tables.{Row}
 use Rattle.mrc_mig_forms.specs.Files.{FormsSay}
 use Rattle.mrc_interface.specs.Reading.{IsDefs}
-use Rattle.mrc_interface.specs.Left.{carries}
+use Rattle.mrc_interface.specs.Left.{carries, is_old_cut}
 use Rattle.mrc_interface.specs.Written.{in_second}
 use Rattle.mrc_files.specs.declared.streams.WriteFault.{WriteFault}
 use Rattle.mrc_files.specs.Files.{Held, HasBytes, IsFirstUnread, IsLeftBy, KeepsOthers}
@@ -48,10 +48,11 @@ same_name files = same_name_behind [] files
 -- Texts of edition 2.
 
 -- What is made of a text: the text of edition 2, as received or not, that is the same but for the
--- line of the edition, and what it says as a MIG file.
+-- line of the edition, what it says as a MIG file, and whether an older `mig` has cut it.
 pub record IsMigTextOf (received : Bool) (text : List ℕ) (mig_text : MigText) : Type 0 where
   pub same : mig_text.bytes.items ≡ in_second received text
   pub says : IsDefs (in_second received text) mig_text.forms
+  pub cut : mig_text.was_cut ≡ is_old_cut text
 
 -- the same of the texts of files of these names, each by itself
 pub record AreMigTexts (received : Bool) (names texts : List (List ℕ)) (mig_texts : List MigText)
@@ -67,13 +68,13 @@ has_request row = is_some row.request
 abbrev pub has_routine : MigText → Bool
 has_routine mig_text = list_any has_request mig_text.forms.table.rows
 
--- a routine is left out of it
+-- a routine is left out of it, or was before
 abbrev pub has_left_out : MigText → Bool
-has_left_out mig_text = nat_lt 0 (length mig_text.forms.left_out)
+has_left_out mig_text = nat_lt 0 (length mig_text.forms.left_out) || mig_text.was_cut
 
--- a routine that may carry rights is left out of it
+-- a routine that may carry rights is left out of it, or may have been before
 abbrev pub has_carrying : MigText → Bool
-has_carrying mig_text = list_any carries mig_text.forms.left_out
+has_carrying mig_text = list_any carries mig_text.forms.left_out || mig_text.was_cut
 
 -- whether nothing is written because of it: for `--strict` if a routine is left out, for
 -- `--strict=rights` if one that may carry rights is

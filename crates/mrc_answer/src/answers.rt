@@ -96,6 +96,8 @@ pub struct MigText<'a> {
     pub bytes: Vec<u8>,
     /// How many bytes of the text stand in front of the file's own.
     pub front: usize,
+    /// Whether an older `mig` has cut the file.
+    pub was_cut: bool,
     /// What is read of the text.
     pub forms: Forms,
 }

@@ -6,13 +6,14 @@ ghost use Rattle.mrc_base.specs.Reading.{UnlessMemory};
 ghost use Rattle.mrc_answer.specs.MigTexts.{IsMigTextOf, IsNoMig, AreMigTexts, IsFirstNoMigText};
 ghost use Rattle.mrc_answer.specs.MigTexts.{has_request, has_routine, has_left_out, has_carrying};
 ghost use Rattle.mrc_answer.specs.MigTexts.{is_forbidden, are_written};
+ghost use Rattle.mrc_interface.specs.Left.{carries};
 
 use crate::answers::MigText;
 use crate::faults::NoMigText;
 use mrc_base::OrMemory;
 use mrc_command::Strictness;
 use mrc_forms::{MessageKind, Row};
-use mrc_interface::{carries, in_second, read_defs};
+use mrc_interface::{LeftOut, carries, in_second, is_old_cut, read_defs};
 use std::alloc::Global;
 
 /// A file's text as one of edition 2, and what that says.
@@ -29,11 +30,13 @@ fn mig_text_of<'a>(
 {
     let bytes = in_second(alloc, text, received)?;
     let front = bytes.len().saturating_sub(text.len());
+    let was_cut = is_old_cut(alloc, text)?;
     match read_defs(alloc, bytes.as_slice()) {
         Ok(forms) => Ok(MigText {
             file,
             bytes,
             front,
+            was_cut,
             forms,
         }),
         Err(OrMemory::Fault(fault)) => {
@@ -75,11 +78,11 @@ fn has_request(row: &Row) -> bool
     row.form(MessageKind::Request).is_some()
 }
 
-/// Whether a routine is read of a file.
-fn has_routine(mig_text: &MigText<'_>) -> bool
-    ensures { result ≡ has_routine mig_text.now }
+/// Whether one of these rows has a request.
+fn some_request(rows: &[Row]) -> bool
+    ensures { result ≡ list_any has_request rows.now }
 {
-    for row in mig_text.forms.interface.rows() {
+    for row in rows {
         if has_request(row) {
             return true;
         }
@@ -87,23 +90,37 @@ fn has_routine(mig_text: &MigText<'_>) -> bool
     false
 }
 
-/// Whether a routine is left out of a file.
+/// Whether a routine is read of a file.
+fn has_routine(mig_text: &MigText<'_>) -> bool
+    ensures { result ≡ has_routine mig_text.now }
+{
+    some_request(mig_text.forms.interface.rows())
+}
+
+/// Whether a routine is left out of a file, or was before.
 fn has_left_out(mig_text: &MigText<'_>) -> bool
     ensures { result ≡ has_left_out mig_text.now }
 {
-    !mig_text.forms.left_out.is_empty()
+    !mig_text.forms.left_out.is_empty() || mig_text.was_cut
 }
 
-/// Whether a routine that may carry rights is left out of a file.
-fn has_carrying(mig_text: &MigText<'_>) -> bool
-    ensures { result ≡ has_carrying mig_text.now }
+/// Whether one of these routines may carry rights.
+fn some_carries(left_out: &[LeftOut]) -> bool
+    ensures { result ≡ list_any carries left_out.now }
 {
-    for left in mig_text.forms.left_out.as_slice() {
+    for left in left_out {
         if carries(left) {
             return true;
         }
     }
     false
+}
+
+/// Whether a routine that may carry rights is left out of a file, or may have been before.
+fn has_carrying(mig_text: &MigText<'_>) -> bool
+    ensures { result ≡ has_carrying mig_text.now }
+{
+    some_carries(mig_text.forms.left_out.as_slice()) || mig_text.was_cut
 }
 
 /// Whether nothing is written because of a file.

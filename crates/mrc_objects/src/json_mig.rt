@@ -133,6 +133,34 @@ fn type_object<'a>(
     })
 }
 
+/// The routines that are left out.
+fn routine_objects<'a>(
+    alloc: Global,
+    source: &MigSource<'a>,
+    left_out: &'a [LeftOut],
+) -> Result<Vec<RoutineObject<'a>>, AllocError> {
+    let mut objects = Vec::new(alloc);
+    for left in left_out {
+        let object = routine_object(alloc, source, left)?;
+        objects.push(object)?;
+    }
+    Ok(objects)
+}
+
+/// The types that are not read.
+fn type_objects<'a>(
+    alloc: Global,
+    source: &MigSource<'a>,
+    types: &'a [Unread],
+) -> Result<Vec<TypeObject<'a>>, AllocError> {
+    let mut objects = Vec::new(alloc);
+    for unread in types {
+        let object = type_object(alloc, source, unread)?;
+        objects.push(object)?;
+    }
+    Ok(objects)
+}
+
 /// A file of this source, which says this.
 pub fn mig_object<'a>(
     alloc: Global,
@@ -140,20 +168,11 @@ pub fn mig_object<'a>(
     source: &MigSource<'a>,
     forms: &'a Forms,
 ) -> Result<MigObject<'a>, AllocError> {
-    let left_out = forms
-        .left_out
-        .iter()
-        .map(|left| routine_object(alloc, source, left));
-    let left_out = left_out.try_collect(alloc)?;
-    let types = forms
-        .unread
-        .iter()
-        .map(|unread| type_object(alloc, source, unread));
     Ok(MigObject {
         file,
-        left_out,
+        left_out: routine_objects(alloc, source, forms.left_out.as_slice())?,
         read: read_count(forms),
-        types: types.try_collect(alloc)?,
+        types: type_objects(alloc, source, forms.unread.as_slice())?,
     })
 }
 

@@ -5,6 +5,7 @@ ghost use Rattle.mrc_print.specs.Heads as heads;
 ghost use Rattle.mrc_print.specs.Heads.{InText};
 
 use crate::asked::{Asked, format_of};
+use crate::notices::CUT_BEFORE;
 use mrc_answer::MigText;
 use mrc_command::{Format, shown};
 use mrc_interface::{Carrier, Forms, LeftOut, Unread, carries, row_name};
@@ -57,6 +58,15 @@ fn type_line(alloc: Global, source: &MigSource<'_>, unread: &Unread) -> Result<S
     format!(in alloc; "{file}:{line}: type {name} not read: {word} {text}\n")
 }
 
+/// The line of a file that an older `mig` has cut: nothing of another.
+fn cut_text(alloc: Global, file: &str, was_cut: bool) -> Result<String, AllocError> {
+    if was_cut {
+        format!(in alloc; "{file}: {CUT_BEFORE}\n")
+    } else {
+        Ok(String::new(alloc))
+    }
+}
+
 /// How many of the routines that are left out may carry rights: nothing of 0.
 fn carrying_text(alloc: Global, count: usize) -> Result<String, AllocError> {
     match count {
@@ -104,8 +114,9 @@ fn mig_text_text(alloc: Global, mig_text: &MigText<'_>) -> Result<String, AllocE
         .map(|left| left_line(alloc, &source, left))
         .try_collect(alloc)?;
     let file = shown(alloc, mig_text.file)?;
+    let cut = cut_text(alloc, file.as_str(), mig_text.was_cut)?;
     let line = count_line(alloc, file.as_str(), forms)?;
-    format!(in alloc; "{types}{rows}{line}")
+    format!(in alloc; "{types}{rows}{cut}{line}")
 }
 
 /// What is printed of files, in their order.

@@ -17,7 +17,7 @@ use std::alloc::{AllocError, Global};
 pub(crate) const MOST_LINES: usize = 10;
 
 /// What is said of a MIG file that an older `mig` has cut.
-const CUT_BEFORE: &str = "cut by an older mig: make it anew";
+pub(crate) const CUT_BEFORE: &str = "cut by an older mig: make it anew";
 
 /// The line of a notice.
 pub(crate) fn line_of(alloc: Global, place: &str, text: &str) -> Result<String, AllocError>
@@ -82,18 +82,28 @@ fn cut_line(alloc: Global, read: &WasRead<'_>, number: usize) -> Result<String, 
 }
 
 /// A line for each of these MIG files, which an older `mig` has cut.
-fn cut_lines(alloc: Global, read: &WasRead<'_>, cut: &[usize]) -> Result<String, AllocError>
-    ensures { IfOk result (λ text. string_bytes text ≡ [] → cut.now ≡ []) }
-{
-    let [first, others @ ..] = cut else {
-        return Ok(String::new(alloc));
-    };
-    let mut text = cut_line(alloc, read, *first)?;
-    for number in others {
+fn each_cut_line(alloc: Global, read: &WasRead<'_>, cut: &[usize]) -> Result<String, AllocError> {
+    let mut text = String::new(alloc);
+    for number in cut {
         let line = cut_line(alloc, read, *number)?;
         text.push_str(line.as_str())?;
     }
     Ok(text)
+}
+
+/// The same: nothing only of no file.
+#[tactic(auto, using(crate::proofs::EmptyLaws::first_empty))]
+fn cut_lines(alloc: Global, read: &WasRead<'_>, cut: &[usize]) -> Result<String, AllocError>
+    ensures { IfOk result (λ text. string_bytes text ≡ [] → cut.now ≡ []) }
+{
+    match cut {
+        [] => Ok(String::new(alloc)),
+        [first, others @ ..] => {
+            let line = cut_line(alloc, read, *first)?;
+            let others = each_cut_line(alloc, read, others)?;
+            joined(alloc, line.as_str(), others.as_str(), "")
+        }
+    }
 }
 
 /// The lines of MIG files: from which routines are left out that may carry rights, and which an

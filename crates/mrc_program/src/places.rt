@@ -8,7 +8,7 @@ use mrc_interface::{DefsFault, FileFault, LexFault, ParseFault, read_interfaces}
 use mrc_line_hints::{policy_line_hint, wiring_line_hint};
 use mrc_mig_hints::mig_hint;
 use mrc_mig_places::subsystem_line;
-use mrc_mig_tokens::{Edition, edition_of, lex};
+use mrc_mig_tokens::{Edition, Tokens, edition_of, lex};
 use mrc_name_hints::{names_hint, policy_name_hint, wiring_name_hint};
 use mrc_place::{Hint, byte_spot};
 use mrc_script_hints::script_hint;
@@ -20,14 +20,49 @@ use std::str;
 /// What is said of a MIG file without a `subsystem` statement.
 const NO_SUBSYSTEM: &str = "the file has no subsystem";
 
-/// How many bytes the token at this place of a text has, or 0 where none begins.
-fn token_width(alloc: Global, text: &str, at: usize) -> usize {
-    let Ok(tokens) = lex(alloc, text) else {
+/// What is said of a comment that is not closed.
+const OPEN_COMMENT: &str = "this comment is not closed";
+
+/// What is said of a line of the preprocessor.
+const PREPROCESS: &str = "run machcheck mig first: it works out macros, conditions and includes";
+
+/// The number of the token that begins at this place of a text.
+fn token_number(tokens: &Tokens<'_>, at: usize) -> Option<usize> {
+    (0..tokens.len()).find(|number| tokens.at(*number) == at)
+}
+
+/// How many bytes what is told at this place has, or 0 where nothing begins.
+fn width_at(tokens: &Option<Tokens<'_>>, at: usize) -> usize {
+    let Some(tokens) = tokens else {
         return 2;
     };
-    (0..tokens.len())
-        .find(|number| tokens.at(*number) == at)
-        .map_or(0, |number| tokens.text(number).len())
+    match token_number(tokens, at) {
+        Some(number) => tokens.text(number).len(),
+        None => 0,
+    }
+}
+
+/// The number of the line of a place.
+fn line_number(text: &str, at: usize) -> usize {
+    let front = &text.as_bytes()[..at.min(text.len())];
+    front
+        .iter()
+        .filter(|byte| **byte == b'\n')
+        .count()
+        .saturating_add(1)
+}
+
+/// Where the type is declared first whose name stands at this place.
+fn declared_at(tokens: &Tokens<'_>, at: usize) -> Option<usize> {
+    let named = token_number(tokens, at)?;
+    let name = tokens.text(named);
+    let first = (1..named).find(|number| {
+        tokens.text(*number) == name
+            && tokens
+                .text(number.saturating_sub(1))
+                .eq_ignore_ascii_case("type")
+    })?;
+    Some(tokens.at(first))
 }
 
 /// The place in a text that a fault of edition 2 tells, if it tells one.
@@ -44,29 +79,61 @@ fn second_place(fault: &DefsFault) -> Option<usize> {
     }
 }
 
-/// The sentences about a fault of edition 2 at this place of a text.
-fn second_notes(alloc: Global, text: &str, at: usize) -> Result<Vec<String>, AllocError> {
-    let is_at_the_end = text.len() <= at || text[at..].trim().is_empty();
-    if is_at_the_end && subsystem_line(alloc, text.as_bytes())?.is_none() {
+/// The sentence about a second type of one name.
+fn twice_notes(
+    alloc: Global,
+    text: &str,
+    tokens: &Option<Tokens<'_>>,
+    at: usize,
+) -> Result<Vec<String>, AllocError> {
+    let mut notes = Vec::new(alloc);
+    if let Some(tokens) = tokens {
+        if let Some(first) = declared_at(tokens, at) {
+            let line = line_number(text, first);
+            notes.push(format!(in alloc; "declared above, on line {line}")?)?;
+        }
+    }
+    Ok(notes)
+}
+
+/// The sentence about a file that ends without a `subsystem` statement.
+fn end_notes(alloc: Global, text: &str, at: usize) -> Result<Vec<String>, AllocError> {
+    let behind = text.get(at..).unwrap_or("");
+    if behind.trim().is_empty() && subsystem_line(alloc, text.as_bytes())?.is_none() {
         return one_note(alloc, NO_SUBSYSTEM);
     }
     Ok(Vec::new(alloc))
 }
 
+/// The sentences about a fault of edition 2.
+fn second_notes(
+    alloc: Global,
+    text: &str,
+    tokens: &Option<Tokens<'_>>,
+    fault: &DefsFault,
+) -> Result<Vec<String>, AllocError> {
+    match *fault {
+        DefsFault::Lex(LexFault::OpenComment(_)) => one_note(alloc, OPEN_COMMENT),
+        DefsFault::Parse(ParseFault::LeftOut(_, _)) => one_note(alloc, PREPROCESS),
+        DefsFault::Parse(ParseFault::TwiceNamed(at)) => twice_notes(alloc, text, tokens, at),
+        DefsFault::Parse(ParseFault::Unexpected(at)) => end_notes(alloc, text, at),
+        _ => Ok(Vec::new(alloc)),
+    }
+}
+
 /// What helps with a fault of a text of edition 2.
 fn second_hint(alloc: Global, text: &str, fault: &DefsFault) -> Result<Hint, AllocError> {
+    let tokens = lex(alloc, text).ok();
+    let notes = second_notes(alloc, text, &tokens, fault)?;
     let Some(at) = second_place(fault) else {
-        return Ok(Hint {
-            spot: None,
-            notes: Vec::new(alloc),
-        });
+        return Ok(Hint { spot: None, notes });
     };
     let at = text.floor_char_boundary(at);
-    let end = text.ceil_char_boundary(at.saturating_add(token_width(alloc, text, at)));
+    let end = text.ceil_char_boundary(at.saturating_add(width_at(&tokens, at)));
     let spot = byte_spot(alloc, text, at, end.max(at))?;
     Ok(Hint {
         spot: Some(spot),
-        notes: second_notes(alloc, text, at)?,
+        notes,
     })
 }
 
