@@ -905,6 +905,80 @@ defs("ids that are too large", f"subsystem s 2147483548;\n{STD}routine r(p : mac
 machcheck: d: IdRange
   ids are at most 2147483647, and that of a reply is 100 above that of its request
 """)
+# The edition of a MIG file, and faults of edition 2. A `;` that is missing is told behind the last token.
+
+EDITION = "#pragma machcheck 2\n"
+defs("the line of another edition", "#pragma machcheck 3\nsubsystem s 1;\n", """\
+machcheck: d: LeftOut 0 Preprocessor
+d:1:1
+  #pragma machcheck 3
+  ^^^^^^^^^^^^^^^^^^^
+  run machcheck mig first: it works out macros, conditions and includes
+""")
+defs("the line of edition 2 behind a token", "subsystem s 1;\n#pragma machcheck 2\n", """\
+machcheck: d: LeftOut 15 Preprocessor
+d:2:1
+  #pragma machcheck 2
+  ^^^^^^^^^^^^^^^^^^^
+  run machcheck mig first: it works out macros, conditions and includes
+""")
+SECOND = f"{EDITION}subsystem s 1;"
+defs("edition 2: a type that is declared twice", f"{SECOND}\ntype t = int;\ntype t = int;", """\
+machcheck: d: TwiceNamed 54
+d:4:6
+  type t = int;
+       ^
+""")
+defs("edition 2: a parenthesis that is not closed", f"{SECOND}\nroutine r(p : q;\n", """\
+machcheck: d: Unexpected 51
+d:3:17
+  routine r(p : q;
+                  ^
+""")
+defs("edition 2: a parenthesis that is not opened", f"{SECOND}\nroutine r(p : q));", """\
+machcheck: d: Unexpected 51
+d:3:17
+  routine r(p : q));
+                  ^
+""")
+defs("edition 2: a word of no statement", f"{SECOND}\nnonsense x;", """\
+machcheck: d: Unexpected 35
+d:3:1
+  nonsense x;
+  ^^^^^^^^
+""")
+defs("edition 2: a condition", f"{SECOND}\n#if 1", """\
+machcheck: d: LeftOut 35 Preprocessor
+d:3:1
+  #if 1
+  ^^^^^
+""")
+defs("edition 2: no number of a skip", f"{SECOND}\nskip x;", """\
+machcheck: d: Unexpected 40
+d:3:6
+  skip x;
+       ^
+""")
+defs("edition 2: a routine before the subsystem", f"{EDITION}routine r();", """\
+machcheck: d: Unexpected 20
+d:2:1
+  routine r();
+  ^^^^^^^
+""")
+defs("edition 2: no subsystem", f"{EDITION}import <x.h>;", """\
+machcheck: d: Unexpected 33
+d:2:14
+  import <x.h>;
+               ^
+  the file has no subsystem
+""")
+defs("edition 2: an open comment", f"{SECOND} /* x", """\
+machcheck: d: OpenComment 35
+d:2:16
+  subsystem s 1; /* x
+                 ^^
+  this comment is not closed
+""")
 fault("mig of what is no MIG file", "mig --out . d.defs", {"d.defs": "subsystem s 5;\nnonsense x;\n"}, """\
 machcheck: d.defs: Unexpected 15
 d.defs:2:1
@@ -1122,4 +1196,4 @@ option("too many workers", "make --workers 65 --wiring w --out c", "--workers: W
        "expected: a number from 1 to 64")
 option("make into no folder", "make --wiring w --out absent/c", "absent/c: WriteFailed 0", W, UNWRITTEN)
 option("mig of two files of one name", "mig --out . a/d.defs b/d.defs", "b/d.defs: SameName", {},
-       "an earlier file has this name: cut them into two folders")
+       "an earlier file has this name: write them into two folders")

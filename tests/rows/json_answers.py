@@ -12,9 +12,9 @@ ROWS = []
 
 def written(name, words, files, status, /, err=None, made=None, **members):
     """The words without `--format json`, the files that are made, and the members of the object. On standard error come the
-    notices, or `err`."""
+    notices, or `err`. The objects of `mig` that are no faults have a schema of their own."""
     command, *words = words_in(words)
-    line = json.dumps({**members, "schema": 1}, ensure_ascii=False, separators=(",", ":"), sort_keys=True)
+    line = json.dumps({"schema": 1, **members}, ensure_ascii=False, separators=(",", ":"), sort_keys=True)
     err = "".join(f"{notice}\n" for notice in members.get("notices", [])) if err is None else err
     ROWS.append({"name": name, "args": [command, "--format", "json", *words], "files": files, "status": status,
                  "stdout": f"{line}\n", "stderr": err, "written": made or {}})
@@ -306,51 +306,50 @@ written("a journal of tasks that wait", LIVED, {**ALONE, "s": "a allocate 1 rece
 written("a script that is not run", LIVED, {**ALONE, "p": "policy 1\nforbid a once births a\n", "s": ""}, 1,
         answer="NO", command="live", notices=[], reason={"fact": None, "kind": "forbidden", "line": 2, "rule": None})
 
-# Two routines are left out, of which one carries rights.
+# A type is not read, and two routines are left out, of which one carries rights.
+EDITION = "#pragma machcheck 2\n"
 LEFT = f"""subsystem s 300;
 {STD}type gate_t = mach_port_t;
+type other_t = array[4 of int;
 routine one(server : mach_port_t; in number : int);
 skip;
-routine two(server : mach_port_t;
+procedure two(server : mach_port_t;
     in data : data_t = ^array[] of char);
-routine three(server : mach_port_t; in gate : gate_t; out other : other_t = MACH_MSG_TYPE_PORT_SEND);
+routine three(server : mach_port_t; in gate : gate_t; out other : other_t);
 """
 LEFT_OUT = [
-    {"carries": [], "id": 302, "line": 6, "routine": "two", "word": "^"},
+    {"carries": [], "file": "s.defs", "id": 302, "line": 7, "routine": "two", "text": "procedure", "word": "OldForm"},
     {"carries": [{"argument": "gate", "type": "gate_t"}, {"argument": "other", "type": "other_t"}],
-     "id": 303, "line": 8, "routine": "three", "word": "MACH_MSG_TYPE_PORT_SEND"},
+     "file": "s.defs", "id": 303, "line": 9, "routine": "three", "text": "other_t", "word": "UnknownType"},
 ]
-FILES = [{"before": [], "file": "s.defs", "left_out": LEFT_OUT, "read": 1}]
+TYPES = [{"file": "s.defs", "line": 4, "name": "other_t", "text": "of", "word": "Unexpected"}]
+FILES = [{"file": "s.defs", "left_out": LEFT_OUT, "read": 1, "types": TYPES}]
 TOLD = """\
-s.defs:6: routine two (id 302) left out: ^
-s.defs:8: routine three (id 303) left out: MACH_MSG_TYPE_PORT_SEND, carries gate (gate_t), other (other_t)
+s.defs:4: type other_t not read: Unexpected of
+s.defs:7: routine two (id 302) left out: OldForm procedure
+s.defs:9: routine three (id 303) left out: UnknownType other_t, carries gate (gate_t), other (other_t)
 s.defs: 1 of 3 routines read, 1 of those left out carries rights
 """
-MADE = """\
-# 1
-subsystem s 300;
-# 2
-type mach_port_t = MACH_MSG_TYPE_COPY_SEND;
-# 1
-type int = MACH_MSG_TYPE_INTEGER_32;
-# 4
-routine one(
-    requestport server : mach_port_t;
-    in number : int);
-skip;
-skip;
-skip;
-rcsid "left out: three carries gate (gate_t), other (other_t)";
-"""
-written("a cut file", "mig --out out s.defs", {"s.defs": LEFT, "out/x": ""}, 0, answer="cut", command="mig", files=FILES,
-        err=TOLD, made={"out/s.defs": MADE})
-written("a file that is not cut", "mig --strict --out out s.defs", {"s.defs": LEFT, "out/x": ""}, 2, answer="not cut",
-        command="mig", files=FILES, err=TOLD)
+written("a file of which a part is read", "mig --out out s.defs", {"s.defs": LEFT, "out/x": ""}, 0, answer="cut",
+        command="mig", files=FILES, err=TOLD, made={"out/s.defs": EDITION + LEFT}, schema=2)
+written("a file that is not written", "mig --strict --out out s.defs", {"s.defs": LEFT, "out/x": ""}, 2, answer="not cut",
+        command="mig", files=FILES, err=TOLD, schema=2)
 CUT = f'subsystem t 5;\n{STD}routine r(p : mach_port_t);\nrcsid "left out: u carries gate (gate_t)";\n'
-AGAIN = "t.defs: 1 routine that carries rights is not in the model: u\nt.defs: 1 of 1 routines read\n"
-written("a file that was cut before", "mig --out out t.defs s.defs", {"t.defs": CUT, "s.defs": LEFT, "out/x": ""}, 0,
-        answer="cut", command="mig", files=[{"before": ["u"], "file": "t.defs", "left_out": [], "read": 1}, *FILES],
-        err=AGAIN + TOLD, made={"out/t.defs": CUT, "out/s.defs": MADE})
+ONE = {"file": "t.defs", "left_out": [], "read": 1, "types": []}
+written("a file that an older mig cut", "mig --out out t.defs s.defs", {"t.defs": CUT, "s.defs": LEFT, "out/x": ""}, 0,
+        answer="cut", command="mig", files=[ONE, *FILES], err="t.defs: 1 of 1 routines read\n" + TOLD, schema=2,
+        made={"out/t.defs": EDITION + CUT, "out/s.defs": EDITION + LEFT})
+# In a text a backslash stands before one of a file's name, and names are shown without control characters on standard error.
+MARKED = 'subsystem t 5;\n# 7 "a\\\\\tb.defs"\ntype odd_t = int @;\n# 3 "é.defs" 1\n\nroutine (p : odd_t);\n'
+written("lines that came from other files", "mig --as-received --out out t.defs", {"t.defs": MARKED, "out/x": ""}, 2,
+        answer="not cut", command="mig", schema=2, err="""\
+a\\\\\\tb.defs:7: type odd_t not read: Unexpected @
+é.defs:4: routine ? (id 5) left out: Unexpected (, carries ? (?)
+t.defs: 0 of 1 routines read, 1 of those left out carries rights
+""", files=[{"file": "t.defs", "read": 0, "left_out": [{
+            "carries": [{"argument": "?", "type": "?"}], "file": "é.defs", "id": 5, "line": 4, "routine": "?", "text": "(",
+            "word": "Unexpected",
+        }], "types": [{"file": "a\\\tb.defs", "line": 7, "name": "odd_t", "text": "@", "word": "Unexpected"}]}])
 
 # Faults.
 
@@ -408,7 +407,7 @@ fault("a certificate that is none", CHECKED, {**ALONE, "c": b"no"}, "Magic", "c"
 fault("a fault in a certificate", CHECKED, {**ALONE, "c": CERTIFICATE[:14] + b"\4" + CERTIFICATE[15:]}, "BadFact 14", "c",
       None, ["no fact begins at this byte: its kind, task, class or right is out of range"])
 fault("two files of one name", "mig --out out s.defs a/s.defs", {"s.defs": LEFT, "a/s.defs": LEFT}, "SameName",
-      "a/s.defs", None, ["an earlier file has this name: cut them into two folders"])
+      "a/s.defs", None, ["an earlier file has this name: write them into two folders"])
 fault("a folder that is not there", "mig --out absent t.defs", {
     "t.defs": f"subsystem t 5;\n{STD}routine r(p : mach_port_t);\n",
 }, "WriteFailed 0", "absent/t.defs", None, [UNWRITTEN],

@@ -23,7 +23,7 @@ OPTIONS = {command: options.split(" ") for command, options in {
     "promises": "wiring format verbose",
     "replay": "wiring script format verbose",
     "live": "wiring policy cert script format verbose",
-    "mig": "out strict strict-rights format verbose",
+    "mig": "out strict strict-rights as-received format verbose",
 }.items()}
 HELP = "\n\nFor more information, try '--help'.\n"
 
