@@ -126,7 +126,7 @@ _machcheck() {
         esac
         ;;
     mig)
-        options='--out --strict --strict-rights --format --verbose -I -D -U --help'
+        options='--out --strict --strict-rights --as-received --format --verbose -I -D -U --help'
         case $before in
         --out) kind=folder ;;
         --format) kind=words options='text json' ;;

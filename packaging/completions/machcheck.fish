@@ -115,11 +115,12 @@ complete -c machcheck -n '__fish_seen_subcommand_from live' -l format -x -a 'tex
 complete -c machcheck -n '__fish_seen_subcommand_from live' -l verbose -d 'Shows where a fault is, and what may help to mend it'
 complete -c machcheck -n '__fish_seen_subcommand_from live' -s h -l help -d 'Print help'
 complete -c machcheck -n '__fish_seen_subcommand_from live' -k -a '(__fish_complete_suffix .defs)'
-complete -c machcheck -n __fish_use_subcommand -a mig -d 'Cuts MIG files of a system to files that can be read'
+complete -c machcheck -n __fish_use_subcommand -a mig -d 'Writes MIG files of a system as files that can be read'
 complete -c machcheck -n '__fish_seen_subcommand_from help' -a mig
 complete -c machcheck -n '__fish_seen_subcommand_from mig' -l out -x -a '(__fish_complete_directories)' -d 'The folder of the files that are written'
 complete -c machcheck -n '__fish_seen_subcommand_from mig' -l strict -d 'Writes nothing where a routine is left out'
 complete -c machcheck -n '__fish_seen_subcommand_from mig' -l strict-rights -d 'The same as --strict=rights: writes nothing if one that carries rights is left out'
+complete -c machcheck -n '__fish_seen_subcommand_from mig' -l as-received -d 'Takes each right that gives what is received'
 complete -c machcheck -n '__fish_seen_subcommand_from mig' -l format -x -a 'text json' -d 'How the answer is printed: text, or json for one JSON object'
 complete -c machcheck -n '__fish_seen_subcommand_from mig' -l verbose -d 'Shows where a fault is, and what may help to mend it'
 complete -c machcheck -n '__fish_seen_subcommand_from mig' -s I -x -a '(__fish_complete_directories)' -d 'A folder in which files that are included are sought'

@@ -17,7 +17,7 @@ _machcheck() {
         'promises:Prints what has to be found in the code of trusted tasks'
         'replay:Runs a script of calls, and prints the reply to each'
         'live:Checks, and runs a script of calls by tasks as threads'
-        'mig:Cuts MIG files of a system to files that can be read'
+        'mig:Writes MIG files of a system as files that can be read'
         'help:Print help of a command'
     )
     _arguments -C '(- *)'{-h,--help}'[Print help]' '(- *)'{-V,--version}'[Print version]' \
@@ -156,6 +156,7 @@ _machcheck() {
                 '--out=[The folder of the files that are written]:FOLDER:_files -/' \
                 '--strict[Writes nothing where a routine is left out]' \
                 '--strict-rights[The same as --strict=rights\: writes nothing if one that carries rights is left out]' \
+                '--as-received[Takes each right that gives what is received]' \
                 '--format=[How the answer is printed\: text, or json for one JSON object]:FORMAT:(text json)' \
                 '--verbose[Shows where a fault is, and what may help to mend it]' \
                 '-I+[A folder in which files that are included are sought]:FOLDER:_files -/' \
