@@ -928,6 +928,7 @@ machcheck: d: TwiceNamed 54
 d:4:6
   type t = int;
        ^
+  declared above, on line 3
 """)
 defs("edition 2: a parenthesis that is not closed", f"{SECOND}\nroutine r(p : q;\n", """\
 machcheck: d: Unexpected 51
@@ -952,6 +953,7 @@ machcheck: d: LeftOut 35 Preprocessor
 d:3:1
   #if 1
   ^^^^^
+  run machcheck mig first: it works out macros, conditions and includes
 """)
 defs("edition 2: no number of a skip", f"{SECOND}\nskip x;", """\
 machcheck: d: Unexpected 40
