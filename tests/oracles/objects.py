@@ -52,7 +52,7 @@ def read(line):
     return value
 
 
-# The schema, version 1. A form is a type, the forms of the members of an object, the form of each item of a list, or a
+# The schema, version 1, and 2 of the answers of `mig`. A form is a type, the forms of the members of an object, the form of each item of a list, or a
 # value by itself; a tuple has the forms of which one has to be.
 
 NAME = re.compile(r"[A-Za-z_][A-Za-z0-9_]{0,63}")
@@ -99,6 +99,8 @@ MENDS = {
 }
 ATTACK = {"calls": [str], "cut": bool, "fact": FACT, "line": int, "real": bool, "text": str, "trusted": bool}
 DISPOSITION = ("MOVE_RECEIVE", "MOVE_SEND", "MOVE_SEND_ONCE", "COPY_SEND", "MAKE_SEND", "MAKE_SEND_ONCE")
+# Where the sender picks one.
+DISPOSITION += ("PORT_SEND", "PORT_SEND_ONCE", "POLYMORPHIC")
 SLOT = {
     "admits": (None, [CLASS]),
     "argument": NAME,
@@ -119,7 +121,12 @@ PROMISE = {
 }
 DRAWN = {"fact": FACT, "first": bool, "forbidden": (None, int)}
 EVENT = {"call": str, "number": int, "reply": str, "task": re.compile(rf"{NAME.pattern}|@\d+")}
-LEFT = {"carries": [{"argument": str, "type": str}], "id": int, "line": int, "routine": str, "word": str}
+# Why a routine is left out, and why a type is not read.
+WORDS = ("TooMany", "IdRange", "OldForm", "Unexpected", "UnknownType", "NoRequestPort", "ReplyPort", "TwiceNamed")
+LEFT = {
+    "carries": [{"argument": str, "type": str}], "file": str, "id": int, "line": int, "routine": str, "text": str, "word": WORDS,
+}
+TYPE = {"file": str, "line": int, "name": str, "text": str, "word": WORDS}
 ANSWER = (
     {"answer": "YES", "command": ("verify", "attack", "check"), "notices": [str], "schema": 1},
     {
@@ -147,8 +154,8 @@ ANSWER = (
     {
         "answer": ("cut", "not cut"),
         "command": "mig",
-        "files": [{"before": [str], "file": str, "left_out": [LEFT], "read": int}],
-        "schema": 1,
+        "files": [{"file": str, "left_out": [LEFT], "read": int, "types": [TYPE]}],
+        "schema": 2,
     },
     {
         "answer": "fault",
@@ -647,40 +654,49 @@ def mend_object(folder, asked, texts):
     return {"answer": "changes" if mends else "none", "cause": cause, "complete": complete, "mends": mends, **told}
 
 
-def left_object(line):
+PLACE = r"(?P<file>.*):(?P<line>\d+): "
+WHY = r"(?P<word>[A-Z]\w+) (?P<text>.*?)"
+CARRIES = r"(?:, carries (?P<carried>[\w?]+ \([\w?]+\)(?:, [\w?]+ \([\w?]+\))*))?"
+NOT_READ = re.compile(rf"{PLACE}type (?P<name>\w+|\?) not read: {WHY}")
+LEFT_OUT = re.compile(rf"{PLACE}routine (?P<name>\w+|\?) \(id (?P<id>\d+)\) left out: {WHY}{CARRIES}")
+
+
+def told_object(told):
+    """Where a type or a routine is, why it is not read, and the token at which that is told."""
+    return {"file": unshown(told["file"]), "line": int(told["line"]), "text": unshown(told["text"]), "word": told["word"]}
+
+
+def left_object(told):
     """A routine that is left out, by its line."""
-    place, name, number, word, carried = re.fullmatch(
-        r"(\d+): routine (\w+|\?) \(id (\d+)\) left out: (.*?)(?:, carries ([\w?]+ \([\w?]+\)(?:, [\w?]+ \([\w?]+\))*))?",
-        line).groups()
-    carries = re.findall(r"([\w?]+) \(([\w?]+)\)", carried or "")
-    return {
-        "carries": [{"argument": argument, "type": of} for argument, of in carries],
-        "id": int(number),
-        "line": int(place),
-        "routine": name,
-        "word": unshown(word),
-    }
+    carries = re.findall(r"([\w?]+) \(([\w?]+)\)", told["carried"] or "")
+    carries = [{"argument": argument, "type": of} for argument, of in carries]
+    return dict(sorted({"carries": carries, "id": int(told["id"]), "routine": told["name"], **told_object(told)}.items()))
+
+
+def type_object(told):
+    """A type that is not read, by its line."""
+    return dict(sorted({"name": told["name"], **told_object(told)}.items()))
+
+
+def taken(lines, form):
+    """The first lines that are of a form: they are taken away."""
+    found = []
+    while lines and (told := form.fullmatch(lines[0])):
+        found.append(told)
+        lines.pop(0)
+    return found
 
 
 def file_object(name, lines):
-    """What a file is cut to, by its lines, which are taken away."""
-    start = f"{shown(name)}:"
-    left, before = [], []
-    while routine := re.match(r"\d+: routine ", lines[0].removeprefix(start)):
-        left.append(left_object(lines.pop(0).removeprefix(start)))
-    told = re.fullmatch(r" (\d+) routines? that carr\w+ rights (?:are|is) not in the model: (.*)",
-                        lines[0].removeprefix(start))
-    if told:
-        before = told[2].split(", ")
-        if len(before) != int(told[1]):
-            raise Wrong(f"another number of routines: {lines[0]}")
-        lines.pop(0)
+    """What is read of a file, by its lines, which are taken away."""
+    types = [type_object(told) for told in taken(lines, NOT_READ)]
+    left = [left_object(told) for told in taken(lines, LEFT_OUT)]
     carrying = sum(bool(routine["carries"]) for routine in left)
-    count, of, rights = re.fullmatch(r" (\d+) of (\d+) routines read(?:, (\d+) of those left out carr\w+ rights)?",
-                                     lines.pop(0).removeprefix(start)).groups()
+    count, of, rights = re.fullmatch(r"(\d+) of (\d+) routines read(?:, (\d+) of those left out carr\w+ rights)?",
+                                     lines.pop(0).removeprefix(f"{shown(name)}: ")).groups()
     if int(of) != int(count) + len(left) or int(rights or 0) != carrying:
         raise Wrong(f"another number of routines of {name}")
-    return {"before": before, "file": name, "left_out": left, "read": int(count)}
+    return {"file": name, "left_out": left, "read": int(count), "types": types}
 
 
 def mig_object(folder, asked, texts):
@@ -688,7 +704,7 @@ def mig_object(folder, asked, texts):
     files = [file_object(name, lines) for name in asked.files]
     if lines:
         raise Wrong(f"other lines: {lines}")
-    return {"answer": "not cut" if texts.plain.status else "cut", "command": "mig", "files": files, "schema": 1}
+    return {"answer": "not cut" if texts.plain.status else "cut", "command": "mig", "files": files, "schema": 2}
 
 
 def place_of(folder, asked, file, lines):
