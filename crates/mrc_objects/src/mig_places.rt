@@ -1,5 +1,6 @@
 //! Where in the sources the statements of a MIG file of edition 2 are, and their tokens.
 
+use mrc_base::OrMemory;
 use mrc_mig_forms::{Source, source_of};
 use mrc_mig_tokens::{Tokens, lex};
 use std::alloc::{AllocError, Global};
@@ -53,17 +54,31 @@ pub fn source_name(alloc: Global, source: Source<'_>, name: &str) -> Result<Stri
     }
 }
 
+/// The tokens of a text, if it is made of tokens.
+fn tokens_in(alloc: Global, text: &str) -> Result<Option<Tokens<'_>>, AllocError> {
+    match lex(alloc, text) {
+        Ok(tokens) => Ok(Some(tokens)),
+        Err(OrMemory::Fault(_)) => Ok(None),
+        Err(OrMemory::Memory) => Err(AllocError),
+    }
+}
+
 impl<'a> MigSource<'a> {
     /// The file of this name with these bytes, so many of which stand in front of its own.
-    pub fn new(alloc: Global, name: &'a str, bytes: &'a [u8], front: usize) -> MigSource<'a> {
+    pub fn new(
+        alloc: Global,
+        name: &'a str,
+        bytes: &'a [u8],
+        front: usize,
+    ) -> Result<MigSource<'a>, AllocError> {
         let text = str::from_utf8(bytes).unwrap_or("");
         let added = bytes.get(..front).unwrap_or(&[]);
-        MigSource {
+        Ok(MigSource {
             name,
             text,
             front: added.iter().filter(|byte| **byte == b'\n').count() as u64,
-            tokens: lex(alloc, text).ok(),
-        }
+            tokens: tokens_in(alloc, text)?,
+        })
     }
 
     /// The line of a place in the file from which it came. Before the first mark of lines that is

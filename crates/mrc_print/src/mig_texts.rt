@@ -87,21 +87,21 @@ fn count_line(alloc: Global, file: &str, forms: &Forms) -> Result<String, AllocE
 }
 
 /// The text of a file, with its places.
-fn source_of<'a>(alloc: Global, mig_text: &'a MigText<'_>) -> MigSource<'a> {
+fn source_of<'a>(alloc: Global, mig_text: &'a MigText<'_>) -> Result<MigSource<'a>, AllocError> {
     let bytes = mig_text.bytes.as_slice();
     MigSource::new(alloc, mig_text.file, bytes, mig_text.front)
 }
 
 /// The object of a file.
 fn object_of<'a>(alloc: Global, mig_text: &'a MigText<'_>) -> Result<MigObject<'a>, AllocError> {
-    let source = source_of(alloc, mig_text);
+    let source = source_of(alloc, mig_text)?;
     mig_object(alloc, mig_text.file, &source, &mig_text.forms)
 }
 
 /// What is printed of a file: the types that are not read, the routines that are left out, and how
 /// many are read.
 fn mig_text_text(alloc: Global, mig_text: &MigText<'_>) -> Result<String, AllocError> {
-    let source = source_of(alloc, mig_text);
+    let source = source_of(alloc, mig_text)?;
     let forms = &mig_text.forms;
     let types: String = forms
         .unread

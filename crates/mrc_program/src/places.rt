@@ -2,6 +2,7 @@
 
 use crate::notes::{draft_note, one_note};
 use mrc_answer::{Files, Texts};
+use mrc_base::OrMemory;
 use mrc_certificate::DraftFault;
 use mrc_check::{CaseFault, PolicyFault, WiringFault};
 use mrc_interface::{DefsFault, FileFault, LexFault, ParseFault, read_interfaces};
@@ -121,9 +122,18 @@ fn second_notes(
     }
 }
 
+/// The tokens of a text of edition 2, if it is made of tokens.
+fn tokens_in(alloc: Global, text: &str) -> Result<Option<Tokens<'_>>, AllocError> {
+    match lex(alloc, text) {
+        Ok(tokens) => Ok(Some(tokens)),
+        Err(OrMemory::Fault(_)) => Ok(None),
+        Err(OrMemory::Memory) => Err(AllocError),
+    }
+}
+
 /// What helps with a fault of a text of edition 2.
 fn second_hint(alloc: Global, text: &str, fault: &DefsFault) -> Result<Hint, AllocError> {
-    let tokens = lex(alloc, text).ok();
+    let tokens = tokens_in(alloc, text)?;
     let notes = second_notes(alloc, text, &tokens, fault)?;
     let Some(at) = second_place(fault) else {
         return Ok(Hint { spot: None, notes });
