@@ -52,8 +52,8 @@ def read(line):
     return value
 
 
-# The schema, version 1, and 2 of the answers of `mig`. A form is a type, the forms of the members of an object, the form of each item of a list, or a
-# value by itself; a tuple has the forms of which one has to be.
+# The schema, version 1, and 2 of the answers of `mig`. A form is a type, the forms of the members of an object, the form of
+# each item of a list, or a value by itself; a tuple has the forms of which one has to be.
 
 NAME = re.compile(r"[A-Za-z_][A-Za-z0-9_]{0,63}")
 CLASS = re.compile(r"(port|task|births):[A-Za-z_][A-Za-z0-9_]*(:([1-9]|1[0-5]))?")
@@ -124,7 +124,13 @@ EVENT = {"call": str, "number": int, "reply": str, "task": re.compile(rf"{NAME.p
 # Why a routine is left out, and why a type is not read.
 WORDS = ("TooMany", "IdRange", "OldForm", "Unexpected", "UnknownType", "NoRequestPort", "ReplyPort", "TwiceNamed")
 LEFT = {
-    "carries": [{"argument": str, "type": str}], "file": str, "id": int, "line": int, "routine": str, "text": str, "word": WORDS,
+    "carries": [{"argument": str, "type": str}],
+    "file": str,
+    "id": int,
+    "line": int,
+    "routine": str,
+    "text": str,
+    "word": WORDS,
 }
 TYPE = {"file": str, "line": int, "name": str, "text": str, "word": WORDS}
 ANSWER = (

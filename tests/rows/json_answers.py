@@ -340,8 +340,8 @@ ANEW = "t.defs: cut by an older mig: make it anew\nt.defs: 1 of 1 routines read\
 written("a file that an older mig cut", "mig --out out t.defs s.defs", {"t.defs": CUT, "s.defs": LEFT, "out/x": ""}, 0,
         answer="cut", command="mig", files=[ONE, *FILES], err=ANEW + TOLD, schema=2,
         made={"out/t.defs": EDITION + CUT, "out/s.defs": EDITION + LEFT})
-written("a file that an older mig cut, with --strict=rights", "mig --strict=rights --out out t.defs", {"t.defs": CUT, "out/x": ""},
-        2, answer="not cut", command="mig", files=[ONE], err=ANEW, schema=2)
+written("an older mig's file, with --strict=rights", "mig --strict=rights --out out t.defs", {"t.defs": CUT, "out/x": ""}, 2,
+        answer="not cut", command="mig", files=[ONE], err=ANEW, schema=2)
 # In a text a backslash stands before one of a file's name, and names are shown without control characters on standard error.
 MARKED = 'subsystem t 5;\n# 7 "a\\\\\tb.defs"\ntype odd_t = int @;\n# 3 "é.defs" 1\n\nroutine (p : odd_t);\n'
 written("lines that came from other files", "mig --as-received --out out t.defs", {"t.defs": MARKED, "out/x": ""}, 2,
