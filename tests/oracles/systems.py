@@ -10,7 +10,7 @@ import heapq
 import itertools
 import re
 import struct
-from dataclasses import dataclass, field
+from dataclasses import dataclass, field, replace
 
 SEND, RECEIVE, ONCE = 0, 1, 2
 RIGHTS = ["send", "receive", "once"]
@@ -42,6 +42,20 @@ STANDARD = {
     "mach_port_move_receive_t": 16, "mach_port_move_send_t": 17, "mach_port_move_send_once_t": 18,
     "mach_port_make_send_t": 20, "mach_port_make_send_once_t": 21,
 }
+# What edition 2 knows besides, as far as the examples have it. Where the sender picks a disposition, the facts are those of
+# one: whoever holds a receive right may hold the others too. `polymorphic` is read of arguments that are in no body.
+PICKED = {"PORT_RECEIVE": 16, "PORT_SEND": 19, "PORT_SEND_ONCE": 18}
+POLYMORPHIC = -1
+SECOND_BASICS = {**BASICS, **PICKED, "UNSTRUCTURED": 0, "BIT": 0, "REAL": 10, "INTEGER_64": 11, "POLYMORPHIC": POLYMORPHIC}
+SECOND = {
+    **STANDARD,
+    **dict.fromkeys(["int32_t", "uint32_t", "rpc_long_natural_t", "rpc_long_integer_t", "mach_msg_type_number_t"], 2),
+    **dict.fromkeys(["int64_t", "uint64_t"], 11),
+    "mach_port_receive_t": 16, "mach_port_send_t": 19, "mach_port_send_once_t": 18, "mach_port_poly_t": POLYMORPHIC,
+    "pointer_t": 9, "mach_port_array_t": 19,
+}
+# The disposition with which the stubs of a kernel's server send a reply: that which is received.
+RECEIVED = {16: 16, 17: 17, 18: 18, 19: 17, 20: 17, 21: 18}
 
 
 # MIG files
@@ -58,7 +72,7 @@ class Slot:
 
 @dataclass(frozen=True)
 class Form:
-    """The message of a routine: `kind` is routine or simple for a request, else reply."""
+    """The message of a routine: `kind` is routine, simple or replied for a request, else reply."""
 
     routine: str
     id: int
@@ -74,21 +88,29 @@ class Interface:
     requests: list = field(default_factory=list)
     replies: list = field(default_factory=list)
 
-    def has_routine(self):
-        return any(form.kind == "routine" for form in self.requests)
+    def brings_reply(self):
+        """Whether a request may bring a reply right: that of a routine, or of a simpleroutine with a reply port."""
+        return any(form.kind in ("routine", "replied") for form in self.requests)
 
     def types(self):
         """The names of the types of its slots."""
         return sorted({slot.type for form in self.requests + self.replies for slot in form.slots})
 
 
+# Arguments that are in no body, the first three of them ports for replies.
+NO_BODY = ["replyport", "ureplyport", "sreplyport", "waittime", "msgoption", "msgseqno"]
+
+
 class Mig:
-    """Reads a MIG file token by token. Of a type only the number is kept."""
+    """Reads a MIG file token by token, of edition 2 if its first line says so. Of a type only the number is kept."""
 
     def __init__(self, text):
+        self.is_second = text.startswith("#pragma machcheck 2\n")
+        self.is_kernels = False
+        self.basics = SECOND_BASICS if self.is_second else BASICS
         text = re.sub(r"/\*.*?\*/", " ", text, flags=re.S)
         if re.search(r"(?m)^\s*#include\s*<mach/std_types\.defs>", text):
-            self.types = dict(STANDARD)
+            self.types = dict(SECOND if self.is_second else STANDARD)
         else:
             self.types = {}
         text = re.sub(r"(?m)^\s*#.*$", "", text)
@@ -104,15 +126,21 @@ class Mig:
         return self.at < len(self.tokens) and self.tokens[self.at].lower() in words
 
     def skip_to(self, *signs):
-        """Skips what stands before one of these signs, outside parentheses."""
+        """Skips what stands before one of these signs, outside parentheses and braces."""
         depth = 0
         while depth or not self.has(*signs):
-            depth += {"(": 1, ")": -1}.get(self.next(), 0)
+            depth += {"(": 1, "{": 1, ")": -1, "}": -1}.get(self.next(), 0)
 
     def spec(self):
-        """The number of a type."""
+        """The number of a type: a struct with fields is sent as numbers."""
+        if self.has("^"):
+            self.next()
+            return self.spec()
         if self.has("array", "struct"):
             self.next()
+            if self.has("{"):
+                self.skip_to(";", ")")
+                return 2
             self.next("[")
             self.skip_to("]")
             self.next()
@@ -125,16 +153,25 @@ class Mig:
             return 12
         if self.has("("):
             self.next()
-            number = BASICS[self.next()[len("MACH_MSG_TYPE_") :]]
+            number = self.basic(self.next())
             self.skip_to(")")
             self.next()
             return number
-        name = self.next()
-        return BASICS[name[len("MACH_MSG_TYPE_") :]] if name.startswith("MACH_MSG_TYPE_") else self.types[name]
+        number = self.basic(self.next())
+        if self.has("|"):
+            self.next()
+            self.basic(self.next())
+        return number
+
+    def basic(self, name):
+        """The number of a type by its name."""
+        if name == "polymorphic":
+            return POLYMORPHIC
+        return self.basics[name[len("MACH_MSG_TYPE_") :]] if name.startswith("MACH_MSG_TYPE_") else self.types[name]
 
     def argument(self):
         """Where an argument goes, or None where no word says it, its name, its type and that one's number."""
-        goes = self.next().lower() if self.has("in", "out", "inout", "requestport", "replyport") else None
+        goes = self.next().lower() if self.has("in", "out", "inout", "requestport", *NO_BODY) else None
         name = self.next()
         self.next(":")
         of = self.next()
@@ -155,22 +192,27 @@ class Mig:
             if self.has(";"):
                 self.next()
         self.next(")")
+        self.has_reply_port = any(goes in NO_BODY[:3] for goes, *_ in found)
         if not any(goes == "requestport" for goes, *_ in found):
             found = found[1:]
-        return [(goes or "in", *rest) for goes, *rest in found if goes not in ("requestport", "replyport")]
+        return [(goes or "in", *rest) for goes, *rest in found if goes not in ("requestport", *NO_BODY)]
 
     def forms(self, kind, id):
         """The forms of a routine: its request, and its reply where it has one."""
         name, arguments = self.next(), self.arguments()
+        assert all(number != POLYMORPHIC for *_, number in arguments), "polymorphic in a body is not read"
         slots = [(goes, Slot(name, number, of)) for goes, name, of, number in arguments if number in NEEDS]
         going = {way: tuple(slot for goes, slot in slots if goes in (way, "inout")) for way in ("in", "out")}
+        if self.is_second and self.is_kernels:
+            going["out"] = tuple(replace(slot, disposition=RECEIVED[slot.disposition]) for slot in going["out"])
         replies = [Form(name, id + 100, "reply", going["out"])] if kind == "routine" else []
-        return [Form(name, id, "routine" if replies else "simple", going["in"])], replies
+        simple = "replied" if self.is_second and self.has_reply_port else "simple"
+        return [Form(name, id, "routine" if replies else simple, going["in"])], replies
 
     def interface(self):
         self.next("subsystem")
         while self.has("kernelserver", "kerneluser"):
-            self.next()
+            self.is_kernels |= self.next().lower() == "kernelserver"
         made, id = Interface(self.next()), int(self.next())
         self.next(";")
         while self.at < len(self.tokens):
@@ -183,7 +225,7 @@ class Mig:
                 requests, replies = self.forms(word, id)
                 made.requests += requests
                 made.replies += replies
-            id += word in ("routine", "simpleroutine", "skip")
+            id += int(self.next()) if word == "skip" and not self.has(";") else word in ("routine", "simpleroutine", "skip")
             self.skip_to(";")
             self.next()
         return made
@@ -318,10 +360,10 @@ class System:
         return task not in self.limits[verb] or (c, right) in self.limits[verb][task]
 
     def answered(self, d, c):
-        """The interfaces whose requests to class d carry a right to reply at a port of class c: they have a routine
+        """The interfaces whose requests to class d carry a right to reply at a port of class c: one of them may
         and, if replies have to fit, c accepts their replies."""
         for word, name in self.labels[d]:
-            if word == "request" and self.interfaces[name].has_routine():
+            if word == "request" and self.interfaces[name].brings_reply():
                 if not self.replies_fit or ("reply", name) in self.labels[c]:
                     yield name
 
