@@ -21,7 +21,9 @@ MASKS = {"send": 0x10000, "receive": 0x20000, "once": 0x40000, "set": 0x80000, "
 
 # The forms of the interfaces in tests/oracles/replays: for each id its kind and its arguments. An argument of ports is a
 # disposition, a type and a count, which is 1 if it is not there; one of data is a type's number, its size and a count.
-# A count that is a pair means at most so many.
+# A count that is a pair means at most so many. A number may have several `numbers`: the dispositions among which the sender
+# chooses. Data of any kind have none. The kind of a simpleroutine with a reply port is `replied`.
+ANY_DATA = -2
 INTERFACES = {
     "ping": {500: ("simple", [])},
     "xfer": {2000: ("simple", [(16, "xfer.box_t")])},
@@ -609,9 +611,10 @@ class Machine:
         for place in range(max(len(args), len(given))):
             if place >= min(len(args), len(given)) or not fits(args[place], given[place]):
                 deny(f"WrongShape {place}")
-            if given[place].is_port and args[place][0] != given[place].name:
+            wanted = args[place][0]
+            if given[place].is_port and given[place].name not in getattr(wanted, "numbers", (wanted,)):
                 deny(f"WrongDisposition {place}")
-        if local != 0 and not (kind == "request" and local in (18, 21)):
+        if local != 0 and not (kind in ("request", "replied") and local in (18, 21)):
             deny("ReplySlot")
         return subsystem, args
 
@@ -734,6 +737,8 @@ def turn_port(port, dying):
 def fits(form, arg):
     """Whether an argument has the form's type and count; of ports, whatever their disposition."""
     name, size, count = form if len(form) == 3 else (*form, 1)
+    if name == ANY_DATA:
+        return not arg.is_port
     if name in NEEDS or arg.is_port:
         is_alike = name in NEEDS and arg.is_port
     else:
