@@ -3,7 +3,7 @@
 
 use crate::parts::{Keyword, Part};
 use crate::ways::{Place, may_end, ways};
-use mrc_place::{alternatives, nearest};
+use mrc_place::{did_you_mean, nearest};
 use mrc_wiring_text::Edition;
 use std::alloc::{AllocError, Global};
 
@@ -76,9 +76,7 @@ pub(crate) fn expected(
     edition: Edition,
     place: Place,
 ) -> Result<String, AllocError> {
-    let phrases = phrases(alloc, edition, place)?;
-    let choice = alternatives(alloc, &phrases)?;
-    format!(in alloc; "expected: {choice}")
+    mrc_place::expected(alloc, &phrases(alloc, edition, place)?)
 }
 
 /// The words that may be meant at a place.
@@ -108,27 +106,7 @@ fn meant(
         return Ok(None);
     }
     let known = proposals(alloc, edition, place)?;
-    Ok(nearest(word, &known))
-}
-
-/// The note that says which word may be meant.
-fn did_you_mean(alloc: Global, word: &str) -> Result<String, AllocError> {
-    format!(in alloc; "did you mean: {word}")
-}
-
-/// One note.
-pub(crate) fn one(alloc: Global, note: String) -> Result<Vec<String>, AllocError> {
-    let mut notes = Vec::new(alloc);
-    notes.push(note)?;
-    Ok(notes)
-}
-
-/// Two notes.
-fn two(alloc: Global, first: String, second: String) -> Result<Vec<String>, AllocError> {
-    let mut notes = Vec::new(alloc);
-    notes.push(first)?;
-    notes.push(second)?;
-    Ok(notes)
+    nearest(alloc, word, &known)
 }
 
 /// What may be at the place of a word, and which word may be meant.
@@ -140,10 +118,7 @@ pub(crate) fn first_notes(
 ) -> Result<Vec<String>, AllocError> {
     let first = expected(alloc, edition, place)?;
     match meant(alloc, edition, place, word)? {
-        Some(found) => {
-            let second = did_you_mean(alloc, found)?;
-            two(alloc, first, second)
-        }
-        None => one(alloc, first),
+        Some(found) => Ok(vec![in alloc; first, did_you_mean(alloc, found)?]?),
+        None => Ok(vec![in alloc; first]?),
     }
 }

@@ -1,9 +1,11 @@
 //! Lines of a text, what its first line with words says, and how far a line is one of the grammar.
 
-use crate::parts::capped;
+ghost use Rattle.std.specs.Prelude.{◌≤◌};
+
 use crate::walks::{Walked, walk};
 use crate::ways::Place;
-use mrc_wiring_text::{Edition, between_blanks, first_line, nth_line, spaced};
+use mrc_place::{has_words, words_of};
+use mrc_wiring_text::{Edition, first_line, nth_line};
 use std::alloc::{AllocError, Global};
 
 /// What a text is: a wiring or a policy.
@@ -62,33 +64,27 @@ pub(crate) struct Seen {
     pub walked: Walked,
 }
 
-/// Whether a line has words.
-fn has_words(alloc: Global, line: &[u8]) -> Result<bool, AllocError> {
-    let text = spaced(alloc, line)?;
-    let words = between_blanks(alloc, &text)?;
-    Ok(!words.is_empty())
-}
-
-/// How many lines are before the first line with words.
-pub(crate) fn lines_before(alloc: Global, text: &[u8]) -> Result<usize, AllocError> {
+/// How many lines are before the first line with words, of so many lines.
+pub(crate) fn lines_before(text: &[u8], most: usize) -> usize
+    ensures { result ≤ most }
+{
     let mut rest = text;
-    let mut count = 0usize;
-    while !rest.is_empty() {
-        let (line, after) = first_line(rest);
-        if has_words(alloc, line)? {
-            return Ok(count);
+    for count in 0..most {
+        if rest.is_empty() || has_words(rest) {
+            return count;
         }
-        count += 1;
+        let (_, after) = first_line(rest);
         rest = after;
     }
-    Ok(count)
+    most
 }
 
 /// The edition of the version that decimal digits encode: the first, if there is none.
 fn edition_numbered(digits: &[u8]) -> Edition {
-    match capped(digits) {
-        2 => Edition::Second,
-        3 => Edition::Third,
+    let zeros = digits.iter().take_while(|digit| **digit == b'0').count();
+    match &digits[zeros.min(digits.len())..] {
+        [b'2'] => Edition::Second,
+        [b'3'] => Edition::Third,
         _ => Edition::First,
     }
 }
@@ -101,36 +97,22 @@ fn edition_in(words: &[&[u8]]) -> Edition {
     }
 }
 
-/// The edition that a first line names.
-fn edition_of_line(alloc: Global, line: &[u8]) -> Result<Edition, AllocError> {
-    let text = spaced(alloc, line)?;
-    let words = between_blanks(alloc, &text)?;
-    Ok(edition_in(&words))
-}
-
-/// How far a line is one of the grammar.
-pub(crate) fn walk_line(
-    alloc: Global,
-    edition: Edition,
-    start: Place,
-    line: &[u8],
-) -> Result<Walked, AllocError> {
-    let text = spaced(alloc, line)?;
-    let words = between_blanks(alloc, &text)?;
-    walk(alloc, edition, start, &words)
-}
-
-/// How far the line of a text behind so many others is one of the grammar.
+/// How far the words of a line of a text behind so many others are words of the grammar.
 pub(crate) fn see_line(
     alloc: Global,
     role: Role,
     text: &[u8],
     above: usize,
+    words: &[&[u8]],
 ) -> Result<Seen, AllocError> {
-    let before = lines_before(alloc, text)?;
-    let edition = edition_of_line(alloc, nth_line(text, before))?;
+    let before = lines_before(text, above);
+    let edition = if before < above {
+        edition_in(&words_of(alloc, nth_line(text, before))?)
+    } else {
+        edition_in(words)
+    };
     let start = role.start(before, above);
-    let walked = walk_line(alloc, edition, start, nth_line(text, above))?;
+    let walked = walk(alloc, edition, start, words)?;
     Ok(Seen {
         edition,
         start,

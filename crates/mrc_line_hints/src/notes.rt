@@ -1,8 +1,9 @@
 //! Notes on what is often behind a word that is wrong: a text of another version or of another
 //! kind, a byte-order mark, and what a name is.
 
-use crate::heads::{Role, Seen, walk_line};
+use crate::heads::{Role, Seen};
 use crate::parts::Part;
+use crate::walks::walk;
 use crate::ways::ways;
 use mrc_place::alternatives;
 use mrc_wiring_text::Edition;
@@ -46,14 +47,17 @@ impl Role {
     }
 }
 
-/// Whether a line is further one of the grammar of an edition than so many words.
+/// Whether a line with these words is further one of the grammar of an edition.
 fn goes_further(
     alloc: Global,
     edition: Edition,
     seen: Seen,
-    line: &[u8],
+    words: &[&[u8]],
 ) -> Result<bool, AllocError> {
-    let walked = walk_line(alloc, edition, seen.start, line)?;
+    if edition == seen.edition {
+        return Ok(false);
+    }
+    let walked = walk(alloc, edition, seen.start, words)?;
     Ok(walked.count > seen.walked.count)
 }
 
@@ -62,11 +66,11 @@ fn other_versions(
     alloc: Global,
     role: Role,
     seen: Seen,
-    line: &[u8],
+    words: &[&[u8]],
 ) -> Result<Vec<&'static str>, AllocError> {
     let mut versions = Vec::new(alloc);
     for edition in [Edition::First, Edition::Second, Edition::Third] {
-        if role.has(edition) && goes_further(alloc, edition, seen, line)? {
+        if role.has(edition) && goes_further(alloc, edition, seen, words)? {
             versions.push(version(edition))?;
         }
     }
@@ -78,9 +82,9 @@ fn version_note(
     alloc: Global,
     role: Role,
     seen: Seen,
-    line: &[u8],
+    words: &[&[u8]],
 ) -> Result<Option<String>, AllocError> {
-    let versions = other_versions(alloc, role, seen, line)?;
+    let versions = other_versions(alloc, role, seen, words)?;
     if versions.is_empty() {
         return Ok(None);
     }
@@ -157,12 +161,12 @@ pub(crate) fn other_notes(
     role: Role,
     seen: Seen,
     text: &[u8],
-    line: &[u8],
+    words: &[&[u8]],
     word: &str,
 ) -> Result<Vec<String>, AllocError> {
     let mut notes = Vec::new(alloc);
     if !word.is_empty() {
-        add(&mut notes, version_note(alloc, role, seen, line)?)?;
+        add(&mut notes, version_note(alloc, role, seen, words)?)?;
         add(&mut notes, name_note(alloc, seen)?)?;
     }
     add(&mut notes, role_note(alloc, role, seen, word)?)?;

@@ -2,7 +2,7 @@
 
 use crate::sarif_markers::source_line;
 use mrc_command::FileNames;
-use mrc_mig_places::{argument_line, subsystem_line};
+use mrc_hints::argument_line;
 use mrc_why::{Source, Sources};
 use std::alloc::{AllocError, Global};
 
@@ -49,11 +49,7 @@ fn mig_place<'a>(
     let Some((name, text)) = file_of(placed, subsystem) else {
         return Ok(None);
     };
-    let found = match argument {
-        Some((routine, argument)) => argument_line(alloc, text, routine, argument)?,
-        None => subsystem_line(alloc, text)?,
-    };
-    let Some(line) = found else {
+    let Some(line) = argument_line(alloc, text, argument)? else {
         return Ok(None);
     };
     let (file, line) = source_line(alloc, text, line)?.unwrap_or((name, line));

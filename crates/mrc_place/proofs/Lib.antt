@@ -1,4 +1,3 @@
 pub mod LineLemmas
-pub mod ScanLemmas
 pub mod SpotLemmas
 mod Worked

@@ -1,10 +1,10 @@
 -- Believe. Which line of a text a spot is in. This profile's own choice.
 use Rattle.std.specs.Prelude.{ℕ, ◌≡◌, ◌+◌, ◌-◌, ◌<◌, ◌≤◌, ◌==◌, Bool, List, [], ◌++◌}
-use Rattle.std.specs.Prelude.{length, min, count_by, slice_index_or, string_bytes}
-use Rattle.std.specs.Prelude.{IfSome}
+use Rattle.std.specs.Prelude.{length, min, count_by, slice_get, slice_index_or, string_bytes}
+use Rattle.std.specs.Prelude.{IfSome, Some}
 use Rattle.mrc_wiring_text.specs.Lexis.{lines}
 use Rattle.mrc_place.specs.declared.spots.Spot.{Spot}
-use Rattle.mrc_place.specs.declared.spots.Hint.{Hint}
+use Rattle.mrc_place.specs.declared.hints.Hint.{Hint}
 
 -- a line feed
 abbrev pub is_feed : ℕ → Bool
@@ -14,9 +14,9 @@ is_feed b = b == 10
 abbrev pub line_after : List ℕ → ℕ
 line_after front = min (1 + count_by is_feed front) 4294967295
 
--- the text has a line of this number, from 1
-abbrev pub HasLine : List ℕ → ℕ → Type 0
-HasLine text number = (0 < number) × (number ≤ length (lines text))
+-- the text has this line of this number, from 1
+abbrev pub HasLine : List ℕ → ℕ → List ℕ → Type 0
+HasLine text number line = (0 < number) × (slice_get (lines text) (number - 1) ≡ Some line)
 
 -- the line of this number, from 1: behind the last line there is an empty one
 abbrev pub line_numbered : List ℕ → ℕ → List ℕ

@@ -3,12 +3,15 @@
 #![tactic(auto)]
 
 mod distance;
+mod hints;
 mod lines;
 mod lists;
 mod spots;
 mod words;
 
 pub use distance::nearest;
-pub use lines::cut_line;
+pub use hints::{Hint, did_you_mean, expected, one_note};
+pub use lines::{Line, line_of};
 pub use lists::{alternatives, listed};
-pub use spots::{Hint, Spot, byte_spot, word_spot};
+pub use spots::{Spot, byte_spot, line_spot, word_spot};
+pub use words::{has_words, words_of};

@@ -1,13 +1,12 @@
 //! Lines of a text.
 
-ghost use Rattle.std.specs.Prelude.{◌≡◌, ◌<◌, ◌∷◌, length, slice_get};
-ghost use Rattle.std.specs.Option.{option_copied};
+ghost use Rattle.std.specs.Prelude.{◌≡◌, ◌<◌, ◌∷◌, length, IfSome};
 ghost use Rattle.std.specs.List.{before_first, after_last};
 ghost use Rattle.mrc_wiring_text.specs.Lexis.{lines};
-ghost use Rattle.mrc_place.specs.Spots.{is_feed, line_after};
+ghost use Rattle.mrc_place.specs.Spots.{HasLine, is_feed, line_after};
 
 /// The first line of a text, without its line feed, and the text after it.
-pub fn cut_line(text: &str) -> (&str, &str)
+fn cut_line(text: &str) -> (&str, &str)
     requires { 0 < length text.now }
     ensures cut { lines text.now ≡ result.0.now ∷ lines result.1.now }
     ensures shorter { length result.1.now < length text.now }
@@ -18,19 +17,43 @@ pub fn cut_line(text: &str) -> (&str, &str)
     }
 }
 
-/// The line of this number, from 0.
-pub(crate) fn nth_line(text: &str, number: u32) -> Option<&str>
-    ensures { option_copied result ≡ slice_get (lines text.now) number }
+/// A line of a text, and the lines around it.
+#[derive(Clone, Copy, Debug)]
+pub struct Line<'a> {
+    /// Its number, from 1.
+    pub number: u32,
+    /// The lines above.
+    pub above: &'a str,
+    /// The line, without its line feed.
+    pub text: &'a str,
+    /// The lines below.
+    pub below: &'a str,
+}
+
+/// The line of this number, from 1, if the text has it.
+pub fn line_of(text: &str, number: u32) -> Option<Line<'_>>
+    // It is that line.
+    ensures { IfSome result (λ line. HasLine text.now line.number line.text.now) }
 {
+    if number == 0 {
+        return None;
+    }
     let mut rest = text;
-    let mut left = number;
+    let mut left = number - 1;
     while !rest.is_empty() {
-        let (line, after) = cut_line(rest);
+        let (line, below) = cut_line(rest);
         if left == 0 {
-            return Some(line);
+            let start = text.len().saturating_sub(rest.len());
+            let (above, _) = text.split_at(text.floor_char_boundary(start));
+            return Some(Line {
+                number,
+                above,
+                text: line,
+                below,
+            });
         }
         left -= 1;
-        rest = after;
+        rest = below;
     }
     None
 }

@@ -1,11 +1,11 @@
 //! Parts of lines.
 
-ghost use Rattle.std.specs.Prelude.{◌≡◌, ◌+◌, ◌-◌, ◌≤◌, ◌↔◌, ◌++◌, ℕ, List, length, take, drop};
-ghost use Rattle.std.specs.Prelude.{IfOk, IfSome, IsSome, string_bytes};
-ghost use Rattle.std.specs.Str.{IsCharBoundary, chars};
+ghost use Rattle.std.specs.Prelude.{◌≡◌, ◌+◌, ◌++◌, ℕ, List, length};
+ghost use Rattle.std.specs.Prelude.{IfOk, IfSome, string_bytes};
+ghost use Rattle.std.specs.Str.{chars};
 ghost use Rattle.mrc_place.specs.Spots.{HasLine, IsInside};
 
-use crate::lines::{after_feed, before_feed, line_after, nth_line};
+use crate::lines::{Line, after_feed, before_feed, line_after, line_of};
 use crate::words::word_place;
 use std::alloc::{AllocError, Global};
 
@@ -20,15 +20,6 @@ pub struct Spot {
     pub word: String,
     /// The line behind the part, up to its end.
     pub after: String,
-}
-
-/// What is known of a fault besides its name: where it is, and sentences that help to mend it.
-#[derive(Debug, Drop)]
-pub struct Hint {
-    /// Where it is, if it is in a line.
-    pub spot: Option<Spot>,
-    /// Sentences, each a line.
-    pub notes: Vec<String>,
 }
 
 impl Spot {
@@ -67,28 +58,23 @@ fn joined(alloc: Global, first: &str, second: &str) -> Result<String, AllocError
     format!(in alloc; "{first}{second}")
 }
 
-/// The parts of a line around two places in it.
-fn spot_of(
-    alloc: Global,
-    line: u32,
-    whole: &str,
-    start: usize,
-    end: usize,
-) -> Result<Spot, AllocError>
-    requires order { start ≤ end }
-    requires begins { IsCharBoundary whole.now start }
-    requires ends { IsCharBoundary whole.now end }
-    ensures number { IfOk result (λ spot. spot.line ≡ line) }
-    ensures before { IfOk result (λ spot. string_bytes spot.before ≡ take start whole.now) }
-    ensures word { IfOk result (λ spot.
-        string_bytes spot.word ≡ take (end - start) (drop start whole.now)) }
-    ensures after { IfOk result (λ spot. string_bytes spot.after ≡ drop end whole.now) }
+/// The word of this number, from 0, in a line. If the line has fewer words, it is the end of its
+/// last word.
+pub fn line_spot(alloc: Global, line: &Line<'_>, word: usize) -> Result<Spot, AllocError>
+    // It is inside the line, if a text has that.
+    ensures { IfOk result (λ spot. (text : List ℕ)
+        → HasLine text line.now.number line.now.text.now → IsInside text spot) }
 {
+    let (start, end) = word_place(line.text.as_bytes(), word);
+    let from = line.text.floor_char_boundary(start);
+    let to = line.text.ceil_char_boundary(end).max(from);
+    let (before, rest) = line.text.split_at(from);
+    let (part, after) = rest.split_at(rest.len().min(to - from));
     Ok(Spot {
-        line,
-        before: String::from_str(alloc, &whole[..start])?,
-        word: String::from_str(alloc, &whole[start..end])?,
-        after: String::from_str(alloc, &whole[end..])?,
+        line: line.number,
+        before: String::from_str(alloc, before)?,
+        word: String::from_str(alloc, part)?,
+        after: String::from_str(alloc, after)?,
     })
 }
 
@@ -100,20 +86,12 @@ pub fn word_spot(
     line: u32,
     word: usize,
 ) -> Result<Option<Spot>, AllocError>
-    // The spot is inside its line, which is the one that was asked for.
-    ensures inside { IfOk result (λ spot. IfSome spot (IsInside text.now)) }
-    ensures line { IfOk result (λ spot. IfSome spot (λ spot. spot.line ≡ line)) }
-    ensures some { IfOk result (λ spot. IsSome spot ↔ HasLine text.now line) }
+    // The spot is inside its line.
+    ensures { IfOk result (λ spot. IfSome spot (IsInside text.now)) }
 {
-    if line == 0 {
-        return Ok(None);
-    }
-    match nth_line(text, line - 1) {
+    match line_of(text, line) {
+        Some(line) => Ok(Some(line_spot(alloc, &line, word)?)),
         None => Ok(None),
-        Some(whole) => {
-            let (start, end) = word_place(whole, word);
-            Ok(Some(spot_of(alloc, line, whole, start, end)?))
-        }
     }
 }
 

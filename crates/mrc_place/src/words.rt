@@ -1,42 +1,44 @@
-//! Where the words of a line begin and end.
+//! The words of a line: what is between blanks, and each comma.
 
-ghost use Rattle.std.specs.Prelude.{◌≡◌, ◌≤◌, length};
-ghost use Rattle.std.specs.List.{position_or_len, before_first};
-ghost use Rattle.std.specs.Str.{IsCharBoundary};
-ghost use Rattle.mrc_wiring_text.specs.Lexis.{is_blank, is_hash};
-ghost use Rattle.mrc_place.specs.Scan.{is_inked, is_separator, word_len, IsSeam};
+ghost use Rattle.std.specs.Prelude.{◌≤◌, length};
 
-#[tactic(auto, unfolding(mrc_wiring_text::specs::Lexis::is_blank))]
-fn is_blank(byte: u8) -> bool
-    ensures { result ≡ is_blank byte }
-{
+use std::alloc::{AllocError, Global};
+
+fn is_blank(byte: u8) -> bool {
     matches!(byte, b' ' | b'\t' | b'\r')
 }
 
 /// How many blanks a text begins with.
 fn blanks(text: &[u8]) -> usize
-    ensures place { result ≡ position_or_len is_inked text.now }
-    ensures within { result ≤ length text.now }
+    ensures { result ≤ length text.now }
 {
-    text.iter()
-        .position(|byte| !is_blank(*byte))
-        .unwrap_or(text.len())
+    match text.iter().position(|byte| !is_blank(*byte)) {
+        Some(place) => place,
+        None => text.len(),
+    }
 }
 
-/// How many bytes a text begins with that are neither blanks nor commas.
+/// A word of more bytes ends there.
+const LONGEST: usize = 20_000;
+
+/// How many bytes a text begins with before a blank, a comma or a comment.
 fn plain_len(text: &[u8]) -> usize
-    ensures place { result ≡ position_or_len is_separator text.now }
-    ensures within { result ≤ length text.now }
+    ensures { result ≤ length text.now }
 {
-    text.iter()
-        .position(|byte| is_blank(*byte) || *byte == b',')
-        .unwrap_or(text.len())
+    let longest = text.len().min(LONGEST);
+    match text[..longest]
+        .iter()
+        .position(|byte| matches!(*byte, b' ' | b'\t' | b'\r' | b',' | b'#'))
+    {
+        Some(place) => place,
+        None => longest,
+    }
 }
 
-/// The length of the word that a text begins with: 0 if it begins with a blank or is empty.
+/// The length of the word that a text begins with: 0 if it begins with a blank or a comment, or is
+/// empty.
 fn word_len(text: &[u8]) -> usize
-    ensures len { result ≡ word_len text.now }
-    ensures within { result ≤ length text.now }
+    ensures { result ≤ length text.now }
 {
     match text {
         [b',', ..] => 1,
@@ -44,34 +46,37 @@ fn word_len(text: &[u8]) -> usize
     }
 }
 
-/// How many bytes a line has before its comment.
-fn said_len(line: &[u8]) -> usize
-    ensures { result ≡ position_or_len is_hash line.now }
-{
-    line.iter()
-        .position(|byte| *byte == b'#')
-        .unwrap_or(line.len())
+/// Whether the first line of a text has words.
+pub fn has_words(text: &[u8]) -> bool {
+    match &text[blanks(text)..] {
+        [] | [b'\n' | b'#', ..] => false,
+        _ => true,
+    }
 }
 
-/// A line up to its comment.
-fn before_comment(line: &[u8]) -> &[u8]
-    ensures { result.now ≡ before_first is_hash line.now }
-{
-    &line[..said_len(line)]
+/// The words of a line.
+pub fn words_of(alloc: Global, line: &[u8]) -> Result<Vec<&[u8]>, AllocError> {
+    let mut words = Vec::new(alloc);
+    let mut rest = line;
+    loop {
+        let begun = &rest[blanks(rest)..];
+        let (word, behind) = begun.split_at(word_len(begun));
+        if word.is_empty() {
+            return Ok(words);
+        }
+        words.push(word)?;
+        rest = behind;
+    }
 }
 
-/// Where the word of this number, from 0, begins and ends in a line without a comment. If it is
-/// missing, both are the end of the last word.
-fn word_in(said: &[u8], number: usize) -> (usize, usize)
-    ensures order { result.0 ≤ result.1 }
-    ensures begins { IsSeam said.now result.0 }
-    ensures ends { IsSeam said.now result.1 }
-{
+/// Where the word of this number, from 0, begins and ends in a line. If it is missing, both are the
+/// end of the last word.
+pub(crate) fn word_place(line: &[u8], number: usize) -> (usize, usize) {
     let mut end = 0;
     let mut left = number;
     loop {
-        let start = end + blanks(&said[end..]);
-        let next = start + word_len(&said[start..]);
+        let start = end + blanks(&line[end..]);
+        let next = start + word_len(&line[start..]);
         if next == start {
             return (end, end);
         }
@@ -81,13 +86,4 @@ fn word_in(said: &[u8], number: usize) -> (usize, usize)
         left -= 1;
         end = next;
     }
-}
-
-/// The same in a line that may have a comment.
-pub(crate) fn word_place(line: &str, number: usize) -> (usize, usize)
-    ensures order { result.0 ≤ result.1 }
-    ensures begins { IsCharBoundary line.now result.0 }
-    ensures ends { IsCharBoundary line.now result.1 }
-{
-    word_in(before_comment(line.as_bytes()), number)
 }

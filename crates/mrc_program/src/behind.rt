@@ -1,14 +1,15 @@
 //! What helps with a fault: the hint, and what is printed of it behind the line of the fault.
 
 use crate::hints::hint_text;
-use crate::notes::{SAME_NAME, UNWRITTEN, name_notes, note_of, one_note};
-use crate::places::{hint_of, mig_text_hint};
+use crate::notes::{SAME_NAME, UNWRITTEN, name_notes, note_of};
+use crate::places::hint_of;
 use mrc_answer::{Answer, Answered, Fault, NoMigText, Texts, Unwritten, WasRead, WordFault};
 use mrc_base::OrMemory;
 use mrc_check::{CaseFault, System};
 use mrc_command::Question;
 use mrc_files::{InputFault, Unread, WriteFault};
-use mrc_place::Hint;
+use mrc_hints::second_mig_hint;
+use mrc_place::{Hint, one_note};
 use mrc_print::{Asked, file_of, unwritten_of};
 use std::alloc::{AllocError, Global};
 
@@ -36,10 +37,7 @@ pub(crate) struct Helping<'a> {
 fn no_help(alloc: Global) -> Help {
     Help {
         text: String::new(alloc),
-        hint: Hint {
-            spot: None,
-            notes: Vec::new(alloc),
-        },
+        hint: Hint::none(alloc),
     }
 }
 
@@ -51,7 +49,7 @@ fn help_of(alloc: Global, file: &str, hint: Hint) -> Result<Help, AllocError> {
 
 /// Sentences, and no place.
 fn noted(alloc: Global, notes: Vec<String>) -> Result<Help, AllocError> {
-    help_of(alloc, "", Hint { spot: None, notes })
+    help_of(alloc, "", Hint::of_notes(notes))
 }
 
 /// One sentence.
@@ -144,7 +142,7 @@ fn unwritten_help(alloc: Global, unwritten: &Unwritten) -> Result<Help, AllocErr
 
 /// What helps with a MIG file that is none as a text of edition 2, by its bytes.
 fn mig_text_help(alloc: Global, no_text: &NoMigText<'_>, bytes: &[u8]) -> Result<Help, AllocError> {
-    let hint = mig_text_hint(alloc, bytes, &no_text.fault)?;
+    let hint = second_mig_hint(alloc, bytes, &no_text.fault)?;
     help_of(alloc, no_text.file, hint)
 }
 

@@ -4,10 +4,45 @@ use mrc_command::shown;
 use mrc_place::{Hint, Spot};
 use std::alloc::{AllocError, Global};
 
-/// How many characters a text has as it is shown.
-fn width(alloc: Global, text: &str) -> Result<usize, AllocError> {
-    let text = shown(alloc, text)?;
-    Ok(text.as_str().chars().count())
+/// How many bytes of a line are shown before a part of it, of the part, and behind it: the longest
+/// line of a script that can be read is shown as a whole.
+const MOST: usize = 20_000;
+
+/// A line as it is shown.
+#[derive(Drop)]
+struct ShownLine {
+    /// What is before the part.
+    before: String,
+    /// The part.
+    word: String,
+    /// What is behind the part.
+    after: String,
+}
+
+/// The end of a text, behind two dots if it is not all.
+fn shown_end(alloc: Global, text: &str) -> Result<String, AllocError> {
+    let cut = text.ceil_char_boundary(text.len().saturating_sub(MOST));
+    let (hidden, rest) = text.split_at(cut);
+    let dots = if hidden.is_empty() { "" } else { ".." };
+    let rest = shown(alloc, rest)?;
+    format!(in alloc; "{dots}{rest}")
+}
+
+/// A text as far as it is shown, and two dots if that is not all.
+fn shown_front(alloc: Global, text: &str) -> Result<String, AllocError> {
+    let (front, hidden) = text.split_at(text.floor_char_boundary(MOST));
+    let dots = if hidden.is_empty() { "" } else { ".." };
+    let front = shown(alloc, front)?;
+    format!(in alloc; "{front}{dots}")
+}
+
+/// The line around a part of it.
+fn shown_line(alloc: Global, spot: &Spot) -> Result<ShownLine, AllocError> {
+    Ok(ShownLine {
+        before: shown_end(alloc, spot.before.as_str())?,
+        word: shown_front(alloc, spot.word.as_str())?,
+        after: shown_front(alloc, spot.after.as_str())?,
+    })
 }
 
 /// A line behind that of the fault.
@@ -23,18 +58,10 @@ fn place_line(alloc: Global, file: &str, spot: &Spot) -> Result<String, AllocErr
     format!(in alloc; "{file}:{line}:{column}\n")
 }
 
-/// The whole line.
-fn quoted_line(alloc: Global, spot: &Spot) -> Result<String, AllocError> {
-    let before = shown(alloc, spot.before.as_str())?;
-    let word = shown(alloc, spot.word.as_str())?;
-    let after = shown(alloc, spot.after.as_str())?;
-    format!(in alloc; "  {before}{word}{after}\n")
-}
-
 /// A caret under each character of the part, and one if it is empty.
-fn caret_line(alloc: Global, spot: &Spot) -> Result<String, AllocError> {
-    let blanks = " ".repeat(alloc, width(alloc, spot.before.as_str())?)?;
-    let carets = "^".repeat(alloc, width(alloc, spot.word.as_str())?.max(1))?;
+fn caret_line(alloc: Global, line: &ShownLine) -> Result<String, AllocError> {
+    let blanks = " ".repeat(alloc, line.before.as_str().chars().count())?;
+    let carets = "^".repeat(alloc, line.word.as_str().chars().count().max(1))?;
     format!(in alloc; "  {blanks}{carets}\n")
 }
 
@@ -44,9 +71,14 @@ fn spot_text(alloc: Global, file: &str, spot: &Option<Spot>) -> Result<String, A
         return Ok(String::new(alloc));
     };
     let place = place_line(alloc, file, spot)?;
-    let line = quoted_line(alloc, spot)?;
-    let carets = caret_line(alloc, spot)?;
-    format!(in alloc; "{place}{line}{carets}")
+    let line = shown_line(alloc, spot)?;
+    let carets = caret_line(alloc, &line)?;
+    let ShownLine {
+        before,
+        word,
+        after,
+    } = line;
+    format!(in alloc; "{place}  {before}{word}{after}\n{carets}")
 }
 
 /// Adds a sentence.

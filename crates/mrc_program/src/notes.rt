@@ -5,7 +5,7 @@ use mrc_answer::WordFault;
 use mrc_base::{ClassId, TaskId};
 use mrc_certificate::DraftFault;
 use mrc_command::Question;
-use mrc_place::{listed, nearest};
+use mrc_place::{did_you_mean, listed, nearest, one_note};
 use mrc_wiring::Wired;
 use mrc_words::{class_word, right_named};
 use std::alloc::{AllocError, Global};
@@ -55,13 +55,6 @@ pub(crate) fn draft_note(fault: DraftFault) -> &'static str {
     }
 }
 
-/// One sentence.
-pub(crate) fn one_note(alloc: Global, note: &str) -> Result<Vec<String>, AllocError> {
-    let mut notes = Vec::new(alloc);
-    notes.push(String::from_str(alloc, note)?)?;
-    Ok(notes)
-}
-
 /// The nearest of the known names, or else the first of them.
 fn known_note(
     alloc: Global,
@@ -69,8 +62,8 @@ fn known_note(
     heading: &str,
     known: &[&str],
 ) -> Result<String, AllocError> {
-    match nearest(word, known) {
-        Some(near) => format!(in alloc; "did you mean: {near}"),
+    match nearest(alloc, word, known)? {
+        Some(near) => did_you_mean(alloc, near),
         None => {
             let list = listed(alloc, known)?;
             format!(in alloc; "{heading}{list}")

@@ -1,0 +1,27 @@
+//! What helps to mend a text that has a fault: the place of the fault, what may be there, and what
+//! may be meant.
+#![tactic(auto)]
+
+mod bytes;
+mod known_names;
+mod mig_hints;
+mod mig_notes;
+mod mig_places;
+mod mig_second;
+mod mig_tokens;
+mod mig_trials;
+mod mig_types;
+mod name_hints;
+mod name_notes;
+mod named;
+mod script_digits;
+mod script_hints;
+mod script_notes;
+mod script_usage;
+mod script_words;
+
+pub use mig_hints::mig_hint;
+pub use mig_places::argument_line;
+pub use mig_second::second_mig_hint;
+pub use name_hints::{names_hint, policy_name_hint, wiring_name_hint};
+pub use script_hints::script_hint;

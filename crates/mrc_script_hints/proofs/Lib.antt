@@ -1,4 +1,0 @@
-mod First
-mod Fitting
-mod Grammar
-mod Worked
