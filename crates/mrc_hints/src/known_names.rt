@@ -44,28 +44,27 @@ impl Known<'_> {
     }
 }
 
-/// The name that a line declares, if it is of the same kind.
-fn name_declared<'a>(line: &'a str, named: Named<'_>) -> Option<&'a str> {
-    match (named, declared(line)) {
-        (Named::Task(_), Some(Named::Task(name))) => Some(name),
-        (Named::Port(_), Some(Named::Port(name))) => Some(name),
-        _ => None,
-    }
+/// The names that lines declare, each kind in order.
+#[derive(Drop)]
+pub(crate) struct Names<'a> {
+    /// Those of tasks.
+    pub(crate) tasks: Vec<&'a str>,
+    /// Those of ports.
+    pub(crate) ports: Vec<&'a str>,
 }
 
-/// The names of the same kind that lines declare, in order.
-pub(crate) fn names_declared<'a>(
-    alloc: Global,
-    text: &'a str,
-    named: Named<'_>,
-) -> Result<Vec<&'a str>, AllocError> {
-    let mut names = Vec::new(alloc);
+/// The names that lines declare.
+pub(crate) fn names_in(alloc: Global, text: &str) -> Result<Names<'_>, AllocError> {
+    let mut tasks = Vec::new(alloc);
+    let mut ports = Vec::new(alloc);
     for line in text.lines() {
-        if let Some(name) = name_declared(line, named) {
-            names.push(name)?;
+        match declared(line) {
+            Some(Named::Task(name)) => tasks.push(name)?,
+            Some(Named::Port(name)) => ports.push(name)?,
+            _ => {}
         }
     }
-    Ok(names)
+    Ok(Names { tasks, ports })
 }
 
 fn interface_names<'a>(
@@ -132,14 +131,16 @@ fn types_named<'a>(
     Ok(Vec::new(alloc))
 }
 
-/// The names of the same kind that are known; none of kinds of births.
+/// The names of the same kind that are known, if lines declare these; none of kinds of births.
 fn names_known<'a>(
     alloc: Global,
     known: &Known<'a>,
+    names: &Names<'a>,
     named: Named<'_>,
 ) -> Result<Vec<&'a str>, AllocError> {
     match named {
-        Named::Task(_) | Named::Port(_) => names_declared(alloc, known.above, named),
+        Named::Task(_) => Vec::from_slice(alloc, &names.tasks),
+        Named::Port(_) => Vec::from_slice(alloc, &names.ports),
         Named::Subsystem(_) => interface_names(alloc, known.interfaces),
         Named::SlotType { subsystem, .. } => types_named(alloc, known.interfaces, subsystem),
         Named::Births { .. } | Named::Fit => Ok(Vec::new(alloc)),
@@ -170,8 +171,9 @@ pub(crate) fn first_unknown<'a>(
     known: &Known<'a>,
     mentions: &[Mention<'a>],
 ) -> Result<Option<Unknown<'a>>, AllocError> {
+    let names = names_in(alloc, known.above)?;
     for mention in mentions {
-        let names = names_known(alloc, known, mention.named)?;
+        let names = names_known(alloc, known, &names, mention.named)?;
         if !is_known(known, &names, mention.named) {
             return Ok(Some(Unknown {
                 mention: *mention,

@@ -46,7 +46,7 @@ fn look(tokens: &Tokens<'_>, at: usize) -> Looked {
 
 /// What the tokens of a text say of a fault at this place: of a text with a comment that is not
 /// closed that it is there.
-fn looked(alloc: Global, text: &str, at: usize) -> Result<Looked, AllocError> {
+fn look_in(alloc: Global, text: &str, at: usize) -> Result<Looked, AllocError> {
     match lex(alloc, text) {
         Ok(tokens) => Ok(look(&tokens, at)),
         Err(OrMemory::Fault(_)) => Ok(Looked {
@@ -69,7 +69,7 @@ fn is_at_the_end(text: &str, at: usize) -> bool {
 fn place_hint(alloc: Global, text: &str, at: usize) -> Result<Hint, AllocError>
     ensures { IfOk result (HasCaretInside text.now) }
 {
-    let looked = looked(alloc, text, at)?;
+    let looked = look_in(alloc, text, at)?;
     let notes = if is_at_the_end(text, at) && !looked.has_subsystem {
         one_note(alloc, NO_SUBSYSTEM)?
     } else {

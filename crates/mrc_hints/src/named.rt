@@ -73,8 +73,17 @@ fn kind_in(word: &str) -> u8 {
     word.parse::<u8>().unwrap_or(0)
 }
 
+/// Whether a line may declare something, by its first letter: most lines do not.
+fn may_declare(line: &str) -> bool {
+    let first = line.bytes().find(|byte| !byte.is_ascii_whitespace());
+    matches!(first, Some(b't' | b'p' | b'b' | b'r'))
+}
+
 /// What a line of a wiring gives a name to, or says once for all.
 pub(crate) fn declared(line: &str) -> Option<Named<'_>> {
+    if !may_declare(line) {
+        return None;
+    }
     let mut words = line.split_ascii_whitespace();
     match words.next()? {
         "task" => Some(Named::Task(before(words.next()?, '#'))),

@@ -3,8 +3,7 @@
 ghost use Rattle.std.specs.Prelude.{ℕ, List, IfOk};
 ghost use Rattle.mrc_place.specs.Spots.{HasLine, IsInside, HasCaretInside};
 
-use crate::known_names::names_declared;
-use crate::named::Named;
+use crate::known_names::{Names, names_in};
 use crate::script_digits::HexFault;
 use crate::script_notes::notes;
 use crate::script_words::{Found, Wrong, found_in};
@@ -48,7 +47,7 @@ fn line_hint(
     requires { HasLine text.now line.now.number line.now.text.now }
     ensures { IfOk result (HasCaretInside text.now) }
 {
-    let tasks = names_declared(alloc, wiring, Named::Task(""))?;
+    let Names { tasks, ports: _ } = names_in(alloc, wiring)?;
     let words = words_of(alloc, line.text.as_bytes())?;
     let found = found_in(alloc, live, &tasks, &words)?;
     let spot = caret(alloc, line, found)?;

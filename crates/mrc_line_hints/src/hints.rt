@@ -9,8 +9,8 @@ use crate::notes::other_notes;
 use mrc_base::limits::LINES;
 use mrc_place::{Hint, Line, line_of, line_spot, one_note, word_spot, words_of};
 use mrc_wiring_text::{Edition, TextFault};
+use simdutf8::compat;
 use std::alloc::{AllocError, Global};
-use std::str;
 
 /// The notes on a word of a line with these words.
 fn notes(
@@ -90,7 +90,7 @@ fn bad_version(alloc: Global, role: Role, text: &str) -> Result<Hint, AllocError
 fn text_hint(alloc: Global, role: Role, text: &[u8], fault: TextFault) -> Result<Hint, AllocError>
     ensures { IfOk result (HasCaretInside text.now) }
 {
-    match str::from_utf8(text) {
+    match compat::from_utf8(text) {
         Err(error) => Hint::not_utf8(alloc, text, error.valid_up_to()),
         Ok(text) => match fault {
             TextFault::BadLine(line) => bad_line(alloc, role, text, line),

@@ -54,7 +54,7 @@ pub fn has_words(text: &[u8]) -> bool {
     }
 }
 
-/// The words of a line.
+/// The words of a line, up to the first that ends for its length.
 pub fn words_of(alloc: Global, line: &[u8]) -> Result<Vec<&[u8]>, AllocError> {
     let mut words = Vec::new(alloc);
     let mut rest = line;
@@ -65,6 +65,9 @@ pub fn words_of(alloc: Global, line: &[u8]) -> Result<Vec<&[u8]>, AllocError> {
             return Ok(words);
         }
         words.push(word)?;
+        if word.len() == LONGEST {
+            return Ok(words);
+        }
         rest = behind;
     }
 }
