@@ -4,7 +4,7 @@ ghost use Rattle.std.specs.Prelude.{◌≡◌, ◌<◌, IfOk, None};
 ghost use Rattle.mrc_place.specs.Spots.{HasCaretInside};
 
 use crate::bytes::byte_at;
-use crate::mig_notes::{grammar_notes, unknown_note};
+use crate::mig_notes::{OPEN_COMMENT, grammar_notes, unknown_note};
 use crate::mig_second::second_hint;
 use crate::mig_tokens::{Seen, all_seen, count_before};
 use crate::mig_trials::{lex_place, parse_place};
@@ -78,7 +78,7 @@ fn bad_note(byte: u8) -> &'static str {
 fn lex_note(text: &str, fault: LexFault) -> &'static str {
     match fault {
         LexFault::BadCharacter(at) => bad_note(byte_at(text.as_bytes(), at)),
-        LexFault::OpenComment(_) => "this comment is not closed",
+        LexFault::OpenComment(_) => OPEN_COMMENT,
         LexFault::NumberTooLarge(_) => "a number is at most 2147483647",
     }
 }

@@ -16,11 +16,15 @@ use std::alloc::{AllocError, Global};
 const REQUEST_PORT: &str = "a routine has one request port, of a port type: the argument marked \
     requestport, or else the first, unmarked or in";
 
+/// What is said of a comment that is not closed.
+pub(crate) const OPEN_COMMENT: &str = "this comment is not closed";
+
 /// What is said of a file without the word `subsystem`.
 pub(crate) const NO_SUBSYSTEM: &str = "the file has no subsystem";
 
 /// What helps with a line of the preprocessor.
-const PREPROCESS: &str = "run machcheck mig first: it works out macros, conditions and includes";
+pub(crate) const PREPROCESS: &str =
+    "run machcheck mig first: it works out macros, conditions and includes";
 
 /// Adds a sentence if the test holds.
 fn push_if(
@@ -238,7 +242,7 @@ pub(crate) fn unknown_note(
 }
 
 /// `SENTENCE, on line N`, if there is such a place.
-fn on_line(
+pub(crate) fn on_line(
     alloc: Global,
     sentence: &str,
     text: &str,

@@ -69,13 +69,17 @@ fn subsystem_in(rest: Rest<'_>) -> Option<Rest<'_>> {
 
 /// The place of this argument of this routine, or, without a routine, of the first word
 /// `subsystem`.
-fn place_in(tokens: &Tokens<'_>, argument: Option<(&str, &str)>) -> Option<usize> {
-    let rest = Rest::new(tokens);
+fn place_in<'t>(tokens: &'t Tokens<'t>, argument: Option<(&str, &str)>) -> Option<usize> {
     let found = match argument {
-        Some((routine, argument)) => argument_in(argument, behind_routine(routine, rest)),
-        None => subsystem_in(rest),
+        Some((routine, argument)) => {
+            argument_in(argument, behind_routine(routine, Rest::new(tokens)))
+        }
+        None => subsystem_in(Rest::new(tokens)),
     };
-    found.map(|rest| tokens.at(tokens.len().saturating_sub(rest.len())))
+    match found {
+        Some(rest) => Some(tokens.at(tokens.len().saturating_sub(rest.len()))),
+        None => None,
+    }
 }
 
 /// The line, from 1, of the name of an argument: of the first name with its text that has a colon

@@ -1,15 +1,15 @@
-//! What helps with a fault of a MIG file of edition 2: its place, and whether a subsystem is
-//! missing.
+//! What helps with a fault of a MIG file of edition 2: its place, and a sentence.
 
 ghost use Rattle.std.specs.Prelude.{IfOk};
 ghost use Rattle.mrc_place.specs.Spots.{HasCaretInside};
 
 use crate::mig_hints::about;
-use crate::mig_notes::NO_SUBSYSTEM;
+use crate::mig_notes::{NO_SUBSYSTEM, OPEN_COMMENT, PREPROCESS, on_line};
 use crate::mig_places::is_subsystem;
 use crate::mig_trials::{lex_place, parse_place};
 use mrc_base::OrMemory;
 use mrc_interface::DefsFault;
+use mrc_mig_symbols::ParseFault;
 use mrc_mig_tokens::{Rest, Tokens, lex};
 use mrc_place::{Hint, one_note};
 use std::alloc::{AllocError, Global};
@@ -44,19 +44,6 @@ fn look(tokens: &Tokens<'_>, at: usize) -> Looked {
     }
 }
 
-/// What the tokens of a text say of a fault at this place: of a text with a comment that is not
-/// closed that it is there.
-fn look_in(alloc: Global, text: &str, at: usize) -> Result<Looked, AllocError> {
-    match lex(alloc, text) {
-        Ok(tokens) => Ok(look(&tokens, at)),
-        Err(OrMemory::Fault(_)) => Ok(Looked {
-            width: 2,
-            has_subsystem: false,
-        }),
-        Err(OrMemory::Memory) => Err(AllocError),
-    }
-}
-
 /// Whether nothing but blanks is behind a place.
 fn is_at_the_end(text: &str, at: usize) -> bool {
     let bytes = text.as_bytes();
@@ -65,17 +52,82 @@ fn is_at_the_end(text: &str, at: usize) -> bool {
         .all(|byte| byte.is_ascii_whitespace())
 }
 
-/// What helps with a fault at this place.
-fn place_hint(alloc: Global, text: &str, at: usize) -> Result<Hint, AllocError>
+/// The number of the token that begins at this place.
+fn number_at(tokens: &Tokens<'_>, at: usize) -> Option<usize> {
+    for number in 0..tokens.len() {
+        if tokens.at(number) == at {
+            return Some(number);
+        }
+    }
+    None
+}
+
+/// Whether this token is the name of a type that is declared there.
+fn declares(tokens: &Tokens<'_>, number: usize, name: &str) -> bool {
+    number > 0
+        && tokens.text(number) == name
+        && tokens.text(number - 1).eq_ignore_ascii_case("type")
+}
+
+/// Where the type is declared first whose name stands at this place.
+fn declared_at(tokens: &Tokens<'_>, at: usize) -> Option<usize> {
+    let last = number_at(tokens, at)?;
+    let name = tokens.text(last);
+    for number in 0..last {
+        if declares(tokens, number, name) {
+            return Some(tokens.at(number));
+        }
+    }
+    None
+}
+
+/// What is said of a fault at this place.
+fn notes_at(
+    alloc: Global,
+    text: &str,
+    tokens: &Tokens<'_>,
+    at: usize,
+    fault: &DefsFault,
+    has_subsystem: bool,
+) -> Result<Vec<String>, AllocError> {
+    match *fault {
+        DefsFault::Parse(ParseFault::LeftOut(_, _)) => one_note(alloc, PREPROCESS),
+        DefsFault::Parse(ParseFault::TwiceNamed(_)) => {
+            on_line(alloc, "declared above", text, declared_at(tokens, at))
+        }
+        DefsFault::Parse(ParseFault::Unexpected(_)) if is_at_the_end(text, at) && !has_subsystem =>
+            { one_note(alloc, NO_SUBSYSTEM) }
+        _ => Ok(Vec::new(alloc)),
+    }
+}
+
+/// What helps with a fault at this place of a text of these tokens.
+fn tokens_hint(
+    alloc: Global,
+    text: &str,
+    tokens: &Tokens<'_>,
+    at: usize,
+    fault: &DefsFault,
+) -> Result<Hint, AllocError>
     ensures { IfOk result (HasCaretInside text.now) }
 {
-    let looked = look_in(alloc, text, at)?;
-    let notes = if is_at_the_end(text, at) && !looked.has_subsystem {
-        one_note(alloc, NO_SUBSYSTEM)?
-    } else {
-        Vec::new(alloc)
-    };
+    let looked = look(tokens, at);
+    let notes = notes_at(alloc, text, tokens, at, fault, looked.has_subsystem)?;
     about(alloc, text, at, looked.width, notes)
+}
+
+/// What helps with a fault at this place.
+fn place_hint(alloc: Global, text: &str, at: usize, fault: &DefsFault) -> Result<Hint, AllocError>
+    ensures { IfOk result (HasCaretInside text.now) }
+{
+    match lex(alloc, text) {
+        Ok(tokens) => tokens_hint(alloc, text, &tokens, at, fault),
+        Err(OrMemory::Fault(_)) => {
+            let notes = one_note(alloc, OPEN_COMMENT)?;
+            about(alloc, text, at, 2, notes)
+        }
+        Err(OrMemory::Memory) => Err(AllocError),
+    }
 }
 
 /// What helps with a fault of a text of edition 2.
@@ -83,14 +135,14 @@ pub(crate) fn second_hint(alloc: Global, text: &str, fault: &DefsFault) -> Resul
     ensures { IfOk result (HasCaretInside text.now) }
 {
     match *fault {
-        DefsFault::Lex(fault) => place_hint(alloc, text, lex_place(fault)),
-        DefsFault::Parse(fault) => place_hint(alloc, text, parse_place(fault)),
+        DefsFault::Lex(found) => place_hint(alloc, text, lex_place(found), fault),
+        DefsFault::Parse(found) => place_hint(alloc, text, parse_place(found), fault),
         DefsFault::NotUtf8 | DefsFault::Interface(_) => Ok(Hint::none(alloc)),
     }
 }
 
 /// What helps with a fault of a MIG file that is read as one of edition 2, whatever its first lines
-/// name, from its bytes: the token at the place of the fault, and whether a subsystem is missing.
+/// name, from its bytes: the token at the place of the fault, and a sentence.
 pub fn second_mig_hint(alloc: Global, bytes: &[u8], fault: &DefsFault) -> Result<Hint, AllocError>
     // The caret is inside its line.
     ensures { IfOk result (HasCaretInside bytes.now) }
