@@ -9,6 +9,7 @@ use Rattle.std.proofs.lemmas.Bool.{not_from_false, not_from_true}
 use Rattle.std.proofs.lemmas.List.{get_or-drop, length-drop, length-append, length_push, drop_at}
 use Rattle.std.proofs.lemmas.List.{append_assoc, get_or-append_right}
 use Rattle.std.proofs.lemmas.List.Sums.{suffix_len_is, count_by_more_yes, sum_by-append}
+use Rattle.std.proofs.lemmas.List.Sums.{position_or_len_is}
 use Rattle.std.proofs.lemmas.List.Sums.{sum_by-cons, sum_by-take-le}
 use Rattle.std.proofs.lemmas.Str.Pattern.{NoCharPasses-char}
 use Rattle.mrc_wiring_text.specs.Lexis.{lines}
@@ -26,6 +27,25 @@ pub lines_whole : (bs : List ℕ)
     → position_or_len is_feed bs ≡ length bs
     → lines bs ≡ bs ∷ []
 lines_whole bs h e = lines_last bs (position_or_len is_feed bs) h refl (omega arith)
+
+-- the first line feed is at a place that has one, if none is before it
+pub feed_at : (bs : List ℕ) (at : ℕ)
+    → at < length bs
+    → ((k : ℕ) → k < at → get_or bs k 0 ≢ 10)
+    → get_or bs at 0 ≡ 10
+    → position_or_len is_feed bs ≡ at
+feed_at bs at below none is =
+    position_or_len_is is_feed bs at 0 (omega arith) (λ k h. ne_eqb (get_or bs k 0) 10 (none k h))
+    (λ h. eq-eqb (get_or bs at 0) 10 is)
+
+-- no line feed at all
+pub feed_nowhere : (bs : List ℕ)
+    → ((k : ℕ) → k < length bs → get_or bs k 0 ≢ 10)
+    → position_or_len is_feed bs ≡ length bs
+feed_nowhere bs none =
+    position_or_len_is is_feed bs (length bs) 0 (omega arith)
+    (λ k h. ne_eqb (get_or bs k 0) 10 (none k h))
+    (λ h. absurd (omega arith))
 
 -- no line feed from a place on, and one before it
 pub last_feed : (bs : List ℕ) (n : ℕ)

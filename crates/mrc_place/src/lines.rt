@@ -5,14 +5,20 @@ ghost use Rattle.std.specs.List.{before_first, after_last};
 ghost use Rattle.mrc_wiring_text.specs.Lexis.{lines};
 ghost use Rattle.mrc_place.specs.Spots.{HasLine, is_feed, line_after};
 
+use memchr::memchr;
+
 /// The first line of a text, without its line feed, and the text after it.
 fn cut_line(text: &str) -> (&str, &str)
     requires { 0 < length text.now }
     ensures cut { lines text.now ≡ result.0.now ∷ lines result.1.now }
     ensures shorter { length result.1.now < length text.now }
 {
-    match text.split_once('\n') {
-        Some(parts) => parts,
+    match memchr(b'\n', text.as_bytes()) {
+        Some(at) => {
+            let (line, _) = text.split_at(at);
+            let (_, behind) = text.split_at(at + 1);
+            (line, behind)
+        }
         None => (text, ""),
     }
 }
