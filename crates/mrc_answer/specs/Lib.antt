@@ -11,7 +11,7 @@ pub mod Explained
 pub mod Listed
 pub mod Systems
 pub mod Made
-pub mod Cutting
+pub mod MigTexts
 pub mod Played
 pub mod Answers
 pub mod Attacking
