@@ -1,7 +1,7 @@
 //! What is known of the lines above.
 
 use crate::several::Several;
-use mrc_wiring_text::{ClassName, Items, Kind, Name};
+use mrc_wiring_text::{ClassName, Item, Kind, Name};
 
 /// A group of tasks.
 #[derive(Drop)]
@@ -29,7 +29,7 @@ pub(crate) struct KnownBirths {
     /// Their kind.
     pub kind: Kind,
     /// What they accept.
-    pub accepts: Items,
+    pub accepts: Several<Item>,
 }
 
 /// A wired port that is of the births of a task.

@@ -6,11 +6,14 @@ mod faults;
 mod known;
 pub mod laws;
 mod lists;
+pub mod products;
 mod several;
 mod standing;
+mod stood;
 mod wide;
 
 pub use faults::StandFault;
 pub use several::Several;
 pub use standing::StandsFor;
+pub use stood::{StoodLine, StoodParts, StoodSays};
 pub use wide::{Kinds, Place, RightVerb, SlotName, Tasks, Whom, WideClass, WideLine, WideSays};

@@ -3,14 +3,14 @@
 use crate::faults::StandFault;
 use crate::known::Known;
 use crate::several::Several;
-use mrc_wiring_text::WiringLine;
+use crate::stood::StoodLine;
 
 /// What the wide lines of a text stand for.
 #[derive(Drop)]
 pub struct StandsFor {
     /// The lines: all, or those in front of the first that is refused. Each has the number of the
     /// wide line that it is of.
-    pub lines: Several<WiringLine>,
+    pub lines: Several<StoodLine>,
     /// Why a line is refused, if one is.
     pub fault: Option<StandFault>,
 }
@@ -21,5 +21,5 @@ pub(crate) struct Standing {
     /// What is known.
     pub known: Known,
     /// The lines that they stand for.
-    pub lines: Several<WiringLine>,
+    pub lines: Several<StoodLine>,
 }
