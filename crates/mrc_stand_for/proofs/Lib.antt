@@ -1,3 +1,5 @@
+pub mod EachLemmas
+pub mod KindLemmas
 pub mod ProductLemmas
 pub mod ListLemmas
 pub mod TextLemmas

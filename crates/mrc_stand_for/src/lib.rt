@@ -6,11 +6,12 @@ mod faults;
 mod known;
 pub mod laws;
 mod lists;
+mod products;
 mod several;
 mod standing;
 mod wide;
 
 pub use faults::StandFault;
 pub use several::Several;
-pub use standing::StandsFor;
+pub use standing::{LINES_STOOD_FOR, StandsFor, stand_for};
 pub use wide::{Kinds, Place, RightVerb, SlotName, Tasks, Whom, WideClass, WideLine, WideSays};
