@@ -1,4 +1,5 @@
 pub mod Once
+pub mod Stood
 pub mod Known
 pub mod Steps
 pub mod Lists

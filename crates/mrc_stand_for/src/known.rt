@@ -12,7 +12,7 @@ ghost use Rattle.mrc_stand_for.specs.Known.{has_set, has_named, no_lines};
 
 use crate::several::{Alike, Several, copy_kind};
 use mrc_base::limits::KINDS;
-use mrc_wiring_text::{ClassName, Items, Kind, Name};
+use mrc_wiring_text::{ClassName, Item, Kind, Name};
 use std::alloc::{AllocError, Global};
 
 /// A group of tasks.
@@ -41,7 +41,7 @@ pub(crate) struct KnownBirths {
     /// Their kind.
     pub kind: Kind,
     /// What they accept.
-    pub accepts: Items,
+    pub accepts: Several<Item>,
 }
 
 /// A wired port that is of the births of a task.

@@ -9,9 +9,11 @@ mod lists;
 mod products;
 mod several;
 mod standing;
+mod stood;
 mod wide;
 
 pub use faults::StandFault;
 pub use several::Several;
 pub use standing::{LINES_STOOD_FOR, StandsFor, stand_for};
+pub use stood::{StoodLine, StoodParts, StoodSays};
 pub use wide::{Kinds, Place, RightVerb, SlotName, Tasks, Whom, WideClass, WideLine, WideSays};

@@ -2,26 +2,26 @@
 
 ghost use Rattle.std.specs.Prelude.{◌≡◌, ◌+◌, ◌<◌, ◌≤◌, ◌∷◌, ◌++◌, [], map, length, IfOk, OnOk};
 ghost use Rattle.mrc_base.specs.Limits.{limit_of_kinds};
+ghost use Rattle.mrc_wiring_text.specs.declared.wiring.WiringSays.TheVariants as core;
 ghost use Rattle.mrc_stand_for.specs.Products.{births_lines, reply_lines, replies_lines};
 ghost use Rattle.mrc_stand_for.specs.Products.{send_line, once_line, once_lines, admit_line};
 ghost use Rattle.mrc_stand_for.specs.Products.{admit_lines, admit_none, verb_of, trust_line};
 ghost use Rattle.mrc_stand_for.specs.Products.{verb_lines, trust_lines, trust_none, none_lines};
 
 use crate::several::{Alike, Several, copy_items, copy_kind};
+use crate::stood::{StoodParts, StoodSays};
 use crate::wide::{PlaceName, RightVerb, SlotName};
 use mrc_base::PortRight;
-use mrc_wiring_text::{
-    ClassName, HeldRight, Item, Items, Kind, Name, TrustVerb, TrustedRight, WiringSays,
-};
+use mrc_wiring_text::{ClassName, HeldRight, Item, Kind, Name, TrustVerb, TrustedRight};
 use std::alloc::{AllocError, Global};
 
 /// There are tasks of these names.
-pub(crate) fn task_lines(alloc: Global, names: &[Name]) -> Result<Several<WiringSays>, AllocError>
-    ensures { IfOk result (λ lines. lines ≡ map WiringSays.Task names.now) }
+pub(crate) fn task_lines(alloc: Global, names: &[Name]) -> Result<Several<StoodSays>, AllocError>
+    ensures { IfOk result (λ lines. lines ≡ map core.Task names.now) }
 {
     let mut lines = Several::empty(alloc);
     for name in names {
-        lines.push(WiringSays::Task(name.copy(alloc)?))?;
+        lines.push(StoodSays::new(StoodParts::Task(name.copy(alloc)?)))?;
     }
     Ok(lines)
 }
@@ -31,17 +31,17 @@ pub(crate) fn births_lines(
     alloc: Global,
     tasks: &[Name],
     kind: &Kind,
-    accepts: &Items,
-) -> Result<Several<WiringSays>, AllocError>
+    accepts: &Several<Item>,
+) -> Result<Several<StoodSays>, AllocError>
     ensures { IfOk result (λ lines. lines ≡ births_lines tasks.now kind.now accepts.now) }
 {
     let mut lines = Several::empty(alloc);
     for task in tasks {
-        lines.push(WiringSays::Births {
+        lines.push(StoodSays::new(StoodParts::Births {
             task: task.copy(alloc)?,
             kind: copy_kind(kind),
             accepts: copy_items(alloc, accepts)?,
-        })?;
+        }))?;
     }
     Ok(lines)
 }
@@ -52,24 +52,24 @@ fn reply_line(
     task: &Name,
     kind: u8,
     subsystem: &Name,
-) -> Result<WiringSays, AllocError>
+) -> Result<StoodSays, AllocError>
     requires { kind < limit_of_kinds }
     ensures { IfOk result (λ line.
-        line ≡ WiringSays.Births task.now kind (Item.Reply subsystem.now ∷ [])) }
+        line ≡ core.Births task.now kind (Item.Reply subsystem.now ∷ [])) }
 {
-    let mut items = Vec::new(alloc);
-    items.push(Item::Reply(subsystem.copy(alloc)?))?;
-    Ok(WiringSays::Births {
+    let mut accepts = Several::empty(alloc);
+    accepts.push(Item::Reply(subsystem.copy(alloc)?))?;
+    Ok(StoodSays::new(StoodParts::Births {
         task: task.copy(alloc)?,
         kind: Kind::new(kind).unwrap(),
-        accepts: Items::new(items),
-    })
+        accepts,
+    }))
 }
 
 /// Replies of each of the subsystems, by kinds that count up.
 fn push_replies(
     alloc: Global,
-    lines: &mut Several<WiringSays>,
+    lines: &mut Several<StoodSays>,
     task: &Name,
     kind: &Kind,
     subsystems: &[Name],
@@ -92,7 +92,7 @@ pub(crate) fn replies_lines(
     tasks: &[Name],
     kind: &Kind,
     subsystems: &[Name],
-) -> Result<Several<WiringSays>, AllocError>
+) -> Result<Several<StoodSays>, AllocError>
     requires { kind.now + length subsystems.now ≤ limit_of_kinds }
     ensures { IfOk result (λ lines. lines ≡ replies_lines tasks.now kind.now subsystems.now) }
 {
@@ -104,27 +104,27 @@ pub(crate) fn replies_lines(
 }
 
 /// A send right of a task.
-fn send_line(alloc: Global, holder: &Name, place: &PlaceName) -> Result<WiringSays, AllocError>
+fn send_line(alloc: Global, holder: &Name, place: &PlaceName) -> Result<StoodSays, AllocError>
     ensures { IfOk result (λ line. line ≡ send_line holder.now place.now) }
 {
     let holder = holder.copy(alloc)?;
     match place {
-        PlaceName::Port(port) => Ok(WiringSays::HoldPort {
+        PlaceName::Port(port) => Ok(StoodSays::new(StoodParts::HoldPort {
             holder,
             right: HeldRight::Send,
             port: port.copy(alloc)?,
-        }),
-        PlaceName::Task(task) => Ok(WiringSays::HoldTask {
+        })),
+        PlaceName::Task(task) => Ok(StoodSays::new(StoodParts::HoldTask {
             holder,
             task: task.copy(alloc)?,
-        }),
+        })),
     }
 }
 
 /// Send rights of a task.
 pub(crate) fn push_sends(
     alloc: Global,
-    lines: &mut Several<WiringSays>,
+    lines: &mut Several<StoodSays>,
     holder: &Name,
     places: &[PlaceName],
 ) -> Result<(), AllocError>
@@ -139,18 +139,18 @@ pub(crate) fn push_sends(
 /// Send-once rights of a task.
 fn push_onces(
     alloc: Global,
-    lines: &mut Several<WiringSays>,
+    lines: &mut Several<StoodSays>,
     holder: &Name,
     ports: &[Name],
 ) -> Result<(), AllocError>
     ensures { OnOk result (lines.new ≡ lines.old ++ map (once_line holder.now) ports.now) }
 {
     for port in ports {
-        lines.push(WiringSays::HoldPort {
+        lines.push(StoodSays::new(StoodParts::HoldPort {
             holder: holder.copy(alloc)?,
             right: HeldRight::SendOnce,
             port: port.copy(alloc)?,
-        })?;
+        }))?;
     }
     Ok(())
 }
@@ -160,7 +160,7 @@ pub(crate) fn once_lines(
     alloc: Global,
     tasks: &[Name],
     ports: &[Name],
-) -> Result<Several<WiringSays>, AllocError>
+) -> Result<Several<StoodSays>, AllocError>
     ensures { IfOk result (λ lines. lines ≡ once_lines tasks.now ports.now) }
 {
     let mut lines = Several::empty(alloc);
@@ -173,18 +173,18 @@ pub(crate) fn once_lines(
 /// A slot admits each of the classes.
 fn push_admits(
     alloc: Global,
-    lines: &mut Several<WiringSays>,
+    lines: &mut Several<StoodSays>,
     slot: &SlotName,
     classes: &[ClassName],
 ) -> Result<(), AllocError>
     ensures { OnOk result (lines.new ≡ lines.old ++ map (admit_line slot.now) classes.now) }
 {
     for class in classes {
-        lines.push(WiringSays::Admit {
+        lines.push(StoodSays::new(StoodParts::Admit {
             subsystem: slot.subsystem.copy(alloc)?,
             type_name: slot.type_name.copy(alloc)?,
             class: Some(class.copy(alloc)?),
-        })?;
+        }))?;
     }
     Ok(())
 }
@@ -194,7 +194,7 @@ pub(crate) fn admit_lines(
     alloc: Global,
     slots: &[SlotName],
     classes: &[ClassName],
-) -> Result<Several<WiringSays>, AllocError>
+) -> Result<Several<StoodSays>, AllocError>
     ensures { IfOk result (λ lines. lines ≡ admit_lines slots.now classes.now) }
 {
     let mut lines = Several::empty(alloc);
@@ -208,16 +208,16 @@ pub(crate) fn admit_lines(
 pub(crate) fn no_admit_lines(
     alloc: Global,
     slots: &[SlotName],
-) -> Result<Several<WiringSays>, AllocError>
+) -> Result<Several<StoodSays>, AllocError>
     ensures { IfOk result (λ lines. lines ≡ map admit_none slots.now) }
 {
     let mut lines = Several::empty(alloc);
     for slot in slots {
-        lines.push(WiringSays::Admit {
+        lines.push(StoodSays::new(StoodParts::Admit {
             subsystem: slot.subsystem.copy(alloc)?,
             type_name: slot.type_name.copy(alloc)?,
             class: None,
-        })?;
+        }))?;
     }
     Ok(lines)
 }
@@ -246,7 +246,7 @@ pub(crate) fn verbs_of(alloc: Global, verbs: &[RightVerb]) -> Result<Several<Tru
 /// A task may do this by a verb with a right on each of the classes.
 fn push_right(
     alloc: Global,
-    lines: &mut Several<WiringSays>,
+    lines: &mut Several<StoodSays>,
     task: &Name,
     verb: TrustVerb,
     right: PortRight,
@@ -257,11 +257,11 @@ fn push_right(
 {
     for class in classes {
         let class = class.copy(alloc)?;
-        lines.push(WiringSays::Trust {
+        lines.push(StoodSays::new(StoodParts::Trust {
             task: task.copy(alloc)?,
             verb,
             right: Some(TrustedRight { right, class }),
-        })?;
+        }))?;
     }
     Ok(())
 }
@@ -269,7 +269,7 @@ fn push_right(
 /// By a verb with each of the rights on each of the classes.
 fn push_verb(
     alloc: Global,
-    lines: &mut Several<WiringSays>,
+    lines: &mut Several<StoodSays>,
     task: &Name,
     verb: TrustVerb,
     rights: &[PortRight],
@@ -287,7 +287,7 @@ fn push_verb(
 /// By each of the verbs.
 pub(crate) fn push_trusts(
     alloc: Global,
-    lines: &mut Several<WiringSays>,
+    lines: &mut Several<StoodSays>,
     task: &Name,
     verbs: &[TrustVerb],
     rights: &[PortRight],
@@ -305,18 +305,18 @@ pub(crate) fn push_trusts(
 /// A task may do nothing of this line by each of the verbs.
 fn push_nones(
     alloc: Global,
-    lines: &mut Several<WiringSays>,
+    lines: &mut Several<StoodSays>,
     task: &Name,
     verbs: &[TrustVerb],
 ) -> Result<(), AllocError>
     ensures { OnOk result (lines.new ≡ lines.old ++ map (trust_none task.now) verbs.now) }
 {
     for verb in verbs {
-        lines.push(WiringSays::Trust {
+        lines.push(StoodSays::new(StoodParts::Trust {
             task: task.copy(alloc)?,
             verb: *verb,
             right: None,
-        })?;
+        }))?;
     }
     Ok(())
 }
@@ -326,7 +326,7 @@ pub(crate) fn none_lines(
     alloc: Global,
     tasks: &[Name],
     verbs: &[TrustVerb],
-) -> Result<Several<WiringSays>, AllocError>
+) -> Result<Several<StoodSays>, AllocError>
     ensures { IfOk result (λ lines. lines ≡ none_lines tasks.now verbs.now) }
 {
     let mut lines = Several::empty(alloc);

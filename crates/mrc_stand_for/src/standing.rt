@@ -4,6 +4,7 @@ ghost use Rattle.std.specs.Prelude.{◌≡◌, ◌∷◌, [], map, IfOk, OnOk};
 ghost use Rattle.std.specs.List.{list_any};
 ghost use Rattle.mrc_base.specs.Reading.{Gives};
 ghost use Rattle.mrc_stand_for.specs.Once.{with_each, same_slot};
+ghost use Rattle.mrc_wiring_text.specs.declared.wiring.WiringSays.TheVariants as core;
 ghost use Rattle.mrc_stand_for.specs.Known.{births_said};
 ghost use Rattle.mrc_stand_for.specs.Products.{admit_none};
 ghost use Rattle.mrc_stand_for.specs.Steps.{Leaves, each};
@@ -26,10 +27,11 @@ use crate::products::{
     replies_lines, task_lines, verbs_of,
 };
 use crate::several::{Several, add_each, add_once, copy_items, copy_kind, once};
+use crate::stood::{StoodLine, StoodParts, StoodSays};
 use crate::wide::{Place, SlotName, Tasks, Whom, WideClass, WideLine, WideSays};
 use mrc_base::limits::KINDS;
 use mrc_base::{OrMemory, PortRight};
-use mrc_wiring_text::{ClassName, Items, Kind, Line, Name, TrustVerb, WiringLine, WiringSays};
+use mrc_wiring_text::{ClassName, Item, Kind, Line, Name, TrustVerb};
 use std::alloc::{AllocError, Global};
 
 /// Lines that the wide lines of a text may stand for, at most.
@@ -40,7 +42,7 @@ pub const LINES_STOOD_FOR: usize = 1_048_576;
 pub struct StandsFor {
     /// The lines: all, or those in front of the first that is refused. Each has the number of the
     /// wide line that it is of.
-    pub lines: Several<WiringLine>,
+    pub lines: Several<StoodLine>,
     /// Why a line is refused, if one is.
     pub fault: Option<StandFault>,
 }
@@ -51,7 +53,7 @@ pub(crate) struct Standing {
     /// What is known.
     pub known: Known,
     /// The lines that they stand for.
-    pub lines: Several<WiringLine>,
+    pub lines: Several<StoodLine>,
 }
 
 /// Whether a list names all tasks.
@@ -158,13 +160,18 @@ fn add_set(
 }
 
 /// What the births of a task accept, or nothing.
-fn accepts_said(alloc: Global, known: &Known, task: &Name, kind: &Kind) -> Result<Items, AllocError>
+fn accepts_said(
+    alloc: Global,
+    known: &Known,
+    task: &Name,
+    kind: &Kind,
+) -> Result<Several<Item>, AllocError>
     ensures { IfOk result (λ items.
         items ≡ accepts_said (births_said known.now task.now kind.now)) }
 {
     match known.births_said(task, kind.number()) {
         Some(births) => copy_items(alloc, &births.accepts),
-        None => Ok(Items::new(Vec::new(alloc))),
+        None => Ok(Several::empty(alloc)),
     }
 }
 
@@ -206,18 +213,18 @@ fn member_stands(
     port: &Name,
     task: &Name,
     kind: &Kind,
-) -> Result<Several<WiringSays>, OrMemory<StandFault>>
+) -> Result<Several<StoodSays>, OrMemory<StandFault>>
     ensures { IsStood result known.new
         (member_stands known.old line port.now task.now kind.now) }
 {
     let accepts = accepts_said(alloc, known, task, kind)?;
     add_member(alloc, known, line, port, task, kind)?;
     let mut lines = Several::empty(alloc);
-    lines.push(WiringSays::Port {
+    lines.push(StoodSays::new(StoodParts::Port {
         port: port.copy(alloc)?,
         receiver: task.copy(alloc)?,
         accepts,
-    })?;
+    }))?;
     Ok(lines)
 }
 
@@ -226,26 +233,26 @@ fn port_lines(
     alloc: Global,
     port: &Name,
     receiver: &Name,
-    accepts: &Items,
-) -> Result<Several<WiringSays>, AllocError>
+    accepts: &Several<Item>,
+) -> Result<Several<StoodSays>, AllocError>
     ensures { IfOk result (λ lines.
-        lines ≡ WiringSays.Port port.now receiver.now accepts.now ∷ []) }
+        lines ≡ core.Port port.now receiver.now accepts.now ∷ []) }
 {
     let mut lines = Several::empty(alloc);
-    lines.push(WiringSays::Port {
+    lines.push(StoodSays::new(StoodParts::Port {
         port: port.copy(alloc)?,
         receiver: receiver.copy(alloc)?,
         accepts: copy_items(alloc, accepts)?,
-    })?;
+    }))?;
     Ok(lines)
 }
 
 /// `replies fit`.
-fn fit_lines(alloc: Global) -> Result<Several<WiringSays>, AllocError>
-    ensures { IfOk result (λ lines. lines ≡ WiringSays.RepliesFit ∷ []) }
+fn fit_lines(alloc: Global) -> Result<Several<StoodSays>, AllocError>
+    ensures { IfOk result (λ lines. lines ≡ core.RepliesFit ∷ []) }
 {
     let mut lines = Several::empty(alloc);
-    lines.push(WiringSays::RepliesFit)?;
+    lines.push(StoodSays::new(StoodParts::RepliesFit))?;
     Ok(lines)
 }
 
@@ -256,7 +263,7 @@ fn group_stands(
     line: u32,
     group: &Name,
     tasks: &Tasks,
-) -> Result<Several<WiringSays>, OrMemory<StandFault>>
+) -> Result<Several<StoodSays>, OrMemory<StandFault>>
     ensures { IsStood result known.new (group_stands known.old line group.now tasks.now) }
 {
     let listed = tasks_of(alloc, known, line, tasks)?;
@@ -272,7 +279,7 @@ fn set_stands(
     line: u32,
     set: &Name,
     classes: &[WideClass],
-) -> Result<Several<WiringSays>, OrMemory<StandFault>>
+) -> Result<Several<StoodSays>, OrMemory<StandFault>>
     ensures { IsStood result known.new (set_stands known.old line set.now classes.now) }
 {
     let nobody = None;
@@ -290,8 +297,8 @@ fn births_stands(
     line: u32,
     tasks: &Tasks,
     kind: &Kind,
-    accepts: &Items,
-) -> Result<Several<WiringSays>, OrMemory<StandFault>>
+    accepts: &Several<Item>,
+) -> Result<Several<StoodSays>, OrMemory<StandFault>>
     ensures { IsStood result known.new
         (births_stands known.old line tasks.now kind.now accepts.now) }
 {
@@ -308,7 +315,7 @@ fn replies_stands(
     tasks: &Tasks,
     kind: &Kind,
     subsystems: &[Name],
-) -> Result<Several<WiringSays>, OrMemory<StandFault>>
+) -> Result<Several<StoodSays>, OrMemory<StandFault>>
     ensures { IsStood result known.new
         (replies_stands known.old line tasks.now kind.now subsystems.now) }
 {
@@ -326,7 +333,7 @@ fn add_sends(
     known: &Known,
     line: u32,
     places: &[Place],
-    lines: &mut Several<WiringSays>,
+    lines: &mut Several<StoodSays>,
     holder: &Name,
 ) -> Result<(), OrMemory<StandFault>>
     ensures { Leaves result lines.new
@@ -345,7 +352,7 @@ fn all_sends(
     line: u32,
     places: &[Place],
     holders: &[Name],
-) -> Result<Several<WiringSays>, OrMemory<StandFault>>
+) -> Result<Several<StoodSays>, OrMemory<StandFault>>
     ensures { Gives (λ lines. lines) result
         (each (add_sends known.now line places.now) [] holders.now) }
 {
@@ -363,7 +370,7 @@ fn send_stands(
     line: u32,
     tasks: &Tasks,
     places: &[Place],
-) -> Result<Several<WiringSays>, OrMemory<StandFault>>
+) -> Result<Several<StoodSays>, OrMemory<StandFault>>
     ensures { IsStood result known.new (send_stands known.old line tasks.now places.now) }
 {
     let listed = tasks_of(alloc, known, line, tasks)?;
@@ -379,7 +386,7 @@ fn once_stands(
     line: u32,
     tasks: &Tasks,
     ports: &[Name],
-) -> Result<Several<WiringSays>, OrMemory<StandFault>>
+) -> Result<Several<StoodSays>, OrMemory<StandFault>>
     ensures { IsStood result known.new (once_stands known.old line tasks.now ports.now) }
 {
     let listed = tasks_of(alloc, known, line, tasks)?;
@@ -395,7 +402,7 @@ fn admit_stands(
     line: u32,
     slots: &[SlotName],
     classes: &[WideClass],
-) -> Result<Several<WiringSays>, OrMemory<StandFault>>
+) -> Result<Several<StoodSays>, OrMemory<StandFault>>
     ensures { IsStood result known.new (admit_stands known.old line slots.now classes.now) }
 {
     let nobody = None;
@@ -407,7 +414,7 @@ fn admit_stands(
 }
 
 /// `admit SLOT, SLOT .. none`.
-fn no_admits(alloc: Global, slots: &[SlotName]) -> Result<Several<WiringSays>, AllocError>
+fn no_admits(alloc: Global, slots: &[SlotName]) -> Result<Several<StoodSays>, AllocError>
     ensures { IfOk result (λ lines. lines ≡ map admit_none (with_each same_slot [] slots.now)) }
 {
     let slots = once(alloc, slots)?;
@@ -418,7 +425,7 @@ fn no_admits(alloc: Global, slots: &[SlotName]) -> Result<Several<WiringSays>, A
 fn add_trusts(
     alloc: Global,
     known: &mut Known,
-    lines: &mut Several<WiringSays>,
+    lines: &mut Several<StoodSays>,
     line: u32,
     verbs: &[TrustVerb],
     rights: &[PortRight],
@@ -445,7 +452,7 @@ fn all_trusts(
     rights: &[PortRight],
     classes: &[WideClass],
     tasks: &[Name],
-) -> Result<Several<WiringSays>, OrMemory<StandFault>>
+) -> Result<Several<StoodSays>, OrMemory<StandFault>>
     ensures { IsStood result known.new
         (each (add_trusts line verbs.now rights.now classes.now)
         (stood_so_far known.old []) tasks.now) }
@@ -466,7 +473,7 @@ fn trust_stands(
     verbs: &[TrustVerb],
     rights: &[PortRight],
     classes: &[WideClass],
-) -> Result<Several<WiringSays>, OrMemory<StandFault>>
+) -> Result<Several<StoodSays>, OrMemory<StandFault>>
     ensures { IsStood result known.new
         (trust_stands known.old line tasks.now verbs.now rights.now classes.now) }
 {
@@ -493,7 +500,7 @@ fn trust_replies(
     line: u32,
     tasks: &Tasks,
     classes: &[WideClass],
-) -> Result<Several<WiringSays>, OrMemory<StandFault>>
+) -> Result<Several<StoodSays>, OrMemory<StandFault>>
     ensures { IsStood result known.new
         (trust_stands known.old line tasks.now (TrustVerb.Replies ∷ []) (PortRight.SendOnce ∷ [])
         classes.now) }
@@ -510,7 +517,7 @@ fn none_stands(
     line: u32,
     tasks: &Tasks,
     verbs: &[TrustVerb],
-) -> Result<Several<WiringSays>, OrMemory<StandFault>>
+) -> Result<Several<StoodSays>, OrMemory<StandFault>>
     ensures { IsStood result known.new (none_stands known.old line tasks.now verbs.now) }
 {
     let listed = tasks_of(alloc, known, line, tasks)?;
@@ -525,7 +532,7 @@ fn line_stands(
     known: &mut Known,
     line: u32,
     says: &WideSays,
-) -> Result<Several<WiringSays>, OrMemory<StandFault>>
+) -> Result<Several<StoodSays>, OrMemory<StandFault>>
     ensures { IsStood result known.new (line_stands known.old line says.now) }
 {
     match says {
@@ -584,12 +591,12 @@ fn line_stands(
 }
 
 /// Whether a line that is stood for adds to what a line above has closed.
-fn is_late(known: &Known, says: &WiringSays) -> bool
+fn is_late(known: &Known, says: &StoodSays) -> bool
     ensures { result ≡ is_late known.now says.now }
 {
-    match says {
-        WiringSays::Task(_) => known.closed,
-        WiringSays::Births { task, kind, .. } => {
+    match says.parts() {
+        StoodParts::Task(_) => known.closed,
+        StoodParts::Births { task, kind, .. } => {
             is_among(task, known.closed_kinds.as_slice()) || known.has_member(task, kind.number())
         }
         _ => false,
@@ -597,23 +604,23 @@ fn is_late(known: &Known, says: &WiringSays) -> bool
 }
 
 /// Whether it names a task as a group.
-fn is_group(known: &Known, says: &WiringSays) -> bool
+fn is_group(known: &Known, says: &StoodSays) -> bool
     ensures { result ≡ is_group known.now says.now }
 {
-    match says {
-        WiringSays::Task(name) => known.has_group(name),
+    match says.parts() {
+        StoodParts::Task(name) => known.has_group(name),
         _ => false,
     }
 }
 
 /// What is known after it.
-fn learn(alloc: Global, known: &mut Known, says: &WiringSays) -> Result<(), AllocError>
+fn learn(alloc: Global, known: &mut Known, says: &StoodSays) -> Result<(), AllocError>
     ensures { OnOk result (known.new ≡ known_after known.old says.now) }
 {
-    match says {
-        WiringSays::Task(name) => add_once(&mut known.tasks, name.copy(alloc)?),
-        WiringSays::Port { port, .. } => known.ports.push(port.copy(alloc)?),
-        WiringSays::Births {
+    match says.parts() {
+        StoodParts::Task(name) => add_once(&mut known.tasks, name.copy(alloc)?),
+        StoodParts::Port { port, .. } => known.ports.push(port.copy(alloc)?),
+        StoodParts::Births {
             task,
             kind,
             accepts,
@@ -642,7 +649,7 @@ impl Standing {
         &mut self,
         alloc: Global,
         line: u32,
-        says: WiringSays,
+        says: StoodSays,
     ) -> Result<(), OrMemory<StandFault>>
         ensures { Stood result self.new (add_part line self.old says) }
     {
@@ -665,7 +672,7 @@ impl Standing {
         &mut self,
         alloc: Global,
         line: u32,
-        parts: Vec<WiringSays>,
+        parts: Vec<StoodSays>,
     ) -> Result<(), OrMemory<StandFault>>
         ensures { Stood result self.new (each (add_part line) self.old parts.items) }
     {
