@@ -14,7 +14,7 @@ next_is xs i d less =
     drop-cons xs i d less ∙ ap (λ n. get_or xs i d ∷ drop n xs) (sym (add-one i))
 
 -- one step of those that are left
-each_next : {S A F : Type 0} (step : S → A → Result S F) (s : S) (xs : List A) (i : ℕ) (x : A)
+pub each_next : {S A F : Type 0} (step : S → A → Result S F) (s : S) (xs : List A) (i : ℕ) (x : A)
     → i < length xs → x ≡ get_or xs i x
     → each step s (drop i xs) ≡ (step s x >>= λ more. each step more (drop (i + 1) xs))
 each_next step s xs i x less is =

@@ -254,7 +254,6 @@ impl Known {
     }
 
     /// The births of each kind of a task, with the wired ports that are such.
-    #[tactic(auto, using(crate::proofs::KindLemmas::kinds_more))]
     pub(crate) fn all_births(
         &self,
         alloc: Global,
