@@ -6,4 +6,5 @@ use Rattle.mrc_stand_for.proofs.products.push_trusts.Given as goal
 
 abbrev pub invariant-loop-verb : goal.invariant-loop-verb
 invariant-loop-verb l =
-    l.lines ≡ l.fn.lines ++ flat_map (verb_lines l.task l.rights l.classes) (take l.verb-index l.verbs)
+    l.lines ≡ l.fn.lines
+    ++ flat_map (verb_lines l.task l.rights l.classes) (take l.verb-index l.verbs)

@@ -6,4 +6,6 @@ use Rattle.mrc_stand_for.proofs.products.push_verb.Given as goal
 
 abbrev pub invariant-loop-right : goal.invariant-loop-right
 invariant-loop-right l =
-    l.lines ≡ l.fn.lines ++ flat_map (λ right. map (trust_line l.task l.verb right) l.classes) (take l.right-index l.rights)
+    l.lines ≡ l.fn.lines
+    ++ flat_map (λ right. map (trust_line l.task l.verb right) l.classes)
+    (take l.right-index l.rights)
