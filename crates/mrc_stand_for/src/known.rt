@@ -250,7 +250,8 @@ impl Known {
             return Ok(());
         }
         let kind = Kind::new(number).unwrap();
-        self.push_births(alloc, task, &kind, classes)
+        self.push_births(alloc, task, &kind, classes)?;
+        Ok(())
     }
 
     /// The births of each kind of a task, with the wired ports that are such.

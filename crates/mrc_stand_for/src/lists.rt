@@ -188,7 +188,8 @@ impl Found {
     fn add(&mut self, alloc: Global, classes: &[ClassName]) -> Result<(), AllocError>
         ensures { OnOk result (self.new ≡ with_classes self.old classes.now) }
     {
-        add_each(alloc, &mut self.classes, classes)
+        add_each(alloc, &mut self.classes, classes)?;
+        Ok(())
     }
 
     /// The kernel ports of these tasks more.
@@ -214,7 +215,8 @@ impl Found {
     {
         let mut classes = Several::empty(alloc);
         known.push_births(alloc, task, kind, &mut classes)?;
-        self.add(alloc, classes.as_slice())
+        self.add(alloc, classes.as_slice())?;
+        Ok(())
     }
 
     /// All births of a task more.
@@ -223,7 +225,8 @@ impl Found {
     {
         let classes = known.all_births(alloc, task)?;
         self.add(alloc, classes.as_slice())?;
-        self.closed.push(task.copy(alloc)?)
+        self.closed.push(task.copy(alloc)?)?;
+        Ok(())
     }
 
     /// Births of a task more.

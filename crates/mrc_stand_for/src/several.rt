@@ -89,7 +89,8 @@ pub(crate) fn add_once<T: Alike>(list: &mut Several<T>, item: T) -> Result<(), A
     if list.as_slice().iter().any(|other| item.is_alike(other)) {
         return Ok(());
     }
-    list.push(item)
+    list.push(item)?;
+    Ok(())
 }
 
 /// Adds a copy of each that is not there yet.

@@ -1,16 +1,16 @@
 //! The lines that wide lines stand for, one wide line after the other.
 
-ghost use Rattle.std.specs.Prelude.{◌≡◌, ◌∷◌, [], map, IfOk, OnOk};
+ghost use Rattle.std.specs.Prelude.{◌≡◌, ◌||◌, ◌∷◌, ◌++◌, [], map, IfOk, OnOk};
 ghost use Rattle.std.specs.List.{list_any};
 ghost use Rattle.mrc_base.specs.Reading.{Gives};
 ghost use Rattle.mrc_stand_for.specs.Once.{with_each, same_slot};
 ghost use Rattle.mrc_wiring_text.specs.declared.wiring.WiringSays.TheVariants as core;
 ghost use Rattle.mrc_stand_for.specs.Known.{births_said};
-ghost use Rattle.mrc_stand_for.specs.Products.{admit_none};
+ghost use Rattle.mrc_stand_for.specs.Products.{admit_none, verb_of};
 ghost use Rattle.mrc_stand_for.specs.Steps.{Leaves, each};
 ghost use Rattle.mrc_stand_for.specs.Standing.{names_all, whom_names_all, class_names_all};
 ghost use Rattle.mrc_stand_for.specs.Standing.{place_names_all, closing, naming, add_group};
-ghost use Rattle.mrc_stand_for.specs.Standing.{add_set, add_member, add_sends, add_trusts};
+ghost use Rattle.mrc_stand_for.specs.Standing.{add_member, add_sends, add_trusts};
 ghost use Rattle.mrc_stand_for.specs.Standing.{group_stands, set_stands, member_stands};
 ghost use Rattle.mrc_stand_for.specs.Standing.{births_stands, replies_stands, send_stands};
 ghost use Rattle.mrc_stand_for.specs.Standing.{once_stands, admit_stands, trust_stands};
@@ -28,7 +28,7 @@ use crate::products::{
 };
 use crate::several::{Several, add_each, add_once, copy_items, copy_kind, once};
 use crate::stood::{StoodLine, StoodParts, StoodSays};
-use crate::wide::{Place, SlotName, Tasks, Whom, WideClass, WideLine, WideSays};
+use crate::wide::{Place, RightVerb, SlotName, Tasks, Whom, WideClass, WideLine, WideSays};
 use mrc_base::limits::KINDS;
 use mrc_base::{OrMemory, PortRight};
 use mrc_wiring_text::{ClassName, Item, Kind, Line, Name, TrustVerb};
@@ -106,6 +106,18 @@ fn any_place_names_all(places: &[Place]) -> bool
     places.iter().any(|place| place_names_all(place))
 }
 
+fn send_names_all(tasks: &Tasks, places: &[Place]) -> bool
+    ensures { result ≡ (names_all tasks.now || list_any place_names_all places.now) }
+{
+    names_all(tasks) || any_place_names_all(places)
+}
+
+fn trust_names_all(tasks: &Tasks, classes: &[WideClass]) -> bool
+    ensures { result ≡ (names_all tasks.now || list_any class_names_all classes.now) }
+{
+    names_all(tasks) || any_class_names_all(classes)
+}
+
 /// There are no more tasks, if a list names all.
 fn close(known: &mut Known, all: bool)
     ensures { known.new ≡ closing all known.old }
@@ -118,7 +130,8 @@ fn name_classes(alloc: Global, known: &mut Known, found: &Found) -> Result<(), A
     ensures { OnOk result (known.new ≡ naming found.now known.old) }
 {
     add_each(alloc, &mut known.closed_kinds, found.closed.as_slice())?;
-    add_each(alloc, &mut known.named, found.classes.as_slice())
+    add_each(alloc, &mut known.named, found.classes.as_slice())?;
+    Ok(())
 }
 
 /// One group more, of a new name.
@@ -139,19 +152,12 @@ fn add_group(
     Ok(())
 }
 
-/// One set more, of a new name.
-fn add_set(
-    alloc: Global,
-    known: &mut Known,
-    line: u32,
-    name: &Name,
-    found: Found,
-) -> Result<(), OrMemory<StandFault>>
-    ensures { Leaves result known.new (add_set known.old line name.now found) }
+/// One set more.
+fn push_set(alloc: Global, known: &mut Known, name: &Name, found: Found) -> Result<(), AllocError>
+    ensures { OnOk result (known.new ≡ record known.old {
+      sets = known.old.sets ++ record { name = name.now; classes = found.classes } ∷ [];
+    }) }
 {
-    if known.has_set(name) {
-        return Err(OrMemory::Fault(StandFault::TwiceNamed(line)));
-    }
     let name = name.copy(alloc)?;
     let Found { classes, closed } = found;
     drop(closed);
@@ -170,7 +176,7 @@ fn accepts_said(
         items ≡ accepts_said (births_said known.now task.now kind.now)) }
 {
     match known.births_said(task, kind.number()) {
-        Some(births) => copy_items(alloc, &births.accepts),
+        Some(births) => Ok(copy_items(alloc, &births.accepts)?),
         None => Ok(Several::empty(alloc)),
     }
 }
@@ -284,8 +290,11 @@ fn set_stands(
 {
     let nobody = None;
     let found = classes_of(alloc, known, line, &nobody, classes)?;
+    if known.has_set(set) {
+        return Err(OrMemory::Fault(StandFault::TwiceNamed(line)));
+    }
     name_classes(alloc, known, &found)?;
-    add_set(alloc, known, line, set, found)?;
+    push_set(alloc, known, set, found)?;
     close(known, any_class_names_all(classes));
     Ok(Several::empty(alloc))
 }
@@ -375,7 +384,7 @@ fn send_stands(
 {
     let listed = tasks_of(alloc, known, line, tasks)?;
     let lines = all_sends(alloc, known, line, places, listed.as_slice())?;
-    close(known, names_all(tasks) || any_place_names_all(places));
+    close(known, send_names_all(tasks, places));
     Ok(lines)
 }
 
@@ -418,7 +427,7 @@ fn no_admits(alloc: Global, slots: &[SlotName]) -> Result<Several<StoodSays>, Al
     ensures { IfOk result (λ lines. lines ≡ map admit_none (with_each same_slot [] slots.now)) }
 {
     let slots = once(alloc, slots)?;
-    no_admit_lines(alloc, slots.as_slice())
+    Ok(no_admit_lines(alloc, slots.as_slice())?)
 }
 
 /// What a trusted task may do by each verb.
@@ -480,7 +489,7 @@ fn trust_stands(
     let listed = tasks_of(alloc, known, line, tasks)?;
     let verbs = once(alloc, verbs)?;
     let rights = once(alloc, rights)?;
-    close(known, names_all(tasks) || any_class_names_all(classes));
+    close(known, trust_names_all(tasks, classes));
     let verbs = verbs.as_slice();
     all_trusts(
         alloc,
@@ -491,6 +500,23 @@ fn trust_stands(
         classes,
         listed.as_slice(),
     )
+}
+
+/// `trust TASKS VERB, VERB .. RIGHTS CLASSES`, by its own verbs.
+fn trust_rights(
+    alloc: Global,
+    known: &mut Known,
+    line: u32,
+    tasks: &Tasks,
+    verbs: &[RightVerb],
+    rights: &[PortRight],
+    classes: &[WideClass],
+) -> Result<Several<StoodSays>, OrMemory<StandFault>>
+    ensures { IsStood result known.new (trust_stands known.old line tasks.now
+        (map verb_of verbs.now) rights.now classes.now) }
+{
+    let verbs = verbs_of(alloc, verbs)?;
+    trust_stands(alloc, known, line, tasks, verbs.as_slice(), rights, classes)
 }
 
 /// `trust TASKS replies CLASSES`.
@@ -574,12 +600,15 @@ fn line_stands(
             verbs,
             rights,
             classes,
-        } => {
-            let verbs = verbs_of(alloc, verbs.as_slice())?;
-            let verbs = verbs.as_slice();
-            let (rights, classes) = (rights.as_slice(), classes.as_slice());
-            trust_stands(alloc, known, line, tasks, verbs, rights, classes)
-        }
+        } => trust_rights(
+            alloc,
+            known,
+            line,
+            tasks,
+            verbs.as_slice(),
+            rights.as_slice(),
+            classes.as_slice(),
+        ),
         WideSays::TrustReplies { tasks, classes } => {
             trust_replies(alloc, known, line, tasks, classes.as_slice())
         }
@@ -618,17 +647,26 @@ fn learn(alloc: Global, known: &mut Known, says: &StoodSays) -> Result<(), Alloc
     ensures { OnOk result (known.new ≡ known_after known.old says.now) }
 {
     match says.parts() {
-        StoodParts::Task(name) => add_once(&mut known.tasks, name.copy(alloc)?),
-        StoodParts::Port { port, .. } => known.ports.push(port.copy(alloc)?),
+        StoodParts::Task(name) => {
+            add_once(&mut known.tasks, name.copy(alloc)?)?;
+            Ok(())
+        }
+        StoodParts::Port { port, .. } => {
+            known.ports.push(port.copy(alloc)?)?;
+            Ok(())
+        }
         StoodParts::Births {
             task,
             kind,
             accepts,
-        } => known.births.push(KnownBirths {
-            task: task.copy(alloc)?,
-            kind: copy_kind(kind),
-            accepts: copy_items(alloc, accepts)?,
-        }),
+        } => {
+            known.births.push(KnownBirths {
+                task: task.copy(alloc)?,
+                kind: copy_kind(kind),
+                accepts: copy_items(alloc, accepts)?,
+            })?;
+            Ok(())
+        }
         _ => Ok(()),
     }
 }
