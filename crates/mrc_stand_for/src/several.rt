@@ -1,6 +1,7 @@
 //! Lists of things, in which nothing has to be twice.
 
 ghost use Rattle.std.specs.Prelude.{◌≡◌, ◌++◌, ◌∷◌, [], OnOk, IfOk, bytes_eq, nat_eq, fold};
+ghost use Rattle.std.specs.List.{list_any};
 ghost use Rattle.mrc_stand_for.specs.Once.{with_once, with_each, same_class, same_place};
 ghost use Rattle.mrc_stand_for.specs.Once.{same_slot, same_verb, same_right};
 
@@ -82,11 +83,18 @@ pub(crate) trait Alike: Drop {
         ensures { result ≡ is_same self.now other.now };
 }
 
+/// Whether it is there.
+fn has<T: Alike>(items: &[T], item: &T) -> bool
+    ensures { result ≡ list_any (T.is_same item.now) items.now }
+{
+    items.iter().any(|other| item.is_alike(other))
+}
+
 /// Adds what is not there yet.
 pub(crate) fn add_once<T: Alike>(list: &mut Several<T>, item: T) -> Result<(), AllocError>
     ensures { OnOk result (list.new ≡ with_once T.is_same list.old item) }
 {
-    if list.as_slice().iter().any(|other| item.is_alike(other)) {
+    if has(list.as_slice(), &item) {
         return Ok(());
     }
     list.push(item)?;

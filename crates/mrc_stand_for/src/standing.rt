@@ -122,7 +122,7 @@ fn trust_names_all(tasks: &Tasks, classes: &[WideClass]) -> bool
 fn close(known: &mut Known, all: bool)
     ensures { known.new ≡ closing all known.old }
 {
-    known.closed = known.closed || all;
+    known.closed |= all;
 }
 
 /// What the classes that a list names close.
