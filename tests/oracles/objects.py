@@ -698,6 +698,8 @@ def file_object(name, lines):
     types = [type_object(told) for told in taken(lines, NOT_READ)]
     left = [left_object(told) for told in taken(lines, LEFT_OUT)]
     carrying = sum(bool(routine["carries"]) for routine in left)
+    if lines[0] == f"{shown(name)}: cut by an older mig: make it anew":
+        lines.pop(0)
     count, of, rights = re.fullmatch(r"(\d+) of (\d+) routines read(?:, (\d+) of those left out carr\w+ rights)?",
                                      lines.pop(0).removeprefix(f"{shown(name)}: ")).groups()
     if int(of) != int(count) + len(left) or int(rights or 0) != carrying:
