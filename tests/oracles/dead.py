@@ -54,7 +54,7 @@ class Dead:
         for name, interface in self.system.interfaces.items():
             askers = self.askers(("request", name))
             ports = self.accepting(("reply", name))
-            if interface.brings_reply() and askers:
+            if interface.has_routine() and askers:
                 if not any(self.hears(t, c) for t in askers for c in ports):
                     yield name
 

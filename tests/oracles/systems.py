@@ -88,6 +88,9 @@ class Interface:
     requests: list = field(default_factory=list)
     replies: list = field(default_factory=list)
 
+    def has_routine(self):
+        return any(form.kind == "routine" for form in self.requests)
+
     def brings_reply(self):
         """Whether a request may bring a reply right: that of a routine, or of a simpleroutine with a reply port."""
         return any(form.kind in ("routine", "replied") for form in self.requests)
