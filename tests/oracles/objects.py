@@ -715,6 +715,29 @@ def mig_object(folder, asked, texts):
     return {"answer": "not cut" if texts.plain.status else "cut", "command": "mig", "files": files, "schema": 2}
 
 
+MOST_SHOWN = 20_000  # bytes of a line before the place of a fault, at it, and behind it
+
+
+def front_shown(text):
+    """What is shown of a text: its first bytes, and two dots if these are not all."""
+    front = text.encode()[:MOST_SHOWN].decode(errors="ignore")
+    return shown(front) + ("" if front == text else "..")
+
+
+def end_shown(text):
+    """The same of its last bytes, with the dots in front."""
+    end = text.encode()[-MOST_SHOWN:].decode(errors="ignore")
+    return ("" if end == text else "..") + shown(end)
+
+
+def first_signs(text, width):
+    """The first signs of a text that are shown so wide."""
+    at = 0
+    while at < len(text) and len(shown(text[:at]) if width < 100 else text[:at]) < width:
+        at += 1
+    return text[:at]
+
+
 def place_of(folder, asked, file, lines):
     """The place of a fault, by the lines behind it: the line, its column and its whole text; and the notes."""
     place = re.fullmatch(re.escape(f"{file}:") + r"(\d+):(\d+)", lines[0]) if lines else None
@@ -723,9 +746,12 @@ def place_of(folder, asked, file, lines):
     (path,) = {folder / name for name in asked.named() if shown(name) == file}
     line, column = int(place[1]), int(place[2])
     text = path.read_bytes().decode().split("\n")[line - 1]
-    before = len(shown(text[: column - 1]))
-    if lines[1] != f"  {shown(text)}" or not re.fullmatch(rf"  {before * ' '}\^+", lines[2]):
-        raise Wrong(f"another line or other carets than of {text!r}: {lines[1:3]}")
+    before, behind = end_shown(text[: column - 1]), text[column - 1 :]
+    carets = lines[2].removeprefix("  " + len(before) * " ")
+    words = ("", first_signs(behind, len(carets)))
+    lines_of = {f"  {before}{front_shown(word)}{front_shown(behind[len(word) :])}" for word in words}
+    if lines[1] not in lines_of or not re.fullmatch(r"\^+", carets):
+        raise Wrong(f"another line or other carets than of {text[:200]!r}: {lines[1][:200]!r}, {lines[2][:200]!r}")
     return line, column, text, [note[2:] for note in lines[3:]]
 
 
