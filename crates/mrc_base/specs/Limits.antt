@@ -15,7 +15,11 @@ limit_of_kinds = 16
 
 -- interfaces of a wiring
 abbrev pub limit_of_interfaces : ℕ
-limit_of_interfaces = 16
+limit_of_interfaces = 256
+
+-- interfaces of a wiring of version 1 or 2
+abbrev pub limit_of_few_interfaces : ℕ
+limit_of_few_interfaces = 16
 
 -- message ids of an interface, those that it skips counted
 abbrev pub limit_of_ids : ℕ

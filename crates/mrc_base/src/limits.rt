@@ -10,7 +10,9 @@ pub const WIRED_PORTS: usize = 256;
 /// Kinds of births of a task, at most.
 pub const KINDS: u8 = 16;
 /// Interfaces of a wiring, at most.
-pub const INTERFACES: usize = 16;
+pub const INTERFACES: usize = 256;
+/// Interfaces of a wiring of version 1 or 2, at most.
+pub const FEW_INTERFACES: usize = 16;
 /// Message ids of an interface, at most, those that it skips counted.
 pub const IDS: usize = 1000;
 /// Message ids of a MIG file of edition 1, at most, those that it skips counted.
@@ -56,6 +58,7 @@ pub fn limits_are_defined()
     ensures wired_ports { WIRED_PORTS ≡ limit.limit_of_wired_ports }
     ensures kinds { KINDS ≡ limit.limit_of_kinds }
     ensures interfaces { INTERFACES ≡ limit.limit_of_interfaces }
+    ensures few_interfaces { FEW_INTERFACES ≡ limit.limit_of_few_interfaces }
     ensures ids { IDS ≡ limit.limit_of_ids }
     ensures first_edition_ids { FIRST_EDITION_IDS ≡ limit.limit_of_first_edition_ids }
     ensures arguments { ARGUMENTS ≡ limit.limit_of_arguments }

@@ -6,7 +6,7 @@ use mrc_base::OrMemory;
 use mrc_forms::Interface;
 use mrc_interface::{DefsFault, read_interface};
 use mrc_wiring::Wired;
-use mrc_wiring_text::{WiringLine, read_wiring};
+use mrc_wiring_text::{Edition, WiringLine, read_wiring, wiring_edition};
 use std::alloc::Global;
 
 /// The first part of a text, up to `|`, and what is behind it.
@@ -26,8 +26,13 @@ fn interfaces_of(alloc: Global, list: &str) -> Result<Vec<Interface>, OrMemory<D
 }
 
 /// The wiring of lines over the tables of MIG texts.
-fn resolved(alloc: Global, lines: &[WiringLine], interfaces: Vec<Interface>) -> Result<Wired> {
-    match Wired::resolve(alloc, lines, interfaces) {
+fn resolved(
+    alloc: Global,
+    edition: Edition,
+    lines: &[WiringLine],
+    interfaces: Vec<Interface>,
+) -> Result<Wired> {
+    match Wired::resolve(alloc, edition, lines, interfaces) {
         Ok(wired) => Ok(wired),
         Err(refused) => Err(refused.why.into()),
     }
@@ -35,6 +40,13 @@ fn resolved(alloc: Global, lines: &[WiringLine], interfaces: Vec<Interface>) -> 
 
 /// The wiring of a text over MIG texts that have a `&` between them.
 pub fn wired_of(alloc: Global, list: &str, wiring: &str) -> Result<Wired> {
-    let lines = read_wiring(alloc, sample(wiring).as_bytes())?;
-    resolved(alloc, lines.as_slice(), interfaces_of(alloc, list)?)
+    let text = sample(wiring).as_bytes();
+    let edition = wiring_edition(alloc, text)?;
+    let lines = read_wiring(alloc, text)?;
+    resolved(
+        alloc,
+        edition,
+        lines.as_slice(),
+        interfaces_of(alloc, list)?,
+    )
 }

@@ -7,9 +7,13 @@ use Rattle.mrc_base.specs.Reading.{◌>>=◌}
 use Rattle.mrc_base.proofs.Steps.{bind_ok, bind_to, ok_is, err_is_ok}
 use Rattle.mrc_interface.specs.Reading.{interfaces_of, step}
 use Rattle.mrc_interface.proofs.ReadingLaws.{interfaces_read, read_interfaces_are}
-use Rattle.mrc_wiring_text.specs.Wiring.{wiring_of, wiring_says}
+use Rattle.mrc_wiring_text.specs.declared.reading.Edition.{Edition}
+use Rattle.mrc_wiring_text.specs.declared.reading.Line.{Line}
+use Rattle.mrc_wiring_text.specs.declared.wiring.WiringSays.{WiringSays}
+use Rattle.mrc_wiring_text.specs.Texts.{IsWiring}
+use Rattle.mrc_wiring_text.specs.Wiring.{wiring_edition, wiring_of, wiring_says}
 use Rattle.mrc_wiring_text.specs.Policy.{policy_of, policy_says}
-use Rattle.mrc_wiring_text.proofs.TextLaws.{text_found, text_read}
+use Rattle.mrc_wiring_text.proofs.TextLaws.{edition_read, text_found, text_read}
 use Rattle.mrc_wiring.specs.Resolving.{resolved}
 use Rattle.mrc_wiring.specs.Claims.{Claimed, forbidden_lines}
 use Rattle.mrc_certificate.specs.Spelling.{content}
@@ -23,7 +27,7 @@ use Rattle.mrc_check.specs.declared.texts.TextsFault.TheVariants.{Meaning, Check
 use Rattle.mrc_check.specs.Verdict.{Case, IsAccepted}
 use Rattle.mrc_check.specs.Texts.{InDefs, InWiring, InPolicy, InCertificate, SayYes}
 use Rattle.mrc_check.specs.Texts.{Meant, MeanSystem, MeanClaim, Stated, meaningless, lines_fault}
-use Rattle.mrc_check.specs.Texts.{system_over, system_of, claim_of, stated_by, stated_of}
+use Rattle.mrc_check.specs.Texts.{read_lines, system_over, system_of, claim_of, stated_by, stated_of}
 use Rattle.mrc_check.specs.Texts.{answered_by, case_of, IsTold, Tells}
 use Rattle.mrc_check.proofs.Accepted.{no_reason}
 
@@ -37,6 +41,25 @@ step_ok : {A E F : Type 0} (place : E → F) (r : Result A E) (x : A) → step p
 step_ok place (Ok y) x e = cc
 step_ok place (Err fault) x e = absurd cc
 
+-- what is read of a wiring: its edition, and its lines
+lines_read : (wiring : List ℕ) (read : Edition × List (Line WiringSays))
+    → read_lines wiring ≡ Ok read
+    → (wiring_edition wiring ≡ Ok read.0) × (wiring_of wiring ≡ Ok read.1)
+lines_read wiring read e =
+    let edition = bind_ok (wiring_edition wiring) _ read e in
+    let lines = bind_ok (wiring_of wiring) _ read edition.2 in
+    let same : (edition.0, lines.0) ≡ read = ok_is (edition.0, lines.0) read lines.2 in (
+      edition.1 ∙ ap (λ (r : Edition × List (Line WiringSays)). Ok r.0) same,
+      lines.1 ∙ ap (λ (r : Edition × List (Line WiringSays)). Ok r.1) same,
+    )
+
+-- the lines of a wiring are read, with its edition
+read_again : (wiring : List ℕ) (lines : List (Line WiringSays)) (is : IsWiring wiring lines)
+    → read_lines wiring ≡ Ok (is.edition, lines)
+read_again wiring lines is =
+    bind_to (wiring_edition wiring) is.edition _ _ (edition_read _ wiring_says wiring lines is)
+    (bind_to (wiring_of wiring) lines _ _ (text_read _ wiring_says wiring lines is) refl)
+
 -- the system that texts have is one that they mean
 system_from : (defs : List (List ℕ)) (wiring : List ℕ) (system : Meant)
     → system_of defs wiring ≡ Ok system
@@ -44,14 +67,18 @@ system_from : (defs : List (List ℕ)) (wiring : List ℕ) (system : Meant)
 system_from defs wiring system e =
     let i = bind_ok (step InDefs (interfaces_of defs)) _ system e in
     let over = step_ok InWiring (system_over i.0 wiring) system i.2 in
-    let w = bind_ok (step wiring_fault.Text (wiring_of wiring)) _ system over in
-    let t = bind_ok (step (lines_fault w.0) (resolved i.0 w.0)) _ system w.2 in
-    let is_wiring = step_ok wiring_fault.Text (wiring_of wiring) w.0 w.1 in
-    subst (MeanSystem defs wiring) (ok_is record { lines = w.0; table = t.0 } system t.2) record {
+    let w = bind_ok (step wiring_fault.Text (read_lines wiring)) _ system over in
+    let t = bind_ok (step (lines_fault w.0.1) (resolved w.0.0 i.0 w.0.1)) _ system w.2 in
+    let read = lines_read wiring w.0 (step_ok wiring_fault.Text (read_lines wiring) w.0 w.1) in
+    let is_wiring = text_found _ wiring_says wiring w.0.1 read.1 in
+    let edition : w.0.0 ≡ is_wiring.edition = ok_is w.0.0 is_wiring.edition
+    (sym read.0 ∙ edition_read _ wiring_says wiring w.0.1 is_wiring) in
+    subst (MeanSystem defs wiring) (ok_is record { lines = w.0.1; table = t.0 } system t.2) record {
       interfaces = i.0;
       are_interfaces = read_interfaces_are defs i.0 (step_ok InDefs (interfaces_of defs) i.0 i.1);
-      is_wiring = text_found _ wiring_says wiring w.0 is_wiring;
-      is_table = step_ok (lines_fault w.0) (resolved i.0 w.0) t.0 t.1;
+      is_wiring = is_wiring;
+      is_table = ap (λ e. resolved e i.0 w.0.1) (sym edition)
+          ∙ step_ok (lines_fault w.0.1) (resolved w.0.0 i.0 w.0.1) t.0 t.1;
     }
 
 -- and one that they mean is theirs
@@ -61,9 +88,11 @@ system_to : (defs : List (List ℕ)) (wiring : List ℕ) (system : Meant)
 system_to defs wiring system m =
     goes_on InDefs m.interfaces (interfaces_of defs) _
     (interfaces_read defs m.interfaces m.are_interfaces)
-    ∙ ap (step InWiring) (goes_on wiring_fault.Text system.lines (wiring_of wiring) _
-    (text_read _ wiring_says wiring system.lines m.is_wiring)
-    ∙ goes_on (lines_fault system.lines) system.table (resolved m.interfaces system.lines) _
+    ∙ ap (step InWiring) (goes_on wiring_fault.Text (m.is_wiring.edition, system.lines)
+    (read_lines wiring) _
+    (read_again wiring system.lines m.is_wiring)
+    ∙ goes_on (lines_fault system.lines) system.table
+    (resolved m.is_wiring.edition m.interfaces system.lines) _
     m.is_table)
 
 -- the claim that texts have is one that they mean

@@ -8,11 +8,12 @@ use Rattle.mrc_base.specs.Reading.{◌>>=◌, UnlessMemory}
 use Rattle.mrc_forms.specs.Tables.{Table as Interface}
 use Rattle.mrc_interface.specs.Reading.{AreInterfaces, Refused as RefusedFile, refused_of}
 use Rattle.mrc_interface.specs.Reading.{interfaces_of, step}
+use Rattle.mrc_wiring_text.specs.declared.reading.Edition.{Edition}
 use Rattle.mrc_wiring_text.specs.declared.reading.Line.{Line}
 use Rattle.mrc_wiring_text.specs.declared.faults.TextFault.{TextFault}
 use Rattle.mrc_wiring_text.specs.declared.wiring.WiringSays.{WiringSays}
 use Rattle.mrc_wiring_text.specs.declared.policy.Forbid.{Forbid}
-use Rattle.mrc_wiring_text.specs.Wiring.{wiring_of}
+use Rattle.mrc_wiring_text.specs.Wiring.{wiring_edition, wiring_of}
 use Rattle.mrc_wiring_text.specs.Policy.{policy_of}
 use Rattle.mrc_wiring_text.specs.Texts.{IsWiring, IsPolicy}
 use Rattle.mrc_wiring.specs.Table.{Table}
@@ -39,12 +40,12 @@ pub record Meant : Type 0 where
   pub table : Table
 
 -- The bytes mean a system: the definitions are MIG files, and the wiring has lines that have a
--- table over their interfaces.
+-- table over their interfaces, by the wiring's edition.
 pub record MeanSystem (defs : List (List ℕ)) (wiring : List ℕ) (system : Meant) : Type 0 where
   pub interfaces : List Interface
   pub are_interfaces : AreInterfaces defs interfaces
   pub is_wiring : IsWiring wiring system.lines
-  pub is_table : resolved interfaces system.lines ≡ Ok system.table
+  pub is_table : resolved is_wiring.edition interfaces system.lines ≡ Ok system.table
 
 -- The bytes mean a claim: MIG files and wiring mean a system, and the policy forbids these lines in
 -- its table.
@@ -95,12 +96,19 @@ lines_fault lines (TooManyNames t) = named t (slice_get (task_names lines) t)
     named t None = wiring_fault.Lines (TooManyNames t)
 lines_fault lines fault = wiring_fault.Lines fault
 
+-- the edition of a wiring, and its lines
+abbrev pub read_lines : List ℕ → Result (Edition × List (Line WiringSays)) TextFault
+read_lines wiring = do
+  edition ← wiring_edition wiring
+  lines ← wiring_of wiring
+  Ok (edition, lines)
+
 -- the system that a wiring's bytes mean over interfaces
 abbrev pub system_over : List Interface → List ℕ → Result Meant WiringFault
 system_over interfaces wiring = do
-  lines ← step wiring_fault.Text (wiring_of wiring)
-  table ← step (lines_fault lines) (resolved interfaces lines)
-  Ok (record { lines = lines; table = table })
+  read ← step wiring_fault.Text (read_lines wiring)
+  table ← step (lines_fault read.1) (resolved read.0 interfaces read.1)
+  Ok (record { lines = read.1; table = table })
 
 -- the system that MIG files and a wiring mean
 abbrev pub system_of : List (List ℕ) → List ℕ → Result Meant Meaningless

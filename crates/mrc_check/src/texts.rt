@@ -2,13 +2,13 @@
 
 ghost use Rattle.std.specs.Prelude.{◌≡◌, IfOk, IfErr, map, slice_get};
 ghost use Rattle.std.specs.Option.{option_map};
-ghost use Rattle.mrc_base.specs.Reading.{UnlessMemory};
+ghost use Rattle.mrc_base.specs.Reading.{Gives, UnlessMemory};
 ghost use Rattle.mrc_interface.specs.Reading.{GivesAs, step};
 ghost use Rattle.mrc_wiring.specs.declared.faults.ResolveFault.{ResolveFault};
 ghost use Rattle.mrc_wiring.specs.Resolving.{task_names};
 ghost use Rattle.mrc_check.specs.Verdict.{Case};
 ghost use Rattle.mrc_check.specs.Texts.{SayYes, GivesOrReturns, meaningless};
-ghost use Rattle.mrc_check.specs.Texts.{InWiring, lines_fault, system_over, system_of, stated_by};
+ghost use Rattle.mrc_check.specs.Texts.{InWiring, lines_fault, read_lines, system_over, system_of, stated_by};
 ghost use Rattle.mrc_check.specs.Texts.{stated_of, answered_by, case_of, Tells};
 
 use crate::confined::{Confined, Refused, check};
@@ -18,7 +18,9 @@ use mrc_base::{Copies, OrMemory};
 use mrc_certificate::read_draft;
 use mrc_interface::read_interfaces;
 use mrc_wiring::{Claim, Interfaces, ResolveFault, Wired};
-use mrc_wiring_text::{Name, WiringLine, WiringSays, read_policy, read_wiring};
+use mrc_wiring_text::{
+    Edition, Name, TextFault, WiringLine, WiringSays, read_policy, read_wiring, wiring_edition,
+};
 use std::alloc::{AllocError, Global};
 use std::marker::Model;
 use std::thread::Threads;
@@ -116,6 +118,18 @@ fn lines_refusal(
     }
 }
 
+/// The edition of a wiring, and its lines.
+fn read_lines(
+    alloc: Global,
+    wiring: &[u8],
+) -> Result<(Edition, Vec<WiringLine>), OrMemory<TextFault>>
+    ensures { Gives (λ read. (read.0, read.1.items)) result (read_lines wiring.now) }
+{
+    let edition = wiring_edition(alloc, wiring)?;
+    let lines = read_wiring(alloc, wiring)?;
+    Ok((edition, lines))
+}
+
 impl System {
     /// The system that the bytes of a wiring mean over interfaces, which the wiring keeps. With a
     /// refusal they come back.
@@ -128,14 +142,14 @@ impl System {
             (step InWiring (system_over interfaces wiring.now)) }
         ensures kept { IfOk result (λ system. system.table.interfaces ≡ interfaces) }
     {
-        let lines = match read_wiring(alloc, wiring) {
-            Ok(lines) => lines,
+        let (edition, lines) = match read_lines(alloc, wiring) {
+            Ok(read) => read,
             Err(refusal) => {
                 let fault = refusal.map_fault(|fault| CaseFault::Wiring(WiringFault::Text(fault)));
                 return Err((interfaces, fault));
             }
         };
-        match Wired::over(alloc, lines.as_slice(), interfaces) {
+        match Wired::over(alloc, edition, lines.as_slice(), interfaces) {
             Ok(wired) => Ok(System { lines, wired }),
             Err((interfaces, why)) => {
                 let fault = lines_refusal(alloc, lines.as_slice(), why);

@@ -18,7 +18,7 @@ use Rattle.mrc_wiring.specs.Claims.{Claimed, forbidden_lines}
 use Rattle.mrc_wiring.specs.declared.claim.ForbiddenLine.{ForbiddenLine}
 use Rattle.mrc_wiring.specs.Resolving.{resolved}
 use Rattle.mrc_wiring.specs.Table.{Table, wiring_of}
-use Rattle.mrc_wiring_text.proofs.TextLaws.{text_read}
+use Rattle.mrc_wiring_text.proofs.TextLaws.{edition_read, text_read}
 use Rattle.mrc_wiring_text.specs.Policy.{policy_says}
 use Rattle.mrc_wiring_text.specs.Wiring.{wiring_says}
 
@@ -32,9 +32,15 @@ same_claim defs wiring policy a b m n =
     let lines : m.lines ≡ n.lines = ok_is m.lines n.lines
     (sym (text_read _ wiring_says wiring m.lines m.system.is_wiring)
     ∙ text_read _ wiring_says wiring n.lines n.system.is_wiring) in
+    let edition : m.system.is_wiring.edition ≡ n.system.is_wiring.edition =
+    ok_is m.system.is_wiring.edition n.system.is_wiring.edition
+    (sym (edition_read _ wiring_says wiring m.lines m.system.is_wiring)
+    ∙ edition_read _ wiring_says wiring n.lines n.system.is_wiring) in
     let table : a.table ≡ b.table = ok_is a.table b.table
-    (sym m.system.is_table ∙ ap (λ i. resolved i m.lines) interfaces
-    ∙ ap (λ l. resolved n.system.interfaces l) lines ∙ n.system.is_table) in
+    (sym m.system.is_table ∙ ap (λ e. resolved e m.system.interfaces m.lines) edition
+    ∙ ap (λ i. resolved n.system.is_wiring.edition i m.lines) interfaces
+    ∙ ap (λ l. resolved n.system.is_wiring.edition n.system.interfaces l) lines
+    ∙ n.system.is_table) in
     let says : m.policy_lines ≡ n.policy_lines = ok_is m.policy_lines n.policy_lines
     (sym (text_read _ policy_says policy m.policy_lines m.is_policy)
     ∙ text_read _ policy_says policy n.policy_lines n.is_policy) in

@@ -189,7 +189,7 @@ pub fn wiring_name_hint(
     }
     match fault {
         ResolveFault::TwiceNamed(_) => twins(alloc, defs, files),
-        ResolveFault::TooMany(_) => Ok(Hint::of_notes(last_file(alloc, files)?)),
+        ResolveFault::TooMany(_) => Ok(Hint::of_notes(last_file(alloc, text, files)?)),
         _ => Ok(Hint::none(alloc)),
     }
 }

@@ -4,8 +4,10 @@ ghost use Rattle.std.specs.Prelude.{◌<◌, length, IfSome};
 
 use crate::known_names::{Known, Unknown, name_of};
 use crate::named::Named;
+use mrc_base::OrMemory;
 use mrc_forms::Interface;
 use mrc_place::{did_you_mean, listed, nearest, one_note};
+use mrc_wiring_text::{Edition, wiring_edition};
 use std::alloc::{AllocError, Global};
 
 fn task_note(is_wiring: bool) -> &'static str {
@@ -212,11 +214,28 @@ pub(crate) fn twin_notes(
     }
 }
 
-/// The file that is one too many.
-pub(crate) fn last_file(alloc: Global, files: &[&str]) -> Result<Vec<String>, AllocError> {
-    match files.get(16) {
+/// How many files a wiring of this text may have, and what one more is.
+fn one_too_many(alloc: Global, wiring: &str) -> Result<(usize, &'static str), AllocError> {
+    match wiring_edition(alloc, wiring.as_bytes()) {
+        Ok(Edition::Third) => Ok((256, "is the 257th MIG file: a wiring has at most 256")),
+        Err(OrMemory::Memory) => Err(AllocError),
+        _ => {
+            let text = "is the 17th MIG file: a wiring of version 1 or 2 has at most 16, one of \
+                        version 3 has 256";
+            Ok((16, text))
+        }
+    }
+}
+
+/// The file that is one too many for a wiring of this text.
+pub(crate) fn last_file(
+    alloc: Global,
+    wiring: &str,
+    files: &[&str],
+) -> Result<Vec<String>, AllocError> {
+    let (most, text) = one_too_many(alloc, wiring)?;
+    match files.get(most) {
         Some(file) => {
-            let text = "is the 17th MIG file: a wiring has at most 16";
             let note = format!(in alloc; "{file} {text}")?;
             Ok(vec![in alloc; note]?)
         }

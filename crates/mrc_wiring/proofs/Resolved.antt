@@ -14,6 +14,7 @@ use Rattle.mrc_model.specs.declared.FirstLine.TheVariants.{Hold as HoldLine}
 use Rattle.mrc_model.specs.Rights.{is_receive}
 use Rattle.mrc_model.specs.FirstHoldings.{names_given}
 use Rattle.mrc_forms.specs.Tables.{Table as Interface}
+use Rattle.mrc_wiring_text.specs.declared.reading.Edition.{Edition}
 use Rattle.mrc_wiring_text.specs.declared.reading.Line.{Line}
 use Rattle.mrc_wiring_text.specs.declared.policy.ClassName.{ClassName}
 use Rattle.mrc_wiring_text.specs.declared.items.Item.{Item}
@@ -38,7 +39,7 @@ use Rattle.mrc_wiring.specs.Resolving.{add_task, place_port, add_port, place_bir
 use Rattle.mrc_wiring.specs.Resolving.{add_births, place_hold, right_held, port_birth, kernel_birth}
 use Rattle.mrc_wiring.specs.Resolving.{add_hold_port, add_hold_task, admitted_said, add_admit}
 use Rattle.mrc_wiring.specs.Resolving.{add_line, add_lines, empty_table, has_twice, started}
-use Rattle.mrc_wiring.specs.Resolving.{resolved, trusted_said, add_trust, add_fit}
+use Rattle.mrc_wiring.specs.Resolving.{interfaces_of, resolved, trusted_said, add_trust, add_fit}
 use Rattle.mrc_wiring.specs.State.{next_birth}
 use Rattle.mrc_wiring.proofs.Lines.{holdings_port, holdings_hold, kernel_below, wired_below}
 use Rattle.mrc_wiring.proofs.NameLemmas.{named_at, read_within}
@@ -222,16 +223,18 @@ lines_kept table u (line ∷ lines) is e =
     let more = bind_ok (add_line table line.number line.says) _ u e in
     lines_kept more.0 u lines (line_kept table more.0 line.number line.says is more.1) more.2
 
-started_is : (interfaces : List Interface) (u : Table) → started interfaces ≡ Ok u → IsTable u
-started_is interfaces u e =
+started_is : (edition : Edition) (interfaces : List Interface) (u : Table)
+    → started edition interfaces ≡ Ok u
+    → IsTable u
+started_is edition interfaces u e =
     let new = not_stopped (has_twice interfaces) (TwiceNamed 0) _ u e in
-    let room = not_stopped (nat_lt 16 (length interfaces)) (TooMany 0) _ u new.1 in
+    let room = not_stopped (nat_lt (interfaces_of edition) (length interfaces)) (TooMany 0) _ u new.1 in
     subst IsTable (ok_is (empty_table interfaces) u room.1) (empty_is_table interfaces)
 
-pub resolved_is_table : (interfaces : List Interface) (lines : List (Line WiringSays))
-    (table : Table)
-    → resolved interfaces lines ≡ Ok table
+pub resolved_is_table : (edition : Edition) (interfaces : List Interface)
+    (lines : List (Line WiringSays)) (table : Table)
+    → resolved edition interfaces lines ≡ Ok table
     → IsTable table
-resolved_is_table interfaces lines table e =
-    let first = bind_ok (started interfaces) _ table e in
-    lines_kept first.0 table lines (started_is interfaces first.0 first.1) first.2
+resolved_is_table edition interfaces lines table e =
+    let first = bind_ok (started edition interfaces) _ table e in
+    lines_kept first.0 table lines (started_is edition interfaces first.0 first.1) first.2

@@ -1,7 +1,8 @@
 -- Worked. A wiring of a file server and its client, over one interface.
 use Rattle.std.specs.Prelude.{◌≡◌, ℕ, Bool, true, false, List, [], ◌∷◌, Option, Some, None}
 use Rattle.std.specs.Prelude.{Result, Ok, Err}
-use Rattle.std.specs.Prelude.{refl, codes, length}
+use Rattle.std.specs.Prelude.{refl, codes, length, map}
+use Rattle.std.specs.List.{range_with_len}
 use Rattle.mrc_base.specs.declared.PortRight.TheVariants.{Send, SendOnce}
 use Rattle.mrc_forms.specs.declared.types.ItemTypes.TheVariants.{One}
 use Rattle.mrc_forms.specs.declared.form.FormKind.TheVariants as kind
@@ -12,6 +13,7 @@ use Rattle.mrc_model.specs.declared.LabelItem.TheVariants as label
 use Rattle.mrc_model.specs.declared.FirstLine.TheVariants.{Task as TaskLine, Port as PortLine}
 use Rattle.mrc_model.specs.declared.FirstLine.TheVariants.{Hold as HoldLine}
 use Rattle.mrc_model.specs.Wiring.{Wiring, TrustLine, OneOf, Shape}
+use Rattle.mrc_wiring_text.specs.declared.reading.Edition.TheVariants as edition
 use Rattle.mrc_wiring_text.specs.declared.reading.Line.{Line}
 use Rattle.mrc_wiring_text.specs.declared.policy.ClassName.TheVariants as class
 use Rattle.mrc_wiring_text.specs.declared.items.Item.TheVariants as item
@@ -20,13 +22,14 @@ use Rattle.mrc_wiring_text.specs.declared.wiring.WiringSays.{WiringSays}
 use Rattle.mrc_wiring_text.specs.declared.wiring.WiringSays.TheVariants as says
 use Rattle.mrc_wiring.specs.declared.faults.ResolveFault.{ResolveFault}
 use Rattle.mrc_wiring.specs.declared.faults.ResolveFault.TheVariants.{UnknownName, TwiceNamed}
-use Rattle.mrc_wiring.specs.declared.faults.ResolveFault.TheVariants.{IdClash}
+use Rattle.mrc_wiring.specs.declared.faults.ResolveFault.TheVariants.{TooMany, IdClash}
 use Rattle.mrc_wiring.specs.Births.{put_row}
 use Rattle.mrc_wiring.specs.Table.{Table, wiring_of, admitted_of}
 use Rattle.mrc_wiring.specs.Trusting.{right_place, trust_row}
 use Rattle.mrc_model.specs.declared.Verb.TheVariants as verbs
 use Rattle.mrc_wiring_text.specs.declared.trust.TrustVerb.TheVariants as trust
-use Rattle.mrc_wiring.specs.Resolving.{resolved, add_task, add_port, place_port, add_births}
+use Rattle.mrc_wiring.specs.Resolving.{empty_table, resolved, add_task, add_port, place_port}
+use Rattle.mrc_wiring.specs.Resolving.{add_births}
 use Rattle.mrc_wiring.specs.Resolving.{place_births, add_hold_port, place_hold}
 use Rattle.mrc_wiring.specs.Resolving.{add_admit, add_trust, add_fit}
 
@@ -93,7 +96,7 @@ shape number size count sort = record {
 
 -- Two tasks and a port; class 0 is the port, 1 and 2 are kernel ports, 3 and 4 births. A file is
 -- the one type of a port argument, number 0, and admits class 4.
-pub files_are_wired : wiring_said (resolved (fsys ∷ []) filing) ≡ Some record {
+pub files_are_wired : wiring_said (resolved edition.First (fsys ∷ []) filing) ≡ Some record {
   lines = TaskLine ∷ TaskLine ∷ PortLine 1 ∷ HoldLine 0 2 Send ∷ [];
   tasks = 2;
   ports = 1;
@@ -119,17 +122,31 @@ unfolding add_task add_port place_port add_births place_births put_row add_hold_
 files_are_wired = refl
 
 -- without its interface the port line names what is not there
-pub no_interface : resolved [] filing ≡ Err (UnknownName 4)
+pub no_interface : resolved edition.First [] filing ≡ Err (UnknownName 4)
 unfolding add_task add_port place_port
 no_interface = refl
 
 -- two interfaces of one name are a fault before that of any line
-pub interface_twice : resolved (fsys ∷ fsys ∷ []) filing ≡ Err (TwiceNamed 0)
+pub interface_twice : resolved edition.First (fsys ∷ fsys ∷ []) filing ≡ Err (TwiceNamed 0)
 interface_twice = refl
+
+-- so many interfaces of different names
+abbrev interfaces : ℕ → List Interface
+interfaces n = map (λ k. record { name = k ∷ []; base = 0; rows = [] }) (range_with_len 65 n)
+
+-- a wiring of version 3 may have more of them than one of version 2
+pub sixteen : resolved edition.Second (interfaces 16) [] ≡ Ok (empty_table (interfaces 16))
+sixteen = refl
+
+pub seventeen : resolved edition.Second (interfaces 17) [] ≡ Err (TooMany 0)
+seventeen = refl
+
+pub seventeen_of_third : resolved edition.Third (interfaces 17) [] ≡ Ok (empty_table (interfaces 17))
+seventeen_of_third = refl
 
 -- a label that has one item twice
 pub item_twice :
-    resolved (fsys ∷ []) (line 2 (says.Task (codes "a"))
+    resolved edition.First (fsys ∷ []) (line 2 (says.Task (codes "a"))
     ∷ line 3 (says.Births (codes "a") 0 (item.Reply (codes "fsys") ∷ item.Destroyed
     ∷ item.Reply (codes "fsys") ∷ [])) ∷ [])
     ≡ Err (IdClash 3)
@@ -146,7 +163,7 @@ kinds =
     ∷ line 5 (says.Births (codes "b") 1 [])
     ∷ line 6 (says.Births (codes "a") 3 []) ∷ []
 
-pub kinds_are_wired : wiring_said (resolved [] kinds) ≡ Some record {
+pub kinds_are_wired : wiring_said (resolved edition.Second [] kinds) ≡ Some record {
   lines = TaskLine ∷ TaskLine ∷ [];
   tasks = 2;
   ports = 0;
@@ -162,7 +179,7 @@ kinds_are_wired = refl
 
 -- the births of one task and kind are said once
 pub kind_twice :
-    resolved [] (line 2 (says.Task (codes "a")) ∷ line 3 (says.Births (codes "a") 1 [])
+    resolved edition.Second [] (line 2 (says.Task (codes "a")) ∷ line 3 (says.Births (codes "a") 1 [])
     ∷ line 4 (says.Births (codes "a") 1 []) ∷ [])
     ≡ Err (TwiceNamed 4)
 unfolding add_task add_births place_births put_row
@@ -183,13 +200,14 @@ admits_said (Ok table) =
 admits_said (Err fault) = None
 
 -- a's kernel port is class 0, and its births of kinds 0, 1 and 2 are classes 1, 2 and 3
-pub later_kind_shifts : admits_said (resolved (fsys ∷ []) admitting) ≡ Some ((0, Some 3) ∷ [])
+pub later_kind_shifts :
+    admits_said (resolved edition.Second (fsys ∷ []) admitting) ≡ Some ((0, Some 3) ∷ [])
 unfolding add_task add_births place_births put_row add_admit
 later_kind_shifts = refl
 
 -- an admit line names a kind of an earlier line
 pub later_kind_is_unknown :
-    resolved (fsys ∷ []) (line 2 (says.Task (codes "a"))
+    resolved edition.Second (fsys ∷ []) (line 2 (says.Task (codes "a"))
     ∷ line 3 (says.Admit (codes "fsys") (codes "file_t") (Some (class.Births (codes "a") 1)))
     ∷ line 4 (says.Births (codes "a") 1 []) ∷ [])
     ≡ Err (UnknownName 3)
@@ -215,7 +233,7 @@ abbrev trusted_lines : Result Table ResolveFault → Option (List TrustLine × B
 trusted_lines (Ok table) = Some ((wiring_of table).trusted, (wiring_of table).replies_fit)
 trusted_lines (Err fault) = None
 
-pub trusted_tasks_are_wired : trusted_lines (resolved [] trusting) ≡ Some (
+pub trusted_tasks_are_wired : trusted_lines (resolved edition.Third [] trusting) ≡ Some (
   record { verb = verbs.Takes; task = 1; right = Some (Send, 4) }
       ∷ record { verb = verbs.Replies; task = 1; right = None } ∷ [],
   true,
@@ -236,7 +254,7 @@ once_is_placed = refl
 
 -- a task, and a class, of a later line
 pub later_task_is_unknown :
-    resolved [] (line 2 (says.Task (codes "a"))
+    resolved edition.Third [] (line 2 (says.Task (codes "a"))
     ∷ line 3 (says.Trust (codes "b") trust.Gives None)
     ∷ line 4 (says.Task (codes "b")) ∷ [])
     ≡ Err (UnknownName 3)
@@ -244,7 +262,7 @@ unfolding add_task add_trust
 later_task_is_unknown = refl
 
 pub later_class_is_unknown :
-    resolved [] (line 2 (says.Task (codes "a"))
+    resolved edition.Third [] (line 2 (says.Task (codes "a"))
     ∷ line 3 (says.Trust (codes "a") trust.Gives (Some record {
       right = SendOnce;
       class = class.Births (codes "a") 1;
@@ -255,7 +273,7 @@ later_class_is_unknown = refl
 
 -- that reply ports fit is said once; that a task may do nothing by a verb may be said twice
 pub fit_twice :
-    resolved [] (line 2 (says.Task (codes "a"))
+    resolved edition.Third [] (line 2 (says.Task (codes "a"))
     ∷ line 3 (says.Trust (codes "a") trust.Gives None)
     ∷ line 4 (says.Trust (codes "a") trust.Gives None)
     ∷ line 5 says.RepliesFit ∷ line 6 says.RepliesFit ∷ [])

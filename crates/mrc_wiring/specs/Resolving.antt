@@ -9,6 +9,7 @@ use Rattle.std.specs.Prelude.{if◌then◌else◌, slice_get, option_and_then}
 use Rattle.std.specs.List.{list_any, filter_map}
 use Rattle.std.specs.Option.{ok_or}
 use Rattle.mrc_base.specs.Limits.{limit_of_tasks, limit_of_wired_ports, limit_of_interfaces}
+use Rattle.mrc_base.specs.Limits.{limit_of_few_interfaces}
 use Rattle.mrc_base.specs.Limits.{limit_of_names}
 use Rattle.mrc_base.specs.Reading.{◌>>=◌, Refuses}
 use Rattle.mrc_base.specs.declared.memory.OrMemory.{OrMemory}
@@ -22,6 +23,8 @@ use Rattle.mrc_model.specs.declared.FirstLine.TheVariants.{Task as TaskLine, Por
 use Rattle.mrc_model.specs.declared.FirstLine.TheVariants.{Hold as HoldLine}
 use Rattle.mrc_model.specs.FirstHoldings.{first_names}
 use Rattle.mrc_forms.specs.Tables.{Table as Interface}
+use Rattle.mrc_wiring_text.specs.declared.reading.Edition.{Edition}
+use Rattle.mrc_wiring_text.specs.declared.reading.Edition.TheVariants.{First, Second, Third}
 use Rattle.mrc_wiring_text.specs.declared.reading.Line.{Line}
 use Rattle.mrc_wiring_text.specs.declared.policy.ClassName.{ClassName}
 use Rattle.mrc_wiring_text.specs.declared.items.Item.{Item}
@@ -248,16 +251,23 @@ has_twice [] = false
 has_twice (interface ∷ interfaces) =
     list_any (is_named interface.name) interfaces || has_twice interfaces
 
--- the interfaces, of different names, unless there are more than there may be
-abbrev pub started : List Interface → Result Table ResolveFault
-started interfaces =
+-- how many interfaces a wiring of an edition may have
+abbrev pub interfaces_of : Edition → ℕ
+interfaces_of First = limit_of_few_interfaces
+interfaces_of Second = limit_of_few_interfaces
+interfaces_of Third = limit_of_interfaces
+
+-- the interfaces, of different names, unless there are more than there may be in the edition
+abbrev pub started : Edition → List Interface → Result Table ResolveFault
+started edition interfaces =
     if has_twice interfaces then Err (TwiceNamed 0)
-    else if nat_lt limit_of_interfaces (length interfaces) then Err (TooMany 0)
+    else if nat_lt (interfaces_of edition) (length interfaces) then Err (TooMany 0)
     else Ok (empty_table interfaces)
 
--- what the lines mean over the interfaces
-abbrev pub resolved : List Interface → List (Line WiringSays) → Result Table ResolveFault
-resolved interfaces lines = started interfaces >>= λ table. add_lines table lines
+-- what the lines of a wiring of an edition mean over the interfaces
+abbrev pub resolved : Edition → List Interface → List (Line WiringSays)
+    → Result Table ResolveFault
+resolved edition interfaces lines = started edition interfaces >>= λ table. add_lines table lines
 
 -- the name of a `task` line
 abbrev pub task_named : WiringSays → Option (List ℕ)

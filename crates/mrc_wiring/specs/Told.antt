@@ -3,6 +3,7 @@ use Rattle.std.specs.Prelude.{◌≡◌, List, Option, Some, None, Result, Ok, E
 use Rattle.mrc_base.specs.Reading.{Refuses}
 use Rattle.mrc_base.specs.declared.memory.OrMemory.{OrMemory}
 use Rattle.mrc_forms.specs.Tables.{Table as Interface}
+use Rattle.mrc_wiring_text.specs.declared.reading.Edition.{Edition}
 use Rattle.mrc_wiring.specs.declared.faults.ResolveFault.{ResolveFault}
 use Rattle.mrc_wiring.specs.declared.resolving.NotResolved.{NotResolved}
 use Rattle.mrc_wiring.specs.Table.{Table}
@@ -29,7 +30,7 @@ abbrev pub StateTold : List Interface → Result State (List Interface × OrMemo
 StateTold interfaces (Ok state) said = said ≡ Ok state.table
 StateTold interfaces (Err refused) said = Refuses refused.1 said × (refused.0 ≡ interfaces)
 
--- the fault of a list of interfaces, or none if a wiring can have them
-abbrev pub FaultOrStarts : Option ResolveFault → List Interface → Type 0
-FaultOrStarts None interfaces = started interfaces ≡ Ok (empty_table interfaces)
-FaultOrStarts (Some fault) interfaces = started interfaces ≡ Err fault
+-- the fault of a list of interfaces, or none if a wiring of the edition can have them
+abbrev pub FaultOrStarts : Option ResolveFault → Edition → List Interface → Type 0
+FaultOrStarts None edition interfaces = started edition interfaces ≡ Ok (empty_table interfaces)
+FaultOrStarts (Some fault) edition interfaces = started edition interfaces ≡ Err fault

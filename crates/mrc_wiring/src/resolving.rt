@@ -18,7 +18,7 @@ ghost use Rattle.mrc_wiring.specs.Resolving.{Adds, resolved, started, add_line, 
 ghost use Rattle.mrc_wiring.specs.Resolving.{place_port, add_births, place_births, place_hold};
 ghost use Rattle.mrc_wiring.specs.Resolving.{add_hold_port, add_hold_task, add_admit, right_held};
 ghost use Rattle.mrc_wiring.specs.Resolving.{port_birth, kernel_birth, admitted_said};
-ghost use Rattle.mrc_wiring.specs.Resolving.{has_twice, is_named};
+ghost use Rattle.mrc_wiring.specs.Resolving.{has_twice, interfaces_of, is_named};
 ghost use Rattle.mrc_wiring.specs.Resolving.{verb_said, trusted_said, add_trust, add_fit};
 ghost use Rattle.mrc_wiring.specs.Told.{StateTold, FaultOrStarts};
 
@@ -29,13 +29,14 @@ use crate::interfaces::Interfaces;
 use crate::labels::{Label, has_clash, interface_number, label_said};
 use crate::names::{NumberedClass, class_said};
 use crate::table::{AdmitLine, NumberedRight, TrustedLine};
-use mrc_base::limits::{INTERFACES, NAMES, TASKS, WIRED_PORTS};
+use mrc_base::limits::{FEW_INTERFACES, INTERFACES, NAMES, TASKS, WIRED_PORTS};
 use mrc_base::{OrMemory, PortId, PortRight, TaskId};
 use mrc_forms::Interface;
 use mrc_model::{FirstLine, Verb};
 use mrc_name_table::NameTable;
 use mrc_wiring_text::{
-    ClassName, HeldRight, Items, Kind, Name, TrustVerb, TrustedRight, WiringLine, WiringSays,
+    ClassName, Edition, HeldRight, Items, Kind, Name, TrustVerb, TrustedRight, WiringLine,
+    WiringSays,
 };
 use std::alloc::{AllocError, Global};
 use std::marker::Model;
@@ -595,14 +596,24 @@ fn has_twice(interfaces: &[Interface]) -> bool
     false
 }
 
-/// Why a wiring cannot have these interfaces.
-fn fault_of_interfaces(interfaces: &[Interface]) -> Option<ResolveFault>
-    ensures { FaultOrStarts result interfaces.now }
+/// How many interfaces a wiring of an edition may have.
+fn interfaces_of(edition: Edition) -> usize
+    ensures { result ≡ interfaces_of edition }
+{
+    match edition {
+        Edition::First | Edition::Second => FEW_INTERFACES,
+        Edition::Third => INTERFACES,
+    }
+}
+
+/// Why a wiring of an edition cannot have these interfaces.
+fn fault_of_interfaces(edition: Edition, interfaces: &[Interface]) -> Option<ResolveFault>
+    ensures { FaultOrStarts result edition interfaces.now }
 {
     if has_twice(interfaces) {
         return Some(ResolveFault::TwiceNamed(0));
     }
-    if interfaces.len() > INTERFACES {
+    if interfaces.len() > interfaces_of(edition) {
         return Some(ResolveFault::TooMany(0));
     }
     None
@@ -620,13 +631,14 @@ pub struct NotResolved {
 /// No line yet.
 fn started(
     alloc: Global,
+    edition: Edition,
     interfaces: Interfaces,
 ) -> Result<Resolving, (Interfaces, OrMemory<ResolveFault>)>
-    ensures exact { StateTold interfaces result (started interfaces) }
+    ensures exact { StateTold interfaces result (started edition interfaces) }
     ensures kept { IfOk result (λ state. IsState state) }
     ensures same { IfOk result (λ state. state.table.interfaces ≡ interfaces) }
 {
-    if let Some(fault) = fault_of_interfaces(interfaces.as_slice()) {
+    if let Some(fault) = fault_of_interfaces(edition, interfaces.as_slice()) {
         return Err((interfaces, OrMemory::Fault(fault)));
     }
     match NamesGiven::new(alloc) {
@@ -648,17 +660,18 @@ fn started(
     }
 }
 
-/// What all of the lines mean.
+/// What all of the lines of a wiring of an edition mean.
 pub(crate) fn resolved(
     alloc: Global,
+    edition: Edition,
     lines: &[WiringLine],
     interfaces: Interfaces,
 ) -> Result<Resolving, (Interfaces, OrMemory<ResolveFault>)>
-    ensures exact { StateTold interfaces result (resolved interfaces lines.now) }
+    ensures exact { StateTold interfaces result (resolved edition interfaces lines.now) }
     ensures kept { IfOk result (λ state. IsState state) }
     ensures same { IfOk result (λ state. state.table.interfaces ≡ interfaces) }
 {
-    let mut resolving = started(alloc, interfaces)?;
+    let mut resolving = started(alloc, edition, interfaces)?;
     for line in lines {
         if let Err(why) = resolving.add_line(alloc, line) {
             return Err((resolving.interfaces, why));

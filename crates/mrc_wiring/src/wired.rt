@@ -41,7 +41,7 @@ use mrc_bits::has_bit;
 use mrc_forms::{Interface, MessageKind};
 use mrc_model::{FirstLine, LabelItem, Verb};
 use mrc_name_table::NameTable;
-use mrc_wiring_text::{ClassName, WiringLine};
+use mrc_wiring_text::{ClassName, Edition, WiringLine};
 use std::alloc::{AllocError, Global};
 use std::marker::Model;
 
@@ -152,17 +152,20 @@ impl Model for Wired {
 }
 
 impl Wired {
-    /// The wiring that lines mean over interfaces, or the first fault, by lines; line 0 stands for
-    /// the list of interfaces. With a refusal the interfaces come back unchanged.
+    /// The wiring that lines of a wiring's edition mean over interfaces, or the first fault, by
+    /// lines; line 0 stands for the list of interfaces, of which a wiring of version 3 has 256 at
+    /// most, and one of an earlier version 16. With a refusal the interfaces come back unchanged.
     pub fn resolve(
         alloc: Global,
+        edition: Edition,
         lines: &[WiringLine],
         interfaces: Vec<Interface>,
     ) -> Result<Wired, NotResolved>
-        ensures { ResolveTold interfaces.items result (resolved interfaces.items lines.now) }
+        ensures { ResolveTold interfaces.items result
+            (resolved edition interfaces.items lines.now) }
     {
         match Interfaces::new(alloc, interfaces) {
-            Ok(typed) => match Wired::over(alloc, lines, typed) {
+            Ok(typed) => match Wired::over(alloc, edition, lines, typed) {
                 Ok(wired) => Ok(wired),
                 Err((interfaces, why)) => Err(NotResolved {
                     interfaces: interfaces.into_vec(),
@@ -180,13 +183,14 @@ impl Wired {
     /// unchanged.
     pub fn over(
         alloc: Global,
+        edition: Edition,
         lines: &[WiringLine],
         interfaces: Interfaces,
     ) -> Result<Wired, (Interfaces, OrMemory<ResolveFault>)>
-        ensures exact { OverTold interfaces result (resolved interfaces lines.now) }
+        ensures exact { OverTold interfaces result (resolved edition interfaces lines.now) }
         ensures kept { IfOk result (λ wired. wired.interfaces ≡ interfaces) }
     {
-        let table = resolved(alloc, lines, interfaces)?;
+        let table = resolved(alloc, edition, lines, interfaces)?;
         match numbered(alloc, &table) {
             Ok(by_numbers) => Ok(Wired {
                 names: table.names,

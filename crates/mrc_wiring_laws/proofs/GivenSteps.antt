@@ -19,6 +19,7 @@ use Rattle.mrc_model.specs.declared.FirstLine.TheVariants.{Hold as HoldLine}
 use Rattle.mrc_model.proofs.FirstHeld.{in_one}
 use Rattle.mrc_model.proofs.Members.{in_left, in_append, any_in}
 use Rattle.mrc_forms.specs.Tables.{Table as Interface}
+use Rattle.mrc_wiring_text.specs.declared.reading.Edition.{Edition}
 use Rattle.mrc_wiring_text.specs.declared.reading.Line.{Line}
 use Rattle.mrc_wiring_text.specs.declared.policy.ClassName.{ClassName}
 use Rattle.mrc_wiring_text.specs.declared.items.Item.{Item}
@@ -48,7 +49,7 @@ use Rattle.mrc_wiring.specs.Resolving.{add_task, place_port, add_port, place_bir
 use Rattle.mrc_wiring.specs.Resolving.{place_hold, right_held, port_birth, kernel_birth}
 use Rattle.mrc_wiring.specs.Resolving.{add_hold_port, add_hold_task, add_admit, trusted_said}
 use Rattle.mrc_wiring.specs.Resolving.{add_trust, add_fit, add_line, add_lines, empty_table}
-use Rattle.mrc_wiring.specs.Resolving.{verb_said, has_twice, started, resolved}
+use Rattle.mrc_wiring.specs.Resolving.{verb_said, has_twice, interfaces_of, started, resolved}
 use Rattle.mrc_wiring.specs.Resolving.{task_named, task_names}
 use Rattle.mrc_wiring_laws.specs.GivenLines.{port_named, is_admit, port_names}
 use Rattle.mrc_wiring_laws.specs.GivenLines.{HasBirthsLine, AreBirthsOf, IsClassOf, IsAdmitOf}
@@ -538,12 +539,12 @@ no_line interfaces = record {
   trusted = none_trusted interfaces;
 }
 
-started_so_far : (interfaces : List Interface) (u : Table)
-    → started interfaces ≡ Ok u
+started_so_far : (edition : Edition) (interfaces : List Interface) (u : Table)
+    → started edition interfaces ≡ Ok u
     → IsSoFar interfaces [] u
-started_so_far interfaces u e =
+started_so_far edition interfaces u e =
     let new = not_stopped (has_twice interfaces) (TwiceNamed 0) _ u e in
-    let room = not_stopped (nat_lt 16 (length interfaces)) (TooMany 0) _ u new.1 in
+    let room = not_stopped (nat_lt (interfaces_of edition) (length interfaces)) (TooMany 0) _ u new.1 in
     subst (IsSoFar interfaces []) (ok_is (empty_table interfaces) u room.1) (no_line interfaces)
 
 -- ---- in the law's words
@@ -629,29 +630,31 @@ births_are table lines are is = record {
 }
 
 -- what is so at the last line
-at_last : (interfaces : List Interface) (lines : List (Line WiringSays)) (table : Table)
-    → resolved interfaces lines ≡ Ok table
+at_last : (edition : Edition) (interfaces : List Interface) (lines : List (Line WiringSays))
+    (table : Table)
+    → resolved edition interfaces lines ≡ Ok table
     → IsSoFar interfaces lines table
-at_last interfaces lines table e =
-    let first = bind_ok (started interfaces) _ table e in
-    steps interfaces [] lines first.0 table (started_so_far interfaces first.0 first.1) first.2
+at_last edition interfaces lines table e =
+    let first = bind_ok (started edition interfaces) _ table e in
+    steps interfaces [] lines first.0 table
+    (started_so_far edition interfaces first.0 first.1) first.2
 
 pub tables_of_lines : TablesAreOfLines
-tables_of_lines interfaces lines table e =
-    let all = at_last interfaces lines table e in
+tables_of_lines edition interfaces lines table e =
+    let all = at_last edition interfaces lines table e in
     record {
       interfaces_are = all.interfaces_are;
       tasks = all.tasks;
       ports = all.ports;
-      births = births_are table lines all.rows (resolved_is_table interfaces lines table e);
+      births = births_are table lines all.rows (resolved_is_table edition interfaces lines table e);
       admits = all.admits;
     }
 
 pub trusts_of_lines : TrustsAreOfLines
-trusts_of_lines interfaces lines table e =
-    let all = at_last interfaces lines table e in
+trusts_of_lines edition interfaces lines table e =
+    let all = at_last edition interfaces lines table e in
     record {
-      given = tables_of_lines interfaces lines table e;
+      given = tables_of_lines edition interfaces lines table e;
       trusts = all.trusted.trusts;
       fits = all.trusted.fits;
     }

@@ -8,6 +8,7 @@ use Rattle.mrc_forms.specs.Tables.{Table as Interface}
 use Rattle.mrc_model.specs.IsIn.{here, later}
 use Rattle.mrc_model.specs.declared.LabelItem.TheVariants as label
 use Rattle.mrc_model.specs.declared.FirstLine.TheVariants.{Task as TaskLine}
+use Rattle.mrc_wiring_text.specs.declared.reading.Edition.TheVariants.{Second}
 use Rattle.mrc_wiring_text.specs.declared.reading.Line.{Line}
 use Rattle.mrc_wiring_text.specs.declared.policy.ClassName.TheVariants as class
 use Rattle.mrc_wiring_text.specs.declared.items.Item.TheVariants as item
@@ -88,7 +89,7 @@ table = record {
   interfaces = files ∷ [];
 }
 
-pub lines_mean_it : resolved (files ∷ []) mixed ≡ Ok table
+pub lines_mean_it : resolved Second (files ∷ []) mixed ≡ Ok table
 unfolding add_task add_births place_births put_row add_admit
 lines_mean_it = refl
 

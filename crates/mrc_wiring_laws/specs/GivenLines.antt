@@ -6,6 +6,7 @@ use Rattle.std.specs.List.{filter, filter_map}
 use Rattle.mrc_model.specs.IsIn.{IsIn}
 use Rattle.mrc_model.specs.declared.LabelItem.{LabelItem}
 use Rattle.mrc_forms.specs.Tables.{Table as Interface}
+use Rattle.mrc_wiring_text.specs.declared.reading.Edition.{Edition}
 use Rattle.mrc_wiring_text.specs.declared.reading.Line.{Line}
 use Rattle.mrc_wiring_text.specs.declared.policy.ClassName.{ClassName}
 use Rattle.mrc_wiring_text.specs.declared.items.Item.{Item}
@@ -123,8 +124,9 @@ pub record IsOfLines (interfaces : List Interface) (lines : List (Line WiringSay
 -- What lines mean is a table of these lines.
 abbrev pub TablesAreOfLines : Type 0
 TablesAreOfLines =
-    (interfaces : List Interface) (lines : List (Line WiringSays)) (table : Table)
-    → resolved interfaces lines ≡ Ok table
+    (edition : Edition) (interfaces : List Interface) (lines : List (Line WiringSays))
+    (table : Table)
+    → resolved edition interfaces lines ≡ Ok table
     → IsOfLines interfaces lines table
 
 -- Two tables of the same lines have the same births and the same admit lines.

@@ -8,6 +8,7 @@ use Rattle.mrc_base.specs.declared.PortRight.TheVariants.{Send}
 use Rattle.mrc_model.specs.IsIn.{here, later}
 use Rattle.mrc_model.specs.declared.FirstLine.TheVariants.{Task as TaskLine}
 use Rattle.mrc_model.specs.declared.Verb.TheVariants as verbs
+use Rattle.mrc_wiring_text.specs.declared.reading.Edition.TheVariants.{Third}
 use Rattle.mrc_wiring_text.specs.declared.reading.Line.{Line}
 use Rattle.mrc_wiring_text.specs.declared.policy.ClassName.TheVariants as class
 use Rattle.mrc_wiring_text.specs.declared.trust.TrustVerb.TheVariants as words
@@ -75,7 +76,7 @@ table = record {
   interfaces = [];
 }
 
-pub lines_mean_it : resolved [] mixed ≡ Ok table
+pub lines_mean_it : resolved Third [] mixed ≡ Ok table
 unfolding add_task add_births place_births put_row add_trust add_fit
 lines_mean_it = refl
 

@@ -5,6 +5,7 @@ use Rattle.std.specs.Prelude.{Option, Some, None, Ok}
 use Rattle.std.specs.List.{filter}
 use Rattle.mrc_model.specs.IsIn.{IsIn}
 use Rattle.mrc_forms.specs.Tables.{Table as Interface}
+use Rattle.mrc_wiring_text.specs.declared.reading.Edition.{Edition}
 use Rattle.mrc_wiring_text.specs.declared.reading.Line.{Line}
 use Rattle.mrc_wiring_text.specs.declared.trust.TrustVerb.{TrustVerb}
 use Rattle.mrc_wiring_text.specs.declared.trust.TrustedRight.{TrustedRight}
@@ -80,8 +81,9 @@ pub record IsOfTrustLines (interfaces : List Interface) (lines : List (Line Wiri
 -- What lines mean is a table of these lines.
 abbrev pub TrustsAreOfLines : Type 0
 TrustsAreOfLines =
-    (interfaces : List Interface) (lines : List (Line WiringSays)) (table : Table)
-    → resolved interfaces lines ≡ Ok table
+    (edition : Edition) (interfaces : List Interface) (lines : List (Line WiringSays))
+    (table : Table)
+    → resolved edition interfaces lines ≡ Ok table
     → IsOfTrustLines interfaces lines table
 
 -- Two tables of the same lines say the same of trusted tasks and of reply ports.

@@ -18,7 +18,7 @@ use Rattle.mrc_wiring_text.specs.declared.reading.TextKind.{TextKind}
 use Rattle.mrc_wiring_text.specs.declared.reading.Line.{Line}
 use Rattle.mrc_wiring_text.specs.Lexis.{lines, words}
 use Rattle.mrc_wiring_text.specs.Reading.{too_far, or_bad, line_of, onto, body, utf8_text, heading}
-use Rattle.mrc_wiring_text.specs.Reading.{text_of}
+use Rattle.mrc_wiring_text.specs.Reading.{text_edition, text_of}
 use Rattle.mrc_wiring_text.specs.Texts.{Say, IsText}
 use Rattle.mrc_wiring_text.proofs.HeadingLaws.{heading_found, heading_finds}
 
@@ -190,6 +190,23 @@ text_read kind meaning bytes says is =
     (omega (arith, count, is.few))
     (subst (λ n. Say (meaning is.edition) n is.after says) (omega arith) is.body) in
     rw (is_utf8-from_IsUtf8 bytes is.utf8, start, rest) refl
+
+-- the edition of a text is that by which it is read
+pub edition_read : {S : Type 0} (kind : TextKind) (meaning : Edition → List (List ℕ) → Option S)
+    (bytes : List ℕ)
+    (says : List (Line S))
+    (is : IsText kind meaning bytes says)
+    → text_edition kind bytes ≡ Ok is.edition
+unfolding text_edition utf8_text
+edition_read kind meaning bytes says is =
+    let count : length (lines bytes) ≡ length is.before + (length is.after + 1) = ap length is.parts
+    ∙ length-append is.before (is.head ∷ is.after) ∙ omega arith in
+    let start : heading kind 1 (lines bytes)
+    ≡ Ok ((is.edition, 1 + length is.before + 1), is.after) =
+    ap (heading kind 1) is.parts ∙ heading_finds kind 1 is.edition is.before is.head is.after
+    is.wordless
+    is.heading (omega (arith, count, is.few)) in
+    rw (is_utf8-from_IsUtf8 bytes is.utf8, start) refl
 
 -- ---- what a reader returned
 

@@ -111,6 +111,13 @@ body meaning n (line ∷ rest) = do
 unfoldable pub utf8_text : List ℕ → Result (List ℕ) TextFault
 utf8_text bytes = if is_utf8 bytes then Ok bytes else Err NotUtf8
 
+-- the edition of a text of a kind, or the fault of what stands up to its first line
+unfoldable pub text_edition : TextKind → List ℕ → Result Edition TextFault
+text_edition kind bytes = do
+  text ← utf8_text bytes
+  start ← heading kind 1 (lines text)
+  Ok start.0.0
+
 -- what a text of a kind says, given what words say in each edition
 unfoldable pub text_of : {S : Type 0} → TextKind → (Edition → List (List ℕ) → Option S) → List ℕ
     → Result (List (Line S)) TextFault

@@ -28,7 +28,7 @@ use Rattle.mrc_wiring_text.specs.Names.{name_of}
 use Rattle.mrc_wiring_text.specs.Kinds.{kind_of}
 use Rattle.mrc_wiring_text.specs.Items.{items_of}
 use Rattle.mrc_wiring_text.specs.Policy.{class_of, right_of}
-use Rattle.mrc_wiring_text.specs.Reading.{text_of}
+use Rattle.mrc_wiring_text.specs.Reading.{text_edition, text_of}
 
 -- the words after `task` in `task T`
 unfoldable pub task_line : List (List ℕ) → Option WiringSays
@@ -197,6 +197,10 @@ wiring_says edition (key ∷ words) =
     else (if bytes_eq key (codes "admit") then admit_line edition words
     else third_says edition key words))))
 wiring_says edition [] = None
+
+-- the edition of a wiring
+abbrev pub wiring_edition : List ℕ → Result Edition TextFault
+wiring_edition bytes = text_edition kinds.Wiring bytes
 
 -- what a wiring says
 abbrev pub wiring_of : List ℕ → Result (List (Line WiringSays)) TextFault

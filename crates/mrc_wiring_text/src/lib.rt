@@ -19,6 +19,6 @@ pub use kinds::{Kind, is_number};
 pub use lexis::{around_dot, between_blanks, first_line, is_word, lines_of, nth_line, spaced};
 pub use names::Name;
 pub use policy::{ClassName, Forbid, PolicyLine, read_policy};
-pub use reading::{Edition, Line};
+pub use reading::{Edition, Line, Statement, body};
 pub use trust::{TrustVerb, TrustedRight};
-pub use wiring::{HeldRight, WiringLine, WiringSays, read_wiring};
+pub use wiring::{HeldRight, WiringLine, WiringSays, read_wiring, wiring_edition};

@@ -8,7 +8,7 @@ ghost use Rattle.mrc_base.specs.Reading.{Gives};
 ghost use Rattle.mrc_wiring_text.specs.Lexis.{lines, decimal};
 ghost use Rattle.mrc_wiring_text.specs.Reading.{edition_of, version_of, after_heading, heading};
 ghost use Rattle.mrc_wiring_text.specs.Reading.{text_word, third_of};
-ghost use Rattle.mrc_wiring_text.specs.Reading.{line_of, body, utf8_text, text_of};
+ghost use Rattle.mrc_wiring_text.specs.Reading.{line_of, body, utf8_text, text_edition, text_of};
 
 use crate::faults::TextFault;
 use crate::kinds::{capped, is_number};
@@ -70,7 +70,7 @@ impl TextKind {
 }
 
 /// What a line of one kind of text can say.
-pub(crate) trait Statement: Drop {
+pub trait Statement: Drop {
     ghost use Rattle.mrc_wiring_text.specs.declared.reading.Edition.{Edition};
 
     /// What words say in each edition.
@@ -182,8 +182,9 @@ fn line_of<S: Statement>(
     }
 }
 
-/// What the lines of a text say, the first of which has this number.
-fn body<S: Statement>(
+/// What the lines of a text say, the first of which has this number, or the first fault. A line
+/// without words says nothing.
+pub fn body<S: Statement>(
     alloc: Global,
     edition: Edition,
     first: u32,
@@ -216,6 +217,20 @@ fn utf8_text(bytes: &[u8]) -> Result<&[u8], OrMemory<TextFault>>
         Ok(text) => Ok(text.as_bytes()),
         Err(_) => Err(OrMemory::Fault(TextFault::NotUtf8)),
     }
+}
+
+/// The edition of a text of a kind.
+#[tactic(auto, unfolding(crate::specs::Reading::text_edition))]
+pub(crate) fn text_edition(
+    alloc: Global,
+    kind: TextKind,
+    bytes: &[u8],
+) -> Result<Edition, OrMemory<TextFault>>
+    ensures fault { Gives (λ edition. edition) result (text_edition kind bytes.now) }
+{
+    let text = utf8_text(bytes)?;
+    let ((edition, _), _) = heading(alloc, kind, text)?;
+    Ok(edition)
 }
 
 /// What a text of a kind says.

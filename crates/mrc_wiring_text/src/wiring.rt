@@ -10,7 +10,7 @@ ghost use Rattle.mrc_wiring_text.specs.Wiring.{task_line, port_named, port_line,
 ghost use Rattle.mrc_wiring_text.specs.Wiring.{plain_births, kind_births, births_line, held_right};
 ghost use Rattle.mrc_wiring_text.specs.Wiring.{hold_port_named, held};
 ghost use Rattle.mrc_wiring_text.specs.Wiring.{hold_task_named, hold_line, admitted, admit_named};
-ghost use Rattle.mrc_wiring_text.specs.Wiring.{admit_line, wiring_says, wiring_of};
+ghost use Rattle.mrc_wiring_text.specs.Wiring.{admit_line, wiring_says, wiring_edition, wiring_of};
 ghost use Rattle.mrc_wiring_text.specs.Wiring.{trust_named, trust_line, fit_line, third_says};
 
 use crate::faults::TextFault;
@@ -19,7 +19,7 @@ use crate::kinds::{Kind, kind_of};
 use crate::lexis::{around_dot, is_word};
 use crate::names::Name;
 use crate::policy::{ClassName, class_of};
-use crate::reading::{Edition, Line, Statement, TextKind, text_of};
+use crate::reading::{Edition, Line, Statement, TextKind, text_edition, text_of};
 use crate::trust::{TrustVerb, TrustedRight, trusted, verb_of};
 use mrc_base::OrMemory;
 use std::alloc::{AllocError, Global};
@@ -449,6 +449,24 @@ fn wiring_of(alloc: Global, bytes: &[u8]) -> Result<Vec<WiringLine>, OrMemory<Te
     ensures no_text { ¬ (IsUtf8 bytes.now) → result ≡ Err (OrMemory.Fault TextFault.NotUtf8) }
 {
     text_of(alloc, TextKind::Wiring, bytes)
+}
+
+fn edition_of(alloc: Global, bytes: &[u8]) -> Result<Edition, OrMemory<TextFault>>
+    ensures fault { Gives (λ edition. edition) result (wiring_edition bytes.now) }
+{
+    text_edition(alloc, TextKind::Wiring, bytes)
+}
+
+/// The edition of a wiring, by the version that its first line names; or the fault of what stands
+/// up to that line.
+pub fn wiring_edition(alloc: Global, bytes: &[u8]) -> Result<Edition, OrMemory<TextFault>>
+    // It is the edition by which a wiring is read, unless memory runs out.
+    ensures only { (says : List (Line WiringSays)) (is : IsWiring bytes.now says) →
+        Gives (λ edition. edition) result (Ok is.edition) }
+    // Which fault it is: the first.
+    ensures fault { Gives (λ edition. edition) result (wiring_edition bytes.now) }
+{
+    edition_of(alloc, bytes)
 }
 
 /// Reads a wiring: its lines that say something, in order, or the first fault.
