@@ -6,6 +6,7 @@ ghost use Rattle.mrc_place.specs.Spots.{HasCaretInside};
 use crate::mig_hints::about;
 use crate::mig_notes::{NO_SUBSYSTEM, OPEN_COMMENT, PREPROCESS, on_line};
 use crate::mig_places::is_subsystem;
+use crate::mig_sources::with_source;
 use crate::mig_trials::{lex_place, parse_place};
 use mrc_base::OrMemory;
 use mrc_interface::DefsFault;
@@ -141,14 +142,27 @@ pub(crate) fn second_hint(alloc: Global, text: &str, fault: &DefsFault) -> Resul
     }
 }
 
+/// The place of a fault in a text.
+fn place_of(fault: &DefsFault) -> usize {
+    match *fault {
+        DefsFault::Lex(found) => lex_place(found),
+        DefsFault::Parse(found) => parse_place(found),
+        DefsFault::NotUtf8 | DefsFault::Interface(_) => 0,
+    }
+}
+
 /// What helps with a fault of a MIG file that is read as one of edition 2, whatever its first lines
-/// name, from its bytes: the token at the place of the fault, and a sentence.
+/// name, from its bytes: the token at the place of the fault, with the file and the line that it
+/// came from by the marks of lines before it, and a sentence.
 pub fn second_mig_hint(alloc: Global, bytes: &[u8], fault: &DefsFault) -> Result<Hint, AllocError>
     // The caret is inside its line.
     ensures { IfOk result (HasCaretInside bytes.now) }
 {
     match str::from_utf8(bytes) {
-        Ok(text) => second_hint(alloc, text, fault),
+        Ok(text) => {
+            let hint = second_hint(alloc, text, fault)?;
+            with_source(alloc, text, place_of(fault), hint)
+        }
         Err(error) => Hint::not_utf8(alloc, bytes, error.valid_up_to()),
     }
 }

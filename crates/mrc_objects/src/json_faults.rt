@@ -1,7 +1,8 @@
 //! Faults as objects.
 
 use crate::json::{SCHEMA, json_text};
-use mrc_place::{Hint, Spot};
+use mrc_command::shown;
+use mrc_place::{Hint, SourceLine, Spot};
 use serde::Serialize;
 use std::alloc::{AllocError, Global};
 
@@ -29,7 +30,7 @@ struct FaultAnswer<'a> {
     command: &'a str,
     fault: &'a str,
     file: Option<&'a str>,
-    line: Option<u32>,
+    line: Option<u64>,
     notes: &'a [String],
     schema: u32,
     text: Option<String>,
@@ -52,6 +53,27 @@ fn whole_line(alloc: Global, spot: &Spot) -> Result<String, AllocError> {
     format!(in alloc; "{before}{word}{after}")
 }
 
+/// The line of a spot: of the file that it came from, if that is known.
+fn line_of(spot: &Spot) -> u64 {
+    match &spot.source {
+        Some(source) => source.line,
+        None => u64::from(spot.line),
+    }
+}
+
+/// The file of a spot as it is shown, if it came from another than the one of which is told.
+fn file_of(alloc: Global, spot: &Spot) -> Result<Option<String>, AllocError> {
+    match &spot.source {
+        Some(
+            SourceLine {
+                file: Some(file),
+                ..
+            },
+        ) => Ok(Some(shown(alloc, file.as_str())?)),
+        _ => Ok(None),
+    }
+}
+
 /// A fault of a command, by its parts and by what helps with it.
 pub fn fault_json(
     alloc: Global,
@@ -60,13 +82,17 @@ pub fn fault_json(
     hint: &Hint,
 ) -> Result<String, AllocError> {
     let spot = hint.spot.as_ref();
+    let file = match spot {
+        Some(spot) => file_of(alloc, spot)?,
+        None => None,
+    };
     let answer = FaultAnswer {
         answer: "fault",
         column: spot.map(|spot| spot.column()),
         command,
         fault: parts.name.as_str(),
-        file: parts.file(),
-        line: spot.map(|spot| spot.line),
+        file: file.as_ref().map(|file| file.as_str()).or(parts.file()),
+        line: spot.map(|spot| line_of(spot)),
         notes: hint.notes.as_slice(),
         schema: SCHEMA,
         text: spot.map(|spot| whole_line(alloc, spot)).transpose()?,

@@ -2,6 +2,7 @@
 #![tactic(auto)]
 
 mod common;
+mod enforced;
 mod json;
 mod json_attacks;
 mod json_chains;
@@ -34,7 +35,7 @@ pub use json_mends::mends_json;
 pub use json_mig::{MigObject, mig_object, mig_texts_json, read_count, stop_word, type_name};
 pub use json_verdicts::{broken_json, counts_json, is_asked, reason_json, yes_json};
 pub use lines::TextLines;
-pub use mig_places::{MigPlace, MigSource, source_name};
+pub use mig_places::{MigPlace, MigSource};
 pub use promises::{promises_json, promises_text};
 pub use sarif::{broken_sarif, fault_sarif, yes_sarif};
 pub use sarif_places::Placed;

@@ -1,6 +1,7 @@
 //! Where in the sources the statements of a MIG file of edition 2 are, and their tokens.
 
 use mrc_base::OrMemory;
+use mrc_hints::marked_name;
 use mrc_mig_forms::{Source, source_of};
 use mrc_mig_tokens::{Tokens, lex};
 use std::alloc::{AllocError, Global};
@@ -27,30 +28,11 @@ pub struct MigSource<'a> {
     tokens: Option<Tokens<'a>>,
 }
 
-/// The name of a file in a mark of lines, where a backslash stands before a backslash.
-fn plain_name(alloc: Global, name: &[u8]) -> Result<Vec<u8>, AllocError> {
-    let mut plain = Vec::new(alloc);
-    let mut is_escaped = false;
-    for byte in name {
-        if *byte == b'\\' && !is_escaped {
-            is_escaped = true;
-        } else {
-            plain.push(*byte)?;
-            is_escaped = false;
-        }
-    }
-    Ok(plain)
-}
-
 /// The name of the file of a place: that of a mark before it, or that of the text.
-pub fn source_name(alloc: Global, source: Source<'_>, name: &str) -> Result<String, AllocError> {
-    let Some(marked) = source.file else {
-        return String::from_str(alloc, name);
-    };
-    let plain = plain_name(alloc, marked)?;
-    match str::from_utf8(plain.as_slice()) {
-        Ok(marked) => String::from_str(alloc, marked),
-        Err(_) => String::from_str(alloc, name),
+fn source_name(alloc: Global, source: Source<'_>, name: &str) -> Result<String, AllocError> {
+    match marked_name(alloc, source)? {
+        Some(marked) => Ok(marked),
+        None => String::from_str(alloc, name),
     }
 }
 

@@ -13,5 +13,5 @@ pub use distance::nearest;
 pub use hints::{Hint, did_you_mean, expected, one_note};
 pub use lines::{Line, line_of};
 pub use lists::{alternatives, listed};
-pub use spots::{Spot, byte_spot, line_spot, word_spot};
+pub use spots::{SourceLine, Spot, byte_spot, line_spot, word_spot};
 pub use words::{has_words, words_of};

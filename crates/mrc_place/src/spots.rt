@@ -9,6 +9,15 @@ use crate::lines::{Line, after_feed, before_feed, line_after, line_of};
 use crate::words::word_place;
 use std::alloc::{AllocError, Global};
 
+/// A line of a file that a text came from.
+#[derive(Debug, Drop)]
+pub struct SourceLine {
+    /// The name of the file, if it is not the text's own.
+    pub file: Option<String>,
+    /// The number of the line, from 1.
+    pub line: u64,
+}
+
 /// A part of a line of a text: what carets are put under.
 #[derive(Debug, Drop)]
 pub struct Spot {
@@ -20,6 +29,8 @@ pub struct Spot {
     pub word: String,
     /// The line behind the part, up to its end.
     pub after: String,
+    /// Where the line came from, if the text says so.
+    pub source: Option<SourceLine>,
 }
 
 impl Spot {
@@ -47,6 +58,7 @@ impl Spot {
             before: joined(alloc, self.before.as_str(), front)?,
             word: String::from_str(alloc, part)?,
             after: joined(alloc, behind, self.after.as_str())?,
+            source: None,
         })
     }
 }
@@ -75,6 +87,7 @@ pub fn line_spot(alloc: Global, line: &Line<'_>, word: usize) -> Result<Spot, Al
         before: String::from_str(alloc, before)?,
         word: String::from_str(alloc, part)?,
         after: String::from_str(alloc, after)?,
+        source: None,
     })
 }
 
@@ -111,5 +124,6 @@ pub fn byte_spot(alloc: Global, text: &str, start: usize, end: usize) -> Result<
         before: String::from_str(alloc, after_feed(front))?,
         word: String::from_str(alloc, word)?,
         after: String::from_str(alloc, after)?,
+        source: None,
     })
 }

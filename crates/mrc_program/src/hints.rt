@@ -50,10 +50,21 @@ fn inner_line(alloc: Global, text: &str) -> Result<String, AllocError> {
     format!(in alloc; "  {text}\n")
 }
 
+/// The file and the line of a part of a line of a file: those that it came from, if they are known.
+fn place_of<'a>(file: &'a str, spot: &'a Spot) -> (&'a str, u64) {
+    match &spot.source {
+        Some(source) => match &source.file {
+            Some(file) => (file.as_str(), source.line),
+            None => (file, source.line),
+        },
+        None => (file, u64::from(spot.line)),
+    }
+}
+
 /// Where a part of a line is: the file, the line and the column.
 fn place_line(alloc: Global, file: &str, spot: &Spot) -> Result<String, AllocError> {
+    let (file, line) = place_of(file, spot);
     let file = shown(alloc, file)?;
-    let line = spot.line;
     let column = spot.column();
     format!(in alloc; "{file}:{line}:{column}\n")
 }
