@@ -90,7 +90,7 @@ complete -c machcheck -n '__fish_seen_subcommand_from slots' -l format -x -a 'te
 complete -c machcheck -n '__fish_seen_subcommand_from slots' -l verbose -d 'Shows where a fault is, and what may help to mend it'
 complete -c machcheck -n '__fish_seen_subcommand_from slots' -s h -l help -d 'Print help'
 complete -c machcheck -n '__fish_seen_subcommand_from slots' -k -a '(__fish_complete_suffix .defs)'
-complete -c machcheck -n __fish_use_subcommand -a promises -d 'Prints what has to be found in the code of trusted tasks'
+complete -c machcheck -n __fish_use_subcommand -a promises -d 'Prints what to enforce at ports, and to find in the code of trusted tasks'
 complete -c machcheck -n '__fish_seen_subcommand_from help' -a promises
 complete -c machcheck -n '__fish_seen_subcommand_from promises' -l wiring -r -F -d 'Tasks, ports and their first rights'
 complete -c machcheck -n '__fish_seen_subcommand_from promises' -l format -x -a 'text json' -d 'How the answer is printed: text, or json for one JSON object'

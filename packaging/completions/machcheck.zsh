@@ -14,7 +14,7 @@ _machcheck() {
         'facts:Prints the facts of a certificate, or of the least one of a wiring'
         'graph:Draws the facts of a certificate, or of the least one of a wiring'
         'slots:Lists the slots of the messages, and which ports each admits'
-        'promises:Prints what has to be found in the code of trusted tasks'
+        'promises:Prints what to enforce at ports, and to find in the code of trusted tasks'
         'replay:Runs a script of calls, and prints the reply to each'
         'live:Checks, and runs a script of calls by tasks as threads'
         'mig:Writes MIG files of a system as files that can be read'

@@ -119,6 +119,8 @@ PROMISE = {
     "text": str,
     "verb": ("takes", "gives", "sends", "replies", "replies fit"),
 }
+DELIVERED = {"class": CLASS, "items": [str], "lines": [int], "text": str}
+ADMITTED = {"admits": [CLASS], "lines": [int], "subsystem": NAME, "text": str, "type": NAME}
 DRAWN = {"fact": FACT, "first": bool, "forbidden": (None, int)}
 EVENT = {"call": str, "number": int, "reply": str, "task": re.compile(rf"{NAME.pattern}|@\d+")}
 # Why a routine is left out, and why a type is not read.
@@ -152,7 +154,8 @@ ANSWER = (
     {"answer": "graph", "classes": [CLASS], "command": "graph", "facts": [DRAWN], "schema": 1, "tasks": [NAME]},
     {"answer": "none", "command": "graph", "fact": FACT, "schema": 1},
     {"answer": "slots", "command": "slots", "schema": 1, "slots": [SLOT]},
-    {"answer": "promises", "command": "promises", "promises": [PROMISE], "schema": 1},
+    {"admitted": [ADMITTED], "answer": "promises", "command": "promises", "delivered": [DELIVERED], "promises": [PROMISE],
+     "schema": 1},
     {"answer": "replay", "command": "replay", "events": [EVENT], "ports": int, "schema": 1},
     {"answer": ("journal", "all wait"), "command": "live", "events": [EVENT], "ports": int, "schema": 1, "waits": [int]},
     {"answer": "YES", "command": "mend", "schema": 1},
@@ -499,9 +502,73 @@ def promise_object(folder, asked, line):
     return {**made, "verb": verb}
 
 
+def said_lines(text):
+    """The lines of a wiring that say something, behind its first: their numbers and words."""
+    lines = [(number, line.split("#")[0].split()) for number, line in enumerate(text.split("\n"), 1)]
+    return [(number, words) for number, words in lines if words][1:]
+
+
+def items_in(words):
+    """The items behind `accepts`, in the words of a wiring."""
+    said = " ".join(words[words.index("accepts") + 1:])
+    return [] if said == "none" else [" ".join(item.split()) for item in said.split(",")]
+
+
+def class_words(words):
+    """A class in the words of a wiring: births of kind 0 have no kind."""
+    return " ".join([*words[:2], *(str(int(kind)) for kind in words[2:] if int(kind))])
+
+
+def delivered_text(items):
+    """What a port of these items delivers."""
+    kinds = {"request": "requests of", "reply": "replies of", "destroyed": "port-destroyed notices"}
+    told = [" ".join([kinds[item.split()[0]], *item.split()[1:]]) for item in items]
+    return f"mach_msg delivers only {', '.join(told)}" if told else "mach_msg delivers nothing"
+
+
+def enforced(text):
+    """What has to be enforced at the ports of a wiring: of classes, and of types; and what is printed of it."""
+    lines = said_lines(text)
+    found = [(f"port {words[1]}", [number], items_in(words)) for number, words in lines if words[0] == "port"]
+    for task in [task for _, words in lines if words[0] == "task" for task in words[1:]]:
+        kinds = {0: ([], [])}
+        for number, words in lines:
+            if words[:2] == ["births", task]:
+                kinds[int(words[2]) if words[2] != "accepts" else 0] = ([number], items_in(words))
+        found += [(class_words(["births", task, str(kind)]), *kinds[kind]) for kind in sorted(kinds)]
+    accepted = {item.split()[1] for _, _, items in found for item in items if " " in item}
+    sorts = {}
+    for number, words in lines:
+        if words[0] == "admit" and words[1].split(".")[0] in accepted:
+            numbers, classes = sorts.setdefault(words[1], ([], []))
+            numbers.append(number)
+            named = class_words(words[2:])
+            classes += [named] * (words[2:] != ["none"] and named not in classes)
+    colons = lambda name: name.replace(" ", ":")
+    delivered = [{"class": colons(name), "items": items, "lines": numbers, "text": delivered_text(items)}
+                 for name, numbers, items in found]
+    admitted = []
+    for sort, (numbers, classes) in sorts.items():
+        subsystem, name = sort.split(".")
+        text = f"only rights on ports of {', '.join(classes)}" if classes else "no right"
+        admitted.append({"admits": [colons(one) for one in classes], "lines": numbers, "subsystem": subsystem, "text": text,
+                         "type": name})
+    by = lambda one: ("(no line)" if not one["lines"] else
+                      f"(line{'s' * (len(one['lines']) > 1)} {', '.join(map(str, one['lines']))})")
+    printed = [f"{name}: {one['text']} {by(one)}" for (name, _, _), one in zip(found, delivered)]
+    printed += [f"{one['subsystem']}.{one['type']}: {one['text']} {by(one)}" for one in admitted]
+    return delivered, admitted, printed
+
+
 def promises_object(folder, asked, texts):
-    promises = [promise_object(folder, asked, line) for line in texts.plain.lines()]
-    return {"answer": "promises", "command": "promises", "promises": promises, "schema": 1}
+    with open(folder / asked.options["wiring"], encoding="utf-8") as file:
+        delivered, admitted, printed = enforced(file.read())
+    lines = texts.plain.lines()
+    if lines[: len(printed)] != printed:
+        raise Wrong(f"other promises than {printed}: {lines}")
+    promises = [promise_object(folder, asked, line) for line in lines[len(printed):]]
+    return {"admitted": admitted, "answer": "promises", "command": "promises", "delivered": delivered, "promises": promises,
+            "schema": 1}
 
 
 NODE_LINE = re.compile(r'  "(\w+)" \[shape=box,label="([^"]*)"\];')
@@ -738,21 +805,39 @@ def first_signs(text, width):
     return text[:at]
 
 
+def sources_of(lines, file):
+    """The file and the line from which each line of a MIG file's text came, by the marks of lines in front of it."""
+    number, found = 0, []
+    for line in lines:
+        number += 1
+        found.append((file, number))
+        mark = re.match(r'#[ \t]*(?:line[ \t]*)?(\d+)(?:[ \t]*"([^"]*)")?', line)
+        if mark:
+            number = int(mark[1]) - 1
+            file = shown(re.sub(r"\\(.)", r"\1", mark[2])) if mark[2] is not None else file
+    return found
+
+
 def place_of(folder, asked, file, lines):
-    """The place of a fault, by the lines behind it: the line, its column and its whole text; and the notes."""
-    place = re.fullmatch(re.escape(f"{file}:") + r"(\d+):(\d+)", lines[0]) if lines else None
+    """The place of a fault, by the lines behind it: the file, the line, its column and its whole text; and the notes. Of
+    `mig` it is the place from which the line of the text came."""
+    place = re.fullmatch(r"(.*):(\d+):(\d+)", lines[0]) if lines else None
     if not place:
-        return None, None, None, [line[2:] for line in lines]
+        return file, None, None, None, [line[2:] for line in lines]
     (path,) = {folder / name for name in asked.named() if shown(name) == file}
-    line, column = int(place[1]), int(place[2])
-    text = path.read_bytes().decode().split("\n")[line - 1]
+    line, column = int(place[2]), int(place[3])
+    every = path.read_bytes().decode().split("\n")
+    sources = sources_of(every, file) if asked.command == "mig" else [(file, at) for at in range(1, len(every) + 1)]
+    # A mark may have the same source as a line.
+    texts = [text for text, source in zip(every, sources) if source == (place[1], line)]
+    text = next((text for text in texts if not text.startswith("#")), texts[0])
     before, behind = end_shown(text[: column - 1]), text[column - 1 :]
     carets = lines[2].removeprefix("  " + len(before) * " ")
     words = ("", first_signs(behind, len(carets)))
     lines_of = {f"  {before}{front_shown(word)}{front_shown(behind[len(word) :])}" for word in words}
     if lines[1] not in lines_of or not re.fullmatch(r"\^+", carets):
         raise Wrong(f"another line or other carets than of {text[:200]!r}: {lines[1][:200]!r}, {lines[2][:200]!r}")
-    return line, column, text, [note[2:] for note in lines[3:]]
+    return place[1], line, column, text, [note[2:] for note in lines[3:]]
 
 
 def up_to_fault(err):
@@ -767,13 +852,13 @@ def fault_object(folder, asked, texts):
     if not whole.startswith(plain) or texts.plain.err not in (plain, whole):
         raise Wrong(f"another fault: {whole}")
     head, _, fault = plain.split("\n")[-2].removeprefix("machcheck: ").rpartition(": ")
-    line, column, text, notes = place_of(folder, asked, head, whole[len(plain) :].split("\n")[:-1])
+    file, line, column, text, notes = place_of(folder, asked, head, whole[len(plain) :].split("\n")[:-1])
     return {
         "answer": "fault",
         "column": column,
         "command": asked.command,
         "fault": fault,
-        "file": head or None,
+        "file": file or None,
         "line": line,
         "notes": notes,
         "schema": 1,

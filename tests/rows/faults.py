@@ -554,8 +554,12 @@ machcheck: w: TwiceNamed 0
 """, one=FS, name=NAME, other=FS)
 wiring("too many MIG files", "wiring 1\n", """\
 machcheck: w: TooMany 0
-  d16.defs is the 17th MIG file: a wiring has at most 16
+  d16.defs is the 17th MIG file: a wiring of version 1 or 2 has at most 16, one of version 3 has 256
 """, **{f"d{n}": f"subsystem s{n} 5;\n" for n in range(17)})
+wiring("too many MIG files of a wiring of version 3", "wiring 3\n", """\
+machcheck: w: TooMany 0
+  d256.defs is the 257th MIG file: a wiring has at most 256
+""", **{f"d{n}": f"subsystem s{n} 5;\n" for n in range(257)})
 wiring("too many tasks", "wiring 1\n" + "".join(f"task t{n}\n" for n in range(65)), """\
 machcheck: w: TooMany 66
 w:66:6
@@ -986,6 +990,33 @@ machcheck: d.defs: Unexpected 15
 d.defs:2:1
   nonsense x;
   ^^^^^^^^
+""")
+MARKED = '# 7 "s/x.defs"\nsubsystem s 5;\n# 3 "s/y\\\\z.h" 1\n\n type '
+fault("mig of what is no MIG file of another source", "mig --out . d.defs", {"d.defs": MARKED + "t = int; nonsense x;\n"}, r"""
+machcheck: d.defs: Unexpected 63
+s/y\\z.h:4:16
+   type t = int; nonsense x;
+                 ^^^^^^^^
+"""[1:])
+fault("mig of an open comment of another source", "mig --out . d.defs", {"d.defs": MARKED + "/*\n"}, r"""
+machcheck: d.defs: OpenComment 54
+s/y\\z.h:4:7
+   type /*
+        ^^
+  this comment is not closed
+"""[1:])
+fault("mig behind a mark without a name", "mig --out . d.defs", {"d.defs": "#line 30\nsubsystem s 5; x y;\n"}, """\
+machcheck: d.defs: Unexpected 24
+d.defs:30:16
+  subsystem s 5; x y;
+                 ^
+""")
+fault("a fault of another source, of facts", "facts --wiring w d", {
+    "w": "wiring 1\n", "d": "#pragma machcheck 2\n# 7 \"x.defs\"\nsubsystem s 5; x y;\n"}, """\
+machcheck: d: Unexpected 48
+d:3:16
+  subsystem s 5; x y;
+                 ^
 """)
 fault("mig of an open comment", "mig --out . d.defs", {"d.defs": "subsystem s 5; /*\n"}, """\
 machcheck: d.defs: OpenComment 15

@@ -226,10 +226,20 @@ def promise(line, task, verb, text, right=None, name=None):
     return {"class": name, "line": line, "right": right, "task": task, "text": text, "verb": verb}
 
 
+def delivered(name, items, told, *lines):
+    return {"class": name, "items": items, "lines": [*lines], "text": f"mach_msg delivers {told}"}
+
+
+def admitted(type_name, admits, text, *lines):
+    return {"admits": admits, "lines": [*lines], "subsystem": "fs", "text": text, "type": type_name}
+
+
 written("promises", "promises --wiring w", {
     "w": "wiring 3\ntask a\ntask b\nbirths b 07 accepts none\ntrust a takes none\ntrust a sends send task b # so\n"
          "replies fit\ntrust a sends once births b 07\ntrust b replies births b 0\n",
-}, 0, answer="promises", command="promises", promises=[
+}, 0, admitted=[], answer="promises", command="promises", delivered=[
+    delivered("births:a", [], "nothing"), delivered("births:b", [], "nothing"), delivered("births:b:7", [], "nothing", 4),
+], promises=[
     promise(5, "a", "takes", "no mach_port_extract_right from another task, and no mach_port_request_notification there that "
                              "returns a right"),
     promise(6, "a", "sends", "mach_msg with rights in its body only of send rights on ports of task b", "send", "task:b"),
@@ -241,8 +251,18 @@ written("promises", "promises --wiring w", {
 ])
 
 
-written("a promise", "promises --wiring w", {"w": "wiring 3\ntask a\ntrust a sends none\n"}, 0, answer="promises",
-        command="promises", promises=[promise(3, "a", "sends", "no mach_msg with rights in its body")])
+written("a promise", "promises --wiring w", {"w": "wiring 3\ntask a\ntrust a sends none\n"}, 0, admitted=[],
+        answer="promises", command="promises", delivered=[delivered("births:a", [], "nothing")],
+        promises=[promise(3, "a", "sends", "no mach_msg with rights in its body")])
+written("promises of ports", "promises --wiring w fs.defs", {
+    "w": "wiring 2\ntask server\nport gate receiver server accepts request fs, destroyed\nbirths server 2 accepts reply fs\n"
+         "admit fs.file_t births server 2\nadmit fs.file_t task server\n", "fs.defs": FS,
+}, 0, admitted=[
+    admitted("file_t", ["births:server:2", "task:server"], "only rights on ports of births server 2, task server", 5, 6),
+], answer="promises", command="promises", delivered=[
+    delivered("port:gate", ["request fs", "destroyed"], "only requests of fs, port-destroyed notices", 3),
+    delivered("births:server", [], "nothing"), delivered("births:server:2", ["reply fs"], "only replies of fs", 4),
+], promises=[])
 
 
 def drawn(fact, first=False, forbidden=None):
@@ -388,7 +408,7 @@ fault("two MIG files of one subsystem", "facts --wiring w a.defs b.defs", {"w": 
       "TwiceNamed 0", "w", None, ["a.defs and b.defs have the same subsystem: fs"])
 fault("too many MIG files", " ".join(["facts --wiring w", *(f"d{n}" for n in range(17))]),
       {"w": "wiring 1\n", **{f"d{n}": f"subsystem s{n} 5;\n" for n in range(17)}}, "TooMany 0", "w", None,
-      ["d16 is the 17th MIG file: a wiring has at most 16"])
+      ["d16 is the 17th MIG file: a wiring of version 1 or 2 has at most 16, one of version 3 has 256"])
 fault("an empty wiring", "facts --wiring w", {"w": ""}, "BadLine 1", "w", None,
       ["expected: wiring 1, wiring 2 or wiring 3"])
 fault("a word of an option", "facts --task nobody --wiring w", {"w": LOADER}, "BadTask", "--task", None,
@@ -417,3 +437,6 @@ fault("a folder that is not there", "mig --out absent t.defs", {
       "t.defs: 1 of 1 routines read\nmachcheck: absent/t.defs: WriteFailed 0\n")
 fault("mig of what is no MIG file", "mig --out . d.defs", {"d.defs": "subsystem s 5;\nnonsense x;\n"}, "Unexpected 15",
       "d.defs", (2, 1, "nonsense x;"))
+fault("mig of what is no MIG file of another source", "mig --out . d.defs",
+      {"d.defs": '# 70 "s/x.defs"\nsubsystem s 5;\nnonsense x;\n'}, "Unexpected 31", "s/x.defs", (71, 1, "nonsense x;"),
+      err="machcheck: d.defs: Unexpected 31\n")

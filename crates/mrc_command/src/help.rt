@@ -318,15 +318,19 @@ pub(crate) const PROMISES_HELP: &str = "Files, as docs/FORMATS.md describes them
   MIG files have the messages of the interfaces that the wiring names,
   a wiring has the tasks and ports, what they accept, and the rights that are held at first.
 
-A wiring may trust tasks. Its `trust` lines limit what a task takes from other tasks, gives to
-them, sends in messages, and names as its reply ports. machcheck's machine refuses all else. A
-kernel that does not refuse it needs tasks whose code keeps to these lines.
+A YES is of machcheck's machine, which refuses what the wiring does not name. A kernel or a
+filter has to refuse the same, and where it does not, the code of tasks has to keep to it.
 
-A line is printed for each of them, in their order: the task, the calls of Mach to look for in
-its code, with which rights on which ports they may be there, and the number of the line in the
-wiring. Lines of one task about the same calls belong together: each behind the first begins
-its limit with `or`, and what none of them allows must not be there. What `replies fit` asks is
-printed as a line for each task. If the wiring has no such lines, nothing is printed.
+A line is printed for each class of wired ports and of births, in the order of their numbers:
+which messages may be delivered there. Then one for each type that `admit` lines name, of a
+subsystem of which some class accepts messages: on which ports the rights in its slots may be.
+Behind each are the numbers of the lines of the wiring that say so.
+
+Then a line is printed for each `trust` line, in their order: the task, the calls of Mach to look
+for in its code, with which rights on which ports they may be there, and the number of the line.
+Lines of one task about the same calls belong together: each behind the first begins its limit
+with `or`, and what none of them allows must not be there. What `replies fit` asks is printed as a
+line for each task.
 
 --format json prints these lines as one JSON object, and a fault too. docs/FORMATS.md describes
 these objects. Standard error is the same as without it.

@@ -201,7 +201,7 @@ pub(crate) const COMMANDS: [Entry; 13] = [
     ),
     (
         "promises",
-        "Prints what has to be found in the code of trusted tasks",
+        "Prints what to enforce at ports, and to find in the code of trusted tasks",
         PROMISES_HELP,
         &[WIRING, FORMAT, VERBOSE, DEFS],
     ),

@@ -1,5 +1,9 @@
-//! What has to be found in the code of trusted tasks: as lines, and as objects.
+//! What a `YES` rests on: what a kernel or a filter has to enforce at ports, and what has to be found
+//! in the code of trusted tasks. As lines, and as objects.
 
+use crate::enforced::{
+    DeliveredObject, AdmittedObject, all_delivered, all_admitted, delivered_line, admitted_line,
+};
 use crate::json::{SCHEMA, json_text};
 use mrc_base::PortRight;
 use mrc_wiring_text::{ClassName, TrustVerb, TrustedRight, WiringLine, WiringSays};
@@ -19,11 +23,13 @@ struct PromiseObject<'a> {
     verb: &'static str,
 }
 
-/// What the lines of a wiring ask, in their order.
+/// What a wiring asks: of ports, of trusted tasks, and of slots.
 #[derive(Drop, Serialize)]
 struct PromisesAnswer<'a> {
+    admitted: Vec<AdmittedObject<'a>>,
     answer: &'static str,
     command: &'static str,
+    delivered: Vec<DeliveredObject>,
     promises: Vec<PromiseObject<'a>>,
     schema: u32,
 }
@@ -33,7 +39,7 @@ const FIT: &str =
     "mach_msg with a reply port only if the port accepts the replies of the request's interface";
 
 /// A class in the words of a wiring: births without their kind, if it is 0.
-fn class_words(alloc: Global, class: &ClassName) -> Result<String, AllocError> {
+pub(crate) fn class_words(alloc: Global, class: &ClassName) -> Result<String, AllocError> {
     match class {
         ClassName::Port(name) => format!(in alloc; "port {}", name.as_str()),
         ClassName::Task(name) => format!(in alloc; "task {}", name.as_str()),
@@ -44,9 +50,9 @@ fn class_words(alloc: Global, class: &ClassName) -> Result<String, AllocError> {
     }
 }
 
-/// A class as it is printed in a fact: its words with colons.
-fn class_of(alloc: Global, class: &ClassName) -> Result<String, AllocError> {
-    class_words(alloc, class)?
+/// A class of these words as it is printed in a fact: with colons.
+pub(crate) fn class_of(alloc: Global, words: &str) -> Result<String, AllocError> {
+    words
         .chars()
         .map(|c| if c == ' ' { ':' } else { c })
         .collect(alloc)
@@ -62,7 +68,7 @@ fn right_words(right: PortRight) -> &'static str {
 }
 
 /// The word of a verb in a wiring, the calls by which a task does what it says, and where else
-/// nothing is taken or given, if nothing is.
+/// nothing is admitted or given, if nothing is.
 fn verb_words(verb: TrustVerb) -> (&'static str, &'static str, &'static str) {
     match verb {
         TrustVerb::Takes => (
@@ -144,7 +150,8 @@ fn promise(
     match &line.says {
         WiringSays::Trust { task, verb, right } => {
             if let Some(on) = right {
-                promise.class = Some(class_of(alloc, &on.class)?);
+                let words = class_words(alloc, &on.class)?;
+                promise.class = Some(class_of(alloc, words.as_str())?);
                 promise.right = Some(right_word(on.right));
             }
             promise.task = Some(task.as_str());
@@ -208,21 +215,31 @@ fn promise_line(alloc: Global, promise: &PromiseObject<'_>) -> Result<String, Al
     format!(in alloc; "{task}: {text} (line {line})\n")
 }
 
-/// What has to be found in the code of the tasks that these lines of a wiring trust: a line for
-/// each that limits a task, in their order, and for `replies fit`.
+/// What a `YES` over a wiring of these lines rests on, a line for each: what is delivered at the
+/// ports of each class, by their numbers; what slots take whose type a line names, in the order of
+/// these lines; and what has to be found in the code of trusted tasks, in the order of the lines
+/// that limit a task, and of `replies fit`.
 pub fn promises_text(alloc: Global, lines: &[WiringLine]) -> Result<String, AllocError> {
-    let promises = promises_of(alloc, lines)?;
-    promises
-        .iter()
-        .map(|promise| promise_line(alloc, promise))
-        .try_collect(alloc)
+    let mut text = String::new(alloc);
+    for one in &all_delivered(alloc, lines)? {
+        text.push_str(delivered_line(alloc, one)?.as_str())?;
+    }
+    for one in &all_admitted(alloc, lines)? {
+        text.push_str(admitted_line(alloc, one)?.as_str())?;
+    }
+    for one in &promises_of(alloc, lines)? {
+        text.push_str(promise_line(alloc, one)?.as_str())?;
+    }
+    Ok(text)
 }
 
 /// The same as an object.
 pub fn promises_json(alloc: Global, lines: &[WiringLine]) -> Result<String, AllocError> {
     let answer = PromisesAnswer {
+        admitted: all_admitted(alloc, lines)?,
         answer: "promises",
         command: "promises",
+        delivered: all_delivered(alloc, lines)?,
         promises: promises_of(alloc, lines)?,
         schema: SCHEMA,
     };

@@ -1,4 +1,5 @@
-# A wiring of 65,535 lines: 64 tasks, and then lines about each of them by each verb, again and again.
+# A wiring of 65,535 lines: 64 tasks, and then lines about each of them by each verb, again and again. No births accept
+# messages.
 TASKS, LINES = 64, 65_535
 VERBS = {
     "takes": "mach_port_extract_right from another task",
@@ -7,7 +8,7 @@ VERBS = {
     "replies": "mach_msg with reply ports",
 }
 text = ["wiring 3"] + [f"task t{task}" for task in range(TASKS)]
-told, seen = [], set()
+told, seen = [f"births t{task}: mach_msg delivers nothing (no line)\n" for task in range(TASKS)], set()
 while len(text) < LINES:
     number = len(text) + 1
     task = f"t{number % TASKS}"
