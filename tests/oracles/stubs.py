@@ -1,8 +1,9 @@
 """The messages of MIG files as the stubs that GNU MIG makes have them, and as they are read by the word forms2 of mrc_cases.
 
-Both are by their ids, and whether they are replies: a kind, and the arguments in their order, each a word as mrc_cases
-prints it. Which rights a caller may pick is known from the stub that receives: from the type number for which it looks. Where
-data are not in the body, or there with any length, they are of any kind, and of rights there are at most 8,192.
+Both are by their ids, and whether they are replies: a kind, the arguments in their order, and the slots, each a word as
+mrc_cases prints it, but for the name of a slot's type. Which rights a caller may pick is known from the stub that receives:
+from the type number for which it looks. Where data are not in the body, or there with any length, they are of any kind, and
+of rights there are at most 8,192. A slot is an argument of rights.
 """
 import os
 import re
@@ -81,6 +82,13 @@ def arguments_of(sending, receiving, record):
     return [argument_of(sending, receiving, name) for name in names]
 
 
+def with_slots(arguments):
+    """The arguments, and behind them the slots."""
+    numbers = [word.split("/")[0] for word in arguments]
+    slots = [f"{at}:{it}" for at, it in enumerate(numbers) if it in GIVING.values() or it.isdigit() and int(it) in RIGHTS]
+    return arguments + slots
+
+
 def request_kind(user, server):
     """What answers a request: a reply, whatever goes to the reply port that one of its stubs has, or nothing."""
     if "OutP->Head.msgh_id != " in user:
@@ -102,16 +110,16 @@ def stub_messages(migcom, text, base):
     messages = {}
     for (_, asks), (_, answers) in stubs:
         number = int(re.search(r"InP->Head\.msgh_id = (-?\d+);", asks).group(1))
-        messages[number, False] = request_kind(asks, answers), arguments_of(asks, answers, "Request")
+        messages[number, False] = request_kind(asks, answers), with_slots(arguments_of(asks, answers, "Request"))
         reply = re.search(r"OutP->Head\.msgh_id != (-?\d+)\)", asks)
         if reply:
-            messages[int(reply.group(1)), True] = "reply", arguments_of(answers, asks, "Reply")
+            messages[int(reply.group(1)), True] = "reply", with_slots(arguments_of(answers, asks, "Reply"))
     return messages
 
 
-def read_messages(said, has_slots=False):
-    """What mrc_cases prints of a file: the words of its subsystem, its messages, with their slots or without, and what is left
-    out."""
+def read_messages(said, has_types=False):
+    """What mrc_cases prints of a file: the words of its subsystem, its messages, with the types of their slots or without, and
+    what is left out."""
     heading, *parts = said.split("; ")
     messages, left = {}, []
     for part in parts:
@@ -119,9 +127,15 @@ def read_messages(said, has_slots=False):
         if kind in ("left", "type"):
             left.append(part)
         else:
-            told = [word for word in words[1:] if has_slots or ":" not in word]
+            told = words[1:] if has_types else [":".join(word.split(":")[:2]) for word in words[1:]]
             messages[int(words[0]), kind == "reply"] = kind, told
     return heading, messages, left
+
+
+def counted(messages):
+    """How many routines these messages are of, how many messages there are, and how many arguments they have."""
+    words = [word for _, words in messages.values() for word in words if ":" not in word]
+    return sum(not is_reply for _, is_reply in messages), len(messages), len(words)
 
 
 def second(texts):

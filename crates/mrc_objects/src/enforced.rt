@@ -314,7 +314,10 @@ pub(crate) fn delivered_line(
 }
 
 /// The line of what the slots of a type take.
-pub(crate) fn admitted_line(alloc: Global, admitted: &AdmittedObject<'_>) -> Result<String, AllocError> {
+pub(crate) fn admitted_line(
+    alloc: Global,
+    admitted: &AdmittedObject<'_>,
+) -> Result<String, AllocError> {
     let subsystem = admitted.subsystem;
     let type_name = admitted.type_name;
     let text = admitted.text.as_str();

@@ -2,7 +2,7 @@
 
 use crate::json::{SCHEMA, json_text};
 use mrc_command::shown;
-use mrc_place::{Hint, SourceLine, Spot};
+use mrc_place::{Hint, Spot};
 use serde::Serialize;
 use std::alloc::{AllocError, Global};
 
@@ -29,7 +29,7 @@ struct FaultAnswer<'a> {
     column: Option<usize>,
     command: &'a str,
     fault: &'a str,
-    file: Option<&'a str>,
+    file: Option<String>,
     line: Option<u64>,
     notes: &'a [String],
     schema: u32,
@@ -61,16 +61,26 @@ fn line_of(spot: &Spot) -> u64 {
     }
 }
 
-/// The file of a spot as it is shown, if it came from another than the one of which is told.
-fn file_of(alloc: Global, spot: &Spot) -> Result<Option<String>, AllocError> {
-    match &spot.source {
-        Some(
-            SourceLine {
-                file: Some(file),
-                ..
-            },
-        ) => Ok(Some(shown(alloc, file.as_str())?)),
-        _ => Ok(None),
+/// The file from which the line of a spot came, if it is another than the one of which is told.
+fn source_file(spot: &Spot) -> Option<&str> {
+    let source = spot.source.as_ref()?;
+    source.file.as_ref().map(|file| file.as_str())
+}
+
+/// The file of a fault as it is shown: that from which its line came, if that is known.
+fn file_of(
+    alloc: Global,
+    parts: &FaultParts,
+    spot: Option<&Spot>,
+) -> Result<Option<String>, AllocError> {
+    if let Some(spot) = spot {
+        if let Some(file) = source_file(spot) {
+            return Ok(Some(shown(alloc, file)?));
+        }
+    }
+    match parts.file() {
+        Some(file) => Ok(Some(String::from_str(alloc, file)?)),
+        None => Ok(None),
     }
 }
 
@@ -82,16 +92,12 @@ pub fn fault_json(
     hint: &Hint,
 ) -> Result<String, AllocError> {
     let spot = hint.spot.as_ref();
-    let file = match spot {
-        Some(spot) => file_of(alloc, spot)?,
-        None => None,
-    };
     let answer = FaultAnswer {
         answer: "fault",
         column: spot.map(|spot| spot.column()),
         command,
         fault: parts.name.as_str(),
-        file: file.as_ref().map(|file| file.as_str()).or(parts.file()),
+        file: file_of(alloc, parts, spot)?,
         line: spot.map(|spot| line_of(spot)),
         notes: hint.notes.as_slice(),
         schema: SCHEMA,

@@ -2,7 +2,7 @@
 //! in the code of trusted tasks. As lines, and as objects.
 
 use crate::enforced::{
-    DeliveredObject, AdmittedObject, all_delivered, all_admitted, delivered_line, admitted_line,
+    AdmittedObject, DeliveredObject, admitted_line, all_admitted, all_delivered, delivered_line,
 };
 use crate::json::{SCHEMA, json_text};
 use mrc_base::PortRight;
