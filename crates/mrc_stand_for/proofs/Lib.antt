@@ -1,3 +1,6 @@
+pub mod EachLemmas
+pub mod KindLemmas
+pub mod StoodLemmas
 pub mod ProductLemmas
 pub mod ListLemmas
 pub mod TextLemmas

@@ -2,11 +2,13 @@
 -- system, and the smallest wiring of each refusal. Each line has its number in a text whose first
 -- line is the heading.
 use Rattle.std.specs.Prelude.{◌≡◌, ℕ, ◌+◌, List, [], ◌∷◌, ◌++◌, Some, None, codes, refl, map}
+use Rattle.mrc_base.specs.declared.PortRight.{PortRight}
 use Rattle.mrc_base.specs.declared.PortRight.TheVariants as right
 use Rattle.mrc_wiring_text.specs.declared.items.Item.TheVariants.{Request, Reply, Destroyed}
 use Rattle.mrc_wiring_text.specs.declared.policy.ClassName.{ClassName}
 use Rattle.mrc_wiring_text.specs.declared.policy.ClassName.TheVariants as class
 use Rattle.mrc_wiring_text.specs.declared.reading.Line.{Line}
+use Rattle.mrc_wiring_text.specs.declared.trust.TrustVerb.{TrustVerb}
 use Rattle.mrc_wiring_text.specs.declared.trust.TrustVerb.TheVariants as verb
 use Rattle.mrc_wiring_text.specs.declared.wiring.HeldRight.TheVariants as held
 use Rattle.mrc_wiring_text.specs.declared.wiring.WiringSays.{WiringSays}
@@ -18,6 +20,7 @@ use Rattle.mrc_stand_for.specs.declared.standing.StandsFor.{StandsFor}
 use Rattle.mrc_stand_for.specs.declared.wide.Kinds.TheVariants as kinds
 use Rattle.mrc_stand_for.specs.declared.wide.Place.TheVariants as place
 use Rattle.mrc_stand_for.specs.declared.wide.RightVerb.TheVariants as verbs
+use Rattle.mrc_stand_for.specs.declared.wide.SlotName.{SlotName}
 use Rattle.mrc_stand_for.specs.declared.wide.Tasks.TheVariants as tasks
 use Rattle.mrc_stand_for.specs.declared.wide.WideClass.{WideClass}
 use Rattle.mrc_stand_for.specs.declared.wide.WideClass.TheVariants as wide
@@ -157,6 +160,56 @@ pub trusted : stand_for (lines 2 (
     ∷ gives_once b (class.Task a) ∷ []))
 trusted = refl
 
+-- a slot of s
+abbrev slot : List ℕ → SlotName
+slot type = record { subsystem = s; type_name = type }
+
+-- `task a, b`, `port p receiver a accepts none`, `admit s.q, s.u port p, task all`,
+-- `admit s.q, s.u none`
+pub admitted : stand_for (lines 2 (
+    Task (a ∷ b ∷ []) ∷ Port p a []
+    ∷ Admit (slot q ∷ slot u ∷ []) (Some (wide.Port p ∷ wide.Task whom.All ∷ []))
+    ∷ Admit (slot q ∷ slot u ∷ []) None ∷ []))
+    ≡ all_of (of 2 (core.Task a ∷ core.Task b ∷ []) ++ of 3 (core.Port p a [] ∷ [])
+    ++ of 4 (core.Admit s q (Some (class.Port p)) ∷ core.Admit s q (Some (class.Task a))
+    ∷ core.Admit s q (Some (class.Task b)) ∷ core.Admit s u (Some (class.Port p))
+    ∷ core.Admit s u (Some (class.Task a)) ∷ core.Admit s u (Some (class.Task b)) ∷ [])
+    ++ of 5 (core.Admit s q None ∷ core.Admit s u None ∷ []))
+admitted = refl
+
+-- `task a, b`, `port p of births a`, `port q of births a`,
+-- `admit s.u port q, births a, task a, port q`
+pub ports_of_births : stand_for (lines 2 (
+    Task (a ∷ b ∷ []) ∷ PortOf p a 0 ∷ PortOf q a 0
+    ∷ Admit (slot u ∷ []) (Some (wide.Port q ∷ of_kind a 0 ∷ wide.Task (whom.Who a)
+    ∷ wide.Port q ∷ [])) ∷ []))
+    ≡ all_of (of 2 (core.Task a ∷ core.Task b ∷ []) ++ of 3 (core.Port p a [] ∷ [])
+    ++ of 4 (core.Port q a [] ∷ [])
+    ++ of 5 (core.Admit s u (Some (class.Port q)) ∷ core.Admit s u (Some (class.Births a 0))
+    ∷ core.Admit s u (Some (class.Port p)) ∷ core.Admit s u (Some (class.Task a)) ∷ []))
+ports_of_births = refl
+
+-- what a may do by a verb with a right on the kernel port of b
+abbrev on_b : TrustVerb → PortRight → WiringSays
+on_b by with_right = core.Trust a by (Some (record { right = with_right; class = class.Task b }))
+
+-- `task a, b`, `trust a takes, sends send, once task all but a`
+pub verbs_and_rights : stand_for (lines 2 (
+    Task (a ∷ b ∷ []) ∷ Trust (tasks.Listed (a ∷ [])) (verbs.Takes ∷ verbs.Sends ∷ [])
+    (right.Send ∷ right.SendOnce ∷ []) (wide.Task (whom.AllBut a) ∷ []) ∷ []))
+    ≡ all_of (of 2 (core.Task a ∷ core.Task b ∷ [])
+    ++ of 3 (on_b verb.Takes right.Send ∷ on_b verb.Takes right.SendOnce
+    ∷ on_b verb.Sends right.Send ∷ on_b verb.Sends right.SendOnce ∷ []))
+verbs_and_rights = refl
+
+-- `task a, b`, `port p receiver b accepts none`, `hold a send port p, task all`
+pub places : stand_for (lines 2 (
+    Task (a ∷ b ∷ []) ∷ Port p b []
+    ∷ HoldSend (tasks.Listed (a ∷ [])) (place.Port p ∷ place.Task whom.All ∷ []) ∷ []))
+    ≡ all_of (of 2 (core.Task a ∷ core.Task b ∷ []) ++ of 3 (core.Port p b [] ∷ [])
+    ++ of 4 (core.HoldPort a held.Send p ∷ core.HoldTask a a ∷ core.HoldTask a b ∷ []))
+places = refl
+
 -- a whole system: `task server, a, b`, `port gate receiver server accepts request s`,
 -- `births server 1 accepts request s`, `births server 2 accepts request s`,
 -- `births a 0 accepts reply s_a`, `births b 0 accepts reply s_b`, `hold a, b send port gate`,
@@ -265,3 +318,20 @@ pub no_holder : stand_for (lines 2 (
     Task (a ∷ b ∷ []) ∷ Set s (wide.Task whom.Other ∷ []) ∷ []))
     ≡ front (of 2 (core.Task a ∷ core.Task b ∷ [])) (BadLine 3)
 no_holder = refl
+
+-- `task a`, `group a a`
+pub group_is_a_task : stand_for (lines 2 (
+    Task (a ∷ []) ∷ Group a (tasks.Listed (a ∷ [])) ∷ []))
+    ≡ front (of 2 (core.Task a ∷ [])) (TwiceNamed 3)
+group_is_a_task = refl
+
+-- `task a`, `set s task a`, `set s births a`
+pub set_is_a_set : stand_for (lines 2 (
+    Task (a ∷ []) ∷ Set s (wide.Task (whom.Who a) ∷ []) ∷ Set s (of_kind a 0 ∷ []) ∷ []))
+    ≡ front (of 2 (core.Task a ∷ [])) (TwiceNamed 4)
+set_is_a_set = refl
+
+-- `task a`, `port p of births a 1`
+pub kind_of_no_line : stand_for (lines 2 (Task (a ∷ []) ∷ PortOf p a 1 ∷ []))
+    ≡ front (of 2 (core.Task a ∷ [])) (UnknownName 3)
+kind_of_no_line = refl

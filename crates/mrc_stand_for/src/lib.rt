@@ -6,7 +6,7 @@ mod faults;
 mod known;
 pub mod laws;
 mod lists;
-pub mod products;
+mod products;
 mod several;
 mod standing;
 mod stood;
@@ -14,6 +14,6 @@ mod wide;
 
 pub use faults::StandFault;
 pub use several::Several;
-pub use standing::StandsFor;
+pub use standing::{LINES_STOOD_FOR, StandsFor, stand_for};
 pub use stood::{StoodLine, StoodParts, StoodSays};
 pub use wide::{Kinds, Place, RightVerb, SlotName, Tasks, Whom, WideClass, WideLine, WideSays};

@@ -16,7 +16,7 @@ use mrc_wiring_text::{ClassName, HeldRight, Item, Kind, Name, TrustVerb, Trusted
 use std::alloc::{AllocError, Global};
 
 /// There are tasks of these names.
-pub fn task_lines(alloc: Global, names: &[Name]) -> Result<Several<StoodSays>, AllocError>
+pub(crate) fn task_lines(alloc: Global, names: &[Name]) -> Result<Several<StoodSays>, AllocError>
     ensures { IfOk result (λ lines. lines ≡ map core.Task names.now) }
 {
     let mut lines = Several::empty(alloc);
@@ -27,7 +27,7 @@ pub fn task_lines(alloc: Global, names: &[Name]) -> Result<Several<StoodSays>, A
 }
 
 /// Births of a kind of each of the tasks.
-pub fn births_lines(
+pub(crate) fn births_lines(
     alloc: Global,
     tasks: &[Name],
     kind: &Kind,
@@ -156,7 +156,7 @@ fn push_onces(
 }
 
 /// Send-once rights of each of the tasks, on each of the ports.
-pub fn once_lines(
+pub(crate) fn once_lines(
     alloc: Global,
     tasks: &[Name],
     ports: &[Name],
@@ -190,7 +190,7 @@ fn push_admits(
 }
 
 /// Each of the slots admits each of the classes.
-pub fn admit_lines(
+pub(crate) fn admit_lines(
     alloc: Global,
     slots: &[SlotName],
     classes: &[ClassName],
@@ -205,7 +205,10 @@ pub fn admit_lines(
 }
 
 /// The slots admit no class of this line.
-pub fn no_admit_lines(alloc: Global, slots: &[SlotName]) -> Result<Several<StoodSays>, AllocError>
+pub(crate) fn no_admit_lines(
+    alloc: Global,
+    slots: &[SlotName],
+) -> Result<Several<StoodSays>, AllocError>
     ensures { IfOk result (λ lines. lines ≡ map admit_none slots.now) }
 {
     let mut lines = Several::empty(alloc);
@@ -230,7 +233,7 @@ fn verb_of(verb: RightVerb) -> TrustVerb
 }
 
 /// The verbs of lines of version 3.
-pub fn verbs_of(alloc: Global, verbs: &[RightVerb]) -> Result<Several<TrustVerb>, AllocError>
+pub(crate) fn verbs_of(alloc: Global, verbs: &[RightVerb]) -> Result<Several<TrustVerb>, AllocError>
     ensures { IfOk result (λ list. list ≡ map verb_of verbs.now) }
 {
     let mut list = Several::empty(alloc);
@@ -319,7 +322,7 @@ fn push_nones(
 }
 
 /// The same of each of the tasks.
-pub fn none_lines(
+pub(crate) fn none_lines(
     alloc: Global,
     tasks: &[Name],
     verbs: &[TrustVerb],

@@ -1,0 +1,6 @@
+mod HeadingLemmas
+mod ListLemmas
+mod ItemLemmas
+mod TextLaws
+mod OtherLaws
+mod WideLaws
