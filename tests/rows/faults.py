@@ -1011,6 +1011,13 @@ d.defs:30:16
   subsystem s 5; x y;
                  ^
 """)
+fault("mig of a long name", "mig --out . d.defs", {"d.defs": f"subsystem {65 * 'n'} 5;\n"}, f"""\
+machcheck: d.defs: TooMany 10
+d.defs:1:11
+  subsystem {65 * 'n'} 5;
+            {65 * '^'}
+  a name has at most 64 bytes
+""")
 fault("a fault of another source, of facts", "facts --wiring w d", {
     "w": "wiring 1\n", "d": "#pragma machcheck 2\n# 7 \"x.defs\"\nsubsystem s 5; x y;\n"}, """\
 machcheck: d: Unexpected 48

@@ -19,6 +19,9 @@ const REQUEST_PORT: &str = "a routine has one request port, of a port type: the 
 /// What is said of a comment that is not closed.
 pub(crate) const OPEN_COMMENT: &str = "this comment is not closed";
 
+/// What is said of a name that is too long.
+pub(crate) const LONG_NAME: &str = "a name has at most 64 bytes";
+
 /// What is said of a file without the word `subsystem`.
 pub(crate) const NO_SUBSYSTEM: &str = "the file has no subsystem";
 
@@ -290,7 +293,7 @@ fn has_colon(seen: &[Seen<'_>]) -> bool {
 /// What is said of what is too long or too many.
 fn too_many_note(symbol: Symbol, word: &str, from: &[Seen<'_>]) -> &'static str {
     if is_name(symbol) && word.len() > limits::NAME {
-        return "a name has at most 64 bytes";
+        return LONG_NAME;
     }
     if takes_id(symbol) {
         return "a subsystem has at most 100 ids";

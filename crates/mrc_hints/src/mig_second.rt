@@ -4,7 +4,7 @@ ghost use Rattle.std.specs.Prelude.{IfOk};
 ghost use Rattle.mrc_place.specs.Spots.{HasCaretInside};
 
 use crate::mig_hints::about;
-use crate::mig_notes::{NO_SUBSYSTEM, OPEN_COMMENT, PREPROCESS, on_line};
+use crate::mig_notes::{LONG_NAME, NO_SUBSYSTEM, OPEN_COMMENT, PREPROCESS, on_line};
 use crate::mig_places::is_subsystem;
 use crate::mig_sources::with_source;
 use crate::mig_trials::{lex_place, parse_place};
@@ -93,6 +93,7 @@ fn notes_at(
 ) -> Result<Vec<String>, AllocError> {
     match *fault {
         DefsFault::Parse(ParseFault::LeftOut(_, _)) => one_note(alloc, PREPROCESS),
+        DefsFault::Parse(ParseFault::TooMany(_)) => one_note(alloc, LONG_NAME),
         DefsFault::Parse(ParseFault::TwiceNamed(_)) => {
             on_line(alloc, "declared above", text, declared_at(tokens, at))
         }
