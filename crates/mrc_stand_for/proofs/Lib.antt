@@ -5,3 +5,4 @@ pub mod ProductLemmas
 pub mod ListLemmas
 pub mod TextLemmas
 pub mod OldLemmas
+mod PolicyLemmas

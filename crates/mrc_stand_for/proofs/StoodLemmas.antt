@@ -1,5 +1,5 @@
 -- A line that goes on from the lines in front of it, and one that is refused.
-use Rattle.std.proofs.Common.{◌≡◌, ◌+◌, ◌<◌, ℕ, List, Result, Err, Some, length, get_or, drop}
+use Rattle.std.proofs.Common.{◌≡◌, ◌+◌, ◌<◌, ℕ, List, Result, Err, length, get_or, drop}
 use Rattle.std.proofs.Common.{ap, sym, ◌∙◌, subst}
 use Rattle.mrc_base.specs.declared.memory.OrMemory.{OrMemory}
 use Rattle.mrc_base.specs.declared.memory.OrMemory.TheVariants.{Fault, Memory}
@@ -34,7 +34,7 @@ each_stood e new step s total xs i x less is told stood =
 
 -- the lines in front, as an answer
 abbrev refused_at : StandFault → List (Line WiringSays) → Result Standing StandsFor
-refused_at fault lines = Err (record { lines = lines; fault = Some fault })
+refused_at fault lines = Err (record { lines = lines; end = Err fault })
 
 refused_same : (fault : StandFault) (lines others : List (Line WiringSays)) → lines ≡ others
     → refused_at fault lines ≡ refused_at fault others

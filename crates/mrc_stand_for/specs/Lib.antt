@@ -1,11 +1,12 @@
 pub mod Once
-pub mod Stood
 pub mod Known
 pub mod Steps
 pub mod Lists
 pub mod Products
 pub mod Standing
+pub mod Policies
 pub mod Worked
 pub mod ProductLaws
 pub mod ListLaws
 pub mod OldLaws
+pub mod PolicyLaws

@@ -256,7 +256,7 @@ known_after known _ = known
 
 -- the lines in front of the first that is refused, and why it is
 abbrev pub stopped : Standing → StandFault → StandsFor
-stopped so_far fault = record { lines = so_far.lines; fault = Some fault }
+stopped so_far fault = record { lines = so_far.lines; end = Err fault }
 
 -- one line more that is stood for
 abbrev pub add_part : ℕ → Standing → WiringSays → Result Standing StandsFor
@@ -287,7 +287,7 @@ nothing_stands = record { known = no_lines; lines = [] }
 
 -- all lines, or those in front of the first that is refused
 abbrev pub all_or_front : Result Standing StandsFor → StandsFor
-all_or_front (Ok so_far) = record { lines = so_far.lines; fault = None }
+all_or_front (Ok so_far) = record { lines = so_far.lines; end = Ok so_far.known }
 all_or_front (Err front) = front
 
 -- what the wide lines stand for

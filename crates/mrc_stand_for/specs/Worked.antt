@@ -1,7 +1,8 @@
 -- Worked. Wirings and what they stand for: those of tasks, groups, sets and products, one whole
 -- system, and the smallest wiring of each refusal. Each line has its number in a text whose first
 -- line is the heading.
-use Rattle.std.specs.Prelude.{◌≡◌, ℕ, ◌+◌, List, [], ◌∷◌, ◌++◌, Some, None, codes, refl, map}
+use Rattle.std.specs.Prelude.{◌≡◌, ℕ, ◌+◌, List, [], ◌∷◌, ◌++◌, Option, Some, None, codes, refl, map}
+use Rattle.std.specs.Result.{result_err}
 use Rattle.mrc_base.specs.declared.PortRight.{PortRight}
 use Rattle.mrc_base.specs.declared.PortRight.TheVariants as right
 use Rattle.mrc_wiring_text.specs.declared.items.Item.TheVariants.{Request, Reply, Destroyed}
@@ -16,7 +17,6 @@ use Rattle.mrc_wiring_text.specs.declared.wiring.WiringSays.TheVariants as core
 use Rattle.mrc_stand_for.specs.declared.faults.StandFault.{StandFault}
 use Rattle.mrc_stand_for.specs.declared.faults.StandFault.TheVariants.{BadLine, UnknownName, Empty}
 use Rattle.mrc_stand_for.specs.declared.faults.StandFault.TheVariants.{Late, TwiceNamed}
-use Rattle.mrc_stand_for.specs.declared.standing.StandsFor.{StandsFor}
 use Rattle.mrc_stand_for.specs.declared.wide.Kinds.TheVariants as kinds
 use Rattle.mrc_stand_for.specs.declared.wide.Place.TheVariants as place
 use Rattle.mrc_stand_for.specs.declared.wide.RightVerb.TheVariants as verbs
@@ -42,13 +42,17 @@ lines n (says ∷ rest) = record { number = n; says = says } ∷ lines (n + 1) r
 abbrev of : ℕ → List WiringSays → List (Line WiringSays)
 of n says = map (λ s. record { number = n; says = s }) says
 
+-- the lines that wide lines stand for, and the fault of the first that is refused
+abbrev stood : List (Line WideSays) → List (Line WiringSays) × Option StandFault
+stood wide = ((stand_for wide).lines, result_err (stand_for wide).end)
+
 -- all lines are stood for
-abbrev all_of : List (Line WiringSays) → StandsFor
-all_of core = record { lines = core; fault = None }
+abbrev all_of : List (Line WiringSays) → List (Line WiringSays) × Option StandFault
+all_of core = (core, None)
 
 -- those in front of the first that is refused
-abbrev front : List (Line WiringSays) → StandFault → StandsFor
-front core fault = record { lines = core; fault = Some fault }
+abbrev front : List (Line WiringSays) → StandFault → List (Line WiringSays) × Option StandFault
+front core fault = (core, Some fault)
 
 -- names of one letter
 abbrev a : List ℕ
@@ -83,7 +87,7 @@ abbrev of_kind : List ℕ → ℕ → WideClass
 of_kind task kind = wide.Births (whom.Who task) (kinds.One kind)
 
 -- `task a, b, c`, `hold a, b send task other`
-pub others : stand_for (lines 2 (
+pub others : stood (lines 2 (
     Task (a ∷ b ∷ c ∷ [])
     ∷ HoldSend (tasks.Listed (a ∷ b ∷ [])) (place.Task whom.Other ∷ []) ∷ []))
     ≡ all_of (of 2 (core.Task a ∷ core.Task b ∷ core.Task c ∷ [])
@@ -92,7 +96,7 @@ others = refl
 
 -- `task a, b, c, d`, `group g c, a, c`, `port p receiver d accepts none`,
 -- `hold all but g, b send port p`, `hold g, a once port p`
-pub groups : stand_for (lines 2 (
+pub groups : stood (lines 2 (
     Task (a ∷ b ∷ c ∷ d ∷ []) ∷ Group g (tasks.Listed (c ∷ a ∷ c ∷ [])) ∷ Port p d []
     ∷ HoldSend (tasks.AllBut (g ∷ b ∷ [])) (place.Port p ∷ [])
     ∷ HoldOnce (tasks.Listed (g ∷ a ∷ [])) (p ∷ []) ∷ []))
@@ -111,7 +115,7 @@ gives_once task on =
 
 -- `task a, b`, `births a 1 accepts destroyed`, `port p of births a 1`, `set s births a any`,
 -- `trust b gives send, once s`
-pub members : stand_for (lines 2 (
+pub members : stood (lines 2 (
     Task (a ∷ b ∷ []) ∷ Births (tasks.Listed (a ∷ [])) 1 (Destroyed ∷ []) ∷ PortOf p a 1
     ∷ Set s (wide.Births (whom.Who a) kinds.Any ∷ [])
     ∷ Trust (tasks.Listed (b ∷ [])) (verbs.Gives ∷ []) (right.Send ∷ right.SendOnce ∷ [])
@@ -126,7 +130,7 @@ members = refl
 
 -- `task a, b`, `births all 8 replies s, ns`, `births b 1 accepts request s, ns, reply s, ns,
 -- destroyed`
-pub counted_kinds : stand_for (lines 2 (
+pub counted_kinds : stood (lines 2 (
     Task (a ∷ b ∷ []) ∷ Replies tasks.All 8 (s ∷ codes "ns" ∷ [])
     ∷ Births (tasks.Listed (b ∷ [])) 1 (Request s ∷ Request (codes "ns") ∷ Reply s
     ∷ Reply (codes "ns") ∷ Destroyed ∷ []) ∷ []))
@@ -144,7 +148,7 @@ replies task on =
 
 -- `task a, b`, `trust all takes, replies none`, `trust a, b replies births other, task b`,
 -- `trust b gives any task a`
-pub trusted : stand_for (lines 2 (
+pub trusted : stood (lines 2 (
     Task (a ∷ b ∷ []) ∷ TrustNone tasks.All (verb.Takes ∷ verb.Replies ∷ [])
     ∷ TrustReplies (tasks.Listed (a ∷ b ∷ []))
     (wide.Births whom.Other (kinds.One 0) ∷ wide.Task (whom.Who b) ∷ [])
@@ -166,7 +170,7 @@ slot type = record { subsystem = s; type_name = type }
 
 -- `task a, b`, `port p receiver a accepts none`, `admit s.q, s.u port p, task all`,
 -- `admit s.q, s.u none`
-pub admitted : stand_for (lines 2 (
+pub admitted : stood (lines 2 (
     Task (a ∷ b ∷ []) ∷ Port p a []
     ∷ Admit (slot q ∷ slot u ∷ []) (Some (wide.Port p ∷ wide.Task whom.All ∷ []))
     ∷ Admit (slot q ∷ slot u ∷ []) None ∷ []))
@@ -179,7 +183,7 @@ admitted = refl
 
 -- `task a, b`, `port p of births a`, `port q of births a`,
 -- `admit s.u port q, births a, task a, port q`
-pub ports_of_births : stand_for (lines 2 (
+pub ports_of_births : stood (lines 2 (
     Task (a ∷ b ∷ []) ∷ PortOf p a 0 ∷ PortOf q a 0
     ∷ Admit (slot u ∷ []) (Some (wide.Port q ∷ of_kind a 0 ∷ wide.Task (whom.Who a)
     ∷ wide.Port q ∷ [])) ∷ []))
@@ -194,7 +198,7 @@ abbrev on_b : TrustVerb → PortRight → WiringSays
 on_b by with_right = core.Trust a by (Some (record { right = with_right; class = class.Task b }))
 
 -- `task a, b`, `trust a takes, sends send, once task all but a`
-pub verbs_and_rights : stand_for (lines 2 (
+pub verbs_and_rights : stood (lines 2 (
     Task (a ∷ b ∷ []) ∷ Trust (tasks.Listed (a ∷ [])) (verbs.Takes ∷ verbs.Sends ∷ [])
     (right.Send ∷ right.SendOnce ∷ []) (wide.Task (whom.AllBut a) ∷ []) ∷ []))
     ≡ all_of (of 2 (core.Task a ∷ core.Task b ∷ [])
@@ -203,7 +207,7 @@ pub verbs_and_rights : stand_for (lines 2 (
 verbs_and_rights = refl
 
 -- `task a, b`, `port p receiver b accepts none`, `hold a send port p, task all`
-pub places : stand_for (lines 2 (
+pub places : stood (lines 2 (
     Task (a ∷ b ∷ []) ∷ Port p b []
     ∷ HoldSend (tasks.Listed (a ∷ [])) (place.Port p ∷ place.Task whom.All ∷ []) ∷ []))
     ≡ all_of (of 2 (core.Task a ∷ core.Task b ∷ []) ++ of 3 (core.Port p b [] ∷ [])
@@ -215,7 +219,7 @@ places = refl
 -- `births a 0 accepts reply s_a`, `births b 0 accepts reply s_b`, `hold a, b send port gate`,
 -- `admit s_a.open.q births server 1` and `admit s_b.open.q births server 2`, here by the type of q,
 -- and `replies fit`
-pub system : stand_for (
+pub system : stood (
     lines 2 (Task (codes "server" ∷ a ∷ b ∷ []) ∷ [])
     ++ lines 4 (Port (codes "gate") (codes "server") (Request s ∷ [])
     ∷ Births (tasks.Listed (codes "server" ∷ [])) 1 (Request s ∷ [])
@@ -255,83 +259,83 @@ three_lines =
     ++ of 5 (core.Births a 1 [] ∷ []) ++ of 6 (core.Births b 1 [] ∷ core.Births c 1 [] ∷ [])
 
 -- `task a, b`, `group g all but a`, `task c`
-pub task_is_late : stand_for (lines 2 (
+pub task_is_late : stood (lines 2 (
     Task (a ∷ b ∷ []) ∷ Group g (tasks.AllBut (a ∷ [])) ∷ Task (c ∷ []) ∷ []))
     ≡ front (of 2 (core.Task a ∷ core.Task b ∷ [])) (Late 4)
 task_is_late = refl
 
 -- `set s births u any`, `births b 2 accepts none`
-pub kind_is_late : stand_for (lines 2 (three ++ (
+pub kind_is_late : stood (lines 2 (three ++ (
     Set s (wide.Births (whom.Who u) kinds.Any ∷ []) ∷ Births (tasks.Listed (b ∷ [])) 2 [] ∷ [])))
     ≡ front three_lines (Late 8)
 kind_is_late = refl
 
 -- `set s births c any`, `port q of births c 1`
-pub port_is_late : stand_for (lines 2 (three ++ (
+pub port_is_late : stood (lines 2 (three ++ (
     Set s (wide.Births (whom.Who c) kinds.Any ∷ []) ∷ PortOf q c 1 ∷ [])))
     ≡ front three_lines (Late 8)
 port_is_late = refl
 
 -- `task a`, `port p of births a 0`, `births a 0 accepts destroyed`
-pub births_are_late : stand_for (lines 2 (
+pub births_are_late : stood (lines 2 (
     Task (a ∷ []) ∷ PortOf p a 0 ∷ Births (tasks.Listed (a ∷ [])) 0 (Destroyed ∷ []) ∷ []))
     ≡ front (of 2 (core.Task a ∷ []) ++ of 3 (core.Port p a [] ∷ [])) (Late 4)
 births_are_late = refl
 
 -- `group h all but u, a`
-pub all_but_all : stand_for (lines 2 (three ++ (
+pub all_but_all : stood (lines 2 (three ++ (
     Group (codes "h") (tasks.AllBut (u ∷ a ∷ [])) ∷ [])))
     ≡ front three_lines (Empty 7)
 all_but_all = refl
 
 -- `task a`, `hold a send task other`
-pub no_other : stand_for (lines 2 (
+pub no_other : stood (lines 2 (
     Task (a ∷ []) ∷ HoldSend (tasks.Listed (a ∷ [])) (place.Task whom.Other ∷ []) ∷ []))
     ≡ front (of 2 (core.Task a ∷ [])) (Empty 3)
 no_other = refl
 
 -- `group g a`, `task a`
-pub task_below : stand_for (lines 2 (Group g (tasks.Listed (a ∷ [])) ∷ Task (a ∷ []) ∷ []))
+pub task_below : stood (lines 2 (Group g (tasks.Listed (a ∷ [])) ∷ Task (a ∷ []) ∷ []))
     ≡ front [] (UnknownName 2)
 task_below = refl
 
 -- `births u 2 accepts none`, `set s births all 2`
-pub kind_of_some : stand_for (lines 2 (three ++ (
+pub kind_of_some : stood (lines 2 (three ++ (
     Births (tasks.Listed (u ∷ [])) 2 []
     ∷ Set s (wide.Births whom.All (kinds.One 2) ∷ []) ∷ [])))
     ≡ front (three_lines ++ of 7 (core.Births b 2 [] ∷ core.Births c 2 [] ∷ [])) (UnknownName 8)
 kind_of_some = refl
 
 -- `task u`
-pub task_is_a_group : stand_for (lines 2 (three ++ (Task (u ∷ []) ∷ [])))
+pub task_is_a_group : stood (lines 2 (three ++ (Task (u ∷ []) ∷ [])))
     ≡ front three_lines (TwiceNamed 7)
 task_is_a_group = refl
 
 -- `task a`, `births a 15 replies ns, ns`
-pub kind_16 : stand_for (lines 2 (
+pub kind_16 : stood (lines 2 (
     Task (a ∷ []) ∷ Replies (tasks.Listed (a ∷ [])) 15 (codes "ns" ∷ codes "ns" ∷ []) ∷ []))
     ≡ front (of 2 (core.Task a ∷ [])) (BadLine 3)
 kind_16 = refl
 
 -- `task a, b`, `set s task other`, which has no holder
-pub no_holder : stand_for (lines 2 (
+pub no_holder : stood (lines 2 (
     Task (a ∷ b ∷ []) ∷ Set s (wide.Task whom.Other ∷ []) ∷ []))
     ≡ front (of 2 (core.Task a ∷ core.Task b ∷ [])) (BadLine 3)
 no_holder = refl
 
 -- `task a`, `group a a`
-pub group_is_a_task : stand_for (lines 2 (
+pub group_is_a_task : stood (lines 2 (
     Task (a ∷ []) ∷ Group a (tasks.Listed (a ∷ [])) ∷ []))
     ≡ front (of 2 (core.Task a ∷ [])) (TwiceNamed 3)
 group_is_a_task = refl
 
 -- `task a`, `set s task a`, `set s births a`
-pub set_is_a_set : stand_for (lines 2 (
+pub set_is_a_set : stood (lines 2 (
     Task (a ∷ []) ∷ Set s (wide.Task (whom.Who a) ∷ []) ∷ Set s (of_kind a 0 ∷ []) ∷ []))
     ≡ front (of 2 (core.Task a ∷ [])) (TwiceNamed 4)
 set_is_a_set = refl
 
 -- `task a`, `port p of births a 1`
-pub kind_of_no_line : stand_for (lines 2 (Task (a ∷ []) ∷ PortOf p a 1 ∷ []))
+pub kind_of_no_line : stood (lines 2 (Task (a ∷ []) ∷ PortOf p a 1 ∷ []))
     ≡ front (of 2 (core.Task a ∷ [])) (UnknownName 3)
 kind_of_no_line = refl

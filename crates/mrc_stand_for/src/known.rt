@@ -13,7 +13,7 @@ ghost use Rattle.mrc_stand_for.specs.Known.{has_set, has_named, no_lines};
 
 use crate::several::{Alike, Several, copy_kind};
 use mrc_base::limits::KINDS;
-use mrc_wiring_text::{ClassName, Item, Kind, Name};
+use mrc_wiring_text::{ClassName, Items, Kind, Name};
 use std::alloc::{AllocError, Global};
 
 /// A group of tasks.
@@ -42,7 +42,7 @@ pub(crate) struct KnownBirths {
     /// Their kind.
     pub kind: Kind,
     /// What they accept.
-    pub accepts: Several<Item>,
+    pub accepts: Items,
 }
 
 /// A wired port that is of the births of a task.
@@ -56,27 +56,27 @@ pub(crate) struct Member {
     pub kind: Kind,
 }
 
-/// What is known of the lines above.
+/// What is known of the lines above: what lists of a line below can name.
 #[derive(Drop)]
-pub(crate) struct Known {
+pub struct Known {
     /// The tasks.
-    pub tasks: Several<Name>,
+    pub(crate) tasks: Several<Name>,
     /// The groups.
-    pub groups: Several<Group>,
+    pub(crate) groups: Several<Group>,
     /// The sets.
-    pub sets: Several<ClassSet>,
+    pub(crate) sets: Several<ClassSet>,
     /// The wired ports.
-    pub ports: Several<Name>,
+    pub(crate) ports: Several<Name>,
     /// The births that lines name.
-    pub births: Several<KnownBirths>,
+    pub(crate) births: Several<KnownBirths>,
     /// The wired ports that are births.
-    pub members: Several<Member>,
+    pub(crate) members: Several<Member>,
     /// A line has named all tasks, so that there are no more.
-    pub closed: bool,
+    pub(crate) closed: bool,
     /// The tasks of which a line has named all kinds.
-    pub closed_kinds: Several<Name>,
+    pub(crate) closed_kinds: Several<Name>,
     /// The classes that lines have named, so that no more ports are such births.
-    pub named: Several<ClassName>,
+    pub(crate) named: Several<ClassName>,
 }
 
 /// Whether a name is among these.
@@ -99,8 +99,8 @@ fn is_member(member: &Member, task: &Name, kind: u8) -> bool
 }
 
 impl Known {
-    /// Nothing is known.
-    pub(crate) fn empty(alloc: Global) -> Known
+    /// Nothing is known: no line is above.
+    pub fn empty(alloc: Global) -> Known
         ensures { result ≡ no_lines }
     {
         Known {

@@ -20,7 +20,7 @@ use std::alloc::{AllocError, Global};
 
 /// The classes that a list stands for.
 #[derive(Drop)]
-pub(crate) struct Found {
+pub struct Found {
     /// The classes, each once.
     pub classes: Several<ClassName>,
     /// The tasks of which it names the births of all kinds.
@@ -115,7 +115,7 @@ fn all_tasks(alloc: Global, known: &Known) -> Result<Several<Name>, AllocError>
 }
 
 /// TASKS.
-pub(crate) fn tasks_of(
+pub fn tasks_of(
     alloc: Global,
     known: &Known,
     line: u32,
@@ -312,7 +312,7 @@ impl Found {
 }
 
 /// CLASSES.
-pub(crate) fn classes_of(
+pub fn classes_of(
     alloc: Global,
     known: &Known,
     line: u32,

@@ -9,19 +9,20 @@ ghost use Rattle.mrc_stand_for.specs.Products.{admit_lines, admit_none, verb_of,
 ghost use Rattle.mrc_stand_for.specs.Products.{verb_lines, trust_lines, trust_none, none_lines};
 
 use crate::several::{Alike, Several, copy_items, copy_kind};
-use crate::stood::{StoodParts, StoodSays};
 use crate::wide::{PlaceName, RightVerb, SlotName};
 use mrc_base::PortRight;
-use mrc_wiring_text::{ClassName, HeldRight, Item, Kind, Name, TrustVerb, TrustedRight};
+use mrc_wiring_text::{
+    ClassName, HeldRight, Item, Items, Kind, Name, TrustVerb, TrustedRight, WiringSays,
+};
 use std::alloc::{AllocError, Global};
 
 /// There are tasks of these names.
-pub(crate) fn task_lines(alloc: Global, names: &[Name]) -> Result<Several<StoodSays>, AllocError>
+pub(crate) fn task_lines(alloc: Global, names: &[Name]) -> Result<Several<WiringSays>, AllocError>
     ensures { IfOk result (λ lines. lines ≡ map core.Task names.now) }
 {
     let mut lines = Several::empty(alloc);
     for name in names {
-        lines.push(StoodSays::new(StoodParts::Task(name.copy(alloc)?)))?;
+        lines.push(WiringSays::Task(name.copy(alloc)?))?;
     }
     Ok(lines)
 }
@@ -31,17 +32,17 @@ pub(crate) fn births_lines(
     alloc: Global,
     tasks: &[Name],
     kind: &Kind,
-    accepts: &Several<Item>,
-) -> Result<Several<StoodSays>, AllocError>
+    accepts: &Items,
+) -> Result<Several<WiringSays>, AllocError>
     ensures { IfOk result (λ lines. lines ≡ births_lines tasks.now kind.now accepts.now) }
 {
     let mut lines = Several::empty(alloc);
     for task in tasks {
-        lines.push(StoodSays::new(StoodParts::Births {
+        lines.push(WiringSays::Births {
             task: task.copy(alloc)?,
             kind: copy_kind(kind),
             accepts: copy_items(alloc, accepts)?,
-        }))?;
+        })?;
     }
     Ok(lines)
 }
@@ -52,24 +53,24 @@ fn reply_line(
     task: &Name,
     kind: u8,
     subsystem: &Name,
-) -> Result<StoodSays, AllocError>
+) -> Result<WiringSays, AllocError>
     requires { kind < limit_of_kinds }
     ensures { IfOk result (λ line.
         line ≡ core.Births task.now kind (Item.Reply subsystem.now ∷ [])) }
 {
-    let mut accepts = Several::empty(alloc);
+    let mut accepts = Vec::new(alloc);
     accepts.push(Item::Reply(subsystem.copy(alloc)?))?;
-    Ok(StoodSays::new(StoodParts::Births {
+    Ok(WiringSays::Births {
         task: task.copy(alloc)?,
         kind: Kind::new(kind).unwrap(),
-        accepts,
-    }))
+        accepts: Items::new(accepts),
+    })
 }
 
 /// Replies of each of the subsystems, by kinds that count up.
 fn push_replies(
     alloc: Global,
-    lines: &mut Several<StoodSays>,
+    lines: &mut Several<WiringSays>,
     task: &Name,
     kind: &Kind,
     subsystems: &[Name],
@@ -92,7 +93,7 @@ pub(crate) fn replies_lines(
     tasks: &[Name],
     kind: &Kind,
     subsystems: &[Name],
-) -> Result<Several<StoodSays>, AllocError>
+) -> Result<Several<WiringSays>, AllocError>
     requires { kind.now + length subsystems.now ≤ limit_of_kinds }
     ensures { IfOk result (λ lines. lines ≡ replies_lines tasks.now kind.now subsystems.now) }
 {
@@ -104,27 +105,27 @@ pub(crate) fn replies_lines(
 }
 
 /// A send right of a task.
-fn send_line(alloc: Global, holder: &Name, place: &PlaceName) -> Result<StoodSays, AllocError>
+fn send_line(alloc: Global, holder: &Name, place: &PlaceName) -> Result<WiringSays, AllocError>
     ensures { IfOk result (λ line. line ≡ send_line holder.now place.now) }
 {
     let holder = holder.copy(alloc)?;
     match place {
-        PlaceName::Port(port) => Ok(StoodSays::new(StoodParts::HoldPort {
+        PlaceName::Port(port) => Ok(WiringSays::HoldPort {
             holder,
             right: HeldRight::Send,
             port: port.copy(alloc)?,
-        })),
-        PlaceName::Task(task) => Ok(StoodSays::new(StoodParts::HoldTask {
+        }),
+        PlaceName::Task(task) => Ok(WiringSays::HoldTask {
             holder,
             task: task.copy(alloc)?,
-        })),
+        }),
     }
 }
 
 /// Send rights of a task.
 pub(crate) fn push_sends(
     alloc: Global,
-    lines: &mut Several<StoodSays>,
+    lines: &mut Several<WiringSays>,
     holder: &Name,
     places: &[PlaceName],
 ) -> Result<(), AllocError>
@@ -139,18 +140,18 @@ pub(crate) fn push_sends(
 /// Send-once rights of a task.
 fn push_onces(
     alloc: Global,
-    lines: &mut Several<StoodSays>,
+    lines: &mut Several<WiringSays>,
     holder: &Name,
     ports: &[Name],
 ) -> Result<(), AllocError>
     ensures { OnOk result (lines.new ≡ lines.old ++ map (once_line holder.now) ports.now) }
 {
     for port in ports {
-        lines.push(StoodSays::new(StoodParts::HoldPort {
+        lines.push(WiringSays::HoldPort {
             holder: holder.copy(alloc)?,
             right: HeldRight::SendOnce,
             port: port.copy(alloc)?,
-        }))?;
+        })?;
     }
     Ok(())
 }
@@ -160,7 +161,7 @@ pub(crate) fn once_lines(
     alloc: Global,
     tasks: &[Name],
     ports: &[Name],
-) -> Result<Several<StoodSays>, AllocError>
+) -> Result<Several<WiringSays>, AllocError>
     ensures { IfOk result (λ lines. lines ≡ once_lines tasks.now ports.now) }
 {
     let mut lines = Several::empty(alloc);
@@ -173,18 +174,18 @@ pub(crate) fn once_lines(
 /// A slot admits each of the classes.
 fn push_admits(
     alloc: Global,
-    lines: &mut Several<StoodSays>,
+    lines: &mut Several<WiringSays>,
     slot: &SlotName,
     classes: &[ClassName],
 ) -> Result<(), AllocError>
     ensures { OnOk result (lines.new ≡ lines.old ++ map (admit_line slot.now) classes.now) }
 {
     for class in classes {
-        lines.push(StoodSays::new(StoodParts::Admit {
+        lines.push(WiringSays::Admit {
             subsystem: slot.subsystem.copy(alloc)?,
             type_name: slot.type_name.copy(alloc)?,
             class: Some(class.copy(alloc)?),
-        }))?;
+        })?;
     }
     Ok(())
 }
@@ -194,7 +195,7 @@ pub(crate) fn admit_lines(
     alloc: Global,
     slots: &[SlotName],
     classes: &[ClassName],
-) -> Result<Several<StoodSays>, AllocError>
+) -> Result<Several<WiringSays>, AllocError>
     ensures { IfOk result (λ lines. lines ≡ admit_lines slots.now classes.now) }
 {
     let mut lines = Several::empty(alloc);
@@ -208,16 +209,16 @@ pub(crate) fn admit_lines(
 pub(crate) fn no_admit_lines(
     alloc: Global,
     slots: &[SlotName],
-) -> Result<Several<StoodSays>, AllocError>
+) -> Result<Several<WiringSays>, AllocError>
     ensures { IfOk result (λ lines. lines ≡ map admit_none slots.now) }
 {
     let mut lines = Several::empty(alloc);
     for slot in slots {
-        lines.push(StoodSays::new(StoodParts::Admit {
+        lines.push(WiringSays::Admit {
             subsystem: slot.subsystem.copy(alloc)?,
             type_name: slot.type_name.copy(alloc)?,
             class: None,
-        }))?;
+        })?;
     }
     Ok(lines)
 }
@@ -246,7 +247,7 @@ pub(crate) fn verbs_of(alloc: Global, verbs: &[RightVerb]) -> Result<Several<Tru
 /// A task may do this by a verb with a right on each of the classes.
 fn push_right(
     alloc: Global,
-    lines: &mut Several<StoodSays>,
+    lines: &mut Several<WiringSays>,
     task: &Name,
     verb: TrustVerb,
     right: PortRight,
@@ -257,11 +258,11 @@ fn push_right(
 {
     for class in classes {
         let class = class.copy(alloc)?;
-        lines.push(StoodSays::new(StoodParts::Trust {
+        lines.push(WiringSays::Trust {
             task: task.copy(alloc)?,
             verb,
             right: Some(TrustedRight { right, class }),
-        }))?;
+        })?;
     }
     Ok(())
 }
@@ -269,7 +270,7 @@ fn push_right(
 /// By a verb with each of the rights on each of the classes.
 fn push_verb(
     alloc: Global,
-    lines: &mut Several<StoodSays>,
+    lines: &mut Several<WiringSays>,
     task: &Name,
     verb: TrustVerb,
     rights: &[PortRight],
@@ -287,7 +288,7 @@ fn push_verb(
 /// By each of the verbs.
 pub(crate) fn push_trusts(
     alloc: Global,
-    lines: &mut Several<StoodSays>,
+    lines: &mut Several<WiringSays>,
     task: &Name,
     verbs: &[TrustVerb],
     rights: &[PortRight],
@@ -305,18 +306,18 @@ pub(crate) fn push_trusts(
 /// A task may do nothing of this line by each of the verbs.
 fn push_nones(
     alloc: Global,
-    lines: &mut Several<StoodSays>,
+    lines: &mut Several<WiringSays>,
     task: &Name,
     verbs: &[TrustVerb],
 ) -> Result<(), AllocError>
     ensures { OnOk result (lines.new ≡ lines.old ++ map (trust_none task.now) verbs.now) }
 {
     for verb in verbs {
-        lines.push(StoodSays::new(StoodParts::Trust {
+        lines.push(WiringSays::Trust {
             task: task.copy(alloc)?,
             verb: *verb,
             right: None,
-        }))?;
+        })?;
     }
     Ok(())
 }
@@ -326,7 +327,7 @@ pub(crate) fn none_lines(
     alloc: Global,
     tasks: &[Name],
     verbs: &[TrustVerb],
-) -> Result<Several<StoodSays>, AllocError>
+) -> Result<Several<WiringSays>, AllocError>
     ensures { IfOk result (λ lines. lines ≡ none_lines tasks.now verbs.now) }
 {
     let mut lines = Several::empty(alloc);

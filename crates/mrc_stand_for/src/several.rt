@@ -7,7 +7,7 @@ ghost use Rattle.mrc_stand_for.specs.Once.{same_slot, same_verb, same_right};
 
 use crate::wide::{PlaceName, SlotName};
 use mrc_base::PortRight;
-use mrc_wiring_text::{ClassName, Item, Kind, Name, TrustVerb};
+use mrc_wiring_text::{ClassName, Item, Items, Kind, Name, TrustVerb};
 use std::alloc::{AllocError, Global};
 use std::marker::Model;
 
@@ -154,14 +154,14 @@ fn copy_item(alloc: Global, item: &Item) -> Result<Item, AllocError>
 }
 
 /// Equal items.
-pub(crate) fn copy_items(alloc: Global, items: &Several<Item>) -> Result<Several<Item>, AllocError>
+pub(crate) fn copy_items(alloc: Global, items: &Items) -> Result<Items, AllocError>
     ensures { IfOk result (λ copy. copy ≡ items.now) }
 {
-    let mut copies = Several::empty(alloc);
+    let mut copies = Vec::new(alloc);
     for item in items.as_slice() {
         copies.push(copy_item(alloc, item)?)?;
     }
-    Ok(copies)
+    Ok(Items::new(copies))
 }
 
 impl Alike for ClassName {

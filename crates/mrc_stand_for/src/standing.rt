@@ -1,6 +1,6 @@
 //! The lines that wide lines stand for, one wide line after the other.
 
-ghost use Rattle.std.specs.Prelude.{◌≡◌, ◌||◌, ◌∷◌, ◌++◌, [], map, IfOk, OnOk};
+ghost use Rattle.std.specs.Prelude.{◌≡◌, ◌||◌, ◌∷◌, ◌++◌, [], map, IfOk, OnOk, Ok, Err};
 ghost use Rattle.std.specs.List.{list_any};
 ghost use Rattle.mrc_base.specs.Reading.{Gives};
 ghost use Rattle.mrc_stand_for.specs.Once.{with_each, same_slot};
@@ -27,11 +27,10 @@ use crate::products::{
     replies_lines, task_lines, verbs_of,
 };
 use crate::several::{Several, add_each, add_once, copy_items, copy_kind, once};
-use crate::stood::{StoodLine, StoodParts, StoodSays};
 use crate::wide::{Place, RightVerb, SlotName, Tasks, Whom, WideClass, WideLine, WideSays};
 use mrc_base::limits::KINDS;
 use mrc_base::{OrMemory, PortRight};
-use mrc_wiring_text::{ClassName, Item, Kind, Line, Name, TrustVerb};
+use mrc_wiring_text::{ClassName, Items, Kind, Line, Name, TrustVerb, WiringLine, WiringSays};
 use std::alloc::{AllocError, Global};
 
 /// Lines that the wide lines of a text may stand for, at most.
@@ -42,9 +41,9 @@ pub const LINES_STOOD_FOR: usize = 1_048_576;
 pub struct StandsFor {
     /// The lines: all, or those in front of the first that is refused. Each has the number of the
     /// wide line that it is of.
-    pub lines: Several<StoodLine>,
-    /// Why a line is refused, if one is.
-    pub fault: Option<StandFault>,
+    pub lines: Several<WiringLine>,
+    /// What is known after all lines, or why a line is refused.
+    pub end: Result<Known, StandFault>,
 }
 
 /// The lines so far.
@@ -53,7 +52,7 @@ pub(crate) struct Standing {
     /// What is known.
     pub known: Known,
     /// The lines that they stand for.
-    pub lines: Several<StoodLine>,
+    pub lines: Several<WiringLine>,
 }
 
 /// Whether a list names all tasks.
@@ -166,18 +165,13 @@ fn push_set(alloc: Global, known: &mut Known, name: &Name, found: Found) -> Resu
 }
 
 /// What the births of a task accept, or nothing.
-fn accepts_said(
-    alloc: Global,
-    known: &Known,
-    task: &Name,
-    kind: &Kind,
-) -> Result<Several<Item>, AllocError>
+fn accepts_said(alloc: Global, known: &Known, task: &Name, kind: &Kind) -> Result<Items, AllocError>
     ensures { IfOk result (λ items.
         items ≡ accepts_said (births_said known.now task.now kind.now)) }
 {
     match known.births_said(task, kind.number()) {
         Some(births) => Ok(copy_items(alloc, &births.accepts)?),
-        None => Ok(Several::empty(alloc)),
+        None => Ok(Items::new(Vec::new(alloc))),
     }
 }
 
@@ -219,18 +213,18 @@ fn member_stands(
     port: &Name,
     task: &Name,
     kind: &Kind,
-) -> Result<Several<StoodSays>, OrMemory<StandFault>>
+) -> Result<Several<WiringSays>, OrMemory<StandFault>>
     ensures { IsStood result known.new
         (member_stands known.old line port.now task.now kind.now) }
 {
     let accepts = accepts_said(alloc, known, task, kind)?;
     add_member(alloc, known, line, port, task, kind)?;
     let mut lines = Several::empty(alloc);
-    lines.push(StoodSays::new(StoodParts::Port {
+    lines.push(WiringSays::Port {
         port: port.copy(alloc)?,
         receiver: task.copy(alloc)?,
         accepts,
-    }))?;
+    })?;
     Ok(lines)
 }
 
@@ -239,37 +233,37 @@ fn port_lines(
     alloc: Global,
     port: &Name,
     receiver: &Name,
-    accepts: &Several<Item>,
-) -> Result<Several<StoodSays>, AllocError>
+    accepts: &Items,
+) -> Result<Several<WiringSays>, AllocError>
     ensures { IfOk result (λ lines.
         lines ≡ core.Port port.now receiver.now accepts.now ∷ []) }
 {
     let mut lines = Several::empty(alloc);
-    lines.push(StoodSays::new(StoodParts::Port {
+    lines.push(WiringSays::Port {
         port: port.copy(alloc)?,
         receiver: receiver.copy(alloc)?,
         accepts: copy_items(alloc, accepts)?,
-    }))?;
+    })?;
     Ok(lines)
 }
 
 /// `replies fit`.
-fn fit_lines(alloc: Global) -> Result<Several<StoodSays>, AllocError>
+fn fit_lines(alloc: Global) -> Result<Several<WiringSays>, AllocError>
     ensures { IfOk result (λ lines. lines ≡ core.RepliesFit ∷ []) }
 {
     let mut lines = Several::empty(alloc);
-    lines.push(StoodSays::new(StoodParts::RepliesFit))?;
+    lines.push(WiringSays::RepliesFit)?;
     Ok(lines)
 }
 
 /// `group G TASKS`.
-fn group_stands(
+pub fn group_stands(
     alloc: Global,
     known: &mut Known,
     line: u32,
     group: &Name,
     tasks: &Tasks,
-) -> Result<Several<StoodSays>, OrMemory<StandFault>>
+) -> Result<Several<WiringSays>, OrMemory<StandFault>>
     ensures { IsStood result known.new (group_stands known.old line group.now tasks.now) }
 {
     let listed = tasks_of(alloc, known, line, tasks)?;
@@ -279,13 +273,13 @@ fn group_stands(
 }
 
 /// `set S CLASSES`.
-fn set_stands(
+pub fn set_stands(
     alloc: Global,
     known: &mut Known,
     line: u32,
     set: &Name,
     classes: &[WideClass],
-) -> Result<Several<StoodSays>, OrMemory<StandFault>>
+) -> Result<Several<WiringSays>, OrMemory<StandFault>>
     ensures { IsStood result known.new (set_stands known.old line set.now classes.now) }
 {
     let nobody = None;
@@ -306,8 +300,8 @@ fn births_stands(
     line: u32,
     tasks: &Tasks,
     kind: &Kind,
-    accepts: &Several<Item>,
-) -> Result<Several<StoodSays>, OrMemory<StandFault>>
+    accepts: &Items,
+) -> Result<Several<WiringSays>, OrMemory<StandFault>>
     ensures { IsStood result known.new
         (births_stands known.old line tasks.now kind.now accepts.now) }
 {
@@ -324,7 +318,7 @@ fn replies_stands(
     tasks: &Tasks,
     kind: &Kind,
     subsystems: &[Name],
-) -> Result<Several<StoodSays>, OrMemory<StandFault>>
+) -> Result<Several<WiringSays>, OrMemory<StandFault>>
     ensures { IsStood result known.new
         (replies_stands known.old line tasks.now kind.now subsystems.now) }
 {
@@ -342,7 +336,7 @@ fn add_sends(
     known: &Known,
     line: u32,
     places: &[Place],
-    lines: &mut Several<StoodSays>,
+    lines: &mut Several<WiringSays>,
     holder: &Name,
 ) -> Result<(), OrMemory<StandFault>>
     ensures { Leaves result lines.new
@@ -361,7 +355,7 @@ fn all_sends(
     line: u32,
     places: &[Place],
     holders: &[Name],
-) -> Result<Several<StoodSays>, OrMemory<StandFault>>
+) -> Result<Several<WiringSays>, OrMemory<StandFault>>
     ensures { Gives (λ lines. lines) result
         (each (add_sends known.now line places.now) [] holders.now) }
 {
@@ -379,7 +373,7 @@ fn send_stands(
     line: u32,
     tasks: &Tasks,
     places: &[Place],
-) -> Result<Several<StoodSays>, OrMemory<StandFault>>
+) -> Result<Several<WiringSays>, OrMemory<StandFault>>
     ensures { IsStood result known.new (send_stands known.old line tasks.now places.now) }
 {
     let listed = tasks_of(alloc, known, line, tasks)?;
@@ -395,7 +389,7 @@ fn once_stands(
     line: u32,
     tasks: &Tasks,
     ports: &[Name],
-) -> Result<Several<StoodSays>, OrMemory<StandFault>>
+) -> Result<Several<WiringSays>, OrMemory<StandFault>>
     ensures { IsStood result known.new (once_stands known.old line tasks.now ports.now) }
 {
     let listed = tasks_of(alloc, known, line, tasks)?;
@@ -411,7 +405,7 @@ fn admit_stands(
     line: u32,
     slots: &[SlotName],
     classes: &[WideClass],
-) -> Result<Several<StoodSays>, OrMemory<StandFault>>
+) -> Result<Several<WiringSays>, OrMemory<StandFault>>
     ensures { IsStood result known.new (admit_stands known.old line slots.now classes.now) }
 {
     let nobody = None;
@@ -423,7 +417,7 @@ fn admit_stands(
 }
 
 /// `admit SLOT, SLOT .. none`.
-fn no_admits(alloc: Global, slots: &[SlotName]) -> Result<Several<StoodSays>, AllocError>
+fn no_admits(alloc: Global, slots: &[SlotName]) -> Result<Several<WiringSays>, AllocError>
     ensures { IfOk result (λ lines. lines ≡ map admit_none (with_each same_slot [] slots.now)) }
 {
     let slots = once(alloc, slots)?;
@@ -434,7 +428,7 @@ fn no_admits(alloc: Global, slots: &[SlotName]) -> Result<Several<StoodSays>, Al
 fn add_trusts(
     alloc: Global,
     known: &mut Known,
-    lines: &mut Several<StoodSays>,
+    lines: &mut Several<WiringSays>,
     line: u32,
     verbs: &[TrustVerb],
     rights: &[PortRight],
@@ -461,7 +455,7 @@ fn all_trusts(
     rights: &[PortRight],
     classes: &[WideClass],
     tasks: &[Name],
-) -> Result<Several<StoodSays>, OrMemory<StandFault>>
+) -> Result<Several<WiringSays>, OrMemory<StandFault>>
     ensures { IsStood result known.new
         (each (add_trusts line verbs.now rights.now classes.now)
         (stood_so_far known.old []) tasks.now) }
@@ -482,7 +476,7 @@ fn trust_stands(
     verbs: &[TrustVerb],
     rights: &[PortRight],
     classes: &[WideClass],
-) -> Result<Several<StoodSays>, OrMemory<StandFault>>
+) -> Result<Several<WiringSays>, OrMemory<StandFault>>
     ensures { IsStood result known.new
         (trust_stands known.old line tasks.now verbs.now rights.now classes.now) }
 {
@@ -511,7 +505,7 @@ fn trust_rights(
     verbs: &[RightVerb],
     rights: &[PortRight],
     classes: &[WideClass],
-) -> Result<Several<StoodSays>, OrMemory<StandFault>>
+) -> Result<Several<WiringSays>, OrMemory<StandFault>>
     ensures { IsStood result known.new (trust_stands known.old line tasks.now
         (map verb_of verbs.now) rights.now classes.now) }
 {
@@ -526,7 +520,7 @@ fn trust_replies(
     line: u32,
     tasks: &Tasks,
     classes: &[WideClass],
-) -> Result<Several<StoodSays>, OrMemory<StandFault>>
+) -> Result<Several<WiringSays>, OrMemory<StandFault>>
     ensures { IsStood result known.new
         (trust_stands known.old line tasks.now (TrustVerb.Replies ∷ []) (PortRight.SendOnce ∷ [])
         classes.now) }
@@ -543,7 +537,7 @@ fn none_stands(
     line: u32,
     tasks: &Tasks,
     verbs: &[TrustVerb],
-) -> Result<Several<StoodSays>, OrMemory<StandFault>>
+) -> Result<Several<WiringSays>, OrMemory<StandFault>>
     ensures { IsStood result known.new (none_stands known.old line tasks.now verbs.now) }
 {
     let listed = tasks_of(alloc, known, line, tasks)?;
@@ -558,7 +552,7 @@ fn line_stands(
     known: &mut Known,
     line: u32,
     says: &WideSays,
-) -> Result<Several<StoodSays>, OrMemory<StandFault>>
+) -> Result<Several<WiringSays>, OrMemory<StandFault>>
     ensures { IsStood result known.new (line_stands known.old line says.now) }
 {
     match says {
@@ -620,12 +614,12 @@ fn line_stands(
 }
 
 /// Whether a line that is stood for adds to what a line above has closed.
-fn is_late(known: &Known, says: &StoodSays) -> bool
+fn is_late(known: &Known, says: &WiringSays) -> bool
     ensures { result ≡ is_late known.now says.now }
 {
-    match says.parts() {
-        StoodParts::Task(_) => known.closed,
-        StoodParts::Births { task, kind, .. } => {
+    match says {
+        WiringSays::Task(_) => known.closed,
+        WiringSays::Births { task, kind, .. } => {
             is_among(task, known.closed_kinds.as_slice()) || known.has_member(task, kind.number())
         }
         _ => false,
@@ -633,29 +627,29 @@ fn is_late(known: &Known, says: &StoodSays) -> bool
 }
 
 /// Whether it names a task as a group.
-fn is_group(known: &Known, says: &StoodSays) -> bool
+fn is_group(known: &Known, says: &WiringSays) -> bool
     ensures { result ≡ is_group known.now says.now }
 {
-    match says.parts() {
-        StoodParts::Task(name) => known.has_group(name),
+    match says {
+        WiringSays::Task(name) => known.has_group(name),
         _ => false,
     }
 }
 
 /// What is known after it.
-fn learn(alloc: Global, known: &mut Known, says: &StoodSays) -> Result<(), AllocError>
+fn learn(alloc: Global, known: &mut Known, says: &WiringSays) -> Result<(), AllocError>
     ensures { OnOk result (known.new ≡ known_after known.old says.now) }
 {
-    match says.parts() {
-        StoodParts::Task(name) => {
+    match says {
+        WiringSays::Task(name) => {
             add_once(&mut known.tasks, name.copy(alloc)?)?;
             Ok(())
         }
-        StoodParts::Port { port, .. } => {
+        WiringSays::Port { port, .. } => {
             known.ports.push(port.copy(alloc)?)?;
             Ok(())
         }
-        StoodParts::Births {
+        WiringSays::Births {
             task,
             kind,
             accepts,
@@ -687,7 +681,7 @@ impl Standing {
         &mut self,
         alloc: Global,
         line: u32,
-        says: StoodSays,
+        says: WiringSays,
     ) -> Result<(), OrMemory<StandFault>>
         ensures { Stood result self.new (add_part line self.old says) }
     {
@@ -710,7 +704,7 @@ impl Standing {
         &mut self,
         alloc: Global,
         line: u32,
-        parts: Vec<StoodSays>,
+        parts: Vec<WiringSays>,
     ) -> Result<(), OrMemory<StandFault>>
         ensures { Stood result self.new (each (add_part line) self.old parts.items) }
     {
@@ -729,17 +723,31 @@ impl Standing {
     }
 }
 
-/// All lines, or the fault of the first that is refused, with those in front of it.
-fn front(standing: Standing, fault: Option<StandFault>) -> StandsFor
-    ensures { result ≡ record { lines = standing.lines; fault = fault } }
+/// The lines in front of the first that is refused.
+fn front(standing: Standing, fault: StandFault) -> StandsFor
+    ensures { result ≡ record { lines = standing.lines; end = Err fault } }
 {
     let Standing { known, lines } = standing;
     drop(known);
-    StandsFor { lines, fault }
+    StandsFor {
+        lines,
+        end: Err(fault),
+    }
 }
 
-/// What the wide lines of a text stand for: the lines of version 3, in order, up to the first that
-/// is refused, and why it is.
+/// All lines.
+fn whole(standing: Standing) -> StandsFor
+    ensures { result ≡ record { lines = standing.lines; end = Ok standing.known } }
+{
+    let Standing { known, lines } = standing;
+    StandsFor {
+        lines,
+        end: Ok(known),
+    }
+}
+
+/// What the wide lines of a text stand for: the lines of version 3, in order, and what is known
+/// after them; or those in front of the first that is refused, and why it is.
 pub fn stand_for(alloc: Global, lines: &[WideLine]) -> Result<StandsFor, AllocError>
     ensures exact { IfOk result (λ stood. stood ≡ stand_for lines.now) }
 {
@@ -747,12 +755,12 @@ pub fn stand_for(alloc: Global, lines: &[WideLine]) -> Result<StandsFor, AllocEr
     for line in lines {
         match standing.add_line(alloc, line) {
             Ok(()) => {}
-            Err(OrMemory::Fault(fault)) => return Ok(front(standing, Some(fault))),
+            Err(OrMemory::Fault(fault)) => return Ok(front(standing, fault)),
             Err(OrMemory::Memory) => {
                 drop(standing);
                 return Err(AllocError);
             }
         }
     }
-    Ok(front(standing, None))
+    Ok(whole(standing))
 }

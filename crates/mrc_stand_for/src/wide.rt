@@ -2,7 +2,7 @@
 
 use crate::several::Several;
 use mrc_base::PortRight;
-use mrc_wiring_text::{Item, Kind, Line, Name, TrustVerb};
+use mrc_wiring_text::{Items, Kind, Line, Name, TrustVerb};
 
 /// TASKS: tasks of the wiring.
 #[derive(Drop)]
@@ -120,7 +120,7 @@ pub enum WideSays {
         /// T, which holds the receive right.
         receiver: Name,
         /// What the port's class accepts.
-        accepts: Several<Item>,
+        accepts: Items,
     },
     /// `port P of births T K`: a wired port of T that accepts what T's births of kind K do.
     PortOf {
@@ -138,7 +138,7 @@ pub enum WideSays {
         /// K.
         kind: Kind,
         /// The items.
-        accepts: Several<Item>,
+        accepts: Items,
     },
     /// `births TASKS K replies I, I ..`: the births of kind K of each of the tasks accept the
     /// replies of the first subsystem, those of kind K + 1 the replies of the next, and so on.

@@ -73,11 +73,11 @@ heading_ends n total same = sym same
 -- ---- one line
 
 -- the words of a line that names a version
-record Names (ws : List (List ℕ)) (v : ℕ) : Type 0 where
-  number : List ℕ
-  said : ws ≡ codes "wiring" ∷ number ∷ []
-  digits : is_number number ≡ true
-  value : decimal number ≡ v
+pub record Names (ws : List (List ℕ)) (v : ℕ) : Type 0 where
+  pub number : List ℕ
+  pub said : ws ≡ codes "wiring" ∷ number ∷ []
+  pub digits : is_number number ≡ true
+  pub value : decimal number ≡ v
 
 names_version : (said : List (List ℕ)) (v : ℕ) → version_of said ≡ Some v → Names said v
 unfolding version_of
@@ -98,7 +98,7 @@ names_version (w ∷ number ∷ []) v e =
     ]
 names_version (w ∷ number ∷ z ∷ zs) v e = absurd cc
 
-version_named : (ws : List (List ℕ)) (v : ℕ) → Names ws v → version_of ws ≡ Some v
+pub version_named : (ws : List (List ℕ)) (v : ℕ) → Names ws v → version_of ws ≡ Some v
 unfolding version_of
 version_named ws v named =
     ap version_of named.said ∙ rw (named.digits, named.value) refl

@@ -3,4 +3,6 @@ mod ListLemmas
 mod ItemLemmas
 mod TextLaws
 mod OtherLaws
+mod OlderLaws
 mod WideLaws
+pub mod SaidLaws

@@ -32,7 +32,7 @@ utf8_is bytes text e =
     ]
 
 -- what was read is a wiring that says so
-text_found : (bytes : List ℕ) (says : List (Line WideSays))
+pub text_found : (bytes : List ℕ) (says : List (Line WideSays))
     → wide_wiring_of bytes ≡ Ok says
     → IsWideWiring bytes says
 unfolding wide_wiring_of
@@ -65,7 +65,7 @@ text_found bytes says e =
     }
 
 -- what a wiring says is read
-text_read : (bytes : List ℕ) (says : List (Line WideSays))
+pub text_read : (bytes : List ℕ) (says : List (Line WideSays))
     → IsWideWiring bytes says
     → wide_wiring_of bytes ≡ Ok says
 unfolding wide_wiring_of utf8_text

@@ -5,3 +5,4 @@ pub mod WideReading
 pub mod WideTexts
 pub mod WideLaws
 pub mod Worked
+pub mod Wirings

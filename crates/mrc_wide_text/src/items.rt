@@ -1,13 +1,12 @@
 //! What a class accepts.
 
 ghost use Rattle.std.specs.Prelude.{◌≡◌, [], ◌∷◌, map, IfOk};
-ghost use Rattle.mrc_wiring_text.specs.Items.{table_item, item_of};
+ghost use Rattle.mrc_wiring_text.specs.Items.{item_of};
 ghost use Rattle.mrc_wide_text.specs.WideItems.{is_item_word, keyed, first_word, items_of};
 
 use crate::lists::between_commas;
 use crate::words::is_alone;
-use mrc_stand_for::Several;
-use mrc_wiring_text::{Item, Name, is_word};
+use mrc_wiring_text::{Item, Items, is_word, table_item};
 use std::alloc::{AllocError, Global};
 
 /// Whether an item begins with this word.
@@ -16,20 +15,6 @@ fn is_item_word(word: &[u8]) -> bool
     ensures { result ≡ is_item_word word.now }
 {
     is_word(word, "request") || is_word(word, "reply") || is_word(word, "destroyed")
-}
-
-/// The item that a word and a name say.
-#[tactic(auto, unfolding(mrc_wiring_text::specs::Items::table_item))]
-fn table_item(alloc: Global, key: &[u8], subsystem: &[u8]) -> Result<Option<Item>, AllocError>
-    ensures { IfOk result (λ item. item ≡ table_item key.now subsystem.now) }
-{
-    if is_word(key, "request") {
-        Ok(Name::new(alloc, subsystem)?.map(|name| Item::Request(name)))
-    } else if is_word(key, "reply") {
-        Ok(Name::new(alloc, subsystem)?.map(|name| Item::Reply(name)))
-    } else {
-        Ok(None)
-    }
 }
 
 /// The item of one word, behind a part that begins with a key.
@@ -73,12 +58,12 @@ fn key_of<'a>(key: &'a [u8], words: &'a [&'a [u8]]) -> &'a [u8]
 
 /// The items that words say.
 #[tactic(auto, unfolding(crate::specs::WideItems::items_of))]
-pub(crate) fn items_of(alloc: Global, words: &[&[u8]]) -> Result<Option<Several<Item>>, AllocError>
+pub(crate) fn items_of(alloc: Global, words: &[&[u8]]) -> Result<Option<Items>, AllocError>
     ensures { IfOk result (λ items. items ≡ items_of (map (λ word. word.now) words.now)) }
 {
-    let mut items = Several::empty(alloc);
+    let mut items = Vec::new(alloc);
     if is_alone(words, "none") {
-        return Ok(Some(items));
+        return Ok(Some(Items::new(items)));
     }
     let parts = between_commas(alloc, words)?;
     let mut key: &[u8] = &[];
@@ -90,5 +75,5 @@ pub(crate) fn items_of(alloc: Global, words: &[&[u8]]) -> Result<Option<Several<
         let next = key_of(key, *part);
         key = next;
     }
-    Ok(Some(items))
+    Ok(Some(Items::new(items)))
 }

@@ -19,11 +19,11 @@ use crate::parts::{
     AnyName, FixedClass, HeldClass, PortName, RightVerbWord, RightWord, SendPlace, SlotWord,
     VerbWord,
 };
-use crate::words::{free_name, is_alone, kind_of};
+use crate::words::{free_name, is_alone};
 use mrc_base::PortRight;
 use mrc_base::limits::KINDS;
 use mrc_stand_for::{Place, RightVerb, Several, SlotName, Tasks, WideClass, WideSays};
-use mrc_wiring_text::{Item, Kind, Name, TrustVerb, is_word};
+use mrc_wiring_text::{Items, Kind, Name, TrustVerb, is_word, kind_of};
 use std::alloc::{AllocError, Global};
 
 /// `task T, T ..`, after its first word.
@@ -84,7 +84,7 @@ fn set_line(alloc: Global, words: &[&[u8]]) -> Result<Option<WideSays>, AllocErr
 fn port_named(
     port: Option<Name>,
     receiver: Option<Name>,
-    accepts: Option<Several<Item>>,
+    accepts: Option<Items>,
 ) -> Option<WideSays>
     ensures { result ≡ port_named port receiver accepts }
 {
@@ -161,7 +161,7 @@ fn port_line(alloc: Global, words: &[&[u8]]) -> Result<Option<WideSays>, AllocEr
 fn births_named(
     tasks: Option<Tasks>,
     kind: Option<Kind>,
-    accepts: Option<Several<Item>>,
+    accepts: Option<Items>,
 ) -> Option<WideSays>
     ensures { result ≡ births_named tasks kind accepts }
 {
@@ -349,7 +349,7 @@ fn admit_line(alloc: Global, words: &[&[u8]]) -> Result<Option<WideSays>, AllocE
 
 /// RIGHTS.
 #[tactic(auto, unfolding(crate::specs::WideWords::rights_of))]
-fn rights_of(alloc: Global, words: &[&[u8]]) -> Result<Option<Several<PortRight>>, AllocError>
+pub fn rights_of(alloc: Global, words: &[&[u8]]) -> Result<Option<Several<PortRight>>, AllocError>
     ensures { IfOk result (λ rights. rights ≡ rights_of (map (λ word. word.now) words.now)) }
 {
     if is_alone(words, "any") {

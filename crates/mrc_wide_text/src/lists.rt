@@ -14,7 +14,7 @@ use mrc_wiring_text::{Name, is_word};
 use std::alloc::{AllocError, Global};
 
 /// A way to read what stands between two commas.
-pub(crate) trait Part {
+pub trait Part {
     ghost use Rattle.std.specs.Prelude.{◌≡◌, ℕ, List, Option, map, IfOk};
 
     /// What is read.
@@ -40,7 +40,7 @@ pub(crate) fn between_commas<'a>(
 }
 
 /// What words say that are parts with commas between them.
-pub(crate) fn separated<P: Part>(
+pub fn separated<P: Part>(
     alloc: Global,
     words: &[&[u8]],
 ) -> Result<Option<Several<P::Item>>, AllocError>
@@ -84,7 +84,7 @@ fn list_len(words: &[&[u8]]) -> usize
 }
 
 /// The words of the list in front, and those behind it.
-pub(crate) fn list_and_rest<'a>(words: &'a [&'a [u8]]) -> (&'a [&'a [u8]], &'a [&'a [u8]])
+pub fn list_and_rest<'a>(words: &'a [&'a [u8]]) -> (&'a [&'a [u8]], &'a [&'a [u8]])
     ensures front { map (λ word. word.now) result.0.now ≡
         in_front (map (λ word. word.now) words.now) }
     ensures rest { map (λ word. word.now) result.1.now ≡
@@ -108,7 +108,7 @@ fn tasks_len(words: &[&[u8]]) -> usize
 }
 
 /// The words of the TASKS in front, and those behind it.
-pub(crate) fn tasks_and_rest<'a>(words: &'a [&'a [u8]]) -> (&'a [&'a [u8]], &'a [&'a [u8]])
+pub fn tasks_and_rest<'a>(words: &'a [&'a [u8]]) -> (&'a [&'a [u8]], &'a [&'a [u8]])
     ensures front { map (λ word. word.now) result.0.now ≡
         tasks_in_front (map (λ word. word.now) words.now) }
     ensures rest { map (λ word. word.now) result.1.now ≡
@@ -118,7 +118,7 @@ pub(crate) fn tasks_and_rest<'a>(words: &'a [&'a [u8]]) -> (&'a [&'a [u8]], &'a 
 }
 
 /// Names of tasks or groups.
-pub(crate) fn names_of(alloc: Global, words: &[&[u8]]) -> Result<Option<Several<Name>>, AllocError>
+pub fn names_of(alloc: Global, words: &[&[u8]]) -> Result<Option<Several<Name>>, AllocError>
     ensures { IfOk result (λ names. names ≡ names_of (map (λ word. word.now) words.now)) }
 {
     separated::<TaskName>(alloc, words)
@@ -126,7 +126,7 @@ pub(crate) fn names_of(alloc: Global, words: &[&[u8]]) -> Result<Option<Several<
 
 /// TASKS.
 #[tactic(auto, unfolding(crate::specs::WideWords::tasks_of))]
-pub(crate) fn tasks_of(alloc: Global, words: &[&[u8]]) -> Result<Option<Tasks>, AllocError>
+pub fn tasks_of(alloc: Global, words: &[&[u8]]) -> Result<Option<Tasks>, AllocError>
     ensures { IfOk result (λ tasks. tasks ≡ tasks_of (map (λ word. word.now) words.now)) }
 {
     if is_alone(words, "all") {

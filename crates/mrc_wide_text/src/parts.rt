@@ -12,10 +12,10 @@ ghost use Rattle.mrc_wide_text.specs.WideWords.{unless_other, fixed_class, keyed
 ghost use Rattle.mrc_wide_text.specs.WideWords.{port_of, slot_named, slot_word, right_verb};
 
 use crate::lists::Part;
-use crate::words::{free_name, kind_of, right_of, right_verb, verb_of};
+use crate::words::{free_name, right_verb};
 use mrc_base::PortRight;
 use mrc_stand_for::{Kinds, Place, RightVerb, SlotName, Whom, WideClass};
-use mrc_wiring_text::{Kind, Name, TrustVerb, around_dot, is_word};
+use mrc_wiring_text::{Kind, Name, TrustVerb, around_dot, is_word, kind_of, right_of, verb_of};
 use std::alloc::{AllocError, Global};
 
 /// Reads the name of a task or a group.
@@ -28,10 +28,10 @@ pub(crate) struct AnyName;
 pub(crate) struct PortName;
 
 /// Reads CLASS.
-pub(crate) struct HeldClass;
+pub struct HeldClass;
 
 /// Reads CLASS in a line without a holder.
-pub(crate) struct FixedClass;
+pub struct FixedClass;
 
 /// Reads PLACE.
 pub(crate) struct SendPlace;
@@ -40,7 +40,7 @@ pub(crate) struct SendPlace;
 pub(crate) struct SlotWord;
 
 /// Reads a right.
-pub(crate) struct RightWord;
+pub struct RightWord;
 
 /// Reads a verb that goes with rights.
 pub(crate) struct RightVerbWord;

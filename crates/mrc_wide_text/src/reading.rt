@@ -6,8 +6,9 @@ ghost use Rattle.std.specs.Str.{IsUtf8};
 ghost use Rattle.mrc_base.specs.Limits.{limit_of_lines};
 ghost use Rattle.mrc_base.specs.Reading.{Gives};
 ghost use Rattle.mrc_wiring_text.specs.declared.reading.Line.{Line};
+ghost use Rattle.mrc_wiring_text.specs.declared.wiring.WiringSays.{WiringSays};
 ghost use Rattle.mrc_wiring_text.specs.Lexis.{lines};
-ghost use Rattle.mrc_wiring_text.specs.Reading.{utf8_text};
+ghost use Rattle.mrc_wiring_text.specs.Texts.{IsWiring};
 ghost use Rattle.mrc_stand_for.specs.declared.wide.WideSays.{WideSays};
 ghost use Rattle.mrc_wide_text.specs.WideLines.{meaning};
 ghost use Rattle.mrc_wide_text.specs.WideReading.{wide_version, version_of, after_heading, heading};
@@ -15,17 +16,15 @@ ghost use Rattle.mrc_wide_text.specs.WideReading.{wide_wiring_of};
 ghost use Rattle.mrc_wide_text.specs.WideTexts.{IsWideWiring};
 
 use crate::lines::wide_says;
-use crate::words::capped;
 use mrc_base::OrMemory;
 use mrc_base::limits::LINES;
 use mrc_stand_for::{WideLine, WideSays};
 use mrc_wiring_text::{
-    Edition, Line, Statement, TextFault, between_blanks, body, first_line, is_number, is_word,
-    spaced,
+    Edition, Line, Statement, TextFault, between_blanks, body, capped, first_line, is_number,
+    is_word, spaced, utf8_text,
 };
 use std::alloc::{AllocError, Global};
 use std::marker::Model;
-use std::str;
 
 /// What a line says, as `body` reads it.
 #[derive(Drop)]
@@ -107,18 +106,6 @@ fn heading<'a>(alloc: Global, text: &'a [u8]) -> Result<(u32, &'a [u8]), OrMemor
     Err(OrMemory::Fault(TextFault::BadLine(1)))
 }
 
-/// Bytes that are a text.
-#[tactic(auto, unfolding(mrc_wiring_text::specs::Reading::utf8_text))]
-fn utf8_text(bytes: &[u8]) -> Result<&[u8], OrMemory<TextFault>>
-    ensures fault { Gives (λ text. text.now) result (utf8_text bytes.now) }
-    ensures no_text { ¬ (IsUtf8 bytes.now) → result ≡ Err (OrMemory.Fault TextFault.NotUtf8) }
-{
-    match str::from_utf8(bytes) {
-        Ok(text) => Ok(text.as_bytes()),
-        Err(_) => Err(OrMemory::Fault(TextFault::NotUtf8)),
-    }
-}
-
 /// The lines, as what they say.
 fn said_lines(alloc: Global, read: Vec<Line<ReadSays>>) -> Result<Vec<WideLine>, AllocError>
     ensures { IfOk result (λ lines. lines.items ≡ read.items) }
@@ -153,6 +140,9 @@ pub fn read_wide_wiring(alloc: Global, bytes: &[u8]) -> Result<Vec<WideLine>, Or
     // What a text of this grammar says is read, unless memory runs out.
     ensures only { (says : List (Line WideSays)) → IsWideWiring bytes.now says →
         Gives (λ lines. lines.items) result (Ok says) }
+    // A wiring of an older version has another version.
+    ensures older { (says : List (Line WiringSays)) → IsWiring bytes.now says →
+        Gives (λ lines. lines.items) result (Err TextFault.Version) }
     // `NotUtf8` is told of bytes that are no text, and of no others.
     ensures no_text { ¬ (IsUtf8 bytes.now) → result ≡ Err (OrMemory.Fault TextFault.NotUtf8) }
     ensures text { IsUtf8 bytes.now → result ≢ Err (OrMemory.Fault TextFault.NotUtf8) }

@@ -141,7 +141,8 @@ sixteen = refl
 pub seventeen : resolved edition.Second (interfaces 17) [] ≡ Err (TooMany 0)
 seventeen = refl
 
-pub seventeen_of_third : resolved edition.Third (interfaces 17) [] ≡ Ok (empty_table (interfaces 17))
+pub seventeen_of_third :
+    resolved edition.Third (interfaces 17) [] ≡ Ok (empty_table (interfaces 17))
 seventeen_of_third = refl
 
 -- a label that has one item twice
@@ -179,7 +180,8 @@ kinds_are_wired = refl
 
 -- the births of one task and kind are said once
 pub kind_twice :
-    resolved edition.Second [] (line 2 (says.Task (codes "a")) ∷ line 3 (says.Births (codes "a") 1 [])
+    resolved edition.Second []
+    (line 2 (says.Task (codes "a")) ∷ line 3 (says.Births (codes "a") 1 [])
     ∷ line 4 (says.Births (codes "a") 1 []) ∷ [])
     ≡ Err (TwiceNamed 4)
 unfolding add_task add_births place_births put_row

@@ -21,23 +21,23 @@ use Rattle.mrc_wiring_text.specs.Reading.{heading, or_bad, line_of, onto, body, 
 pub record IsOther {A : Type 0} (r : Result A TextFault) : Type 0 where
   pub other : r ≡ Err NotUtf8 → ⊥
 
-ok_other : {A : Type 0} (x : A) → IsOther (Ok x)
+pub ok_other : {A : Type 0} (x : A) → IsOther (Ok x)
 ok_other x = record { other = λ e. absurd cc }
 
-bad_other : {A : Type 0} (n : ℕ) → IsOther {A = A} (Err (BadLine n))
+pub bad_other : {A : Type 0} (n : ℕ) → IsOther {A = A} (Err (BadLine n))
 bad_other n = record { other = λ e. absurd cc }
 
-version_other : {A : Type 0} → IsOther {A = A} (Err Version)
+pub version_other : {A : Type 0} → IsOther {A = A} (Err Version)
 version_other = record { other = λ e. absurd cc }
 
-bind_other : {A B : Type 0} (m : Result A TextFault) (f : A → Result B TextFault) → IsOther m
+pub bind_other : {A B : Type 0} (m : Result A TextFault) (f : A → Result B TextFault) → IsOther m
     → ((a : A) → IsOther (f a)) → IsOther (m >>= f)
 bind_other (Ok a) f first then = then a
 bind_other (Err NotUtf8) f first then = absurd (first.other refl)
 bind_other (Err (BadLine n)) f first then = bad_other n
 bind_other (Err Version) f first then = version_other
 
-cond_other : {A : Type 0} (b : Bool) (x y : Result A TextFault) → IsOther x → IsOther y
+pub cond_other : {A : Type 0} (b : Bool) (x y : Result A TextFault) → IsOther x → IsOther y
     → IsOther (cond b x y)
 cond_other true x y yes_other no_other = yes_other
 cond_other false x y yes_other no_other = no_other
@@ -81,7 +81,7 @@ line_other meaning n line =
     (cond_other (eqb (length (words line)) 0) (Ok None) (or_bad n (meaning (words line)))
     (ok_other None) (or_bad_other n (meaning (words line))))
 
-body_other : {S : Type 0} (meaning : List (List ℕ) → Option S) (n : ℕ) (ls : List (List ℕ))
+pub body_other : {S : Type 0} (meaning : List (List ℕ) → Option S) (n : ℕ) (ls : List (List ℕ))
     → IsOther (body meaning n ls)
 unfolding body
 body_other meaning n [] = ok_other []

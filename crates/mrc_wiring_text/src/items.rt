@@ -37,6 +37,13 @@ impl Model for Items {
 }
 
 impl Items {
+    /// These items, in their order.
+    pub fn new(items: Vec<Item>) -> Items
+        ensures { result ≡ items.items }
+    {
+        Items { items }
+    }
+
     /// The items in order.
     pub fn as_slice(&self) -> &[Item]
         ensures { result.now ≡ self.now }
@@ -45,9 +52,9 @@ impl Items {
     }
 }
 
-/// The item that a word and a name say.
+/// The item that a word and a name say: `request S` or `reply S`; `None` where they say neither.
 #[tactic(auto, unfolding(crate::specs::Items::table_item))]
-fn table_item(alloc: Global, key: &[u8], subsystem: &[u8]) -> Result<Option<Item>, AllocError>
+pub fn table_item(alloc: Global, key: &[u8], subsystem: &[u8]) -> Result<Option<Item>, AllocError>
     ensures { IfOk result (λ item. item ≡ table_item key.now subsystem.now) }
 {
     if is_word(key, "request") {

@@ -49,7 +49,7 @@ impl Kind {
 }
 
 /// The number that decimal digits spell, or the cap where that is less.
-pub(crate) fn capped(digits: &[u8], cap: u8) -> u8
+pub fn capped(digits: &[u8], cap: u8) -> u8
     ensures { result ≡ min (decimal digits.now) cap }
 {
     let mut value = 0u8;
@@ -73,9 +73,9 @@ pub fn is_number(word: &[u8]) -> bool
     !word.is_empty() && are_digits(word)
 }
 
-/// The kind of births that a word spells, leading zeros or not.
+/// The kind of births that a word spells, leading zeros or not; `None` where it spells none.
 #[tactic(auto, unfolding(crate::specs::Kinds::kind_of))]
-pub(crate) fn kind_of(word: &[u8]) -> Option<Kind>
+pub fn kind_of(word: &[u8]) -> Option<Kind>
     ensures { result ≡ kind_of word.now }
 {
     if is_number(word) {

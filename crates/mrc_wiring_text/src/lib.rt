@@ -14,11 +14,11 @@ mod trust;
 mod wiring;
 
 pub use faults::TextFault;
-pub use items::{Item, Items};
-pub use kinds::{Kind, is_number};
+pub use items::{Item, Items, table_item};
+pub use kinds::{Kind, capped, is_number, kind_of};
 pub use lexis::{around_dot, between_blanks, first_line, is_word, lines_of, nth_line, spaced};
 pub use names::Name;
-pub use policy::{ClassName, Forbid, PolicyLine, read_policy};
-pub use reading::{Edition, Line, Statement, body};
-pub use trust::{TrustVerb, TrustedRight};
+pub use policy::{ClassName, Forbid, PolicyLine, read_policy, right_of};
+pub use reading::{Edition, Line, Statement, body, utf8_text};
+pub use trust::{TrustVerb, TrustedRight, verb_of};
 pub use wiring::{HeldRight, WiringLine, WiringSays, read_wiring, wiring_edition};

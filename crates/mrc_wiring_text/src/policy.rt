@@ -49,8 +49,9 @@ pub struct Forbid {
 /// A line of a policy that says something.
 pub type PolicyLine = Line<Forbid>;
 
+/// The right that a word names: `send`, `receive` or `once`; `None` where it names none.
 #[tactic(auto, unfolding(crate::specs::Policy::right_of))]
-pub(crate) fn right_of(word: &[u8]) -> Option<PortRight>
+pub fn right_of(word: &[u8]) -> Option<PortRight>
     ensures { result ≡ right_of word.now }
 {
     if is_word(word, "send") {

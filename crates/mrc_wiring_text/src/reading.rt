@@ -207,9 +207,9 @@ pub fn body<S: Statement>(
     Ok(said)
 }
 
-/// Bytes that are a text.
+/// Bytes that are a text, or `NotUtf8`.
 #[tactic(auto, unfolding(crate::specs::Reading::utf8_text))]
-fn utf8_text(bytes: &[u8]) -> Result<&[u8], OrMemory<TextFault>>
+pub fn utf8_text(bytes: &[u8]) -> Result<&[u8], OrMemory<TextFault>>
     ensures fault { Gives (λ text. text.now) result (utf8_text bytes.now) }
     ensures no_text { ¬ (IsUtf8 bytes.now) → result ≡ Err (OrMemory.Fault TextFault.NotUtf8) }
 {

@@ -32,9 +32,9 @@ pub struct TrustedRight {
     pub class: ClassName,
 }
 
-/// The verb that a word names.
+/// The verb that a word names; `None` where it names none.
 #[tactic(auto, unfolding(crate::specs::Wiring::verb_of))]
-pub(crate) fn verb_of(word: &[u8]) -> Option<TrustVerb>
+pub fn verb_of(word: &[u8]) -> Option<TrustVerb>
     ensures { result ≡ verb_of word.now }
 {
     if is_word(word, "takes") {

@@ -24,7 +24,7 @@ returns-in-Err-Fault c =
 
 pub returns : goal.returns
 returns c = record {
-  exact = c.front-2.ensures
+  exact = c.whole.ensures
       ∙ sym (ap all_or_front (each_done add_line _ _ c.args.lines.now
       c.loop-line.line-index (search rules) c.loop-line.invariant));
 }

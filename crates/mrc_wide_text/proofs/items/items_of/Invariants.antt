@@ -5,4 +5,4 @@ use Rattle.mrc_wide_text.proofs.ItemLemmas.{Left}
 use Rattle.mrc_wide_text.proofs.items.items_of.Given as goal
 
 abbrev pub invariant-loop-part : goal.invariant-loop-part
-invariant-loop-part l = Left (map part_words l.part-items) l.part-index l.key l.items
+invariant-loop-part l = Left (map part_words l.part-items) l.part-index l.key l.items.items
