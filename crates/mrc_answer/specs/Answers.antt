@@ -25,7 +25,7 @@ use Rattle.mrc_answer.specs.Listed.{IsListing, IsGraph}
 use Rattle.mrc_answer.specs.Made.{IsMaking, IsMending}
 use Rattle.mrc_answer.specs.Notices.{Notices, no_notices}
 use Rattle.mrc_answer.specs.Played.{IsReplayed, IsRun}
-use Rattle.mrc_answer.specs.Systems.{AreSlots, ArePromises}
+use Rattle.mrc_answer.specs.Systems.{AreSlots, ArePromises, IsExpanded}
 use Rattle.mrc_answer.specs.Verified.{IsVerified, IsAttacked, IsBadLine, IsBadMost}
 
 -- it is answered that this file can't be read
@@ -64,6 +64,8 @@ IsAnswer before after (questions.Slots format) files answer notices =
     AreSlots files answer × (notices ≡ no_notices)
 IsAnswer before after (questions.Promises format) files answer notices =
     ArePromises files answer × (notices ≡ no_notices)
+IsAnswer before after questions.Expand files answer notices =
+    IsExpanded files answer × (notices ≡ no_notices)
 IsAnswer before after (questions.Replay format) files answer notices =
     IsReplayed files answer × (notices ≡ no_notices)
 IsAnswer before after (questions.Live format) files answer notices =

@@ -15,6 +15,7 @@ use mrc_report::{Ran, Script};
 use mrc_rows::Facts;
 use mrc_why::Verdict;
 use mrc_wiring::Wired;
+use mrc_wiring_text::Edition;
 
 /// A system whose policy is broken.
 #[derive(Drop)]
@@ -131,6 +132,15 @@ pub struct WiredScript {
     pub script: Script,
 }
 
+/// A system, and the version that its wiring's text names.
+#[derive(Drop)]
+pub struct Expanded {
+    /// What the texts mean.
+    pub system: System,
+    /// The edition that the wiring's version names, of versions 1 to 3; none of version 4.
+    pub older: Option<Edition>,
+}
+
 /// The journal of a run after which no task can go on.
 #[derive(Drop)]
 pub struct Waiting {
@@ -171,6 +181,8 @@ pub enum Answer<'a> {
     Slots(System),
     /// `promises`: the system whose lines are listed.
     Promises(System),
+    /// `expand`: the system whose lines are printed.
+    Expanded(Expanded),
     /// `replay`: the script that is replayed.
     Replay(WiredScript),
     /// `live`: the journal of the script's run.
@@ -227,6 +239,7 @@ pub fn status_of(answer: &Answer<'_>) -> u8
         | Answer::Drawing(_)
         | Answer::Slots(_)
         | Answer::Promises(_)
+        | Answer::Expanded(_)
         | Answer::Replay(_)
         | Answer::Journal(_) => 0,
         Answer::Broken(_)

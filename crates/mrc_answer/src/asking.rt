@@ -27,7 +27,7 @@ use crate::mend::mended;
 use crate::mig::{Ready, mig_files, same_name};
 use crate::notices::no_notices;
 use crate::replay::replayed;
-use crate::systems::{promises, slots};
+use crate::systems::{expanded, promises, slots};
 use crate::verify::verified;
 use mrc_attack::Progress as Looks;
 use mrc_base::limits::EVENTS;
@@ -149,6 +149,7 @@ fn question_answered<'a, F: Folder, R: Threads + Wait + Sync, P: Progress + Look
         } => Ok(alone(alloc, graphed(alloc, files, fact, task, holds)?)),
         Question::Slots { .. } => Ok(alone(alloc, slots(alloc, files)?)),
         Question::Promises { .. } => Ok(alone(alloc, promises(alloc, files)?)),
+        Question::Expand => Ok(alone(alloc, expanded(alloc, files)?)),
         Question::Replay { .. } => Ok(alone(alloc, replayed(alloc, files)?)),
         Question::Live { .. } => Ok(alone(alloc, live_served(rt, alloc, files, EVENTS)?)),
     }

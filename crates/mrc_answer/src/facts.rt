@@ -38,8 +38,12 @@ fn system_listed<'a>(
     ensures { IfOk result (IsListing (word_of task.entry) (word_of class.entry)
         (word_of right.entry) files.now) }
 {
-    let System { lines, wired } = meant;
-    drop(lines);
+    let System {
+        lines,
+        known,
+        wired,
+    } = meant;
+    drop((lines, known));
     let facts = match facts_given(alloc, &wired, &files.texts) {
         Ok(facts) => facts,
         Err(OrMemory::Fault(fault)) => {

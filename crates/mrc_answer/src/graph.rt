@@ -160,7 +160,12 @@ fn found_of(
 fn without_policy(alloc: Global, system: System) -> Result<Stated, OrMemory<CaseFault>>
     ensures { GivesAs (λ stated. stated) meaningless result (claim_given None system) }
 {
-    let System { lines, wired } = system;
+    let System {
+        lines,
+        known,
+        wired,
+    } = system;
+    drop(known);
     match Claim::new(alloc, wired, &[]) {
         Ok(claim) => Ok(Stated { lines, claim }),
         Err((_, refusal)) => {

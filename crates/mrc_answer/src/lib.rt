@@ -49,5 +49,5 @@ pub use mig::{Ready, mig_files};
 pub use notices::{Notices, Notification};
 pub use plain_lines::PlainLine;
 pub use replay::replayed;
-pub use systems::{promises, slots};
+pub use systems::{expanded, promises, slots};
 pub use verify::verified;

@@ -19,12 +19,12 @@ use std::alloc::{AllocError, Global};
 fn scripted(alloc: Global, texts: &Texts) -> Result<WiredScript, OrMemory<CaseFault>>
     ensures { GivesAs (λ both. both) meaningless result (scripted texts.now) }
 {
-    let System { lines, wired } = System::read(
-        alloc,
-        texts.defs.as_slice(),
-        texts.wiring.as_slice(),
-    )?;
-    drop(lines);
+    let System {
+        lines,
+        known,
+        wired,
+    } = System::read(alloc, texts.defs.as_slice(), texts.wiring.as_slice())?;
+    drop((lines, known));
     match script_said(alloc, &wired, false, texts) {
         Ok(script) => Ok(WiredScript { wired, script }),
         Err(refusal) => {

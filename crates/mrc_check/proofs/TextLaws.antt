@@ -7,13 +7,13 @@ use Rattle.mrc_base.specs.Reading.{◌>>=◌}
 use Rattle.mrc_base.proofs.Steps.{bind_ok, bind_to, ok_is, err_is_ok}
 use Rattle.mrc_interface.specs.Reading.{interfaces_of, step}
 use Rattle.mrc_interface.proofs.ReadingLaws.{interfaces_read, read_interfaces_are}
-use Rattle.mrc_wiring_text.specs.declared.reading.Edition.{Edition}
-use Rattle.mrc_wiring_text.specs.declared.reading.Line.{Line}
-use Rattle.mrc_wiring_text.specs.declared.wiring.WiringSays.{WiringSays}
-use Rattle.mrc_wiring_text.specs.Texts.{IsWiring}
-use Rattle.mrc_wiring_text.specs.Wiring.{wiring_edition, wiring_of, wiring_says}
 use Rattle.mrc_wiring_text.specs.Policy.{policy_of, policy_says}
-use Rattle.mrc_wiring_text.proofs.TextLaws.{edition_read, text_found, text_read}
+use Rattle.mrc_wiring_text.proofs.TextLaws.{text_found, text_read}
+use Rattle.mrc_stand_for.specs.declared.faults.StandFault.{StandFault}
+use Rattle.mrc_stand_for.specs.declared.known.Known.{Known}
+use Rattle.mrc_stand_for.specs.Policies.{policy_lines}
+use Rattle.mrc_wide_text.specs.Wirings.{Says, said_of}
+use Rattle.mrc_wide_text.proofs.SaidLaws.{said_is, is_said}
 use Rattle.mrc_wiring.specs.Resolving.{resolved}
 use Rattle.mrc_wiring.specs.Claims.{Claimed, forbidden_lines}
 use Rattle.mrc_certificate.specs.Spelling.{content}
@@ -27,7 +27,8 @@ use Rattle.mrc_check.specs.declared.texts.TextsFault.TheVariants.{Meaning, Check
 use Rattle.mrc_check.specs.Verdict.{Case, IsAccepted}
 use Rattle.mrc_check.specs.Texts.{InDefs, InWiring, InPolicy, InCertificate, SayYes}
 use Rattle.mrc_check.specs.Texts.{Meant, MeanSystem, MeanClaim, Stated, meaningless, lines_fault}
-use Rattle.mrc_check.specs.Texts.{read_lines, system_over, system_of, claim_of, stated_by, stated_of}
+use Rattle.mrc_check.specs.Texts.{all_said, system_over, system_of, policy_over, claim_of}
+use Rattle.mrc_check.specs.Texts.{stated_by, stated_of}
 use Rattle.mrc_check.specs.Texts.{answered_by, case_of, IsTold, Tells}
 use Rattle.mrc_check.proofs.Accepted.{no_reason}
 
@@ -41,25 +42,6 @@ step_ok : {A E F : Type 0} (place : E → F) (r : Result A E) (x : A) → step p
 step_ok place (Ok y) x e = cc
 step_ok place (Err fault) x e = absurd cc
 
--- what is read of a wiring: its edition, and its lines
-lines_read : (wiring : List ℕ) (read : Edition × List (Line WiringSays))
-    → read_lines wiring ≡ Ok read
-    → (wiring_edition wiring ≡ Ok read.0) × (wiring_of wiring ≡ Ok read.1)
-lines_read wiring read e =
-    let edition = bind_ok (wiring_edition wiring) _ read e in
-    let lines = bind_ok (wiring_of wiring) _ read edition.2 in
-    let same : (edition.0, lines.0) ≡ read = ok_is (edition.0, lines.0) read lines.2 in (
-      edition.1 ∙ ap (λ (r : Edition × List (Line WiringSays)). Ok r.0) same,
-      lines.1 ∙ ap (λ (r : Edition × List (Line WiringSays)). Ok r.1) same,
-    )
-
--- the lines of a wiring are read, with its edition
-read_again : (wiring : List ℕ) (lines : List (Line WiringSays)) (is : IsWiring wiring lines)
-    → read_lines wiring ≡ Ok (is.edition, lines)
-read_again wiring lines is =
-    bind_to (wiring_edition wiring) is.edition _ _ (edition_read _ wiring_says wiring lines is)
-    (bind_to (wiring_of wiring) lines _ _ (text_read _ wiring_says wiring lines is) refl)
-
 -- the system that texts have is one that they mean
 system_from : (defs : List (List ℕ)) (wiring : List ℕ) (system : Meant)
     → system_of defs wiring ≡ Ok system
@@ -67,18 +49,21 @@ system_from : (defs : List (List ℕ)) (wiring : List ℕ) (system : Meant)
 system_from defs wiring system e =
     let i = bind_ok (step InDefs (interfaces_of defs)) _ system e in
     let over = step_ok InWiring (system_over i.0 wiring) system i.2 in
-    let w = bind_ok (step wiring_fault.Text (read_lines wiring)) _ system over in
-    let t = bind_ok (step (lines_fault w.0.1) (resolved w.0.0 i.0 w.0.1)) _ system w.2 in
-    let read = lines_read wiring w.0 (step_ok wiring_fault.Text (read_lines wiring) w.0 w.1) in
-    let is_wiring = text_found _ wiring_says wiring w.0.1 read.1 in
-    let edition : w.0.0 ≡ is_wiring.edition = ok_is w.0.0 is_wiring.edition
-    (sym read.0 ∙ edition_read _ wiring_says wiring w.0.1 is_wiring) in
-    subst (MeanSystem defs wiring) (ok_is record { lines = w.0.1; table = t.0 } system t.2) record {
+    let w = bind_ok (step wiring_fault.Text (said_of wiring)) _ system over in
+    let t = bind_ok (step (lines_fault w.0.lines) (resolved w.0.edition i.0 w.0.lines)) _ system w.2
+    in
+    let k = bind_ok (step wiring_fault.Stands w.0.end) _ system t.2 in
+    let said = said_is wiring w.0 (step_ok wiring_fault.Text (said_of wiring) w.0 w.1) in
+    let known = step_ok wiring_fault.Stands w.0.end k.0 k.1 in
+    let whole : w.0 ≡ all_said w.0.edition w.0.lines k.0 = ap (λ (e : Result Known StandFault).
+    record { edition = w.0.edition; lines = w.0.lines; end = e }) known in
+    let made : Meant = record { lines = w.0.lines; known = k.0; table = t.0 } in
+    subst (MeanSystem defs wiring) (ok_is made system k.2) record {
       interfaces = i.0;
       are_interfaces = read_interfaces_are defs i.0 (step_ok InDefs (interfaces_of defs) i.0 i.1);
-      is_wiring = is_wiring;
-      is_table = ap (λ e. resolved e i.0 w.0.1) (sym edition)
-          ∙ step_ok (lines_fault w.0.1) (resolved w.0.0 i.0 w.0.1) t.0 t.1;
+      edition = w.0.edition;
+      is_wiring = subst (Says wiring) whole said;
+      is_table = step_ok (lines_fault w.0.lines) (resolved w.0.edition i.0 w.0.lines) t.0 t.1;
     }
 
 -- and one that they mean is theirs
@@ -88,12 +73,11 @@ system_to : (defs : List (List ℕ)) (wiring : List ℕ) (system : Meant)
 system_to defs wiring system m =
     goes_on InDefs m.interfaces (interfaces_of defs) _
     (interfaces_read defs m.interfaces m.are_interfaces)
-    ∙ ap (step InWiring) (goes_on wiring_fault.Text (m.is_wiring.edition, system.lines)
-    (read_lines wiring) _
-    (read_again wiring system.lines m.is_wiring)
+    ∙ ap (step InWiring) (goes_on wiring_fault.Text
+    (all_said m.edition system.lines system.known) (said_of wiring) _
+    (is_said wiring (all_said m.edition system.lines system.known) m.is_wiring)
     ∙ goes_on (lines_fault system.lines) system.table
-    (resolved m.is_wiring.edition m.interfaces system.lines) _
-    m.is_table)
+    (resolved m.edition m.interfaces system.lines) _ m.is_table)
 
 -- the claim that texts have is one that they mean
 pub claim_meant : (defs : List (List ℕ)) (wiring policy : List ℕ) (stated : Stated)
@@ -101,22 +85,26 @@ pub claim_meant : (defs : List (List ℕ)) (wiring policy : List ℕ) (stated : 
     → MeanClaim defs wiring policy stated.claim
 claim_meant defs wiring policy stated e =
     let s = bind_ok (system_of defs wiring) _ stated e in
-    let c = bind_ok (step InPolicy (claim_of s.0.table policy)) _ stated s.2 in
-    let claim_is = step_ok InPolicy (claim_of s.0.table policy) c.0 c.1 in
-    let p = bind_ok (step policy_fault.Text (policy_of policy)) _ c.0 claim_is in
+    let c = bind_ok (step InPolicy (claim_of s.0.known s.0.table policy)) _ stated s.2 in
+    let claim_is = step_ok InPolicy (claim_of s.0.known s.0.table policy) c.0 c.1 in
+    let p = bind_ok (policy_over s.0.known policy) _ c.0 claim_is in
+    let q = bind_ok (step policy_fault.Text (policy_of policy)) _ p.0 p.1 in
+    let stood : policy_lines s.0.known q.0 ≡ p.0 = ok_is (policy_lines s.0.known q.0) p.0 q.2 in
     let l = bind_ok (step policy_fault.Lines (forbidden_lines s.0.table p.0)) _ c.0 p.2 in
     let claim : Claimed = record { table = s.0.table; lines = l.0 } in
     let made : Stated = record { lines = s.0.lines; claim = c.0 } in
     let same : claim ≡ stated.claim =
     ok_is claim c.0 l.2 ∙ ap (λ (x : Stated). x.claim) (ok_is made stated c.2)
     in
-    let is_policy = step_ok policy_fault.Text (policy_of policy) p.0 p.1 in
+    let is_policy = step_ok policy_fault.Text (policy_of policy) q.0 q.1 in
     subst (MeanClaim defs wiring policy) same record {
       lines = s.0.lines;
+      known = s.0.known;
       system = system_from defs wiring s.0 s.1;
-      policy_lines = p.0;
-      is_policy = text_found _ policy_says policy p.0 is_policy;
-      is_claim = step_ok policy_fault.Lines (forbidden_lines s.0.table p.0) l.0 l.1;
+      says = q.0;
+      is_policy = text_found _ policy_says policy q.0 is_policy;
+      is_claim = ap (forbidden_lines s.0.table) stood
+          ∙ step_ok policy_fault.Lines (forbidden_lines s.0.table p.0) l.0 l.1;
     }
 
 -- and one that they mean is theirs
@@ -124,15 +112,17 @@ stated_to : (defs : List (List ℕ)) (wiring policy : List ℕ) (claim : Claimed
     (m : MeanClaim defs wiring policy claim)
     → stated_of defs wiring policy ≡ Ok record { lines = m.lines; claim = claim }
 stated_to defs wiring policy claim m =
-    let system : Meant = record { lines = m.lines; table = claim.table } in
-    let read_policy = text_read _ policy_says policy m.policy_lines m.is_policy in
-    let claim_is : claim_of claim.table policy ≡ Ok claim =
-    goes_on policy_fault.Text m.policy_lines (policy_of policy) _ read_policy
-    ∙ goes_on policy_fault.Lines claim.lines _ _ m.is_claim
+    let system : Meant = record { lines = m.lines; known = m.known; table = claim.table } in
+    let read_policy = text_read _ policy_says policy m.says m.is_policy in
+    let stood : policy_over m.known policy ≡ Ok (policy_lines m.known m.says) =
+    goes_on policy_fault.Text m.says (policy_of policy) _ read_policy in
+    let claim_is : claim_of m.known claim.table policy ≡ Ok claim =
+    bind_to (policy_over m.known policy) (policy_lines m.known m.says) _ _ stood
+    (goes_on policy_fault.Lines claim.lines _ _ m.is_claim)
     in
     bind_to (system_of defs wiring) system (λ s. stated_by s policy) _
     (system_to defs wiring system m.system)
-    (goes_on InPolicy claim (claim_of claim.table policy) _ claim_is)
+    (goes_on InPolicy claim (claim_of m.known claim.table policy) _ claim_is)
 
 -- what the texts say is a yes, if it is accepted
 pub yes_from : (defs : List (List ℕ)) (wiring policy certificate : List ℕ) (case : Case)

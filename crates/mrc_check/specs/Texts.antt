@@ -13,9 +13,11 @@ use Rattle.mrc_wiring_text.specs.declared.reading.Line.{Line}
 use Rattle.mrc_wiring_text.specs.declared.faults.TextFault.{TextFault}
 use Rattle.mrc_wiring_text.specs.declared.wiring.WiringSays.{WiringSays}
 use Rattle.mrc_wiring_text.specs.declared.policy.Forbid.{Forbid}
-use Rattle.mrc_wiring_text.specs.Wiring.{wiring_edition, wiring_of}
 use Rattle.mrc_wiring_text.specs.Policy.{policy_of}
-use Rattle.mrc_wiring_text.specs.Texts.{IsWiring, IsPolicy}
+use Rattle.mrc_wiring_text.specs.Texts.{IsPolicy}
+use Rattle.mrc_stand_for.specs.declared.known.Known.{Known}
+use Rattle.mrc_stand_for.specs.Policies.{policy_lines}
+use Rattle.mrc_wide_text.specs.Wirings.{Said, Says, said_of}
 use Rattle.mrc_wiring.specs.Table.{Table}
 use Rattle.mrc_wiring.specs.declared.faults.ResolveFault.{ResolveFault}
 use Rattle.mrc_wiring.specs.declared.faults.ResolveFault.TheVariants.{TooManyNames}
@@ -34,28 +36,36 @@ use Rattle.mrc_check.specs.declared.texts.TextsFault.{TextsFault}
 use Rattle.mrc_check.specs.declared.texts.TextsFault.TheVariants.{Meaning, Check}
 use Rattle.mrc_check.specs.Verdict.{Case, IsAccepted, IsWhy}
 
--- a system: the lines of its wiring, and the table that they mean over its interfaces
+-- a system: the lines that its wiring stands for, what is known after them, and the table that they
+-- mean over its interfaces
 pub record Meant : Type 0 where
   pub lines : List (Line WiringSays)
+  pub known : Known
   pub table : Table
 
--- The bytes mean a system: the definitions are MIG files, and the wiring has lines that have a
--- table over their interfaces, by the wiring's edition.
+-- what a wiring says of which no line is refused
+abbrev pub all_said : Edition → List (Line WiringSays) → Known → Said
+all_said edition lines known = record { edition = edition; lines = lines; end = Ok known }
+
+-- The bytes mean a system: the definitions are MIG files, and the wiring stands for lines that have
+-- a table over their interfaces, by the wiring's edition.
 pub record MeanSystem (defs : List (List ℕ)) (wiring : List ℕ) (system : Meant) : Type 0 where
   pub interfaces : List Interface
   pub are_interfaces : AreInterfaces defs interfaces
-  pub is_wiring : IsWiring wiring system.lines
-  pub is_table : resolved is_wiring.edition interfaces system.lines ≡ Ok system.table
+  pub edition : Edition
+  pub is_wiring : Says wiring (all_said edition system.lines system.known)
+  pub is_table : resolved edition interfaces system.lines ≡ Ok system.table
 
--- The bytes mean a claim: MIG files and wiring mean a system, and the policy forbids these lines in
--- its table.
+-- The bytes mean a claim: MIG files and wiring mean a system, and the lines that the policy stands
+-- for over it forbid these in its table.
 pub record MeanClaim (defs : List (List ℕ)) (wiring policy : List ℕ) (claim : Claimed)
     : Type 0 where
   pub lines : List (Line WiringSays)
-  pub system : MeanSystem defs wiring record { lines = lines; table = claim.table }
-  pub policy_lines : List (Line Forbid)
-  pub is_policy : IsPolicy policy policy_lines
-  pub is_claim : forbidden_lines claim.table policy_lines ≡ Ok claim.lines
+  pub known : Known
+  pub system : MeanSystem defs wiring record { lines = lines; known = known; table = claim.table }
+  pub says : List (Line Forbid)
+  pub is_policy : IsPolicy policy says
+  pub is_claim : forbidden_lines claim.table (policy_lines known says) ≡ Ok claim.lines
 
 -- The checker's yes: MIG files, wiring and policy mean a claim, the certificate encodes a draft,
 -- and the draft is accepted for the claim.
@@ -96,19 +106,14 @@ lines_fault lines (TooManyNames t) = named t (slice_get (task_names lines) t)
     named t None = wiring_fault.Lines (TooManyNames t)
 lines_fault lines fault = wiring_fault.Lines fault
 
--- the edition of a wiring, and its lines
-abbrev pub read_lines : List ℕ → Result (Edition × List (Line WiringSays)) TextFault
-read_lines wiring = do
-  edition ← wiring_edition wiring
-  lines ← wiring_of wiring
-  Ok (edition, lines)
-
--- the system that a wiring's bytes mean over interfaces
+-- the system that a wiring's bytes mean over interfaces: a fault of a line that it stands for comes
+-- before the one by which a line below is refused
 abbrev pub system_over : List Interface → List ℕ → Result Meant WiringFault
 system_over interfaces wiring = do
-  read ← step wiring_fault.Text (read_lines wiring)
-  table ← step (lines_fault read.1) (resolved read.0 interfaces read.1)
-  Ok (record { lines = read.1; table = table })
+  said ← step wiring_fault.Text (said_of wiring)
+  table ← step (lines_fault said.lines) (resolved said.edition interfaces said.lines)
+  known ← step wiring_fault.Stands said.end
+  Ok (record { lines = said.lines; known = known; table = table })
 
 -- the system that MIG files and a wiring mean
 abbrev pub system_of : List (List ℕ) → List ℕ → Result Meant Meaningless
@@ -116,17 +121,22 @@ system_of defs wiring = do
   interfaces ← step InDefs (interfaces_of defs)
   step InWiring (system_over interfaces wiring)
 
+-- the lines that a policy's bytes stand for over what is known of a wiring
+abbrev pub policy_over : Known → List ℕ → Result (List (Line Forbid)) PolicyFault
+policy_over known policy = step policy_fault.Text (policy_of policy) >>= λ says.
+    Ok (policy_lines known says)
+
 -- a wiring with what a policy's bytes forbid in it
-abbrev pub claim_of : Table → List ℕ → Result Claimed PolicyFault
-claim_of table policy = do
-  says ← step policy_fault.Text (policy_of policy)
+abbrev pub claim_of : Known → Table → List ℕ → Result Claimed PolicyFault
+claim_of known table policy = do
+  says ← policy_over known policy
   lines ← step policy_fault.Lines (forbidden_lines table says)
   Ok (record { table = table; lines = lines })
 
 -- a system with what a policy's bytes forbid in it
 abbrev pub stated_by : Meant → List ℕ → Result Stated Meaningless
 stated_by system policy = do
-  claim ← step InPolicy (claim_of system.table policy)
+  claim ← step InPolicy (claim_of system.known system.table policy)
   Ok (record { lines = system.lines; claim = claim })
 
 -- what a wiring and a policy mean over interfaces

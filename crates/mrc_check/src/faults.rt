@@ -2,6 +2,7 @@
 
 use mrc_certificate::DraftFault;
 use mrc_interface::FileFault;
+use mrc_stand_for::StandFault;
 use mrc_wiring::{ClaimFault, ResolveFault};
 use mrc_wiring_text::{Name, TextFault};
 use std::error::Error;
@@ -17,6 +18,8 @@ pub enum WiringFault {
     Lines(ResolveFault),
     /// The task of this name would get more names than a task may have.
     TooManyNames(Name),
+    /// A line of version 4 does not stand for lines.
+    Stands(StandFault),
 }
 
 impl fmt::Display for WiringFault {
@@ -25,6 +28,7 @@ impl fmt::Display for WiringFault {
             WiringFault::Text(fault) => write!(f, "{fault}"),
             WiringFault::Lines(fault) => write!(f, "{fault}"),
             WiringFault::TooManyNames(name) => write!(f, "TooManyNames {}", name.as_str()),
+            WiringFault::Stands(fault) => write!(f, "{fault}"),
         }
     }
 }

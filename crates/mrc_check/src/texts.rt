@@ -8,7 +8,8 @@ ghost use Rattle.mrc_wiring.specs.declared.faults.ResolveFault.{ResolveFault};
 ghost use Rattle.mrc_wiring.specs.Resolving.{task_names};
 ghost use Rattle.mrc_check.specs.Verdict.{Case};
 ghost use Rattle.mrc_check.specs.Texts.{SayYes, GivesOrReturns, meaningless};
-ghost use Rattle.mrc_check.specs.Texts.{InWiring, lines_fault, read_lines, system_over, system_of, stated_by};
+ghost use Rattle.mrc_check.specs.Texts.{InWiring, lines_fault, system_over, system_of, stated_by};
+ghost use Rattle.mrc_check.specs.Texts.{InPolicy, policy_over};
 ghost use Rattle.mrc_check.specs.Texts.{stated_of, answered_by, case_of, Tells};
 
 use crate::confined::{Confined, Refused, check};
@@ -17,10 +18,10 @@ use crate::verdict::Why;
 use mrc_base::{Copies, OrMemory};
 use mrc_certificate::read_draft;
 use mrc_interface::read_interfaces;
+use mrc_stand_for::{Known, policy_lines};
+use mrc_wide_text::{Said, read_said};
 use mrc_wiring::{Claim, Interfaces, ResolveFault, Wired};
-use mrc_wiring_text::{
-    Edition, Name, TextFault, WiringLine, WiringSays, read_policy, read_wiring, wiring_edition,
-};
+use mrc_wiring_text::{Name, PolicyLine, WiringLine, WiringSays, read_policy};
 use std::alloc::{AllocError, Global};
 use std::marker::Model;
 use std::thread::Threads;
@@ -28,8 +29,10 @@ use std::thread::Threads;
 /// What MIG files and a wiring mean.
 #[derive(Drop)]
 pub struct System {
-    /// The lines of the wiring.
+    /// The lines that the wiring stands for: its own, or, of version 4, those of its wide lines.
     pub lines: Vec<WiringLine>,
+    /// What is known after them, by which a policy is read.
+    pub known: Known,
     /// What they mean over the interfaces of the MIG files.
     pub wired: Wired,
 }
@@ -39,13 +42,13 @@ impl Model for System {
 
     ghost Value = { Meant };
 
-    ghost view = { λ s. record { lines = s.lines.items; table = s.wired } };
+    ghost view = { λ s. record { lines = s.lines.items; known = s.known; table = s.wired } };
 }
 
 /// What MIG files, a wiring and a policy mean.
 #[derive(Drop)]
 pub struct Stated {
-    /// The lines of the wiring.
+    /// The lines that the wiring stands for.
     pub lines: Vec<WiringLine>,
     /// What they mean, and what the policy forbids.
     pub claim: Claim,
@@ -118,16 +121,25 @@ fn lines_refusal(
     }
 }
 
-/// The edition of a wiring, and its lines.
-fn read_lines(
+/// What a policy of a text says over what is known of a wiring, or why it says nothing.
+fn policy_over(
     alloc: Global,
-    wiring: &[u8],
-) -> Result<(Edition, Vec<WiringLine>), OrMemory<TextFault>>
-    ensures { Gives (λ read. (read.0, read.1.items)) result (read_lines wiring.now) }
+    known: &Known,
+    policy: &[u8],
+) -> Result<Vec<PolicyLine>, OrMemory<CaseFault>>
+    ensures { GivesAs (λ lines. lines.items) meaningless result
+        (step InPolicy (policy_over known.now policy.now)) }
 {
-    let edition = wiring_edition(alloc, wiring)?;
-    let lines = read_wiring(alloc, wiring)?;
-    Ok((edition, lines))
+    let said = match read_policy(alloc, policy) {
+        Ok(said) => said,
+        Err(refusal) => {
+            return Err(refusal.map_fault(|fault| CaseFault::Policy(PolicyFault::Text(fault))));
+        }
+    };
+    match policy_lines(alloc, known, &said) {
+        Ok(lines) => Ok(lines),
+        Err(AllocError) => Err(OrMemory::Memory),
+    }
 }
 
 impl System {
@@ -142,19 +154,37 @@ impl System {
             (step InWiring (system_over interfaces wiring.now)) }
         ensures kept { IfOk result (λ system. system.table.interfaces ≡ interfaces) }
     {
-        let (edition, lines) = match read_lines(alloc, wiring) {
-            Ok(read) => read,
+        let Said {
+            edition,
+            lines,
+            end,
+        } = match read_said(alloc, wiring) {
+            Ok(said) => said,
             Err(refusal) => {
                 let fault = refusal.map_fault(|fault| CaseFault::Wiring(WiringFault::Text(fault)));
                 return Err((interfaces, fault));
             }
         };
-        match Wired::over(alloc, edition, lines.as_slice(), interfaces) {
-            Ok(wired) => Ok(System { lines, wired }),
+        let wired = match Wired::over(alloc, edition, lines.as_slice(), interfaces) {
+            Ok(wired) => wired,
             Err((interfaces, why)) => {
                 let fault = lines_refusal(alloc, lines.as_slice(), why);
+                drop((lines, end));
+                return Err((interfaces, fault));
+            }
+        };
+        match end {
+            Ok(known) => {
+                Ok(System {
+                    lines,
+                    known,
+                    wired,
+                })
+            }
+            Err(fault) => {
                 drop(lines);
-                Err((interfaces, fault))
+                let fault = CaseFault::Wiring(WiringFault::Stands(fault));
+                Err((wired.into_interfaces(), OrMemory::Fault(fault)))
             }
         }
     }
@@ -199,23 +229,29 @@ impl System {
         ensures { GivesOrReturns (λ stated. stated) meaningless self result
             (stated_by self policy.now) }
     {
-        let forbidden = match read_policy(alloc, policy) {
+        let forbidden = match policy_over(alloc, &self.known, policy) {
             Ok(forbidden) => forbidden,
-            Err(refusal) => {
-                let fault = refusal.map_fault(|fault| CaseFault::Policy(PolicyFault::Text(fault)));
-                return Err((self, fault));
-            }
+            Err(refusal) => return Err((self, refusal)),
         };
-        let System { lines, wired } = self;
+        let System {
+            lines,
+            known,
+            wired,
+        } = self;
         match Claim::new(alloc, wired, forbidden.as_slice()) {
             Ok(claim) => {
-                drop(forbidden);
+                drop((forbidden, known));
                 Ok(Stated { lines, claim })
             }
             Err((wired, refusal)) => {
                 drop(forbidden);
                 let fault = refusal.map_fault(|fault| CaseFault::Policy(PolicyFault::Lines(fault)));
-                Err((System { lines, wired }, fault))
+                let system = System {
+                    lines,
+                    known,
+                    wired,
+                };
+                Err((system, fault))
             }
         }
     }

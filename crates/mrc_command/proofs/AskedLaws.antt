@@ -5,7 +5,8 @@ use Rattle.clap.specs.Words.{Text}
 use Rattle.mrc_command.specs.declared.command.Command.TheVariants.{Case, Mig}
 use Rattle.mrc_command.specs.declared.command.Question.TheVariants.{Verify, Mend, Attack, Check}
 use Rattle.mrc_command.specs.declared.command.Question.TheVariants.{Make, Explain, Facts, Graph}
-use Rattle.mrc_command.specs.declared.command.Question.TheVariants.{Slots, Promises, Replay, Live}
+use Rattle.mrc_command.specs.declared.command.Question.TheVariants.{Slots, Promises, Expand, Replay}
+use Rattle.mrc_command.specs.declared.command.Question.TheVariants.{Live}
 use Rattle.mrc_command.specs.CommandLine.{has_option}
 use Rattle.mrc_command.specs.Meaning.{NamesItsSubcommand, HasFormatOfOptions}
 use Rattle.mrc_command.specs.Meaning.{IsTextWithoutOption}
@@ -30,6 +31,7 @@ names_subcommand name rows (Case files (Facts task class right format)) is = sym
 names_subcommand name rows (Case files (Graph fact task holds format)) is = sym is.1.0
 names_subcommand name rows (Case files (Slots format)) is = sym is.1.0
 names_subcommand name rows (Case files (Promises format)) is = sym is.1.0
+names_subcommand name rows (Case files Expand) is = sym is.1.0
 names_subcommand name rows (Case files (Replay format)) is = sym is.1.0
 names_subcommand name rows (Case files (Live format)) is = sym is.1.0
 names_subcommand name rows (Mig files) is = sym is.0
@@ -46,6 +48,8 @@ format_of_options name rows (Case files (Facts task class right format)) is has 
 format_of_options name rows (Case files (Graph fact task holds format)) is has = is.1.4
 format_of_options name rows (Case files (Slots format)) is has = is.1.1
 format_of_options name rows (Case files (Promises format)) is has = is.1.1
+format_of_options name rows (Case files Expand) is has =
+    absurd (false≢true (other is.1.0 has))
 format_of_options name rows (Case files (Replay format)) is has = is.1.1
 format_of_options name rows (Case files (Live format)) is has = is.1.1
 format_of_options name rows (Mig files) is has = is.1.format
@@ -70,6 +74,7 @@ text_without_option name rows (Case files (Slots format)) is none =
     absurd (true≢false (other_none is.1.0 none))
 text_without_option name rows (Case files (Promises format)) is none =
     absurd (true≢false (other_none is.1.0 none))
+text_without_option name rows (Case files Expand) is none = refl
 text_without_option name rows (Case files (Replay format)) is none =
     absurd (true≢false (other_none is.1.0 none))
 text_without_option name rows (Case files (Live format)) is none =

@@ -44,6 +44,7 @@ all_commands : map usage commands
     ∷ codes "graph wiring= [cert=] [policy=] [fact=] [task=] [holds] [format=] [verbose] defs*"
     ∷ codes "slots wiring= [format=] [verbose] defs*"
     ∷ codes "promises wiring= [format=] [verbose] defs*"
+    ∷ codes "expand wiring= [verbose] defs*"
     ∷ codes "replay wiring= script= [format=] [verbose] defs*"
     ∷ codes "live wiring= policy= cert= script= [format=] [verbose] defs*"
     ∷ codes "mig out= [strict] [strict-rights] [as-received] [format=] [verbose] defs+"

@@ -23,7 +23,8 @@ use Rattle.mrc_command.specs.declared.command.MigFiles.{MigFiles}
 use Rattle.mrc_command.specs.declared.command.Question.{Question}
 use Rattle.mrc_command.specs.declared.command.Question.TheVariants.{Verify, Mend, Attack, Check}
 use Rattle.mrc_command.specs.declared.command.Question.TheVariants.{Make, Explain, Facts, Graph}
-use Rattle.mrc_command.specs.declared.command.Question.TheVariants.{Slots, Promises, Replay, Live}
+use Rattle.mrc_command.specs.declared.command.Question.TheVariants.{Slots, Promises, Expand, Replay}
+use Rattle.mrc_command.specs.declared.command.Question.TheVariants.{Live}
 use Rattle.mrc_command.specs.declared.command.Request.{Request}
 use Rattle.mrc_command.specs.declared.command.Showing.{Showing}
 use Rattle.mrc_command.specs.declared.command.Strictness.{Strictness}
@@ -122,6 +123,7 @@ Asks name rows (Graph fact task holds format) =
     × (holds ≡ has_flag (codes "holds") rows) × (format ≡ format_given rows)
 Asks name rows (Slots format) = (name ≡ codes "slots") × (format ≡ format_given rows)
 Asks name rows (Promises format) = (name ≡ codes "promises") × (format ≡ format_given rows)
+Asks name rows Expand = name ≡ codes "expand"
 Asks name rows (Replay format) = (name ≡ codes "replay") × (format ≡ format_given rows)
 Asks name rows (Live format) = (name ≡ codes "live") × (format ≡ format_given rows)
 
@@ -197,6 +199,7 @@ question_word (Facts task class right format) = codes "facts"
 question_word (Graph fact task holds format) = codes "graph"
 question_word (Slots format) = codes "slots"
 question_word (Promises format) = codes "promises"
+question_word Expand = codes "expand"
 question_word (Replay format) = codes "replay"
 question_word (Live format) = codes "live"
 
@@ -217,6 +220,7 @@ question_format (Facts task class right format) = format
 question_format (Graph fact task holds format) = format
 question_format (Slots format) = format
 question_format (Promises format) = format
+question_format Expand = Plain
 question_format (Replay format) = format
 question_format (Live format) = format
 

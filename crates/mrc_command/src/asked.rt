@@ -22,6 +22,7 @@ pub fn question_word(question: Question<'_>) -> &'static str
         Question::Graph { .. } => "graph",
         Question::Slots { .. } => "slots",
         Question::Promises { .. } => "promises",
+        Question::Expand => "expand",
         Question::Replay { .. } => "replay",
         Question::Live { .. } => "live",
     }
@@ -52,6 +53,7 @@ pub fn question_format(question: Question<'_>) -> Format
         Question::Graph { format, .. } => format,
         Question::Slots { format } => format,
         Question::Promises { format } => format,
+        Question::Expand => Format::Text,
         Question::Replay { format } => format,
         Question::Live { format } => format,
     }

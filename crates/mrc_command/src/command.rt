@@ -123,6 +123,8 @@ pub enum Question<'a> {
     Promises {
         format: Format,
     },
+    /// Which lines does the wiring stand for?
+    Expand,
     /// What do the calls of the script answer?
     Replay {
         format: Format,
@@ -353,7 +355,7 @@ fn other_asked<'a>(name: &str, matches: &ArgMatches<'a>) -> Option<Question<'a>>
     }
 }
 
-/// The question of a command that has no option of its own but `--format`.
+/// The question of a command that has no option of its own, or `--format` alone.
 fn plain_asked<'a>(name: &str, matches: &ArgMatches<'a>) -> Option<Question<'a>>
     ensures { IfSome result (Asks name.now (rows matches.now)) }
 {
@@ -361,6 +363,7 @@ fn plain_asked<'a>(name: &str, matches: &ArgMatches<'a>) -> Option<Question<'a>>
     match name {
         "slots" => Some(Question::Slots { format }),
         "promises" => Some(Question::Promises { format }),
+        "expand" => Some(Question::Expand),
         "replay" => Some(Question::Replay { format }),
         "live" => Some(Question::Live { format }),
         _ => other_asked(name, matches),

@@ -2,8 +2,8 @@
 
 pub(crate) const PROGRAM_HELP: &str = "Exit status of each command:
   0  YES was printed, or changes that lead to it, a certificate was made, a chain, facts, a
-     drawing, slots or promises were printed, a script was replayed or run by threads, MIG files
-     were written, or help or the version was printed
+     drawing, slots, promises or lines were printed, a script was replayed or run by threads, MIG
+     files were written, or help or the version was printed
   1  NO was printed, with a reason, or REAL, with calls, or none: if no chain leads to a fact,
      or if no change was found that leads to YES
   2  a fault was told on standard error: a file can't be read or has no meaning,
@@ -14,8 +14,8 @@ With --verbose a fault is followed by its place: the line of the file with a mar
 and what may help to mend it; and `mend` and `attack` say how far they have come. If standard error
 is a terminal, this is always so.
 
-With --format json, which all commands but `make` have, the answer is one JSON object for programs,
-and that of a fault is printed too. If the command line is wrong, there is none.
+With --format json, which all commands but `make` and `expand` have, the answer is one JSON object for
+programs, and that of a fault is printed too. If the command line is wrong, there is none.
 
 `machcheck check --help`, and the same of the other commands, tells of the files. Read on
 in README.md, which starts with a worked example, and in docs/ARCHITECTURE.md.";
@@ -311,6 +311,22 @@ Exit status:
   2  a fault on standard error, as `machcheck: FILE: FAULT`: a file can't be read or has
      no meaning, --format is not text or json (BadFormat), the command line is wrong, the
      output was not taken, or memory ran out
+
+Read on in README.md, and in docs/ARCHITECTURE.md.";
+
+pub(crate) const EXPAND_HELP: &str = "Files, as docs/FORMATS.md describes them:
+  MIG files have the messages of the interfaces that the wiring names,
+  a wiring has the tasks and ports, what they accept, and the rights that are held at first.
+
+A line of a wiring of version 4 can name several tasks, ports or classes, and groups and sets of
+them, and stands for a line for each. These lines are printed behind the heading, in their order,
+without comments. What is printed is a wiring that means the same. Of an older wiring it is its
+own lines.
+
+Exit status:
+  0  the lines were printed
+  2  a fault on standard error, as `machcheck: FILE: FAULT`: a file can't be read or has
+     no meaning, the command line is wrong, the output was not taken, or memory ran out
 
 Read on in README.md, and in docs/ARCHITECTURE.md.";
 

@@ -1,8 +1,8 @@
 //! The table of the command line: each command with its options, and what help says of them.
 
 use crate::help::{
-    ATTACK_HELP, CHECK_HELP, EXPLAIN_HELP, FACTS_HELP, GRAPH_HELP, LIVE_HELP, MAKE_HELP, MEND_HELP,
-    MIG_HELP, PROMISES_HELP, REPLAY_HELP, SLOTS_HELP, VERIFY_HELP,
+    ATTACK_HELP, CHECK_HELP, EXPAND_HELP, EXPLAIN_HELP, FACTS_HELP, GRAPH_HELP, LIVE_HELP,
+    MAKE_HELP, MEND_HELP, MIG_HELP, PROMISES_HELP, REPLAY_HELP, SLOTS_HELP, VERIFY_HELP,
 };
 
 /// How an option is given.
@@ -63,7 +63,7 @@ const VERBOSE: Row = row! {
 const DEFS: Row = row! { Words "defs" "DEFS" "The MIG files of the interfaces" };
 
 /// The commands, as help lists them.
-pub(crate) const COMMANDS: [Entry; 13] = [
+pub(crate) const COMMANDS: [Entry; 14] = [
     (
         "verify",
         "Says whether a forbidden right can be obtained, and how",
@@ -204,6 +204,12 @@ pub(crate) const COMMANDS: [Entry; 13] = [
         "Prints what to enforce at ports, and to find in the code of trusted tasks",
         PROMISES_HELP,
         &[WIRING, FORMAT, VERBOSE, DEFS],
+    ),
+    (
+        "expand",
+        "Prints the lines that a wiring of version 4 stands for",
+        EXPAND_HELP,
+        &[WIRING, VERBOSE, DEFS],
     ),
     (
         "replay",

@@ -8,7 +8,7 @@ use Rattle.mrc_base.specs.declared.Fact.{Fact}
 use Rattle.mrc_base.specs.declared.Fact.TheVariants.{Hold}
 use Rattle.mrc_base.specs.declared.PortRight.TheVariants.{Send}
 use Rattle.mrc_base.proofs.Steps.{ok_is}
-use Rattle.mrc_check.specs.Texts.{MeanClaim}
+use Rattle.mrc_check.specs.Texts.{MeanClaim, all_said}
 use Rattle.mrc_check.specs.Trusted.{is_bound, may_rewrite}
 use Rattle.mrc_confine.specs.Safety.{HasRewriter, HaveNoYes, IsBroken, IsNo}
 use Rattle.mrc_facts.specs.Sets.{has}
@@ -18,35 +18,39 @@ use Rattle.mrc_wiring.specs.Claims.{Claimed, forbidden_lines}
 use Rattle.mrc_wiring.specs.declared.claim.ForbiddenLine.{ForbiddenLine}
 use Rattle.mrc_wiring.specs.Resolving.{resolved}
 use Rattle.mrc_wiring.specs.Table.{Table, wiring_of}
-use Rattle.mrc_wiring_text.proofs.TextLaws.{edition_read, text_read}
+use Rattle.mrc_wiring_text.proofs.TextLaws.{text_read}
+use Rattle.mrc_stand_for.specs.Policies.{policy_lines}
+use Rattle.mrc_wide_text.specs.Wirings.{Said}
+use Rattle.mrc_wide_text.proofs.SaidLaws.{is_said}
 use Rattle.mrc_wiring_text.specs.Policy.{policy_says}
-use Rattle.mrc_wiring_text.specs.Wiring.{wiring_says}
 
 -- two claims that the same bytes mean are one
 same_claim : (defs : List (List ℕ)) (wiring policy : List ℕ) (a b : Claimed)
     → MeanClaim defs wiring policy a → MeanClaim defs wiring policy b → a ≡ b
 same_claim defs wiring policy a b m n =
     let interfaces : m.system.interfaces ≡ n.system.interfaces =
-    ok_is m.system.interfaces n.system.interfaces (sym (interfaces_read defs m.system.interfaces m.system.are_interfaces)
+    ok_is m.system.interfaces n.system.interfaces
+    (sym (interfaces_read defs m.system.interfaces m.system.are_interfaces)
     ∙ interfaces_read defs n.system.interfaces n.system.are_interfaces) in
-    let lines : m.lines ≡ n.lines = ok_is m.lines n.lines
-    (sym (text_read _ wiring_says wiring m.lines m.system.is_wiring)
-    ∙ text_read _ wiring_says wiring n.lines n.system.is_wiring) in
-    let edition : m.system.is_wiring.edition ≡ n.system.is_wiring.edition =
-    ok_is m.system.is_wiring.edition n.system.is_wiring.edition
-    (sym (edition_read _ wiring_says wiring m.lines m.system.is_wiring)
-    ∙ edition_read _ wiring_says wiring n.lines n.system.is_wiring) in
+    let first = all_said m.system.edition m.lines m.known in
+    let second = all_said n.system.edition n.lines n.known in
+    let said : first ≡ second = ok_is first second
+    (sym (is_said wiring first m.system.is_wiring) ∙ is_said wiring second n.system.is_wiring) in
+    let lines : m.lines ≡ n.lines = ap (λ (s : Said). s.lines) said in
+    let edition : m.system.edition ≡ n.system.edition = ap (λ (s : Said). s.edition) said in
+    let known : m.known ≡ n.known = ok_is m.known n.known (ap (λ (s : Said). s.end) said) in
     let table : a.table ≡ b.table = ok_is a.table b.table
     (sym m.system.is_table ∙ ap (λ e. resolved e m.system.interfaces m.lines) edition
-    ∙ ap (λ i. resolved n.system.is_wiring.edition i m.lines) interfaces
-    ∙ ap (λ l. resolved n.system.is_wiring.edition n.system.interfaces l) lines
+    ∙ ap (λ i. resolved n.system.edition i m.lines) interfaces
+    ∙ ap (λ l. resolved n.system.edition n.system.interfaces l) lines
     ∙ n.system.is_table) in
-    let says : m.policy_lines ≡ n.policy_lines = ok_is m.policy_lines n.policy_lines
-    (sym (text_read _ policy_says policy m.policy_lines m.is_policy)
-    ∙ text_read _ policy_says policy n.policy_lines n.is_policy) in
+    let says : m.says ≡ n.says = ok_is m.says n.says
+    (sym (text_read _ policy_says policy m.says m.is_policy)
+    ∙ text_read _ policy_says policy n.says n.is_policy) in
     let forbidden : a.lines ≡ b.lines = ok_is a.lines b.lines
-    (sym m.is_claim ∙ ap (λ t. forbidden_lines t m.policy_lines) table
-    ∙ ap (λ l. forbidden_lines b.table l) says ∙ n.is_claim) in
+    (sym m.is_claim ∙ ap (λ t. forbidden_lines t (policy_lines m.known m.says)) table
+    ∙ ap (λ k. forbidden_lines b.table (policy_lines k m.says)) known
+    ∙ ap (λ l. forbidden_lines b.table (policy_lines n.known l)) says ∙ n.is_claim) in
     let with_table : Table → Claimed = λ t. record { table = t; lines = a.lines } in
     let with_lines : List ForbiddenLine → Claimed = λ l. record { table = b.table; lines = l } in
     ap with_table table ∙ ap with_lines forbidden

@@ -22,7 +22,7 @@ pub sound_of : (defs : List (List ℕ)) (wiring policy : List ℕ) (claim : Clai
 sound_of defs wiring policy claim mean =
     let system = mean.system in
     table_is_sound claim.table
-    (resolved_is_table system.is_wiring.edition system.interfaces mean.lines claim.table
+    (resolved_is_table system.edition system.interfaces mean.lines claim.table
     system.is_table)
 
 pub yes_safe : YesIsSafe

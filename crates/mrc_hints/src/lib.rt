@@ -20,6 +20,7 @@ mod script_hints;
 mod script_notes;
 mod script_usage;
 mod script_words;
+mod wide_hints;
 
 pub use mig_hints::mig_hint;
 pub use mig_places::argument_line;
@@ -27,3 +28,4 @@ pub use mig_second::second_mig_hint;
 pub use mig_sources::marked_name;
 pub use name_hints::{names_hint, policy_name_hint, wiring_name_hint};
 pub use script_hints::script_hint;
+pub use wide_hints::{stand_hint, wide_line_hint, wide_name_hint};

@@ -5,6 +5,7 @@ ghost use Rattle.std.specs.Prelude.{◌<◌, length, IfSome};
 use crate::known_names::{Known, Unknown, name_of};
 use crate::named::Named;
 use mrc_base::OrMemory;
+use mrc_base::limits::{FEW_INTERFACES, INTERFACES};
 use mrc_forms::Interface;
 use mrc_place::{did_you_mean, listed, nearest, one_note};
 use mrc_wiring_text::{Edition, wiring_edition};
@@ -217,13 +218,16 @@ pub(crate) fn twin_notes(
 /// How many files a wiring of this text may have, and what one more is.
 fn one_too_many(alloc: Global, wiring: &str) -> Result<(usize, &'static str), AllocError> {
     match wiring_edition(alloc, wiring.as_bytes()) {
-        Ok(Edition::Third) => Ok((256, "is the 257th MIG file: a wiring has at most 256")),
-        Err(OrMemory::Memory) => Err(AllocError),
-        _ => {
+        Ok(Edition::First) | Ok(Edition::Second) => {
             let text = "is the 17th MIG file: a wiring of version 1 or 2 has at most 16, one of \
                         version 3 has 256";
-            Ok((16, text))
+            Ok((FEW_INTERFACES, text))
         }
+        Err(OrMemory::Memory) => Err(AllocError),
+        _ => Ok((
+            INTERFACES,
+            "is the 257th MIG file: a wiring has at most 256",
+        )),
     }
 }
 

@@ -62,9 +62,12 @@ fn line_phrases(
 /// What may be at a place, in words.
 fn phrases(alloc: Global, edition: Edition, place: Place) -> Result<Vec<&'static str>, AllocError> {
     match place {
-        Place::WiringHead => Vec::from_slice(alloc, &["wiring 1", "wiring 2", "wiring 3"]),
+        Place::WiringHead => Vec::from_slice(
+            alloc,
+            &["wiring 1", "wiring 2", "wiring 3", "wiring 4"],
+        ),
         Place::PolicyHead => Vec::from_slice(alloc, &["policy 1", "policy 2"]),
-        Place::WiringVersion => Vec::from_slice(alloc, &["1", "2", "3"]),
+        Place::WiringVersion => Vec::from_slice(alloc, &["1", "2", "3", "4"]),
         Place::PolicyVersion => Vec::from_slice(alloc, &["1", "2"]),
         _ => line_phrases(alloc, edition, place),
     }

@@ -5,13 +5,13 @@ use Rattle.std.proofs.lemmas.List.Elements.{All-weaker}
 use Rattle.mrc_base.specs.Reading.{◌>>=◌}
 use Rattle.mrc_forms.specs.Tables.{Table as Interface}
 use Rattle.mrc_interface.specs.Reading.{step, interfaces_of}
-use Rattle.mrc_wiring_text.specs.Policy.{policy_of}
+use Rattle.mrc_stand_for.specs.declared.known.Known.{Known}
 use Rattle.mrc_wiring.specs.Table.{Table}
 use Rattle.mrc_wiring.specs.Claims.{Claimed, forbidden_lines}
 use Rattle.mrc_check.specs.declared.faults.PolicyFault.{PolicyFault}
-use Rattle.mrc_check.specs.declared.faults.PolicyFault.TheVariants.{Text, Lines}
+use Rattle.mrc_check.specs.declared.faults.PolicyFault.TheVariants.{Lines}
 use Rattle.mrc_check.specs.Texts.{InDefs, InWiring, InPolicy, Meant, Stated, system_over, claim_of}
-use Rattle.mrc_check.specs.Texts.{stated_by, stated_of, stated_over}
+use Rattle.mrc_check.specs.Texts.{policy_over, stated_by, stated_of, stated_over}
 use Rattle.mrc_mend.specs.declared.answers.Answer.{Answer}
 use Rattle.mrc_mend.specs.declared.answers.Answer.TheVariants.{Nothing, Found}
 use Rattle.mrc_mend.specs.declared.answers.Mend.{Mend}
@@ -25,11 +25,16 @@ after_step : {A B E F : Type 0} (P : B → Type 0) (place : E → F) (r : Result
 after_step P place (Ok x) f holds = holds x
 after_step P place (Err fault) f holds = tt
 
+after_bind : {A B F : Type 0} (P : B → Type 0) (r : Result A F) (f : A → Result B F)
+    → ((x : A) → IfOk (f x) P) → IfOk (r >>= f) P
+after_bind P (Ok x) f holds = holds x
+after_bind P (Err fault) f holds = tt
+
 -- a claim has the table that it is made of
-claim_kept : (table : Table) (policy : List ℕ)
-    → IfOk (claim_of table policy) (λ claim. claim.table ≡ table)
-claim_kept table policy =
-    after_step _ Text (policy_of policy) _
+claim_kept : (known : Known) (table : Table) (policy : List ℕ)
+    → IfOk (claim_of known table policy) (λ claim. claim.table ≡ table)
+claim_kept known table policy =
+    after_bind _ (policy_over known policy) _
     (λ says. after_step _ Lines (forbidden_lines table says) _ (λ lines. refl))
 
 stated_kept : (system : Meant) (claim : Result Claimed PolicyFault)
@@ -45,7 +50,8 @@ pub table_kept : (system : Meant) (policy : List ℕ) (stated : Stated)
     → stated.claim.table ≡ system.table
 table_kept system policy stated e =
     subst (λ r. IfOk r (λ (stated : Stated). stated.claim.table ≡ system.table)) e
-    (stated_kept system (claim_of system.table policy) (claim_kept system.table policy))
+    (stated_kept system (claim_of system.known system.table policy)
+    (claim_kept system.known system.table policy))
 
 -- if the files have these interfaces, what the files mean is what is meant over them
 pub stated_same : (defs : List (List ℕ)) (wiring policy : List ℕ) (interfaces : List Interface)

@@ -191,7 +191,13 @@ fn without_item(
     }))
 }
 
-/// The line of the class without the item; none if no line says that the class accepts it.
+/// Whether one line alone has this number: of version 4 a line can stand for several.
+fn is_alone(lines: &[WiringLine], number: u32) -> bool {
+    lines.iter().filter(|line| line.number == number).count() == 1
+}
+
+/// The line of the class without the item; none if no line says that the class accepts it, or the
+/// line says it of other classes too.
 pub(crate) fn narrowed(
     alloc: Global,
     edition: Edition,
@@ -201,6 +207,9 @@ pub(crate) fn narrowed(
 ) -> Result<Option<Narrowing>, AllocError> {
     for line in lines {
         if let Some(items) = items_for(&line.says, label) {
+            if !is_alone(lines, line.number) {
+                return Ok(None);
+            }
             return without_item(alloc, edition, line, items, item);
         }
     }

@@ -2,6 +2,7 @@
 //! their slots take.
 
 use crate::promises::{class_of, class_words};
+use mrc_base::limits::KINDS;
 use mrc_wiring_text::{ClassName, Item, WiringLine, WiringSays};
 use serde::Serialize;
 use std::alloc::{AllocError, Global};
@@ -125,7 +126,7 @@ fn add_births<'a>(
     births: &BirthLines<'a>,
     task: &'a str,
 ) -> Result<(), AllocError> {
-    for kind in 0..16u8 {
+    for kind in 0..KINDS {
         if let Some(one) = births_delivered(alloc, births, task, kind)? {
             all.push(one)?;
         }

@@ -3,6 +3,7 @@
 
 mod common;
 mod enforced;
+mod expanded;
 mod json;
 mod json_attacks;
 mod json_chains;
@@ -24,6 +25,7 @@ mod sarif_results;
 mod slots;
 
 pub use common::{Common, common_of};
+pub use expanded::expanded_text;
 pub use json::Making;
 pub use json_attacks::attacks_json;
 pub use json_chains::{chain_json, none_json, undrawn_json};

@@ -4,7 +4,8 @@ use Rattle.mrc_command.specs.declared.command.Command.TheVariants as commands
 use Rattle.mrc_command.specs.declared.command.Question.{Question}
 use Rattle.mrc_command.specs.declared.command.Question.TheVariants.{Verify, Mend, Attack, Check}
 use Rattle.mrc_command.specs.declared.command.Question.TheVariants.{Make, Explain, Facts, Graph}
-use Rattle.mrc_command.specs.declared.command.Question.TheVariants.{Slots, Promises, Replay, Live}
+use Rattle.mrc_command.specs.declared.command.Question.TheVariants.{Slots, Promises, Expand, Replay}
+use Rattle.mrc_command.specs.declared.command.Question.TheVariants.{Live}
 use Rattle.mrc_files.specs.Files.{Held}
 use Rattle.mrc_answer.specs.declared.answers.Answer.{Answer}
 use Rattle.mrc_answer.specs.declared.answers.Answer.TheVariants as answers
@@ -32,6 +33,7 @@ of_question before after (Facts task class right format) files b notices is = ab
 of_question before after (Graph fact task holds format) files b notices is = absurd is.0
 of_question before after (Slots format) files b notices is = absurd is.0
 of_question before after (Promises format) files b notices is = absurd is.0
+of_question before after Expand files b notices is = absurd is.0
 of_question before after (Replay format) files b notices is = absurd is.0
 of_question before after (Live format) files b notices is = absurd is.0
 
@@ -68,6 +70,7 @@ of_reply before after command read (answers.Drawing d) notices is = tt
 of_reply before after command read (answers.NoDrawing u) notices is = tt
 of_reply before after command read (answers.Slots s) notices is = tt
 of_reply before after command read (answers.Promises s) notices is = tt
+of_reply before after command read (answers.Expanded e) notices is = tt
 of_reply before after command read (answers.Replay r) notices is = tt
 of_reply before after command read (answers.Journal j) notices is = tt
 of_reply before after command read (answers.Waits w) notices is = tt

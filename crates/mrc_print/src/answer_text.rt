@@ -14,7 +14,7 @@ use mrc_attack::{Listing, attacks_text};
 use mrc_command::Showing;
 use mrc_draw::{facts_text, graph_text};
 use mrc_mend::mends_text;
-use mrc_objects::{TextLines, promises_text, slots_text};
+use mrc_objects::{TextLines, expanded_text, promises_text, slots_text};
 use mrc_why::{Layout, Sources, chain_text, plain_lines};
 use std::alloc::{AllocError, Global};
 
@@ -108,6 +108,9 @@ fn listing_text(
         }
         Answer::Slots(system) => slots_text(alloc, system),
         Answer::Promises(system) => promises_text(alloc, system.lines.as_slice()),
+        Answer::Expanded(expanded) => {
+            expanded_text(alloc, expanded.older, expanded.system.lines.as_slice())
+        }
         _ => Ok(String::new(alloc)),
     }
 }
@@ -148,6 +151,7 @@ pub(crate) fn answer_text(
         | Answer::Facts(_)
         | Answer::Drawing(_)
         | Answer::Slots(_)
-        | Answer::Promises(_) => listing_text(alloc, asked, answer),
+        | Answer::Promises(_)
+        | Answer::Expanded(_) => listing_text(alloc, asked, answer),
     }
 }

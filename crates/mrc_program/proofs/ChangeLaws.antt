@@ -17,7 +17,8 @@ use Rattle.mrc_command.specs.declared.command.FileNames.{FileNames}
 use Rattle.mrc_command.specs.declared.command.Question.{Question}
 use Rattle.mrc_command.specs.declared.command.Question.TheVariants.{Verify, Mend, Attack, Check}
 use Rattle.mrc_command.specs.declared.command.Question.TheVariants.{Make, Explain, Facts, Graph}
-use Rattle.mrc_command.specs.declared.command.Question.TheVariants.{Slots, Promises, Replay, Live}
+use Rattle.mrc_command.specs.declared.command.Question.TheVariants.{Slots, Promises, Expand, Replay}
+use Rattle.mrc_command.specs.declared.command.Question.TheVariants.{Live}
 use Rattle.mrc_command.specs.Meaning.{asked_format}
 use Rattle.mrc_files.specs.Files.{Held}
 use Rattle.mrc_program.specs.Runs.{Changes, HasOut, seen}
@@ -37,6 +38,7 @@ made_changes before after (Facts task class right format) files count notices is
 made_changes before after (Graph fact task holds format) files count notices is = absurd is.0
 made_changes before after (Slots format) files count notices is = absurd is.0
 made_changes before after (Promises format) files count notices is = absurd is.0
+made_changes before after Expand files count notices is = absurd is.0
 made_changes before after (Replay format) files count notices is = absurd is.0
 made_changes before after (Live format) files count notices is = absurd is.0
 
@@ -55,6 +57,7 @@ mig_changes before after (Facts task class right format) files mig_texts notices
 mig_changes before after (Graph fact task holds format) files mig_texts notices is = absurd is.0
 mig_changes before after (Slots format) files mig_texts notices is = absurd is.0
 mig_changes before after (Promises format) files mig_texts notices is = absurd is.0
+mig_changes before after Expand files mig_texts notices is = absurd is.0
 mig_changes before after (Replay format) files mig_texts notices is = absurd is.0
 mig_changes before after (Live format) files mig_texts notices is = absurd is.0
 
@@ -73,6 +76,7 @@ unwritten_changes before after (Facts task class right format) files u notices i
 unwritten_changes before after (Graph fact task holds format) files u notices is = absurd is.0
 unwritten_changes before after (Slots format) files u notices is = absurd is.0
 unwritten_changes before after (Promises format) files u notices is = absurd is.0
+unwritten_changes before after Expand files u notices is = absurd is.0
 unwritten_changes before after (Replay format) files u notices is = absurd is.0
 unwritten_changes before after (Live format) files u notices is = absurd is.0
 
