@@ -217,7 +217,7 @@ machcheck: w: BadLine 2
 w:2:1
   policy 1
   ^^^^^^
-  expected: wiring 1, wiring 2 or wiring 3
+  expected: wiring 1, wiring 2, wiring 3 or wiring 4
   this is the heading of a policy: the options --wiring and --policy may be exchanged
 """)
 wiring("no heading", "task a\n", """\
@@ -225,14 +225,14 @@ machcheck: w: BadLine 1
 w:1:1
   task a
   ^^^^
-  expected: wiring 1, wiring 2 or wiring 3
+  expected: wiring 1, wiring 2, wiring 3 or wiring 4
 """)
 wiring("a typo in the heading", "wirnig 1\ntask a\n", """\
 machcheck: w: BadLine 1
 w:1:1
   wirnig 1
   ^^^^^^
-  expected: wiring 1, wiring 2 or wiring 3
+  expected: wiring 1, wiring 2, wiring 3 or wiring 4
   did you mean: wiring
 """)
 wiring("a heading without its number", "wiring\n", """\
@@ -240,33 +240,33 @@ machcheck: w: BadLine 1
 w:1:7
   wiring
         ^
-  expected: 1, 2 or 3
+  expected: 1, 2, 3 or 4
 """)
-wiring("another version", "# x\nwiring 4 # later\n", """\
+wiring("another version", "# x\nwiring 5 # later\n", """\
 machcheck: w: Version
 w:2:8
-  wiring 4 # later
+  wiring 5 # later
          ^
-  expected: 1, 2 or 3
+  expected: 1, 2, 3 or 4
 """)
 wiring("a byte-order mark", "\ufeffwiring 1\n", """\
 machcheck: w: BadLine 1
 w:1:1
   \ufeffwiring 1
   ^^^^^^^
-  expected: wiring 1, wiring 2 or wiring 3
+  expected: wiring 1, wiring 2, wiring 3 or wiring 4
   the file begins with a byte-order mark: save it without one
 """)
 wiring("an empty file", "", """\
 machcheck: w: BadLine 1
-  expected: wiring 1, wiring 2 or wiring 3
+  expected: wiring 1, wiring 2, wiring 3 or wiring 4
 """)
 wiring("a comment alone", "# nothing\n", """\
 machcheck: w: BadLine 1
 w:1:1
   # nothing
   ^
-  expected: wiring 1, wiring 2 or wiring 3
+  expected: wiring 1, wiring 2, wiring 3 or wiring 4
 """)
 wiring("a carriage return at each end", "wiring 1\r\ntask a\r\nholds a send task a\r\n", """\
 machcheck: w: BadLine 3

@@ -410,7 +410,7 @@ fault("too many MIG files", " ".join(["facts --wiring w", *(f"d{n}" for n in ran
       {"w": "wiring 1\n", **{f"d{n}": f"subsystem s{n} 5;\n" for n in range(17)}}, "TooMany 0", "w", None,
       ["d16 is the 17th MIG file: a wiring of version 1 or 2 has at most 16, one of version 3 has 256"])
 fault("an empty wiring", "facts --wiring w", {"w": ""}, "BadLine 1", "w", None,
-      ["expected: wiring 1, wiring 2 or wiring 3"])
+      ["expected: wiring 1, wiring 2, wiring 3 or wiring 4"])
 fault("a word of an option", "facts --task nobody --wiring w", {"w": LOADER}, "BadTask", "--task", None,
       ["the wiring has no task of this name", "tasks of the wiring: loader, server"])
 fault("a class of an option", "facts --class nobody --wiring w", {"w": "wiring 1\n"}, "BadClass", "--class", None,

@@ -21,6 +21,7 @@ OPTIONS = {command: options.split(" ") for command, options in {
     "graph": "wiring cert policy fact task holds format verbose",
     "slots": "wiring format verbose",
     "promises": "wiring format verbose",
+    "expand": "wiring verbose",
     "replay": "wiring script format verbose",
     "live": "wiring policy cert script format verbose",
     "mig": "out strict strict-rights as-received format verbose",
