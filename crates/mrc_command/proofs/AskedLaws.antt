@@ -31,7 +31,7 @@ names_subcommand name rows (Case files (Facts task class right format)) is = sym
 names_subcommand name rows (Case files (Graph fact task holds format)) is = sym is.1.0
 names_subcommand name rows (Case files (Slots format)) is = sym is.1.0
 names_subcommand name rows (Case files (Promises format)) is = sym is.1.0
-names_subcommand name rows (Case files Expand) is = sym is.1.0
+names_subcommand name rows (Case files Expand) is = sym is.1
 names_subcommand name rows (Case files (Replay format)) is = sym is.1.0
 names_subcommand name rows (Case files (Live format)) is = sym is.1.0
 names_subcommand name rows (Mig files) is = sym is.0
@@ -48,8 +48,7 @@ format_of_options name rows (Case files (Facts task class right format)) is has 
 format_of_options name rows (Case files (Graph fact task holds format)) is has = is.1.4
 format_of_options name rows (Case files (Slots format)) is has = is.1.1
 format_of_options name rows (Case files (Promises format)) is has = is.1.1
-format_of_options name rows (Case files Expand) is has =
-    absurd (false≢true (other is.1.0 has))
+format_of_options name rows (Case files Expand) is has = absurd (false≢true (other is.1 has))
 format_of_options name rows (Case files (Replay format)) is has = is.1.1
 format_of_options name rows (Case files (Live format)) is has = is.1.1
 format_of_options name rows (Mig files) is has = is.1.format

@@ -1,3 +1,4 @@
 pub mod Numbers
 pub mod Quiet
 pub mod SlotSteps
+pub mod Written

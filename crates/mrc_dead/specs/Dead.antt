@@ -64,23 +64,49 @@ class_declared table (says.Port name receiver items) = number_of table.ports nam
 class_declared table (says.Births task kind items) = births_declared table task kind items
 class_declared table other = None
 
--- the line of this number and its class, if they are to be in the list
-abbrev pub quiet_if : Bool → ℕ → ℕ → List QuietLine
-quiet_if true n c = record { line = n; class = c } ∷ []
-quiet_if false n c = []
+-- a class, if there is one, as a list
+abbrev pub class_list : Option ℕ → List ℕ
+class_list None = []
+class_list (Some c) = c ∷ []
 
--- the line of this number, if it declares a class that is quiet
-abbrev pub quiet_line : Table → (Fact → Bool) → ℕ → Option ℕ → List QuietLine
-quiet_line table set n None = []
-quiet_line table set n (Some c) = quiet_if (is_quiet (wiring_of table) set c) n c
+-- a line as it is written: its number, and the classes that lines of this number declare, which
+-- stand side by side
+pub record Written : Type 0 where
+  pub line : ℕ
+  pub classes : List ℕ
 
--- the same of a line
-abbrev pub quiet_by : Table → (Fact → Bool) → Line WiringSays → List QuietLine
-quiet_by table set line = quiet_line table set line.number (class_declared table line.says)
+-- classes that a line of this number declares, in front of written lines: part of the first of them
+-- if that has the number
+abbrev pub in_front : ℕ → List ℕ → List Written → List Written
+in_front n cs [] = record { line = n; classes = cs } ∷ []
+in_front n cs (w ∷ ws) =
+    if n == w.line then record { line = n; classes = cs ++ w.classes } ∷ ws
+    else record { line = n; classes = cs } ∷ w ∷ ws
+
+-- lines as they are written
+abbrev pub written_lines : Table → List (Line WiringSays) → List Written
+written_lines table [] = []
+written_lines table (line ∷ lines) =
+    in_front line.number (class_list (class_declared table line.says)) (written_lines table lines)
+
+-- the line of this number, its first class and how many more it has, if it is to be in the list
+abbrev pub quiet_if : Bool → ℕ → ℕ → ℕ → List QuietLine
+quiet_if true n c more = record { line = n; class = c; more = more } ∷ []
+quiet_if false n c more = []
+
+-- the line of this number, if it declares these classes, there is one, and all are quiet
+abbrev pub quiet_line : Table → (Fact → Bool) → ℕ → List ℕ → List QuietLine
+quiet_line table set n [] = []
+quiet_line table set n (c ∷ cs) =
+    quiet_if (list_all (is_quiet (wiring_of table) set) (c ∷ cs)) n c (length cs)
+
+-- the same of a written line
+abbrev pub quiet_written : Table → (Fact → Bool) → Written → List QuietLine
+quiet_written table set w = quiet_line table set w.line w.classes
 
 -- all such lines, in their order
 abbrev pub quiet_lines : Table → (Fact → Bool) → List (Line WiringSays) → List QuietLine
-quiet_lines table set lines = flat_map (quiet_by table set) lines
+quiet_lines table set lines = flat_map (quiet_written table set) (written_lines table lines)
 
 -- Interfaces that may be asked, but never with a port that accepts their replies.
 

@@ -1,5 +1,6 @@
--- Step. What the search for slots that never carry a right knows. This profile's own choice.
-use Rattle.std.specs.Prelude.{◌≡◌, ℕ, ◌<◌, Bool, List, length, Vec}
+-- Step. What the search for slots that never carry a right knows, and what is done where a written
+-- line ends. This profile's own choice.
+use Rattle.std.specs.Prelude.{◌≡◌, ℕ, ◌<◌, ◌==◌, Bool, List, [], length, Vec, if◌then◌else◌}
 use Rattle.std.specs.declared.alloc.Global.{Global}
 use Rattle.mrc_base.specs.declared.Fact.{Fact}
 use Rattle.mrc_facts.specs.Sets.{has}
@@ -8,11 +9,12 @@ use Rattle.mrc_forms.specs.declared.form.MessageKind.TheVariants as messages
 use Rattle.mrc_model.specs.Wiring.{Wiring}
 use Rattle.mrc_rows.specs.Rows.{words_of}
 use Rattle.mrc_wiring.specs.Finding.{item_of}
-use Rattle.mrc_wiring.specs.Table.{wiring_of}
+use Rattle.mrc_wiring.specs.Table.{Table, wiring_of}
+use Rattle.mrc_dead.specs.declared.parts.QuietLine.{QuietLine}
 use Rattle.mrc_dead.specs.declared.slots.Judged.{Judged}
 use Rattle.mrc_dead.specs.declared.slots.Search.{Search}
 use Rattle.mrc_dead.specs.Asking.{askers}
-use Rattle.mrc_dead.specs.Dead.{Wanted}
+use Rattle.mrc_dead.specs.Dead.{Wanted, quiet_line}
 
 -- the rows are the tasks that may ask for this message of each interface
 pub record AreAskers
@@ -49,3 +51,12 @@ pub record KnowsAskers (search : Search) : Type 0 where
   pub replies_are : search.replies.now
       ≡ askers (wiring_of search.wired.now) (has search.facts.now)
       (item_of messages.Reply search.interface)
+
+-- the classes so far of the line of this number, behind those of the last line: these, if it is
+-- that line
+abbrev pub going_on : (last number : ℕ) → List ℕ → List ℕ
+going_on last number cs = if last == number then cs else []
+
+-- the last line, if it ends in front of the line of this number and is quiet
+abbrev pub ended : Table → (Fact → Bool) → (last number : ℕ) → List ℕ → List QuietLine
+ended table set last number cs = if last == number then [] else quiet_line table set last cs

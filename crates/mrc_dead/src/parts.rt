@@ -7,13 +7,15 @@ use mrc_base::ClassId;
 use std::alloc::Global;
 use std::marker::Model;
 
-/// A line of a wiring that declares a class at which no task may ask another.
+/// A line of a wiring that declares classes, at none of which a task may ask another.
 #[derive(Clone, Copy, Debug, PartialEq, Eq)]
 pub struct QuietLine {
     /// The line's number in the text, from 1.
     pub line: u32,
-    /// The class.
+    /// The class that it declares first.
     pub class: ClassId,
+    /// How many more it declares: in versions before 4 none.
+    pub more: usize,
 }
 
 /// A slot by the names of its routine and of its argument.

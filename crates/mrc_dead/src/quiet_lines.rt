@@ -1,10 +1,14 @@
 //! Lines of ports to which no other task may ever send.
 
 ghost use Rattle.std.specs.Prelude.{◌≡◌, ◌++◌, IfOk, OnOk};
+ghost use Rattle.std.specs.List.{list_all};
 ghost use Rattle.mrc_facts.specs.Sets.{has};
 ghost use Rattle.mrc_name_table.specs.Names.{number_of};
-ghost use Rattle.mrc_dead.specs.Dead.{births_declared, class_declared, quiet_line, quiet_by};
+ghost use Rattle.mrc_wiring.specs.Table.{wiring_of};
+ghost use Rattle.mrc_dead.specs.Asking.{is_quiet};
+ghost use Rattle.mrc_dead.specs.Dead.{births_declared, class_declared, class_list, quiet_line};
 ghost use Rattle.mrc_dead.specs.Dead.{quiet_lines};
+ghost use Rattle.mrc_dead.specs.Searching.{going_on, ended};
 
 use crate::asking::is_quiet;
 use crate::parts::QuietLine;
@@ -57,44 +61,73 @@ fn class_declared(
     }
 }
 
-/// Puts the line of this number at the end, if it declares a class that is quiet.
+/// Whether all of these classes are quiet.
+fn are_quiet(wired: &Wired, facts: &Facts, classes: &[ClassId]) -> bool
+    ensures { result ≡ list_all (is_quiet (wiring_of wired.now) (has facts.now)) classes.now }
+{
+    classes.iter().all(|class| is_quiet(wired, facts, class.0))
+}
+
+/// Puts the line of this number at the end, if it declares these classes and all are quiet.
 fn push_quiet(
     wired: &Wired,
     facts: &Facts,
     number: u32,
-    class: Option<ClassId>,
+    classes: &[ClassId],
     quiet: &mut Vec<QuietLine>,
 ) -> Result<(), AllocError>
     ensures { OnOk result (quiet.new.items
-        ≡ quiet.old.items ++ quiet_line wired.now (has facts.now) number class) }
+        ≡ quiet.old.items ++ quiet_line wired.now (has facts.now) number classes.now) }
 {
-    if let Some(class) = class {
-        if is_quiet(wired, facts, class.0) {
+    if let Some((first, others)) = classes.split_first() {
+        if are_quiet(wired, facts, classes) {
             quiet.push(QuietLine {
                 line: number,
-                class,
+                class: *first,
+                more: others.len(),
             })?;
         }
     }
     Ok(())
 }
 
-/// The same of a line.
-fn judge_line(
-    alloc: Global,
+/// Begins the written line of this number, if it is not the last one, which is then judged.
+fn begin_line(
     wired: &Wired,
-    line: &WiringLine,
     facts: &Facts,
+    number: u32,
+    last: u32,
+    classes: &mut Vec<ClassId>,
     quiet: &mut Vec<QuietLine>,
 ) -> Result<(), AllocError>
-    ensures { OnOk result (quiet.new.items
-        ≡ quiet.old.items ++ quiet_by wired.now (has facts.now) line.now) }
+    ensures classes { OnOk result (classes.new.items ≡ going_on last number classes.old.items) }
+    ensures quiet { OnOk result (quiet.new.items ≡ quiet.old.items
+        ++ ended wired.now (has facts.now) last number classes.old.items) }
 {
-    let class = class_declared(alloc, wired, &line.says)?;
-    push_quiet(wired, facts, line.number, class, quiet)
+    if last != number {
+        push_quiet(wired, facts, last, classes.as_slice(), quiet)?;
+        classes.clear();
+    }
+    Ok(())
 }
 
-/// The lines that declare a class that is quiet, in their order.
+/// Adds the class that a line declares.
+fn push_declared(
+    alloc: Global,
+    wired: &Wired,
+    says: &WiringSays,
+    classes: &mut Vec<ClassId>,
+) -> Result<(), AllocError>
+    ensures { OnOk result (classes.new.items
+        ≡ classes.old.items ++ class_list (class_declared wired.now says.now)) }
+{
+    if let Some(class) = class_declared(alloc, wired, says)? {
+        classes.push(class)?;
+    }
+    Ok(())
+}
+
+/// The lines that declare classes which are all quiet, in their order.
 pub(crate) fn quiet_lines(
     alloc: Global,
     wired: &Wired,
@@ -105,8 +138,13 @@ pub(crate) fn quiet_lines(
         ≡ quiet_lines wired.now (has facts.now) lines.now) }
 {
     let mut quiet = Vec::new(alloc);
+    let mut last = 0u32;
+    let mut classes = Vec::new(alloc);
     for line in lines {
-        judge_line(alloc, wired, line, facts, &mut quiet)?;
+        begin_line(wired, facts, line.number, last, &mut classes, &mut quiet)?;
+        push_declared(alloc, wired, &line.says, &mut classes)?;
+        last = line.number;
     }
+    push_quiet(wired, facts, last, classes.as_slice(), &mut quiet)?;
     Ok(quiet)
 }

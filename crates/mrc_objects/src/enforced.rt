@@ -209,7 +209,9 @@ fn add_line(
     number: u32,
     class: &Option<ClassName>,
 ) -> Result<(), AllocError> {
-    admitted.lines.push(number)?;
+    if admitted.lines.last().copied() != Some(number) {
+        admitted.lines.push(number)?;
+    }
     if let Some(class) = class {
         let words = class_words(alloc, class)?;
         if !admitted

@@ -155,8 +155,12 @@ fn quiet_line(
 ) -> Result<String, AllocError>
     ensures { IfOk result (λ line. string_bytes line ≡ [] → ⊥) }
 {
-    let class = class_text(alloc, printed, quiet.class)?;
-    let text = format!(in alloc; "no other task may ever send to {class}")?;
+    let ports = if quiet.more == 0 {
+        class_text(alloc, printed, quiet.class)?
+    } else {
+        String::from_str(alloc, "the ports of this line")?
+    };
+    let text = format!(in alloc; "no other task may ever send to {ports}")?;
     line_at(alloc, printed, quiet.line, text.as_str())
 }
 

@@ -1,9 +1,10 @@
-use Rattle.std.proofs.Common.{◌≡◌, take}
+use Rattle.std.proofs.Common.{drop}
 use Rattle.mrc_facts.specs.Sets.{has}
-use Rattle.mrc_dead.specs.Dead.{quiet_lines}
+use Rattle.mrc_dead.proofs.Written.{ToldSoFar}
 use Rattle.mrc_dead.proofs.quiet_lines.quiet_lines.Given as goal
 
--- those of the lines so far
+-- what is told of the lines so far, and the classes of the last of them
 abbrev pub invariant-loop-line : goal.invariant-loop-line
 invariant-loop-line l =
-    l.quiet.items ≡ quiet_lines l.wired (has l.facts) (take l.line-index l.lines)
+    ToldSoFar l.wired (has l.facts) l.lines l.quiet.items l.last l.classes.items
+    (drop l.line-index l.lines)
