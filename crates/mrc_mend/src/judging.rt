@@ -151,7 +151,15 @@ pub(crate) fn stated_over(
 {
     match System::over(alloc, interfaces, wiring)?.claim(alloc, policy) {
         Ok(stated) => Ok(stated),
-        Err((system, refusal)) => Err((system.wired.into_interfaces(), refusal)),
+        Err((system, refusal)) => {
+            let System {
+                lines,
+                known,
+                wired,
+            } = system;
+            drop((lines, known));
+            Err((wired.into_interfaces(), refusal))
+        }
     }
 }
 
