@@ -5,9 +5,8 @@
     tests/oracles/expand.py --random N [SEED]    prints N random texts, each behind a line with `right` or its fault
     tests/oracles/expand.py --rows               compares with the rows of tests/rows that expand a wiring
 
-Written from what the language is, not from the program. Texts of versions 1 to 3 are read if they have no fault of the
-grammar; faults of names are found in each version. Below are also the makers of random texts, which tests/oracles/verify
-and tests/oracles/replays use.
+Written from what the language is, not from the program. Below are also the makers of random texts, which
+tests/oracles/verify and tests/oracles/replays use.
 """
 
 import copy
@@ -597,19 +596,38 @@ def read_text(data):
     if text.removesuffix("\n").count("\n") >= MOST_LINES:
         raise Fault(f"BadLine {MOST_LINES + 1}")
     version, lines = version_of(text)
-    if version < 4:
-        return version, [(number, plain(words, version)) for number, words in lines]
     said = []
     for number, words in lines:
         try:
-            said.append((number, read_line(words)))
+            said.append((number, read_line(words) if version == 4 else plain(words, version)))
         except NoLine:
             raise Fault(f"BadLine {number}") from None
     return version, said
 
 
+def is_older_line(words, version):
+    """Whether words are a line of a version before 4."""
+    name, kind = "[A-Za-z_][A-Za-z0-9_]{0,63}", "0*(?:[0-9]|1[0-5])"
+    item = f"(?:request {name}|reply {name}|destroyed)"
+    items, of_kind = f"(?:none|{item}(?: , {item})*)", f"(?: {kind})?" if version > 1 else ""
+    one_class = f"(?:port {name}|task {name}|births {name}{of_kind})"
+    lines = [
+        f"task {name}", f"port {name} receiver {name} accepts {items}",
+        f"births {name}{f' {kind}' if version > 1 else ''} accepts {items}",
+        f"hold {name} send (?:port|task) {name}", f"hold {name} once port {name}",
+        rf"admit {name}\.{name} (?:none|{one_class})",
+    ]
+    if version == 3:
+        of_right = f"(?:send|receive|once) {one_class}"
+        lines += [f"trust {name} (?:takes|gives|sends) (?:none|{of_right})", "replies fit"]
+        lines += [f"trust {name} replies (?:none|{one_class})"]
+    return any(re.fullmatch(line, " ".join(words)) for line in lines)
+
+
 def plain(words, version):
     """The words of an older line without leading zeros of kinds, and without kind 0 of a CLASS."""
+    if not is_older_line(words, version):
+        raise NoLine
     key = words[0]
     if key == "births" and version > 1:
         return [*words[:2], str(int(words[2])), *words[3:]]
@@ -913,7 +931,7 @@ def compared_rows(mig):
             if isinstance(row, Entry) or not name.startswith("expand-"):
                 continue
             told = prepare(row, Path(folder))
-            words = words_in(told)
+            words = [word.decode() for word in words_in(told)]
             if words[0] != "expand" or words[1] != "--wiring":
                 continue
             files = [mig((Path(folder) / file).read_text()).interface() for file in words[3:]]
