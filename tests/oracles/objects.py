@@ -11,6 +11,8 @@ import re
 from dataclasses import dataclass, field
 from pathlib import Path
 
+from expand import Stood, version_of
+
 COMMANDS = ["verify", "mend", "attack", "check", "explain", "facts", "graph", "slots", "promises", "replay", "live", "mig"]
 # The options with a word, and those without one.
 WORDED = ["wiring", "policy", "cert", "script", "fact", "task", "class", "right", "most", "line", "out", "format"]
@@ -485,10 +487,12 @@ def slots_object(folder, asked, texts, value):
     return value
 
 
-def promise_object(folder, asked, line):
-    """What a line of a wiring asks, by what is printed of it and by its words."""
+def promise_object(line, said):
+    """What a line of a wiring asks, by what is printed of it and by its number and words."""
     task, text, number = re.fullmatch(r"(\w+|each task): (.*) \(line (\d+)\)", line).groups()
-    words = line_of(folder / asked.options["wiring"], int(number)).split("#")[0].split()
+    asked, words = said
+    if asked != int(number):
+        raise Wrong(f"line {number} in the place of {asked}: {words}")
     made = {"class": None, "line": int(number), "right": None, "task": task, "text": text}
     if words[:1] == ["replies"]:
         return {**made, "task": None, "verb": "replies fit"}
@@ -503,7 +507,9 @@ def promise_object(folder, asked, line):
 
 
 def said_lines(text):
-    """The lines of a wiring that say something, behind its first: their numbers and words."""
+    """The lines of a wiring that say something, behind its first, or those that they stand for: their numbers and words."""
+    if version_of(text)[0] == 4:
+        return Stood(text).lines
     lines = [(number, line.split("#")[0].split()) for number, line in enumerate(text.split("\n"), 1)]
     return [(number, words) for number, words in lines if words][1:]
 
@@ -541,7 +547,7 @@ def enforced(text):
     for number, words in lines:
         if words[0] == "admit" and words[1].split(".")[0] in accepted:
             numbers, classes = sorts.setdefault(words[1], ([], []))
-            numbers.append(number)
+            numbers += [number] * (number not in numbers)
             named = class_words(words[2:])
             classes += [named] * (words[2:] != ["none"] and named not in classes)
     colons = lambda name: name.replace(" ", ":")
@@ -561,12 +567,15 @@ def enforced(text):
 
 
 def promises_object(folder, asked, texts):
-    with open(folder / asked.options["wiring"], encoding="utf-8") as file:
-        delivered, admitted, printed = enforced(file.read())
+    text = (folder / asked.options["wiring"]).read_text(encoding="utf-8")
+    delivered, admitted, printed = enforced(text)
     lines = texts.plain.lines()
     if lines[: len(printed)] != printed:
         raise Wrong(f"other promises than {printed}: {lines}")
-    promises = [promise_object(folder, asked, line) for line in lines[len(printed):]]
+    said = [(number, words) for number, words in said_lines(text) if words[0] in ("trust", "replies")]
+    if len(lines) != len(printed) + len(said):
+        raise Wrong(f"other promises than those of {said}: {lines}")
+    promises = [promise_object(*pair) for pair in zip(lines[len(printed):], said)]
     return {"admitted": admitted, "answer": "promises", "command": "promises", "delivered": delivered, "promises": promises,
             "schema": 1}
 
@@ -598,11 +607,14 @@ def forbidden_lines(folder, asked):
     if not asked.has("policy"):
         return {}
     lines, found = (folder / asked.options["policy"]).read_text().split("\n"), {}
+    members = Stood((folder / asked.options["wiring"]).read_text()).members
     for number, line in enumerate(lines, 1):
         if (words := line.split("#")[0].split())[:1] == ["forbid"]:
-            _, task, right, *of = words
-            of = [*of[:2], *(str(int(kind)) for kind in of[2:] if int(kind))]
-            found.setdefault(f"hold {task} {':'.join(of)} {right}", number)
+            _, task, right, sort, name, *kind = words
+            kind = int(kind[0]) if kind else 0
+            found.setdefault(f"hold {task} {sort}:{name}{f':{kind}' if kind else ''} {right}", number)
+            for port in members.get((name, kind), []) if sort == "births" else []:
+                found.setdefault(f"hold {task} port:{port} {right}", number)
     return found
 
 
