@@ -696,6 +696,18 @@ def live_object(folder, asked, texts):
     return {"answer": "all wait" if waits else "journal", "command": "live", "waits": lines, **events}
 
 
+# The first line of the mends of a wiring of version 4: they are of the lines that it stands for.
+EXPANDED = "# lines are those of machcheck expand"
+
+
+def mended_line(path, number):
+    """The line of a wiring that a mend means, without blanks at its ends, and its words."""
+    wiring = path.read_text()
+    is_wide = version_of(wiring)[0] == 4
+    text = Stood(wiring).text().split("\n")[number - 1] if is_wide else line_of(path, number)
+    return text, " ".join(text.split("#")[0].split())
+
+
 def change_object(folder, asked, line):
     """A line of a mend: its number, the change with how many lines it mends, and how many facts the mend loses, if the line
     says so."""
@@ -707,8 +719,8 @@ def change_object(folder, asked, line):
     lost = re.search(r"loses (\d+) facts", note or "")
     count = re.search(r"mends (\d+) (?:more )?of \d+ lines$", note or "")
     if removed:
-        text = line_of(folder / asked.options["wiring"], int(removed))
-        if " ".join(text.split("#")[0].split()) != words:
+        text, right = mended_line(folder / asked.options["wiring"], int(removed))
+        if right != words:
             raise Wrong(f"line {removed} has other words than {words}: {text}")
         change = {"kind": "remove", "line": int(removed), "text": text}
     elif changed:
@@ -723,6 +735,9 @@ def change_object(folder, asked, line):
 def mend_object(folder, asked, texts):
     told = {"command": "mend", "schema": 1}
     lines = texts.plain.lines()
+    if version_of((folder / asked.options["wiring"]).read_text())[0] == 4 and lines not in (["YES"], ["none"]):
+        if lines.pop(0) != EXPANDED:
+            raise Wrong(f"the first line is not {EXPANDED}: {texts.plain.out}")
     if lines == ["YES"]:
         return {"answer": "YES", **told}
     found = re.fullmatch(rf"# all (\d+) broken lines have ({FACT_TEXT}) in their chains", lines[0])
