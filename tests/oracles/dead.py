@@ -3,7 +3,9 @@
 Written from docs/FAULTS.md, 'Notices', not from the program.
 """
 
-from systems import GIVES, HOLD, NEEDS, ONCE, RECEIVE, SEND, Class, class_of
+from itertools import groupby
+
+from systems import GIVES, HOLD, NEEDS, ONCE, RECEIVE, SEND, Class
 
 MOST = 10
 
@@ -36,18 +38,26 @@ class Dead:
         every = {name for label in self.system.labels for word, name in label if word != "destroyed"}
         return [name for name in self.system.interfaces if name not in every]
 
+    def by_line(self):
+        """The lines of the text, each with the words of those that it stands for."""
+        for line, stood in groupby(self.system.lines, lambda pair: pair[0]):
+            yield line, [words for _, words in stood]
+
+    def declared(self, words):
+        """The class that a line declares: of a port, or of births that accept something."""
+        if words[0] == "port":
+            return Class("port", words[1])
+        at = words.index("accepts", 2) if words[0] == "births" else 0
+        if at and words[at + 1 :] != ["none"]:
+            return Class("births", words[1], int(words[2]) if at == 3 else 0)
+        return None
+
     def quiet(self):
-        """The lines that declare a class at which no task may ask another, with the class."""
-        for line, words in self.system.lines:
-            if words[0] == "port":
-                c = Class("port", words[1])
-            elif words[0] == "births" and words[words.index("accepts", 2) + 1 :] != ["none"]:
-                at = words.index("accepts", 2)
-                c = Class("births", words[1], int(words[2]) if at == 3 else 0)
-            else:
-                continue
-            if not self.asking[self.system.number[c]]:
-                yield line, c
+        """The lines that declare classes at none of which a task may ask another, with these."""
+        for line, stood in self.by_line():
+            classes = [c for c in map(self.declared, stood) if c]
+            if classes and not any(self.asking[self.system.number[c]] for c in classes):
+                yield line, classes[0].text() if len(classes) == 1 else "the ports of this line"
 
     def unanswered(self):
         """The names of the interfaces that are asked without a port for replies."""
@@ -69,35 +79,43 @@ class Dead:
             for c in range(len(self.system.classes))
         )
 
-    def dead_slots(self, of):
-        """The slots of a type that never carry a right, by ids; of an id those of the request first."""
-        name, type_name = of
-        interface = self.system.interfaces[name]
-        forms = [("request", form.id, form) for form in interface.requests]
-        forms += [("reply", form.id - 100, form) for form in interface.replies]
-        for word, _, form in sorted(forms, key=lambda found: (found[1], found[0] == "reply")):
-            askers = self.askers((word, name))
-            for slot in form.slots:
-                if slot.type == type_name and askers and not any(self.fills(t, slot, of) for t in askers):
-                    yield f"{name}.{form.routine}.{slot.argument} ({name}.{type_name})"
+    def dead_slots(self, types):
+        """The slots of these types that never carry a right, by files and ids; of an id those of the request first."""
+        for name, interface in self.system.interfaces.items():
+            forms = [("request", form.id, form) for form in interface.requests]
+            forms += [("reply", form.id - 100, form) for form in interface.replies]
+            for word, _, form in sorted(forms, key=lambda found: (found[1], found[0] == "reply")):
+                askers = self.askers((word, name))
+                for slot in form.slots:
+                    of = name, slot.type
+                    if of in types and askers and not any(self.fills(t, slot, of) for t in askers):
+                        yield f"{name}.{form.routine}.{slot.argument} ({name}.{slot.type})"
 
     def slots(self):
         """The first lines about types of which slots never carry a right, with these slots."""
+        firsts = {}
         for of, lines in self.system.admitted.items():
-            dead = list(self.dead_slots(of))
-            if dead and any(c is not None for c in lines.values()):
-                yield min(lines), dead
+            if any(lines.values()):
+                firsts.setdefault(min(lines), set()).add(of)
+        for line, types in firsts.items():
+            dead = list(self.dead_slots(types))
+            if dead:
+                yield line, dead
 
     def idle(self):
-        """The lines of `none` beside one of the same type, or of the same task and verb, that names a class."""
-        about = {}
-        for line, words in self.system.lines:
-            if words[0] in ("admit", "trust"):
-                at = 2 if words[0] == "admit" else 3
-                about.setdefault((words[0], " ".join(words[1:at])), []).append((line, words[at:] == ["none"]))
-        for (_, subject), lines in about.items():
-            if not all(is_none for _, is_none in lines):
-                yield from ((line, subject) for line, is_none in lines if is_none)
+        """The lines of nothing but `none`, each beside one of the same type, or of the same task and verb, that names a
+        class; with the first of these."""
+        subjects, named = {}, set()
+        for line, stood in self.by_line():
+            for words in stood:
+                at = {"admit": 2, "trust": 3}.get(words[0], len(words))
+                subject = words[0], " ".join(words[1:at])
+                subjects.setdefault(line, []).append((subject, words[at:] == ["none"]))
+                if words[at:] not in ([], ["none"]):
+                    named.add(subject)
+        for line, said in subjects.items():
+            if all(is_none and subject in named for subject, is_none in said):
+                yield line, said[0][0][1] + " and the like" * (len(said) > 1)
 
 
 def some(lines, wiring, kind):
@@ -116,7 +134,7 @@ def notices(system, facts, wiring, defs):
     dead = Dead(system, facts)
     told = some([f"{defs[n]}: no port accepts messages of {n}" for n in dead.unaccepted()], wiring,
                 "interfaces accepted by no port")
-    told += some([f"{wiring}:{n}: no other task may ever send to {c.text()}" for n, c in dead.quiet()], wiring,
+    told += some([f"{wiring}:{n}: no other task may ever send to {where}" for n, where in dead.quiet()], wiring,
                  "lines of ports to which no other task may ever send")
     told += some([f"{defs[n]}: {n} may be asked, but never with a port that accepts its replies"
                   for n in dead.unanswered()], wiring, "interfaces that are asked without a port for replies")

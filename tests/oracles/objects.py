@@ -11,6 +11,8 @@ import re
 from dataclasses import dataclass, field
 from pathlib import Path
 
+from expand import Stood, version_of
+
 COMMANDS = ["verify", "mend", "attack", "check", "explain", "facts", "graph", "slots", "promises", "replay", "live", "mig"]
 # The options with a word, and those without one.
 WORDED = ["wiring", "policy", "cert", "script", "fact", "task", "class", "right", "most", "line", "out", "format"]
@@ -485,10 +487,12 @@ def slots_object(folder, asked, texts, value):
     return value
 
 
-def promise_object(folder, asked, line):
-    """What a line of a wiring asks, by what is printed of it and by its words."""
+def promise_object(line, said):
+    """What a line of a wiring asks, by what is printed of it and by its number and words."""
     task, text, number = re.fullmatch(r"(\w+|each task): (.*) \(line (\d+)\)", line).groups()
-    words = line_of(folder / asked.options["wiring"], int(number)).split("#")[0].split()
+    asked, words = said
+    if asked != int(number):
+        raise Wrong(f"line {number} in the place of {asked}: {words}")
     made = {"class": None, "line": int(number), "right": None, "task": task, "text": text}
     if words[:1] == ["replies"]:
         return {**made, "task": None, "verb": "replies fit"}
@@ -503,7 +507,9 @@ def promise_object(folder, asked, line):
 
 
 def said_lines(text):
-    """The lines of a wiring that say something, behind its first: their numbers and words."""
+    """The lines of a wiring that say something, behind its first, or those that they stand for: their numbers and words."""
+    if version_of(text)[0] == 4:
+        return Stood(text).lines
     lines = [(number, line.split("#")[0].split()) for number, line in enumerate(text.split("\n"), 1)]
     return [(number, words) for number, words in lines if words][1:]
 
@@ -541,7 +547,7 @@ def enforced(text):
     for number, words in lines:
         if words[0] == "admit" and words[1].split(".")[0] in accepted:
             numbers, classes = sorts.setdefault(words[1], ([], []))
-            numbers.append(number)
+            numbers += [number] * (number not in numbers)
             named = class_words(words[2:])
             classes += [named] * (words[2:] != ["none"] and named not in classes)
     colons = lambda name: name.replace(" ", ":")
@@ -561,12 +567,15 @@ def enforced(text):
 
 
 def promises_object(folder, asked, texts):
-    with open(folder / asked.options["wiring"], encoding="utf-8") as file:
-        delivered, admitted, printed = enforced(file.read())
+    text = (folder / asked.options["wiring"]).read_text(encoding="utf-8")
+    delivered, admitted, printed = enforced(text)
     lines = texts.plain.lines()
     if lines[: len(printed)] != printed:
         raise Wrong(f"other promises than {printed}: {lines}")
-    promises = [promise_object(folder, asked, line) for line in lines[len(printed):]]
+    said = [(number, words) for number, words in said_lines(text) if words[0] in ("trust", "replies")]
+    if len(lines) != len(printed) + len(said):
+        raise Wrong(f"other promises than those of {said}: {lines}")
+    promises = [promise_object(*pair) for pair in zip(lines[len(printed):], said)]
     return {"admitted": admitted, "answer": "promises", "command": "promises", "delivered": delivered, "promises": promises,
             "schema": 1}
 
@@ -598,11 +607,14 @@ def forbidden_lines(folder, asked):
     if not asked.has("policy"):
         return {}
     lines, found = (folder / asked.options["policy"]).read_text().split("\n"), {}
+    members = Stood((folder / asked.options["wiring"]).read_text()).members
     for number, line in enumerate(lines, 1):
         if (words := line.split("#")[0].split())[:1] == ["forbid"]:
-            _, task, right, *of = words
-            of = [*of[:2], *(str(int(kind)) for kind in of[2:] if int(kind))]
-            found.setdefault(f"hold {task} {':'.join(of)} {right}", number)
+            _, task, right, sort, name, *kind = words
+            kind = int(kind[0]) if kind else 0
+            found.setdefault(f"hold {task} {sort}:{name}{f':{kind}' if kind else ''} {right}", number)
+            for port in members.get((name, kind), []) if sort == "births" else []:
+                found.setdefault(f"hold {task} port:{port} {right}", number)
     return found
 
 
@@ -684,6 +696,18 @@ def live_object(folder, asked, texts):
     return {"answer": "all wait" if waits else "journal", "command": "live", "waits": lines, **events}
 
 
+# The first line of the mends of a wiring of version 4: they are of the lines that it stands for.
+EXPANDED = "# lines are those of machcheck expand"
+
+
+def mended_line(path, number):
+    """The line of a wiring that a mend means, without blanks at its ends, and its words."""
+    wiring = path.read_text()
+    is_wide = version_of(wiring)[0] == 4
+    text = Stood(wiring).text().split("\n")[number - 1] if is_wide else line_of(path, number)
+    return text, " ".join(text.split("#")[0].split())
+
+
 def change_object(folder, asked, line):
     """A line of a mend: its number, the change with how many lines it mends, and how many facts the mend loses, if the line
     says so."""
@@ -695,8 +719,8 @@ def change_object(folder, asked, line):
     lost = re.search(r"loses (\d+) facts", note or "")
     count = re.search(r"mends (\d+) (?:more )?of \d+ lines$", note or "")
     if removed:
-        text = line_of(folder / asked.options["wiring"], int(removed))
-        if " ".join(text.split("#")[0].split()) != words:
+        text, right = mended_line(folder / asked.options["wiring"], int(removed))
+        if right != words:
             raise Wrong(f"line {removed} has other words than {words}: {text}")
         change = {"kind": "remove", "line": int(removed), "text": text}
     elif changed:
@@ -711,6 +735,9 @@ def change_object(folder, asked, line):
 def mend_object(folder, asked, texts):
     told = {"command": "mend", "schema": 1}
     lines = texts.plain.lines()
+    if version_of((folder / asked.options["wiring"]).read_text())[0] == 4 and lines not in (["YES"], ["none"]):
+        if lines.pop(0) != EXPANDED:
+            raise Wrong(f"the first line is not {EXPANDED}: {texts.plain.out}")
     if lines == ["YES"]:
         return {"answer": "YES", **told}
     found = re.fullmatch(rf"# all (\d+) broken lines have ({FACT_TEXT}) in their chains", lines[0])

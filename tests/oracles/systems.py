@@ -12,6 +12,8 @@ import re
 import struct
 from dataclasses import dataclass, field, replace
 
+from expand import Stood, version_of
+
 SEND, RECEIVE, ONCE = 0, 1, 2
 RIGHTS = ["send", "receive", "once"]
 HOLD, CARRY, BACKUP = 1, 2, 3
@@ -271,11 +273,15 @@ def items_of(words):
 
 
 class System:
-    """A wiring over MIG files: what its lines mean, by numbers of tasks and classes."""
+    """A wiring over MIG files: what its lines mean, by numbers of tasks and classes. The lines of one of version 4 are those
+    that it stands for, each with the number of the line that stands for it."""
 
     def __init__(self, defs, wiring):
         self.interfaces = {made.name: made for made in (Mig(text).interface() for text in defs)}
-        self.lines = lines_of(wiring)
+        self.lines, self.members = lines_of(wiring), {}
+        if version_of(wiring)[0] == 4:
+            stood = Stood(wiring)
+            self.lines, self.members = stood.lines, stood.members
         self.tasks, ports, said = [], [], {}
         for _, (word, name, *rest) in self.lines:
             if word == "task":
@@ -295,6 +301,12 @@ class System:
         self.read_admits()
         self.read_slots()
         self.read_trust()
+
+    def named(self, words):
+        """The classes that CLASS of a policy names: those of births, and then the wired ports that are such births."""
+        c = class_of(words)
+        ports = self.members.get((c.name, c.kind), []) if c.sort == "births" else []
+        return [self.number[c], *(self.number[Class("port", port)] for port in ports)]
 
     def kernel(self, task):
         """The class of a task's kernel port."""
@@ -321,12 +333,14 @@ class System:
             self.given.setdefault(fact, []).append(line)
 
     def read_admits(self):
-        """The admit lines of each type: its class, or None for `none`, by the line's number."""
+        """The admit lines of each type: the classes that a line names, by its number."""
         self.admitted = {}
         for line, words in self.lines:
             if words[0] == "admit":
-                c = None if words[2] == "none" else self.number[class_of(words[2:])]
-                self.admitted.setdefault(tuple(words[1].split(".")), {})[line] = c
+                lines = self.admitted.setdefault(tuple(words[1].split(".")), {})
+                classes = lines.setdefault(line, [])
+                if words[2] != "none":
+                    classes.append(self.number[class_of(words[2:])])
 
     def forms(self, c):
         """The forms that a class accepts, each with the name of its interface, in the order of its label."""
@@ -376,7 +390,7 @@ class System:
 
     def admits(self, of, c):
         """Whether a type admits a class."""
-        return of not in self.admitted or c in self.admitted[of].values()
+        return of not in self.admitted or any(c in classes for classes in self.admitted[of].values())
 
     # The ten rules
 
@@ -569,8 +583,9 @@ def forbidden(system, policy):
     """The facts that a policy forbids, each by the number of its line."""
     said = [(line, words[1:]) for line, words in lines_of(policy)]
     return [
-        (line, (HOLD, system.tasks.index(task), system.number[class_of(words)], RIGHTS.index(right)))
+        (line, (HOLD, system.tasks.index(task), c, RIGHTS.index(right)))
         for line, (task, right, *words) in said
+        for c in system.named(words)
     ]
 
 
@@ -581,11 +596,12 @@ def broken(system, policy, facts):
 
 def exposed(system, facts):
     """What may void a promise: the first line about a trusted task and the hold of its kernel port by another task
-    that may take or give without limit. Of several the one with the least line, then the least fact; or None."""
+    that may take or give without limit. Of several the one with the least line, of its tasks the first, and then the
+    least fact; or None."""
     limits = system.limits
     free = [u for u in range(len(system.tasks)) if u not in limits["takes"] or u not in limits["gives"]]
     found = [(line, (HOLD, u, system.kernel(t), SEND)) for t, line in system.trusted.items() for u in free if u != t]
-    return min((pair for pair in found if pair[1] in facts), default=None)
+    return next((pair for pair in found if pair[1] in facts), None)
 
 
 # The shortest chain
