@@ -2,7 +2,8 @@
 -- choice.
 use Rattle.std.specs.Prelude.{◌≡◌, ℕ, List, map}
 use Rattle.mrc_command.specs.declared.command.Command.{Command}
-use Rattle.mrc_command.specs.declared.command.Command.TheVariants.{Case, Mig}
+use Rattle.mrc_command.specs.declared.command.Command.TheVariants.{Case, Mig, Message}
+use Rattle.mrc_command.specs.declared.command.MessageText.{MessageText}
 use Rattle.mrc_command.specs.declared.command.FileNames.{FileNames}
 use Rattle.mrc_command.specs.declared.command.Question.{Question}
 use Rattle.mrc_command.specs.declared.command.Question.TheVariants as questions
@@ -23,6 +24,7 @@ use Rattle.mrc_answer.specs.Explained.{IsExplanation}
 use Rattle.mrc_answer.specs.Files.{AreRead, Files, all_names, word_of}
 use Rattle.mrc_answer.specs.Listed.{IsListing, IsGraph}
 use Rattle.mrc_answer.specs.Made.{IsMaking, IsMending}
+use Rattle.mrc_answer.specs.Messages.{IsTurned}
 use Rattle.mrc_answer.specs.Notices.{Notices, no_notices}
 use Rattle.mrc_answer.specs.Played.{IsReplayed, IsRun}
 use Rattle.mrc_answer.specs.Systems.{AreSlots, ArePromises, IsExpanded}
@@ -93,6 +95,21 @@ pub record IsAnsweredOf (before after : Held) (question : Question) (files : Fil
   pub read : answered.read ≡ Texts files
   pub right : IsAnswer before after question files answered.reply.answer answered.reply.notices
 
+-- the MIG files of a message that is turned, by their names
+abbrev pub message_names : MessageText → List (List ℕ)
+message_names asked = map (λ file. file.now) asked.defs.items
+
+-- what was read are texts of MIG files, and no others are looked at
+abbrev pub HasReadDefs : List (List ℕ) → WasRead → Type 0
+HasReadDefs defs (Texts files) = files.texts.defs ≡ defs
+HasReadDefs defs read = ⊥
+
+-- why a message is not turned: a file can't be read
+abbrev pub IsUnturned : Held → MessageText → Answer → Type 0
+IsUnturned held asked (Fault (Unread unread)) =
+    IsFirstUnread held (message_names asked) unread.file.now
+IsUnturned held asked answer = ⊥
+
 -- What was read of a command's files, and the answer with these notices, are right: of what the
 -- files held, so far as that is known.
 abbrev pub IsReply : (before after : Held) → Command → WasRead → Answer → Notices → Type 0
@@ -106,6 +123,11 @@ IsReply before after (Mig files) Nothing answer notices =
 IsReply before after (Mig files) (Defs texts) answer notices =
     AreHeld before (mig_names files) (map (λ text. text.items) texts.items)
     × AreMigOfTexts files before after (map (λ text. text.items) texts.items) answer
+    × (notices ≡ no_notices)
+IsReply before after (Message asked) Nothing answer notices =
+    IsUnturned before asked answer × (notices ≡ no_notices)
+IsReply before after (Message asked) (Texts files) answer notices =
+    AreHeld before (message_names asked) files.texts.defs × IsTurned files.texts.defs answer
     × (notices ≡ no_notices)
 IsReply before after command read answer notices = ⊥
 

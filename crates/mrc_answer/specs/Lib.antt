@@ -16,3 +16,4 @@ pub mod Played
 pub mod Answers
 pub mod Attacking
 pub mod Drawings
+pub mod Messages

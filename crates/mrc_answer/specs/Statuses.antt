@@ -8,7 +8,7 @@ use Rattle.mrc_answer.specs.declared.answers.Answer.TheVariants.{Yes, Broken, Re
 use Rattle.mrc_answer.specs.declared.answers.Answer.TheVariants.{Mends, Made, Chain, NoChain, Facts}
 use Rattle.mrc_answer.specs.declared.answers.Answer.TheVariants.{OtherCounts, Drawing, NoDrawing}
 use Rattle.mrc_answer.specs.declared.answers.Answer.TheVariants.{Slots, Promises, Expanded, Replay}
-use Rattle.mrc_answer.specs.declared.answers.Answer.TheVariants.{Journal}
+use Rattle.mrc_answer.specs.declared.answers.Answer.TheVariants.{Journal, Encoded, Decoded}
 use Rattle.mrc_answer.specs.declared.answers.Answer.TheVariants.{Waits, Mig, Fault}
 use Rattle.mrc_answer.specs.declared.answers.MigEnd.{MigEnd}
 use Rattle.mrc_answer.specs.declared.answers.MigEnd.TheVariants as ends
@@ -46,6 +46,8 @@ status_of (NoDrawing u) = 1
 status_of (Slots s) = 0
 status_of (Promises s) = 0
 status_of (Expanded e) = 0
+status_of (Encoded b) = 0
+status_of (Decoded t) = 0
 status_of (Replay r) = 0
 status_of (Journal r) = 0
 status_of (Waits w) = 2

@@ -189,6 +189,10 @@ pub enum Answer<'a> {
     Journal(Ran),
     /// `live`: the journal of a run after which no task can go on.
     Waits(Waiting),
+    /// `encode`: the bytes of a message.
+    Encoded(Vec<u8>),
+    /// `decode`: the words of a message.
+    Decoded(String),
     /// `mig`: MIG files as texts of edition 2.
     Mig(MigTexts<'a>),
     /// There is no answer.
@@ -240,6 +244,8 @@ pub fn status_of(answer: &Answer<'_>) -> u8
         | Answer::Slots(_)
         | Answer::Promises(_)
         | Answer::Expanded(_)
+        | Answer::Encoded(_)
+        | Answer::Decoded(_)
         | Answer::Replay(_)
         | Answer::Journal(_) => 0,
         Answer::Broken(_)

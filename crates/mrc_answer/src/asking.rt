@@ -3,7 +3,9 @@
 ghost use Rattle.std.specs.Prelude.{◌≡◌, ◌⊎◌, ◌↔◌, None, IfOk, IfSome, IsOkAnd, IsTrue, map};
 ghost use Rattle.mrc_answer.specs.Answers.{IsAnswer, IsAnsweredOf, IsAnswered, IsBadWord};
 ghost use Rattle.mrc_answer.specs.Answers.{IsUnreadOf, IsSameNameOf, MayChange};
+ghost use Rattle.mrc_answer.specs.Messages.{IsTurned};
 ghost use Rattle.mrc_answer.specs.MigTexts.{mig_names};
+ghost use Rattle.mrc_answer.specs.Answers.{HasReadDefs};
 ghost use Rattle.mrc_answer.specs.Notices.{no_notices};
 ghost use Rattle.mrc_answer.specs.Verified.{IsBadLine, IsBadMost};
 ghost use Rattle.mrc_answer.specs.declared.answers.Answer.TheVariants as answers;
@@ -19,11 +21,12 @@ use crate::check::checked;
 use crate::explain::explained;
 use crate::facts::listed;
 use crate::faults::{Fault, WordFault};
-use crate::files::{Files, texts_of};
+use crate::files::{Files, Texts, texts_of};
 use crate::graph::graphed;
 use crate::live::live_served;
 use crate::make::made;
 use crate::mend::mended;
+use crate::message::turned;
 use crate::mig::{Ready, mig_files, same_name};
 use crate::notices::no_notices;
 use crate::replay::replayed;
@@ -31,7 +34,7 @@ use crate::systems::{expanded, promises, slots};
 use crate::verify::verified;
 use mrc_attack::Progress as Looks;
 use mrc_base::limits::EVENTS;
-use mrc_command::{Command, FileNames, MigFiles, Question};
+use mrc_command::{Command, FileNames, MessageText, MigFiles, Question};
 use mrc_files::{Folder, InputFault, Unread, bytes_of_all};
 use mrc_mend::Progress;
 use std::alloc::{AllocError, Global};
@@ -311,6 +314,64 @@ fn mig_answered<'a, F: Folder, T: Ready>(
     }
 }
 
+/// What is answered of a message over MIG files of these bytes.
+fn message_of_texts<'a>(
+    alloc: Global,
+    asked: MessageText<'a>,
+    defs: Vec<Vec<u8>>,
+) -> Result<Answered<'a>, AllocError>
+    ensures read { IfOk result (λ answered. HasReadDefs
+        (map (λ text. text.items) defs.items) answered.read) }
+    ensures right { IfOk result (λ answered.
+        IsTurned (map (λ text. text.items) defs.items) answered.reply.answer) }
+    ensures notices { IfOk result (λ answered. answered.reply.notices ≡ no_notices) }
+{
+    let MessageText {
+        turning,
+        text,
+        defs: names,
+    } = asked;
+    let answer = turned(alloc, turning, text, defs.as_slice())?;
+    let files = Files {
+        names: FileNames {
+            defs: names,
+            wiring: "",
+            policy: None,
+            certificate: None,
+            script: None,
+        },
+        texts: Texts {
+            defs,
+            wiring: Vec::new(alloc),
+            policy: None,
+            certificate: None,
+            script: None,
+        },
+    };
+    Ok(Answered {
+        read: WasRead::Texts(files),
+        reply: Reply {
+            answer,
+            notices: no_notices(alloc),
+        },
+    })
+}
+
+/// What is answered of a message that is turned.
+fn message_answered<'a, F: Folder>(
+    folder: &F,
+    alloc: Global,
+    asked: MessageText<'a>,
+) -> Result<Answered<'a>, AllocError>
+    ensures right { IfOk result (IsAnswered (F.held folder.now) (F.held folder.now)
+        (commands.Message asked.entry)) }
+{
+    match bytes_of_all(folder, alloc, asked.defs.as_slice()) {
+        Ok(defs) => message_of_texts(alloc, asked, defs),
+        Err(unread) => unread_answered(alloc, unread.file, unread.fault),
+    }
+}
+
 /// What is answered of a command, over the files of a folder. Only a certificate that is made, or
 /// MIG files of a `mig` are written there. Before MIG files are written, what depends on it is
 /// made ready. Out of memory changes no file.
@@ -336,5 +397,6 @@ pub fn answer<'a, F: Folder, R: Threads + Wait + Sync, P: Progress + Looks, T: R
             case_answered(rt, folder, alloc, names, question, progress)
         }
         Command::Mig(files) => mig_answered(folder, alloc, &files, ready),
+        Command::Message(asked) => message_answered(folder, alloc, asked),
     }
 }

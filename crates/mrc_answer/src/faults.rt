@@ -2,8 +2,10 @@
 
 use mrc_base::OrMemory;
 use mrc_check::CaseFault;
+use mrc_desc::ReadFault;
 use mrc_files::{Unread, WriteFault};
 use mrc_interface::DefsFault;
+use mrc_message_words::WordsFault;
 use mrc_report::ServeFault;
 
 /// Which word of an option can't be what it is asked to be, and why.
@@ -47,6 +49,19 @@ pub struct NoMigText<'a> {
     pub fault: DefsFault,
 }
 
+/// Why a message can't be turned into its bytes or into words.
+#[derive(Clone, Copy, Debug, PartialEq, Eq)]
+pub enum MessageFault {
+    /// The words say no message of the MIG files.
+    Words(WordsFault),
+    /// The text is no HEX.
+    BadHex,
+    /// The bytes are no message.
+    Bytes(ReadFault),
+    /// No MIG file has a message of this id and these arguments.
+    NoWords,
+}
+
 /// Why a question has no answer. Out of memory is none of these.
 #[derive(Drop)]
 pub enum Fault<'a> {
@@ -62,6 +77,8 @@ pub enum Fault<'a> {
     NoMigText(NoMigText<'a>),
     /// A MIG file has the name of an earlier one.
     SameName(&'a str),
+    /// A message can't be turned.
+    Message(MessageFault),
     /// A script whose tasks run as threads was not run to its end.
     Unserved(ServeFault),
 }

@@ -18,6 +18,7 @@ mod leaky_lines;
 mod live;
 mod make;
 mod mend;
+mod message;
 mod mig;
 mod mig_texts;
 mod notices;
@@ -30,21 +31,22 @@ mod verify;
 mod writing;
 
 pub use answers::{
-    Answer, Attacked, BrokenPolicy, Drawing, Explained, Listed, MigEnd, MigText, MigTexts, Reply,
-    Underived, Undrawn, Waiting, WiredScript, status_of,
+    Answer, Attacked, BrokenPolicy, Drawing, Expanded, Explained, Listed, MigEnd, MigText,
+    MigTexts, Reply, Underived, Undrawn, Waiting, WiredScript, status_of,
 };
 pub use asking::{Answered, WasRead, answer};
 pub use attack::attacked;
 pub use check::checked;
 pub use explain::explained;
 pub use facts::listed;
-pub use faults::{Fault, NoMigText, Unwritten, WordFault};
+pub use faults::{Fault, MessageFault, NoMigText, Unwritten, WordFault};
 pub use files::{Files, Texts, texts_of};
 pub use graph::graphed;
 pub use leaky_lines::LeakyLine;
 pub use live::live_served;
 pub use make::made;
 pub use mend::mended;
+pub use message::turned;
 pub use mig::{Ready, mig_files};
 pub use notices::{Notices, Notification};
 pub use plain_lines::PlainLine;

@@ -48,6 +48,8 @@ all_commands : map usage commands
     ∷ codes "replay wiring= script= [format=] [verbose] defs*"
     ∷ codes "live wiring= policy= cert= script= [format=] [verbose] defs*"
     ∷ codes "mig out= [strict] [strict-rights] [as-received] [format=] [verbose] defs+"
+    ∷ codes "encode message= [verbose] defs*"
+    ∷ codes "decode hex= [verbose] defs*"
     ∷ []
 all_commands = refl
 

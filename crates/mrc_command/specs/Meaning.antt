@@ -15,7 +15,10 @@ use Rattle.mrc_command.specs.declared.command.NoCommand.TheVariants.{Told as Tex
 use Rattle.mrc_command.specs.declared.command.NoCommand.TheVariants.{Memory as NoMemory}
 use Rattle.mrc_command.specs.declared.told.Told.{Told}
 use Rattle.mrc_command.specs.declared.command.Command.{Command}
-use Rattle.mrc_command.specs.declared.command.Command.TheVariants.{Case, Mig}
+use Rattle.mrc_command.specs.declared.command.Command.TheVariants.{Case, Mig, Message}
+use Rattle.mrc_command.specs.declared.command.MessageText.{MessageText}
+use Rattle.mrc_command.specs.declared.command.Turning.{Turning}
+use Rattle.mrc_command.specs.declared.command.Turning.TheVariants.{Encode, Decode}
 use Rattle.mrc_command.specs.declared.command.FileNames.{FileNames}
 use Rattle.mrc_command.specs.declared.command.Format.{Format}
 use Rattle.mrc_command.specs.declared.command.Format.TheVariants.{Text as Plain, Json, Sarif}
@@ -147,11 +150,28 @@ pub record AsksMig (rows : List Row) (files : MigFiles) : Type 0 where
   pub received : files.received ≡ has_flag (codes "as-received") rows
   pub format : files.format ≡ format_given rows
 
+-- the subcommand that turns a message this way
+abbrev pub turning_word : Turning → Text
+turning_word Encode = codes "encode"
+turning_word Decode = codes "decode"
+
+-- its option that has the message
+abbrev pub turning_option : Turning → Text
+turning_option Encode = codes "message"
+turning_option Decode = codes "hex"
+
+-- the message that is turned
+pub record AsksMessage (rows : List Row) (asked : MessageText) : Type 0 where
+  pub defs : map (λ file. file.now) asked.defs.items ≡ all_values (codes "defs") rows
+  pub text : first_of (turning_option asked.turning) rows ≡ Some asked.text.now
+
 -- the command that a subcommand of this name is with these options
 abbrev pub IsCommandOf : Text → List Row → Command → Type 0
 IsCommandOf name rows (Case files question) =
     NamesFiles rows files × Asks name rows question × (has_files question files ≡ true)
 IsCommandOf name rows (Mig files) = (name ≡ codes "mig") × AsksMig rows files
+IsCommandOf name rows (Message asked) =
+    (name ≡ turning_word asked.turning) × AsksMessage rows asked
 
 -- what a subcommand of this name asks for with these options: its command, and whether the place
 -- of a fault is shown; the format is one that it has
@@ -207,6 +227,7 @@ question_word (Live format) = codes "live"
 abbrev pub command_word : Command → List ℕ
 command_word (Case files question) = question_word question
 command_word (Mig files) = codes "mig"
+command_word (Message asked) = turning_word asked.turning
 
 -- how the answer to a question is to be printed: as text if its subcommand has no `--format`
 abbrev pub question_format : Question → Format
@@ -228,6 +249,7 @@ question_format (Live format) = format
 abbrev pub asked_format : Command → Format
 asked_format (Case files question) = question_format question
 asked_format (Mig files) = files.format
+asked_format (Message asked) = Plain
 
 -- the name of a command is that of the subcommand that it is
 abbrev pub NamesItsSubcommand : Type 0

@@ -35,6 +35,7 @@ pub fn command_word(command: &Command<'_>) -> &'static str
     match command {
         Command::Case(_, question) => question_word(*question),
         Command::Mig(_) => "mig",
+        Command::Message(message) => message.turning.word(),
     }
 }
 
@@ -66,6 +67,7 @@ pub fn asked_format(command: &Command<'_>) -> Format
     match command {
         Command::Case(_, question) => question_format(*question),
         Command::Mig(files) => files.format,
+        Command::Message(_) => Format::Text,
     }
 }
 

@@ -9,7 +9,8 @@ ghost use Rattle.mrc_command.specs.CommandLine.{IsNoCommand, TellsError, machche
 ghost use Rattle.mrc_command.specs.Meaning.{all_values, has_flag, number_given, format_given, rows};
 ghost use Rattle.mrc_command.specs.Meaning.{NamesFiles, IsShowing, Asks, has_files, AsksMig};
 ghost use Rattle.mrc_command.specs.Meaning.{IsCommandOf, IsRequestOf, Means, has_format};
-ghost use Rattle.mrc_command.specs.Meaning.{IsBadFormatIfTold, IsRefusal};
+ghost use Rattle.mrc_command.specs.Meaning.{IsBadFormatIfTold, IsRefusal, AsksMessage};
+ghost use Rattle.mrc_command.specs.Meaning.{turning_word, turning_option};
 
 use crate::lacking::lacking_text;
 use crate::options::whole_command;
@@ -135,6 +136,26 @@ pub enum Question<'a> {
     },
 }
 
+/// Which way a message is turned.
+#[derive(Clone, Copy, Debug, PartialEq, Eq)]
+pub enum Turning {
+    /// From words to its bytes.
+    Encode,
+    /// From its bytes to words.
+    Decode,
+}
+
+/// A message, and the MIG files of its interfaces.
+#[derive(Drop)]
+pub struct MessageText<'a> {
+    /// Which way it is turned.
+    pub turning: Turning,
+    /// The message: in words, or its bytes as HEX.
+    pub text: &'a str,
+    /// The MIG files, in their order.
+    pub defs: Vec<&'a str>,
+}
+
 /// What the user asks for.
 #[derive(Drop)]
 pub enum Command<'a> {
@@ -142,6 +163,8 @@ pub enum Command<'a> {
     Case(FileNames<'a>, Question<'a>),
     /// What can be read of MIG files of a system?
     Mig(MigFiles<'a>),
+    /// Which bytes is a message in words, or which words are its bytes?
+    Message(MessageText<'a>),
 }
 
 /// What the words ask for.
@@ -443,6 +466,60 @@ fn mig_asked<'a>(alloc: Global, matches: &ArgMatches<'a>) -> Result<MigFiles<'a>
     })
 }
 
+impl Turning {
+    /// The name of the subcommand.
+    pub fn word(self) -> &'static str
+        ensures { result.now ≡ turning_word self }
+    {
+        match self {
+            Turning::Encode => "encode",
+            Turning::Decode => "decode",
+        }
+    }
+
+    /// The name of the option that has the message.
+    pub fn option(self) -> &'static str
+        ensures { result.now ≡ turning_option self }
+    {
+        match self {
+            Turning::Encode => "message",
+            Turning::Decode => "hex",
+        }
+    }
+}
+
+/// Which way the subcommand of this name turns a message, if it does.
+fn turning_named(name: &str) -> Option<Turning>
+    ensures { IfSome result (λ turning. name.now ≡ turning_word turning) }
+{
+    match name {
+        "encode" => Some(Turning::Encode),
+        "decode" => Some(Turning::Decode),
+        _ => None,
+    }
+}
+
+/// The message that is turned. It has to be given.
+fn message_asked<'a>(
+    alloc: Global,
+    turning: Turning,
+    matches: &ArgMatches<'a>,
+) -> Result<MessageText<'a>, NoCommand>
+    ensures turning { IfOk result (λ asked. asked.turning ≡ turning) }
+    ensures asked { IfOk result (AsksMessage (rows matches.now)) }
+    ensures none { IfErr result (λ none. none ≡ NoCommand.Memory) }
+{
+    let defs = defs_given(alloc, matches)?;
+    let Some(text) = value_given(matches, turning.option()) else {
+        return Err(NoCommand::Memory);
+    };
+    Ok(MessageText {
+        turning,
+        text,
+        defs,
+    })
+}
+
 /// The command of this name.
 fn command_of<'a>(
     alloc: Global,
@@ -454,6 +531,9 @@ fn command_of<'a>(
 {
     if name == "mig" {
         return Ok(Command::Mig(mig_asked(alloc, matches)?));
+    }
+    if let Some(turning) = turning_named(name) {
+        return Ok(Command::Message(message_asked(alloc, turning, matches)?));
     }
     let Some(question) = question_asked(name, matches) else {
         return Err(NoCommand::Memory);

@@ -2,7 +2,7 @@
 
 pub(crate) const PROGRAM_HELP: &str = "Exit status of each command:
   0  YES was printed, or changes that lead to it, a certificate was made, a chain, facts, a
-     drawing, slots, promises or lines were printed, a script was replayed or run by threads, MIG
+     drawing, slots, promises, lines or a message were printed, a script was replayed or run by threads, MIG
      files were written, or help or the version was printed
   1  NO was printed, with a reason, or REAL, with calls, or none: if no chain leads to a fact,
      or if no change was found that leads to YES
@@ -14,8 +14,8 @@ With --verbose a fault is followed by its place: the line of the file with a mar
 and what may help to mend it; and `mend` and `attack` say how far they have come. If standard error
 is a terminal, this is always so.
 
-With --format json, which all commands but `make` and `expand` have, the answer is one JSON object for
-programs, and that of a fault is printed too. If the command line is wrong, there is none.
+With --format json, which all commands but `make`, `expand`, `encode` and `decode` have, the answer is
+one JSON object for programs, and that of a fault is printed too. If the command line is wrong, there is none.
 
 `machcheck check --help`, and the same of the other commands, tells of the files. Read on
 in README.md, which starts with a worked example, and in docs/ARCHITECTURE.md.";
@@ -327,6 +327,36 @@ Exit status:
   0  the lines were printed
   2  a fault on standard error, as `machcheck: FILE: FAULT`: a file can't be read or has
      no meaning, the command line is wrong, the output was not taken, or memory ran out
+
+Read on in README.md, and in docs/ARCHITECTURE.md.";
+
+pub(crate) const ENCODE_HELP: &str = "A message in words, as docs/FORMATS.md describes it:
+
+  { I.R to NAME reply NAME ARGUMENT=VALUE .. }      a request of the routine R of I
+  { reply I.R to NAME ARGUMENT=VALUE .. }           its reply
+
+Its bytes are printed as HEX, as scripts of calls have them behind `send`: with the id, sizes,
+descriptors and padding of the message that the MIG files describe.
+
+Exit status:
+  0  the bytes were printed
+  2  a fault on standard error, as `machcheck: FILE: FAULT`: a file can't be read or is no MIG
+     file, the words are no message of the files (as `machcheck: --message: FAULT`), the command
+     line is wrong, the output was not taken, or memory ran out
+
+Read on in README.md, and in docs/ARCHITECTURE.md.";
+
+pub(crate) const DECODE_HELP: &str =
+    "The bytes of a message are printed in words, as docs/FORMATS.md
+describes them: by the first MIG file that has a message of the same id, whose arguments are of
+the types, bits and numbers that the file says. `machcheck encode` reads what is printed as the
+same message.
+
+Exit status:
+  0  the words were printed
+  2  a fault on standard error, as `machcheck: FILE: FAULT`: a file can't be read or is no MIG
+     file, the bytes are no message, or none of the files (as `machcheck: --hex: FAULT`), the
+     command line is wrong, the output was not taken, or memory ran out
 
 Read on in README.md, and in docs/ARCHITECTURE.md.";
 

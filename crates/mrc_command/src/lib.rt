@@ -14,7 +14,8 @@ pub use asked::{
     asked_format, command_word, commands_are_what_words_say, question_format, question_word,
 };
 pub use command::{
-    Command, FileNames, Format, MigFiles, NoCommand, Question, Request, Showing, Strictness, read,
+    Command, FileNames, Format, MessageText, MigFiles, NoCommand, Question, Request, Showing,
+    Strictness, Turning, read,
 };
 pub use told::{Told, fault_of, memory, names_are_shown_safely, push_shown, said, shown};
 pub use words::{WordsFault, words_line, words_of};

@@ -1,8 +1,9 @@
 //! The table of the command line: each command with its options, and what help says of them.
 
 use crate::help::{
-    ATTACK_HELP, CHECK_HELP, EXPAND_HELP, EXPLAIN_HELP, FACTS_HELP, GRAPH_HELP, LIVE_HELP,
-    MAKE_HELP, MEND_HELP, MIG_HELP, PROMISES_HELP, REPLAY_HELP, SLOTS_HELP, VERIFY_HELP,
+    ATTACK_HELP, CHECK_HELP, DECODE_HELP, ENCODE_HELP, EXPAND_HELP, EXPLAIN_HELP, FACTS_HELP,
+    GRAPH_HELP, LIVE_HELP, MAKE_HELP, MEND_HELP, MIG_HELP, PROMISES_HELP, REPLAY_HELP, SLOTS_HELP,
+    VERIFY_HELP,
 };
 
 /// How an option is given.
@@ -63,7 +64,7 @@ const VERBOSE: Row = row! {
 const DEFS: Row = row! { Words "defs" "DEFS" "The MIG files of the interfaces" };
 
 /// The commands, as help lists them.
-pub(crate) const COMMANDS: [Entry; 14] = [
+pub(crate) const COMMANDS: [Entry; 16] = [
     (
         "verify",
         "Says whether a forbidden right can be obtained, and how",
@@ -238,6 +239,26 @@ pub(crate) const COMMANDS: [Entry; 14] = [
             FORMAT,
             VERBOSE,
             row! { NeededWords "defs" "FILE" "The MIG files, preprocessed" },
+        ],
+    ),
+    (
+        "encode",
+        "Prints the bytes of a message that is said in words",
+        ENCODE_HELP,
+        &[
+            row! { Needed "message" "WORDS" "The message in words, between braces" },
+            VERBOSE,
+            DEFS,
+        ],
+    ),
+    (
+        "decode",
+        "Prints the words of a message by its bytes",
+        DECODE_HELP,
+        &[
+            row! { Needed "hex" "HEX" "The bytes of the message, two digits a byte" },
+            VERBOSE,
+            DEFS,
         ],
     ),
 ];

@@ -46,6 +46,9 @@ of_command before after (commands.Case names question) Nothing b notices is = ab
 of_command before after (commands.Case names question) (Texts files) b notices is =
     of_question before after question files b notices is.2
 of_command before after (commands.Case names question) (Defs texts) b notices is = absurd is
+of_command before after (commands.Message asked) Nothing b notices is = absurd is.0
+of_command before after (commands.Message asked) (Texts files) b notices is = absurd is.1
+of_command before after (commands.Message asked) (Defs texts) b notices is = absurd is
 of_command before after (commands.Mig files) Nothing b notices is = absurd is.0
 of_command before after (commands.Mig files) (Texts texts) b notices is = absurd is
 of_command before after (commands.Mig files) (Defs texts) b notices is = absurd is.1
@@ -74,6 +77,8 @@ of_reply before after command read (answers.Expanded e) notices is = tt
 of_reply before after command read (answers.Replay r) notices is = tt
 of_reply before after command read (answers.Journal j) notices is = tt
 of_reply before after command read (answers.Waits w) notices is = tt
+of_reply before after command read (answers.Encoded b) notices is = tt
+of_reply before after command read (answers.Decoded t) notices is = tt
 of_reply before after command read (answers.Mig c) notices is = tt
 of_reply before after command read (answers.Fault f) notices is = tt
 

@@ -17,7 +17,7 @@ use Rattle.mrc_answer.specs.declared.asking.WasRead.{WasRead}
 use Rattle.mrc_answer.specs.declared.asking.WasRead.TheVariants.{Texts}
 use Rattle.mrc_answer.specs.Verified.{IsAsked, form_of}
 use Rattle.mrc_print.specs.declared.asked.Asked.{Asked}
-use Rattle.mrc_print.specs.declared.asked.Asked.TheVariants.{Case, Mig}
+use Rattle.mrc_print.specs.declared.asked.Asked.TheVariants.{Case, Mig, Message}
 
 -- How the text of a broken policy begins.
 
@@ -103,6 +103,7 @@ pub record IsPrinted (answered : Answered) (text : List ℕ) : Type 0 where
 abbrev pub format_of : Asked → Format
 format_of (Case question) = question_format question
 format_of (Mig format) = format
+format_of (Message turning text) = formats.Text
 
 -- this holds if the answer is for people; of an answer for programs nothing is said
 abbrev pub InText : Format → Type 0 → Type 0

@@ -92,6 +92,20 @@ fn explained_text(alloc: Global, by: bool, explained: &Explained) -> Result<Stri
     chain_text(alloc, &sources, steps, Layout::Flat)
 }
 
+/// Bytes as HEX: two digits a byte, and a blank behind each four.
+fn hex_line(alloc: Global, bytes: &[u8]) -> Result<String, AllocError> {
+    let mut text = String::new(alloc);
+    for (place, byte) in bytes.iter().enumerate() {
+        if place > 0 && place % 4 == 0 {
+            text.push(' ')?;
+        }
+        let digits = format!(in alloc; "{byte:02x}")?;
+        text.push_str(digits.as_str())?;
+    }
+    text.push('\n')?;
+    Ok(text)
+}
+
 /// What is printed for people of facts, of drawings, and of what is asked of a system alone:
 /// nothing of other answers.
 fn listing_text(
@@ -108,6 +122,8 @@ fn listing_text(
         }
         Answer::Slots(system) => slots_text(alloc, system),
         Answer::Promises(system) => promises_text(alloc, system.lines.as_slice()),
+        Answer::Encoded(bytes) => hex_line(alloc, bytes.as_slice()),
+        Answer::Decoded(words) => format!(in alloc; "{words}\n"),
         Answer::Expanded(expanded) => {
             expanded_text(alloc, expanded.older, expanded.system.lines.as_slice())
         }
@@ -152,6 +168,8 @@ pub(crate) fn answer_text(
         | Answer::Drawing(_)
         | Answer::Slots(_)
         | Answer::Promises(_)
-        | Answer::Expanded(_) => listing_text(alloc, asked, answer),
+        | Answer::Expanded(_)
+        | Answer::Encoded(_)
+        | Answer::Decoded(_) => listing_text(alloc, asked, answer),
     }
 }

@@ -3,7 +3,7 @@
 ghost use Rattle.std.specs.Prelude.{◌≡◌};
 ghost use Rattle.mrc_print.specs.Heads.{format_of};
 
-use mrc_command::{Format, Question, Showing, question_format, question_word};
+use mrc_command::{Format, Question, Showing, Turning, question_format, question_word};
 
 /// What was asked, as far as printing depends on it.
 #[derive(Clone, Copy)]
@@ -12,6 +12,8 @@ pub enum Asked<'a> {
     Case(Question<'a>),
     /// What can be read of MIG files, in this format.
     Mig(Format),
+    /// A message of this text, which is turned this way.
+    Message(Turning, &'a str),
 }
 
 /// The format that is asked for.
@@ -21,6 +23,7 @@ pub fn format_of(asked: Asked<'_>) -> Format
     match asked {
         Asked::Case(question) => question_format(question),
         Asked::Mig(format) => format,
+        Asked::Message(_, _) => Format::Text,
     }
 }
 
@@ -30,6 +33,7 @@ impl<'a> Asked<'a> {
         match self {
             Asked::Case(question) => question_word(question),
             Asked::Mig(_) => "mig",
+            Asked::Message(turning, _) => turning.word(),
         }
     }
 

@@ -1,7 +1,7 @@
 //! Faults as they are printed.
 
 use crate::reading::{certificate_name, defs_name, policy_name, script_name, wiring_name};
-use mrc_answer::{Fault, Unwritten, WasRead, WordFault};
+use mrc_answer::{Fault, MessageFault, Unwritten, WasRead, WordFault};
 use mrc_base::OrMemory;
 use mrc_check::CaseFault;
 use mrc_command::shown;
@@ -79,6 +79,16 @@ pub(crate) fn unwritten_parts(
     }
 }
 
+/// The parts of a message that can't be turned.
+fn message_parts(alloc: Global, fault: MessageFault) -> Result<FaultParts, AllocError> {
+    match fault {
+        MessageFault::Words(fault) => parts_of(alloc, "--message", fault.kind.to_string(alloc)?),
+        MessageFault::BadHex => named_parts(alloc, "--hex", "BadHex"),
+        MessageFault::Bytes(fault) => parts_of(alloc, "--hex", fault.to_string(alloc)?),
+        MessageFault::NoWords => named_parts(alloc, "--hex", "NoWords"),
+    }
+}
+
 /// The parts of a fault, by what was read.
 pub(crate) fn fault_parts(
     alloc: Global,
@@ -94,6 +104,7 @@ pub(crate) fn fault_parts(
         }
         Fault::Unwritten(unwritten) => unwritten_parts(alloc, unwritten),
         Fault::NoMigText(no_text) => parts_of(alloc, no_text.file, no_text.fault.to_string(alloc)?),
+        Fault::Message(fault) => message_parts(alloc, *fault),
         Fault::SameName(file) => named_parts(alloc, file, "SameName"),
         Fault::Unserved(fault) => parts_of(alloc, script_name(read), fault.to_string(alloc)?),
     }

@@ -1,5 +1,5 @@
 -- Which commands have an answer after which files may have changed.
-use Rattle.std.proofs.Common.{◌≡◌, Bool, ℕ, refl}
+use Rattle.std.proofs.Common.{◌≡◌, Bool, ℕ, List, refl}
 use Rattle.mrc_answer.specs.declared.answers.Answer.{Answer}
 use Rattle.mrc_answer.specs.declared.answers.Answer.TheVariants.{Made, Mig, Fault}
 use Rattle.mrc_answer.specs.declared.answers.MigTexts.{MigTexts}
@@ -8,11 +8,14 @@ use Rattle.mrc_answer.specs.declared.asking.WasRead.{WasRead}
 use Rattle.mrc_answer.specs.declared.asking.WasRead.TheVariants.{Nothing, Texts, Defs}
 use Rattle.mrc_answer.specs.declared.faults.Fault.TheVariants.{Unwritten}
 use Rattle.mrc_answer.specs.declared.faults.Unwritten.{Unwritten as UnwrittenFile}
-use Rattle.mrc_answer.specs.Answers.{IsAnswer, IsAnswered, IsReply, IsUnasked, MayChange}
+use Rattle.mrc_answer.specs.Answers.{IsAnswer, IsAnswered, IsReply, IsUnasked, IsUnturned}
+use Rattle.mrc_answer.specs.Answers.{MayChange}
+use Rattle.mrc_answer.specs.Messages.{IsTurned}
 use Rattle.mrc_answer.specs.Notices.{Notices}
 use Rattle.mrc_answer.specs.Files.{Files}
 use Rattle.mrc_command.specs.declared.command.Command.{Command}
-use Rattle.mrc_command.specs.declared.command.Command.TheVariants.{Case, Mig}
+use Rattle.mrc_command.specs.declared.command.Command.TheVariants.{Case, Mig, Message}
+use Rattle.mrc_command.specs.declared.command.MessageText.{MessageText}
 use Rattle.mrc_command.specs.declared.command.FileNames.{FileNames}
 use Rattle.mrc_command.specs.declared.command.Question.{Question}
 use Rattle.mrc_command.specs.declared.command.Question.TheVariants.{Verify, Mend, Attack, Check}
@@ -104,6 +107,25 @@ unasked_changes held names question (Mig mig_texts) why may = absurd why
 unasked_changes held names question (Fault (Unwritten unwritten)) why may = absurd why
 unasked_changes held names question answer why may = absurd may
 
+-- a message that is turned changes no file
+unturned_stays : (held : Held) (asked : MessageText) (answer : Answer)
+    → IsUnturned held asked answer
+    → MayChange answer
+    → ⊥
+unturned_stays held asked (Made count) is may = absurd is
+unturned_stays held asked (Mig mig_texts) is may = absurd is
+unturned_stays held asked (Fault (Unwritten unwritten)) is may = absurd is
+unturned_stays held asked answer is may = absurd may
+
+turned_stays : (defs : List (List ℕ)) (answer : Answer)
+    → IsTurned defs answer
+    → MayChange answer
+    → ⊥
+turned_stays defs (Made count) is may = absurd is
+turned_stays defs (Mig mig_texts) is may = absurd is
+turned_stays defs (Fault (Unwritten unwritten)) is may = absurd is
+turned_stays defs answer is may = absurd may
+
 -- of a command
 has_out : (before after : Held) (command : Command) (read : WasRead) (answer : Answer)
     (notices : Notices)
@@ -116,11 +138,17 @@ has_out before after (Case names question) Nothing answer notices is may =
 has_out before after (Case names question) (Texts files) answer notices is may =
     changes_of before after question files answer notices is.2 may
 has_out before after (Case names question) (Defs texts) answer notices is may = absurd is
+has_out before after (Message asked) Nothing answer notices is may =
+    unturned_stays before asked answer is.0 may
+has_out before after (Message asked) (Texts files) answer notices is may =
+    turned_stays files.texts.defs answer is.1 may
+has_out before after (Message asked) (Defs texts) answer notices is may = absurd is
 
 -- what is seen of it does not count
 seen_out : (watched : Bool) (command : Command) → HasOut (seen watched command)
     → HasOut command
 seen_out watched (Mig files) out = tt
+seen_out watched (Message asked) out = absurd out
 seen_out watched (Case names (Make file workers)) out = tt
 seen_out watched (Case names question) out = absurd out
 
@@ -138,5 +166,6 @@ has_out_of watched before after command answered right may =
 pub seen_format : (watched : Bool) (command : Command)
     → asked_format (seen watched command) ≡ asked_format command
 seen_format watched (Mig files) = refl
+seen_format watched (Message asked) = refl
 seen_format watched (Case names (Verify showing)) = refl
 seen_format watched (Case names question) = refl

@@ -7,7 +7,7 @@ use Rattle.mrc_answer.specs.declared.asking.Answered.{Answered}
 use Rattle.mrc_answer.specs.Answers.{IsAnswered, MayChange}
 use Rattle.mrc_answer.specs.Statuses.{status_of}
 use Rattle.mrc_command.specs.declared.command.Command.{Command}
-use Rattle.mrc_command.specs.declared.command.Command.TheVariants.{Case, Mig}
+use Rattle.mrc_command.specs.declared.command.Command.TheVariants.{Case, Mig, Message}
 use Rattle.mrc_command.specs.declared.command.Question.{Question}
 use Rattle.mrc_command.specs.declared.command.Question.TheVariants.{Attack, Make, Mend, Verify}
 use Rattle.mrc_command.specs.declared.command.Request.{Request}
@@ -28,6 +28,7 @@ seen_question watched question = question
 abbrev pub seen : Bool → Command → Command
 seen watched (Case names question) = Case names (seen_question watched question)
 seen watched (Mig files) = Mig files
+seen watched (Message asked) = Message asked
 
 -- a question whose answer may change a file
 abbrev pub Changes : Question → Type 0
@@ -38,6 +39,7 @@ Changes question = ⊥
 abbrev pub HasOut : Command → Type 0
 HasOut (Case names question) = Changes question
 HasOut (Mig files) = Unit {0}
+HasOut (Message asked) = ⊥
 
 -- It is answered of the command that the words ask for, and right of what the files held that they
 -- name; and this text is printed of it. Something is said of the text only if the answer is for
@@ -59,6 +61,7 @@ is_search other = false
 abbrev pub searches : Command → Bool
 searches (Case names question) = is_search question
 searches (Mig files) = false
+searches (Message asked) = false
 
 -- A search tells how far it has come: a person looks at standard error, or the words ask for it.
 abbrev pub counts : Watched → Request → Bool

@@ -1,15 +1,18 @@
 //! What helps with a fault: the hint, and what is printed of it behind the line of the fault.
 
 use crate::hints::hint_text;
-use crate::notes::{SAME_NAME, UNWRITTEN, name_notes, note_of};
+use crate::notes::{SAME_NAME, UNWRITTEN, name_notes, note_of, words_note};
 use crate::places::hint_of;
-use mrc_answer::{Answer, Answered, Fault, NoMigText, Texts, Unwritten, WasRead, WordFault};
+use mrc_answer::{
+    Answer, Answered, Fault, MessageFault, NoMigText, Texts, Unwritten, WasRead, WordFault,
+};
 use mrc_base::OrMemory;
 use mrc_check::{CaseFault, System};
 use mrc_command::Question;
 use mrc_files::{InputFault, Unread, WriteFault};
 use mrc_hints::second_mig_hint;
-use mrc_place::{Hint, one_note};
+use mrc_message_words::{Place, WordsFault};
+use mrc_place::{Hint, byte_spot, one_note};
 use mrc_print::{Asked, file_of, unwritten_of};
 use std::alloc::{AllocError, Global};
 
@@ -174,6 +177,35 @@ fn defs_help(
     }
 }
 
+/// What helps with a message in words: the word at fault, and a sentence.
+fn words_help(alloc: Global, text: &str, fault: WordsFault) -> Result<Help, AllocError> {
+    let Place { first, len } = fault.place;
+    let spot = byte_spot(alloc, text, first, first.saturating_add(len))?;
+    let notes = one_note(alloc, words_note(fault.kind))?;
+    help_of(
+        alloc,
+        "--message",
+        Hint {
+            spot: Some(spot),
+            notes,
+        },
+    )
+}
+
+/// What helps with a message that can't be turned.
+fn message_help(alloc: Global, asked: Asked<'_>, fault: MessageFault) -> Result<Help, AllocError> {
+    match (asked, fault) {
+        (Asked::Message(_, text), MessageFault::Words(fault)) => words_help(alloc, text, fault),
+        (_, MessageFault::NoWords) => {
+            one_noted(
+                alloc,
+                "no MIG file has a message of this id and of such arguments",
+            )
+        }
+        _ => Ok(no_help(alloc)),
+    }
+}
+
 /// What helps with a fault.
 fn fault_help(
     alloc: Global,
@@ -187,6 +219,7 @@ fn fault_help(
         Fault::Meaning(fault) => meaning_help(alloc, asked, read, fault),
         Fault::Word(fault) => word_help(alloc, asked, read, *fault),
         Fault::NoMigText(no_text) => defs_help(alloc, defs, read, no_text),
+        Fault::Message(fault) => message_help(alloc, asked, *fault),
         Fault::SameName(_) => one_noted(alloc, SAME_NAME),
         Fault::Unwritten(_) | Fault::Unserved(_) => Ok(no_help(alloc)),
     }

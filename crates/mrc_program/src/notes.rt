@@ -5,6 +5,7 @@ use mrc_answer::WordFault;
 use mrc_base::{ClassId, TaskId};
 use mrc_certificate::DraftFault;
 use mrc_command::Question;
+use mrc_message_words::WordsFaultKind;
 use mrc_place::{did_you_mean, listed, nearest, one_note};
 use mrc_wiring::Wired;
 use mrc_words::{class_word, right_named};
@@ -16,6 +17,21 @@ pub(crate) const SAME_NAME: &str = "an earlier file has this name: write them in
 /// The sentence about a file that took no byte.
 pub(crate) const UNWRITTEN: &str =
     "its folder is missing or takes no new file, or it may not be written to, or is a folder";
+
+/// The sentence about a message in words.
+pub(crate) fn words_note(kind: WordsFaultKind) -> &'static str {
+    match kind {
+        WordsFaultKind::NotWords => {
+            "expected: { I.R to NAME reply NAME ARGUMENT=VALUE .. } or { reply I.R to NAME .. }"
+        }
+        WordsFaultKind::UnknownMessage => "no MIG file has this message",
+        WordsFaultKind::UnknownArgument => "the message has no argument of this name",
+        WordsFaultKind::SaidTwice => "the argument is said in front of this",
+        WordsFaultKind::NotAValue => "this is no value of the argument",
+        WordsFaultKind::Missing(_) => "an argument of the message is not said",
+        WordsFaultKind::TooLong => "a message has at most 8,192 bytes",
+    }
+}
 
 /// What a word of a fact is the name of.
 #[derive(Clone, Copy)]

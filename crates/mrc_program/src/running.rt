@@ -106,6 +106,7 @@ fn seen(watched: bool, command: Command<'_>) -> Command<'_>
     match command {
         Command::Case(names, question) => Command::Case(names, seen_question(watched, question)),
         Command::Mig(files) => Command::Mig(files),
+        Command::Message(asked) => Command::Message(asked),
     }
 }
 
@@ -116,13 +117,14 @@ fn asked_of<'a>(command: &Command<'a>) -> Asked<'a>
     match command {
         Command::Case(_, question) => Asked::Case(*question),
         Command::Mig(files) => Asked::Mig(files.format),
+        Command::Message(asked) => Asked::Message(asked.turning, asked.text),
     }
 }
 
 /// The names of the MIG files of a `mig`: none of another command, or if memory runs out.
 fn defs_of<'a>(alloc: Global, command: &Command<'a>) -> Vec<&'a str> {
     match command {
-        Command::Case(_, _) => Vec::new(alloc),
+        Command::Case(_, _) | Command::Message(_) => Vec::new(alloc),
         Command::Mig(files) => match Vec::from_slice(alloc, files.defs.as_slice()) {
             Ok(defs) => defs,
             Err(AllocError) => Vec::new(alloc),
@@ -167,7 +169,7 @@ fn searches(command: &Command<'_>) -> bool
 {
     match command {
         Command::Case(_, question) => is_search(question),
-        Command::Mig(_) => false,
+        Command::Mig(_) | Command::Message(_) => false,
     }
 }
 

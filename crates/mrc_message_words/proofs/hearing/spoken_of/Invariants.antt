@@ -1,0 +1,5 @@
+use Rattle.mrc_message_words.proofs.Finding.{NoneBefore}
+use Rattle.mrc_message_words.proofs.hearing.spoken_of.Given as goal
+
+abbrev pub invariant-loop-interface : goal.invariant-loop-interface
+invariant-loop-interface l = NoneBefore l.interfaces l.message l.interface-index

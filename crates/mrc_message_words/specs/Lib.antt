@@ -1,0 +1,5 @@
+pub mod Values
+pub mod Spoken
+pub mod Fitting
+pub mod Laws
+pub mod Examples
