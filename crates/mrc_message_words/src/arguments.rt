@@ -73,6 +73,14 @@ fn count_items(size: u16, bytes: &[u8]) -> Option<u32>
     u32::try_from(bytes.len() / width).ok()
 }
 
+/// Whether bytes of this type and size fit the items.
+pub(crate) fn do_bytes_fit(items: Items, name: u16, size: u16, bytes: &[u8]) -> bool {
+    match count_items(size, bytes) {
+        Some(number) => items.types.is_any_data() || are_wide(items, name, size, number),
+        None => false,
+    }
+}
+
 fn of_numbers(
     alloc: Global,
     items: Items,
@@ -131,10 +139,8 @@ fn of_ports(
     if !are_ports(items, disp, names) {
         return Ok(None);
     }
-    Ok(Some(Argument::Ports {
-        disp,
-        names: Names::from(Vec::from_slice(alloc, names)?),
-    }))
+    let names = Names::from(Vec::from_slice(alloc, names)?);
+    Ok(Some(Argument::Ports { disp, names }))
 }
 
 /// The argument that a value is where the form has these items; none where the value does not fit

@@ -1,6 +1,6 @@
 //! The value of an argument, as words say it.
 
-use crate::arguments::is_count;
+use crate::arguments::{do_bytes_fit, is_count};
 use crate::lexis::{Cursor, Mark, Token, byte_of, number_of};
 use crate::numbers::has_bits;
 use crate::place::{Place, WordsFault, WordsFaultKind};
@@ -295,23 +295,31 @@ fn bytes_of(alloc: Global, word: &[u8]) -> Result<Option<Vec<u8>>, AllocError> {
 }
 
 /// Data as bytes, of the type of this number and of so many bits an item.
-fn raw_value<'t>(alloc: Global, name: u16, size: u16, token: Token<'t>) -> Read<'t> {
+fn raw_value<'t>(
+    alloc: Global,
+    items: Items,
+    name: u16,
+    size: u16,
+    token: Token<'t>,
+) -> Read<'t> {
     if token.mark != Mark::Word {
         return no_value(token);
     }
-    match bytes_of(alloc, token.bytes)? {
-        Some(bytes) => {
-            let bytes = Bytes::from(bytes);
-            Ok((Value::Raw { name, size, bytes }, token.after))
-        }
-        None => not_a_value(token.place),
+    let Some(bytes) = bytes_of(alloc, token.bytes)? else {
+        return not_a_value(token.place);
+    };
+    if !do_bytes_fit(items, name, size, bytes.as_slice()) {
+        drop(bytes);
+        return not_a_value(token.place);
     }
+    let bytes = Bytes::from(bytes);
+    Ok((Value::Raw { name, size, bytes }, token.after))
 }
 
 /// Data of any kind: bytes, and before them their type and size where they are not single bytes.
-fn any_data_value<'t>(alloc: Global, first: Token<'t>) -> Read<'t> {
+fn any_data_value<'t>(alloc: Global, items: Items, first: Token<'t>) -> Read<'t> {
     if !first.is(b"type") {
-        return raw_value(alloc, BYTE, BYTE_SIZE, first);
+        return raw_value(alloc, items, BYTE, BYTE_SIZE, first);
     }
     let token = first.after.token();
     let name = said_type(token)?;
@@ -322,7 +330,7 @@ fn any_data_value<'t>(alloc: Global, first: Token<'t>) -> Read<'t> {
     let bits = word.after.token();
     let number = number_at(16, bits)?;
     match u16::try_from(number) {
-        Ok(size) => raw_value(alloc, name, size, bits.after.token()),
+        Ok(size) => raw_value(alloc, items, name, size, bits.after.token()),
         Err(_) => not_a_value(bits.place),
     }
 }
@@ -330,13 +338,13 @@ fn any_data_value<'t>(alloc: Global, first: Token<'t>) -> Read<'t> {
 /// The value that begins with this part, for an argument of these items.
 pub(crate) fn value_at<'t>(alloc: Global, items: Items, first: Token<'t>) -> Read<'t> {
     match items.types {
-        ItemTypes::AnyData => any_data_value(alloc, first),
+        ItemTypes::AnyData => any_data_value(alloc, items, first),
         ItemTypes::Any => any_value(alloc, items, first),
         ItemTypes::One(name) if name < 16 => {
             if items.size <= 64 {
                 numbers_value(alloc, items, name, first)
             } else {
-                raw_value(alloc, name, items.size, first)
+                raw_value(alloc, items, name, items.size, first)
             }
         }
         ItemTypes::One(_) | ItemTypes::Send | ItemTypes::SendOnce => {

@@ -82,7 +82,7 @@ fn said_at<'t>(token: Token<'t>) -> Result<ArgumentWord<'t>, OrMemory<WordsFault
         mark: Mark::Word,
         bytes: value,
         place: Place {
-            first: token.place.first + name.len() + 1,
+            first: token.place.first.saturating_add(name.len()).saturating_add(1),
             len: value.len(),
         },
         is_glued: true,
@@ -234,6 +234,16 @@ fn parse(
     })
 }
 
+/// The fault of a text whose parts fit, and say no message: it is too long.
+fn words_fault(fault: SpokenFault, whole: Place, named: Place) -> WordsFault {
+    let (kind, place) = match fault {
+        SpokenFault::UnknownMessage => (WordsFaultKind::UnknownMessage, named),
+        SpokenFault::TooLong => (WordsFaultKind::TooLong, whole),
+        SpokenFault::BadPort | SpokenFault::BadValue(_) => (WordsFaultKind::NotAValue, whole),
+    };
+    WordsFault { kind, place }
+}
+
 /// The message that a text says over the forms of these interfaces, or the first fault. It is one
 /// that can be sent: what is written of it is read as the same message.
 pub fn encode(
@@ -247,11 +257,7 @@ pub fn encode(
     match message_of(alloc, interfaces, &said) {
         Ok(message) => Ok(message),
         Err(OrMemory::Memory) => Err(OrMemory::Memory),
-        Err(OrMemory::Fault(SpokenFault::UnknownMessage)) => {
-            fault(WordsFaultKind::UnknownMessage, named)
-        }
-        Err(OrMemory::Fault(SpokenFault::TooLong)) => fault(WordsFaultKind::TooLong, whole),
-        Err(OrMemory::Fault(_)) => fault(WordsFaultKind::NotAValue, whole),
+        Err(OrMemory::Fault(fault)) => Err(OrMemory::Fault(words_fault(fault, whole, named))),
     }
 }
 

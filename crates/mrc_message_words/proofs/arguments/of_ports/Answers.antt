@@ -9,7 +9,7 @@ pub returns : goal.returns
 returns c =
     let are = c.are_ports.ensures.0 c.if-not-are_ports.false in
     let few = few_items c.args.items _ (length c.args.names.now) c.requires are.typed are.count in
-    let is : c.from.result ≡ c.args.names.now = c.from.ensures ∙ c.in_ok-from_slice.ensures.items in
+    let is : c.from-names.result ≡ c.args.names.now = c.from-names.ensures ∙ c.in_ok-from_slice.ensures.items in
     let lawful : IsLawfulPorts (disp_number c.args.disp) c.args.names.now = record {
       least = disp_least c.args.disp;
       most = disp_most c.args.disp;
