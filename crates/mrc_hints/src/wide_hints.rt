@@ -85,7 +85,7 @@ fn ends_names(key: &[u8], word: &[u8]) -> bool {
 
 /// The place of the first word that can be a name, behind the first word and the name that the line
 /// declares, and is none of these.
-fn first_unknown(words: &[&[u8]], names: &BTreeSet<&[u8]>) -> Option<usize> {
+fn first_unknown<'a>(words: &[&'a [u8]], names: &BTreeSet<&'a [u8]>) -> Option<usize> {
     let key: &[u8] = words.first().copied().unwrap_or(&[]);
     let first = if declares_one(key) { 2 } else { 1 };
     for (place, word) in words.iter().enumerate() {
