@@ -1,8 +1,7 @@
 -- Believe. What is right of a message that is turned into its bytes, or into words. How the bytes and
 -- the words are printed is tested. This profile's own choice.
 use Rattle.std.specs.Prelude.{◌≡◌, ℕ, List, Err}
-use Rattle.mrc_model.specs.Message.{Message as Sent}
-use Rattle.mrc_desc.specs.Writing.{written}
+use Rattle.mrc_model.specs.Message.{Message as Sent, written}
 use Rattle.mrc_forms.specs.Tables.{Table as Interface}
 use Rattle.mrc_interface.specs.Reading.{AreInterfaces, interfaces_of, step}
 use Rattle.mrc_message_words.specs.Spoken.{Said, IsSpoken}

@@ -118,12 +118,14 @@ fn answered<P: Progress>(
     };
     let lines = asked_lines(alloc, first.claim.lines(), texts.only)?;
     let broken = broken_numbers(alloc, &lines, facts)?;
+    let (edition, is_wide) = edition(alloc, texts.wiring)?;
     let before = First {
         wired,
         facts,
         lines: &lines,
         broken: &broken,
-        edition: edition(alloc, texts.wiring)?,
+        edition,
+        is_wide,
     };
     let next = children(alloc, &before, first, facts, &[], &fact)?;
     let cause = shared_cause(alloc, &first.claim, texts.only)?;

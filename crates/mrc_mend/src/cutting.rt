@@ -297,7 +297,7 @@ fn cut_item(
         return Ok(());
     };
     let item = accepted.item.as_str();
-    if let Some(mut narrowing) = narrowed(alloc, node.first.edition, node.lines, &label, item)? {
+    if let Some(mut narrowing) = narrowed(alloc, &node.first, node.lines, &label, item)? {
         add_dropped(node.changes, &mut narrowing)?;
         next.push(extended(alloc, node.changes, Change::Narrow(narrowing))?)?;
     }

@@ -17,8 +17,10 @@ pub(crate) struct First<'a> {
     pub(crate) lines: &'a [ForbiddenLine],
     /// The numbers of those of these lines that are broken.
     pub(crate) broken: &'a BTreeMap<u32, ()>,
-    /// The edition of its text.
+    /// The edition of its text: of version 4 that of version 3.
     pub(crate) edition: Edition,
+    /// Whether its text is of version 4.
+    pub(crate) is_wide: bool,
 }
 
 /// Whether the fact, by its names, is among the facts of the other wiring.
@@ -58,14 +60,15 @@ fn lost_by_names(
 }
 
 /// How many of the first facts are not among these. A change adds no fact, so that is how many
-/// fewer there are; but if a kind of births is gone, the classes have other numbers.
+/// fewer there are; but if a kind of births is gone, the classes have other numbers, and a line of
+/// version 4 that is removed may be about several types, of which one then admits more.
 pub(crate) fn lost(
     alloc: Global,
     first: &First<'_>,
     wired: &Wired,
     facts: &Facts,
 ) -> Result<usize, AllocError> {
-    if first.wired.classes() == wired.classes() {
+    if first.wired.classes() == wired.classes() && !first.is_wide {
         Ok(first.facts.len().saturating_sub(facts.len()))
     } else {
         lost_by_names(alloc, first, wired, facts)

@@ -1,6 +1,7 @@
 //! Lines whose classes accept less.
 
 use crate::changes::Narrowing;
+use crate::losing::First;
 use mrc_base::{ClassId, Fact};
 use mrc_closure::Step;
 use mrc_why::Source;
@@ -197,20 +198,24 @@ fn is_alone(lines: &[WiringLine], number: u32) -> bool {
 }
 
 /// The line of the class without the item; none if no line says that the class accepts it, or the
-/// line says it of other classes too.
+/// line says it of other classes too. In version 4 no line of a wired port changes, since it may
+/// say that the port is births, and policies are about it.
 pub(crate) fn narrowed(
     alloc: Global,
-    edition: Edition,
+    first: &First<'_>,
     lines: &[WiringLine],
     label: &ClassLabel<'_>,
     item: &str,
 ) -> Result<Option<Narrowing>, AllocError> {
+    if first.is_wide && label.kind == ClassKind::Port {
+        return Ok(None);
+    }
     for line in lines {
         if let Some(items) = items_for(&line.says, label) {
             if !is_alone(lines, line.number) {
                 return Ok(None);
             }
-            return without_item(alloc, edition, line, items, item);
+            return without_item(alloc, first.edition, line, items, item);
         }
     }
     Ok(None)
