@@ -445,8 +445,9 @@ def attack_object(folder, asked, texts):
     if texts.plain.out == "YES\n":
         return {"answer": "YES", **told}
     lines, cut, attacks = texts.plain.lines(), cut_lines(texts.plain.notices()), []
-    if asked.has("line") and lines[0].startswith("# REAL"):
-        lines = [lines[0].removeprefix("# "), *(f"  {line}" for line in lines[1:])]
+    if asked.has("line"):
+        heads = ("# REAL ", "NO ")
+        lines = [line.removeprefix("# ") if line.startswith(heads) else f"  {line}" for line in lines]
     for head, calls in blocks(lines):
         word, trusted, line, fact, behind = re.fullmatch(
             rf"(REAL|NO) (trusted )?line (\d+) ({FACT_TEXT})( not reached)?", head).groups()
@@ -515,8 +516,8 @@ def said_lines(text):
 
 
 def items_in(words):
-    """The items behind `accepts`, in the words of a wiring."""
-    said = " ".join(words[words.index("accepts") + 1:])
+    """The items behind `accepts`, in the words of a wiring. A task may have this name."""
+    said = " ".join(words[words.index("accepts", 4 if words[0] == "port" else 2) + 1:])
     return [] if said == "none" else [" ".join(item.split()) for item in said.split(",")]
 
 
