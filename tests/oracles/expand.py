@@ -680,8 +680,8 @@ PORT_NAMES = ["all", "other", "none", "births", "port", "of", "receiver", "send"
 SET_NAMES = ["send", "receive", "accepts", "set", "t0", "_"]
 # What stands in the place of a word when a text is spoiled.
 WORDS = [
-    *RESERVED, *ITEM_WORDS, *RIGHTS, *VERBS, ",", "accepts", "receiver", "of", "fit", "0", "1", "015", "16", "t0", "t1",
-    "p0", "g0", "s0", "nobody", "a.b", "9", "é",
+    *sorted(RESERVED), *sorted(ITEM_WORDS), *RIGHTS, *VERBS, ",", "accepts", "receiver", "of", "fit", "0", "1", "015", "16",
+    "t0", "t1", "p0", "g0", "s0", "nobody", "a.b", "9", "é",
 ]
 
 
@@ -691,7 +691,6 @@ class Maker:
     def __init__(self, chance, interfaces):
         self.random, self.interfaces = chance, interfaces
         self.lines, self.stood = [], Standing(Names(interfaces))
-        self.task_names, self.group_names, self.set_names = [], [], []
 
     def often(self, chance):
         return self.random.random() < chance
@@ -895,7 +894,7 @@ class Maker:
 
 
 def random_text(chance, interfaces):
-    """A random text over interfaces, of every other kind."""
+    """A random text over interfaces: a right one, or, more often, one that was spoiled."""
     maker = Maker(chance, interfaces)
     lines = maker.right()
     if chance.random() < 0.6:
