@@ -445,8 +445,9 @@ def attack_object(folder, asked, texts):
     if texts.plain.out == "YES\n":
         return {"answer": "YES", **told}
     lines, cut, attacks = texts.plain.lines(), cut_lines(texts.plain.notices()), []
-    if asked.has("line") and lines[0].startswith("# REAL"):
-        lines = [lines[0].removeprefix("# "), *(f"  {line}" for line in lines[1:])]
+    if asked.has("line"):
+        heads = ("# REAL ", "NO ")
+        lines = [line.removeprefix("# ") if line.startswith(heads) else f"  {line}" for line in lines]
     for head, calls in blocks(lines):
         word, trusted, line, fact, behind = re.fullmatch(
             rf"(REAL|NO) (trusted )?line (\d+) ({FACT_TEXT})( not reached)?", head).groups()
@@ -515,8 +516,8 @@ def said_lines(text):
 
 
 def items_in(words):
-    """The items behind `accepts`, in the words of a wiring."""
-    said = " ".join(words[words.index("accepts") + 1:])
+    """The items behind `accepts`, in the words of a wiring. A task may have this name."""
+    said = " ".join(words[words.index("accepts", 4 if words[0] == "port" else 2) + 1:])
     return [] if said == "none" else [" ".join(item.split()) for item in said.split(",")]
 
 
@@ -696,19 +697,17 @@ def live_object(folder, asked, texts):
     return {"answer": "all wait" if waits else "journal", "command": "live", "waits": lines, **events}
 
 
-# The first line of the mends of a wiring of version 4: they are of the lines that it stands for.
+# The first line of the mends of a wiring of version 4, if they are of the lines that it stands for.
 EXPANDED = "# lines are those of machcheck expand"
 
 
-def mended_line(path, number):
+def mended_line(path, number, is_expanded):
     """The line of a wiring that a mend means, without blanks at its ends, and its words."""
-    wiring = path.read_text()
-    is_wide = version_of(wiring)[0] == 4
-    text = Stood(wiring).text().split("\n")[number - 1] if is_wide else line_of(path, number)
-    return text, " ".join(text.split("#")[0].split())
+    text = Stood(path.read_text()).text().split("\n")[number - 1] if is_expanded else line_of(path, number)
+    return text, " ".join(text.split("#")[0].replace(",", " , ").split())
 
 
-def change_object(folder, asked, line):
+def change_object(folder, asked, line, is_expanded):
     """A line of a mend: its number, the change with how many lines it mends, and how many facts the mend loses, if the line
     says so."""
     removes, changes, adds = r"remove line (\d+) # ([^#]*?)", r"change line (\d+) # ([^#]*?)", r"add ([^#]*?)"
@@ -719,7 +718,7 @@ def change_object(folder, asked, line):
     lost = re.search(r"loses (\d+) facts", note or "")
     count = re.search(r"mends (\d+) (?:more )?of \d+ lines$", note or "")
     if removed:
-        text, right = mended_line(folder / asked.options["wiring"], int(removed))
+        text, right = mended_line(folder / asked.options["wiring"], int(removed), is_expanded)
         if right != words:
             raise Wrong(f"line {removed} has other words than {words}: {text}")
         change = {"kind": "remove", "line": int(removed), "text": text}
@@ -735,16 +734,15 @@ def change_object(folder, asked, line):
 def mend_object(folder, asked, texts):
     told = {"command": "mend", "schema": 1}
     lines = texts.plain.lines()
-    if version_of((folder / asked.options["wiring"]).read_text())[0] == 4 and lines not in (["YES"], ["none"]):
-        if lines.pop(0) != EXPANDED:
-            raise Wrong(f"the first line is not {EXPANDED}: {texts.plain.out}")
+    is_expanded = lines[0] == EXPANDED
+    lines = lines[is_expanded:]
     if lines == ["YES"]:
         return {"answer": "YES", **told}
     found = re.fullmatch(rf"# all (\d+) broken lines have ({FACT_TEXT}) in their chains", lines[0])
     cause = {"lines": int(found[1]), "text": found[2]} if found else None
     mends = []
     for line in [] if lines[-1] == "none" else lines[bool(found) :]:
-        number, change, lost = change_object(folder, asked, line)
+        number, change, lost = change_object(folder, asked, line, is_expanded)
         if (number > len(mends)) != (lost is not None):
             raise Wrong(f"a mend says once what it loses: {line}")
         if number > len(mends):
